@@ -1,0 +1,23 @@
+# make demo: builds the program, runs a first script, and shows what it writes
+# make test: the gate: proves every crate from nothing, and runs its tests
+# make install PREFIX=/usr/local: copies the program to PREFIX/bin
+
+PREFIX ?= /usr/local
+PROGRAM = crates/bactool/out/bactool
+
+.PHONY: demo test install program
+
+program:
+	cd crates/bactool && rt run -- bactrace </dev/null
+
+demo: program
+	@echo '$$ bactool bactrace < examples/first.trace'
+	@cat examples/first.trace
+	@echo
+	@$(PROGRAM) bactrace < examples/first.trace
+
+test:
+	rt ci
+
+install: program
+	install -D -m 755 $(PROGRAM) $(DESTDIR)$(PREFIX)/bin/bactool

@@ -1,0 +1,11 @@
+pub mod Known
+pub mod Taken
+pub mod Printed
+pub mod NumberLemmas
+pub mod WordLemmas
+pub mod HexText
+pub mod NoteTexts
+pub mod Pieces
+pub mod Machine
+pub mod Settled
+pub mod SoFar

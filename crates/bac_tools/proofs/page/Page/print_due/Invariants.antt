@@ -1,0 +1,10 @@
+use Rattle.std.proofs.Common.{take}
+use Rattle.std.specs.List.{flat_map}
+use Rattle.bac_tsm.specs.Machine.{due_notes}
+use Rattle.bac_tools.specs.Page.{Prints}
+use Rattle.bac_tools.specs.Text.{notes_text}
+use Rattle.bac_tools.proofs.page.Page.print_due.Given as goal
+
+abbrev pub invariant-loop-entry : goal.invariant-loop-entry
+invariant-loop-entry g l =
+    Prints g.W.Write.contents l.fn.writer l.writer l.fn.self l.self (notes_text (flat_map (due_notes l.client.state) (take l.entry-index l.due)))

@@ -1,0 +1,17 @@
+use Rattle.std.proofs.Common.{◌≡◌, ◌+◌, ◌*◌, ◌≤◌, false, []}
+use Rattle.bac_tools.specs.Checked.{has_failed}
+use Rattle.bac_tools.specs.Input.{may_come, most_reads}
+use Rattle.bac_tools.proofs.SoFar.{SoFar}
+use Rattle.bac_tools.proofs.tracing.trace.Given as goal
+
+abbrev pub invariant-loop-chunk : goal.invariant-loop-chunk
+invariant-loop-chunk g l = record {
+  so_far : SoFar g.R.Read.remaining g.W.Write.contents l.fn.reader l.reader l.chunk l.fn.writer l.writer l.lines l.is_first l.client;
+  sound_reader : has_failed l.reader ≡ false;
+  sound_writer : has_failed l.writer ≡ false;
+  turned_in : l.page ≡ [];
+  room : l.lines + may_come l.reader l.chunk ≤ 512 * most_reads;
+}
+
+abbrev pub decreases-loop-chunk : goal.decreases-loop-chunk
+decreases-loop-chunk g l = may_come l.reader l.chunk

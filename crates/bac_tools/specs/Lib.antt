@@ -1,0 +1,12 @@
+pub mod Checked
+pub mod Input
+pub mod Page
+pub mod Words
+pub mod Address
+pub mod ReadRequest
+pub mod Line
+pub mod LineSeen
+pub mod Text
+pub mod Running
+pub mod Script
+pub mod Tracing

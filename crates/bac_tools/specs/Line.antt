@@ -1,0 +1,80 @@
+-- The lines of a script, and what each says.
+use Rattle.std.specs.Prelude.{ℕ, ◌-◌, ◌^◌, ◌==◌, ◌&&◌, Bool, nat_lt, List, [], ◌∷◌, length, take, slice_index, bytes_eq, codes, Option, Some, None, Result, Ok, Err, ok_or, if◌then◌else◌}
+use Rattle.std.specs.Str.{is_utf8}
+use Rattle.std.specs.Str.Lines.{strip_carriage_return}
+use Rattle.bac_tsm.specs.Events.{Event, Ask, Data, Tick}
+use Rattle.bac_tools.specs.declared.line.LineFault.{LineFault}
+use Rattle.bac_tools.specs.declared.line.LineFault.TheVariants.{Bad, TooLong}
+use Rattle.bac_tools.specs.Words.{◌>>=◌, words_of, number_up_to, octets_of, next_as, at_end}
+use Rattle.bac_tools.specs.Address.{peer_of}
+use Rattle.bac_tools.specs.ReadRequest.{read_body}
+
+-- What a line says: nothing, the client's settings, or an event.
+pub data Said : Type 0 where
+  Nothing : Said
+  Settings : (timeout retries first_ticket : ℕ) → Said
+  Happens : (event : Event) → Said
+
+-- TIMEOUT, at least 1, RETRIES and TICKET.
+abbrev pub settings_of : List (List ℕ) → Option Said
+settings_of words = do
+  timeout ← next_as (number_up_to (2 ^ 32 - 1)) words
+  retries ← next_as (number_up_to 255) timeout.1
+  ticket ← next_as (number_up_to (2 ^ 64 - 1)) retries.1
+  if nat_lt 0 timeout.0 then at_end ticket.1 (Settings timeout.0 retries.0 ticket.0) else None
+
+-- PEER, KIND, INSTANCE and PROPERTY, of a ReadProperty request (service 12).
+abbrev pub reading_of : List (List ℕ) → Option Said
+reading_of words = do
+  peer ← next_as peer_of words
+  kind ← next_as (number_up_to 1023) peer.1
+  instance ← next_as (number_up_to 4194303) kind.1
+  property ← next_as (number_up_to 4194303) instance.1
+  at_end property.1 (Happens (Ask peer.0 12 (read_body kind.0 instance.0 property.0)))
+
+-- PEER and HEX, of a datagram that comes from the peer.
+abbrev pub arrival_of : List (List ℕ) → Option Said
+arrival_of words = do
+  peer ← next_as peer_of words
+  octets ← next_as octets_of peer.1
+  at_end octets.1 (Happens (Data peer.0 octets.0))
+
+-- N, the time of a tick.
+abbrev pub tick_of : List (List ℕ) → Option Said
+tick_of words = do
+  now ← next_as (number_up_to (2 ^ 64 - 1)) words
+  at_end now.1 (Happens (Tick now.0))
+
+-- What the words of a line say, if they are in the language. The settings stand only on the first line that says
+-- something; a first word that begins with # (35) makes a remark.
+abbrev pub said_by : Bool → List (List ℕ) → Option Said
+said_by is_first [] = Some Nothing
+said_by is_first (name ∷ others) =
+    if slice_index name 0 == 35 then Some Nothing
+    else if is_first && bytes_eq name (codes "client") then settings_of others
+    else if bytes_eq name (codes "read") then reading_of others
+    else if bytes_eq name (codes "data") then arrival_of others
+    else if bytes_eq name (codes "tick") then tick_of others
+    else None
+
+-- A line feed (10) ends the line.
+abbrev pub ends_with_feed : List ℕ → Bool
+ends_with_feed line = slice_index line (length line - 1) == 10
+
+abbrev pub without_feed : List ℕ → List ℕ
+without_feed line = if ends_with_feed line then take (length line - 1) line else line
+
+-- The text of a line, where it has at most 4,096 octets without its line feed. A carriage return before the line feed
+-- is dropped after that.
+abbrev pub text_of_line : List ℕ → Result (List ℕ) LineFault
+text_of_line line =
+    if nat_lt 4096 (length (without_feed line)) then Err TooLong
+    else Ok (if ends_with_feed line then strip_carriage_return (without_feed line) else line)
+
+abbrev pub said_in : Bool → Result (List ℕ) LineFault → Result Said LineFault
+said_in is_first (Ok text) = if is_utf8 text then ok_or (said_by is_first (words_of text)) Bad else Err Bad
+said_in is_first (Err fault) = Err fault
+
+-- What a line says, where it is, or isn't, the first that says something.
+abbrev pub said : Bool → List ℕ → Result Said LineFault
+said is_first line = said_in is_first (text_of_line line)

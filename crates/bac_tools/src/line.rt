@@ -1,0 +1,170 @@
+//! The lines of a script.
+ghost use Rattle.std.specs.Prelude.{◌≡◌, ◌==◌, ◌≤◌, ◌^◌, ◌<◌, [], ◌∷◌, true, length, option_map, ⊤, None, Some, MatchOption, MatchResult, Ok, Err};
+ghost use Rattle.bac_tools.specs.Words.{number_up_to, octets_of, next_as, at_end};
+ghost use Rattle.bac_tools.specs.Address.{peer_of};
+ghost use Rattle.bac_tools.specs.Line.{settings_of, reading_of, arrival_of, tick_of, said_by, text_of_line, said};
+ghost use Rattle.bac_tools.specs.Words.{octets_in};
+ghost use Rattle.bac_tools.specs.Script.{is_nothing};
+ghost use Rattle.bac_tools.specs.LineSeen.{line_seen, result_seen};
+
+use crate::hex_digits::{HexDigits, read_hex};
+use crate::input::LONGEST_LINE;
+use crate::numbers::read_number;
+use crate::peers::read_peer;
+use crate::read_request::ReadRequest;
+use crate::words::Words;
+use bac_tsm::{Config, Peer};
+use std::str;
+
+/// What a line says.
+#[derive(Clone, Copy)]
+pub(crate) enum Line<'a> {
+    /// Nothing: it is blank or a remark.
+    Skipped,
+    /// The client's settings and its first ticket.
+    Client(Config, u64),
+    /// A request that the client is asked to make of the peer.
+    Read(Peer, ReadRequest),
+    /// A datagram that comes from the peer.
+    Data(Peer, HexDigits<'a>),
+    /// The time, in milliseconds.
+    Tick(u64),
+}
+
+impl Line<'_> {
+    /// Whether the line says nothing.
+    pub(crate) fn is_skipped(&self) -> bool
+        ensures { result ≡ is_nothing (line_seen self.now) }
+    {
+        matches!(self, Line::Skipped)
+    }
+}
+
+/// Why a line can't be run.
+#[derive(Clone, Copy, PartialEq, Eq)]
+pub(crate) enum LineFault {
+    /// It is no line of the language.
+    Bad,
+    /// It has more octets than a line may have.
+    TooLong,
+}
+
+/// What a line says, with its line feed if it has one, and first among those that say something or not.
+pub(crate) fn read_line(line: &[u8], is_first: bool) -> Result<Line<'_>, LineFault>
+    ensures { result_seen result ≡ said is_first line.now }
+{
+    let text = line_text(line)?;
+    if str::from_utf8(text).is_err() {
+        return Err(LineFault::Bad);
+    }
+    read_words(Words::new(text), is_first).ok_or(LineFault::Bad)
+}
+
+// The octets of a line without its line feed and a carriage return before that.
+fn line_text(line: &[u8]) -> Result<&[u8], LineFault>
+    ensures { MatchResult result (λ text. text_of_line line.now ≡ Ok text.now) (λ fault. text_of_line line.now ≡ Err fault) }
+{
+    let (text, is_ended) = match line {
+        [text @ .., b'\n'] => (text, true),
+        _ => (line, false),
+    };
+    if text.len() > LONGEST_LINE {
+        return Err(LineFault::TooLong);
+    }
+    match text {
+        [shorter @ .., b'\r'] if is_ended => Ok(shorter),
+        _ => Ok(text),
+    }
+}
+
+fn read_words(mut words: Words<'_>, is_first: bool) -> Option<Line<'_>>
+    ensures { option_map line_seen result ≡ said_by is_first words.entry }
+{
+    let Some(name) = words.next() else {
+        return Some(Line::Skipped);
+    };
+    if name.first() == Some(&b'#') {
+        return Some(Line::Skipped);
+    }
+    if is_first && name == b"client".as_slice() {
+        return read_settings(words);
+    }
+    if name == b"read".as_slice() {
+        return read_reading(words);
+    }
+    if name == b"data".as_slice() {
+        return read_arrival(words);
+    }
+    if name == b"tick".as_slice() {
+        return read_tick(words);
+    }
+    None
+}
+
+fn read_settings(mut words: Words<'_>) -> Option<Line<'_>>
+    ensures { option_map line_seen result ≡ settings_of words.entry }
+{
+    let timeout = next_number(&mut words, u32::MAX.into())?;
+    let retries = next_number(&mut words, u8::MAX.into())?;
+    let ticket = next_number(&mut words, u64::MAX)?;
+    let config = Config::new(timeout as u32, retries as u8)?;
+    ended(words, Line::Client(config, ticket))
+}
+
+fn read_reading(mut words: Words<'_>) -> Option<Line<'_>>
+    ensures { option_map line_seen result ≡ reading_of words.entry }
+{
+    let peer = next_peer(&mut words)?;
+    let kind = next_number(&mut words, 1_023)?;
+    let instance = next_number(&mut words, 4_194_303)?;
+    let property = next_number(&mut words, 4_194_303)?;
+    let request = ReadRequest::new(kind as u16, instance as u32, property as u32);
+    ended(words, Line::Read(peer, request))
+}
+
+fn read_arrival(mut words: Words<'_>) -> Option<Line<'_>>
+    ensures { option_map line_seen result ≡ arrival_of words.entry }
+{
+    let peer = next_peer(&mut words)?;
+    let hex = next_hex(&mut words)?;
+    ended(words, Line::Data(peer, hex))
+}
+
+fn read_tick(mut words: Words<'_>) -> Option<Line<'_>>
+    ensures { option_map line_seen result ≡ tick_of words.entry }
+{
+    let now = next_number(&mut words, u64::MAX)?;
+    ended(words, Line::Tick(now))
+}
+
+// The line, where no word is left.
+fn ended<'a>(mut words: Words<'_>, line: Line<'a>) -> Option<Line<'a>>
+    ensures { option_map line_seen result ≡ at_end words.entry (line_seen line.entry) }
+{
+    match words.next() {
+        Some(_) => None,
+        None => Some(line),
+    }
+}
+
+fn next_number(words: &mut Words<'_>, most: u64) -> Option<u64>
+    ensures value { MatchOption result (next_as (number_up_to most) words.old ≡ None) (λ number. next_as (number_up_to most) words.old ≡ Some (number, words.new)) }
+    ensures most { MatchOption result ⊤ (λ number. number ≤ most) }
+{
+    let word = words.next()?;
+    read_number(word, most)
+}
+
+fn next_peer(words: &mut Words<'_>) -> Option<Peer>
+    ensures { MatchOption result (next_as peer_of words.old ≡ None) (λ peer. next_as peer_of words.old ≡ Some (peer, words.new)) }
+{
+    let word = words.next()?;
+    read_peer(word)
+}
+
+fn next_hex<'a>(words: &mut Words<'a>) -> Option<HexDigits<'a>>
+    ensures { MatchOption result (next_as octets_of words.old ≡ None) (λ hex. next_as octets_of words.old ≡ Some (octets_in hex.digits.now, words.new)) }
+{
+    let word = words.next()?;
+    read_hex(word)
+}

@@ -1,0 +1,106 @@
+//! A script, run as it is read.
+ghost use Rattle.std.specs.Prelude.{◌≡◌, ◌⊎◌, ◌↔◌, true, false, Err};
+ghost use Rattle.bac_tools.specs.Checked.{has_failed, reads_of};
+ghost use Rattle.bac_tools.specs.Input.{most_reads};
+ghost use Rattle.bac_tools.specs.Running.{new_client};
+ghost use Rattle.bac_tools.specs.Tracing.{Traces, trace_status_of};
+
+use crate::checked::Checked;
+use crate::input::{Chunk, Reading};
+use crate::line::{Line, LineFault, read_line};
+use crate::page::Page;
+use crate::running::run_line;
+use arrayvec::ArrayVec;
+use bac_tsm::{Client, Config};
+use std::io::{Read, Write};
+use thiserror::Error;
+
+/// A script that ran to its end.
+#[derive(Clone, Copy, Debug, PartialEq, Eq)]
+pub struct TraceEnd {
+    /// The lines, skipped ones included.
+    pub lines: u64,
+}
+
+/// Why a script stopped.
+#[derive(Clone, Copy, Debug, PartialEq, Eq, Error)]
+pub enum TraceFault {
+    /// The line with this number, from 1, is no line of the language.
+    #[error("line {0}: bad line")]
+    BadLine(u64),
+    /// The line with this number, from 1, has more than 4,096 octets.
+    #[error("line {0}: too long")]
+    LineTooLong(u64),
+    /// The reader failed, or its reads are spent.
+    #[error("reading failed")]
+    ReadFailed,
+    /// The writer failed, or took no octet.
+    #[error("writing failed")]
+    WriteFailed,
+}
+
+/// Runs each line of a script on a client, and writes what it prints before it reads the next.
+pub fn trace<R: Read, W: Write>(
+    reader: &mut Checked<R>,
+    writer: &mut Checked<W>,
+) -> Result<TraceEnd, TraceFault>
+    requires reader { has_failed reader.old ≡ false }
+    requires writer { has_failed writer.old ≡ false }
+    ensures script { Traces R.remaining W.contents reader.old reader.new writer.old writer.new result }
+    ensures read_failed { result ≡ Err TraceFault.ReadFailed → (has_failed reader.new ≡ true) ⊎ (reads_of reader.new ≡ most_reads) }
+    ensures write_failed { (has_failed writer.new ≡ true) ↔ (result ≡ Err TraceFault.WriteFailed) }
+{
+    let mut chunk = Chunk::new();
+    let mut text = ArrayVec::new();
+    let mut page = Page::new();
+    let mut client = usual_client();
+    let mut is_first = true;
+    let mut lines = 0;
+    loop {
+        let reading = chunk.next_line(reader, &mut text);
+        if reading == Reading::Failed {
+            return Err(TraceFault::ReadFailed);
+        }
+        if text.is_empty() {
+            return Ok(TraceEnd { lines });
+        }
+        lines += 1;
+        let line = match read_line(text.as_slice(), is_first) {
+            Ok(line) => line,
+            Err(LineFault::Bad) => return Err(TraceFault::BadLine(lines)),
+            Err(LineFault::TooLong) => return Err(TraceFault::LineTooLong(lines)),
+        };
+        is_first = is_first && line.is_skipped();
+        run_line(&mut client, line, &mut page, writer);
+        page.turn_in(writer);
+        if writer.failed() {
+            return Err(TraceFault::WriteFailed);
+        }
+        if reading == Reading::AtEnd {
+            return Ok(TraceEnd { lines });
+        }
+    }
+}
+
+// The client of a script that says no settings: it waits for three seconds, and sends three times again.
+fn usual_client() -> Client
+    ensures { result ≡ new_client 3000 3 0 }
+{
+    let config = Config {
+        timeout: 3_000,
+        retries: 3,
+    };
+    Client::new(config, 0)
+}
+
+/// The status with which the program ends after a script: 0 at its end, 2 after a line that is bad or too long, 3 where
+/// reading or writing failed.
+pub fn trace_status(answer: &Result<TraceEnd, TraceFault>) -> u8
+    ensures { result ≡ trace_status_of answer.now }
+{
+    match answer {
+        Ok(_) => 0,
+        Err(TraceFault::BadLine(_) | TraceFault::LineTooLong(_)) => 2,
+        Err(TraceFault::ReadFailed | TraceFault::WriteFailed) => 3,
+    }
+}

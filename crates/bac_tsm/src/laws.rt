@@ -1,0 +1,46 @@
+//! The laws of the client: what its machine does is what the look-ahead says.
+
+ghost use Rattle.std.specs.Prelude.{◌≡◌, ◌≢◌, ℕ, suc, ◌+◌, ◌<◌, ◌≤◌, List, ◌∷◌, ◌++◌, length, take};
+ghost use Rattle.std.specs.List.{AllPairs};
+ghost use Rattle.bac_tsm.specs.Events.{Event, Rules};
+ghost use Rattle.bac_tsm.specs.Lookahead.{Accepted, accepted, open_at, output, sends};
+ghost use Rattle.bac_tsm.specs.Machine.{folded, initial};
+ghost use Rattle.bac_tsm.specs.Laws.{AnswersByNumber, outputs, state_at};
+
+/// The machine tells, at each position, the notes that the look-ahead gives there, and keeps what it says is open.
+pub fn run_is_lookahead()
+    ensures notes { (rules : Rules) (first_ticket : ℕ) (events : List Event) →
+        AnswersByNumber rules → rules.places ≤ 255 →
+        (folded rules (initial first_ticket) 0 events).notes ≡ outputs rules first_ticket events 0 (length events) }
+    ensures kept { (rules : Rules) (first_ticket : ℕ) (events : List Event) (n : ℕ) →
+        AnswersByNumber rules → rules.places ≤ 255 → n ≤ length events →
+        (folded rules (initial first_ticket) 0 (take n events)).after ≡ state_at rules first_ticket events n }
+{}
+
+/// At each position few requests are open, under different numbers, and each is sent only so often.
+pub fn table_is_bounded()
+    ensures few { (rules : Rules) (first_ticket : ℕ) (events : List Event) (n : ℕ) →
+        rules.places ≤ 255 → length (open_at rules first_ticket events n) ≤ rules.places }
+    ensures apart { (rules : Rules) (first_ticket : ℕ) (events : List Event) (n : ℕ) →
+        rules.places ≤ 255 → AllPairs (λ a b. a.request.number ≢ b.request.number) (open_at rules first_ticket events n) }
+    ensures tickets { (rules : Rules) (first_ticket : ℕ) (events : List Event) (n : ℕ) →
+        AllPairs (λ a b. a.request.ticket < b.request.ticket) (open_at rules first_ticket events n) }
+    ensures sends { (rules : Rules) (events : List Event) (a : Accepted) →
+        length (sends rules events a) ≤ 1 + rules.retries }
+{}
+
+/// What is told at a position rests on nothing that comes after it.
+pub fn output_looks_back()
+    ensures { (rules : Rules) (first_ticket : ℕ) (events others : List Event) (n : ℕ) →
+        n < length events → take (suc n) events ≡ take (suc n) others →
+        output rules first_ticket events n ≡ output rules first_ticket others n }
+{}
+
+/// Between two requests with the same number many others are accepted.
+pub fn numbers_come_back_late()
+    ensures { (rules : Rules) (first_ticket : ℕ) (events : List Event) (n : ℕ)
+        (before between after : List Accepted) (a b : Accepted) →
+        rules.places ≤ 255 →
+        accepted rules first_ticket events n ≡ before ++ (a ∷ between) ++ (b ∷ after) →
+        a.request.number ≡ b.request.number → 256 ≤ length between + rules.places }
+{}

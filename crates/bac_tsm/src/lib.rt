@@ -1,0 +1,28 @@
+//! The client's side of BACnet transactions, without sockets: which requests are open, when each is sent, and how it
+//! ends. The caller hands in requests, datagrams and the time, and sends what the client tells it to send.
+//!
+//! Each call of [`Client`] is one step of a machine that `specs/Machine.antt` defines, and `specs/Lookahead.antt` says
+//! what comes of a whole list of calls without a machine. [`run_is_lookahead`] states that these two agree.
+#![tactic(auto)]
+
+mod client;
+mod config;
+mod due;
+mod examples;
+mod header;
+mod laws;
+mod limits;
+mod outcome;
+mod peer;
+mod request;
+#[cfg(test)]
+mod tests;
+
+pub use client::{Client, SubmitFault};
+pub use config::Config;
+pub use due::{Due, Entry};
+pub use examples::{examples_of_a_request, examples_of_many_events};
+pub use laws::{numbers_come_back_late, output_looks_back, run_is_lookahead, table_is_bounded};
+pub use limits::{LONGEST_BODY, PLACES};
+pub use outcome::{Ended, Outcome};
+pub use peer::Peer;

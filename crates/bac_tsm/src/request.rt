@@ -1,0 +1,103 @@
+//! An open request.
+
+ghost use Rattle.std.specs.Prelude.{◌≡◌, [], ◌∷◌, nat_eq, nat_lt, if◌then◌else◌};
+ghost use Rattle.bac_tsm.specs.Machine.{is_due, due_entry, kept};
+ghost use Rattle.bac_tsm.specs.Header.{is_answer_to};
+ghost use Rattle.bac_tsm.specs.Answer.{answer_seen};
+ghost use Rattle.bac_tsm.specs.Client.{client_rules};
+
+use crate::config::Config;
+use crate::due::Entry;
+use crate::header::{Answer, Datagram};
+use crate::peer::Peer;
+use std::marker::Model;
+
+/// A request that is open, the clock when it was last sent, and how many times it was sent again.
+#[derive(Default, Drop)]
+pub(crate) struct OpenRequest {
+    pub(crate) ticket: u64,
+    pub(crate) peer: Peer,
+    pub(crate) service: u8,
+    pub(crate) number: u8,
+    pub(crate) base: u64,
+    pub(crate) count: u8,
+    pub(crate) datagram: Datagram,
+}
+
+impl Model for OpenRequest {
+    ghost use Rattle.bac_tsm.specs.Machine.{Waiting};
+
+    ghost Value = { Waiting };
+
+    ghost view = { λ r. record {
+      request = record {
+        ticket = r.ticket;
+        peer = r.peer;
+        service = r.service;
+        number = r.number;
+        octets = r.datagram.items;
+      };
+      base = r.base;
+      count = r.count;
+    } };
+}
+
+impl OpenRequest {
+    pub(crate) fn ticket(&self) -> u64
+        ensures { result ≡ self.now.request.ticket }
+    {
+        self.ticket
+    }
+
+    pub(crate) fn has_ticket(&self, ticket: u64) -> bool
+        ensures { result ≡ nat_eq self.now.request.ticket ticket }
+    {
+        self.ticket == ticket
+    }
+
+    pub(crate) fn has_number(&self, number: u8) -> bool
+        ensures { result ≡ nat_eq number self.now.request.number }
+    {
+        number == self.number
+    }
+
+    // The timeout has passed since the request was last sent.
+    pub(crate) fn is_due(&self, clock: u64, config: Config) -> bool
+        ensures { result ≡ is_due (client_rules config.timeout config.retries) clock self.now }
+    {
+        clock.saturating_sub(self.base) >= u64::from(config.timeout)
+    }
+
+    // What becomes of the request when it is due.
+    pub(crate) fn due_entry(&self, config: Config) -> Entry
+        ensures { result ≡ due_entry (client_rules config.timeout config.retries) self.now }
+    {
+        if self.count < config.retries {
+            Entry::Resend(self.ticket)
+        } else {
+            Entry::TimedOut(self.ticket)
+        }
+    }
+
+    // Brings the request to this clock, and says whether it stays open.
+    pub(crate) fn go_on(&mut self, clock: u64, config: Config) -> bool
+        ensures { kept (client_rules config.timeout config.retries) clock self.old ≡ (if result then self.new ∷ [] else []) }
+    {
+        if !self.is_due(clock, config) {
+            return true;
+        }
+        if self.count >= config.retries {
+            return false;
+        }
+        self.base = clock;
+        self.count += 1;
+        true
+    }
+
+    #[tactic(auto, unfolding(crate::specs::Header::is_answer_to))]
+    pub(crate) fn is_answered_by(&self, peer: Peer, answer: &Answer<'_>) -> bool
+        ensures { result ≡ is_answer_to self.now.request peer (answer_seen answer.now) }
+    {
+        self.peer == peer && self.number == answer.number && self.service == answer.service
+    }
+}
