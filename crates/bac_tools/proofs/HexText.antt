@@ -1,5 +1,5 @@
 -- Octets in hexadecimal digits.
-use Rattle.std.proofs.Common.{◌≡◌, ℕ, ◌%◌, ◌<◌, ◌≤◌, Bool, true, false, List, [], ◌∷◌, length, Some, None, Result, Ok, Err, refl, sym, ◌∙◌, arith}
+use Rattle.std.proofs.Common.{◌*◌, ◌≡◌, ℕ, ◌%◌, ◌<◌, ◌≤◌, Bool, true, false, List, [], ◌∷◌, length, Some, None, Result, Ok, Err, refl, sym, ◌∙◌, arith}
 use Rattle.std.specs.Prelude.{◌&&◌, nat_le, is_ok, IsTrue}
 use Rattle.std.specs.List.{list_all}
 use Rattle.std.specs.Char.{is_ascii_hexdigit}
@@ -40,3 +40,11 @@ octets_of-others word others = go (is_not_empty word && nat_le (length word) 409
     go true e (Ok octets) is =
         let all = list_all-from_AllPass is_hex_digit word (decode_of-ok word octets is).1 in
         absurd (false≢true (sym others ∙ same_digits word ∙ all))
+
+-- Two digits write an octet.
+pub length-octets_in : (digits : List ℕ) → IsTrue (is_ok (decode_of digits)) → length digits ≡ 2 * length (octets_in digits)
+length-octets_in digits read = go (decode_of digits) refl
+  where
+    go : (r : Result (List ℕ) FromHexError) → decode_of digits ≡ r → length digits ≡ 2 * length (octets_in digits)
+    go (Ok octets) is = rw is (decode_of-ok digits octets is).2
+    go (Err why) is = absurd (let bad = rw is at read in false≢true bad)

@@ -9,3 +9,7 @@ pub mod Pieces
 pub mod Machine
 pub mod Settled
 pub mod SoFar
+pub mod ValueLists
+pub mod ValueTexts
+pub mod Routes
+pub mod ReadBodies

@@ -3,10 +3,11 @@ pub mod Input
 pub mod Page
 pub mod Words
 pub mod Address
-pub mod ReadRequest
 pub mod Line
 pub mod LineSeen
 pub mod Text
 pub mod Running
 pub mod Script
 pub mod Tracing
+pub mod Values
+pub mod ValuesInWords

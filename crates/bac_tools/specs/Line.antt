@@ -1,13 +1,14 @@
 -- The lines of a script, and what each says.
-use Rattle.std.specs.Prelude.{ℕ, ◌-◌, ◌^◌, ◌==◌, ◌&&◌, Bool, nat_lt, List, [], ◌∷◌, length, take, slice_index, bytes_eq, codes, Option, Some, None, Result, Ok, Err, ok_or, if◌then◌else◌}
+use Rattle.std.specs.Prelude.{ℕ, ◌-◌, ◌^◌, ◌==◌, ◌&&◌, Bool, nat_lt, List, [], ◌∷◌, length, take, slice_index, bytes_eq, codes, Option, Some, None, option_map, Result, Ok, Err, ok_or, if◌then◌else◌}
 use Rattle.std.specs.Str.{is_utf8}
 use Rattle.std.specs.Str.Lines.{strip_carriage_return}
 use Rattle.bac_tsm.specs.Events.{Event, Ask, Data, Tick}
 use Rattle.bac_tools.specs.declared.line.LineFault.{LineFault}
 use Rattle.bac_tools.specs.declared.line.LineFault.TheVariants.{Bad, TooLong}
 use Rattle.bac_tools.specs.Words.{◌>>=◌, words_of, number_up_to, octets_of, next_as, at_end}
-use Rattle.bac_tools.specs.Address.{peer_of}
-use Rattle.bac_tools.specs.ReadRequest.{read_body}
+use Rattle.bac_tools.specs.Address.{plain_peer_of, peer_of}
+use Rattle.bac_pdu.specs.Property.{Reference, read_octets}
+use Rattle.bac_wire.specs.Identifier.{Identifier}
 
 -- What a line says: nothing, the client's settings, or an event.
 pub data Said : Type 0 where
@@ -23,27 +24,37 @@ settings_of words = do
   ticket ← next_as (number_up_to (2 ^ 64 - 1)) retries.1
   if nat_lt 0 timeout.0 then at_end ticket.1 (Settings timeout.0 retries.0 ticket.0) else None
 
--- PEER, KIND, INSTANCE and PROPERTY, of a ReadProperty request (service 12).
-abbrev pub reading_of : List (List ℕ) → Option Said
+-- The number that the next word is, where there is one.
+abbrev pub index_in : List (List ℕ) → Option (Option ℕ × List (List ℕ))
+index_in [] = Some (None, [])
+index_in (word ∷ others) = option_map (λ n. (Some n, others)) (number_up_to (2 ^ 32 - 1) word)
+
+abbrev pub reference_to : ℕ → ℕ → ℕ → Option ℕ → Reference
+reference_to kind instance property index =
+    record { object = record { kind = kind; instance = instance }; property = property; index = index }
+
+-- PEER, KIND, INSTANCE, PROPERTY and, where there is one, INDEX, of a ReadProperty request (service 12).
+abbrev pub reading_of : List (List ℕ) → Option Event
 reading_of words = do
   peer ← next_as peer_of words
   kind ← next_as (number_up_to 1023) peer.1
   instance ← next_as (number_up_to 4194303) kind.1
   property ← next_as (number_up_to 4194303) instance.1
-  at_end property.1 (Happens (Ask peer.0 12 (read_body kind.0 instance.0 property.0)))
+  index ← index_in property.1
+  at_end index.1 (Ask peer.0 12 (read_octets (reference_to kind.0 instance.0 property.0 index.0)))
 
 -- PEER and HEX, of a datagram that comes from the peer.
-abbrev pub arrival_of : List (List ℕ) → Option Said
+abbrev pub arrival_of : List (List ℕ) → Option Event
 arrival_of words = do
-  peer ← next_as peer_of words
+  peer ← next_as plain_peer_of words
   octets ← next_as octets_of peer.1
-  at_end octets.1 (Happens (Data peer.0 octets.0))
+  at_end octets.1 (Data peer.0 octets.0)
 
 -- N, the time of a tick.
-abbrev pub tick_of : List (List ℕ) → Option Said
+abbrev pub tick_of : List (List ℕ) → Option Event
 tick_of words = do
   now ← next_as (number_up_to (2 ^ 64 - 1)) words
-  at_end now.1 (Happens (Tick now.0))
+  at_end now.1 (Tick now.0)
 
 -- What the words of a line say, if they are in the language. The settings stand only on the first line that says
 -- something; a first word that begins with # (35) makes a remark.
@@ -52,9 +63,9 @@ said_by is_first [] = Some Nothing
 said_by is_first (name ∷ others) =
     if slice_index name 0 == 35 then Some Nothing
     else if is_first && bytes_eq name (codes "client") then settings_of others
-    else if bytes_eq name (codes "read") then reading_of others
-    else if bytes_eq name (codes "data") then arrival_of others
-    else if bytes_eq name (codes "tick") then tick_of others
+    else if bytes_eq name (codes "read") then option_map Happens (reading_of others)
+    else if bytes_eq name (codes "data") then option_map Happens (arrival_of others)
+    else if bytes_eq name (codes "tick") then option_map Happens (tick_of others)
     else None
 
 -- A line feed (10) ends the line.

@@ -1,35 +1,36 @@
 -- What is printed of the client's notes.
-use Rattle.std.specs.Prelude.{ℕ, ◌==◌, ◌&&◌, List, [], ◌∷◌, ◌++◌, length, map, slice_index, slice_range, codes, decimal, Option, Some, None, if◌then◌else◌}
+use Rattle.std.specs.Prelude.{ℕ, List, [], ◌∷◌, ◌++◌, map, codes, decimal, Option, Some, None}
 use Rattle.std.specs.List.{flat_map, join_with_byte}
 use Rattle.std.specs.Int.{w32, to_be_bytes}
 use Rattle.hex.specs.Hex.{encode_lower}
-use Rattle.bac_tsm.specs.declared.peer.Peer.{Peer}
+use Rattle.bac_pdu.specs.Peer.{NetworkAddress, Station}
 use Rattle.bac_tsm.specs.declared.client.SubmitFault.{SubmitFault}
 use Rattle.bac_tsm.specs.declared.client.SubmitFault.TheVariants.{TooLong, TableFull, TicketsSpent}
-use Rattle.bac_tsm.specs.Events.{Outcome, Complex, Note, Sent, Refused, Done, Dropped, TimedOut}
+use Rattle.bac_tsm.specs.Events.{Outcome, Simple, Complex, Segmented, Failed, BadError, Rejected, Aborted, Note, Sent, Refused, Done, Dropped, TimedOut}
+use Rattle.bac_tools.specs.Values.{ack_text}
 
 -- The four octets of an IP address in decimal, joined by dots.
 abbrev pub address_text : ℕ → List ℕ
 address_text ip = join_with_byte 46 (map decimal (to_be_bytes w32 ip))
 
--- The address, a colon and the port.
-abbrev pub peer_text : Peer → List ℕ
-peer_text peer = address_text peer.ip ++ 58 ∷ decimal peer.port
+-- A slash, the number of the network, a slash and the address there.
+abbrev pub route_text : Option NetworkAddress → List ℕ
+route_text None = []
+route_text (Some route) = 47 ∷ (decimal route.network ++ 47 ∷ encode_lower route.address)
 
--- The four octets of a Real, where the body is that of a ReadProperty-ACK with an object, a property of one octet and
--- this value (clause 15.5).
-abbrev pub real_in : List ℕ → Option (List ℕ)
-real_in body =
-    if length body == 14 && slice_index body 0 == 12 && slice_index body 5 == 25 && slice_index body 7 == 62
-    && slice_index body 8 == 68 && slice_index body 13 == 63
-    then Some (slice_range body 9 13) else None
+-- The address, a colon and the port, and the route, if there is one.
+abbrev pub peer_text : Station → List ℕ
+peer_text peer = address_text peer.ip ++ 58 ∷ (decimal peer.port ++ route_text peer.route)
 
-abbrev pub value_text : Option (List ℕ) → List ℕ
-value_text (Some octets) = codes "value " ++ encode_lower octets
-value_text None = codes "bad-ack"
-
+-- How a request ended.
 abbrev pub outcome_text : Outcome → List ℕ
-outcome_text (Complex body) = value_text (real_in body)
+outcome_text Simple = codes "ok"
+outcome_text (Complex body) = ack_text body
+outcome_text Segmented = codes "segmented"
+outcome_text (Failed class code) = codes "error " ++ (decimal class ++ 32 ∷ decimal code)
+outcome_text BadError = codes "bad-error"
+outcome_text (Rejected reason) = codes "reject " ++ decimal reason
+outcome_text (Aborted reason) = codes "abort " ++ decimal reason
 
 abbrev pub refusal_text : SubmitFault → List ℕ
 refusal_text TooLong = codes "too-long"

@@ -4,17 +4,19 @@
 mod checked;
 mod hex_digits;
 mod input;
+pub mod laws;
 mod line;
 mod notes;
 mod numbers;
 mod page;
 mod peers;
-mod read_request;
 mod running;
 #[cfg(test)]
 mod tests;
 mod tracing;
+mod values;
 mod words;
 
 pub use checked::Checked;
 pub use tracing::{TraceEnd, TraceFault, trace, trace_status};
+pub use values::show_value;

@@ -1,8 +1,9 @@
 //! The lines of a script.
 ghost use Rattle.std.specs.Prelude.{◌≡◌, ◌==◌, ◌≤◌, ◌^◌, ◌<◌, [], ◌∷◌, true, length, option_map, ⊤, None, Some, MatchOption, MatchResult, Ok, Err};
 ghost use Rattle.bac_tools.specs.Words.{number_up_to, octets_of, next_as, at_end};
-ghost use Rattle.bac_tools.specs.Address.{peer_of};
-ghost use Rattle.bac_tools.specs.Line.{settings_of, reading_of, arrival_of, tick_of, said_by, text_of_line, said};
+ghost use Rattle.bac_pdu.specs.Peer.{station};
+ghost use Rattle.bac_tools.specs.Address.{plain_peer_of, peer_of};
+ghost use Rattle.bac_tools.specs.Line.{Happens, settings_of, index_in, reading_of, arrival_of, tick_of, said_by, text_of_line, said};
 ghost use Rattle.bac_tools.specs.Words.{octets_in};
 ghost use Rattle.bac_tools.specs.Script.{is_nothing};
 ghost use Rattle.bac_tools.specs.LineSeen.{line_seen, result_seen};
@@ -10,10 +11,11 @@ ghost use Rattle.bac_tools.specs.LineSeen.{line_seen, result_seen};
 use crate::hex_digits::{HexDigits, read_hex};
 use crate::input::LONGEST_LINE;
 use crate::numbers::read_number;
-use crate::peers::read_peer;
-use crate::read_request::ReadRequest;
+use crate::peers::{peer_in, plain_peer_in};
 use crate::words::Words;
-use bac_tsm::{Config, Peer};
+use bac_pdu::{Peer, ReadRequest};
+use bac_tsm::Config;
+use bac_wire::ObjectId;
 use std::str;
 
 /// What a line says.
@@ -112,26 +114,31 @@ fn read_settings(mut words: Words<'_>) -> Option<Line<'_>>
 }
 
 fn read_reading(mut words: Words<'_>) -> Option<Line<'_>>
-    ensures { option_map line_seen result ≡ reading_of words.entry }
+    ensures { option_map line_seen result ≡ option_map Happens (reading_of words.entry) }
 {
     let peer = next_peer(&mut words)?;
     let kind = next_number(&mut words, 1_023)?;
     let instance = next_number(&mut words, 4_194_303)?;
     let property = next_number(&mut words, 4_194_303)?;
-    let request = ReadRequest::new(kind as u16, instance as u32, property as u32);
+    let index = next_index(&mut words)?;
+    let request = ReadRequest {
+        object: ObjectId::new(kind as u16, instance as u32)?,
+        property: property as u32,
+        index,
+    };
     ended(words, Line::Read(peer, request))
 }
 
 fn read_arrival(mut words: Words<'_>) -> Option<Line<'_>>
-    ensures { option_map line_seen result ≡ arrival_of words.entry }
+    ensures { option_map line_seen result ≡ option_map Happens (arrival_of words.entry) }
 {
-    let peer = next_peer(&mut words)?;
+    let peer = next_plain_peer(&mut words)?;
     let hex = next_hex(&mut words)?;
     ended(words, Line::Data(peer, hex))
 }
 
 fn read_tick(mut words: Words<'_>) -> Option<Line<'_>>
-    ensures { option_map line_seen result ≡ tick_of words.entry }
+    ensures { option_map line_seen result ≡ option_map Happens (tick_of words.entry) }
 {
     let now = next_number(&mut words, u64::MAX)?;
     ended(words, Line::Tick(now))
@@ -155,11 +162,29 @@ fn next_number(words: &mut Words<'_>, most: u64) -> Option<u64>
     read_number(word, most)
 }
 
+// The number of an element, where a word is left.
+fn next_index(words: &mut Words<'_>) -> Option<Option<u32>>
+    ensures { MatchOption result (index_in words.old ≡ None) (λ index. index_in words.old ≡ Some (index, words.new)) }
+{
+    let Some(word) = words.next() else {
+        return Some(None);
+    };
+    let index = read_number(word, u32::MAX.into())?;
+    Some(Some(index as u32))
+}
+
 fn next_peer(words: &mut Words<'_>) -> Option<Peer>
-    ensures { MatchOption result (next_as peer_of words.old ≡ None) (λ peer. next_as peer_of words.old ≡ Some (peer, words.new)) }
+    ensures { MatchOption result (next_as peer_of words.old ≡ None) (λ peer. next_as peer_of words.old ≡ Some (station peer, words.new)) }
 {
     let word = words.next()?;
-    read_peer(word)
+    peer_in(word)
+}
+
+fn next_plain_peer(words: &mut Words<'_>) -> Option<Peer>
+    ensures { MatchOption result (next_as plain_peer_of words.old ≡ None) (λ peer. next_as plain_peer_of words.old ≡ Some (station peer, words.new)) }
+{
+    let word = words.next()?;
+    plain_peer_in(word)
 }
 
 fn next_hex<'a>(words: &mut Words<'a>) -> Option<HexDigits<'a>>

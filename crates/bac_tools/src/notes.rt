@@ -1,27 +1,41 @@
 //! What is printed of a client's notes.
-ghost use Rattle.std.specs.Prelude.{◌≡◌, ◌++◌, [], ◌∷◌, option_map};
+ghost use Rattle.std.specs.Prelude.{◌≡◌, ◌++◌, [], ◌∷◌, decimal, option_map};
 ghost use Rattle.std.specs.List.{flat_map};
-ghost use Rattle.bac_tsm.specs.Events.{Refused, TimedOut};
+ghost use Rattle.bac_pdu.specs.Peer.{station, network_address};
+ghost use Rattle.bac_tsm.specs.Events.{Failed, Refused, TimedOut};
 ghost use Rattle.bac_tsm.specs.Machine.{sent, due_notes};
 ghost use Rattle.bac_tsm.specs.Client.{end_seen, outcome_seen};
 ghost use Rattle.bac_tools.specs.Page.{Prints};
-ghost use Rattle.bac_tools.specs.Text.{address_text, peer_text, real_in, value_text, outcome_text, refusal_text, note_text, notes_text};
+ghost use Rattle.bac_tools.specs.Text.{address_text, route_text, peer_text, outcome_text, refusal_text, note_text, notes_text};
 
 use crate::checked::Checked;
 use crate::page::Page;
-use bac_tsm::{Client, Ended, Entry, Outcome, Peer, SubmitFault};
+use bac_pdu::{Peer, Route};
+use bac_tsm::{Client, Ended, Entry, Outcome, SubmitFault};
 use std::io::Write;
 
 impl Page {
     ghost use Rattle.bac_tsm.specs.Events.{Done};
 
-    /// Prints the IP address in dotted decimal, a colon and the port.
-    fn print_peer<W: Write>(&mut self, writer: &mut Checked<W>, peer: Peer)
-        ensures { Prints W.contents writer.old writer.new self.old self.new (peer_text peer) }
+    /// Prints the IP address in dotted decimal, a colon and the port, and the route, if there is one.
+    pub(crate) fn print_peer<W: Write>(&mut self, writer: &mut Checked<W>, peer: Peer)
+        ensures { Prints W.contents writer.old writer.new self.old self.new (peer_text (station peer)) }
     {
         self.print_address(writer, peer.ip);
         self.print(writer, b":");
         self.print_number(writer, peer.port as u64);
+        self.print_route(writer, peer.route);
+    }
+
+    fn print_route<W: Write>(&mut self, writer: &mut Checked<W>, route: Option<Route>)
+        ensures { Prints W.contents writer.old writer.new self.old self.new (route_text (option_map network_address route)) }
+    {
+        if let Some(route) = route {
+            self.print(writer, b"/");
+            self.print_number(writer, route.network() as u64);
+            self.print(writer, b"/");
+            self.print_hex(writer, route.address());
+        }
     }
 
     fn print_address<W: Write>(&mut self, writer: &mut Checked<W>, ip: u32)
@@ -84,20 +98,30 @@ impl Page {
         ensures { Prints W.contents writer.old writer.new self.old self.new (outcome_text (outcome_seen outcome.entry)) }
     {
         match outcome {
-            Outcome::Complex(body) => self.print_value(writer, body),
+            Outcome::Simple => self.print(writer, b"ok"),
+            Outcome::Complex(body) => self.print_ack(writer, body),
+            Outcome::Segmented => self.print(writer, b"segmented"),
+            Outcome::Error { class, code } => self.print_error(writer, class, code),
+            Outcome::BadError => self.print(writer, b"bad-error"),
+            Outcome::Reject(reason) => self.print_reason(writer, b"reject ", reason),
+            Outcome::Abort(reason) => self.print_reason(writer, b"abort ", reason),
         }
     }
 
-    fn print_value<W: Write>(&mut self, writer: &mut Checked<W>, body: &[u8])
-        ensures { Prints W.contents writer.old writer.new self.old self.new (value_text (real_in body.now)) }
+    fn print_error<W: Write>(&mut self, writer: &mut Checked<W>, class: u32, code: u32)
+        ensures { Prints W.contents writer.old writer.new self.old self.new (outcome_text (Failed class code)) }
     {
-        match real_in(body) {
-            Some(octets) => {
-                self.print(writer, b"value ");
-                self.print_hex(writer, octets);
-            }
-            None => self.print(writer, b"bad-ack"),
-        }
+        self.print(writer, b"error ");
+        self.print_number(writer, class as u64);
+        self.print(writer, b" ");
+        self.print_number(writer, code as u64);
+    }
+
+    fn print_reason<W: Write>(&mut self, writer: &mut Checked<W>, what: &[u8], reason: u8)
+        ensures { Prints W.contents writer.old writer.new self.old self.new (what.now ++ decimal reason) }
+    {
+        self.print(writer, what);
+        self.print_number(writer, reason as u64);
     }
 
     /// Prints what became of the requests that were due, in their order.
@@ -130,22 +154,4 @@ impl Page {
         self.print_number(writer, ticket);
         self.print(writer, b"\n");
     }
-}
-
-// The octets of the Real in the body of an acknowledgement of one.
-fn real_in(body: &[u8]) -> Option<&[u8]>
-    ensures { option_map (λ octets. octets.now) result ≡ real_in body.now }
-{
-    if body.len() != 14 {
-        return None;
-    }
-    if body[0] != 0x0c
-        || body[5] != 0x19
-        || body[7] != 0x3e
-        || body[8] != 0x44
-        || body[13] != 0x3f
-    {
-        return None;
-    }
-    Some(&body[9..13])
 }

@@ -1,16 +1,38 @@
 //! A peer as it is written.
-ghost use Rattle.std.specs.Prelude.{◌≡◌, ◌≤◌, ◌==◌, IfSome, option_map, position};
-ghost use Rattle.bac_tools.specs.Address.{cut_at, short_number, address_of, peer_of};
+ghost use Rattle.std.specs.Prelude.{◌≡◌, ◌==◌, ◌≤◌, IfSome, option_map, position};
+ghost use Rattle.bac_pdu.specs.Peer.{station, network_address};
+ghost use Rattle.bac_tools.specs.Words.{octets_in};
+ghost use Rattle.bac_tools.specs.Address.{cut_at, short_number, address_of, routable, plain_peer_of, route_of, peer_of};
 
+use crate::hex_digits::{HexDigits, read_hex};
 use crate::numbers::read_number;
-use bac_tsm::Peer;
+use bac_pdu::{ADDRESS_OCTETS, Peer, Route};
 
 /// The port of BACnet/IP where none is written (Annex J.1.2).
 const USUAL_PORT: u16 = 47_808;
 
-/// The peer that a text names: an IP address in dotted decimal, then, where it isn't the usual one, `:` and the port.
-pub(crate) fn read_peer(text: &[u8]) -> Option<Peer>
-    ensures { result ≡ peer_of text.now }
+/// The peer that a text names: an IP address in dotted decimal, then, where it isn't the usual one, `:` and the port, and
+/// for a station of another network `/`, the number of the network, `/` and the address there in hexadecimal digits.
+pub(crate) fn peer_in(text: &[u8]) -> Option<Peer>
+    ensures { option_map station result ≡ peer_of text.now }
+{
+    match cut(text, b'/') {
+        None => plain_peer_in(text),
+        Some((router, route)) => {
+            let router = plain_peer_in(router)?;
+            let route = read_route(route)?;
+            Some(Peer {
+                ip: router.ip,
+                port: router.port,
+                route: Some(route),
+            })
+        }
+    }
+}
+
+/// The same, of a peer without a route.
+pub(crate) fn plain_peer_in(text: &[u8]) -> Option<Peer>
+    ensures { option_map station result ≡ plain_peer_of text.now }
 {
     let (ip, port) = match cut(text, b':') {
         None => (read_address(text)?, USUAL_PORT),
@@ -19,7 +41,11 @@ pub(crate) fn read_peer(text: &[u8]) -> Option<Peer>
             (read_address(address)?, port as u16)
         }
     };
-    Some(Peer { ip, port })
+    Some(Peer {
+        ip,
+        port,
+        route: None,
+    })
 }
 
 fn read_address(text: &[u8]) -> Option<u32>
@@ -32,6 +58,27 @@ fn read_address(text: &[u8]) -> Option<u32>
     let (third, fourth) = cut(rest, b'.')?;
     let high = high * 256 + short_number(third, 3, 255)?;
     Some(high * 256 + short_number(fourth, 3, 255)?)
+}
+
+fn read_route(text: &[u8]) -> Option<Route>
+    ensures { option_map network_address result ≡ route_of text.now }
+{
+    let (network, address) = cut(text, b'/')?;
+    let network = read_number(network, 65_535)?;
+    let address = read_hex(address)?;
+    route_to(network as u16, address)
+}
+
+fn route_to(network: u16, address: HexDigits<'_>) -> Option<Route>
+    ensures { option_map network_address result ≡ routable network (octets_in address.entry.digits.now) }
+{
+    let mut room = [0; ADDRESS_OCTETS];
+    if address.digits.len() > 2 * ADDRESS_OCTETS {
+        return None;
+    }
+    let octets = &mut room[..address.digits.len() / 2];
+    let _ = hex::decode_to_slice(address.digits, octets);
+    Route::new(network, octets)
 }
 
 // A number of at most so many digits, up to a limit.

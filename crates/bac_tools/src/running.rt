@@ -6,7 +6,8 @@ ghost use Rattle.bac_tsm.specs.Client.{rules_of};
 ghost use Rattle.bac_tools.specs.Line.{Happens};
 ghost use Rattle.bac_tools.specs.LineSeen.{line_seen};
 ghost use Rattle.bac_tools.specs.Words.{octets_in};
-ghost use Rattle.bac_tools.specs.ReadRequest.{read_body};
+ghost use Rattle.bac_pdu.specs.Peer.{station};
+ghost use Rattle.bac_pdu.specs.Property.{reference, read_octets};
 ghost use Rattle.bac_tools.specs.Page.{Prints};
 ghost use Rattle.bac_tools.specs.Running.{ran};
 
@@ -15,8 +16,9 @@ use crate::hex_digits::HexDigits;
 use crate::input::LONGEST_LINE;
 use crate::line::Line;
 use crate::page::Page;
-use crate::read_request::ReadRequest;
-use bac_tsm::{Client, Peer};
+use bac_pdu::{Peer, ReadRequest, write_read};
+use bac_tsm::Client;
+use bac_wire::Frame;
 use std::io::Write;
 
 /// The service choice of ReadProperty (clause 21, BACnetConfirmedServiceChoice).
@@ -52,14 +54,23 @@ fn ask<W: Write>(
     page: &mut Page,
     writer: &mut Checked<W>,
 )
-    ensures client { client.new ≡ (ran client.old (Happens (Ask peer 12 (read_body request.kind request.instance request.property)))).after }
-    ensures text { Prints W.contents writer.old writer.new page.old page.new (ran client.old (Happens (Ask peer 12 (read_body request.kind request.instance request.property)))).text }
+    ensures client { client.new ≡ (ran client.old (Happens (Ask (station peer) 12 (read_octets (reference request))))).after }
+    ensures text { Prints W.contents writer.old writer.new page.old page.new (ran client.old (Happens (Ask (station peer) 12 (read_octets (reference request))))).text }
 {
-    let body = request.body();
+    let body = read_body(&request);
     match client.submit(peer, READ_PROPERTY, body.as_slice()) {
         Ok(ticket) => page.print_sent(writer, client, ticket),
         Err(fault) => page.print_refusal(writer, fault),
     }
+}
+
+// The service body of the request.
+fn read_body(request: &ReadRequest) -> Frame
+    ensures { result ≡ read_octets (reference request.now) }
+{
+    let mut body = Frame::new();
+    let _ = write_read(&mut body, request);
+    body
 }
 
 // Hands the client a datagram that came from the peer.
@@ -70,8 +81,8 @@ fn hand_in<W: Write>(
     page: &mut Page,
     writer: &mut Checked<W>,
 )
-    ensures client { client.new ≡ (ran client.old (Happens (Data peer (octets_in hex.entry.digits.now)))).after }
-    ensures text { Prints W.contents writer.old writer.new page.old page.new (ran client.old (Happens (Data peer (octets_in hex.entry.digits.now)))).text }
+    ensures client { client.new ≡ (ran client.old (Happens (Data (station peer) (octets_in hex.entry.digits.now)))).after }
+    ensures text { Prints W.contents writer.old writer.new page.old page.new (ran client.old (Happens (Data (station peer) (octets_in hex.entry.digits.now)))).text }
 {
     let mut room = [0; LONGEST_LINE / 2];
     let octets = &mut room[..hex.digits.len() / 2];

@@ -6,9 +6,9 @@ use Rattle.std.specs.Option.{option_map}
 use Rattle.std.proofs.lemmas.Bool.{cases_Bool, ltb-true, ltb-false}
 use Rattle.std.proofs.lemmas.Option.{none-some, same_Some}
 use Rattle.bac_tsm.specs.Events.{Request, Outcome}
-use Rattle.bac_tsm.specs.declared.peer.Peer.{Peer}
+use Rattle.bac_pdu.specs.Peer.{Station}
 use Rattle.bac_tsm.specs.Machine.{Waiting, Delivered, deliver, datagram}
-use Rattle.bac_tsm.specs.Header.{Answer, answer_in, outcome_of, is_answer_to}
+use Rattle.bac_tsm.specs.Answers.{Answer, answer_in, outcome_of, is_answer_to}
 use Rattle.bac_tsm.specs.Client.{Client, rules_of, keeping}
 
 -- A place that is found is the first, and within the list.
@@ -73,7 +73,7 @@ delivers_nothing f none (w ∷ ws) =
     (delivers_nothing f none ws))
 
 -- What a datagram answers and leaves.
-abbrev pub Delivers : Client → Peer → List ℕ → Option (ℕ × Outcome) → Client → Type 0
+abbrev pub Delivers : Client → Station → List ℕ → Option (ℕ × Outcome) → Client → Type 0
 Delivers old peer bytes answer new =
     (answer ≡ (datagram (rules_of old) old.state peer bytes).answer)
     × (new ≡ keeping old (datagram (rules_of old) old.state peer bytes).after)
@@ -87,32 +87,32 @@ with_waiting client waiting = keeping client (record {
   waiting = waiting;
 })
 
-delivers_by : (client : Client) (peer : Peer) (bytes : List ℕ) (answer : Option (ℕ × Outcome)) (waiting : List Waiting) →
+delivers_by : (client : Client) (peer : Station) (bytes : List ℕ) (answer : Option (ℕ × Outcome)) (waiting : List Waiting) →
     deliver (λ r. outcome_of r peer bytes) client.state.waiting ≡ record { answer = answer; waiting = waiting } →
     Delivers client peer bytes answer (with_waiting client waiting)
 delivers_by client peer bytes answer waiting e =
     (sym (ap (λ (d : Delivered). d.answer) e), ap (with_waiting client) (sym (ap (λ (d : Delivered). d.waiting) e)))
 
-pub no_answer : (client : Client) (peer : Peer) (bytes : List ℕ) → answer_in bytes ≡ None → Delivers client peer bytes None client
+pub no_answer : (client : Client) (peer : Station) (bytes : List ℕ) → answer_in peer bytes ≡ None → Delivers client peer bytes None client
 no_answer client peer bytes e =
     delivers_by client peer bytes None client.state.waiting (delivers_nothing _ (λ r. rw e refl) client.state.waiting)
 
-module _ (client : Client) (peer : Peer) (bytes : List ℕ) (answer : Answer) (carried : answer_in bytes ≡ Some answer) where
+module _ (client : Client) (peer : Station) (bytes : List ℕ) (answer : Answer) (carried : answer_in peer bytes ≡ Some answer) where
   pub unanswered : (ws : List Waiting) → ws ≡ client.state.waiting →
-      position (λ w. is_answer_to w.request peer answer) ws ≡ None → Delivers client peer bytes None client
+      position (λ w. is_answer_to w.request answer) ws ≡ None → Delivers client peer bytes None client
   unanswered ws are none =
       delivers_by client peer bytes None client.state.waiting
-      (delivers_none (λ r. is_answer_to r peer answer) answer.outcome _ (λ r. rw carried refl) client.state.waiting (no_place _ _ (rw are at none)))
+      (delivers_none (λ r. is_answer_to r answer) answer.outcome _ (λ r. rw carried refl) client.state.waiting (no_place _ _ (rw are at none)))
 
   pub answered : (ws : List Waiting) → ws ≡ client.state.waiting → (i ticket : ℕ) (waiting : List Waiting) →
-      position (λ w. is_answer_to w.request peer answer) ws ≡ Some i →
+      position (λ w. is_answer_to w.request answer) ws ≡ Some i →
       Some ticket ≡ option_map (λ w. w.request.ticket) (slice_get client.state.waiting i) →
       waiting ≡ remove client.state.waiting i →
       Delivers client peer bytes (Some (ticket, answer.outcome)) (with_waiting client waiting)
   answered ws are i ticket waiting found its left =
       let at = place_found _ _ i (rw are at found) in
       delivers_by client peer bytes _ waiting
-      (delivers_at (λ r. is_answer_to r peer answer) answer.outcome _ (λ r. rw carried refl) client.state.waiting at.1
+      (delivers_at (λ r. is_answer_to r answer) answer.outcome _ (λ r. rw carried refl) client.state.waiting at.1
       ∙ ap (λ (k : ℕ). record {
         answer = option_map (ended_with answer.outcome) (slice_get client.state.waiting k);
         waiting = remove client.state.waiting k;
@@ -121,10 +121,10 @@ module _ (client : Client) (peer : Peer) (bytes : List ℕ) (answer : Answer) (c
 
 -- What a client answers and leaves, known of its view.
 pub delivers_as : (view client : Client) → view ≡ client →
-    (peer : Peer) (bytes : List ℕ) (answer : Option (ℕ × Outcome)) (new : Client) →
+    (peer : Station) (bytes : List ℕ) (answer : Option (ℕ × Outcome)) (new : Client) →
     Delivers view peer bytes answer new → Delivers client peer bytes answer new
 delivers_as view client same peer bytes answer new h = subst (λ (c : Client). Delivers c peer bytes answer new) same h
 
-pub delivers_none_as : (view client : Client) → view ≡ client → (peer : Peer) (bytes : List ℕ) (answer : Option (ℕ × Outcome)) →
+pub delivers_none_as : (view client : Client) → view ≡ client → (peer : Station) (bytes : List ℕ) (answer : Option (ℕ × Outcome)) →
     Delivers view peer bytes answer view → Delivers client peer bytes answer client
 delivers_none_as view client same peer bytes answer h = subst (λ (c : Client). Delivers c peer bytes answer c) same h

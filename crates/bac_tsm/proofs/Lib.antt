@@ -8,8 +8,13 @@ mod LookingBack
 mod NumberCycle
 mod NumberReuse
 mod OpenRequests
+mod Placed
 mod RequestLife
+mod RequestRoom
 mod Retained
+mod Runs
+mod SameStation
 mod TickStep
 mod Turns
+mod Watches
 pub mod WholeRun

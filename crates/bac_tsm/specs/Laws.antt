@@ -1,6 +1,6 @@
 -- What the look-ahead says that a client keeps, and tells, at each position.
 use Rattle.std.specs.Prelude.{◌≡◌, ℕ, zero, suc, ◌+◌, List, [], ◌++◌, length, map, Option, Some, None, Bool, true, false, nat_lt, is_some, unwrap_or, if◌then◌else◌}
-use Rattle.bac_tsm.specs.declared.peer.Peer.{Peer}
+use Rattle.bac_pdu.specs.Peer.{Station}
 use Rattle.bac_tsm.specs.Events.{Event, Note, Request, Rules}
 use Rattle.bac_tsm.specs.Lookahead.{Accepted, clock, due, accepted, open_at, output, last_number}
 use Rattle.bac_tsm.specs.Machine.{Waiting, State}
@@ -13,7 +13,7 @@ has_come i (Some j) = nat_lt j i
 -- Two requests that the same datagram answers have the same number.
 abbrev pub AnswersByNumber : Rules → Type 0
 AnswersByNumber rules =
-    (a b : Request) (peer : Peer) (bytes : List ℕ) → is_some (rules.outcome_of a peer bytes) ≡ true →
+    (a b : Request) (peer : Station) (bytes : List ℕ) → is_some (rules.outcome_of a peer bytes) ≡ true →
     is_some (rules.outcome_of b peer bytes) ≡ true → a.number ≡ b.number
 
 module _ (rules : Rules) (events : List Event) where

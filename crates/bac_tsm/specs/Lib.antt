@@ -2,7 +2,8 @@ pub mod Events
 pub mod Lookahead
 pub mod Machine
 pub mod Laws
-pub mod Header
+pub mod Answers
 pub mod Client
-pub mod Answer
+pub mod Seen
+pub mod Watching
 pub mod Examples

@@ -4,7 +4,7 @@ use Rattle.std.specs.Prelude.{ℕ, zero, suc, ◌+◌, ◌-◌, ◌%◌, ◌^◌
 use Rattle.std.specs.List.{list_any, flat_map, fold}
 use Rattle.std.specs.Option.{option_map, option_and_then, option_to_list}
 use Rattle.bac_tsm.specs.declared.limits.TheConstants.{LONGEST_BODY}
-use Rattle.bac_tsm.specs.declared.peer.Peer.{Peer}
+use Rattle.bac_pdu.specs.Peer.{Station}
 use Rattle.bac_tsm.specs.declared.client.SubmitFault.{SubmitFault}
 use Rattle.bac_tsm.specs.declared.client.SubmitFault.TheVariants.{TooLong, TableFull, TicketsSpent}
 use Rattle.bac_tsm.specs.Events.{Outcome, Event, Ask, Data, Tick, Note, Sent, Refused, Done, Dropped, TimedOut, Request, Rules, request_of}
@@ -28,6 +28,7 @@ greatest_tick (_ ∷ events) = greatest_tick events
 abbrev pub clock : List Event → ℕ → ℕ
 clock events i = greatest_tick (take i events)
 
+-- The event is a tick.
 abbrev pub is_tick : Option Event → Bool
 is_tick (Some (Tick now)) = true
 is_tick _ = false
@@ -63,7 +64,8 @@ abbrev pub is_before : ℕ → Option ℕ → Bool
 is_before i None = true
 is_before i (Some j) = nat_lt i j
 
--- The first number of the cycle after the last one that is not taken.
+-- The first number of the cycle after the last one that is not taken: the invoke id of a new request, which no open
+-- request has (clause 20.1.2).
 unfoldable pub next_number : ℕ → List ℕ → ℕ
 next_number last taken =
     (last + unwrap_or (first_within (λ d. not (list_any (nat_eq ((last + d) % 256)) taken)) 1 256) 0) % 256
@@ -80,6 +82,7 @@ abbrev pub unless_refused : {A : Type 0} → Option SubmitFault → A → Result
 unless_refused None request = Ok request
 unless_refused (Some why) request = Err why
 
+-- The numbers of these requests.
 abbrev pub numbers_of : List Accepted → List ℕ
 numbers_of requests = map (λ a. a.request.number) requests
 
@@ -87,6 +90,7 @@ numbers_of requests = map (λ a. a.request.number) requests
 abbrev pub last_number : List Accepted → ℕ
 last_number requests = fold (λ last a. a.request.number) 0 requests
 
+-- The request that was accepted, if one was.
 abbrev pub ok_to_list : Result Accepted SubmitFault → List Accepted
 ok_to_list (Ok a) = a ∷ []
 ok_to_list (Err why) = []
@@ -101,6 +105,7 @@ abbrev pub end_notes : ℕ → Request → Option End → List Note
 end_notes i request None = []
 end_notes i request (Some e) = if nat_eq e.position i then end_note request e.outcome ∷ [] else []
 
+-- These notes, or that the datagram was dropped.
 abbrev pub or_dropped : List Note → List Note
 or_dropped [] = Dropped ∷ []
 or_dropped (note ∷ notes) = note ∷ notes
@@ -124,11 +129,11 @@ module _ (rules : Rules) (events : List Event) where
   abbrev pub answers : Accepted → ℕ → Option Outcome
   answers a j = answer_in rules a.request (slice_get events j)
 
-  -- The first position after the request that answers it.
+  -- The first position after the request that answers it (clause 5.4.4).
   abbrev pub answered : Accepted → Option ℕ
   answered a = first_after events (λ j. is_some (answers a j)) a.position
 
-  -- The answer, or being due once more than the retries allow, whichever comes first.
+  -- The answer, or being due once more than the retries allow, whichever comes first (clause 5.4.4).
   abbrev pub end : Accepted → Option End
   end a =
       earlier
@@ -141,6 +146,7 @@ module _ (rules : Rules) (events : List Event) where
   sends_within a zero = a.position ∷ []
   sends_within a (suc k) = sends_within a k ++ filter (λ i. is_before i (answered a)) (option_to_list (due a.position (suc k)))
 
+  -- All these places, with the retries that the rules allow.
   abbrev pub sends : Accepted → List ℕ
   sends a = sends_within a rules.retries
 
@@ -161,7 +167,7 @@ module _ (rules : Rules) (events : List Event) where
 
 module _ (rules : Rules) (first_ticket : ℕ) (events : List Event) where
   -- What an Ask at position i comes to, after these requests.
-  abbrev pub judged : ℕ → List Accepted → Peer → ℕ → List ℕ → Result Accepted SubmitFault
+  abbrev pub judged : ℕ → List Accepted → Station → ℕ → List ℕ → Result Accepted SubmitFault
   judged i before peer service body =
       unless_refused
       (refusal_of rules.places body (length (still_open rules events i before)) (first_ticket + length before))

@@ -1,22 +1,24 @@
 //! The client.
 
 ghost use Rattle.std.specs.Prelude.{◌≡◌, ◌<◌, ◌≤◌, IfNone, length, map, nat_eq, position, remove, slice_get};
-ghost use Rattle.std.specs.List.{find, flat_map, list_any};
+ghost use Rattle.std.specs.List.{flat_map, list_any};
 ghost use Rattle.std.specs.Option.{option_map, option_copied};
 ghost use Rattle.bac_tsm.specs.Lookahead.{next_number, refusal_of};
-ghost use Rattle.bac_tsm.specs.Machine.{submit, datagram, tick, to_send, number_of, initial, due_answer, kept};
-ghost use Rattle.bac_tsm.specs.Header.{is_answer_to};
-ghost use Rattle.bac_tsm.specs.Answer.{answer_seen};
+ghost use Rattle.bac_tsm.specs.Machine.{submit, datagram, tick, to_send, number_of, open_under, initial, due_answer, kept};
+ghost use Rattle.bac_pdu.specs.Peer.{station};
+ghost use Rattle.bac_tsm.specs.Answers.{is_answer_to};
+ghost use Rattle.bac_tsm.specs.Seen.{answer_seen};
 ghost use Rattle.bac_tsm.specs.Client.{client_rules, rules_of, keeping, end_seen, send_seen};
 
+use crate::answer::{Answer, read_answer};
 use crate::config::Config;
+use crate::datagram::write_request;
 use crate::due::Due;
-use crate::header::{Answer, read_answer, request_datagram};
 use crate::limits::{LONGEST_BODY, PLACES};
 use crate::outcome::Ended;
-use crate::peer::Peer;
 use crate::request::OpenRequest;
 use arrayvec::ArrayVec;
+use bac_pdu::Peer;
 use std::marker::Model;
 
 /// Why a request was not accepted.
@@ -85,7 +87,7 @@ impl Client {
     /// A request that is refused leaves the client as it was. The first fault in the order of [`SubmitFault`] is
     /// answered.
     pub fn submit(&mut self, peer: Peer, service: u8, body: &[u8]) -> Result<u64, SubmitFault>
-        ensures { let step = submit (rules_of self.old) self.old.state peer service body.now in
+        ensures { let step = submit (rules_of self.old) self.old.state (station peer) service body.now in
             (result ≡ step.answer) × (self.new ≡ keeping self.old step.after) }
     {
         if let Some(fault) = self.refusal(body) {
@@ -100,7 +102,7 @@ impl Client {
             number,
             base: self.clock,
             count: 0,
-            datagram: request_datagram(peer, service, body, number),
+            datagram: write_request(peer, service, body, number),
         });
         self.last_number = number;
         self.next_ticket = ticket + 1;
@@ -109,11 +111,11 @@ impl Client {
 
     /// Ends the open request that the datagram answers. None where it answers none, and then nothing changes.
     pub fn datagram<'d>(&mut self, peer: Peer, bytes: &'d [u8]) -> Option<Ended<'d>>
-        ensures { let step = datagram (rules_of self.old) self.old.state peer bytes.now in
+        ensures { let step = datagram (rules_of self.old) self.old.state (station peer) bytes.now in
             (option_map end_seen result ≡ step.answer) × (self.new ≡ keeping self.old step.after) }
     {
-        let answer = read_answer(bytes)?;
-        let place = answered_place(&self.requests, peer, &answer)?;
+        let answer = read_answer(peer, bytes)?;
+        let place = answered_place(&self.requests, &answer)?;
         let ticket = close(&mut self.requests, place);
         Some(Ended {
             ticket,
@@ -187,7 +189,7 @@ impl Client {
     }
 
     fn find(&self, ticket: u64) -> Option<&OpenRequest>
-        ensures { option_copied result ≡ find (λ w. nat_eq w.request.ticket ticket) self.now.state.waiting }
+        ensures { option_copied result ≡ open_under self.now.state ticket }
     {
         self.requests
             .iter()
@@ -215,12 +217,12 @@ fn is_taken(number: u8, requests: &[OpenRequest]) -> bool
 }
 
 // The first request that the answer is to.
-fn answered_place(requests: &[OpenRequest], peer: Peer, answer: &Answer<'_>) -> Option<usize>
-    ensures { result ≡ position (λ w. is_answer_to w.request peer (answer_seen answer.now)) requests.now }
+fn answered_place(requests: &[OpenRequest], answer: &Answer<'_>) -> Option<usize>
+    ensures { result ≡ position (λ w. is_answer_to w.request (answer_seen answer.now)) requests.now }
 {
     requests
         .iter()
-        .position(|request| request.is_answered_by(peer, answer))
+        .position(|request| request.is_answered_by(answer))
 }
 
 // Takes the request at this place off the list, and answers its ticket.

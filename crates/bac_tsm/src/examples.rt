@@ -1,10 +1,10 @@
 //! Examples of what the look-ahead says, worked out by computation. They show what the definitions mean.
 
 ghost use Rattle.std.specs.Prelude.{◌≡◌, ◌++◌, [], ◌∷◌, replicate};
-ghost use Rattle.bac_tsm.specs.Events.{Data, Tick, Refused, Dropped, TimedOut};
+ghost use Rattle.bac_tsm.specs.Events.{Simple, Segmented, Failed, BadError, Rejected, Aborted, Ask, Data, Tick, Sent, Refused, Done, Dropped, TimedOut};
 ghost use Rattle.bac_tsm.specs.declared.client.SubmitFault.TheVariants.{TableFull, TicketsSpent};
 ghost use Rattle.bac_tsm.specs.Client.{client_rules};
-ghost use Rattle.bac_tsm.specs.Examples.{told, usual, device, neighbour, read, read_of, sent, sent_of, answer, answered, datagram_of, done, ticks_from, sends_from, first_sends, answered_reads, answered_notes};
+ghost use Rattle.bac_tsm.specs.Examples.{ReadEnds, short_answer, property_of_input, far_device, far_request, far_answer, forwarder, forwarded_answer, told, usual, device, neighbour, read, read_of, sent, sent_of, answer, answered, datagram_of, done, ticks_from, sends_from, first_sends, answered_reads, answered_notes};
 
 /// A read is sent at once, again at each timeout, and ends with its answer or after three retries.
 #[tactic(none)]
@@ -41,6 +41,32 @@ pub fn examples_of_a_request()
     // Sixteen places; the one that is freed goes to the next request, under a number of its own.
     ensures full { told usual 0 (replicate 17 read ++ answered 1 ∷ read ∷ []) ≡
         first_sends 0 16 ++ (16, Refused TableFull) ∷ (17, done 0) ∷ (18, sent 16 17) ∷ [] }
+{}
+
+/// How answers end a request, and which datagrams answer none.
+#[tactic(none)]
+pub fn examples_of_answers()
+    // An Abort from a client, a SimpleACK of another service and a SegmentACK answer nothing; an Abort from the device does.
+    ensures unmatched { told usual 0 (read ∷ Data device (short_answer 0x70 0x04) ∷ Data device (short_answer 0x20 0x0f) ∷
+        Data device (0x81 ∷ 0x0a ∷ 0x00 ∷ 0x0a ∷ 0x01 ∷ 0x00 ∷ 0x40 ∷ 0x01 ∷ 0x00 ∷ 0x01 ∷ []) ∷ Data device (short_answer 0x71 0x04) ∷ []) ≡
+        (0, sent 0 1) ∷ (1, Dropped) ∷ (2, Dropped) ∷ (3, Dropped) ∷ (4, Done 0 (Aborted 4)) ∷ [] }
+
+    // The other kinds of answer.
+    ensures acknowledged { told usual 0 (Ask device 15 [] ∷ Data device (short_answer 0x20 0x0f) ∷ []) ≡
+        (0, Sent 0 device (0x81 ∷ 0x0a ∷ 0x00 ∷ 0x0a ∷ 0x01 ∷ 0x04 ∷ 0x00 ∷ 0x05 ∷ 0x01 ∷ 0x0f ∷ [])) ∷ (1, Done 0 Simple) ∷ [] }
+    ensures segmented { ReadEnds (0x81 ∷ 0x0a ∷ 0x00 ∷ 0x0b ∷ 0x01 ∷ 0x00 ∷ 0x38 ∷ 0x01 ∷ 0x00 ∷ 0x01 ∷ 0x0c ∷ []) Segmented }
+    ensures error { ReadEnds (0x81 ∷ 0x0a ∷ 0x00 ∷ 0x0d ∷ 0x01 ∷ 0x00 ∷ 0x50 ∷ 0x01 ∷ 0x0c ∷ 0x91 ∷ 0x02 ∷ 0x91 ∷ 0x20 ∷ []) (Failed 2 32) }
+    ensures bad_error { ReadEnds (short_answer 0x50 0x0c) BadError }
+    ensures reject { ReadEnds (short_answer 0x60 0x09) (Rejected 9) }
+
+    // A station behind a router is asked, and answers, with its network and address.
+    ensures routed { told usual 0 (Ask far_device 12 (property_of_input 85) ∷ answered 1 ∷ Data device (far_answer 8) ∷ Data device (far_answer 7) ∷ []) ≡
+        (0, Sent 0 far_device far_request) ∷ (1, Dropped) ∷ (2, Dropped) ∷ (3, done 0) ∷ [] }
+
+    // A forwarded answer is its originator's, and not that of the one who forwards it.
+    ensures forwarded { told usual 0 (read ∷ Data forwarder forwarded_answer ∷ []) ≡ (0, sent 0 1) ∷ (1, done 0) ∷ [] }
+    ensures originator { told usual 0 (Ask forwarder 12 (property_of_input 85) ∷ Data forwarder forwarded_answer ∷ []) ≡
+        (0, Sent 0 forwarder (0x81 ∷ 0x0a ∷ 0x00 ∷ 0x11 ∷ 0x01 ∷ 0x04 ∷ 0x00 ∷ 0x05 ∷ 0x01 ∷ 0x0c ∷ property_of_input 85)) ∷ (1, Dropped) ∷ [] }
 {}
 
 /// The most retries, and numbers that come round.

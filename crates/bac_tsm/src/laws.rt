@@ -1,7 +1,10 @@
 //! The laws of the client: what its machine does is what the look-ahead says.
 
-ghost use Rattle.std.specs.Prelude.{◌≡◌, ◌≢◌, ℕ, suc, ◌+◌, ◌<◌, ◌≤◌, List, ◌∷◌, ◌++◌, length, take};
+ghost use Rattle.std.specs.Prelude.{◌≡◌, ◌≢◌, ◌↔◌, ℕ, suc, ◌+◌, ◌<◌, ◌≤◌, List, ◌∷◌, ◌++◌, length, take, true};
 ghost use Rattle.std.specs.List.{AllPairs};
+ghost use Rattle.bac_pdu.specs.Peer.{Station};
+ghost use Rattle.bac_tsm.specs.Answers.{same_station};
+ghost use Rattle.bac_tsm.specs.Client.{client_rules};
 ghost use Rattle.bac_tsm.specs.Events.{Event, Rules};
 ghost use Rattle.bac_tsm.specs.Lookahead.{Accepted, accepted, open_at, output, sends};
 ghost use Rattle.bac_tsm.specs.Machine.{folded, initial};
@@ -15,6 +18,24 @@ pub fn run_is_lookahead()
     ensures kept { (rules : Rules) (first_ticket : ℕ) (events : List Event) (n : ℕ) →
         AnswersByNumber rules → rules.places ≤ 255 → n ≤ length events →
         (folded rules (initial first_ticket) 0 (take n events)).after ≡ state_at rules first_ticket events n }
+{}
+
+/// The same of the rules that a client goes by.
+pub fn client_is_lookahead()
+    ensures notes { (timeout retries first_ticket : ℕ) (events : List Event) → let rules = client_rules timeout retries in
+        (folded rules (initial first_ticket) 0 events).notes ≡ outputs rules first_ticket events 0 (length events) }
+    ensures kept { (timeout retries first_ticket : ℕ) (events : List Event) (n : ℕ) → n ≤ length events → let rules = client_rules timeout retries in
+        (folded rules (initial first_ticket) 0 (take n events)).after ≡ state_at rules first_ticket events n }
+{}
+
+/// The requests that one datagram answers have the same number.
+pub fn answers_are_by_number()
+    ensures { (timeout retries : ℕ) → AnswersByNumber (client_rules timeout retries) }
+{}
+
+/// An answer is to a request only where it comes from the same station: address, port and route.
+pub fn stations_are_compared_whole()
+    ensures { (a b : Station) → (same_station a b ≡ true) ↔ (a ≡ b) }
 {}
 
 /// At each position few requests are open, under different numbers, and each is sent only so often.

@@ -5,24 +5,30 @@
 //! what comes of a whole list of calls without a machine. [`run_is_lookahead`] states that these two agree.
 #![tactic(auto)]
 
+mod answer;
 mod client;
 mod config;
+mod datagram;
 mod due;
+mod event;
 mod examples;
-mod header;
 mod laws;
 mod limits;
 mod outcome;
-mod peer;
 mod request;
+mod running;
 #[cfg(test)]
 mod tests;
 
 pub use client::{Client, SubmitFault};
 pub use config::Config;
 pub use due::{Due, Entry};
-pub use examples::{examples_of_a_request, examples_of_many_events};
-pub use laws::{numbers_come_back_late, output_looks_back, run_is_lookahead, table_is_bounded};
+pub use event::{Event, Note};
+pub use examples::{examples_of_a_request, examples_of_answers, examples_of_many_events};
+pub use laws::{
+    answers_are_by_number, client_is_lookahead, numbers_come_back_late, output_looks_back,
+    run_is_lookahead, stations_are_compared_whole, table_is_bounded,
+};
 pub use limits::{LONGEST_BODY, PLACES};
 pub use outcome::{Ended, Outcome};
-pub use peer::Peer;
+pub use running::{Watcher, run};

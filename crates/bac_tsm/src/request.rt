@@ -1,19 +1,22 @@
 //! An open request.
 
-ghost use Rattle.std.specs.Prelude.{◌≡◌, [], ◌∷◌, nat_eq, nat_lt, if◌then◌else◌};
+ghost use Rattle.std.specs.Prelude.{◌≡◌, [], ◌∷◌, nat_eq, nat_lt, if◌then◌else◌, true};
 ghost use Rattle.bac_tsm.specs.Machine.{is_due, due_entry, kept};
-ghost use Rattle.bac_tsm.specs.Header.{is_answer_to};
-ghost use Rattle.bac_tsm.specs.Answer.{answer_seen};
+ghost use Rattle.bac_pdu.specs.Peer.{station};
+ghost use Rattle.std.specs.Option.{option_map_or};
+ghost use Rattle.bac_tsm.specs.Answers.{same_station, is_answer_to};
+ghost use Rattle.bac_tsm.specs.Seen.{answer_seen};
 ghost use Rattle.bac_tsm.specs.Client.{client_rules};
 
+use crate::answer::Answer;
 use crate::config::Config;
+use crate::datagram::Datagram;
 use crate::due::Entry;
-use crate::header::{Answer, Datagram};
-use crate::peer::Peer;
+use bac_pdu::Peer;
 use std::marker::Model;
 
 /// A request that is open, the clock when it was last sent, and how many times it was sent again.
-#[derive(Default, Drop)]
+#[derive(Drop)]
 pub(crate) struct OpenRequest {
     pub(crate) ticket: u64,
     pub(crate) peer: Peer,
@@ -25,6 +28,7 @@ pub(crate) struct OpenRequest {
 }
 
 impl Model for OpenRequest {
+    ghost use Rattle.bac_pdu.specs.Peer.{station};
     ghost use Rattle.bac_tsm.specs.Machine.{Waiting};
 
     ghost Value = { Waiting };
@@ -32,7 +36,7 @@ impl Model for OpenRequest {
     ghost view = { λ r. record {
       request = record {
         ticket = r.ticket;
-        peer = r.peer;
+        peer = station r.peer;
         service = r.service;
         number = r.number;
         octets = r.datagram.items;
@@ -40,6 +44,27 @@ impl Model for OpenRequest {
       base = r.base;
       count = r.count;
     } };
+}
+
+// A blank for the places of a list that hold no request.
+impl Default for OpenRequest {
+    ghost is_default = { λ r. r.request.ticket ≡ 0 };
+
+    fn default() -> Self {
+        OpenRequest {
+            ticket: 0,
+            peer: Peer {
+                ip: 0,
+                port: 0,
+                route: None,
+            },
+            service: 0,
+            number: 0,
+            base: 0,
+            count: 0,
+            datagram: Datagram::new(),
+        }
+    }
 }
 
 impl OpenRequest {
@@ -94,10 +119,23 @@ impl OpenRequest {
         true
     }
 
-    #[tactic(auto, unfolding(crate::specs::Header::is_answer_to))]
-    pub(crate) fn is_answered_by(&self, peer: Peer, answer: &Answer<'_>) -> bool
-        ensures { result ≡ is_answer_to self.now.request peer (answer_seen answer.now) }
+    #[tactic(auto, unfolding(crate::specs::Answers::is_answer_to))]
+    pub(crate) fn is_answered_by(&self, answer: &Answer<'_>) -> bool
+        ensures { result ≡ is_answer_to self.now.request (answer_seen answer.now) }
     {
-        self.peer == peer && self.number == answer.number && self.service == answer.service
+        self.is_to(&answer.peer) && self.number == answer.number && self.is_for(answer.service)
+    }
+
+    fn is_to(&self, peer: &Peer) -> bool
+        ensures { result ≡ same_station self.now.request.peer (station peer.now) }
+    {
+        self.peer.is_same(peer)
+    }
+
+    // The request is for this service, or none is named.
+    fn is_for(&self, service: Option<u8>) -> bool
+        ensures { result ≡ option_map_or (λ named. nat_eq self.now.request.service named) service true }
+    {
+        service.is_none_or(|named| self.service == named)
     }
 }

@@ -1,15 +1,23 @@
 //! Calls of the client with octets from outside: a ReadProperty request for the present value of analog-input 5, and a
-//! device's answer to it.
+//! device's answers to it.
+
+ghost use Rattle.std.specs.Prelude.{◌<◌};
+
+mod answers;
+mod calls;
+mod notebook;
+mod runs;
+
 use crate::client::{Client, SubmitFault};
 use crate::config::Config;
-use crate::due::Entry;
-use crate::limits::PLACES;
-use crate::outcome::{Ended, Outcome};
-use crate::peer::Peer;
+use arrayvec::ArrayVec;
+use bac_pdu::Peer;
 
+/// 127.0.0.1:47808.
 const DEVICE: Peer = Peer {
     ip: 0x7f00_0001,
     port: 47808,
+    route: None,
 };
 
 const READ_PROPERTY: u8 = 12;
@@ -20,6 +28,29 @@ const VALUE: [u8; 14] = [
     0x0c, 0x00, 0x00, 0x00, 0x05, 0x19, 0x55, 0x3e, 0x44, 0x42, 0x90, 0x99, 0x9a, 0x3f,
 ];
 
+/// The octets that a text of hexadecimal digits spells, two digits each.
+fn octets(text: &str) -> ArrayVec<u8, 48> {
+    let mut octets = ArrayVec::new();
+    for pair in text.as_bytes().chunks(2) {
+        if let [high, low] = pair {
+            let _ = octets.try_push(digit(*high) * 16 + digit(*low));
+        }
+    }
+    octets
+}
+
+/// What a hexadecimal digit counts.
+fn digit(letter: u8) -> u8
+    ensures { result < 16 }
+{
+    match letter {
+        b'0'..=b'9' => letter - b'0',
+        b'a'..=b'f' => letter - b'a' + 10,
+        _ => 0,
+    }
+}
+
+/// A client with a timeout of three seconds and three retries.
 fn client(first_ticket: u64) -> Client {
     let config = Config {
         timeout: 3000,
@@ -28,6 +59,18 @@ fn client(first_ticket: u64) -> Client {
     Client::new(config, first_ticket)
 }
 
+/// A client whose first request is a read from this peer.
+fn reading_from(peer: Peer) -> Client {
+    let mut client = client(0);
+    let _ = client.submit(peer, READ_PROPERTY, &BODY);
+    client
+}
+
+fn read(client: &mut Client) -> Result<u64, SubmitFault> {
+    client.submit(DEVICE, READ_PROPERTY, &BODY)
+}
+
+/// The read under this number, as it is sent.
 fn request(number: u8) -> [u8; 17] {
     [
         0x81, 0x0a, 0x00, 0x11, 0x01, 0x04, 0x00, 0x05, number, 0x0c, 0x0c, 0x00, 0x00, 0x00, 0x05,
@@ -35,118 +78,10 @@ fn request(number: u8) -> [u8; 17] {
     ]
 }
 
+/// The answer to the read under this number.
 fn answer(number: u8) -> [u8; 23] {
     [
         0x81, 0x0a, 0x00, 0x17, 0x01, 0x00, 0x30, number, 0x0c, 0x0c, 0x00, 0x00, 0x00, 0x05, 0x19,
         0x55, 0x3e, 0x44, 0x42, 0x90, 0x99, 0x9a, 0x3f,
     ]
-}
-
-fn read(client: &mut Client) -> Result<u64, SubmitFault> {
-    client.submit(DEVICE, READ_PROPERTY, &BODY)
-}
-
-#[test]
-fn a_timeout_of_zero_is_refused(rt: HostRuntime) {
-    assert!(&rt; Config::new(0, 3).is_none());
-    assert!(&rt; Config::new(1, 0).is_some());
-}
-
-#[test]
-fn a_read_and_its_answer(rt: HostRuntime) {
-    let mut client = client(0);
-    assert!(&rt; read(&mut client) == Ok(0));
-    assert!(&rt; client.to_send(0) == Some((DEVICE, request(1).as_slice())));
-    assert!(&rt; client.number_of(0) == Some(1));
-    let ended = Ended {
-        ticket: 0,
-        outcome: Outcome::Complex(&VALUE),
-    };
-    assert!(&rt; client.datagram(DEVICE, &answer(1)) == Some(ended));
-    assert!(&rt; client.datagram(DEVICE, &answer(1)).is_none());
-    assert!(&rt; client.to_send(0).is_none());
-    assert!(&rt; client.number_of(0).is_none());
-    assert!(&rt; client.open_count() == 0);
-}
-
-#[test]
-fn ticks_send_again_and_end(rt: HostRuntime) {
-    let mut client = client(0);
-    let _ = read(&mut client);
-    for (now, entry) in [
-        (2999, None),
-        (3000, Some(Entry::Resend(0))),
-        (6000, Some(Entry::Resend(0))),
-        (5, None),
-        (9000, Some(Entry::Resend(0))),
-        (12000, Some(Entry::TimedOut(0))),
-        (15000, None),
-    ] {
-        let due = client.tick(now);
-        assert!(&rt; due.as_slice().first().copied() == entry);
-    }
-    assert!(&rt; client.clock() == 15000);
-    assert!(&rt; client.open_count() == 0);
-}
-
-#[test]
-fn the_longest_body(rt: HostRuntime) {
-    let mut client = client(0);
-    assert!(&rt; client.submit(DEVICE, READ_PROPERTY, &[7; 477]) == Err(SubmitFault::TooLong));
-    assert!(&rt; client.submit(DEVICE, READ_PROPERTY, &[7; 476]) == Ok(0));
-    if let Some((_, octets)) = client.to_send(0) {
-        assert!(&rt; octets.len() == 486);
-        assert!(&rt; octets.starts_with(&[0x81, 0x0a, 0x01, 0xe6, 0x01]));
-    }
-}
-
-#[test]
-fn a_full_table(rt: HostRuntime) {
-    let mut client = client(0);
-    for ticket in 0..16u64 {
-        assert!(&rt; read(&mut client) == Ok(ticket));
-    }
-    assert!(&rt; client.open_count() == PLACES);
-    assert!(&rt; read(&mut client) == Err(SubmitFault::TableFull));
-    assert!(&rt; client.open_count() == PLACES);
-    for ticket in 0..16u8 {
-        let sent = request(ticket + 1);
-        assert!(&rt; client.to_send(u64::from(ticket)) == Some((DEVICE, sent.as_slice())));
-        assert!(&rt; client.number_of(u64::from(ticket)) == Some(ticket + 1));
-    }
-    assert!(&rt; client.to_send(16).is_none());
-    assert!(&rt; client.datagram(DEVICE, &answer(1)).is_some());
-    assert!(&rt; read(&mut client) == Ok(16));
-    assert!(&rt; client.number_of(16) == Some(17));
-}
-
-#[test]
-fn the_last_tickets(rt: HostRuntime) {
-    let mut spent = client(u64::MAX);
-    assert!(&rt; read(&mut spent) == Err(SubmitFault::TicketsSpent));
-    let first = 18_446_744_073_709_551_599;
-    let mut client = client(first);
-    for ticket in 0..16u64 {
-        assert!(&rt; read(&mut client) == Ok(first + ticket));
-    }
-    assert!(&rt; read(&mut client) == Err(SubmitFault::TableFull));
-    assert!(&rt; client.datagram(DEVICE, &answer(3)).is_some());
-    assert!(&rt; read(&mut client) == Err(SubmitFault::TicketsSpent));
-}
-
-#[test]
-fn numbers_come_round(rt: HostRuntime) {
-    let mut client = client(0);
-    let _ = read(&mut client);
-    for (ticket, number) in (1..255u64).zip(2..=255u8) {
-        assert!(&rt; read(&mut client) == Ok(ticket));
-        assert!(&rt; client.number_of(ticket) == Some(number));
-        assert!(&rt; client.datagram(DEVICE, &answer(number)).is_some());
-    }
-    assert!(&rt; read(&mut client) == Ok(255));
-    assert!(&rt; client.number_of(255) == Some(0));
-    assert!(&rt; client.datagram(DEVICE, &answer(0)).is_some());
-    assert!(&rt; read(&mut client) == Ok(256));
-    assert!(&rt; client.number_of(256) == Some(2));
-    assert!(&rt; client.number_of(0) == Some(1));
 }

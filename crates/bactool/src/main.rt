@@ -2,9 +2,8 @@
 #![tactic(auto)]
 
 use bac_tools::{Checked, trace, trace_status};
-use std::env;
-use std::io;
 use std::process::ExitCode;
+use std::{env, io};
 
 /// The status where the words name no tool.
 const BAD_WORDS: u8 = 2;

@@ -341,3 +341,142 @@ fn octets_that_are_no_text(rt: HostRuntime) {
     assert_eq!(rt; got, Err(TraceFault::BadLine(2)));
     assert!(rt; printed.is_empty());
 }
+
+// Each datagram after a read, and what is printed of it.
+#[test]
+fn answers_of_each_kind(rt: HostRuntime) -> Result<(), Fail> {
+    for (peer, octets, text) in [
+        (
+            "127.0.0.1:47809",
+            "810a0017010030010c0c0000000519553e444290999a3f",
+            "drop",
+        ),
+        ("127.0.0.1", "810a00090100700104", "drop"),
+        ("127.0.0.1", "810a0009010020010f", "drop"),
+        ("127.0.0.1", "810a000a010040010001", "drop"),
+        (
+            "127.0.0.1",
+            "810a0018010030010c0c0000000519553e444290999a3f",
+            "drop",
+        ),
+        ("127.0.0.1", "810a00090100710104", "done 0 abort 4"),
+        ("127.0.0.1", "810a0009010020010c", "done 0 ok"),
+        ("127.0.0.1", "810a000b0100380100010c", "done 0 segmented"),
+        ("127.0.0.1", "810a0009010050010c", "done 0 bad-error"),
+        (
+            "127.0.0.1",
+            "810a000d010050010c91029120",
+            "done 0 error 2 32",
+        ),
+        ("127.0.0.1", "810a00090100600109", "done 0 reject 9"),
+        (
+            "127.0.0.1",
+            "810a0015010030010c0c00000005194d3e72003f3f",
+            "done 0 value \"?\"",
+        ),
+        (
+            "127.0.0.1",
+            "810a0016010030010c0c0000000519553e0e21050f3f",
+            "done 0 value hex 0e21050f",
+        ),
+        (
+            "127.0.0.1",
+            "810a0016010030010c0c0000000519553e444290999a",
+            "done 0 bad-ack",
+        ),
+    ] {
+        let script = format!(in rt.alloc(); "{READ}data {peer} {octets}\n")?;
+        let text = format!(in rt.alloc(); "{SENT}{text}\n")?;
+        expect_end(&rt, script.as_str(), 2, text.as_str());
+    }
+    Ok(())
+}
+
+// The answer under each number but the request's is dropped.
+#[test]
+fn answers_under_each_number(rt: HostRuntime) -> Result<(), Fail> {
+    for number in 0..256 {
+        let octets = answer(&rt, number)?;
+        let script = joined(&rt, &[READ, octets.as_str()])?;
+        let end = if number == 1 { DONE } else { "drop\n" };
+        let text = joined(&rt, &[SENT, end])?;
+        expect(
+            &rt,
+            whole(script.as_str()),
+            Ok(TraceEnd { lines: 2 }),
+            text.as_str(),
+        );
+    }
+    Ok(())
+}
+
+#[test]
+fn routed_peers(rt: HostRuntime) {
+    let script = "read 127.0.0.1:47808/5/07 0 5 85\n\
+        data 127.0.0.1:47808 810a0017010030010c0c0000000519553e444290999a3f\n\
+        data 127.0.0.1:47808 810a001b01080005010830010c0c0000000519553e444290999a3f\n\
+        data 127.0.0.1:47808 810a001b01080005010730010c0c0000000519553e444290999a3f\n";
+    let text = "send 0 127.0.0.1:47808/5/07 810a0016012400050107ff0005010c0c000000051955\n\
+        drop\ndrop\ndone 0 value 4290999a\n";
+    expect_end(&rt, script, 4, text);
+    for bad in [
+        "data 127.0.0.1:47808/5/07 00",
+        "read 127.0.0.1/0/07 0 5 85",
+        "read 127.0.0.1/65535/07 0 5 85",
+        "read 127.0.0.1/5/ 0 5 85",
+        "read 127.0.0.1/5 0 5 85",
+        "read 127.0.0.1/5/0102030405060708 0 5 85",
+        "read 127.0.0.1/5/07/08 0 5 85",
+    ] {
+        expect(&rt, whole(bad), Err(TraceFault::BadLine(1)), "");
+    }
+}
+
+// A forwarded answer counts for the peer that it comes from at first.
+#[test]
+fn forwarded_answers(rt: HostRuntime) -> Result<(), Fail> {
+    let script = joined(
+        &rt,
+        &[
+            READ,
+            "data 127.0.0.1:47808 8104001d7f000001c350010030010c0c0000000519553e444290999a3f\n",
+            "data 127.0.0.1:50000 8104001d7f000001bac0010030010c0c0000000519553e444290999a3f\n",
+        ],
+    )?;
+    expect_end(
+        &rt,
+        script.as_str(),
+        3,
+        joined(&rt, &[SENT, "drop\n", DONE])?.as_str(),
+    );
+    Ok(())
+}
+
+#[test]
+fn the_longest_timeout(rt: HostRuntime) -> Result<(), Fail> {
+    let script = joined(
+        &rt,
+        &[
+            "client 4294967295 1 0\n",
+            READ,
+            "tick 4294967294\ntick 4294967295\ntick 18446744073709551615\ntick 0\n",
+        ],
+    )?;
+    expect_end(
+        &rt,
+        script.as_str(),
+        6,
+        joined(&rt, &[SENT, SENT, "timeout 0\n"])?.as_str(),
+    );
+    Ok(())
+}
+
+#[test]
+fn an_element_is_read(rt: HostRuntime) {
+    let script = "read 127.0.0.1 1 1 87 0\nread 127.0.0.1 1 1 87 4294967295\n";
+    let text = "send 0 127.0.0.1:47808 810a001301040005010c0c0040000119572900\n\
+        send 1 127.0.0.1:47808 810a001601040005020c0c0040000119572cffffffff\n";
+    expect_end(&rt, script, 2, text);
+    let bad = "read 127.0.0.1 1 1 87 4294967296";
+    expect(&rt, whole(bad), Err(TraceFault::BadLine(1)), "");
+}

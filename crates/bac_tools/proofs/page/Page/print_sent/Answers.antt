@@ -1,14 +1,14 @@
 use Rattle.std.proofs.Common.{ℕ, List, Option, map, sym, ap, ◌∙◌}
 use Rattle.std.specs.Option.{option_to_list}
 use Rattle.std.proofs.lemmas.List.{append-nil}
-use Rattle.bac_tsm.specs.declared.peer.Peer.{Peer}
+use Rattle.bac_pdu.specs.Peer.{Station}
 use Rattle.bac_tsm.specs.Events.{Sent}
 use Rattle.bac_tools.specs.Text.{notes_text}
 use Rattle.bac_tools.proofs.Printed.{◌⨾◌, printed_as}
 use Rattle.bac_tools.proofs.page.Page.print_sent.Goals as goal
 
 -- What is printed of a send, if there is one.
-abbrev send_text : ℕ → Option (Peer × List ℕ) → List ℕ
+abbrev send_text : ℕ → Option (Station × List ℕ) → List ℕ
 send_text ticket to = notes_text (map (λ t. Sent ticket t.0 t.1) (option_to_list to))
 
 pub returns-in-Some : goal.returns-in-Some

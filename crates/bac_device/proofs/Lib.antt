@@ -1,0 +1,7 @@
+pub mod ListLaws
+pub mod PlaceLaws
+pub mod StateLaws
+pub mod RegionLaws
+pub mod ReplyLaws
+pub mod DemoLaws
+pub mod TurnLaws

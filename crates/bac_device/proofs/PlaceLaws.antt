@@ -1,0 +1,110 @@
+-- The places of a point after writes, and after one more.
+use Rattle.std.proofs.Common.{◌≡◌, ℕ, zero, suc, ◌-◌, ◌<◌, ◌≤◌, ◌==◌, ◌&&◌, Bool, true, false, cond, nat_lt, nat_le, if◌then◌else◌, List, [], ◌∷◌, ◌++◌, map, filter, find, slice_get, slice_set, Option, Some, None, refl, sym, ap, ◌∙◌, append-nil, arith}
+use Rattle.std.specs.List.{last_or}
+use Rattle.std.specs.Option.{option_map, option_and_then}
+use Rattle.std.proofs.lemmas.List.Elements.{filter-append}
+use Rattle.std.proofs.lemmas.Bool.{and_right, lt-leb}
+use Rattle.bac_wire.specs.Identifier.{Identifier}
+use Rattle.bac_wire.specs.TagReading.{◌>>=◌}
+use Rattle.bac_device.specs.Kind.{is_commandable}
+use Rattle.bac_device.specs.Point.{Description, same_object}
+use Rattle.bac_device.specs.Places.{Write, Standing, is_to, place, place_at, priorities, standing_after, with_place, put}
+use Rattle.bac_device.specs.Device.{place_if}
+
+pub map_same : {A B : Type 0} (f g : A → B) → ((x : A) → f x ≡ g x) → (xs : List A) → map f xs ≡ map g xs
+map_same f g same [] = refl
+map_same f g same (x ∷ xs) = let head = same x in let rest = map_same f g same xs in cc
+
+-- ---- reading a place
+
+past : (f : ℕ → Option ℕ) (i : ℕ) → slice_get (map f priorities) (suc (suc (suc (suc (suc (suc (suc (suc (suc (suc (suc (suc (suc (suc (suc (suc i)))))))))))))))) ≡ None
+past f i = refl
+
+none_either : {A : Type 0} (b : Bool) (o : Option A) → o ≡ None → cond b None o ≡ None
+none_either true o e = refl
+none_either false o e = e
+
+abbrev chosen : (ℕ → Option ℕ) → ℕ → Option (Option ℕ)
+chosen f priority = if priority == 0 then None else slice_get (map f priorities) (priority - 1)
+
+chosen_at : (f : ℕ → Option ℕ) (priority : ℕ) → chosen f priority ≡ (if nat_lt 0 priority && nat_le priority 16 then Some (f priority) else None)
+chosen_at f zero = refl
+chosen_at f (suc zero) = refl
+chosen_at f (suc (suc zero)) = refl
+chosen_at f (suc (suc (suc zero))) = refl
+chosen_at f (suc (suc (suc (suc zero)))) = refl
+chosen_at f (suc (suc (suc (suc (suc zero))))) = refl
+chosen_at f (suc (suc (suc (suc (suc (suc zero)))))) = refl
+chosen_at f (suc (suc (suc (suc (suc (suc (suc zero))))))) = refl
+chosen_at f (suc (suc (suc (suc (suc (suc (suc (suc zero)))))))) = refl
+chosen_at f (suc (suc (suc (suc (suc (suc (suc (suc (suc zero))))))))) = refl
+chosen_at f (suc (suc (suc (suc (suc (suc (suc (suc (suc (suc zero)))))))))) = refl
+chosen_at f (suc (suc (suc (suc (suc (suc (suc (suc (suc (suc (suc zero))))))))))) = refl
+chosen_at f (suc (suc (suc (suc (suc (suc (suc (suc (suc (suc (suc (suc zero)))))))))))) = refl
+chosen_at f (suc (suc (suc (suc (suc (suc (suc (suc (suc (suc (suc (suc (suc zero))))))))))))) = refl
+chosen_at f (suc (suc (suc (suc (suc (suc (suc (suc (suc (suc (suc (suc (suc (suc zero)))))))))))))) = refl
+chosen_at f (suc (suc (suc (suc (suc (suc (suc (suc (suc (suc (suc (suc (suc (suc (suc zero))))))))))))))) = refl
+chosen_at f (suc (suc (suc (suc (suc (suc (suc (suc (suc (suc (suc (suc (suc (suc (suc (suc zero)))))))))))))))) = refl
+chosen_at f (suc (suc (suc (suc (suc (suc (suc (suc (suc (suc (suc (suc (suc (suc (suc (suc (suc i))))))))))))))))) =
+    let behind : (suc (suc (suc (suc (suc (suc (suc (suc (suc (suc (suc (suc (suc (suc (suc (suc (suc i))))))))))))))))) - 1 ≡ (suc (suc (suc (suc (suc (suc (suc (suc (suc (suc (suc (suc (suc (suc (suc (suc i)))))))))))))))) = omega arith in
+    let none : slice_get (map f priorities) ((suc (suc (suc (suc (suc (suc (suc (suc (suc (suc (suc (suc (suc (suc (suc (suc (suc i))))))))))))))))) - 1) ≡ None = ap (slice_get (map f priorities)) behind ∙ past f i in
+    let outside = and_right (nat_lt 0 (suc (suc (suc (suc (suc (suc (suc (suc (suc (suc (suc (suc (suc (suc (suc (suc (suc i)))))))))))))))))) (nat_le (suc (suc (suc (suc (suc (suc (suc (suc (suc (suc (suc (suc (suc (suc (suc (suc (suc i))))))))))))))))) 16) (lt-leb (suc (suc (suc (suc (suc (suc (suc (suc (suc (suc (suc (suc (suc (suc (suc (suc (suc i))))))))))))))))) 16 (omega arith)) in
+    none_either ((suc (suc (suc (suc (suc (suc (suc (suc (suc (suc (suc (suc (suc (suc (suc (suc (suc i))))))))))))))))) == 0) _ none ∙ sym (ap (λ b. cond b (Some (f (suc (suc (suc (suc (suc (suc (suc (suc (suc (suc (suc (suc (suc (suc (suc (suc (suc i))))))))))))))))))) None) outside)
+
+-- what stands at a priority
+pub place_chosen : (writes : List Write) (priority : ℕ) (point : Description) → place_at (standing_after writes point) priority ≡ place_if writes priority point
+unfolding place_at standing_after
+place_chosen writes priority point =
+    elim (is_commandable point.kind.role) as (λ b. (if b then chosen (place writes point.object) priority else None) ≡ (if b && (nat_lt 0 priority && nat_le priority 16) then Some (place writes point.object priority) else None))
+    [ true ↦ chosen_at (place writes point.object) priority | false ↦ refl ]
+
+-- ---- one more write
+
+last_more : {A : Type 0} (o : Option A) (xs : List A) (x : A) → last_or o (xs ++ x ∷ []) ≡ Some x
+last_more o [] x = refl
+last_more o (y ∷ ys) x = last_more (Some y) ys x
+
+abbrev value_of_last : List Write → Option ℕ
+value_of_last writes = option_and_then (λ write. write.value) (last_or None writes)
+
+-- the place has the value of a write that is to it, and else what it had
+pub place_more : (writes : List Write) (write : Write) (object : Identifier) (priority : ℕ) → place (writes ++ write ∷ []) object priority ≡ (if is_to object priority write then write.value else place writes object priority)
+unfolding place
+place_more writes write object priority =
+    ap value_of_last (filter-append (is_to object priority) writes (write ∷ []))
+    ∙ elim (is_to object priority write) as (λ b. value_of_last (filter (is_to object priority) writes ++ cond b (write ∷ []) []) ≡ cond b write.value (value_of_last (filter (is_to object priority) writes))) [
+      | true ↦ ap (option_and_then (λ write. write.value)) (last_more None (filter (is_to object priority) writes) write)
+      | false ↦ ap value_of_last (append-nil (filter (is_to object priority) writes))
+    ]
+
+set_place : (f : ℕ → Option ℕ) (priority : ℕ) (value : Option ℕ) → 1 ≤ priority → priority ≤ 16 → slice_set (map f priorities) (priority - 1) value ≡ map (λ q. if q == priority then value else f q) priorities
+set_place f zero value most least = absurd (omega arith)
+set_place f (suc zero) value most least = refl
+set_place f (suc (suc zero)) value most least = refl
+set_place f (suc (suc (suc zero))) value most least = refl
+set_place f (suc (suc (suc (suc zero)))) value most least = refl
+set_place f (suc (suc (suc (suc (suc zero))))) value most least = refl
+set_place f (suc (suc (suc (suc (suc (suc zero)))))) value most least = refl
+set_place f (suc (suc (suc (suc (suc (suc (suc zero))))))) value most least = refl
+set_place f (suc (suc (suc (suc (suc (suc (suc (suc zero)))))))) value most least = refl
+set_place f (suc (suc (suc (suc (suc (suc (suc (suc (suc zero))))))))) value most least = refl
+set_place f (suc (suc (suc (suc (suc (suc (suc (suc (suc (suc zero)))))))))) value most least = refl
+set_place f (suc (suc (suc (suc (suc (suc (suc (suc (suc (suc (suc zero))))))))))) value most least = refl
+set_place f (suc (suc (suc (suc (suc (suc (suc (suc (suc (suc (suc (suc zero)))))))))))) value most least = refl
+set_place f (suc (suc (suc (suc (suc (suc (suc (suc (suc (suc (suc (suc (suc zero))))))))))))) value most least = refl
+set_place f (suc (suc (suc (suc (suc (suc (suc (suc (suc (suc (suc (suc (suc (suc zero)))))))))))))) value most least = refl
+set_place f (suc (suc (suc (suc (suc (suc (suc (suc (suc (suc (suc (suc (suc (suc (suc zero))))))))))))))) value most least = refl
+set_place f (suc (suc (suc (suc (suc (suc (suc (suc (suc (suc (suc (suc (suc (suc (suc (suc zero)))))))))))))))) value most least = refl
+set_place f (suc (suc (suc (suc (suc (suc (suc (suc (suc (suc (suc (suc (suc (suc (suc (suc (suc i))))))))))))))))) value most least = absurd (omega arith)
+
+-- a write to an object leaves a point as it is, or puts its value at its priority
+pub put_after : (writes : List Write) (write : Write) (point : Description) → 1 ≤ write.priority → write.priority ≤ 16 → put write (standing_after writes point) ≡ standing_after (writes ++ write ∷ []) point
+unfolding standing_after
+put_after writes write point most least =
+    let f = λ (q : ℕ). place writes point.object q in
+    let P : Bool → Type 0 = λ b. (if b then with_place (record { point = point; places = map f priorities }) write.priority write.value else record { point = point; places = map f priorities }) ≡ record { point = point; places = map (λ q. if b && (q == write.priority) then write.value else f q) priorities } in
+    let stands : P (same_object point.object write.object) = elim (same_object point.object write.object) as (λ b. P b) [
+      | true ↦ ap (λ (places : List (Option ℕ)). record { point = point; places = places }) (set_place f write.priority write.value most least)
+      | false ↦ refl
+    ] in
+    stands ∙ ap (λ (places : List (Option ℕ)). record { point = point; places = places }) (map_same _ _ (λ q. sym (place_more writes write point.object q)) priorities)

@@ -1,0 +1,5 @@
+use Rattle.bac_device.proofs.StateLaws.{points_after}
+use Rattle.bac_device.proofs.laws.points_stay.Goals as goal
+
+pub returns : goal.returns
+returns c = points_after

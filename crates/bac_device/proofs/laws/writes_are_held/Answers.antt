@@ -1,0 +1,5 @@
+use Rattle.bac_device.proofs.TurnLaws.{after_holds}
+use Rattle.bac_device.proofs.laws.writes_are_held.Goals as goal
+
+pub returns : goal.returns
+returns c = after_holds

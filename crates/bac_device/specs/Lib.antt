@@ -1,0 +1,11 @@
+pub mod Steps
+pub mod Info
+pub mod Kind
+pub mod Point
+pub mod Places
+pub mod Property
+pub mod Failure
+pub mod Device
+pub mod Reply
+pub mod Demo
+pub mod Turns

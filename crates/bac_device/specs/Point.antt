@@ -1,0 +1,50 @@
+-- A point of the device: an object with a present value.
+use Rattle.std.specs.Prelude.{ℕ, ◌==◌, nat_lt, nat_le, ◌&&◌, Bool, not, if◌then◌else◌, List, length, Option, Some, None}
+use Rattle.bac_wire.specs.Identifier.{Identifier, identifier}
+use Rattle.bac_wire.specs.TagReading.{◌>>=◌}
+use Rattle.bac_device.specs.declared.kind.Kind.{Kind}
+use Rattle.bac_device.specs.declared.point.Point.{Point}
+use Rattle.bac_device.specs.Kind.{kind_of, allows, allows_extra}
+
+-- what is asked for where a point is added
+pub record Given : Type 0 where
+  pub object : Identifier
+  pub name : List ℕ
+  pub start : ℕ
+  pub extra : ℕ
+
+-- the same, without where its name lies in memory
+abbrev pub given : Point → Given
+given point = record { object = identifier point.id; name = point.name.now; start = point.start; extra = point.extra }
+
+-- a point that a device can have
+pub record Description : Type 0 where
+  pub kind : Kind
+  pub object : Identifier
+  pub name : List ℕ
+  pub start : ℕ
+  pub extra : ℕ
+
+abbrev pub same_object : Identifier → Identifier → Bool
+same_object a b = (a.kind == b.kind) && (a.instance == b.instance)
+
+-- one to 64 octets
+abbrev pub is_name : List ℕ → Bool
+is_name name = nat_lt 0 (length name) && nat_le (length name) 64
+
+-- the instance that stands for no object (clause 12)
+abbrev pub is_numbered : Identifier → Bool
+is_numbered object = nat_lt object.instance 4194303
+
+abbrev pub is_described : Kind → Given → Bool
+is_described kind point = is_name point.name && is_numbered point.object && allows_extra kind.family kind.role point.extra && allows kind.family point.extra point.start
+
+abbrev pub described : Kind → Given → Description
+described kind point = record { kind = kind; object = point.object; name = point.name; start = point.start; extra = point.extra }
+
+-- The point that is described, where its type is known, its name has one to 64 octets, its instance is less than 4194303, and
+-- `start` and `extra` are such as its type allows.
+unfoldable pub description_of : Given → Option Description
+description_of point = do
+  kind ← kind_of point.object.kind
+  if is_described kind point then Some (described kind point) else None

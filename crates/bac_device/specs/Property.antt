@@ -1,0 +1,107 @@
+-- The values of a property, and the properties of a point (clause 12).
+use Rattle.std.specs.Prelude.{ℕ, ◌-◌, ◌==◌, ◌&&◌, nat_lt, Bool, true, false, not, if◌then◌else◌, List, [], ◌∷◌, ◌++◌, length, map, slice_get, Option, Some, None, Result, Ok, Err}
+use Rattle.std.specs.List.{flat_map}
+use Rattle.std.specs.Option.{option_map}
+use Rattle.bac_wire.specs.Identifier.{Identifier, identifier}
+use Rattle.bac_wire.specs.Datum.{Datum, datum, boolean, unsigned, enumerated, char_string, bit_string, object, plain, IsSound}
+use Rattle.bac_device.specs.declared.kind.Family.{Family}
+use Rattle.bac_device.specs.declared.kind.Family.TheVariants.{Analog, Binary, MultiState}
+use Rattle.bac_device.specs.declared.kind.Role.{Role}
+use Rattle.bac_device.specs.declared.kind.Role.TheVariants as roles
+use Rattle.bac_device.specs.declared.failure.Failure.{Failure}
+use Rattle.bac_device.specs.declared.failure.Failure.TheVariants.{NotAnArray, InvalidIndex}
+use Rattle.bac_device.specs.declared.property.Property.{Property as AnyProperty}
+use Rattle.bac_device.specs.declared.property.Property.TheVariants.{Single, EmptyList, ObjectList, PriorityArray}
+use Rattle.bac_device.specs.Steps.{needs}
+use Rattle.bac_device.specs.Kind.{is_commandable, value_of, place_value}
+use Rattle.bac_device.specs.Places.{Standing, present}
+
+-- the values of a property, which an index can choose from where it is an array
+pub record Property : Type 0 where
+  pub is_array : Bool
+  pub values : List Datum
+
+abbrev pub single : Datum → Property
+single value = record { is_array = false; values = value ∷ [] }
+
+abbrev pub array : List Datum → Property
+array values = record { is_array = true; values = values }
+
+abbrev pub empty_list : Property
+empty_list = record { is_array = false; values = [] }
+
+-- the identifiers of the points
+abbrev pub point_objects : List Standing → List Datum
+point_objects standings = map (λ standing. object standing.point.object) standings
+
+-- the same, without where its parts lie in memory
+abbrev pub property_seen : AnyProperty → Property
+property_seen (Single value) = single (datum value)
+property_seen EmptyList = empty_list
+property_seen (ObjectList device points) = array (object (identifier device) ∷ point_objects points.now)
+property_seen (PriorityArray family places) = array (map (place_value family) places.now)
+
+-- its values can be written: the others are numbers and identifiers
+abbrev pub IsSoundProperty : AnyProperty → Type 0
+IsSoundProperty (Single value) = IsSound (datum value)
+IsSoundProperty EmptyList = Unit {0}
+IsSoundProperty (ObjectList device points) = Unit {0}
+IsSoundProperty (PriorityArray family places) = Unit {0}
+
+-- the octets of the values, one after the other
+abbrev pub region_octets : Property → List ℕ
+region_octets property = flat_map plain property.values
+
+abbrev pub element_at : List Datum → ℕ → Result Property Failure
+element_at values place = needs InvalidIndex (option_map single (slice_get values place))
+
+-- what an index chooses: nothing but from an array, and from it 0 the number of elements, else the element, counted from 1
+unfoldable pub element : Property → Option ℕ → Result Property Failure
+element property None = Ok property
+element property (Some index) =
+    if not property.is_array then Err NotAnArray
+    else if index == 0 then Ok (single (unsigned (length property.values)))
+    else element_at property.values (index - 1)
+
+-- ---- the properties of a point
+
+abbrev pub if_commandable : Role → Property → Option Property
+if_commandable role property = if is_commandable role then Some property else None
+
+abbrev pub units : Family → ℕ → Option Property
+units Analog extra = Some (single (enumerated extra))
+units Binary extra = None
+units MultiState extra = None
+
+abbrev pub polarity : Family → Role → ℕ → Option Property
+polarity Binary roles.Input extra = Some (single (enumerated extra))
+polarity Binary roles.Output extra = Some (single (enumerated extra))
+polarity _ _ extra = None
+
+abbrev pub number_of_states : Family → ℕ → Option Property
+number_of_states MultiState extra = Some (single (unsigned extra))
+number_of_states Analog extra = None
+number_of_states Binary extra = None
+
+-- the properties that points of some types have: units, polarity, number-of-states, priority-array, relinquish-default
+unfoldable pub kind_property : Standing → ℕ → Option Property
+kind_property standing number =
+    if number == 117 then units standing.point.kind.family standing.point.extra
+    else if number == 84 then polarity standing.point.kind.family standing.point.kind.role standing.point.extra
+    else if number == 74 then number_of_states standing.point.kind.family standing.point.extra
+    else if number == 87 then if_commandable standing.point.kind.role (array (map (place_value standing.point.kind.family) standing.places))
+    else if number == 104 then if_commandable standing.point.kind.role (single (value_of standing.point.kind.family standing.point.start))
+    else None
+
+-- The properties of every point: object-identifier, object-name, object-type, present-value, event-state (normal), out-of-service,
+-- status-flags (four, none set); and those of its type.
+unfoldable pub point_property : Standing → ℕ → Option Property
+point_property standing number =
+    if number == 75 then Some (single (object standing.point.object))
+    else if number == 77 then Some (single (char_string 0 standing.point.name))
+    else if number == 79 then Some (single (enumerated standing.point.object.kind))
+    else if number == 85 then Some (single (value_of standing.point.kind.family (present standing)))
+    else if number == 36 then Some (single (enumerated 0))
+    else if number == 81 then Some (single (boolean false))
+    else if number == 111 then Some (single (bit_string 4 (0 ∷ [])))
+    else kind_property standing number

@@ -1,0 +1,268 @@
+ghost use Rattle.std.specs.Prelude.{◌≡◌, ◌<◌, ◌≤◌, ◌+◌, [], ◌∷◌, ◌++◌, List, length, map, IfSome, IfOk, IfErr, OnOk, OnErr, Ok, Err, Some, None};
+ghost use Rattle.std.specs.List.{list_any};
+ghost use Rattle.std.specs.Option.{option_map, option_and_then, option_copied};
+ghost use Rattle.bac_wire.specs.Datum.{datum, IsSound};
+ghost use Rattle.bac_wire.specs.Identifier.{identifier};
+ghost use Rattle.bac_device.specs.Point.{given, same_object};
+ghost use Rattle.bac_device.specs.Places.{Write, write_seen, present, place_at, put as put_write};
+ghost use Rattle.bac_device.specs.Steps.{result_seen};
+ghost use Rattle.bac_device.specs.Property.{property_seen, IsSoundProperty};
+ghost use Rattle.bac_device.specs.Device.{Holds, points_of, device_after, standing_at, present_after, place_after, same_name, has_object as has_object_in, has_name as has_name_in, add_point, device_text, device_number, device_property};
+ghost use Rattle.bac_device.specs.Demo.{with_row};
+ghost use Rattle.bac_device.specs.Reply.{property_of, commanded, with_write};
+
+use crate::failure::Failure;
+use crate::info::{DEVICE, DeviceInfo};
+use crate::numbers::{
+    APDU_TIMEOUT, APPLICATION_SOFTWARE_VERSION, DATABASE_REVISION, DESCRIPTION,
+    DEVICE_ADDRESS_BINDING, FIRMWARE_REVISION, MAX_APDU, MAX_APDU_LENGTH_ACCEPTED, MODEL_NAME,
+    NO_SEGMENTATION, NUMBER_OF_APDU_RETRIES, OBJECT_IDENTIFIER, OBJECT_LIST, OBJECT_NAME,
+    OBJECT_TYPE, OPERATIONAL, PRESENT_VALUE, PROTOCOL_REVISION, PROTOCOL_VERSION,
+    SEGMENTATION_SUPPORTED, SYSTEM_STATUS, UTF_8, VENDOR, VENDOR_IDENTIFIER, VENDOR_NAME,
+};
+use crate::point::{Point, StandingPoint};
+use crate::property::Property;
+use crate::write::PlaceWrite;
+use arrayvec::ArrayVec;
+use bac_wire::{ObjectId, Value};
+use std::marker::Model;
+
+/// The points that a device has room for.
+pub const POINTS: usize = 32;
+
+/// Why a point was not added.
+#[derive(Clone, Copy, Debug, PartialEq, Eq)]
+pub enum AddFault {
+    /// There are 32 points.
+    TooMany,
+    /// A point has this object identifier.
+    Twice,
+    /// A point, or the device, has this name.
+    NameTwice,
+    /// A device can have no such point: its object type, its instance, its name, `start` or `extra`.
+    BadPoint,
+}
+
+/// A small BACnet device with points that can be commanded.
+///
+/// It has a fixed size, takes no memory, and sends nothing itself.
+#[derive(Drop)]
+pub struct Device {
+    info: DeviceInfo,
+    points: ArrayVec<StandingPoint, POINTS>,
+}
+
+impl Model for Device {
+    ghost use Rattle.bac_device.specs.Device.{DeviceState};
+
+    ghost Value = { DeviceState };
+
+    ghost view = { λ d. record { info = d.info; standings = d.points.items } };
+}
+
+impl Device {
+    /// A device without points.
+    pub fn new(info: DeviceInfo) -> Self
+        ensures { result ≡ device_after info [] [] }
+    {
+        Device {
+            info,
+            points: ArrayVec::new(),
+        }
+    }
+
+    /// Adds a point, with every place of its priority array NULL.
+    ///
+    /// # Errors
+    ///
+    /// The first fault in the order of [`AddFault`]; the device is then as it was.
+    #[tactic(auto, unfolding(crate::specs::Device::add_point))]
+    pub fn add(&mut self, point: &Point<'_>) -> Result<(), AddFault>
+        ensures ok { OnOk result (add_point self.old (given point.now) ≡ Ok self.new) }
+        ensures fault { IfErr result (λ fault. add_point self.old (given point.now) ≡ Err fault) }
+        ensures err { OnErr result (self.new ≡ self.old) }
+    {
+        if self.points.is_full() {
+            return Err(AddFault::TooMany);
+        }
+        if has_object(&self.points, point.id) {
+            return Err(AddFault::Twice);
+        }
+        if self.info.name() == point.name || has_name(&self.points, point.name) {
+            return Err(AddFault::NameTwice);
+        }
+        let Some(point) = StandingPoint::new(point) else {
+            return Err(AddFault::BadPoint);
+        };
+        self.points.push(point);
+        Ok(())
+    }
+
+    /// One more point, where it is one that a device can have.
+    #[tactic(auto, unfolding(crate::specs::Demo::with_row))]
+    pub(crate) fn append(&mut self, point: &Point<'_>)
+        requires { length self.old.standings < 32 }
+        ensures after { self.new ≡ with_row self.old (given point.now) }
+        ensures few { length self.new.standings ≤ length self.old.standings + 1 }
+    {
+        if let Some(point) = StandingPoint::new(point) {
+            self.points.push(point);
+        }
+    }
+
+    /// The number of the present value of a point (clause 19.2), as in [`Point::start`]: what the most urgent place that is
+    /// not NULL holds, or `start`. None where the object is no point.
+    pub fn present(&self, object: ObjectId) -> Option<u32>
+        ensures { (writes : List Write) → Holds self.now writes → result ≡ present_after (points_of self.now) writes (identifier object) }
+    {
+        self.present_at(object)
+    }
+
+    /// What a commandable point has at a priority; `Some(None)` is NULL. None where the object is no commandable point, or
+    /// the priority is not 1 to 16.
+    pub fn place(&self, object: ObjectId, priority: u8) -> Option<Option<u32>>
+        ensures { (writes : List Write) → Holds self.now writes → result ≡ place_after (points_of self.now) writes (identifier object) priority }
+    {
+        self.place_at(object, priority)
+    }
+
+    fn present_at(&self, object: ObjectId) -> Option<u32>
+        ensures { result ≡ option_map present (standing_at self.now (identifier object)) }
+    {
+        match self.point(object) {
+            Some(point) => Some(point.present()),
+            None => None,
+        }
+    }
+
+    fn place_at(&self, object: ObjectId, priority: u8) -> Option<Option<u32>>
+        ensures { result ≡ option_and_then (λ standing. place_at standing priority) (standing_at self.now (identifier object)) }
+    {
+        match self.point(object) {
+            Some(point) => point.place(priority),
+            None => None,
+        }
+    }
+
+    pub(crate) fn info(&self) -> &DeviceInfo
+        ensures { result.now ≡ self.now.info }
+    {
+        &self.info
+    }
+
+    /// The property of this number of the object.
+    #[tactic(auto, unfolding(crate::specs::Reply::property_of))]
+    pub(crate) fn property(&self, object: ObjectId, number: u32) -> Result<Property<'_>, Failure>
+        ensures value { result_seen property_seen result ≡ property_of self.now (identifier object) number }
+        ensures sound { IfOk result IsSoundProperty }
+    {
+        if self.info.is_object(object) {
+            return self.own_property(number).ok_or(Failure::UnknownProperty);
+        }
+        let point = self.point(object).ok_or(Failure::UnknownObject)?;
+        point.property(number).ok_or(Failure::UnknownProperty)
+    }
+
+    /// The point whose present value this property is, where it can be written.
+    pub(crate) fn commanded(&self, object: ObjectId, number: u32) -> Option<&StandingPoint>
+        ensures { option_copied result ≡ commanded self.now (record { object = identifier object; property = number; index = None }) }
+    {
+        if number != PRESENT_VALUE {
+            return None;
+        }
+        match self.point(object) {
+            Some(point) if point.is_commandable() => Some(point),
+            _ => None,
+        }
+    }
+
+    /// Makes the write.
+    pub(crate) fn put(&mut self, write: &PlaceWrite)
+        ensures { self.new ≡ with_write self.old (Some (write_seen write.now)) }
+    {
+        put_in(&mut self.points, write);
+    }
+
+    /// The point that is this object.
+    fn point(&self, object: ObjectId) -> Option<&StandingPoint>
+        ensures { option_copied result ≡ standing_at self.now (identifier object) }
+    {
+        self.points.iter().find(|point| point.is_object(object))
+    }
+
+    /// The property of the device of this number.
+    #[tactic(auto, unfolding(crate::specs::Device::device_property))]
+    fn own_property(&self, number: u32) -> Option<Property<'_>>
+        ensures value { option_map property_seen result ≡ device_property self.now number }
+        ensures sound { IfSome result IsSoundProperty }
+    {
+        match number {
+            OBJECT_IDENTIFIER => Some(Property::Single(Value::Object(self.info.object()))),
+            OBJECT_LIST => Some(Property::ObjectList(self.info.object(), self.points.as_slice())),
+            OBJECT_NAME => Some(Property::Single(Value::Chars(UTF_8, self.info.name().as_bytes()))),
+            DEVICE_ADDRESS_BINDING => Some(Property::EmptyList),
+            _ => match fixed_text(number) {
+                Some(text) => Some(Property::Single(Value::Chars(UTF_8, text.as_bytes()))),
+                None => Some(Property::Single(fixed_number(number)?)),
+            },
+        }
+    }
+}
+
+/// Makes the write at the points that are its object.
+fn put_in(points: &mut ArrayVec<StandingPoint, POINTS>, write: &PlaceWrite)
+    ensures { points.new.items ≡ map (put_write (write_seen write.now)) points.old.items }
+{
+    for place in 0..points.len() {
+        let point = &mut points[place];
+        point.put(write);
+    }
+}
+
+fn has_object(points: &[StandingPoint], object: ObjectId) -> bool
+    ensures { result ≡ list_any (λ standing. same_object standing.point.object (identifier object)) points.now }
+{
+    points.iter().any(|point| point.is_object(object))
+}
+
+fn has_name(points: &[StandingPoint], name: &str) -> bool
+    ensures { result ≡ list_any (λ standing. same_name standing.point.name name.now) points.now }
+{
+    points.iter().any(|point| point.has_name(name))
+}
+
+/// The text of a property of every device of this kind.
+#[tactic(auto, unfolding(crate::specs::Device::device_text))]
+fn fixed_text(number: u32) -> Option<&'static str>
+    ensures { option_map (λ text. text.now) result ≡ device_text number }
+{
+    match number {
+        VENDOR_NAME => Some("Property tools"),
+        MODEL_NAME => Some("bacdev"),
+        FIRMWARE_REVISION => Some("1"),
+        APPLICATION_SOFTWARE_VERSION => Some("1"),
+        DESCRIPTION => Some("Small BACnet/IP device"),
+        _ => None,
+    }
+}
+
+/// The number of a property of every device of this kind.
+#[tactic(auto, unfolding(crate::specs::Device::device_number))]
+fn fixed_number(number: u32) -> Option<Value<'static>>
+    ensures value { option_map datum result ≡ device_number number }
+    ensures sound { IfSome result (λ value. IsSound (datum value)) }
+{
+    match number {
+        OBJECT_TYPE => Some(Value::Enumerated(u32::from(DEVICE))),
+        SYSTEM_STATUS => Some(Value::Enumerated(OPERATIONAL)),
+        VENDOR_IDENTIFIER => Some(Value::Unsigned(VENDOR)),
+        PROTOCOL_VERSION => Some(Value::Unsigned(1)),
+        PROTOCOL_REVISION => Some(Value::Unsigned(4)),
+        MAX_APDU_LENGTH_ACCEPTED => Some(Value::Unsigned(MAX_APDU)),
+        SEGMENTATION_SUPPORTED => Some(Value::Enumerated(NO_SEGMENTATION)),
+        APDU_TIMEOUT => Some(Value::Unsigned(3000)),
+        NUMBER_OF_APDU_RETRIES => Some(Value::Unsigned(3)),
+        DATABASE_REVISION => Some(Value::Unsigned(1)),
+        _ => None,
+    }
+}

@@ -1,0 +1,46 @@
+ghost use Rattle.std.specs.Prelude.{◌≡◌};
+ghost use Rattle.bac_device.specs.Failure.{error_class, error_code};
+
+/// Why a property is not read or written (clause 18).
+#[derive(Clone, Copy, Debug, PartialEq, Eq)]
+pub(crate) enum Failure {
+    UnknownObject,
+    UnknownProperty,
+    NotAnArray,
+    InvalidIndex,
+    WriteDenied,
+    WrongType,
+    OutOfRange,
+}
+
+// The error classes.
+const OBJECT: u32 = 1;
+
+const PROPERTY: u32 = 2;
+
+impl Failure {
+    /// The number of the error class.
+    pub(crate) fn class(self) -> u32
+        ensures { result ≡ error_class self }
+    {
+        match self {
+            Failure::UnknownObject => OBJECT,
+            _ => PROPERTY,
+        }
+    }
+
+    /// The number of the error code.
+    pub(crate) fn code(self) -> u32
+        ensures { result ≡ error_code self }
+    {
+        match self {
+            Failure::WrongType => 9,
+            Failure::UnknownObject => 31,
+            Failure::UnknownProperty => 32,
+            Failure::OutOfRange => 37,
+            Failure::WriteDenied => 40,
+            Failure::InvalidIndex => 42,
+            Failure::NotAnArray => 50,
+        }
+    }
+}

@@ -1,0 +1,72 @@
+ghost use Rattle.std.specs.Prelude.{◌≡◌, ◌↔◌, IsSome, IfSome, Some};
+ghost use Rattle.bac_wire.specs.Identifier.{identifier};
+ghost use Rattle.bac_device.specs.Info.{IsInfo};
+ghost use Rattle.bac_device.specs.Device.{device_object, is_device};
+
+use crate::numbers::NO_INSTANCE;
+use crate::point::NAME_OCTETS;
+use arrayvec::ArrayString;
+use bac_wire::ObjectId;
+use std::marker::Model;
+
+/// The object type of devices (clause 21).
+pub(crate) const DEVICE: u16 = 8;
+
+/// What a device is known by: the instance of its device object, and its name.
+#[derive(Drop)]
+pub struct DeviceInfo {
+    instance: u32,
+    name: ArrayString<NAME_OCTETS>,
+}
+
+impl Model for DeviceInfo {
+    ghost use Rattle.std.specs.Prelude.{◌<◌};
+    ghost use Rattle.bac_device.specs.Info.{Info};
+
+    ghost Value = { Info };
+
+    ghost view = { λ i. record { instance = i.instance; name = i.name.bytes } };
+
+    ghost invariant = { λ i. i.instance < 4194303 };
+}
+
+impl DeviceInfo {
+    /// None where the instance is more than 4194302, or where the name has no octet or more than 64.
+    pub fn new(instance: u32, name: &str) -> Option<Self>
+        ensures valid { IsSome result ↔ IsInfo (record { instance = instance; name = name.now }) }
+        ensures value { IfSome result (λ info. info ≡ record { instance = instance; name = name.now }) }
+    {
+        if NO_INSTANCE <= instance || name.is_empty() {
+            return None;
+        }
+        let name = ArrayString::from(name).ok()?;
+        Some(DeviceInfo { instance, name })
+    }
+
+    /// The device object.
+    pub(crate) fn object(&self) -> ObjectId
+        ensures { identifier result ≡ device_object self.now }
+    {
+        ObjectId::new(DEVICE, self.instance).unwrap()
+    }
+
+    /// Whether the object is the device: its own, or the one that stands for every device.
+    pub(crate) fn is_object(&self, object: ObjectId) -> bool
+        ensures { result ≡ is_device self.now (identifier object) }
+    {
+        object.kind() == DEVICE
+            && (object.instance() == self.instance || object.instance() == NO_INSTANCE)
+    }
+
+    pub(crate) fn instance(&self) -> u32
+        ensures { result ≡ self.now.instance }
+    {
+        self.instance
+    }
+
+    pub(crate) fn name(&self) -> &str
+        ensures { result.now ≡ self.now.name }
+    {
+        self.name.as_str()
+    }
+}

@@ -1,0 +1,157 @@
+ghost use Rattle.std.specs.Prelude.{◌≡◌, ◌^◌, ◌<◌, IsTrue};
+ghost use Rattle.std.specs.Option.{option_map};
+ghost use Rattle.bac_wire.specs.Datum.{datum, IsSound};
+ghost use Rattle.bac_wire.specs.DatumReading.{value_at};
+ghost use Rattle.bac_device.specs.Kind.{kind_of, is_commandable as has_priorities, value_of, place_value, number_in, place_in, one_value as only_value, allows as has_value, allows_extra as has_extra};
+
+use bac_wire::{Value, read_value};
+
+/// What the present value of a point is: a Real, one of two states, or one of several.
+#[derive(Clone, Copy, Debug, PartialEq, Eq)]
+pub(crate) enum Family {
+    Analog,
+    Binary,
+    MultiState,
+}
+
+/// What a point stands for: something measured, something driven, or a value that the device keeps.
+#[derive(Clone, Copy, Debug, PartialEq, Eq)]
+pub(crate) enum Role {
+    Input,
+    Output,
+    Value,
+}
+
+/// The type of a point (clause 12).
+#[derive(Clone, Copy, Debug, PartialEq, Eq)]
+pub(crate) struct Kind {
+    pub(crate) family: Family,
+    pub(crate) role: Role,
+}
+
+fn kind_with(family: Family, role: Role) -> Kind
+    ensures { result ≡ record { family = family; role = role } }
+{
+    Kind { family, role }
+}
+
+impl Kind {
+    /// The kind of this object type, where it is one of a point (clause 21, BACnetObjectType).
+    #[tactic(auto, unfolding(crate::specs::Kind::kind_of))]
+    pub(crate) fn of_number(number: u16) -> Option<Self>
+        ensures { result ≡ kind_of number }
+    {
+        match number {
+            0 => Some(kind_with(Family::Analog, Role::Input)),
+            1 => Some(kind_with(Family::Analog, Role::Output)),
+            2 => Some(kind_with(Family::Analog, Role::Value)),
+            3 => Some(kind_with(Family::Binary, Role::Input)),
+            4 => Some(kind_with(Family::Binary, Role::Output)),
+            5 => Some(kind_with(Family::Binary, Role::Value)),
+            13 => Some(kind_with(Family::MultiState, Role::Input)),
+            14 => Some(kind_with(Family::MultiState, Role::Output)),
+            19 => Some(kind_with(Family::MultiState, Role::Value)),
+            _ => None,
+        }
+    }
+
+    /// Whether `extra` is one that a point of this kind can have.
+    pub(crate) fn allows_extra(self, extra: u32) -> bool
+        ensures { result ≡ has_extra self.family self.role extra }
+    {
+        match (self.family, self.role) {
+            (Family::Analog, _) => true,
+            (Family::Binary, Role::Value) => extra == 0,
+            (Family::Binary, _) => extra < 2,
+            (Family::MultiState, _) => 0 < extra,
+        }
+    }
+}
+
+impl Role {
+    /// Whether points of this role have a priority array (clause 19.2).
+    pub(crate) fn is_commandable(self) -> bool
+        ensures { result ≡ has_priorities self }
+    {
+        !matches!(self, Role::Input)
+    }
+}
+
+impl Family {
+    /// The value that stands for the number of a present value.
+    pub(crate) fn value(self, number: u32) -> Value<'static>
+        ensures value { datum result ≡ value_of self number }
+        ensures sound { IsSound (datum result) }
+    {
+        match self {
+            Family::Analog => Value::Real(number.to_be_bytes()),
+            Family::Binary => Value::Enumerated(number),
+            Family::MultiState => Value::Unsigned(u64::from(number)),
+        }
+    }
+
+    /// The value that stands for what a place of a priority array holds.
+    pub(crate) fn place_value(self, place: Option<u32>) -> Value<'static>
+        ensures value { datum result ≡ place_value self place }
+        ensures sound { IsSound (datum result) }
+    {
+        match place {
+            Some(number) => self.value(number),
+            None => Value::Null,
+        }
+    }
+
+    /// The number that a value stands for. None where it is of another type.
+    pub(crate) fn number_in(self, value: &Value<'_>) -> Option<u64>
+        ensures { result ≡ number_in self (datum value.now) }
+    {
+        match (self, value) {
+            (Family::Analog, Value::Real(octets)) => Some(u64::from(u32::from_be_bytes(*octets))),
+            (Family::Binary, Value::Enumerated(number)) => Some(u64::from(*number)),
+            (Family::MultiState, Value::Unsigned(number)) => Some(*number),
+            _ => None,
+        }
+    }
+
+    /// What a value asks a place to hold. None where it is of another type.
+    pub(crate) fn place_in(self, value: &Value<'_>) -> Option<Option<u64>>
+        ensures { result ≡ place_in self (datum value.now) }
+    {
+        match value {
+            Value::Null => Some(None),
+            _ => self.number_in(value).map(Some),
+        }
+    }
+
+    /// Whether a present value can have this number. `extra` is the number of states.
+    pub(crate) fn allows(self, extra: u32, number: u64) -> bool
+        ensures value { result ≡ has_value self extra number }
+        ensures fits { IsTrue result → number < 2 ^ 32 }
+    {
+        match self {
+            Family::Analog => number <= u64::from(u32::MAX),
+            Family::Binary => number < 2,
+            Family::MultiState => 0 < number && number <= u64::from(extra),
+        }
+    }
+}
+
+/// The one value that the octets are.
+#[tactic(auto, unfolding(crate::specs::Kind::one_value))]
+pub(crate) fn one_value(octets: &[u8]) -> Option<Value<'_>>
+    ensures { option_map datum result ≡ only_value octets.now }
+{
+    let (value, rest) = value_and_rest(octets)?;
+    if !rest.is_empty() {
+        return None;
+    }
+    Some(value)
+}
+
+/// The value at the front, and the octets behind it.
+fn value_and_rest(octets: &[u8]) -> Option<(Value<'_>, &[u8])>
+    ensures { option_map (λ x. (datum x.0, x.1.now)) result ≡ value_at octets.now }
+{
+    let (value, size) = read_value(octets)?;
+    Some((value, &octets[size..]))
+}

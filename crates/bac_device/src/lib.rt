@@ -1,0 +1,20 @@
+//! A small BACnet device: commandable points, priority arrays and exact replies.
+#![tactic(auto)]
+
+mod demo;
+mod device;
+mod failure;
+mod info;
+mod kind;
+pub mod laws;
+mod numbers;
+mod point;
+mod property;
+mod reply;
+#[cfg(test)]
+mod tests;
+mod write;
+
+pub use device::{AddFault, Device, POINTS};
+pub use info::DeviceInfo;
+pub use point::{NAME_OCTETS, Point};

@@ -1,0 +1,79 @@
+//! Numbers that the standard gives to properties (clause 21, BACnetPropertyIdentifier), and to a few values of them.
+
+pub(crate) const OBJECT_IDENTIFIER: u32 = 75;
+
+pub(crate) const OBJECT_NAME: u32 = 77;
+
+pub(crate) const OBJECT_TYPE: u32 = 79;
+
+pub(crate) const PRESENT_VALUE: u32 = 85;
+
+pub(crate) const EVENT_STATE: u32 = 36;
+
+pub(crate) const OUT_OF_SERVICE: u32 = 81;
+
+pub(crate) const STATUS_FLAGS: u32 = 111;
+
+pub(crate) const UNITS: u32 = 117;
+
+pub(crate) const POLARITY: u32 = 84;
+
+pub(crate) const NUMBER_OF_STATES: u32 = 74;
+
+pub(crate) const PRIORITY_ARRAY: u32 = 87;
+
+pub(crate) const RELINQUISH_DEFAULT: u32 = 104;
+
+// The other properties of the device.
+pub(crate) const OBJECT_LIST: u32 = 76;
+
+pub(crate) const SYSTEM_STATUS: u32 = 112;
+
+pub(crate) const VENDOR_NAME: u32 = 121;
+
+pub(crate) const VENDOR_IDENTIFIER: u32 = 120;
+
+pub(crate) const MODEL_NAME: u32 = 70;
+
+pub(crate) const FIRMWARE_REVISION: u32 = 44;
+
+pub(crate) const APPLICATION_SOFTWARE_VERSION: u32 = 12;
+
+pub(crate) const DESCRIPTION: u32 = 28;
+
+pub(crate) const PROTOCOL_VERSION: u32 = 98;
+
+pub(crate) const PROTOCOL_REVISION: u32 = 139;
+
+pub(crate) const MAX_APDU_LENGTH_ACCEPTED: u32 = 62;
+
+pub(crate) const SEGMENTATION_SUPPORTED: u32 = 107;
+
+pub(crate) const APDU_TIMEOUT: u32 = 11;
+
+pub(crate) const NUMBER_OF_APDU_RETRIES: u32 = 73;
+
+pub(crate) const DEVICE_ADDRESS_BINDING: u32 = 30;
+
+pub(crate) const DATABASE_REVISION: u32 = 155;
+
+/// The event state of a point without alarms.
+pub(crate) const NORMAL: u32 = 0;
+
+/// The character set of every text.
+pub(crate) const UTF_8: u8 = 0;
+
+/// The instance that stands for no object, and for every device in a request (clause 12).
+pub(crate) const NO_INSTANCE: u32 = 4_194_303;
+
+/// The system status of a device that works.
+pub(crate) const OPERATIONAL: u32 = 0;
+
+/// The octets of the longest APDU that the device takes.
+pub(crate) const MAX_APDU: u64 = 1476;
+
+/// The device neither sends nor takes segments.
+pub(crate) const NO_SEGMENTATION: u32 = 3;
+
+/// The number of the vendor.
+pub(crate) const VENDOR: u64 = 260;

@@ -1,0 +1,241 @@
+ghost use Rattle.std.specs.Prelude.{◌≡◌, [], find, is_some, IfSome};
+ghost use Rattle.std.specs.Option.{option_map, option_copied};
+ghost use Rattle.bac_wire.specs.Identifier.{identifier};
+ghost use Rattle.bac_device.specs.Point.{given, description_of, same_object};
+ghost use Rattle.bac_device.specs.Places.{standing_after, present, place_at, written, write_seen, put};
+ghost use Rattle.bac_device.specs.Device.{same_name};
+ghost use Rattle.bac_device.specs.Kind.{is_commandable as has_priorities};
+ghost use Rattle.bac_device.specs.Property.{property_seen, IsSoundProperty, point_property, kind_property};
+
+use crate::failure::Failure;
+use crate::kind::{Family, Kind, Role, one_value};
+use crate::numbers::{
+    EVENT_STATE, NO_INSTANCE, NORMAL, NUMBER_OF_STATES, OBJECT_IDENTIFIER, OBJECT_NAME,
+    OBJECT_TYPE, OUT_OF_SERVICE, POLARITY, PRESENT_VALUE, PRIORITY_ARRAY, RELINQUISH_DEFAULT,
+    STATUS_FLAGS, UNITS, UTF_8,
+};
+use crate::property::Property;
+use crate::write::PlaceWrite;
+use arrayvec::ArrayString;
+use bac_wire::{ObjectId, Value};
+use std::marker::Model;
+
+/// The octets that a name has at most.
+pub const NAME_OCTETS: usize = 64;
+
+/// The places of a priority array (clause 19.2).
+pub const PRIORITIES: usize = 16;
+
+/// A point that a device shall have: an object of type 0 to 5, 13, 14 or 19 (clause 12).
+#[derive(Clone, Copy, Debug)]
+pub struct Point<'a> {
+    /// Its type and its instance; the instance is less than 4194303.
+    pub id: ObjectId,
+    /// One to 64 octets.
+    pub name: &'a str,
+    /// The present value of an input, and the relinquish default of an output or a value. For an analog point the four
+    /// octets of a Real as a number; for a binary one 0 or 1; for a multi-state one a state, from 1.
+    pub start: u32,
+    /// The units of an analog point, the polarity of a binary input or output (0 or 1, and 0 for a binary value), or the
+    /// number of states, at least 1.
+    pub extra: u32,
+}
+
+/// A point of a device, with the places of its priority array.
+#[derive(Drop)]
+pub(crate) struct StandingPoint {
+    kind: Kind,
+    id: ObjectId,
+    name: ArrayString<NAME_OCTETS>,
+    start: u32,
+    extra: u32,
+    places: [Option<u32>; PRIORITIES],
+}
+
+impl Model for StandingPoint {
+    ghost use Rattle.bac_wire.specs.Identifier.{identifier};
+    ghost use Rattle.bac_device.specs.Places.{Standing};
+
+    ghost Value = { Standing };
+
+    ghost view = { λ p. record {
+      point = record {
+        kind = p.kind;
+        object = identifier p.id;
+        name = p.name.bytes;
+        start = p.start;
+        extra = p.extra;
+      };
+      places = p.places;
+    } };
+}
+
+// A blank for the places of a list that hold no point.
+impl Default for StandingPoint {
+    ghost is_default = { λ _. Unit {0} };
+
+    fn default() -> Self {
+        StandingPoint {
+            kind: Kind {
+                family: Family::Analog,
+                role: Role::Input,
+            },
+            id: ObjectId::new(0, 0).unwrap(),
+            name: ArrayString::new(),
+            start: 0,
+            extra: 0,
+            places: [None; PRIORITIES],
+        }
+    }
+}
+
+impl StandingPoint {
+    /// The point that is described, with every place NULL. None where it is none that a device can have.
+    #[tactic(auto, unfolding(crate::specs::Point::description_of, crate::specs::Places::standing_after, crate::specs::Places::place))]
+    pub(crate) fn new(point: &Point<'_>) -> Option<Self>
+        ensures { result ≡ option_map (standing_after []) (description_of (given point.now)) }
+    {
+        let kind = Kind::of_number(point.id.kind())?;
+        let name = ArrayString::from(point.name).ok()?;
+        if point.name.is_empty()
+            || NO_INSTANCE <= point.id.instance()
+            || !kind.allows_extra(point.extra)
+            || !kind.family.allows(point.extra, u64::from(point.start))
+        {
+            return None;
+        }
+        Some(StandingPoint {
+            kind,
+            id: point.id,
+            name,
+            start: point.start,
+            extra: point.extra,
+            places: [None; PRIORITIES],
+        })
+    }
+
+    pub(crate) fn id(&self) -> ObjectId
+        ensures { identifier result ≡ self.now.point.object }
+    {
+        self.id
+    }
+
+    /// Whether the object is this point.
+    pub(crate) fn is_object(&self, object: ObjectId) -> bool
+        ensures { result ≡ same_object self.now.point.object (identifier object) }
+    {
+        self.id.kind() == object.kind() && self.id.instance() == object.instance()
+    }
+
+    /// Whether the point has this name.
+    pub(crate) fn has_name(&self, name: &str) -> bool
+        ensures { result ≡ same_name self.now.point.name name.now }
+    {
+        self.name.as_str() == name
+    }
+
+    pub(crate) fn is_commandable(&self) -> bool
+        ensures { result ≡ has_priorities self.now.point.kind.role }
+    {
+        self.kind.role.is_commandable()
+    }
+
+    /// What the place of this priority holds. None where the point has no such place.
+    #[tactic(auto, unfolding(crate::specs::Places::place_at))]
+    pub(crate) fn place(&self, priority: u8) -> Option<Option<u32>>
+        ensures { result ≡ place_at self.now priority }
+    {
+        if !self.is_commandable() || priority == 0 {
+            return None;
+        }
+        self.places.get(usize::from(priority) - 1).copied()
+    }
+
+    /// What the octets of a value ask a place to hold.
+    #[tactic(auto, unfolding(crate::specs::Places::written))]
+    pub(crate) fn value_in(&self, octets: &[u8]) -> Result<Option<u32>, Failure>
+        ensures { result ≡ written self.now.point octets.now }
+    {
+        let family = self.kind.family;
+        let value = one_value(octets).ok_or(Failure::WrongType)?;
+        match family.place_in(&value).ok_or(Failure::WrongType)? {
+            None => Ok(None),
+            Some(number) if family.allows(self.extra, number) => Ok(Some(number as u32)),
+            Some(_) => Err(Failure::OutOfRange),
+        }
+    }
+
+    /// The point holds what the write says, where it is to this point.
+    pub(crate) fn put(&mut self, write: &PlaceWrite)
+        ensures { self.new ≡ put (write_seen write.now) self.old }
+    {
+        if self.is_object(write.object) {
+            self.places[usize::from(write.priority) - 1] = write.value;
+        }
+    }
+
+    /// The number of the present value.
+    pub(crate) fn present(&self) -> u32
+        ensures { result ≡ present self.now }
+    {
+        match first_set(&self.places) {
+            Some(Some(number)) => *number,
+            _ => self.start,
+        }
+    }
+
+    /// The property of this number, where it is one that only points of some types have.
+    #[tactic(auto, unfolding(crate::specs::Property::kind_property))]
+    fn property_by_kind(&self, number: u32) -> Option<Property<'_>>
+        ensures value { option_map property_seen result ≡ kind_property self.now number }
+        ensures sound { IfSome result IsSoundProperty }
+    {
+        let Kind { family, role } = self.kind;
+        match (number, family) {
+            (UNITS, Family::Analog) => Some(Property::Single(Value::Enumerated(self.extra))),
+            (POLARITY, Family::Binary) if !matches!(role, Role::Value) => Some(Property::Single(
+                Value::Enumerated(self.extra),
+            )),
+            (NUMBER_OF_STATES, Family::MultiState) => Some(Property::Single(Value::Unsigned(
+                u64::from(self.extra),
+            ))),
+            (PRIORITY_ARRAY, _) if role.is_commandable() => Some(Property::PriorityArray(
+                family,
+                &self.places,
+            )),
+            (RELINQUISH_DEFAULT, _) if role.is_commandable() => Some(Property::Single(family.value(
+                self.start,
+            ))),
+            _ => None,
+        }
+    }
+
+    /// The property of this number.
+    #[tactic(auto, unfolding(crate::specs::Property::point_property))]
+    pub(crate) fn property(&self, number: u32) -> Option<Property<'_>>
+        ensures value { option_map property_seen result ≡ point_property self.now number }
+        ensures sound { IfSome result IsSoundProperty }
+    {
+        let family = self.kind.family;
+        match number {
+            OBJECT_IDENTIFIER => Some(Property::Single(Value::Object(self.id))),
+            OBJECT_NAME => Some(Property::Single(Value::Chars(
+                UTF_8,
+                self.name.as_str().as_bytes(),
+            ))),
+            OBJECT_TYPE => Some(Property::Single(Value::Enumerated(u32::from(self.id.kind())))),
+            PRESENT_VALUE => Some(Property::Single(family.value(self.present()))),
+            EVENT_STATE => Some(Property::Single(Value::Enumerated(NORMAL))),
+            OUT_OF_SERVICE => Some(Property::Single(Value::Bool(false))),
+            STATUS_FLAGS => Some(Property::Single(Value::Bits(4, &[0]))),
+            _ => self.property_by_kind(number),
+        }
+    }
+}
+
+/// The first of the places that is not NULL.
+fn first_set(places: &[Option<u32>]) -> Option<&Option<u32>>
+    ensures { option_copied result ≡ find is_some places.now }
+{
+    places.iter().find(|place| place.is_some())
+}

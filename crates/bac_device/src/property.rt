@@ -1,0 +1,120 @@
+ghost use Rattle.std.specs.Prelude.{◌≡◌, ◌<◌, ◌∷◌, length, slice_get, map, IfSome, IfOk, OnOk, OnErr};
+ghost use Rattle.std.specs.Option.{option_map};
+ghost use Rattle.bac_wire.specs.Datum.{datum, IsSound, object};
+ghost use Rattle.bac_wire.specs.Identifier.{identifier};
+ghost use Rattle.bac_device.specs.Kind.{place_value};
+ghost use Rattle.bac_wire.specs.Region.{IsRegion};
+ghost use Rattle.bac_device.specs.Steps.{result_seen};
+ghost use Rattle.bac_device.specs.Property.{property_seen, IsSoundProperty, point_objects, element, region_octets};
+
+use crate::failure::Failure;
+use crate::kind::Family;
+use crate::point::StandingPoint;
+use bac_wire::{FRAME_OCTETS, Frame, Full, ObjectId, Value, write_value};
+
+/// The values of a property (clause 12).
+#[derive(Clone, Copy)]
+pub(crate) enum Property<'a> {
+    /// One value.
+    Single(Value<'a>),
+    /// A list without elements, which is no array.
+    EmptyList,
+    /// The array of the objects of the device: the device, then these points.
+    ObjectList(ObjectId, &'a [StandingPoint]),
+    /// The array of the places of a point of this family.
+    PriorityArray(Family, &'a [Option<u32>]),
+}
+
+impl<'a> Property<'a> {
+    /// How many values there are.
+    pub(crate) fn count(&self) -> usize
+        ensures { result ≡ length (property_seen self.now).values }
+    {
+        match self {
+            Property::Single(_) => 1,
+            Property::EmptyList => 0,
+            Property::ObjectList(_, points) => 1 + points.len(),
+            Property::PriorityArray(_, places) => places.len(),
+        }
+    }
+
+    /// The value at this place, counted from 0.
+    pub(crate) fn value_at(&self, place: usize) -> Option<Value<'a>>
+        requires { IsSoundProperty self.now }
+        ensures value { option_map datum result ≡ slice_get (property_seen self.now).values place }
+        ensures sound { IfSome result (λ value. IsSound (datum value)) }
+    {
+        match self {
+            Property::Single(value) => (place == 0).then_some(*value),
+            Property::EmptyList => None,
+            Property::ObjectList(device, points) => object_at(*device, points, place),
+            Property::PriorityArray(family, places) => place_at(*family, places, place),
+        }
+    }
+
+    /// What an index chooses: without one all, with 0 the number of elements, else the element, counted from 1.
+    #[tactic(auto, unfolding(crate::specs::Property::element))]
+    pub(crate) fn element(self, index: Option<u32>) -> Result<Property<'a>, Failure>
+        requires { IsSoundProperty self }
+        ensures value { result_seen property_seen result ≡ element (property_seen self.entry) index }
+        ensures sound { IfOk result IsSoundProperty }
+    {
+        let Some(index) = index else {
+            return Ok(self);
+        };
+        if !self.is_array() {
+            return Err(Failure::NotAnArray);
+        }
+        if index == 0 {
+            return Ok(Property::Single(Value::Unsigned(self.count() as u64)));
+        }
+        let value = self
+            .value_at(index as usize - 1)
+            .ok_or(Failure::InvalidIndex)?;
+        Ok(Property::Single(value))
+    }
+
+    /// Whether an index can choose an element.
+    pub(crate) fn is_array(&self) -> bool
+        ensures { result ≡ (property_seen self.now).is_array }
+    {
+        matches!(self, Property::ObjectList(..) | Property::PriorityArray(..))
+    }
+}
+
+/// The object at this place of the object list.
+fn object_at(device: ObjectId, points: &[StandingPoint], place: usize) -> Option<Value<'static>>
+    ensures value { option_map datum result ≡ slice_get (object (identifier device) ∷ point_objects points.now) place }
+    ensures sound { IfSome result (λ value. IsSound (datum value)) }
+{
+    if place == 0 {
+        return Some(Value::Object(device));
+    }
+    let point = points.get(place - 1)?;
+    Some(Value::Object(point.id()))
+}
+
+/// The value of the place of a priority array.
+fn place_at(family: Family, places: &[Option<u32>], place: usize) -> Option<Value<'static>>
+    ensures value { option_map datum result ≡ slice_get (map (place_value family) places.now) place }
+    ensures sound { IfSome result (λ value. IsSound (datum value)) }
+{
+    let held = places.get(place)?;
+    Some(family.place_value(*held))
+}
+
+/// The octets of the values, one after the other. `Full` only where they are more than a frame has room for.
+pub(crate) fn region(property: &Property<'_>) -> Result<Frame, Full>
+    requires { IsSoundProperty property.now }
+    ensures ok { IfOk result (λ region. region ≡ region_octets (property_seen property.now)) }
+    ensures items { OnOk result (IsRegion 32 (region_octets (property_seen property.now))) }
+    ensures full { OnErr result (FRAME_OCTETS < length (region_octets (property_seen property.now))) }
+{
+    let mut region = Frame::new();
+    for place in 0..property.count() {
+        if let Some(value) = property.value_at(place) {
+            write_value(&mut region, &value)?;
+        }
+    }
+    Ok(region)
+}

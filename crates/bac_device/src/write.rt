@@ -1,0 +1,15 @@
+ghost use Rattle.std.specs.Prelude.{◌≤◌};
+
+use bac_wire::ObjectId;
+
+/// A write of a present value that a device has accepted.
+#[derive(Clone, Copy)]
+pub(crate) struct PlaceWrite {
+    pub(crate) object: ObjectId,
+    /// 1 to 16, where 1 is the most urgent.
+    pub(crate) priority: u8,
+    /// None is NULL.
+    pub(crate) value: Option<u32>,
+    ghost most: { 1 ≤ priority },
+    ghost least: { priority ≤ 16 },
+}

@@ -1,0 +1,196 @@
+-- What is read of an APDU is what its octets lay out, and what is laid out is read back.
+use Rattle.std.proofs.Common.{◌≡◌, ℕ, ◌+◌, ◌/◌, ◌%◌, Bool, true, false, cond, eqb, List, [], ◌∷◌, ◌++◌, Option, Some, None, refl, ap, subst, ◌∙◌, arith, inl, inr}
+use Rattle.std.specs.Prelude.{◌↔◌}
+use Rattle.std.proofs.lemmas.Bool.{eqb-true}
+use Rattle.std.proofs.lemmas.Option.{none-some, some_pair_parts}
+use Rattle.bac_wire.specs.TagReading.{◌>>=◌}
+use Rattle.bac_wire.proofs.Readers.{found_at, chosen}
+use Rattle.bac_wire.proofs.TagLaws.{bind_some}
+use Rattle.bac_pdu.specs.declared.apdu.Part.{Part}
+use Rattle.bac_pdu.specs.Bits.{bit}
+use Rattle.bac_pdu.specs.Apdu.{Message, confirmed, unconfirmed, simple_ack, complex_ack, segment_ack, error, reject, abort, SpellsPart, IsConfirmed, IsComplexAck, IsLaidOut, part_flags, part_octets, laid_out, IsWritable}
+use Rattle.bac_pdu.specs.ApduReading.{part_at, service_at, parts_at, confirmed_of, unconfirmed_of, complex_ack_of, numbered_of, apdu_of}
+use Rattle.bac_pdu.specs.Datagram.{IsFound}
+use Rattle.bac_pdu.proofs.DatagramLaws.{found_is}
+
+-- ---- the part
+
+part_takes : (first : ℕ) (octets : List ℕ) (b : Bool) (part : Option Part) (rest : List ℕ) → bit 3 first ≡ b → part_at first octets b ≡ found_at part rest → (front : List ℕ) × SpellsPart first front part × (octets ≡ front ++ rest)
+part_takes first octets false part rest flag e =
+    let parts = some_pair_parts None part octets rest e in
+    let here : SpellsPart first [] None = (flag, refl) in
+    ([], subst (SpellsPart first []) parts.0 here, parts.1)
+part_takes first [] true part rest flag e = absurd (none-some (part, rest) e)
+part_takes first (sequence ∷ []) true part rest flag e = absurd (none-some (part, rest) e)
+part_takes first (sequence ∷ window ∷ octets) true part rest flag e =
+    let made : Option Part = Some (record { more = bit 2 first; sequence = sequence; window = window }) in
+    let parts = some_pair_parts made part octets rest e in
+    let here : SpellsPart first (sequence ∷ window ∷ []) made = (flag, refl, refl) in
+    (sequence ∷ window ∷ [], subst (SpellsPart first (sequence ∷ window ∷ [])) parts.0 here, ap (λ (w : List ℕ). sequence ∷ window ∷ w) parts.1)
+
+part_again : (first : ℕ) (front : List ℕ) (part : Option Part) (rest : List ℕ) → SpellsPart first front part → part_at first (front ++ rest) (bit 3 first) ≡ found_at part rest
+part_again first front None rest s = rw (s.0, s.1) refl
+part_again first front (Some part) rest s = rw (s.0, s.2, ← s.1) refl
+
+service_takes : (octets : List ℕ) (service : ℕ) (body : List ℕ) → service_at octets ≡ found_at service body → octets ≡ service ∷ body
+service_takes [] service body e = absurd (none-some (service, body) e)
+service_takes (first ∷ others) service body e = let parts = some_pair_parts first service others body e in rw (parts.0, parts.1) refl
+
+parts_takes : (first : ℕ) (octets : List ℕ) (x : Option Part × ℕ × List ℕ) → parts_at first octets ≡ Some x → (front : List ℕ) × SpellsPart first front x.0 × (octets ≡ front ++ x.1 ∷ x.2)
+unfolding parts_at
+parts_takes first octets x e =
+    let a = bind_some (part_at first octets (bit 3 first)) (λ part. service_at part.1 >>= λ service. Some (part.0, service.0, service.1)) x e in
+    let b = bind_some (service_at a.0.1) (λ service. Some (a.0.0, service.0, service.1)) x a.2 in
+    let part = part_takes first octets (bit 3 first) a.0.0 a.0.1 refl a.1 in
+    let service = service_takes a.0.1 b.0.0 b.0.1 b.1 in
+    let made : Option Part × ℕ × List ℕ = (a.0.0, b.0.0, b.0.1) in
+    let same : made ≡ x = cc in
+    subst (λ (y : Option Part × ℕ × List ℕ). (front : List ℕ) × SpellsPart first front y.0 × (octets ≡ front ++ y.1 ∷ y.2)) same (part.0, part.1, part.2 ∙ ap (λ (w : List ℕ). part.0 ++ w) service)
+
+parts_again : (first : ℕ) (front : List ℕ) (part : Option Part) (service : ℕ) (body : List ℕ) → SpellsPart first front part → parts_at first (front ++ service ∷ body) ≡ Some (part, service, body)
+unfolding parts_at
+parts_again first front part service body s = rw (part_again first front part (service ∷ body) s) refl
+
+-- ---- each kind
+
+confirmed_takes : (first : ℕ) (octets : List ℕ) (m : Message) → first / 16 ≡ 0 → confirmed_of first octets ≡ Some m → IsLaidOut (first ∷ octets) m
+confirmed_takes first [] m kind e = absurd (none-some m e)
+confirmed_takes first (second ∷ []) m kind e = absurd (none-some m e)
+confirmed_takes first (second ∷ id ∷ octets) m kind e =
+    let a = bind_some (parts_at first octets) (λ x. Some (confirmed x.0 (second % 16) id x.1 x.2)) m e in
+    let parts = parts_takes first octets a.0 a.1 in
+    let made : Message = confirmed a.0.0 (second % 16) id a.0.1 a.0.2 in
+    let same : made ≡ m = cc in
+    let here : IsConfirmed (first ∷ second ∷ id ∷ octets) a.0.0 (second % 16) id a.0.1 a.0.2 = record { first = first; second = second; part_octets = parts.0; whole = ap (λ (w : List ℕ). first ∷ second ∷ id ∷ w) parts.2; kind = kind; coded = refl; spelled = parts.1 } in
+    subst (IsLaidOut (first ∷ second ∷ id ∷ octets)) same here
+
+complex_takes : (first : ℕ) (octets : List ℕ) (m : Message) → first / 16 ≡ 3 → complex_ack_of first octets ≡ Some m → IsLaidOut (first ∷ octets) m
+complex_takes first [] m kind e = absurd (none-some m e)
+complex_takes first (id ∷ octets) m kind e =
+    let a = bind_some (parts_at first octets) (λ x. Some (complex_ack x.0 id x.1 x.2)) m e in
+    let parts = parts_takes first octets a.0 a.1 in
+    let made : Message = complex_ack a.0.0 id a.0.1 a.0.2 in
+    let same : made ≡ m = cc in
+    let here : IsComplexAck (first ∷ id ∷ octets) a.0.0 id a.0.1 a.0.2 = record { first = first; part_octets = parts.0; whole = ap (λ (w : List ℕ). first ∷ id ∷ w) parts.2; kind = kind; spelled = parts.1 } in
+    subst (IsLaidOut (first ∷ id ∷ octets)) same here
+
+unconfirmed_takes : (first : ℕ) (octets : List ℕ) (m : Message) → first / 16 ≡ 1 → unconfirmed_of octets ≡ Some m → IsLaidOut (first ∷ octets) m
+unconfirmed_takes first [] m kind e = absurd (none-some m e)
+unconfirmed_takes first (service ∷ body) m kind e =
+    let same : unconfirmed service body ≡ m = cc in
+    subst (IsLaidOut (first ∷ service ∷ body)) same (first, kind, refl)
+
+numbered_takes_at : (first id octet : ℕ) (rest : List ℕ) (m : Message) → numbered_of first (id ∷ octet ∷ rest) ≡ Some m → IsLaidOut (first ∷ id ∷ octet ∷ rest) m
+numbered_takes_at first id octet rest m e =
+    let octets : List ℕ = first ∷ id ∷ octet ∷ rest in
+    let aborted : Option Message = Some (abort (bit 0 first) id octet) in
+    let from7 : Option Message = cond (eqb (first / 16) 7) aborted None in
+    let from6 : Option Message = cond (eqb (first / 16) 6) (Some (reject id octet)) from7 in
+    let from5 : Option Message = cond (eqb (first / 16) 5) (Some (error id octet rest)) from6 in
+    elim (chosen (eqb (first / 16) 2) (Some (simple_ack id octet)) from5 (Some m) e) [
+      | inl a ↦ let same : simple_ack id octet ≡ m = cc in subst (IsLaidOut octets) same (first, rest, eqb-true (first / 16) 2 a.0, refl)
+      | inr b ↦ elim (chosen (eqb (first / 16) 5) (Some (error id octet rest)) from6 (Some m) b.1) [
+        | inl a ↦ let same : error id octet rest ≡ m = cc in subst (IsLaidOut octets) same (first, eqb-true (first / 16) 5 a.0, refl)
+        | inr b ↦ elim (chosen (eqb (first / 16) 6) (Some (reject id octet)) from7 (Some m) b.1) [
+          | inl a ↦ let same : reject id octet ≡ m = cc in subst (IsLaidOut octets) same (first, rest, eqb-true (first / 16) 6 a.0, refl)
+          | inr b ↦ elim (chosen (eqb (first / 16) 7) aborted None (Some m) b.1) [
+            | inl a ↦ let same : abort (bit 0 first) id octet ≡ m = cc in subst (IsLaidOut octets) same (first, rest, eqb-true (first / 16) 7 a.0, refl, refl)
+            | inr b ↦ absurd (none-some m b.1)
+          ]
+        ]
+      ]
+    ]
+
+numbered_takes : (first : ℕ) (octets : List ℕ) (m : Message) → numbered_of first octets ≡ Some m → IsLaidOut (first ∷ octets) m
+numbered_takes first [] m e = absurd (none-some m e)
+numbered_takes first (id ∷ []) m e = absurd (none-some m e)
+numbered_takes first (id ∷ octet ∷ rest) m e = numbered_takes_at first id octet rest m e
+
+segment_takes : (first : ℕ) (octets : List ℕ) (m : Message) → first / 16 ≡ 4 → ◌≡◌ {A = Option Message} (Some segment_ack) (Some m) → IsLaidOut (first ∷ octets) m
+segment_takes first octets m kind e = let same : segment_ack ≡ m = cc in subst (IsLaidOut (first ∷ octets)) same (first, octets, kind, refl)
+
+apdu_takes : (octets : List ℕ) (m : Message) → apdu_of octets ≡ Some m → IsLaidOut octets m
+unfolding apdu_of
+apdu_takes [] m e = absurd (none-some m e)
+apdu_takes (first ∷ octets) m e =
+    let from4 : Option Message = cond (eqb (first / 16) 4) (Some segment_ack) (numbered_of first octets) in
+    let from3 : Option Message = cond (eqb (first / 16) 3) (complex_ack_of first octets) from4 in
+    let from1 : Option Message = cond (eqb (first / 16) 1) (unconfirmed_of octets) from3 in
+    elim (chosen (eqb (first / 16) 0) (confirmed_of first octets) from1 (Some m) e) [
+      | inl a ↦ confirmed_takes first octets m (eqb-true (first / 16) 0 a.0) a.1
+      | inr b ↦ elim (chosen (eqb (first / 16) 1) (unconfirmed_of octets) from3 (Some m) b.1) [
+        | inl a ↦ unconfirmed_takes first octets m (eqb-true (first / 16) 1 a.0) a.1
+        | inr b ↦ elim (chosen (eqb (first / 16) 3) (complex_ack_of first octets) from4 (Some m) b.1) [
+          | inl a ↦ complex_takes first octets m (eqb-true (first / 16) 3 a.0) a.1
+          | inr b ↦ elim (chosen (eqb (first / 16) 4) (Some segment_ack) (numbered_of first octets) (Some m) b.1) [
+            | inl a ↦ segment_takes first octets m (eqb-true (first / 16) 4 a.0) a.1
+            | inr b ↦ numbered_takes first octets m b.1
+          ]
+        ]
+      ]
+    ]
+
+confirmed_again : (first second id service : ℕ) (part_octets body : List ℕ) (part : Option Part) → first / 16 ≡ 0 → SpellsPart first part_octets part → apdu_of (first ∷ second ∷ id ∷ (part_octets ++ service ∷ body)) ≡ Some (confirmed part (second % 16) id service body)
+unfolding apdu_of
+confirmed_again first second id service part_octets body part kind s = rw (kind, parts_again first part_octets part service body s) refl
+
+complex_again : (first id service : ℕ) (part_octets body : List ℕ) (part : Option Part) → first / 16 ≡ 3 → SpellsPart first part_octets part → apdu_of (first ∷ id ∷ (part_octets ++ service ∷ body)) ≡ Some (complex_ack part id service body)
+unfolding apdu_of
+complex_again first id service part_octets body part kind s = rw (kind, parts_again first part_octets part service body s) refl
+
+apdu_again : (octets : List ℕ) (m : Message) → IsLaidOut octets m → apdu_of octets ≡ Some m
+unfolding apdu_of
+apdu_again octets (confirmed part code id service body) s =
+    ap apdu_of s.whole ∙ confirmed_again s.first s.second id service s.part_octets body part s.kind s.spelled ∙ ap (λ (k : ℕ). Some (confirmed part k id service body)) s.coded
+apdu_again octets (unconfirmed service body) s = ap apdu_of s.2 ∙ rw s.1 refl
+apdu_again octets (simple_ack id service) s = ap apdu_of s.3 ∙ rw s.2 refl
+apdu_again octets (complex_ack part id service body) s = ap apdu_of s.whole ∙ complex_again s.first id service s.part_octets body part s.kind s.spelled
+apdu_again octets segment_ack s = ap apdu_of s.3 ∙ rw s.2 refl
+apdu_again octets (error id service body) s = ap apdu_of s.2 ∙ rw s.1 refl
+apdu_again octets (reject id reason) s = ap apdu_of s.3 ∙ rw s.2 refl
+apdu_again octets (abort server id reason) s = ap apdu_of s.4 ∙ rw (s.2, s.3) refl
+
+pub apdu_is : (octets : List ℕ) (m : Message) → (apdu_of octets ≡ Some m) ↔ IsLaidOut octets m
+apdu_is octets m = (apdu_takes octets m, apdu_again octets m)
+
+-- what is read is found
+pub apdu_found : (octets : List ℕ) (found : Option Message) → found ≡ apdu_of octets → IsFound IsLaidOut octets found
+apdu_found octets found e = found_is IsLaidOut octets (apdu_of octets) found (apdu_is octets) e
+
+-- ---- what is written
+
+request_flags : (more : Bool) → (cond more 12 8 / 16 ≡ 0) × (bit 3 (cond more 12 8) ≡ true) × (more ≡ bit 2 (cond more 12 8))
+request_flags true = (refl, refl, refl)
+request_flags false = (refl, refl, refl)
+
+answer_flags : (more : Bool) → ((48 + cond more 12 8) / 16 ≡ 3) × (bit 3 (48 + cond more 12 8) ≡ true) × (more ≡ bit 2 (48 + cond more 12 8))
+answer_flags true = (refl, refl, refl)
+answer_flags false = (refl, refl, refl)
+
+-- the flags of a request
+request_part : (part : Option Part) → (part_flags part / 16 ≡ 0) × SpellsPart (part_flags part) (part_octets part) part
+request_part None = (refl, (refl, refl))
+request_part (Some part) =
+    let flags = request_flags part.more in
+    (flags.0, (flags.1, flags.2, refl))
+
+-- the flags of an answer, under its type
+answer_part : (part : Option Part) → ((48 + part_flags part) / 16 ≡ 3) × SpellsPart (48 + part_flags part) (part_octets part) part
+answer_part None = (refl, (refl, refl))
+answer_part (Some part) =
+    let flags = answer_flags part.more in
+    (flags.0, (flags.1, flags.2, refl))
+
+laid_out_is : (m : Message) → IsWritable m → IsLaidOut (laid_out m) m
+laid_out_is (confirmed part code id service body) h = let p = request_part part in record { first = part_flags part; second = code; part_octets = part_octets part; whole = refl; kind = p.0; coded = omega arith; spelled = p.1 }
+laid_out_is (unconfirmed service body) h = (16, refl, refl)
+laid_out_is (simple_ack id service) h = (32, [], refl, refl)
+laid_out_is (complex_ack part id service body) h = let p = answer_part part in record { first = 48 + part_flags part; part_octets = part_octets part; whole = refl; kind = p.0; spelled = p.1 }
+laid_out_is segment_ack h = absurd h
+laid_out_is (error id service body) h = (80, refl, refl)
+laid_out_is (reject id reason) h = (96, [], refl, refl)
+laid_out_is (abort true id reason) h = (113, [], refl, refl, refl)
+laid_out_is (abort false id reason) h = (112, [], refl, refl, refl)
+
+pub apdu_back : (m : Message) → IsWritable m → apdu_of (laid_out m) ≡ Some m
+apdu_back m h = apdu_again (laid_out m) m (laid_out_is m h)

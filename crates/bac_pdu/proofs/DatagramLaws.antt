@@ -1,0 +1,275 @@
+-- What is read of a datagram is what it carries, and what is written is carried back.
+use Rattle.std.proofs.Common.{◌≡◌, ℕ, ◌+◌, ◌/◌, ◌%◌, ◌<◌, ◌≤◌, Bool, true, false, cond, eqb, ltb, ◌&&◌, ◌||◌, List, [], ◌∷◌, ◌++◌, length, Option, Some, None, refl, sym, ap, subst, ◌∙◌, arith, inl, inr}
+use Rattle.std.specs.Prelude.{◌↔◌, is_some, IfSome, OnOk, Result, Ok, Err}
+use Rattle.std.proofs.lemmas.Bool.{eqb-true, ltb-true, lt-ltb, eq-eqb}
+use Rattle.std.proofs.lemmas.List.{length-append}
+use Rattle.std.proofs.lemmas.Option.{none-some, some_pair_parts}
+use Rattle.byteorder.specs.Endian.{big_number}
+use Rattle.byteorder.specs.Numbers.{big_number-reads_back}
+use Rattle.bac_wire.specs.TagReading.{◌>>=◌}
+use Rattle.bac_wire.proofs.Readers.{found_at, chosen}
+use Rattle.bac_wire.proofs.TagLaws.{bind_some}
+use Rattle.bac_pdu.specs.Peer.{NetworkAddress, Station, IsRoutable}
+use Rattle.bac_pdu.specs.Header.{NetworkHeader, SpellsHeader, plain_header}
+use Rattle.bac_pdu.specs.Datagram.{Delivery, SpellsOrigin, unicast, broadcast, forwarded, IsHeeded, Carries, IsFound, Takes, wrapped}
+use Rattle.bac_pdu.specs.DatagramReading.{header_at, forwarded_at, origin_at, link_at, is_routable, is_for_all, is_answerable, carried}
+use Rattle.bac_pdu.proofs.HeaderLaws.{header_reader, header_written}
+
+-- ---- which headers are ignored
+
+both : (a b : Bool) → (a && b) ≡ true → (a ≡ true) × (b ≡ true)
+both true b e = (refl, e)
+both false b e = absurd cc
+
+routable_holds : (to : NetworkAddress) → is_routable to ≡ true → IsRoutable to
+routable_holds to e =
+    let a = both (ltb 0 to.network) (ltb to.network 65535 && (ltb 0 (length to.address) && ltb (length to.address) 8)) e in
+    let b = both (ltb to.network 65535) (ltb 0 (length to.address) && ltb (length to.address) 8) a.1 in
+    let c = both (ltb 0 (length to.address)) (ltb (length to.address) 8) b.1 in
+    let short = ltb-true 0 (length to.address) c.0 in
+    let long = ltb-true (length to.address) 8 c.1 in
+    record { local = ltb-true 0 to.network a.0; global = ltb-true to.network 65535 b.0; shortest = omega arith; longest = omega arith }
+
+routable_tests : (to : NetworkAddress) → IsRoutable to → is_routable to ≡ true
+routable_tests to h = rw (lt-ltb 0 to.network h.local, lt-ltb to.network 65535 h.global, lt-ltb 0 (length to.address) (omega (arith, h.shortest)), lt-ltb (length to.address) 8 (omega (arith, h.longest))) refl
+
+destined_holds : (to : Option NetworkAddress) → is_for_all to ≡ true → IfSome to (λ t. t.network ≡ 65535)
+destined_holds None e = tt
+destined_holds (Some to) e = eqb-true to.network 65535 e
+
+destined_tests : (to : Option NetworkAddress) → IfSome to (λ t. t.network ≡ 65535) → is_for_all to ≡ true
+destined_tests None h = refl
+destined_tests (Some to) h = eq-eqb to.network 65535 h
+
+answerable_holds : (source : Option NetworkAddress) → is_answerable source ≡ true → IfSome source IsRoutable
+answerable_holds None e = tt
+answerable_holds (Some source) e = routable_holds source e
+
+answerable_tests : (source : Option NetworkAddress) → IfSome source IsRoutable → is_answerable source ≡ true
+answerable_tests None h = refl
+answerable_tests (Some source) h = routable_tests source h
+
+-- ---- the link header
+
+abbrev Origin : Type 0
+Origin = Station × Bool
+
+forwarded_takes : (from : Station) (octets : List ℕ) (x : Origin) (rest : List ℕ) → forwarded_at octets ≡ found_at x rest → (front : List ℕ) × SpellsOrigin from 4 front x.0 x.1 × (octets ≡ front ++ rest)
+forwarded_takes from [] x rest e = absurd (none-some (x, rest) e)
+forwarded_takes from (a ∷ []) x rest e = absurd (none-some (x, rest) e)
+forwarded_takes from (a ∷ b ∷ []) x rest e = absurd (none-some (x, rest) e)
+forwarded_takes from (a ∷ b ∷ c ∷ []) x rest e = absurd (none-some (x, rest) e)
+forwarded_takes from (a ∷ b ∷ c ∷ d ∷ []) x rest e = absurd (none-some (x, rest) e)
+forwarded_takes from (a ∷ b ∷ c ∷ d ∷ f ∷ []) x rest e = absurd (none-some (x, rest) e)
+forwarded_takes from (a ∷ b ∷ c ∷ d ∷ f ∷ g ∷ octets) x rest e =
+    let made : Origin = (record { ip = big_number 4 (a ∷ b ∷ c ∷ d ∷ []); port = big_number 2 (f ∷ g ∷ []); route = None }, true) in
+    let parts = some_pair_parts made x octets rest e in
+    let here : SpellsOrigin from 4 (a ∷ b ∷ c ∷ d ∷ f ∷ g ∷ []) made.0 made.1 = forwarded a b c d f g in
+    (a ∷ b ∷ c ∷ d ∷ f ∷ g ∷ [], subst (λ (y : Origin). SpellsOrigin from 4 (a ∷ b ∷ c ∷ d ∷ f ∷ g ∷ []) y.0 y.1) parts.0 here, ap (λ (w : List ℕ). a ∷ b ∷ c ∷ d ∷ f ∷ g ∷ w) parts.1)
+
+origin_takes : (function : ℕ) (from : Station) (octets : List ℕ) (x : Origin) (rest : List ℕ) → origin_at function from octets ≡ found_at x rest → (front : List ℕ) × SpellsOrigin from function front x.0 x.1 × (octets ≡ front ++ rest)
+origin_takes function from octets x rest e =
+    let to_one : Option (Origin × List ℕ) = Some ((from, false), octets) in
+    let to_all : Option (Origin × List ℕ) = Some ((from, true), octets) in
+    let last : Option (Origin × List ℕ) = cond (eqb function 4) (forwarded_at octets) None in
+    elim (chosen (eqb function 10) to_one (cond (eqb function 11) to_all last) (found_at x rest) e) [
+      | inl one ↦
+          let parts = some_pair_parts (from, false) x octets rest one.1 in
+          rw (eqb-true function 10 one.0) ([], subst (λ (y : Origin). SpellsOrigin from 10 [] y.0 y.1) parts.0 unicast, parts.1)
+      | inr more ↦ elim (chosen (eqb function 11) to_all last (found_at x rest) more.1) [
+        | inl all ↦
+            let parts = some_pair_parts (from, true) x octets rest all.1 in
+            rw (eqb-true function 11 all.0) ([], subst (λ (y : Origin). SpellsOrigin from 11 [] y.0 y.1) parts.0 broadcast, parts.1)
+        | inr most ↦ elim (chosen (eqb function 4) (forwarded_at octets) None (found_at x rest) most.1) [
+          | inl four ↦ rw (eqb-true function 4 four.0) (forwarded_takes from octets x rest four.1)
+          | inr none ↦ absurd (none-some (x, rest) none.1)
+        ]
+      ]
+    ]
+
+origin_again : (from : Station) (function : ℕ) (front : List ℕ) (sender : Station) (to_all : Bool) (rest : List ℕ) → SpellsOrigin from function front sender to_all → origin_at function from (front ++ rest) ≡ found_at (sender, to_all) rest
+origin_again from function front sender to_all rest unicast = refl
+origin_again from function front sender to_all rest broadcast = refl
+origin_again from function front sender to_all rest (forwarded a b c d e f) = refl
+
+-- a link header in front of a rest
+record BeginsLink (from : Station) (datagram : List ℕ) (x : Origin) (rest : List ℕ) : Type 0 where
+  function : ℕ
+  high : ℕ
+  low : ℕ
+  origin : List ℕ
+  whole : datagram ≡ 129 ∷ function ∷ high ∷ low ∷ (origin ++ rest)
+  counted : big_number 2 (high ∷ low ∷ []) ≡ length datagram
+  sent : SpellsOrigin from function origin x.0 x.1
+
+link_takes : (from : Station) (datagram : List ℕ) (x : Origin) (rest : List ℕ) → link_at from datagram ≡ found_at x rest → BeginsLink from datagram x rest
+unfolding link_at
+link_takes from [] x rest e = absurd (none-some (x, rest) e)
+link_takes from (a ∷ []) x rest e = absurd (none-some (x, rest) e)
+link_takes from (a ∷ b ∷ []) x rest e = absurd (none-some (x, rest) e)
+link_takes from (a ∷ b ∷ c ∷ []) x rest e = absurd (none-some (x, rest) e)
+link_takes from (kind ∷ function ∷ high ∷ low ∷ octets) x rest e =
+    let test : Bool = eqb (big_number 2 (high ∷ low ∷ [])) (4 + length octets) in
+    elim (chosen (eqb kind 129) (cond test (origin_at function from octets) None) None (found_at x rest) e) [
+      | inl here ↦ elim (chosen test (origin_at function from octets) None (found_at x rest) here.1) [
+        | inl counted ↦
+            let taken = origin_takes function from octets x rest counted.1 in
+            let same = eqb-true (big_number 2 (high ∷ low ∷ [])) (4 + length octets) counted.0 in
+            record {
+              function = function;
+              high = high;
+              low = low;
+              origin = taken.0;
+              whole = ap (λ (k : ℕ). k ∷ function ∷ high ∷ low ∷ octets) (eqb-true kind 129 here.0) ∙ ap (λ (w : List ℕ). 129 ∷ function ∷ high ∷ low ∷ w) taken.2;
+              counted = same ∙ omega arith;
+              sent = taken.1;
+            }
+        | inr other ↦ absurd (none-some (x, rest) other.1)
+      ]
+      | inr other ↦ absurd (none-some (x, rest) other.1)
+    ]
+
+-- ---- the datagram
+
+abbrev delivered_as : Station → Bool → NetworkHeader → List ℕ → Delivery
+delivered_as sender to_all header apdu = record { peer = record { ip = sender.ip; port = sender.port; route = header.source }; broadcast = to_all || is_some header.destination; apdu = apdu }
+
+-- the delivery, where the header is heeded
+abbrev heeded_as : Station → Bool → NetworkHeader → List ℕ → Option Delivery
+heeded_as sender to_all header apdu = cond (is_for_all header.destination) (cond (is_answerable header.source) (Some (delivered_as sender to_all header apdu)) None) None
+
+-- what was delivered, and that the header is heeded
+record IsHeededAs (sender : Station) (to_all : Bool) (header : NetworkHeader) (apdu : List ℕ) (d : Delivery) : Type 0 where
+  heeded : IsHeeded header
+  same : delivered_as sender to_all header apdu ≡ d
+
+heeded_takes : (sender : Station) (to_all : Bool) (header : NetworkHeader) (apdu : List ℕ) (d : Delivery) → heeded_as sender to_all header apdu ≡ Some d → IsHeededAs sender to_all header apdu d
+heeded_takes sender to_all header apdu d e =
+    let made : Delivery = delivered_as sender to_all header apdu in
+    elim (chosen (is_for_all header.destination) (cond (is_answerable header.source) (Some made) None) None (Some d) e) [
+      | inl all ↦ elim (chosen (is_answerable header.source) (Some made) None (Some d) all.1) [
+        | inl source ↦
+            let same : made ≡ d = cc in
+            record { heeded = record { destined = destined_holds header.destination all.0; answerable = answerable_holds header.source source.0 }; same = same }
+        | inr other ↦ absurd (none-some d other.1)
+      ]
+      | inr other ↦ absurd (none-some d other.1)
+    ]
+
+heeded_again : (sender : Station) (to_all : Bool) (header : NetworkHeader) (apdu : List ℕ) → IsHeeded header → heeded_as sender to_all header apdu ≡ Some (delivered_as sender to_all header apdu)
+heeded_again sender to_all header apdu h = rw (destined_tests header.destination h.destined, answerable_tests header.source h.answerable) refl
+
+carried_takes : (from : Station) (datagram : List ℕ) (d : Delivery) → carried from datagram ≡ Some d → Carries from datagram d
+unfolding carried
+carried_takes from datagram d e =
+    let a = bind_some (link_at from datagram) (λ link. header_at link.1 >>= λ header. heeded_as link.0.0 link.0.1 header.0 header.1) d e in
+    let b = bind_some (header_at a.0.1) (λ header. heeded_as a.0.0.0 a.0.0.1 header.0 header.1) d a.2 in
+    let link = link_takes from datagram a.0.0 a.0.1 a.1 in
+    let header = header_reader.takes a.0.1 b.0.0 b.0.1 b.1 in
+    let heard = heeded_takes a.0.0.0 a.0.0.1 b.0.0 b.0.1 d b.2 in
+    let made : Delivery = delivered_as a.0.0.0 a.0.0.1 b.0.0 b.0.1 in
+    let here : Carries from datagram made = record {
+      function = link.function;
+      high = link.high;
+      low = link.low;
+      origin = link.origin;
+      header = header.0;
+      sender = a.0.0.0;
+      to_all = a.0.0.1;
+      network = b.0.0;
+      whole = link.whole ∙ ap (λ (w : List ℕ). 129 ∷ link.function ∷ link.high ∷ link.low ∷ (link.origin ++ w)) header.2;
+      counted = link.counted;
+      sent = link.sent;
+      headed = header.1;
+      heeded = heard.heeded;
+      peer = refl;
+      broadcast = refl;
+    } in
+    subst (Carries from datagram) heard.same here
+
+carried_again_at : (from : Station) (function high low : ℕ) (origin header apdu : List ℕ) (sender : Station) (to_all : Bool) (network : NetworkHeader) → big_number 2 (high ∷ low ∷ []) ≡ 4 + length (origin ++ (header ++ apdu)) → SpellsOrigin from function origin sender to_all → SpellsHeader header network → IsHeeded network
+    → carried from (129 ∷ function ∷ high ∷ low ∷ (origin ++ (header ++ apdu))) ≡ Some (delivered_as sender to_all network apdu)
+unfolding carried link_at
+carried_again_at from function high low origin header apdu sender to_all network counted sent headed heeded =
+    rw (eq-eqb (big_number 2 (high ∷ low ∷ [])) (4 + length (origin ++ (header ++ apdu))) counted, origin_again from function origin sender to_all (header ++ apdu) sent, header_reader.again header network apdu headed) (heeded_again sender to_all network apdu heeded)
+
+carried_again : (from : Station) (datagram : List ℕ) (d : Delivery) → Carries from datagram d → carried from datagram ≡ Some d
+carried_again from datagram d c =
+    let counted : big_number 2 (c.high ∷ c.low ∷ []) ≡ 4 + length (c.origin ++ (c.header ++ d.apdu)) = c.counted ∙ ap length c.whole ∙ omega arith in
+    let same : ◌≡◌ {A = Delivery} (delivered_as c.sender c.to_all c.network d.apdu) d = rw (← c.peer, ← c.broadcast) refl in
+    ap (carried from) c.whole ∙ carried_again_at from c.function c.high c.low c.origin c.header d.apdu c.sender c.to_all c.network counted c.sent c.headed c.heeded ∙ ap Some same
+
+pub carried_is : (from : Station) (datagram : List ℕ) (d : Delivery) → (carried from datagram ≡ Some d) ↔ Carries from datagram d
+carried_is from datagram d = (carried_takes from datagram d, carried_again from datagram d)
+
+spelled_where : {A : Type 0} (Spells : List ℕ → A → Type 0) (octets : List ℕ) (read found : Option A) → ((x : A) → (read ≡ Some x) ↔ Spells octets x) → found ≡ read → IfSome found (Spells octets)
+spelled_where Spells octets read None is e = tt
+spelled_where Spells octets read (Some x) is e = (is x).0 (sym e)
+
+-- what is read is found
+pub found_is : {A : Type 0} (Spells : List ℕ → A → Type 0) (octets : List ℕ) (read found : Option A) → ((x : A) → (read ≡ Some x) ↔ Spells octets x) → found ≡ read → IsFound Spells octets found
+found_is Spells octets read found is e = record { spelled = spelled_where Spells octets read found is e; all = λ x s. e ∙ (is x).1 s }
+
+-- what is read of a datagram is what it carries
+pub carried_found : (from : Station) (datagram : List ℕ) (found : Option Delivery) → found ≡ carried from datagram → IsFound (Carries from) datagram found
+carried_found from datagram found e = found_is (Carries from) datagram (carried from datagram) found (carried_is from datagram) e
+
+-- ---- what is written
+
+-- what is written takes the APDU to the station
+pub wrapped_takes : (to : Option NetworkAddress) (expect : Bool) (apdu : List ℕ) → IfSome to IsRoutable → length (wrapped to expect apdu) < 65536 → Takes to expect apdu (wrapped to expect apdu)
+unfolding wrapped
+wrapped_takes to expect apdu routable fits =
+    let n : ℕ = 4 + length (plain_header to expect ++ apdu) in
+    let short : n < 65536 = omega arith in
+    let counted = big_number-reads_back 2 n [] short in
+    let header = header_written to expect routable in
+    record {
+      high = n / 256 % 256;
+      low = n % 256;
+      header = plain_header to expect;
+      whole = refl;
+      counted = counted ∙ omega arith;
+      headed = header.spelled;
+      expected = header.expected;
+    }
+
+-- how many octets are written round the APDU, at most
+pub wrapped_short : (to : Option NetworkAddress) (expect : Bool) (apdu : List ℕ) → IfSome to IsRoutable → length (wrapped to expect apdu) ≤ 17 + length apdu
+unfolding wrapped
+wrapped_short None expect apdu routable = omega arith
+wrapped_short (Some station) expect apdu routable = omega (arith, routable.longest, length-append (station.address ++ 255 ∷ []) apdu, length-append station.address (255 ∷ []))
+
+-- a frame that holds what is written
+pub frame_takes : (to : Option NetworkAddress) (expect : Bool) (apdu frame : List ℕ) → IfSome to IsRoutable → 4 + (length (plain_header to expect) + length apdu) < 65536 → frame ≡ wrapped to expect apdu → Takes to expect apdu frame
+unfolding wrapped
+frame_takes to expect apdu frame routable fits e =
+    let short : length (wrapped to expect apdu) < 65536 = omega (arith, length-append (plain_header to expect) apdu) in
+    subst (Takes to expect apdu) (sym e) (wrapped_takes to expect apdu routable short)
+
+pub on_ok : {T E : Type 0} (result : Result T E) (P Q : Type 0) → OnOk result P → (P → Q) → OnOk result Q
+on_ok (Ok x) P Q p f = f p
+on_ok (Err e) P Q p f = tt
+
+-- what takes an APDU to a station of this network is carried to it
+pub taken_carries : (from : Station) (expect : Bool) (apdu datagram : List ℕ) → Takes None expect apdu datagram → carried from datagram ≡ Some (record { peer = record { ip = from.ip; port = from.port; route = None }; broadcast = false; apdu = apdu })
+taken_carries from expect apdu datagram t =
+    let d : Delivery = record { peer = record { ip = from.ip; port = from.port; route = None }; broadcast = false; apdu = apdu } in
+    let c : Carries from datagram d = record {
+      function = 10;
+      high = t.high;
+      low = t.low;
+      origin = [];
+      header = t.header;
+      sender = from;
+      to_all = false;
+      network = record { destination = None; source = None };
+      whole = t.whole;
+      counted = t.counted;
+      sent = unicast;
+      headed = t.headed;
+      heeded = record { destined = tt; answerable = tt };
+      peer = refl;
+      broadcast = refl;
+    } in
+    carried_again from datagram d c

@@ -1,0 +1,11 @@
+pub mod SequenceLaws
+pub mod HeaderLaws
+pub mod DatagramLaws
+pub mod ApduLaws
+pub mod ParameterLaws
+pub mod RejectLaws
+pub mod ReadLaws
+pub mod WriteLaws
+pub mod DiscoveryLaws
+pub mod RoundLaws
+pub mod ShortestLaws

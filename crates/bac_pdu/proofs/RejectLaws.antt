@@ -1,0 +1,87 @@
+-- Reading a body of a confirmed request answers its one outcome.
+use Rattle.std.proofs.Common.{◌≡◌, ℕ, List, [], ◌∷◌, Option, Some, None, Result, Ok, Err, refl, sym, ap, ◌∙◌, inl, inr}
+use Rattle.std.specs.Prelude.{◌↔◌, ◌⊎◌, IfOk, IfErr}
+use Rattle.std.proofs.lemmas.Option.{none-some}
+use Rattle.bac_pdu.specs.declared.reject.RejectReason.{RejectReason}
+use Rattle.bac_pdu.specs.declared.reject.RejectReason.TheVariants.{InvalidTag, MissingParameter, OutOfRange, TooMany}
+use Rattle.bac_pdu.specs.Reject.{IsFirst, IsRejectReason, IsOutcome}
+use Rattle.bac_pdu.specs.PropertyReading.{and_then, needs, ended}
+
+-- ---- results
+
+pub and_then_ok : {A B : Type 0} (r : Result A RejectReason) (f : A → Result B RejectReason) (y : B) → and_then r f ≡ Ok y → (x : A) × (r ≡ Ok x) × (f x ≡ Ok y)
+and_then_ok (Ok x) f y e = (x, refl, e)
+and_then_ok (Err reason) f y e = absurd cc
+
+pub and_then_err : {A B : Type 0} (r : Result A RejectReason) (f : A → Result B RejectReason) (reason : RejectReason) → and_then r f ≡ Err reason → (r ≡ Err reason) ⊎ ((x : A) × (r ≡ Ok x) × (f x ≡ Err reason))
+and_then_err (Ok x) f reason e = inr (x, refl, e)
+and_then_err (Err other) f reason e = let same : other ≡ reason = cc in inl (ap Err same)
+
+pub ok_err : {A : Type 0} (r : Result A RejectReason) (x : A) (reason : RejectReason) → r ≡ Ok x → r ≡ Err reason → ⊥
+ok_err r x reason e f = let no : Ok x ≡ Err reason = sym e ∙ f in absurd cc
+
+pub needs_ok : {A : Type 0} (octets : List ℕ) (found : Option A) (x : A) → (octets ≡ [] → found ≡ None) → found ≡ Some x → needs octets found ≡ Ok x
+needs_ok [] found x none e = absurd (none-some x (sym (none refl) ∙ e))
+needs_ok (o ∷ os) found x none e = rw e refl
+
+pub needs_takes : {A : Type 0} (octets : List ℕ) (found : Option A) (x : A) → needs octets found ≡ Ok x → found ≡ Some x
+needs_takes [] found x e = absurd cc
+needs_takes (o ∷ os) None x e = absurd cc
+needs_takes (o ∷ os) (Some y) x e = let same : y ≡ x = cc in ap Some same
+
+pub needs_empty : {A : Type 0} (octets : List ℕ) (found : Option A) → octets ≡ [] → needs octets found ≡ Err MissingParameter
+needs_empty octets found e = rw e refl
+
+pub needs_fails : {A : Type 0} (octets : List ℕ) (found : Option A) (reason : RejectReason) → needs octets found ≡ Err reason → ((reason ≡ MissingParameter) × (octets ≡ [])) ⊎ ((reason ≡ InvalidTag) × (found ≡ None) × (octets ≡ [] → ⊥))
+needs_fails [] found reason e = let same : reason ≡ MissingParameter = cc in inl (same, refl)
+needs_fails (o ∷ os) None reason e = let same : reason ≡ InvalidTag = cc in inr (same, refl, λ h. absurd cc)
+needs_fails (o ∷ os) (Some y) reason e = absurd cc
+
+pub ended_ok : {A : Type 0} (x y : A) (rest : List ℕ) → ended x rest ≡ Ok y → (rest ≡ []) × (x ≡ y)
+ended_ok x y [] e = (refl, cc)
+ended_ok x y (o ∷ os) e = absurd cc
+
+pub ended_err : {A : Type 0} (x : A) (rest : List ℕ) (reason : RejectReason) → ended x rest ≡ Err reason → (reason ≡ TooMany) × (rest ≡ [] → ⊥)
+ended_err x [] reason e = absurd cc
+ended_err x (o ∷ os) reason e = (cc, λ h. absurd cc)
+
+-- the first that applies is one
+pub one_first : {A : Type 0} (Applies : A → Type 0) (xs : List A) (a b : A) → IsFirst Applies xs a → IsFirst Applies xs b → a ≡ b
+one_first Applies [] a b s t = absurd s
+one_first Applies (x ∷ xs) a b s t = elim s [
+  | inl here ↦ elim t [ inl there ↦ here.1 ∙ sym there.1 | inr later ↦ absurd (later.0 here.0) ]
+  | inr after ↦ elim t [ inl there ↦ absurd (after.0 there.0) | inr later ↦ one_first Applies xs a b after.1 later.1 ]
+]
+
+-- ---- the outcome of a body
+
+-- a function that reads a body: it takes what is whole and nothing else, and where it fails gives the reason
+pub record IsJudge {A : Type 0} (IsWhole : List ℕ → A → Type 0) (HasFault : List ℕ → RejectReason → Type 0) (of : List ℕ → Result A RejectReason) : Type 0 where
+  pub takes : (body : List ℕ) (x : A) → of body ≡ Ok x → IsWhole body x
+  pub again : (body : List ℕ) (x : A) → IsWhole body x → of body ≡ Ok x
+  pub fails : (body : List ℕ) (reason : RejectReason) → of body ≡ Err reason → IsRejectReason HasFault body reason
+
+whole_where : {A : Type 0} (IsWhole : List ℕ → A → Type 0) (body : List ℕ) (read o : Result A RejectReason) → ((x : A) → read ≡ Ok x → IsWhole body x) → o ≡ read → IfOk o (IsWhole body)
+whole_where IsWhole body read (Ok x) takes e = takes x (sym e)
+whole_where IsWhole body read (Err reason) takes e = tt
+
+fault_where : {A : Type 0} (HasFault : List ℕ → RejectReason → Type 0) (body : List ℕ) (read o : Result A RejectReason) → ((reason : RejectReason) → read ≡ Err reason → IsRejectReason HasFault body reason) → o ≡ read → IfErr o (IsRejectReason HasFault body)
+fault_where HasFault body read (Ok x) fails e = tt
+fault_where HasFault body read (Err reason) fails e = fails reason (sym e)
+
+-- what is read is the outcome
+pub outcome_found : {A : Type 0} (IsWhole : List ℕ → A → Type 0) (HasFault : List ℕ → RejectReason → Type 0) (of : List ℕ → Result A RejectReason) → IsJudge IsWhole HasFault of → (body : List ℕ) (o : Result A RejectReason) → o ≡ of body → IsOutcome IsWhole HasFault body o
+outcome_found IsWhole HasFault of judge body o e = record {
+  whole = whole_where IsWhole body (of body) o (judge.takes body) e;
+  all = λ x s. e ∙ judge.again body x s;
+  rejected = fault_where HasFault body (of body) o (judge.fails body) e;
+}
+
+outcome_read : {A : Type 0} (IsWhole : List ℕ → A → Type 0) (HasFault : List ℕ → RejectReason → Type 0) (of : List ℕ → Result A RejectReason) → IsJudge IsWhole HasFault of → (body : List ℕ) (read o : Result A RejectReason) → of body ≡ read → IsOutcome IsWhole HasFault body o → read ≡ o
+outcome_read IsWhole HasFault of judge body read (Ok x) e is = sym e ∙ judge.again body x is.whole
+outcome_read IsWhole HasFault of judge body (Ok y) (Err reason) e is = absurd (ok_err (Err reason) y reason (is.all y (judge.takes body y e)) refl)
+outcome_read IsWhole HasFault of judge body (Err other) (Err reason) e is = ap Err (one_first (HasFault body) (OutOfRange ∷ TooMany ∷ MissingParameter ∷ InvalidTag ∷ []) other reason (judge.fails body other e) is.rejected)
+
+-- a body has one outcome
+pub outcome_is : {A : Type 0} (IsWhole : List ℕ → A → Type 0) (HasFault : List ℕ → RejectReason → Type 0) (of : List ℕ → Result A RejectReason) → IsJudge IsWhole HasFault of → (body : List ℕ) (o : Result A RejectReason) → (of body ≡ o) ↔ IsOutcome IsWhole HasFault body o
+outcome_is IsWhole HasFault of judge body o = (λ e. outcome_found IsWhole HasFault of judge body o (sym e), outcome_read IsWhole HasFault of judge body (of body) o refl)

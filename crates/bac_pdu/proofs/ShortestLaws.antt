@@ -1,0 +1,207 @@
+-- What is written of a body spells it, and no other spelling has fewer octets.
+use Rattle.std.proofs.Common.{◌≡◌, ℕ, zero, suc, ◌+◌, ◌^◌, ◌<◌, ◌≤◌, List, [], ◌∷◌, ◌++◌, length, Option, Some, None, refl, ap, subst, arith, inl, inr}
+use Rattle.std.specs.Prelude.{IfSome, OnOk, Result, Ok, Err, slice_index}
+use Rattle.std.specs.List.{AllByRecursion}
+use Rattle.std.proofs.Math.Nat.{pow-le-pow_right}
+use Rattle.std.proofs.lemmas.Bool.{cases_lt, lt-ltb}
+use Rattle.std.proofs.lemmas.List.{length-append}
+use Rattle.byteorder.specs.Endian.{big_number, big_bytes}
+use Rattle.byteorder.specs.Numbers.{big_from-lt, length-bytes_high_first}
+use Rattle.bac_wire.specs.Identifier.{Identifier, number_of}
+use Rattle.bac_wire.specs.Front.{AreOctets, IsShortest}
+use Rattle.bac_wire.specs.Tag.{SpellsTag, plain_number, plain_tag}
+use Rattle.bac_wire.specs.Region.{IsRegion, opening_tag, closing_tag}
+use Rattle.bac_wire.specs.Datum.{Datum, Spells, unsigned, enumerated, octet_count, plain, IsDatum}
+use Rattle.bac_wire.specs.Datum as values
+use Rattle.bac_wire.specs.Parameter.{context_tag, SpellsIn, IsNumber, IsObject, SpellsEnclosed, context_octets, number_octets, object_octets, enclosed_octets}
+use Rattle.bac_wire.proofs.PlainTag.{behind, tag_least}
+use Rattle.bac_wire.proofs.PlainDatum.{octet_count_cases}
+use Rattle.bac_pdu.specs.declared.discovery.WhoIs.{WhoIs}
+use Rattle.bac_pdu.specs.declared.discovery.WhoIs.TheVariants as limits
+use Rattle.bac_pdu.specs.Parameter.{Parameter, object, property, index, value, priority, IsParameter, SpellsParameter, SpellsTo, SpellsAll, optional, plain_parameter, plain_all}
+use Rattle.bac_pdu.specs.Property.{Reference, Answer, Order, reference_parameters, answer_parameters, order_parameters, IsPriority, IsReadBody, IsAckBody, IsWriteBody, read_octets, ack_octets, write_octets}
+use Rattle.bac_pdu.specs.Discovery.{Introduction, introduction_values, IsWhoIsBody, IsIAmBody, who_is_octets, i_am_octets}
+use Rattle.bac_pdu.specs.Failure.{IsErrorBody, error_octets}
+use Rattle.bac_pdu.proofs.SequenceLaws.{whole_spell}
+use Rattle.bac_pdu.proofs.RoundLaws.{parameters_spell, range_spells}
+
+-- ---- the fewest octets of a number
+
+more_octets : (i k n : ℕ) → 256 ^ i ≤ n → n < 256 ^ k → i < k
+more_octets i k n low high =
+    elim (cases_lt i k) [
+      | inl less ↦ less
+      | inr most ↦ let grows : 256 ^ k ≤ 256 ^ i = pow-le-pow_right (omega arith) most in absurd (omega arith)
+    ]
+
+octet_count_least : (k n : ℕ) → 1 ≤ k → n < 256 ^ k → octet_count n ≤ k
+octet_count_least k n low fits = octet_count_cases (λ j. j ≤ k) n
+    (λ h. low)
+    (λ l h. more_octets 1 k n l fits)
+    (λ l h. more_octets 2 k n l fits)
+    (λ l h. more_octets 3 k n l fits)
+    (λ l h. more_octets 4 k n l fits)
+    (λ l h. more_octets 5 k n l fits)
+    (λ l h. more_octets 6 k n l fits)
+    (λ l. more_octets 7 k n l fits)
+
+number_least : (contents : List ℕ) (n : ℕ) → AreOctets contents → IsNumber contents n → octet_count n ≤ length contents
+number_least contents n fit s =
+    let within : big_number (length contents) contents < 256 ^ length contents = big_from-lt 0 (length contents) contents fit in
+    let fits : n < 256 ^ length contents = rw s.2 within in
+    octet_count_least (length contents) n s.0 fits
+
+-- ---- parts of octets
+
+first_is : (front rest : List ℕ) (i : ℕ) → AreOctets (front ++ rest) → slice_index front i < 256
+first_is [] rest i fit = omega arith
+first_is (x ∷ front) rest zero fit = fit zero
+first_is (x ∷ front) rest (suc i) fit = first_is front rest i (λ j. fit (suc j))
+
+ahead : (front rest : List ℕ) → AreOctets (front ++ rest) → AreOctets front
+ahead front rest fit = λ i. first_is front rest i fit
+
+-- ---- a parameter
+
+-- the tag of a short content has no length octets
+short_tag : (number count : ℕ) → count < 5 → length (plain_tag (context_tag number count)) ≡ 1 + length (plain_number number)
+unfolding plain_tag
+short_tag number count short = rw (lt-ltb count 5 short) (omega (arith, length-append (plain_number number) []))
+
+context_least : (number : ℕ) (tag contents least : List ℕ) → AreOctets (tag ++ contents) → SpellsTag tag (context_tag number (length contents)) → length contents < 5 → length least ≤ length contents → length (context_octets number least) ≤ length (tag ++ contents)
+context_least number tag contents least fit s short le =
+    let tags = tag_least tag (context_tag number (length contents)) (ahead tag contents fit) s in
+    let one = short_tag number (length contents) short in
+    let other = short_tag number (length least) (omega arith) in
+    omega (arith, length-append tag contents, length-append (plain_tag (context_tag number (length least))) least)
+
+number_shortest : (number n : ℕ) (octets : List ℕ) → AreOctets octets → SpellsIn IsNumber number octets n → length (number_octets number n) ≤ length octets
+number_shortest number n octets fit s =
+    let fits : AreOctets (s.context.tag ++ s.contents) = subst AreOctets s.context.whole fit in
+    let le = number_least s.contents n (behind s.context.tag s.contents fits) s.stands in
+    let long = length-bytes_high_first (octet_count n) n in
+    let least = context_least number s.context.tag s.contents (big_bytes (octet_count n) n) fits s.context.tagged (omega (arith, s.stands.1)) (omega arith) in
+    omega (arith, ap length s.context.whole)
+
+object_shortest : (number : ℕ) (id : Identifier) (octets : List ℕ) → AreOctets octets → SpellsIn IsObject number octets id → length (object_octets number id) ≤ length octets
+object_shortest number id octets fit s =
+    let fits : AreOctets (s.context.tag ++ s.contents) = subst AreOctets s.context.whole fit in
+    let four = s.stands.0 in
+    let long = length-bytes_high_first 4 (number_of id) in
+    let least = context_least number s.context.tag s.contents (big_bytes 4 (number_of id)) fits s.context.tagged (omega arith) (omega arith) in
+    omega (arith, ap length s.context.whole)
+
+enclosed_shortest : (number : ℕ) (region octets : List ℕ) → AreOctets octets → SpellsEnclosed number octets region → length (enclosed_octets number region) ≤ length octets
+enclosed_shortest number region octets fit s =
+    let fits : AreOctets (s.opening ++ s.behind) = subst AreOctets s.whole fit in
+    let inner : AreOctets (region ++ s.closed.closing) = subst AreOctets s.closed.whole (behind s.opening s.behind fits) in
+    let opening = tag_least s.opening (opening_tag number) (ahead s.opening s.behind fits) s.opened in
+    let closing = tag_least s.closed.closing (closing_tag number) (behind region s.closed.closing inner) s.closed.closed in
+    omega (arith, ap length s.whole, ap length s.closed.whole, length-append s.opening s.behind, length-append region s.closed.closing, length-append (plain_tag (opening_tag number)) (region ++ plain_tag (closing_tag number)), length-append region (plain_tag (closing_tag number)))
+
+parameter_least : (p : Parameter) (octets : List ℕ) → AreOctets octets → SpellsParameter octets p → length (plain_parameter p) ≤ length octets
+unfolding plain_parameter
+parameter_least (object id) octets fit s = object_shortest 0 id octets fit s
+parameter_least (property n) octets fit s = number_shortest 1 n octets fit s
+parameter_least (index n) octets fit s = number_shortest 2 n octets fit s
+parameter_least (priority n) octets fit s = number_shortest 4 n octets fit s
+parameter_least (value region) octets fit s = enclosed_shortest 3 region octets fit s
+
+-- ---- one after the other
+
+-- things of which each is written in the fewest octets
+all_least : {A : Type 0} (Spells : List ℕ → A → Type 0) (plain : A → List ℕ) (Is : A → Type 0) → ((x : A) (octets : List ℕ) → Is x → AreOctets octets → Spells octets x → length (plain x) ≤ length octets) → (xs : List A) (octets rest : List ℕ) → AllByRecursion Is xs → AreOctets octets → SpellsTo Spells octets xs rest
+    → length (plain_all plain xs) + length rest ≤ length octets
+all_least Spells plain Is least [] octets rest h fit s = omega (arith, ap length s)
+all_least Spells plain Is least (x ∷ xs) octets rest h fit s =
+    let fits : AreOctets (s.1.front ++ s.0) = subst AreOctets s.1.whole fit in
+    let first = least x s.1.front h.0 (ahead s.1.front s.0 fits) s.1.spelled in
+    let others = all_least Spells plain Is least xs s.0 rest h.1 (behind s.1.front s.0 fits) s.2 in
+    omega (arith, ap length s.1.whole, length-append s.1.front s.0, length-append (plain x) (plain_all plain xs))
+
+parameters_least : (ps : List Parameter) (body : List ℕ) → AllByRecursion IsParameter ps → AreOctets body → SpellsTo SpellsParameter body ps [] → length (plain_all plain_parameter ps) ≤ length body
+parameters_least ps body h fit s =
+    let all = all_least SpellsParameter plain_parameter IsParameter (λ p octets is fit s. parameter_least p octets fit s) ps body [] h fit s in
+    omega arith
+
+-- the value is written in the fewest octets
+abbrev pub IsWritten : Datum → Type 0
+IsWritten datum = IsShortest Spells (plain datum) datum
+
+values_spell : (xs : List Datum) → AllByRecursion IsWritten xs → SpellsAll Spells (plain_all plain xs) xs
+values_spell xs h = whole_spell Spells plain IsWritten (λ x is. is.spelled) xs h
+
+values_least : (xs : List Datum) (body rest : List ℕ) → AllByRecursion IsWritten xs → AreOctets body → SpellsTo Spells body xs rest → length (plain_all plain xs) ≤ length body
+values_least xs body rest h fit s =
+    let all = all_least Spells plain IsWritten (λ x octets is fit s. is.shortest octets fit s) xs body rest h fit s in
+    omega arith
+
+-- ---- the bodies
+
+pub read_shortest : (r : Reference) → AllByRecursion IsParameter (reference_parameters r) → IsShortest IsReadBody (read_octets r) r
+read_shortest r h = record { spelled = parameters_spell (reference_parameters r) h; shortest = λ other fit s. parameters_least (reference_parameters r) other h fit s }
+
+pub ack_shortest : (a : Answer) → AllByRecursion IsParameter (answer_parameters a) → IsShortest IsAckBody (ack_octets a) a
+ack_shortest a h = record { spelled = parameters_spell (answer_parameters a) h; shortest = λ other fit s. parameters_least (answer_parameters a) other h fit s }
+
+pub write_shortest : (o : Order) → AllByRecursion IsParameter (order_parameters o) → IfSome o.priority IsPriority → IsShortest IsWriteBody (write_octets o) o
+write_shortest o h urgent = record { spelled = record { spelled = parameters_spell (order_parameters o) h; urgent = urgent }; shortest = λ other fit s. parameters_least (order_parameters o) other h fit s.spelled }
+
+-- the limits that there are
+abbrev pub HasLimits : WhoIs → Type 0
+HasLimits limits.All = Unit {0}
+HasLimits (limits.Range low high) = (low < 2 ^ 32) × (high < 2 ^ 32)
+
+range_least : (low high : ℕ) (body : List ℕ) → AreOctets body → IsWhoIsBody body (limits.Range low high) → length (who_is_octets (limits.Range low high)) ≤ length body
+range_least low high body fit s =
+    let fits : AreOctets (s.1.front ++ s.0) = subst AreOctets s.1.whole fit in
+    let inner : AreOctets (s.2.1.front ++ s.2.0) = subst AreOctets s.2.1.whole (behind s.1.front s.0 fits) in
+    let first = number_shortest 0 low s.1.front (ahead s.1.front s.0 fits) s.1.spelled in
+    let second = number_shortest 1 high s.2.1.front (ahead s.2.1.front s.2.0 inner) s.2.1.spelled in
+    omega (arith, ap length s.1.whole, ap length s.2.1.whole, length-append s.1.front s.0, length-append s.2.1.front s.2.0, length-append (number_octets 0 low) (number_octets 1 high))
+
+pub who_is_shortest : (w : WhoIs) → HasLimits w → IsShortest IsWhoIsBody (who_is_octets w) w
+who_is_shortest limits.All h = record { spelled = refl; shortest = λ other fit s. omega arith }
+who_is_shortest (limits.Range low high) h = record { spelled = range_spells low high h.0 h.1; shortest = λ other fit s. range_least low high other fit s }
+
+pub i_am_shortest : (i : Introduction) → i.device.kind ≡ 8 → IsWritten (values.object i.device) → IsWritten (unsigned i.max_apdu) → IsWritten (enumerated i.segmentation) → IsWritten (unsigned i.vendor) → IsShortest IsIAmBody (i_am_octets i) i
+i_am_shortest i device a b c d =
+    let all : AllByRecursion IsWritten (introduction_values i) = (a, (b, (c, (d, tt)))) in
+    record { spelled = record { device = device; spelled = values_spell (introduction_values i) all }; shortest = λ other fit s. values_least (introduction_values i) other [] all fit s.spelled }
+
+pub error_shortest : (class code : ℕ) → IsWritten (enumerated class) → IsWritten (enumerated code) → IsShortest IsErrorBody (error_octets class code) (class, code)
+error_shortest class code a b =
+    let all : AllByRecursion IsWritten (enumerated class ∷ enumerated code ∷ []) = (a, (b, tt)) in
+    record { spelled = ([], values_spell (enumerated class ∷ enumerated code ∷ []) all); shortest = λ other fit s. values_least (enumerated class ∷ enumerated code ∷ []) other s.0 all fit s.1 }
+
+-- ---- the parameters of a request
+
+optional_is : (number : ℕ → Parameter) (i : Option ℕ) → ((n : ℕ) → n < 2 ^ 32 → IsParameter (number n)) → IfSome i (λ n. n < 2 ^ 32) → AllByRecursion IsParameter (optional number i)
+optional_is number None is h = tt
+optional_is number (Some n) is h = (is n h, tt)
+
+all_append : {A : Type 0} (Is : A → Type 0) (xs ys : List A) → AllByRecursion Is xs → AllByRecursion Is ys → AllByRecursion Is (xs ++ ys)
+all_append Is [] ys h k = k
+all_append Is (x ∷ xs) ys h k = (h.0, all_append Is xs ys h.1 k)
+
+-- what is written of an answer
+pub ack_is_written : (a : Answer) → AllByRecursion IsParameter (reference_parameters a.reference) → IsRegion 32 a.value → IsShortest IsAckBody (ack_octets a) a
+ack_is_written a named region = ack_shortest a (all_append IsParameter (reference_parameters a.reference) (value a.value ∷ []) named (region, tt))
+
+urgent_is : (p : Option ℕ) → IfSome p IsPriority → IfSome p (λ n. n < 2 ^ 32)
+urgent_is None h = tt
+urgent_is (Some n) h = omega (arith, h.1)
+
+-- what is written of an order
+pub order_is_written : (o : Order) → AllByRecursion IsParameter (reference_parameters o.reference) → IsRegion 32 o.value → IfSome o.priority IsPriority → IsShortest IsWriteBody (write_octets o) o
+order_is_written o named region urgent = write_shortest o (all_append IsParameter (reference_parameters o.reference) (value o.value ∷ optional priority o.priority) named (region, optional_is priority o.priority (λ n fits. fits) (urgent_is o.priority urgent))) urgent
+
+-- where there are no limits
+pub no_limits_shortest : (w : WhoIs) → ((low high : ℕ) → w ≡ limits.Range low high → ⊥) → IsShortest IsWhoIsBody (who_is_octets w) w
+no_limits_shortest limits.All none = who_is_shortest limits.All tt
+no_limits_shortest (limits.Range low high) none = absurd (none low high refl)
+
+-- whatever was answered
+pub on_any : {T E : Type 0} (result : Result T E) (P : Type 0) → P → OnOk result P
+on_any (Ok x) P p = p
+on_any (Err e) P p = tt

@@ -1,0 +1,56 @@
+-- Reading an APDU from left to right.
+use Rattle.std.specs.Prelude.{ℕ, ◌/◌, ◌%◌, ◌==◌, Bool, true, false, if◌then◌else◌, List, [], ◌∷◌, Option, Some, None}
+use Rattle.bac_wire.specs.TagReading.{◌>>=◌}
+use Rattle.bac_pdu.specs.declared.apdu.Part.{Part}
+use Rattle.bac_pdu.specs.Bits.{bit}
+use Rattle.bac_pdu.specs.Apdu.{Message, confirmed, unconfirmed, simple_ack, complex_ack, segment_ack, error, reject, abort}
+
+-- the part where there is one, and the octets behind it
+abbrev pub part_at : ℕ → List ℕ → Bool → Option (Option Part × List ℕ)
+part_at first octets false = Some (None, octets)
+part_at first [] true = None
+part_at first (sequence ∷ []) true = None
+part_at first (sequence ∷ window ∷ octets) true = Some (Some (record { more = bit 2 first; sequence = sequence; window = window }), octets)
+
+abbrev pub service_at : List ℕ → Option (ℕ × List ℕ)
+service_at [] = None
+service_at (service ∷ body) = Some (service, body)
+
+-- the part, the service and the body
+unfoldable pub parts_at : ℕ → List ℕ → Option (Option Part × ℕ × List ℕ)
+parts_at first octets = do
+  part ← part_at first octets (bit 3 first)
+  service ← service_at part.1
+  Some (part.0, service.0, service.1)
+
+abbrev pub confirmed_of : ℕ → List ℕ → Option Message
+confirmed_of first (second ∷ id ∷ octets) = parts_at first octets >>= (λ x. Some (confirmed x.0 (second % 16) id x.1 x.2))
+confirmed_of first _ = None
+
+abbrev pub unconfirmed_of : List ℕ → Option Message
+unconfirmed_of (service ∷ body) = Some (unconfirmed service body)
+unconfirmed_of _ = None
+
+abbrev pub complex_ack_of : ℕ → List ℕ → Option Message
+complex_ack_of first (id ∷ octets) = parts_at first octets >>= (λ x. Some (complex_ack x.0 id x.1 x.2))
+complex_ack_of first _ = None
+
+-- the kinds that are an invoke id and one octet more; an Error has a body behind them
+abbrev pub numbered_of : ℕ → List ℕ → Option Message
+numbered_of first (id ∷ octet ∷ rest) =
+    if first / 16 == 2 then Some (simple_ack id octet)
+    else if first / 16 == 5 then Some (error id octet rest)
+    else if first / 16 == 6 then Some (reject id octet)
+    else if first / 16 == 7 then Some (abort (bit 0 first) id octet)
+    else None
+numbered_of first _ = None
+
+-- the APDU that a list of octets is
+unfoldable pub apdu_of : List ℕ → Option Message
+apdu_of [] = None
+apdu_of (first ∷ octets) =
+    if first / 16 == 0 then confirmed_of first octets
+    else if first / 16 == 1 then unconfirmed_of octets
+    else if first / 16 == 3 then complex_ack_of first octets
+    else if first / 16 == 4 then Some segment_ack
+    else numbered_of first octets

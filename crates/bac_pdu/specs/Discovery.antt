@@ -1,0 +1,47 @@
+-- The bodies of Who-Is and I-Am (clauses 16.10 and 21).
+use Rattle.std.specs.Prelude.{◌≡◌, ℕ, List, [], ◌∷◌, ◌++◌}
+use Rattle.bac_wire.specs.Identifier.{Identifier, identifier}
+use Rattle.bac_wire.specs.Datum.{Datum, unsigned, enumerated, Spells, plain}
+use Rattle.bac_wire.specs.Datum as values
+use Rattle.bac_wire.specs.Parameter.{SpellsIn, IsNumber, number_octets}
+use Rattle.bac_pdu.specs.declared.discovery.IAm.{IAm}
+use Rattle.bac_pdu.specs.declared.discovery.WhoIs.{WhoIs}
+use Rattle.bac_pdu.specs.declared.discovery.WhoIs.TheVariants as limits
+use Rattle.bac_pdu.specs.Parameter.{SpellsAll, plain_all}
+
+-- a number under a context tag, named first
+abbrev pub SpellsNumbered : List ℕ → ℕ × ℕ → Type 0
+SpellsNumbered octets x = SpellsIn IsNumber x.0 octets x.1
+
+-- nothing, or the low limit under tag 0 and the high one under tag 1
+abbrev pub IsWhoIsBody : List ℕ → WhoIs → Type 0
+IsWhoIsBody body limits.All = body ≡ []
+IsWhoIsBody body (limits.Range low high) = SpellsAll SpellsNumbered body ((0, low) ∷ (1, high) ∷ [])
+
+-- a device, the APDU that it takes, its segmentation and its vendor
+pub record Introduction : Type 0 where
+  pub device : Identifier
+  pub max_apdu : ℕ
+  pub segmentation : ℕ
+  pub vendor : ℕ
+
+abbrev pub introduction : IAm → Introduction
+introduction i = record { device = identifier i.device; max_apdu = i.max_apdu; segmentation = i.segmentation; vendor = i.vendor }
+
+-- the values in their order
+abbrev pub introduction_values : Introduction → List Datum
+introduction_values i = values.object i.device ∷ unsigned i.max_apdu ∷ enumerated i.segmentation ∷ unsigned i.vendor ∷ []
+
+-- four application-tagged values, of which the first names an object of type 8, a device
+pub record IsIAmBody (body : List ℕ) (i : Introduction) : Type 0 where
+  pub device : i.device.kind ≡ 8
+  pub spelled : SpellsAll Spells body (introduction_values i)
+
+-- ---- the form that is written
+
+abbrev pub who_is_octets : WhoIs → List ℕ
+who_is_octets limits.All = []
+who_is_octets (limits.Range low high) = number_octets 0 low ++ number_octets 1 high
+
+abbrev pub i_am_octets : Introduction → List ℕ
+i_am_octets i = plain_all plain (introduction_values i)

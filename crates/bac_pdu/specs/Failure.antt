@@ -1,0 +1,11 @@
+-- The body of an Error (clauses 18 and 21).
+use Rattle.std.specs.Prelude.{ℕ, List, [], ◌∷◌}
+use Rattle.bac_wire.specs.Datum.{enumerated, Spells, plain}
+use Rattle.bac_pdu.specs.Parameter.{SpellsTo, plain_all}
+
+-- the class and the code at the front; what follows is not looked at
+abbrev pub IsErrorBody : List ℕ → ℕ × ℕ → Type 0
+IsErrorBody body x = (rest : List ℕ) × SpellsTo Spells body (enumerated x.0 ∷ enumerated x.1 ∷ []) rest
+
+abbrev pub error_octets : ℕ → ℕ → List ℕ
+error_octets class code = plain_all plain (enumerated class ∷ enumerated code ∷ [])

@@ -1,0 +1,14 @@
+pub mod Bits
+pub mod Peer
+pub mod Header
+pub mod Datagram
+pub mod DatagramReading
+pub mod Apdu
+pub mod ApduReading
+pub mod Parameter
+pub mod Property
+pub mod Reject
+pub mod PropertyReading
+pub mod Discovery
+pub mod Failure
+pub mod ValueReading

@@ -1,0 +1,73 @@
+-- The bodies of ReadProperty, its answer and WriteProperty: their parameters in their order (clauses 15.5, 15.9 and 21).
+use Rattle.std.specs.Prelude.{ℕ, ◌≤◌, List, [], ◌∷◌, ◌++◌, Option, IfSome}
+use Rattle.bac_wire.specs.Identifier.{Identifier, identifier}
+use Rattle.bac_pdu.specs.declared.property.ReadRequest.{ReadRequest}
+use Rattle.bac_pdu.specs.declared.property.WriteRequest.{WriteRequest}
+use Rattle.bac_pdu.specs.declared.property.Ack.{Ack}
+use Rattle.bac_pdu.specs.Parameter.{Parameter, object, property, index, value, priority, SpellsParameter, SpellsAll, optional, plain_parameter, plain_all}
+
+-- which property of which object, or which element of it
+pub record Reference : Type 0 where
+  pub object : Identifier
+  pub property : ℕ
+  pub index : Option ℕ
+
+-- a property and its value
+pub record Answer : Type 0 where
+  pub reference : Reference
+  pub value : List ℕ
+
+-- a property, the value that it shall have, and how urgent that is
+pub record Order : Type 0 where
+  pub reference : Reference
+  pub value : List ℕ
+  pub priority : Option ℕ
+
+-- ---- the records of the code, without where their octets lie in memory
+
+abbrev pub reference : ReadRequest → Reference
+reference r = record { object = identifier r.object; property = r.property; index = r.index }
+
+abbrev pub answer : Ack → Answer
+answer a = record { reference = record { object = identifier a.object; property = a.property; index = a.index }; value = a.value.now }
+
+abbrev pub order : WriteRequest → Order
+order w = record { reference = record { object = identifier w.object; property = w.property; index = w.index }; value = w.value.now; priority = w.priority }
+
+-- ---- the parameters in their order
+
+abbrev pub reference_parameters : Reference → List Parameter
+reference_parameters r = object r.object ∷ property r.property ∷ optional index r.index
+
+abbrev pub answer_parameters : Answer → List Parameter
+answer_parameters a = reference_parameters a.reference ++ value a.value ∷ []
+
+abbrev pub order_parameters : Order → List Parameter
+order_parameters o = reference_parameters o.reference ++ value o.value ∷ optional priority o.priority
+
+-- ---- the bodies
+
+abbrev pub IsReadBody : List ℕ → Reference → Type 0
+IsReadBody body r = SpellsAll SpellsParameter body (reference_parameters r)
+
+abbrev pub IsAckBody : List ℕ → Answer → Type 0
+IsAckBody body a = SpellsAll SpellsParameter body (answer_parameters a)
+
+-- the priorities of a write: 1 is the most urgent (clause 19.2)
+abbrev pub IsPriority : ℕ → Type 0
+IsPriority n = (1 ≤ n) × (n ≤ 16)
+
+pub record IsWriteBody (body : List ℕ) (o : Order) : Type 0 where
+  pub spelled : SpellsAll SpellsParameter body (order_parameters o)
+  pub urgent : IfSome o.priority IsPriority
+
+-- ---- the form that is written
+
+abbrev pub read_octets : Reference → List ℕ
+read_octets r = plain_all plain_parameter (reference_parameters r)
+
+abbrev pub ack_octets : Answer → List ℕ
+ack_octets a = plain_all plain_parameter (answer_parameters a)
+
+abbrev pub write_octets : Order → List ℕ
+write_octets o = plain_all plain_parameter (order_parameters o)

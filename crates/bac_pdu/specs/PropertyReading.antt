@@ -1,0 +1,68 @@
+-- Reading the body of ReadProperty, of its answer or of WriteProperty from left to right.
+use Rattle.std.specs.Prelude.{ℕ, nat_lt, Bool, true, ◌&&◌, if◌then◌else◌, List, [], ◌∷◌, Option, Some, None, Result, Ok, Err}
+use Rattle.std.specs.Result.{result_ok}
+use Rattle.bac_wire.specs.TagReading.{◌>>=◌}
+use Rattle.bac_wire.specs.ParameterReading.{number_at, object_at, enclosed_at}
+use Rattle.bac_pdu.specs.declared.reject.RejectReason.{RejectReason}
+use Rattle.bac_pdu.specs.declared.reject.RejectReason.TheVariants.{InvalidTag, MissingParameter, OutOfRange, TooMany}
+use Rattle.bac_pdu.specs.Property.{Reference, Answer, Order}
+
+-- what was read and the octets behind it, or nothing and all octets
+abbrev pub or_none : {A : Type 0} → List ℕ → Option (A × List ℕ) → Option A × List ℕ
+or_none octets None = (None, octets)
+or_none octets (Some x) = (Some x.0, x.1)
+
+-- a number under this tag where there is one
+abbrev pub optional_at : ℕ → List ℕ → Option ℕ × List ℕ
+optional_at number octets = or_none octets (number_at number octets)
+
+abbrev pub and_then : {A B : Type 0} → Result A RejectReason → (A → Result B RejectReason) → Result B RejectReason
+and_then (Ok x) f = f x
+and_then (Err reason) f = Err reason
+
+abbrev pub or_invalid : {A : Type 0} → Option A → Result A RejectReason
+or_invalid None = Err InvalidTag
+or_invalid (Some x) = Ok x
+
+-- what is read where octets are left, which they have to be
+abbrev pub needs : {A : Type 0} → List ℕ → Option A → Result A RejectReason
+needs [] found = Err MissingParameter
+needs (x ∷ xs) found = or_invalid found
+
+unfoldable pub reference_at : List ℕ → Result (Reference × List ℕ) RejectReason
+reference_at body =
+    and_then (needs body (object_at 0 body)) (λ object.
+    and_then (needs object.1 (number_at 1 object.1)) (λ property.
+    Ok (record { object = object.0; property = property.0; index = (optional_at 2 property.1).0 }, (optional_at 2 property.1).1)))
+
+-- the record, where nothing is left
+abbrev pub ended : {A : Type 0} → A → List ℕ → Result A RejectReason
+ended x [] = Ok x
+ended x (_ ∷ _) = Err TooMany
+
+-- what the body of a ReadProperty asks for, or why it is rejected
+unfoldable pub read_of : List ℕ → Result Reference RejectReason
+read_of body = and_then (reference_at body) (λ r. ended r.0 r.1)
+
+abbrev pub is_priority : Option ℕ → Bool
+is_priority None = true
+is_priority (Some n) = nat_lt 0 n && nat_lt n 17
+
+-- what the body of a WriteProperty orders, or why it is rejected
+unfoldable pub write_of : List ℕ → Result Order RejectReason
+write_of body =
+    and_then (reference_at body) (λ r.
+    and_then (needs r.1 (enclosed_at 3 r.1)) (λ value.
+    and_then (ended (optional_at 4 value.1).0 (optional_at 4 value.1).1) (λ priority.
+    if is_priority priority then Ok (record { reference = r.0; value = value.0; priority = priority }) else Err OutOfRange)))
+
+abbrev pub whole_of : {A : Type 0} → A → List ℕ → Option A
+whole_of x [] = Some x
+whole_of x (_ ∷ _) = None
+
+-- the answer that the body of a ReadProperty-ACK is
+unfoldable pub ack_of : List ℕ → Option Answer
+ack_of body = do
+  r ← result_ok (reference_at body)
+  value ← enclosed_at 3 r.1
+  whole_of (record { reference = r.0; value = value.0 }) value.1

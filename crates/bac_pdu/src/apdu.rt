@@ -1,0 +1,267 @@
+ghost use Rattle.std.specs.Prelude.{◌≡◌, ◌<◌, ◌+◌, ◌++◌, [], ◌∷◌, length, OnOk, OnErr};
+ghost use Rattle.std.specs.Option.{option_map};
+ghost use Rattle.bac_pdu.specs.Datagram.{IsFound};
+ghost use Rattle.bac_pdu.specs.Apdu.{message, IsLaidOut, laid_out, part_flags, part_octets, IsWritable, announced_size};
+ghost use Rattle.bac_pdu.specs.ApduReading.{confirmed_of, complex_ack_of, numbered_of, parts_at, apdu_of};
+
+use crate::bits::has_bit;
+use arrayvec::ArrayVec;
+use bac_wire::{FRAME_OCTETS, Frame, Full};
+
+/// Where an APDU stands among the parts of a longer message (clause 5.2).
+#[derive(Clone, Copy, Debug, PartialEq, Eq)]
+pub struct Part {
+    /// Whether more parts follow.
+    pub more: bool,
+    pub sequence: u8,
+    pub window: u8,
+}
+
+/// An APDU (clause 20.1). `id` is the invoke id, `service` the number of the service choice.
+///
+/// A `part` stands where the APDU is one of several; `code` is that of the greatest APDU that the requester takes.
+#[derive(Clone, Copy, Debug, PartialEq, Eq)]
+pub enum Apdu<'a> {
+    Confirmed {
+        part: Option<Part>,
+        code: u8,
+        id: u8,
+        service: u8,
+        body: &'a [u8],
+    },
+    Unconfirmed {
+        service: u8,
+        body: &'a [u8],
+    },
+    SimpleAck {
+        id: u8,
+        service: u8,
+    },
+    ComplexAck {
+        part: Option<Part>,
+        id: u8,
+        service: u8,
+        body: &'a [u8],
+    },
+    /// Its contents are not looked at.
+    SegmentAck,
+    Error {
+        id: u8,
+        service: u8,
+        body: &'a [u8],
+    },
+    Reject {
+        id: u8,
+        reason: u8,
+    },
+    Abort {
+        /// Whether the one who answers sent it.
+        server: bool,
+        id: u8,
+        reason: u8,
+    },
+}
+
+/// The APDU that the octets are. None where they are none, where the type is unknown, or where the layout is cut.
+///
+/// Bits and octets that the layout of the type does not name are not looked at.
+#[tactic(auto, unfolding(crate::specs::ApduReading::apdu_of))]
+pub fn read_apdu(octets: &[u8]) -> Option<Apdu<'_>>
+    ensures value { option_map message result ≡ apdu_of octets.now }
+    ensures whole { IsFound IsLaidOut octets.now (option_map message result) }
+{
+    let [first, rest @ ..] = octets else {
+        return None;
+    };
+    match *first >> 4 {
+        0 => read_confirmed(*first, rest),
+        1 => match rest {
+            [service, body @ ..] => Some(Apdu::Unconfirmed {
+                service: *service,
+                body,
+            }),
+            _ => None,
+        },
+        3 => read_complex_ack(*first, rest),
+        4 => Some(Apdu::SegmentAck),
+        2 | 5..=7 => read_numbered(*first, rest),
+        _ => None,
+    }
+}
+
+/// A SimpleACK, an Error, a Reject or an Abort: an invoke id, one octet more, and for an Error its body.
+fn read_numbered(first: u8, octets: &[u8]) -> Option<Apdu<'_>>
+    ensures { option_map message result ≡ numbered_of first octets.now }
+{
+    let [id, octet, rest @ ..] = octets else {
+        return None;
+    };
+    let (id, octet) = (*id, *octet);
+    match first >> 4 {
+        2 => Some(Apdu::SimpleAck { id, service: octet }),
+        5 => Some(Apdu::Error {
+            id,
+            service: octet,
+            body: rest,
+        }),
+        6 => Some(Apdu::Reject { id, reason: octet }),
+        7 => Some(Apdu::Abort {
+            server: has_bit(0, first),
+            id,
+            reason: octet,
+        }),
+        _ => None,
+    }
+}
+
+/// The rest of a Confirmed-Request.
+fn read_confirmed(first: u8, octets: &[u8]) -> Option<Apdu<'_>>
+    ensures { option_map message result ≡ confirmed_of first octets.now }
+{
+    let [second, id, rest @ ..] = octets else {
+        return None;
+    };
+    let (part, service, body) = read_parts(first, rest)?;
+    Some(Apdu::Confirmed {
+        part,
+        code: *second & 15,
+        id: *id,
+        service,
+        body,
+    })
+}
+
+/// The rest of a ComplexACK.
+fn read_complex_ack(first: u8, octets: &[u8]) -> Option<Apdu<'_>>
+    ensures { option_map message result ≡ complex_ack_of first octets.now }
+{
+    let [id, rest @ ..] = octets else {
+        return None;
+    };
+    let (part, service, body) = read_parts(first, rest)?;
+    Some(Apdu::ComplexAck {
+        part,
+        id: *id,
+        service,
+        body,
+    })
+}
+
+/// The part, the service and the body.
+#[tactic(auto, unfolding(crate::specs::ApduReading::parts_at))]
+fn read_parts(first: u8, octets: &[u8]) -> Option<(Option<Part>, u8, &[u8])>
+    ensures { option_map (λ x. (x.0, x.1, x.2.now)) result ≡ parts_at first octets.now }
+{
+    if !has_bit(3, first) {
+        let [service, body @ ..] = octets else {
+            return None;
+        };
+        return Some((None, *service, body));
+    }
+    let [sequence, window, service, body @ ..] = octets else {
+        return None;
+    };
+    let part = Part {
+        more: has_bit(2, first),
+        sequence: *sequence,
+        window: *window,
+    };
+    Some((Some(part), *service, body))
+}
+
+/// Appends the APDU, with 0 in each bit that is not looked at. `Full`, with the frame unchanged, only where there is no
+/// room for it.
+pub fn write_apdu(frame: &mut Frame, apdu: &Apdu<'_>) -> Result<(), Full>
+    requires { IsWritable (message apdu.now) }
+    ensures ok { OnOk result (frame.new ≡ frame.old ++ laid_out (message apdu.now)) }
+    ensures full { OnErr result (FRAME_OCTETS < length frame.old + length (laid_out (message apdu.now))) }
+    ensures err { OnErr result (frame.new ≡ frame.old) }
+{
+    match apdu {
+        Apdu::Confirmed {
+            part,
+            code,
+            id,
+            service,
+            body,
+        } => {
+            let head = head_of(&[flags_of(*part), *code, *id], *part, *service);
+            append_both(frame, head.as_slice(), body)
+        }
+        Apdu::Unconfirmed { service, body } => append_both(frame, &[0x10, *service], body),
+        Apdu::SimpleAck { id, service } => frame.append(&[0x20, *id, *service]),
+        Apdu::ComplexAck {
+            part,
+            id,
+            service,
+            body,
+        } => {
+            let head = head_of(&[0x30 + flags_of(*part), *id], *part, *service);
+            append_both(frame, head.as_slice(), body)
+        }
+        // The condition leaves this kind out.
+        Apdu::SegmentAck => Ok(()),
+        Apdu::Error { id, service, body } => append_both(frame, &[0x50, *id, *service], body),
+        Apdu::Reject { id, reason } => frame.append(&[0x60, *id, *reason]),
+        Apdu::Abort { server, id, reason } => frame.append(&[
+            0x70 + u8::from(*server),
+            *id,
+            *reason,
+        ]),
+    }
+}
+
+fn flags_of(part: Option<Part>) -> u8
+    ensures value { result ≡ part_flags part }
+    ensures fits { result < 16 }
+{
+    match part {
+        Some(Part { more: true, .. }) => 12,
+        Some(Part { more: false, .. }) => 8,
+        None => 0,
+    }
+}
+
+/// What stands before the body of a message that can have a part.
+fn head_of(begin: &[u8], part: Option<Part>, service: u8) -> ArrayVec<u8, 6>
+    requires { length begin.now < 4 }
+    ensures value { result.items ≡ begin.now ++ (part_octets part ++ service ∷ []) }
+{
+    let mut head = ArrayVec::new();
+    let _ = head.try_extend_from_slice(begin);
+    if let Some(part) = part {
+        head.push(part.sequence);
+        head.push(part.window);
+    }
+    head.push(service);
+    head
+}
+
+/// Appends the head and the body, or nothing.
+fn append_both(frame: &mut Frame, head: &[u8], body: &[u8]) -> Result<(), Full>
+    ensures ok { OnOk result (frame.new ≡ frame.old ++ (head.now ++ body.now)) }
+    ensures full { OnErr result (FRAME_OCTETS < length frame.old + length (head.now ++ body.now)) }
+    ensures err { OnErr result (frame.new ≡ frame.old) }
+{
+    let start = frame.len();
+    frame.append(head)?;
+    let appended = frame.append(body);
+    if appended.is_err() {
+        frame.truncate(start);
+    }
+    appended
+}
+
+/// The octets of the greatest APDU that a code announces (clause 20.1.2.5), by its low four bits. Codes above 5 are taken as 0.
+pub fn announced(code: u8) -> u16
+    ensures { result ≡ announced_size code }
+{
+    match code & 15 {
+        1 => 128,
+        2 => 206,
+        3 => 480,
+        4 => 1024,
+        5 => 1476,
+        _ => 50,
+    }
+}

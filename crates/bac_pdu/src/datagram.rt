@@ -1,0 +1,122 @@
+ghost use Rattle.std.specs.Prelude.{◌≡◌, ◌<◌, length, OnOk, OnErr};
+ghost use Rattle.std.specs.Option.{option_map};
+ghost use Rattle.bac_pdu.specs.Peer.{station};
+ghost use Rattle.bac_pdu.specs.Datagram.{delivery, Carries, IsFound, Takes, wrapped};
+ghost use Rattle.bac_pdu.specs.DatagramReading.{link_at, carried};
+
+use crate::header::{header_and_rest, network_header};
+use crate::peer::Peer;
+use crate::route::Route;
+use bac_wire::{FRAME_OCTETS, Frame, Full};
+use byteorder::{BigEndian, ByteOrder};
+
+/// What a datagram carries.
+#[derive(Clone, Copy, Debug, PartialEq, Eq)]
+pub struct Carried<'a> {
+    /// Who sent it, and whom a reply is for.
+    pub peer: Peer,
+    /// Whether it was sent to more than one station.
+    pub broadcast: bool,
+    pub apdu: &'a [u8],
+}
+
+/// The type of each BACnet/IP datagram.
+const BACNET_IP: u8 = 0x81;
+
+// The functions that are read (Annex J.2).
+const UNICAST: u8 = 0x0a;
+
+const BROADCAST: u8 = 0x0b;
+
+const FORWARDED: u8 = 0x04;
+
+const ALL_NETWORKS: u16 = 0xffff;
+
+/// What the datagram that came from this address and port carries (Annex J and clause 6).
+///
+/// The peer is `from`, or the originator that a Forwarded-NPDU names, with the source of the network header as its route;
+/// the route of `from` is not looked at. None where the datagram is ignored: a link header that is cut, of another type
+/// or function, or with a length that is not the datagram's; a network header that is cut, of another version or a message
+/// of the network layer; a destination other than all networks; a source that no route leads to.
+#[tactic(auto, unfolding(crate::specs::DatagramReading::carried))]
+pub fn open_datagram(from: Peer, datagram: &[u8]) -> Option<Carried<'_>>
+    ensures value { option_map delivery result ≡ carried (station from) datagram.now }
+    ensures whole { IsFound (Carries (station from)) datagram.now (option_map delivery result) }
+{
+    let (sender, to_all, rest) = origin_and_rest(from, datagram)?;
+    let (header, apdu) = header_and_rest(rest)?;
+    if header
+        .destination
+        .is_some_and(|to| to.network != ALL_NETWORKS)
+    {
+        return None;
+    }
+    let route = match header.source {
+        Some(source) => Some(Route::new(source.network, source.address)?),
+        None => None,
+    };
+    Some(Carried {
+        peer: Peer {
+            ip: sender.ip,
+            port: sender.port,
+            route,
+        },
+        broadcast: to_all || header.destination.is_some(),
+        apdu,
+    })
+}
+
+/// Who sent the datagram, whether to all, and the octets behind the link header.
+#[tactic(auto, unfolding(crate::specs::DatagramReading::link_at))]
+fn origin_and_rest(from: Peer, datagram: &[u8]) -> Option<(Peer, bool, &[u8])>
+    ensures { option_map (λ x. ((station x.0, x.1), x.2.now)) result ≡ link_at (station from) datagram.now }
+{
+    let [kind, function, high, low, rest @ ..] = datagram else {
+        return None;
+    };
+    if *kind != BACNET_IP || usize::from(BigEndian::read_u16(&[*high, *low])) != datagram.len() {
+        return None;
+    }
+    match *function {
+        UNICAST => Some((from, false, rest)),
+        BROADCAST => Some((from, true, rest)),
+        FORWARDED => {
+            let [a, b, c, d, e, f, rest @ ..] = rest else {
+                return None;
+            };
+            let originator = Peer {
+                ip: BigEndian::read_u32(&[*a, *b, *c, *d]),
+                port: BigEndian::read_u16(&[*e, *f]),
+                route: None,
+            };
+            Some((originator, true, rest))
+        }
+        _ => None,
+    }
+}
+
+/// Makes the frame the unicast datagram that takes the APDU to the peer, and says in it whether a reply is expected.
+///
+/// `Full`, with the frame unchanged, only where the datagram has more octets than a frame: an APDU of more than 1,491
+/// octets, or with a route of more than 1,487 less those of its address; so never for one of at most 1,480.
+#[tactic(auto, unfolding(crate::specs::Datagram::wrapped))]
+pub fn wrap(to: Peer, expect: bool, apdu: &[u8], frame: &mut Frame) -> Result<(), Full>
+    ensures ok { OnOk result (frame.new ≡ wrapped (station to).route expect apdu.now) }
+    ensures whole { OnOk result (Takes (station to).route expect apdu.now frame.new) }
+    ensures full { OnErr result (FRAME_OCTETS < length (wrapped (station to).route expect apdu.now)) }
+    ensures room { OnErr result (1480 < length apdu.now) }
+    ensures err { OnErr result (frame.new ≡ frame.old) }
+{
+    let header = network_header(to.route, expect);
+    let length = 4 + header.len() + apdu.len();
+    if FRAME_OCTETS < length {
+        return Err(Full);
+    }
+    let mut count = [0; 2];
+    BigEndian::write_u16(&mut count, length as u16);
+    frame.clear();
+    frame.append(&[BACNET_IP, UNICAST])?;
+    frame.append(&count)?;
+    frame.append(header.as_slice())?;
+    frame.append(apdu)
+}

@@ -1,0 +1,114 @@
+ghost use Rattle.std.specs.Prelude.{◌≡◌, ◌<◌, ◌+◌, ◌++◌, length, OnOk, OnErr};
+ghost use Rattle.std.specs.Option.{option_map};
+ghost use Rattle.bac_wire.specs.Front.{IsShortest};
+ghost use Rattle.bac_wire.specs.Identifier.{identifier};
+ghost use Rattle.bac_pdu.specs.Datagram.{IsFound};
+ghost use Rattle.bac_pdu.specs.Discovery.{introduction, IsWhoIsBody, IsIAmBody, who_is_octets, i_am_octets};
+ghost use Rattle.bac_pdu.specs.ValueReading.{who_is_of, introduction_of};
+
+use crate::parameter::{append_number, number_and_rest};
+use crate::value::{enumerated_and_rest, identifier_and_rest, unsigned_and_rest};
+use bac_wire::{FRAME_OCTETS, Frame, Full, ObjectId, Value, write_value};
+
+/// The object type of devices (clause 21).
+const DEVICE: u16 = 8;
+
+// The numbers of the parameters of Who-Is.
+const LOW_LIMIT: u8 = 0;
+
+const HIGH_LIMIT: u8 = 1;
+
+/// Which devices are asked to answer (clause 16.10): all, or those with an instance between two limits, both included.
+///
+/// Where low is above high it asks none.
+#[derive(Clone, Copy, Debug, PartialEq, Eq)]
+pub enum WhoIs {
+    All,
+    Range { low: u32, high: u32 },
+}
+
+/// What a device says of itself (clause 16.10).
+#[derive(Clone, Copy, Debug, PartialEq, Eq)]
+pub struct IAm {
+    /// An object of type 8.
+    pub device: ObjectId,
+    /// The octets of the longest APDU that it takes.
+    pub max_apdu: u64,
+    /// The number of the segmentation that it supports; 3 is none.
+    pub segmentation: u32,
+    /// The number of its vendor.
+    pub vendor: u64,
+}
+
+/// Which devices the body of a Who-Is asks. None where the body is not whole.
+#[tactic(auto, unfolding(crate::specs::ValueReading::who_is_of))]
+pub fn read_whois(body: &[u8]) -> Option<WhoIs>
+    ensures value { result ≡ who_is_of body.now }
+    ensures whole { IsFound IsWhoIsBody body.now result }
+{
+    if body.is_empty() {
+        return Some(WhoIs::All);
+    }
+    let (low, rest) = number_and_rest(LOW_LIMIT, body)?;
+    let (high, rest) = number_and_rest(HIGH_LIMIT, rest)?;
+    if !rest.is_empty() {
+        return None;
+    }
+    Some(WhoIs::Range { low, high })
+}
+
+/// What the body of an I-Am says. None where the body is not whole, or where the object is no device.
+#[tactic(auto, unfolding(crate::specs::ValueReading::introduction_of))]
+pub fn read_iam(body: &[u8]) -> Option<IAm>
+    ensures value { option_map introduction result ≡ introduction_of body.now }
+    ensures whole { IsFound IsIAmBody body.now (option_map introduction result) }
+{
+    let (device, rest) = identifier_and_rest(body)?;
+    let (max_apdu, rest) = unsigned_and_rest(rest)?;
+    let (segmentation, rest) = enumerated_and_rest(rest)?;
+    let (vendor, rest) = unsigned_and_rest(rest)?;
+    if device.kind() != DEVICE || !rest.is_empty() {
+        return None;
+    }
+    Some(IAm {
+        device,
+        max_apdu,
+        segmentation,
+        vendor,
+    })
+}
+
+/// Appends the body of a Who-Is, each number in its fewest octets. `Full`, with the frame unchanged, only where there is
+/// no room for it.
+pub fn write_whois(frame: &mut Frame, who: &WhoIs) -> Result<(), Full>
+    ensures ok { OnOk result (frame.new ≡ frame.old ++ who_is_octets who.now) }
+    ensures shortest { OnOk result (IsShortest IsWhoIsBody (who_is_octets who.now) who.now) }
+    ensures full { OnErr result (FRAME_OCTETS < length frame.old + length (who_is_octets who.now)) }
+    ensures err { OnErr result (frame.new ≡ frame.old) }
+{
+    let mut body = Frame::new();
+    if let WhoIs::Range { low, high } = who {
+        append_number(&mut body, LOW_LIMIT, *low)?;
+        append_number(&mut body, HIGH_LIMIT, *high)?;
+    }
+    frame.append(body.as_slice())
+}
+
+/// Appends the body of an I-Am, each number in its fewest octets. `Full`, with the frame unchanged, only where there is
+/// no room for it.
+pub fn write_iam(frame: &mut Frame, i_am: &IAm) -> Result<(), Full>
+    requires { (identifier i_am.now.device).kind ≡ 8 }
+    ensures ok { OnOk result (frame.new ≡ frame.old ++ i_am_octets (introduction i_am.now)) }
+    ensures shortest { OnOk result
+        (IsShortest IsIAmBody (i_am_octets (introduction i_am.now)) (introduction i_am.now)) }
+    ensures full { OnErr result
+        (FRAME_OCTETS < length frame.old + length (i_am_octets (introduction i_am.now))) }
+    ensures err { OnErr result (frame.new ≡ frame.old) }
+{
+    let mut body = Frame::new();
+    write_value(&mut body, &Value::Object(i_am.device))?;
+    write_value(&mut body, &Value::Unsigned(i_am.max_apdu))?;
+    write_value(&mut body, &Value::Enumerated(i_am.segmentation))?;
+    write_value(&mut body, &Value::Unsigned(i_am.vendor))?;
+    frame.append(body.as_slice())
+}

@@ -1,0 +1,130 @@
+ghost use Rattle.std.specs.Prelude.{◌≡◌, ◌≤◌, length, IfSome};
+ghost use Rattle.std.specs.Option.{option_map};
+ghost use Rattle.bac_pdu.specs.Peer.{IsRoutable, network_address};
+ghost use Rattle.bac_pdu.specs.Header.{address_seen, header_seen, plain_header};
+ghost use Rattle.bac_pdu.specs.DatagramReading.{address_at, announced_at, behind_hops, header_at};
+
+use crate::bits::has_bit;
+use crate::route::Route;
+use arrayvec::ArrayVec;
+use byteorder::{BigEndian, ByteOrder};
+
+/// A station of another network, as a network header names it.
+#[derive(Clone, Copy)]
+pub(crate) struct Address<'a> {
+    pub network: u16,
+    pub address: &'a [u8],
+}
+
+/// What a network header says (clause 6.2): the stations of other networks that the datagram is for and from.
+#[derive(Clone, Copy)]
+pub(crate) struct Header<'a> {
+    pub destination: Option<Address<'a>>,
+    pub source: Option<Address<'a>>,
+}
+
+const VERSION: u8 = 1;
+
+// The numbers of the bits of the control octet.
+const NETWORK_MESSAGE: u8 = 7;
+
+const DESTINATION: u8 = 5;
+
+const SOURCE: u8 = 3;
+
+// The control octets that are written.
+const EXPECTS_REPLY: u8 = 0x04;
+
+const DESTINED: u8 = 0x20;
+
+/// The hop count of a datagram that no router has passed on.
+const HOPS: u8 = 255;
+
+/// The octets of a header that is written, at most.
+const HEADER_OCTETS: usize = 13;
+
+/// The network header at the front, and the APDU behind it. None where it is cut, of another version, or a message of the
+/// network layer.
+#[tactic(auto, unfolding(crate::specs::DatagramReading::header_at))]
+pub(crate) fn header_and_rest(octets: &[u8]) -> Option<(Header<'_>, &[u8])>
+    ensures { option_map (λ x. (header_seen x.0, x.1.now)) result ≡ header_at octets.now }
+{
+    let [version, control, rest @ ..] = octets else {
+        return None;
+    };
+    if *version != VERSION || has_bit(NETWORK_MESSAGE, *control) {
+        return None;
+    }
+    let destined = has_bit(DESTINATION, *control);
+    let (destination, rest) = announced_and_rest(destined, rest)?;
+    let (source, rest) = announced_and_rest(has_bit(SOURCE, *control), rest)?;
+    let rest = rest_behind_hops(destined, rest)?;
+    Some((
+        Header {
+            destination,
+            source,
+        },
+        rest,
+    ))
+}
+
+/// The address that the control octet announces, if it does, and the octets behind.
+fn announced_and_rest(announced: bool, octets: &[u8]) -> Option<(Option<Address<'_>>, &[u8])>
+    ensures { option_map (λ x. (option_map address_seen x.0, x.1.now)) result
+        ≡ announced_at announced octets.now }
+{
+    if !announced {
+        return Some((None, octets));
+    }
+    let (address, rest) = address_and_rest(octets)?;
+    Some((Some(address), rest))
+}
+
+/// A network and an address in it, and the octets behind.
+#[tactic(auto, unfolding(crate::specs::DatagramReading::address_at))]
+fn address_and_rest(octets: &[u8]) -> Option<(Address<'_>, &[u8])>
+    ensures { option_map (λ x. (address_seen x.0, x.1.now)) result ≡ address_at octets.now }
+{
+    let [high, low, count, rest @ ..] = octets else {
+        return None;
+    };
+    let network = BigEndian::read_u16(&[*high, *low]);
+    let (address, rest) = rest.split_at_checked(usize::from(*count))?;
+    Some((Address { network, address }, rest))
+}
+
+/// The octets behind the hop count that stands where a destination does.
+fn rest_behind_hops(destined: bool, octets: &[u8]) -> Option<&[u8]>
+    ensures { option_map (λ x. x.now) result ≡ behind_hops destined octets.now }
+{
+    if !destined {
+        return Some(octets);
+    }
+    let [_, rest @ ..] = octets else {
+        return None;
+    };
+    Some(rest)
+}
+
+/// The network header of a datagram for a station, which is the destination where it is of another network.
+pub(crate) fn network_header(route: Option<Route>, expect: bool) -> ArrayVec<u8, HEADER_OCTETS>
+    ensures value { result.items ≡ plain_header (option_map network_address route) expect }
+    ensures short { length result.items ≤ HEADER_OCTETS }
+    ensures routable { IfSome (option_map network_address route) IsRoutable }
+{
+    let mut header = ArrayVec::new();
+    let expected = if expect { EXPECTS_REPLY } else { 0 };
+    header.push(VERSION);
+    let Some(route) = route else {
+        header.push(expected);
+        return header;
+    };
+    let mut network = [0; 2];
+    BigEndian::write_u16(&mut network, route.network());
+    header.push(DESTINED + expected);
+    let _ = header.try_extend_from_slice(&network);
+    header.push(route.address().len() as u8);
+    let _ = header.try_extend_from_slice(route.address());
+    header.push(HOPS);
+    header
+}

@@ -1,0 +1,30 @@
+//! Headers, APDUs and service bodies of BACnet/IP.
+#![tactic(auto)]
+
+mod apdu;
+mod bits;
+mod datagram;
+mod discovery;
+mod failure;
+mod header;
+pub mod laws;
+mod parameter;
+mod peer;
+mod property;
+mod reject;
+mod route;
+#[cfg(test)]
+mod tests;
+mod value;
+
+pub use apdu::{Apdu, Part, announced, read_apdu, write_apdu};
+pub use datagram::{Carried, open_datagram, wrap};
+pub use discovery::{IAm, WhoIs, read_iam, read_whois, write_iam, write_whois};
+pub use failure::{read_error, write_error};
+pub use peer::Peer;
+pub use property::{
+    Ack, ReadRequest, WriteRequest, read_ack, read_read, read_write, write_ack, write_read,
+    write_write,
+};
+pub use reject::RejectReason;
+pub use route::{ADDRESS_OCTETS, Route};

@@ -1,0 +1,214 @@
+ghost use Rattle.std.specs.Prelude.{◌≡◌, ◌<◌, ◌+◌, ◌++◌, length, OnOk, OnErr, IfOk, IfSome};
+ghost use Rattle.std.specs.Option.{option_map};
+ghost use Rattle.std.specs.List.{AllByRecursion};
+ghost use Rattle.bac_wire.specs.Front.{IsShortest};
+ghost use Rattle.bac_wire.specs.Region.{IsRegion};
+ghost use Rattle.bac_pdu.specs.Parameter.{IsParameter};
+ghost use Rattle.bac_pdu.specs.Datagram.{IsFound};
+ghost use Rattle.bac_pdu.specs.Reject.{result_seen, IsOutcome, ReadFault, WriteFault};
+ghost use Rattle.bac_pdu.specs.Property.{reference, order, answer, reference_parameters, IsPriority, IsReadBody, IsWriteBody, IsAckBody, read_octets, write_octets, ack_octets};
+ghost use Rattle.bac_pdu.specs.PropertyReading.{reference_at, read_of, write_of, ack_of};
+
+use crate::parameter::{
+    INDEX, OBJECT, PRIORITY, PROPERTY, VALUE, append_enclosed, append_number, append_object,
+    enclosed_and_rest, number_and_rest, object_and_rest, optional_and_rest,
+};
+use crate::reject::RejectReason;
+use bac_wire::{FRAME_OCTETS, Frame, Full, ObjectId};
+
+/// Which property of which object is asked for, or which element of it (clause 15.5).
+#[derive(Clone, Copy, Debug, PartialEq, Eq)]
+pub struct ReadRequest {
+    pub object: ObjectId,
+    pub property: u32,
+    /// The element of an array, from 1; 0 is how many there are.
+    pub index: Option<u32>,
+}
+
+/// A property, or an element of it, and the value that it shall have (clause 15.9).
+#[derive(Clone, Copy, Debug, PartialEq, Eq)]
+pub struct WriteRequest<'a> {
+    pub object: ObjectId,
+    pub property: u32,
+    pub index: Option<u32>,
+    /// Whole items, as they are on the wire.
+    pub value: &'a [u8],
+    /// 1 to 16, where 1 is the most urgent.
+    pub priority: Option<u8>,
+}
+
+/// The answer to a ReadProperty: a property, or an element of it, and its value (clause 15.5).
+#[derive(Clone, Copy, Debug, PartialEq, Eq)]
+pub struct Ack<'a> {
+    pub object: ObjectId,
+    pub property: u32,
+    pub index: Option<u32>,
+    /// Whole items, as they are on the wire.
+    pub value: &'a [u8],
+}
+
+/// The property that the front of the body names.
+#[tactic(auto, unfolding(crate::specs::PropertyReading::reference_at))]
+fn reference_and_rest(body: &[u8]) -> Result<(ReadRequest, &[u8]), RejectReason>
+    ensures { result_seen (λ x. (reference x.0, x.1.now)) result ≡ reference_at body.now }
+{
+    if body.is_empty() {
+        return Err(RejectReason::MissingParameter);
+    }
+    let (object, rest) = object_and_rest(OBJECT, body).ok_or(RejectReason::InvalidTag)?;
+    if rest.is_empty() {
+        return Err(RejectReason::MissingParameter);
+    }
+    let (property, rest) = number_and_rest(PROPERTY, rest).ok_or(RejectReason::InvalidTag)?;
+    let (index, rest) = optional_and_rest(INDEX, rest);
+    let request = ReadRequest {
+        object,
+        property,
+        index,
+    };
+    Ok((request, rest))
+}
+
+/// What the body of a ReadProperty asks for, or the first reject reason that it has.
+///
+/// # Errors
+///
+/// `TooMany` where a front of the body is whole, `MissingParameter` where it is empty or an object alone, else `InvalidTag`.
+#[tactic(auto, unfolding(crate::specs::PropertyReading::read_of))]
+pub fn read_read(body: &[u8]) -> Result<ReadRequest, RejectReason>
+    ensures value { result_seen reference result ≡ read_of body.now }
+    ensures whole { IsOutcome IsReadBody ReadFault body.now (result_seen reference result) }
+{
+    match reference_and_rest(body)? {
+        (request, []) => Ok(request),
+        _ => Err(RejectReason::TooMany),
+    }
+}
+
+/// What the body of a WriteProperty orders, or the first reject reason that it has.
+///
+/// # Errors
+///
+/// `OutOfRange` where it is whole but for a priority that is not 1 to 16, `TooMany` where a front of the body is whole,
+/// `MissingParameter` where it ends before the property or the value, else `InvalidTag`.
+#[tactic(auto, unfolding(crate::specs::PropertyReading::write_of))]
+pub fn read_write(body: &[u8]) -> Result<WriteRequest<'_>, RejectReason>
+    ensures value { result_seen order result ≡ write_of body.now }
+    ensures whole { IsOutcome IsWriteBody WriteFault body.now (result_seen order result) }
+{
+    let (request, rest) = reference_and_rest(body)?;
+    if rest.is_empty() {
+        return Err(RejectReason::MissingParameter);
+    }
+    let (value, rest) = enclosed_and_rest(rest).ok_or(RejectReason::InvalidTag)?;
+    let (priority, rest) = optional_and_rest(PRIORITY, rest);
+    if !rest.is_empty() {
+        return Err(RejectReason::TooMany);
+    }
+    let priority = match priority {
+        None => None,
+        Some(n @ 1..=16) => Some(n as u8),
+        Some(_) => return Err(RejectReason::OutOfRange),
+    };
+    Ok(WriteRequest {
+        object: request.object,
+        property: request.property,
+        index: request.index,
+        value,
+        priority,
+    })
+}
+
+/// The property and the value that the body of a ReadProperty-ACK is. None where the body is not whole.
+#[tactic(auto, unfolding(crate::specs::PropertyReading::ack_of))]
+pub fn read_ack(body: &[u8]) -> Option<Ack<'_>>
+    ensures value { option_map answer result ≡ ack_of body.now }
+    ensures whole { IsFound IsAckBody body.now (option_map answer result) }
+{
+    let (request, rest) = reference_and_rest(body).ok()?;
+    let (value, []) = enclosed_and_rest(rest)? else {
+        return None;
+    };
+    Some(Ack {
+        object: request.object,
+        property: request.property,
+        index: request.index,
+        value,
+    })
+}
+
+/// The parameters that name a property.
+#[tactic(auto, unfolding(crate::specs::Parameter::plain_parameter))]
+fn reference_octets(request: &ReadRequest) -> Result<Frame, Full>
+    ensures ok { IfOk result (λ body. body ≡ read_octets (reference request.now)) }
+    ensures full { OnErr result (FRAME_OCTETS < length (read_octets (reference request.now))) }
+    ensures known { OnOk result (AllByRecursion IsParameter (reference_parameters (reference request.now))) }
+{
+    let mut body = Frame::new();
+    append_object(&mut body, OBJECT, request.object)?;
+    append_number(&mut body, PROPERTY, request.property)?;
+    if let Some(index) = request.index {
+        append_number(&mut body, INDEX, index)?;
+    }
+    Ok(body)
+}
+
+/// Appends the body of a ReadProperty, each number in its fewest octets. `Full`, with the frame unchanged, only where
+/// there is no room for it.
+pub fn write_read(frame: &mut Frame, request: &ReadRequest) -> Result<(), Full>
+    ensures ok { OnOk result (frame.new ≡ frame.old ++ read_octets (reference request.now)) }
+    ensures shortest { OnOk result
+        (IsShortest IsReadBody (read_octets (reference request.now)) (reference request.now)) }
+    ensures full { OnErr result
+        (FRAME_OCTETS < length frame.old + length (read_octets (reference request.now))) }
+    ensures err { OnErr result (frame.new ≡ frame.old) }
+{
+    let body = reference_octets(request)?;
+    frame.append(body.as_slice())
+}
+
+/// Appends the body of a ReadProperty-ACK, each number in its fewest octets. `Full`, with the frame unchanged, only
+/// where there is no room for it.
+#[tactic(auto, unfolding(crate::specs::Parameter::plain_parameter))]
+pub fn write_ack(frame: &mut Frame, ack: &Ack<'_>) -> Result<(), Full>
+    requires { IsRegion 32 ack.now.value.now }
+    ensures ok { OnOk result (frame.new ≡ frame.old ++ ack_octets (answer ack.now)) }
+    ensures shortest { OnOk result (IsShortest IsAckBody (ack_octets (answer ack.now)) (answer ack.now)) }
+    ensures full { OnErr result (FRAME_OCTETS < length frame.old + length (ack_octets (answer ack.now))) }
+    ensures err { OnErr result (frame.new ≡ frame.old) }
+{
+    let request = ReadRequest {
+        object: ack.object,
+        property: ack.property,
+        index: ack.index,
+    };
+    let mut body = reference_octets(&request)?;
+    append_enclosed(&mut body, VALUE, ack.value)?;
+    frame.append(body.as_slice())
+}
+
+/// Appends the body of a WriteProperty, each number in its fewest octets. `Full`, with the frame unchanged, only where
+/// there is no room for it.
+#[tactic(auto, unfolding(crate::specs::Parameter::plain_parameter))]
+pub fn write_write(frame: &mut Frame, request: &WriteRequest<'_>) -> Result<(), Full>
+    requires region { IsRegion 32 request.now.value.now }
+    requires priority { IfSome request.now.priority IsPriority }
+    ensures ok { OnOk result (frame.new ≡ frame.old ++ write_octets (order request.now)) }
+    ensures shortest { OnOk result
+        (IsShortest IsWriteBody (write_octets (order request.now)) (order request.now)) }
+    ensures full { OnErr result
+        (FRAME_OCTETS < length frame.old + length (write_octets (order request.now))) }
+    ensures err { OnErr result (frame.new ≡ frame.old) }
+{
+    let reference = ReadRequest {
+        object: request.object,
+        property: request.property,
+        index: request.index,
+    };
+    let mut body = reference_octets(&reference)?;
+    append_enclosed(&mut body, VALUE, request.value)?;
+    if let Some(priority) = request.priority {
+        append_number(&mut body, PRIORITY, u32::from(priority))?;
+    }
+    frame.append(body.as_slice())
+}

@@ -1,0 +1,49 @@
+ghost use Rattle.std.specs.Prelude.{◌≡◌};
+ghost use Rattle.std.specs.Option.{option_map};
+ghost use Rattle.bac_wire.specs.Identifier.{identifier};
+ghost use Rattle.bac_wire.specs.Datum.{datum};
+ghost use Rattle.bac_wire.specs.DatumReading.{value_at};
+ghost use Rattle.bac_wire.specs.ParameterReading.{kind_at, unsigned_in as only_unsigned, enumerated_in as only_enumerated, object_in as only_object};
+
+use bac_wire::{ObjectId, Value, read_value};
+
+/// The value at the front, and the octets behind it.
+fn value_and_rest(octets: &[u8]) -> Option<(Value<'_>, &[u8])>
+    ensures { option_map (λ x. (datum x.0, x.1.now)) result ≡ value_at octets.now }
+{
+    let (value, size) = read_value(octets)?;
+    Some((value, &octets[size..]))
+}
+
+/// The Enumerated at the front, and the octets behind it.
+#[tactic(auto, unfolding(bac_wire::specs::ParameterReading::kind_at))]
+pub(crate) fn enumerated_and_rest(octets: &[u8]) -> Option<(u32, &[u8])>
+    ensures { option_map (λ x. (x.0, x.1.now)) result ≡ kind_at only_enumerated octets.now }
+{
+    match value_and_rest(octets)? {
+        (Value::Enumerated(n), rest) => Some((n, rest)),
+        _ => None,
+    }
+}
+
+/// The Unsigned at the front, and the octets behind it.
+#[tactic(auto, unfolding(bac_wire::specs::ParameterReading::kind_at))]
+pub(crate) fn unsigned_and_rest(octets: &[u8]) -> Option<(u64, &[u8])>
+    ensures { option_map (λ x. (x.0, x.1.now)) result ≡ kind_at only_unsigned octets.now }
+{
+    match value_and_rest(octets)? {
+        (Value::Unsigned(n), rest) => Some((n, rest)),
+        _ => None,
+    }
+}
+
+/// The ObjectIdentifier at the front, and the octets behind it.
+#[tactic(auto, unfolding(bac_wire::specs::ParameterReading::kind_at))]
+pub(crate) fn identifier_and_rest(octets: &[u8]) -> Option<(ObjectId, &[u8])>
+    ensures { option_map (λ x. (identifier x.0, x.1.now)) result ≡ kind_at only_object octets.now }
+{
+    match value_and_rest(octets)? {
+        (Value::Object(id), rest) => Some((id, rest)),
+        _ => None,
+    }
+}

@@ -1,0 +1,14 @@
+use Rattle.std.proofs.Common.{◌≡◌, false, sym, arith}
+use Rattle.std.specs.Prelude.{◌==◌}
+use Rattle.std.proofs.lemmas.Bool.Decides.{nat_tests}
+use Rattle.bac_tools.proofs.Printed.{◌⨾◌}
+use Rattle.bac_tools.proofs.ValueTexts.{printed_alone, printed_in_braces, printed_octets}
+use Rattle.bac_tools.proofs.page.Page.print_region.Goals as goal
+
+pub returns-in-Some : goal.returns-in-Some
+returns-in-Some g c =
+    let several : (c.in-Some.field-0 == 1) ≡ false = grind (arith, nat_tests, c.in-Some.field-0-test) in
+    printed_in_braces _ _ _ _ _ _ _ _ _ c.args.region.now c.in-Some.field-0 c.in-Some.ensures several c.print.ensures c.print_values-in-Some.ensures c.print-in-Some.ensures
+
+pub returns-in-None : goal.returns-in-None
+returns-in-None g c = printed_octets _ _ _ _ _ c.args.region.now c.in-None.ensures (c.print-in-None.ensures ⨾ c.print_hex.ensures)

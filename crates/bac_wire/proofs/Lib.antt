@@ -1,0 +1,12 @@
+pub mod Readers
+pub mod Reading
+pub mod TagLaws
+pub mod PlainTag
+pub mod DatumLaws
+pub mod PlainDatum
+pub mod ShortestDatum
+pub mod RegionLaws
+pub mod RegionReading
+pub mod NestingLaws
+pub mod ItemLaws
+pub mod ParameterLaws

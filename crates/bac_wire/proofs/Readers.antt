@@ -1,0 +1,55 @@
+-- A reader on lists that takes what is spelled, and finds again what is spelled.
+use Rattle.std.proofs.Common.{Bool, true, false, cond, inl, inr, ◌≡◌, ℕ, ◌+◌, ◌-◌, ◌≤◌, List, ◌++◌, length, take, Option, Some, None, refl, sym, ap, subst, ◌∙◌, arith, length-append}
+use Rattle.std.specs.Prelude.{◌⊎◌}
+use Rattle.std.proofs.lemmas.List.{take_at, append_cancel_right}
+use Rattle.std.proofs.lemmas.Option.{some_pair_parts}
+use Rattle.bac_wire.specs.Front.{FindsFront, IsReadBack}
+pub use Rattle.bac_wire.specs.Front.{IsReader, Took}
+
+abbrev pub found_at : {A : Type 0} → A → List ℕ → Option (A × List ℕ)
+found_at x rest = Some (x, rest)
+
+take_front : (octets front rest : List ℕ) → octets ≡ front ++ rest → (length rest ≤ length octets) × (length octets - length rest ≡ length front) × (take (length front) octets ≡ front)
+take_front octets front rest e =
+    let long : length octets ≡ length front + length rest = ap length e ∙ length-append front rest in
+    (omega arith, omega arith, rw e (take_at front rest (length front) refl))
+
+-- the branch that a test took
+pub chosen : {A : Type 0} (b : Bool) (x y z : A) → cond b x y ≡ z → ((b ≡ true) × (x ≡ z)) ⊎ ((b ≡ false) × (y ≡ z))
+chosen true x y z e = inl (refl, e)
+chosen false x y z e = inr (refl, e)
+
+-- no spelling begins another
+pub one_front : {A : Type 0} (Spells : List ℕ → A → Type 0) (at : List ℕ → Option (A × List ℕ)) → IsReader Spells at
+    → (a b u v : List ℕ) (x y : A) → Spells a x → Spells b y → a ++ u ≡ b ++ v → (a ≡ b) × (x ≡ y)
+one_front Spells at reader a b u v x y s t e =
+    let both = some_pair_parts x y u v (sym (reader.again a x u s) ∙ ap at e ∙ reader.again b y v t) in
+    let same : a ++ v ≡ b ++ v = ap (λ (w : List ℕ). a ++ w) (sym both.1) ∙ e in
+    (append_cancel_right a b v same, both.0)
+
+-- what was read is what stands at the front
+pub found_front : {A : Type 0} (Spells : List ℕ → A → Type 0) (at : List ℕ → Option (A × List ℕ)) → IsReader Spells at
+    → (octets : List ℕ) (x : A) (rest : List ℕ) → found_at x rest ≡ at octets
+    → (length rest ≤ length octets) × FindsFront Spells octets (Some (x, length octets - length rest))
+found_front {A} Spells at reader octets x rest e =
+    let taken = reader.takes octets x rest (sym e) in
+    let here = take_front octets taken.0 rest taken.2 in
+    let spelled : Spells (take (length octets - length rest) octets) x = subst (λ (w : List ℕ). Spells w x) (sym (ap (λ (k : ℕ). take k octets) here.1 ∙ here.2)) taken.1 in
+    let all : (other after : List ℕ) (y : A) → Spells other y → octets ≡ other ++ after → ◌≡◌ {A = Option (A × ℕ)} (Some (x, length octets - length rest)) (Some (y, length other)) = λ other after y t parts.
+    let both = some_pair_parts x y rest after (e ∙ ap at parts ∙ reader.again other y after t) in
+    let there = take_front octets other after parts in
+    let same : length octets - length rest ≡ length other = ap (λ (w : List ℕ). length octets - length w) both.1 ∙ there.1 in
+    rw (both.0, same) refl in
+    (here.0, record { spelled = (omega arith, spelled); all = all })
+
+-- where nothing was read nothing stands at the front
+pub none_front : {A : Type 0} (Spells : List ℕ → A → Type 0) (at : List ℕ → Option (A × List ℕ)) → IsReader Spells at
+    → (octets : List ℕ) → None ≡ at octets → FindsFront Spells octets None
+none_front {A} Spells at reader octets e = record {
+  spelled = tt;
+  all = λ other after y t parts. let nothing : None ≡ found_at y after = e ∙ ap at parts ∙ reader.again other y after t in absurd cc;
+}
+
+-- a spelling is read back, whatever follows it
+pub spelled_back : {A : Type 0} (Spells : List ℕ → A → Type 0) (front : List ℕ) (x : A) → Spells front x → IsReadBack Spells front x
+spelled_back Spells front x s = λ rest found finds. finds.all front rest x s refl

@@ -1,0 +1,15 @@
+use Rattle.std.proofs.Common.{◌+◌, ◌*◌, length}
+use Rattle.bac_wire.proofs.RegionReading.{SameRests}
+use Rattle.bac_wire.proofs.items.+nesting.Given as goal
+
+abbrev pub decreases-behind_item : goal.decreases-behind_item
+decreases-behind_item l = 2 * l.depth
+
+abbrev pub decreases-behind_items : goal.decreases-behind_items
+decreases-behind_items l = 2 * l.depth + 1
+
+abbrev pub invariant-behind_items-loop-tag : goal.invariant-behind_items-loop-tag
+invariant-behind_items-loop-tag l = SameRests l.depth l.octets l.rest
+
+abbrev pub decreases-behind_items-loop-tag : goal.decreases-behind_items-loop-tag
+decreases-behind_items-loop-tag l = length l.rest

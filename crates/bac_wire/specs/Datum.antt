@@ -1,0 +1,187 @@
+-- The values behind application tags, and the octets that spell them (ANSI/ASHRAE 135, 20.2.2 to 20.2.14).
+use Rattle.std.specs.Prelude.{FitsSigned, ◌≡◌, ℕ, ℤ, pos, negsuc, ◌*◌, ◌^◌, ◌<◌, ◌≤◌, Bool, nat_lt, if◌then◌else◌, List, [], ◌∷◌, ◌++◌, length}
+use Rattle.std.specs.Int.{w64}
+use Rattle.byteorder.specs.Endian.{big_number, big_bytes, twos_complement, low_bytes}
+use Rattle.bac_wire.specs.declared.tag.Shape.TheVariants.{App}
+use Rattle.bac_wire.specs.declared.tag.Tag.{Tag}
+use Rattle.bac_wire.specs.declared.value.Value.{Value}
+use Rattle.bac_wire.specs.declared.value.Value.TheVariants as values
+use Rattle.bac_wire.specs.Identifier.{Identifier, IsIdentifier, identifier, number_of}
+use Rattle.bac_wire.specs.Tag.{SpellsTag, plain_tag}
+
+-- a value as what it is, and not where its octets lie
+pub data Datum : Type 0 where
+  null : Datum
+  boolean : Bool → Datum
+  unsigned : ℕ → Datum
+  signed : ℤ → Datum
+  real : List ℕ → Datum
+  double : List ℕ → Datum
+  octet_string : List ℕ → Datum
+  char_string : ℕ → List ℕ → Datum
+  bit_string : ℕ → List ℕ → Datum
+  enumerated : ℕ → Datum
+  date : List ℕ → Datum
+  time : List ℕ → Datum
+  object : Identifier → Datum
+
+-- what a `Value` is
+abbrev pub datum : Value → Datum
+datum values.Null = null
+datum (values.Bool b) = boolean b
+datum (values.Unsigned n) = unsigned n
+datum (values.Signed z) = signed z
+datum (values.Real r) = real r
+datum (values.Double d) = double d
+datum (values.Octets x) = octet_string x.now
+datum (values.Chars set x) = char_string set x.now
+datum (values.Bits unused x) = bit_string unused x.now
+datum (values.Enumerated n) = enumerated n
+datum (values.Date d) = date d
+datum (values.Time t) = time t
+datum (values.Object id) = object (identifier id)
+
+-- the number of the application tag before a value (20.2.1.4)
+abbrev pub kind : Datum → ℕ
+kind null = 0
+kind (boolean _) = 1
+kind (unsigned _) = 2
+kind (signed _) = 3
+kind (real _) = 4
+kind (double _) = 5
+kind (octet_string _) = 6
+kind (char_string _ _) = 7
+kind (bit_string _ _) = 8
+kind (enumerated _) = 9
+kind (date _) = 10
+kind (time _) = 11
+kind (object _) = 12
+
+-- at most 7 bits of the last octet are unused, and none where there is no octet (20.2.10)
+pub record AreBits (unused : ℕ) (x : List ℕ) : Type 0 where
+  pub most : unused ≤ 7
+  pub empty : x ≡ [] → unused ≡ 0
+
+-- The contents that stand for a value. Numbers may have more octets than they need.
+abbrev pub Holds : List ℕ → Datum → Type 0
+Holds contents null = contents ≡ []
+Holds contents (boolean _) = contents ≡ []
+Holds contents (unsigned n) = (1 ≤ length contents) × (length contents ≤ 8) × (n ≡ big_number (length contents) contents)
+Holds contents (signed z) = (1 ≤ length contents) × (length contents ≤ 8) × (z ≡ twos_complement (length contents) (big_number (length contents) contents))
+Holds contents (real r) = (length contents ≡ 4) × (contents ≡ r)
+Holds contents (double d) = (length contents ≡ 8) × (contents ≡ d)
+Holds contents (octet_string x) = contents ≡ x
+Holds contents (char_string set x) = contents ≡ set ∷ x
+Holds contents (bit_string unused x) = (contents ≡ unused ∷ x) × AreBits unused x
+Holds contents (enumerated n) = (1 ≤ length contents) × (length contents ≤ 4) × (n ≡ big_number (length contents) contents)
+Holds contents (date d) = (length contents ≡ 4) × (contents ≡ d)
+Holds contents (time t) = (length contents ≡ 4) × (contents ≡ t)
+Holds contents (object id) = (length contents ≡ 4) × (id.instance < 2 ^ 22) × (big_number 4 contents ≡ number_of id)
+
+-- The number in the tag: the length of the contents, for a boolean its value (20.2.3).
+abbrev pub shape_number : Datum → ℕ → ℕ
+shape_number (boolean b) n = if b then 1 else 0
+shape_number null n = n
+shape_number (unsigned _) n = n
+shape_number (signed _) n = n
+shape_number (real _) n = n
+shape_number (double _) n = n
+shape_number (octet_string _) n = n
+shape_number (char_string _ _) n = n
+shape_number (bit_string _ _) n = n
+shape_number (enumerated _) n = n
+shape_number (date _) n = n
+shape_number (time _) n = n
+shape_number (object _) n = n
+
+-- the tag before a value with contents of this length
+abbrev pub tag_before : Datum → ℕ → Tag
+tag_before value n = record { number = kind value; shape = App (shape_number value n) }
+
+-- a spelling of the application tag, and the contents
+pub record Spells (spelling : List ℕ) (value : Datum) : Type 0 where
+  pub tag : List ℕ
+  pub contents : List ℕ
+  pub whole : spelling ≡ tag ++ contents
+  pub tagged : SpellsTag tag (tag_before value (length contents))
+  pub held : Holds contents value
+
+-- ---- the shortest spelling
+
+-- the fewest octets that hold the number, at least one
+abbrev pub octet_count : ℕ → ℕ
+octet_count n =
+    if nat_lt n (256 ^ 1) then 1
+    else if nat_lt n (256 ^ 2) then 2
+    else if nat_lt n (256 ^ 3) then 3
+    else if nat_lt n (256 ^ 4) then 4
+    else if nat_lt n (256 ^ 5) then 5
+    else if nat_lt n (256 ^ 6) then 6
+    else if nat_lt n (256 ^ 7) then 7
+    else 8
+
+-- the same in two's complement, where the sign takes a bit more
+abbrev pub signed_count : ℤ → ℕ
+signed_count (pos n) = octet_count (2 * n)
+signed_count (negsuc n) = octet_count (2 * n)
+
+-- numbers in least octets, all else as it is
+abbrev pub plain_contents : Datum → List ℕ
+plain_contents null = []
+plain_contents (boolean _) = []
+plain_contents (unsigned n) = big_bytes (octet_count n) n
+plain_contents (signed z) = big_bytes (signed_count z) (low_bytes w64 (signed_count z) z)
+plain_contents (real r) = r
+plain_contents (double d) = d
+plain_contents (octet_string x) = x
+plain_contents (char_string set x) = set ∷ x
+plain_contents (bit_string unused x) = unused ∷ x
+plain_contents (enumerated n) = big_bytes (octet_count n) n
+plain_contents (date d) = d
+plain_contents (time t) = t
+plain_contents (object id) = big_bytes 4 (number_of id)
+
+-- an application tag and the contents that it counts
+unfoldable pub tagged : ℕ → List ℕ → List ℕ
+tagged number contents = plain_tag (record { number = number; shape = App (length contents) }) ++ contents
+
+-- the spelling that is written
+unfoldable pub plain : Datum → List ℕ
+plain value = plain_tag (tag_before value (length (plain_contents value))) ++ plain_contents value
+
+-- the values that can be written: all but bits that are none
+abbrev pub IsSound : Datum → Type 0
+IsSound null = Unit {0}
+IsSound (boolean _) = Unit {0}
+IsSound (unsigned _) = Unit {0}
+IsSound (signed _) = Unit {0}
+IsSound (real _) = Unit {0}
+IsSound (double _) = Unit {0}
+IsSound (octet_string _) = Unit {0}
+IsSound (char_string _ _) = Unit {0}
+IsSound (bit_string unused x) = AreBits unused x
+IsSound (enumerated _) = Unit {0}
+IsSound (date _) = Unit {0}
+IsSound (time _) = Unit {0}
+IsSound (object _) = Unit {0}
+
+-- a value within the range of its kind
+abbrev pub InRange : Datum → Type 0
+InRange null = Unit {0}
+InRange (boolean _) = Unit {0}
+InRange (unsigned n) = n < 2 ^ 64
+InRange (signed z) = FitsSigned w64 z
+InRange (real r) = length r ≡ 4
+InRange (double d) = length d ≡ 8
+InRange (octet_string _) = Unit {0}
+InRange (char_string _ _) = Unit {0}
+InRange (bit_string unused x) = AreBits unused x
+InRange (enumerated n) = n < 2 ^ 32
+InRange (date d) = length d ≡ 4
+InRange (time t) = length t ≡ 4
+InRange (object id) = IsIdentifier id
+
+-- The values that have a spelling: within their range, with contents whose length fits a tag.
+pub record IsDatum (value : Datum) : Type 0 where
+  pub range : InRange value
+  pub short : length (plain_contents value) < 2 ^ 32

@@ -1,0 +1,10 @@
+pub mod Front
+pub mod Tag
+pub mod TagReading
+pub mod Identifier
+pub mod Datum
+pub mod DatumReading
+pub mod Region
+pub mod ItemReading
+pub mod Parameter
+pub mod ParameterReading

@@ -1,0 +1,84 @@
+ghost use Rattle.std.specs.Prelude.{◌≡◌, ◌+◌, ◌<◌, ◌≤◌, ◌↔◌, [], ◌++◌, length, take, IsTrue, OnOk, OnErr};
+
+use arrayvec::ArrayVec;
+use std::marker::Model;
+
+/// The octets that a frame has room for, as many as the largest NPDU of BACnet/IP has (ANSI/ASHRAE 135, clause 6).
+pub const FRAME_OCTETS: usize = 1497;
+
+/// The frame has no room for what was to be appended. It is as it was.
+#[derive(Clone, Copy, Debug, PartialEq, Eq)]
+pub struct Full;
+
+/// The octets of a datagram, or of a part of one, in fixed room: a list of at most `FRAME_OCTETS` octets.
+#[derive(Drop)]
+pub struct Frame {
+    octets: ArrayVec<u8, FRAME_OCTETS>,
+}
+
+impl Model for Frame {
+    ghost use Rattle.std.specs.Prelude.{List, ℕ};
+
+    ghost Value = { List ℕ };
+
+    ghost view = { λ frame. frame.octets.items };
+}
+
+impl Frame {
+    /// A frame with no octets.
+    pub fn new() -> Self
+        ensures { result ≡ [] }
+    {
+        Frame {
+            octets: ArrayVec::new(),
+        }
+    }
+
+    /// The octets.
+    pub fn as_slice(&self) -> &[u8]
+        ensures value { result.now ≡ self.now }
+        ensures fits { length self.now ≤ FRAME_OCTETS }
+    {
+        self.octets.as_slice()
+    }
+
+    /// How many octets there are.
+    pub fn len(&self) -> usize
+        ensures value { result ≡ length self.now }
+        ensures fits { length self.now ≤ FRAME_OCTETS }
+    {
+        self.as_slice().len()
+    }
+
+    /// Whether there are no octets.
+    pub fn is_empty(&self) -> bool
+        ensures { IsTrue result ↔ (self.now ≡ []) }
+    {
+        self.as_slice().is_empty()
+    }
+
+    /// Takes all octets away.
+    pub fn clear(&mut self)
+        ensures { self.new ≡ [] }
+    {
+        self.octets.clear();
+    }
+
+    /// Puts the octets behind those that are there. Where they don't all fit it is `Full`, and none is appended.
+    pub fn append(&mut self, octets: &[u8]) -> Result<(), Full>
+        ensures ok { OnOk result (self.new ≡ self.old ++ octets.now) }
+        ensures fits { OnOk result (length self.old + length octets.now ≤ FRAME_OCTETS) }
+        ensures full { OnErr result (FRAME_OCTETS < length self.old + length octets.now) }
+        ensures err { OnErr result (self.new ≡ self.old) }
+    {
+        self.octets.try_extend_from_slice(octets).map_err(|_| Full)
+    }
+
+    /// Keeps the first `n` octets, of at least so many.
+    pub fn truncate(&mut self, n: usize)
+        requires { n ≤ length self.old }
+        ensures { self.new ≡ take n self.old }
+    {
+        self.octets.truncate(n);
+    }
+}

@@ -1,0 +1,67 @@
+ghost use Rattle.std.specs.Prelude.{◌≡◌, ◌<◌, ◌^◌, ◌↔◌, IsSome, IfSome};
+
+/// How many types of object there are: ten bits number them.
+const TYPES: u16 = 1 << 10;
+
+/// How many instances a type can have: 22 bits number them.
+const INSTANCES: u32 = 1 << 22;
+
+/// The identifier of an object: its type and its instance (ANSI/ASHRAE 135, 20.2.14 and 21).
+#[derive(Clone, Copy, Debug, PartialEq, Eq)]
+pub struct ObjectId {
+    kind: u16,
+    instance: u32,
+    ghost kind_fits: { kind < 1024 },
+    ghost instance_fits: { instance < 2 ^ 22 },
+}
+
+impl ObjectId {
+    ghost use Rattle.bac_wire.specs.Identifier.{IsIdentifier, identifier, number_of, identifier_of};
+
+    /// The identifier of this type and instance; `None` past type 1023 or instance 4,194,303.
+    pub fn new(kind: u16, instance: u32) -> Option<Self>
+        ensures valid { IsSome result ↔ ((kind < 1024) × (instance < 2 ^ 22)) }
+        ensures value { IfSome result (λ id. identifier id ≡ record { kind = kind; instance = instance }) }
+    {
+        if kind < TYPES && instance < INSTANCES {
+            Some(ObjectId { kind, instance })
+        } else {
+            None
+        }
+    }
+
+    /// The object's type, below 1024.
+    pub fn kind(self) -> u16
+        ensures value { result ≡ (identifier self).kind }
+        ensures fits { result < 1024 }
+    {
+        self.kind
+    }
+
+    /// The object's instance among those of its type, below 4,194,304.
+    pub fn instance(self) -> u32
+        ensures value { result ≡ (identifier self).instance }
+        ensures fits { result < 2 ^ 22 }
+    {
+        self.instance
+    }
+
+    /// The type in the ten high bits and the instance in the 22 low ones.
+    pub(crate) fn number(self) -> u32
+        ensures value { result ≡ number_of (identifier self) }
+        ensures fits { IsIdentifier (identifier self) }
+    {
+        let ObjectId { kind, instance } = self;
+        u32::from(kind) * INSTANCES + instance
+    }
+
+    /// The identifier that the number's bits give.
+    pub(crate) fn of_number(number: u32) -> Self
+        ensures { identifier result ≡ identifier_of number }
+    {
+        ObjectId {
+            kind: (number >> 22) as u16,
+            instance: number % INSTANCES,
+        }
+    }
+}

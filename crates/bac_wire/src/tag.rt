@@ -1,0 +1,177 @@
+ghost use Rattle.std.specs.Prelude.{◌≡◌, ◌<◌, ◌≤◌, ◌+◌, ◌++◌, length, OnOk, OnErr};
+ghost use Rattle.std.specs.Option.{option_map};
+ghost use Rattle.bac_wire.specs.Front.{FindsFront, IsShortest, IsReadBack};
+ghost use Rattle.bac_wire.specs.Tag.{SpellsTag, IsTag, plain_tag, plain_length};
+ghost use Rattle.bac_wire.specs.TagReading.{tag_number_at, long_length_at, length_at, shape_at, tag_at};
+
+use crate::frame::{FRAME_OCTETS, Frame, Full};
+use arrayvec::ArrayVec;
+use byteorder::{BigEndian, ByteOrder};
+
+/// The class of a tag and what it says of the octets behind it (ANSI/ASHRAE 135, 20.2.1).
+#[derive(Clone, Copy, Debug, PartialEq, Eq)]
+pub enum Shape {
+    /// Application class: the length of the contents, for a Boolean (number 1) its value.
+    App(u32),
+    /// Context class: the length of the contents.
+    Context(u32),
+    /// Begins what the closing tag of the same number ends.
+    Opening,
+    /// Ends what the opening tag of the same number began.
+    Closing,
+}
+
+/// A tag: what stands before the contents of each part of an APDU's body (ANSI/ASHRAE 135, 20.2.1).
+#[derive(Clone, Copy, Debug, PartialEq, Eq)]
+pub struct Tag {
+    /// 0 to 254. In the application class it is the kind of the value, else the place among the parameters.
+    pub number: u8,
+    pub shape: Shape,
+}
+
+/// The tag that begins the input, and how many octets spell it; `None` only where no prefix is a spelling of a tag.
+/// Numbers and lengths in a longer form than needed are read too.
+pub fn read_tag(octets: &[u8]) -> Option<(Tag, usize)>
+    ensures { FindsFront SpellsTag octets.now result }
+{
+    let (tag, rest) = tag_and_rest(octets)?;
+    Some((tag, octets.len() - rest.len()))
+}
+
+/// The tag that begins the input, and the octets behind it.
+#[tactic(auto, unfolding(crate::specs::TagReading::tag_at))]
+pub(crate) fn tag_and_rest(octets: &[u8]) -> Option<(Tag, &[u8])>
+    ensures { option_map (λ x. (x.0, x.1.now)) result ≡ tag_at octets.now }
+{
+    let [initial, rest @ ..] = octets else {
+        return None;
+    };
+    let (number, rest) = number_and_rest(*initial >> 4, rest)?;
+    let (shape, rest) = shape_and_rest(*initial & 15, rest)?;
+    Some((Tag { number, shape }, rest))
+}
+
+/// The tag's number, by the high half of the initial octet: 15 there says that the next octet holds it.
+#[tactic(auto, unfolding(crate::specs::TagReading::tag_number_at))]
+fn number_and_rest(high: u8, octets: &[u8]) -> Option<(u8, &[u8])>
+    requires { high < 16 }
+    ensures { option_map (λ x. (x.0, x.1.now)) result ≡ tag_number_at high octets.now }
+{
+    if high < 15 {
+        return Some((high, octets));
+    }
+    match octets {
+        [number, rest @ ..] if *number < 255 => Some((*number, rest)),
+        _ => None,
+    }
+}
+
+/// The tag's shape, by the low half of the initial octet: 8 is the class bit, and the rest the length or a bracket.
+#[tactic(auto, unfolding(crate::specs::TagReading::shape_at))]
+fn shape_and_rest(low: u8, octets: &[u8]) -> Option<(Shape, &[u8])>
+    requires { low < 16 }
+    ensures { option_map (λ x. (x.0, x.1.now)) result ≡ shape_at low octets.now }
+{
+    match low {
+        0..8 => {
+            let (length, rest) = length_and_rest(low, octets)?;
+            Some((Shape::App(length), rest))
+        }
+        14 => Some((Shape::Opening, octets)),
+        15 => Some((Shape::Closing, octets)),
+        _ => {
+            let (length, rest) = length_and_rest(low - 8, octets)?;
+            Some((Shape::Context(length), rest))
+        }
+    }
+}
+
+/// The length, by the three low bits: 5 there says that it follows.
+#[tactic(auto, unfolding(crate::specs::TagReading::length_at))]
+fn length_and_rest(low: u8, octets: &[u8]) -> Option<(u32, &[u8])>
+    ensures { option_map (λ x. (x.0, x.1.now)) result ≡ length_at low octets.now }
+{
+    match low {
+        0..5 => Some((u32::from(low), octets)),
+        5 => long_length_and_rest(octets),
+        _ => None,
+    }
+}
+
+/// A length that follows: one octet, or two behind 254, or four behind 255.
+#[tactic(auto, unfolding(crate::specs::TagReading::long_length_at))]
+fn long_length_and_rest(octets: &[u8]) -> Option<(u32, &[u8])>
+    ensures { option_map (λ x. (x.0, x.1.now)) result ≡ long_length_at octets.now }
+{
+    match octets {
+        [length @ 0..254, rest @ ..] => Some((u32::from(*length), rest)),
+        [254, b, c, rest @ ..] => Some((u32::from(BigEndian::read_u16(&[*b, *c])), rest)),
+        [255, b, c, d, e, rest @ ..] => Some((BigEndian::read_u32(&[*b, *c, *d, *e]), rest)),
+        _ => None,
+    }
+}
+
+/// Appends the shortest spelling of the tag, whose number is at most 254. Where it passes the frame's room it is
+/// `Full`, and the frame is as it was.
+pub fn write_tag(frame: &mut Frame, tag: Tag) -> Result<(), Full>
+    requires { tag.number < 255 }
+    ensures ok { OnOk result (frame.new ≡ frame.old ++ plain_tag tag) }
+    ensures fits { OnOk result (length frame.old + length (plain_tag tag) ≤ FRAME_OCTETS) }
+    ensures shortest { OnOk result (IsShortest SpellsTag (plain_tag tag) tag) }
+    ensures read_back { OnOk result (IsReadBack SpellsTag (plain_tag tag) tag) }
+    ensures full { OnErr result (FRAME_OCTETS < length frame.old + length (plain_tag tag)) }
+    ensures err { OnErr result (frame.new ≡ frame.old) }
+{
+    frame.append(shortest(tag).as_slice())
+}
+
+/// Room for a tag, which has seven octets at most, and for eight octets behind it.
+pub(crate) type Head = ArrayVec<u8, 15>;
+
+/// The shortest spelling of the tag.
+#[tactic(auto, unfolding(crate::specs::Tag::plain_tag))]
+pub(crate) fn shortest(tag: Tag) -> Head
+    requires { tag.number < 255 }
+    ensures octets { result.items ≡ plain_tag tag }
+    ensures short { length result.items ≤ 7 }
+    // what the types of the fields say, for the caller's proof
+    ensures range { IsTag tag }
+{
+    let mut octets = ArrayVec::new();
+    let low = match tag.shape {
+        Shape::App(length) => length.min(5) as u8,
+        Shape::Context(length) => 8 + length.min(5) as u8,
+        Shape::Opening => 14,
+        Shape::Closing => 15,
+    };
+    octets.push(16 * tag.number.min(15) + low);
+    if tag.number >= 15 {
+        octets.push(tag.number);
+    }
+    match tag.shape {
+        Shape::App(length) | Shape::Context(length) => push_length(&mut octets, length),
+        Shape::Opening | Shape::Closing => {}
+    }
+    octets
+}
+
+/// Puts the octets of a length behind those of the tag.
+fn push_length(octets: &mut Head, count: u32)
+    requires { length octets.old.items ≤ 2 }
+    ensures items { octets.new.items ≡ octets.old.items ++ plain_length count }
+    ensures short { length octets.new.items ≤ length octets.old.items + 5 }
+{
+    if count < 5 {} else if count < 254 {
+        octets.push(count as u8);
+    } else if count < 65536 {
+        let mut two = [0; 2];
+        BigEndian::write_u16(&mut two, count as u16);
+        octets.push(254);
+        let _ = octets.try_extend_from_slice(&two);
+    } else {
+        let mut four = [0; 4];
+        BigEndian::write_u32(&mut four, count);
+        octets.push(255);
+        let _ = octets.try_extend_from_slice(&four);
+    }
+}

@@ -1,0 +1,302 @@
+ghost use Rattle.std.specs.Prelude.{◌≡◌, ◌<◌, ◌≤◌, ◌+◌, ◌^◌, ◌++◌, ◌↔◌, [], ◌∷◌, IsTrue, IfSome, length, OnOk, OnErr};
+ghost use Rattle.std.specs.Option.{option_map};
+ghost use Rattle.byteorder.specs.Endian.{big_number, big_bytes, low_bytes, twos_complement};
+ghost use Rattle.std.specs.Int.{w64};
+ghost use Rattle.bac_wire.specs.Front.{FindsFront, IsShortest, IsReadBack};
+ghost use Rattle.bac_wire.specs.Tag.{plain_tag};
+ghost use Rattle.bac_wire.specs.declared.tag.Shape.TheVariants.{App as app};
+ghost use Rattle.bac_wire.specs.Datum.{Spells, Datum, datum, IsSound, InRange, plain, tagged as tagged_octets, octet_count as count_octets, signed_count as count_signed, AreBits};
+ghost use Rattle.bac_wire.specs.Datum.{boolean};
+ghost use Rattle.bac_wire.specs.Identifier.{identifier, number_of};
+ghost use Rattle.bac_wire.specs.DatumReading.{exactly, number_within, bits_of as bits_at, contents_of, value_at};
+
+use crate::frame::{FRAME_OCTETS, Frame, Full};
+use crate::object_id::ObjectId;
+use crate::tag::{Shape, Tag, shortest, tag_and_rest, write_tag};
+use byteorder::{BigEndian, ByteOrder};
+
+/// A value that stands behind an application tag (ANSI/ASHRAE 135, 20.2.2 to 20.2.14). Borrowed parts are slices of
+/// the octets that were read.
+#[derive(Clone, Copy, Debug, PartialEq, Eq)]
+pub enum Value<'a> {
+    Null,
+    /// Boolean: its value stands in the tag.
+    Bool(bool),
+    Unsigned(u64),
+    Signed(i64),
+    /// The octets of a number of single precision (IEEE 754), the high octet first.
+    Real([u8; 4]),
+    /// The octets of a number of double precision, the high octet first.
+    Double([u8; 8]),
+    /// OctetString.
+    Octets(&'a [u8]),
+    /// CharacterString: the number of its character set, and its octets.
+    Chars(u8, &'a [u8]),
+    /// BitString: how many bits of the last octet are unused, 0 to 7, and its octets.
+    Bits(u8, &'a [u8]),
+    Enumerated(u32),
+    /// Year less 1900, month, day, day of the week.
+    Date([u8; 4]),
+    /// Hour, minute, second, hundredths.
+    Time([u8; 4]),
+    /// ObjectIdentifier.
+    Object(ObjectId),
+}
+
+impl Value<'_> {
+    /// Whether the value can be written: not a BitString with more than 7 unused bits, or with unused bits and no octets.
+    pub fn sound(&self) -> bool
+        ensures { IsTrue result ↔ IsSound (datum self.now) }
+    {
+        match self {
+            Value::Bits(unused, octets) => *unused <= 7 && (*unused == 0 || !octets.is_empty()),
+            _ => true,
+        }
+    }
+}
+
+/// The value that begins the input, and how many octets spell it; `None` only where no prefix is a spelling of a value:
+/// at a tag of another number or class, or contents of another length than the kind takes. Nothing is copied.
+pub fn read_value(octets: &[u8]) -> Option<(Value<'_>, usize)>
+    ensures { FindsFront Spells octets.now (option_map (λ x. (datum x.0, x.1)) result) }
+{
+    let (value, rest) = value_and_rest(octets)?;
+    Some((value, octets.len() - rest.len()))
+}
+
+/// The value that begins the input, and the octets behind it.
+#[tactic(auto, unfolding(crate::specs::DatumReading::value_at))]
+fn value_and_rest(octets: &[u8]) -> Option<(Value<'_>, &[u8])>
+    ensures { option_map (λ x. (datum x.0, x.1.now)) result ≡ value_at octets.now }
+{
+    let (tag, rest) = tag_and_rest(octets)?;
+    let Shape::App(count) = tag.shape else {
+        return None;
+    };
+    if tag.number == 1 {
+        return match count {
+            0 => Some((Value::Bool(false), rest)),
+            1 => Some((Value::Bool(true), rest)),
+            _ => None,
+        };
+    }
+    let (contents, rest) = rest.split_at_checked(count as usize)?;
+    Some((value_of(tag.number, contents)?, rest))
+}
+
+/// The value that the contents stand for, by the number of the tag before them.
+#[tactic(auto, unfolding(crate::specs::DatumReading::contents_of))]
+fn value_of(number: u8, contents: &[u8]) -> Option<Value<'_>>
+    ensures { option_map datum result ≡ contents_of number contents.now }
+{
+    match number {
+        0 if contents.is_empty() => Some(Value::Null),
+        2 => Some(Value::Unsigned(unsigned_of(contents, 8)?)),
+        3 => Some(Value::Signed(signed_of(contents)?)),
+        4 => Some(Value::Real(four(contents)?)),
+        5 => Some(Value::Double(eight(contents)?)),
+        6 => Some(Value::Octets(contents)),
+        7 => {
+            let [set, text @ ..] = contents else {
+                return None;
+            };
+            Some(Value::Chars(*set, text))
+        }
+        8 => bits_of(contents),
+        9 => Some(Value::Enumerated(unsigned_of(contents, 4)? as u32)),
+        10 => Some(Value::Date(four(contents)?)),
+        11 => Some(Value::Time(four(contents)?)),
+        12 => Some(Value::Object(ObjectId::of_number(BigEndian::read_u32(&four(contents)?)))),
+        _ => None,
+    }
+}
+
+/// The number in one octet up to this many.
+fn unsigned_of(contents: &[u8], most: usize) -> Option<u64>
+    requires { most ≤ 8 }
+    ensures value { result ≡ number_within most contents.now }
+    ensures fits { IfSome result (λ n. n < 256 ^ most) }
+{
+    if contents.is_empty() || most < contents.len() {
+        return None;
+    }
+    Some(BigEndian::read_uint(contents, contents.len()))
+}
+
+/// The number in one to eight octets, in two's complement.
+fn signed_of(contents: &[u8]) -> Option<i64>
+    ensures { result ≡ option_map (twos_complement (length contents.now)) (number_within 8 contents.now) }
+{
+    if contents.is_empty() || 8 < contents.len() {
+        return None;
+    }
+    Some(BigEndian::read_int(contents, contents.len()))
+}
+
+fn four(contents: &[u8]) -> Option<[u8; 4]>
+    ensures { result ≡ exactly 4 contents.now }
+{
+    contents.try_into().ok()
+}
+
+fn eight(contents: &[u8]) -> Option<[u8; 8]>
+    ensures { result ≡ exactly 8 contents.now }
+{
+    contents.try_into().ok()
+}
+
+/// The bits behind the number of unused ones, where that is sound.
+fn bits_of(contents: &[u8]) -> Option<Value<'_>>
+    ensures { option_map datum result ≡ bits_at contents.now }
+{
+    let [unused, octets @ ..] = contents else {
+        return None;
+    };
+    let value = Value::Bits(*unused, octets);
+    value.sound().then_some(value)
+}
+
+/// Appends the shortest spelling of the value, which is sound. Where it passes the frame's room it is `Full`, and the
+/// frame is as it was.
+pub fn write_value(frame: &mut Frame, value: &Value<'_>) -> Result<(), Full>
+    requires { IsSound (datum value.now) }
+    ensures ok { OnOk result (frame.new ≡ frame.old ++ plain (datum value.now)) }
+    ensures fits { OnOk result (length frame.old + length (plain (datum value.now)) ≤ FRAME_OCTETS) }
+    ensures shortest { OnOk result (IsShortest Spells (plain (datum value.now)) (datum value.now)) }
+    ensures read_back { OnOk result (IsReadBack Spells (plain (datum value.now)) (datum value.now)) }
+    ensures full { OnErr result (FRAME_OCTETS < length frame.old + length (plain (datum value.now))) }
+    ensures err { OnErr result (frame.new ≡ frame.old) }
+{
+    append_value(frame, value)
+}
+
+#[tactic(auto, unfolding(crate::specs::Datum::plain, crate::specs::Datum::tagged))]
+fn append_value(frame: &mut Frame, value: &Value<'_>) -> Result<(), Full>
+    requires { IsSound (datum value.now) }
+    // what the types of the fields say, for the caller's proof
+    ensures range { InRange (datum value.now) }
+    ensures ok { OnOk result (frame.new ≡ frame.old ++ plain (datum value.now)) }
+    ensures fits { OnOk result (length frame.old + length (plain (datum value.now)) ≤ FRAME_OCTETS) }
+    ensures full { OnErr result (FRAME_OCTETS < length frame.old + length (plain (datum value.now))) }
+    ensures err { OnErr result (frame.new ≡ frame.old) }
+{
+    match value {
+        Value::Null => append_tagged(frame, 0, &[], &[]),
+        Value::Bool(value) => append_boolean(frame, *value),
+        Value::Unsigned(number) => append_number(frame, 2, *number),
+        Value::Signed(number) => append_signed(frame, *number),
+        Value::Real(octets) => append_tagged(frame, 4, &[], octets),
+        Value::Double(octets) => append_tagged(frame, 5, &[], octets),
+        Value::Octets(octets) => append_tagged(frame, 6, &[], octets),
+        Value::Chars(set, text) => append_tagged(frame, 7, &[*set], text),
+        Value::Bits(unused, octets) => append_tagged(frame, 8, &[*unused], octets),
+        Value::Enumerated(number) => append_number(frame, 9, u64::from(*number)),
+        Value::Date(octets) => append_tagged(frame, 10, &[], octets),
+        Value::Time(octets) => append_tagged(frame, 11, &[], octets),
+        Value::Object(id) => append_object(frame, *id),
+    }
+}
+
+#[tactic(auto, unfolding(crate::specs::Datum::plain))]
+fn append_boolean(frame: &mut Frame, value: bool) -> Result<(), Full>
+    ensures ok { OnOk result (frame.new ≡ frame.old ++ plain (boolean value)) }
+    ensures fits { OnOk result (length frame.old + length (plain (boolean value)) ≤ FRAME_OCTETS) }
+    ensures full { OnErr result (FRAME_OCTETS < length frame.old + length (plain (boolean value))) }
+    ensures err { OnErr result (frame.new ≡ frame.old) }
+{
+    write_tag(
+        frame,
+        Tag {
+            number: 1,
+            shape: Shape::App(u32::from(value)),
+        },
+    )
+}
+
+/// Appends the tag of the contents, which are in two parts, and the contents.
+#[tactic(auto, unfolding(crate::specs::Datum::tagged))]
+fn append_tagged(frame: &mut Frame, number: u8, first: &[u8], rest: &[u8]) -> Result<(), Full>
+    requires number { number < 255 }
+    requires first { length first.now ≤ 8 }
+    ensures ok { OnOk result (frame.new ≡ frame.old ++ tagged_octets number (first.now ++ rest.now)) }
+    ensures fits { OnOk result (length frame.old + length (tagged_octets number (first.now ++ rest.now)) ≤ FRAME_OCTETS) }
+    ensures full { OnErr result (FRAME_OCTETS < length frame.old + length (tagged_octets number (first.now ++ rest.now))) }
+    ensures err { OnErr result (frame.new ≡ frame.old) }
+{
+    if FRAME_OCTETS < rest.len() {
+        return Err(Full);
+    }
+    let shape = Shape::App((first.len() + rest.len()) as u32);
+    let mut head = shortest(Tag { number, shape });
+    let _ = head.try_extend_from_slice(first);
+    if FRAME_OCTETS < frame.len() + head.len() + rest.len() {
+        return Err(Full);
+    }
+    frame.append(head.as_slice())?;
+    frame.append(rest)
+}
+
+fn append_number(frame: &mut Frame, number: u8, n: u64) -> Result<(), Full>
+    requires { number < 255 }
+    ensures ok { OnOk result (frame.new ≡ frame.old ++ tagged_octets number (big_bytes (count_octets n) n)) }
+    ensures fits { OnOk result (length frame.old + length (tagged_octets number (big_bytes (count_octets n) n)) ≤ FRAME_OCTETS) }
+    ensures full { OnErr result (FRAME_OCTETS < length frame.old + length (tagged_octets number (big_bytes (count_octets n) n))) }
+    ensures err { OnErr result (frame.new ≡ frame.old) }
+{
+    let mut contents = [0; 8];
+    let count = octet_count(n);
+    BigEndian::write_uint(&mut contents, n, count);
+    append_tagged(frame, number, &contents[..count], &[])
+}
+
+fn append_signed(frame: &mut Frame, n: i64) -> Result<(), Full>
+    ensures ok { OnOk result (frame.new ≡ frame.old ++ tagged_octets 3 (big_bytes (count_signed n) (low_bytes w64 (count_signed n) n))) }
+    ensures fits { OnOk result (length frame.old + length (tagged_octets 3 (big_bytes (count_signed n) (low_bytes w64 (count_signed n) n))) ≤ FRAME_OCTETS) }
+    ensures full { OnErr result (FRAME_OCTETS < length frame.old + length (tagged_octets 3 (big_bytes (count_signed n) (low_bytes w64 (count_signed n) n)))) }
+    ensures err { OnErr result (frame.new ≡ frame.old) }
+{
+    let mut contents = [0; 8];
+    let count = signed_octet_count(n);
+    BigEndian::write_int(&mut contents, n, count);
+    append_tagged(frame, 3, &contents[..count], &[])
+}
+
+fn append_object(frame: &mut Frame, id: ObjectId) -> Result<(), Full>
+    ensures ok { OnOk result (frame.new ≡ frame.old ++ tagged_octets 12 (big_bytes 4 (number_of (identifier id)))) }
+    ensures fits { OnOk result (length frame.old + length (tagged_octets 12 (big_bytes 4 (number_of (identifier id)))) ≤ FRAME_OCTETS) }
+    ensures full { OnErr result (FRAME_OCTETS < length frame.old + length (tagged_octets 12 (big_bytes 4 (number_of (identifier id))))) }
+    ensures err { OnErr result (frame.new ≡ frame.old) }
+{
+    let mut contents = [0; 4];
+    BigEndian::write_u32(&mut contents, id.number());
+    append_tagged(frame, 12, &contents, &[])
+}
+
+/// The fewest octets that hold the number.
+fn octet_count(n: u64) -> usize
+    ensures value { result ≡ count_octets n }
+    ensures low { 1 ≤ result }
+    ensures high { result ≤ 8 }
+    ensures fits { n < 256 ^ result }
+{
+    match n {
+        0..0x100 => 1,
+        0x100..0x1_0000 => 2,
+        0x1_0000..0x100_0000 => 3,
+        0x100_0000..0x1_0000_0000 => 4,
+        0x1_0000_0000..0x100_0000_0000 => 5,
+        0x100_0000_0000..0x1_0000_0000_0000 => 6,
+        0x1_0000_0000_0000..0x100_0000_0000_0000 => 7,
+        _ => 8,
+    }
+}
+
+/// The fewest octets that hold the number in two's complement.
+fn signed_octet_count(n: i64) -> usize
+    ensures value { result ≡ count_signed n }
+    ensures low { 1 ≤ result }
+    ensures high { result ≤ 8 }
+{
+    let size = n.unsigned_abs();
+    octet_count(2 * (if n < 0 { size - 1 } else { size }))
+}
