@@ -1,14 +1,13 @@
 -- The places of a point after writes, and after one more.
-use Rattle.std.proofs.Common.{◌≡◌, ℕ, zero, suc, ◌-◌, ◌<◌, ◌≤◌, ◌==◌, ◌&&◌, Bool, true, false, cond, nat_lt, nat_le, if◌then◌else◌, List, [], ◌∷◌, ◌++◌, map, filter, find, slice_get, slice_set, Option, Some, None, refl, sym, ap, ◌∙◌, append-nil, arith}
+use Rattle.std.proofs.Common.{◌≡◌, ℕ, zero, suc, ◌-◌, ◌≤◌, ◌==◌, ◌&&◌, Bool, true, false, cond, nat_lt, nat_le, if◌then◌else◌, List, [], ◌∷◌, ◌++◌, map, filter, slice_get, slice_set, Option, Some, None, refl, sym, ap, ◌∙◌, append-nil, arith}
 use Rattle.std.specs.List.{last_or}
-use Rattle.std.specs.Option.{option_map, option_and_then}
+use Rattle.std.specs.Option.{option_and_then}
 use Rattle.std.proofs.lemmas.List.Elements.{filter-append}
 use Rattle.std.proofs.lemmas.Bool.{and_right, lt-leb}
 use Rattle.bac_wire.specs.Identifier.{Identifier}
-use Rattle.bac_wire.specs.TagReading.{◌>>=◌}
 use Rattle.bac_device.specs.Kind.{is_commandable}
 use Rattle.bac_device.specs.Point.{Description, same_object}
-use Rattle.bac_device.specs.Places.{Write, Standing, is_to, place, place_at, priorities, standing_after, with_place, put}
+use Rattle.bac_device.specs.Places.{Write, is_to, place, place_at, priorities, standing_after, with_place, put}
 use Rattle.bac_device.specs.Device.{place_if}
 
 pub map_same : {A B : Type 0} (f g : A → B) → ((x : A) → f x ≡ g x) → (xs : List A) → map f xs ≡ map g xs

@@ -1,11 +1,10 @@
 -- Values one after the other are a region.
-use Rattle.std.proofs.Common.{◌≡◌, ℕ, zero, suc, ◌+◌, ◌<◌, ◌≤◌, ◌==◌, if◌then◌else◌, List, [], ◌∷◌, ◌++◌, length, take, drop, slice_get, Option, Some, None, Result, Ok, Err, OnErr, refl, sym, ap, subst, ◌∙◌, append-nil, append_assoc, length-append, arith, inl}
+use Rattle.std.proofs.Common.{◌≡◌, ℕ, zero, suc, ◌+◌, ◌<◌, ◌≤◌, List, [], ◌∷◌, ◌++◌, length, take, slice_get, Some, None, Result, Ok, Err, OnErr, refl, sym, ap, subst, ◌∙◌, append-nil, append_assoc, length-append, arith, inl}
 use Rattle.std.specs.List.{flat_map}
 use Rattle.std.proofs.lemmas.Option.{none-some, same_Some}
-use Rattle.bac_wire.specs.declared.tag.Tag.{Tag}
 use Rattle.bac_wire.specs.Datum as values
 use Rattle.bac_wire.specs.Datum.{Datum, Spells, Holds, plain, shape_number, kind, tag_before}
-use Rattle.bac_wire.specs.Region.{Counts, IsPrimitive, IsSequence, none, more, IsItem, IsRegion}
+use Rattle.bac_wire.specs.Region.{Counts, IsSequence, none, more, IsItem, IsRegion}
 
 -- an application tag counts the contents of a value
 contents_counted : (contents : List ℕ) (value : Datum) → Holds contents value → Counts (kind value) (tag_before value (length contents)).shape (length contents)

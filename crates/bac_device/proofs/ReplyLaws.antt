@@ -1,5 +1,5 @@
 -- How long replies are.
-use Rattle.std.proofs.Common.{◌≡◌, ℕ, ◌+◌, ◌<◌, ◌≤◌, List, [], ◌∷◌, ◌++◌, length, Option, Some, None, IfSome, Bool, true, false, refl, sym, subst, ap, length-append, arith}
+use Rattle.std.proofs.Common.{◌≡◌, ℕ, ◌≤◌, List, [], ◌∷◌, ◌++◌, length, Option, Some, None, IfSome, false, refl, sym, subst, ap, length-append, arith}
 use Rattle.bac_wire.specs.Datum.{plain}
 use Rattle.bac_wire.specs.Tag.{plain_tag}
 use Rattle.bac_pdu.specs.Apdu.{laid_out}

@@ -6,7 +6,7 @@ use Rattle.bac_device.specs.Point.{Description}
 use Rattle.bac_device.specs.Places.{Write}
 use Rattle.bac_device.specs.Device.{DeviceState, points_of, device_after, Holds}
 use Rattle.bac_device.specs.Reply.{reply_to, writes_after}
-use Rattle.bac_device.specs.Turns.{Arrival, Answers, AnswersInTurn, AreDefined, replies_to, all_writes}
+use Rattle.bac_device.specs.Turns.{Arrival, AnswersInTurn, AreDefined, replies_to, all_writes}
 use Rattle.bac_device.proofs.StateLaws.{points_after}
 
 -- a device after some writes holds them

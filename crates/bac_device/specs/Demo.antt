@@ -1,35 +1,32 @@
 -- The points of the demonstration device.
-use Rattle.std.specs.Prelude.{ℕ, List, [], ◌∷◌, ◌++◌, codes}
-use Rattle.std.specs.List.{filter_map}
-use Rattle.std.specs.Option.{option_map, option_to_list}
-use Rattle.bac_wire.specs.Identifier.{Identifier}
-use Rattle.bac_device.specs.Point.{Given, Description, description_of}
-use Rattle.bac_device.specs.Places.{standing_after}
-use Rattle.bac_device.specs.Device.{DeviceState}
+use Rattle.std.specs.Prelude.{ℕ, List, [], ◌∷◌, codes, unwrap_or}
+use Rattle.std.specs.Option.{option_map}
+use Rattle.bac_device.specs.declared.kind.Family.TheVariants.{Analog, Binary, MultiState}
+use Rattle.bac_device.specs.declared.kind.Role.TheVariants as roles
+use Rattle.bac_device.specs.Kind.{kind}
+use Rattle.bac_device.specs.Point.{Given, Description, described, description_of}
+use Rattle.bac_device.specs.Device.{DeviceState, with_point}
 
+-- what is given of a point: object type, instance, name, start and extra
 abbrev pub row : ℕ → ℕ → List ℕ → ℕ → ℕ → Given
 row kind instance name start extra = record { object = record { kind = kind; instance = instance }; name = name; start = start; extra = extra }
 
--- type, instance, name, start, extra
-abbrev pub demo_rows : List Given
-demo_rows =
-    row 0 5 (codes "Outdoor temperature") 0x4290999A 64
-    ∷ row 0 35 (codes "01234567890123456789012345678901234") 0 95
-    ∷ row 0 36 (codes "012345678901234567890123456789012345") 0 95
-    ∷ row 1 1 (codes "Valve") 0 98
-    ∷ row 2 2 (codes "Setpoint") 0x41A80000 62
-    ∷ row 3 3 (codes "Door") 0 0
-    ∷ row 4 4 (codes "Fan") 0 0
-    ∷ row 5 5 (codes "Occupied") 0 0
-    ∷ row 13 1 (codes "Mode seen") 1 3
-    ∷ row 14 1 (codes "Mode") 1 3
-    ∷ row 19 1 (codes "Season") 1 4
+-- the eleven points: what each is, and its object type, instance, name, start and extra
+abbrev pub demo_points : List Description
+demo_points =
+    described (kind Analog roles.Input) (row 0 5 (codes "Outdoor temperature") 0x4290999A 64)
+    ∷ described (kind Analog roles.Input) (row 0 35 (codes "01234567890123456789012345678901234") 0 95)
+    ∷ described (kind Analog roles.Input) (row 0 36 (codes "012345678901234567890123456789012345") 0 95)
+    ∷ described (kind Analog roles.Output) (row 1 1 (codes "Valve") 0 98)
+    ∷ described (kind Analog roles.Value) (row 2 2 (codes "Setpoint") 0x41A80000 62)
+    ∷ described (kind Binary roles.Input) (row 3 3 (codes "Door") 0 0)
+    ∷ described (kind Binary roles.Output) (row 4 4 (codes "Fan") 0 0)
+    ∷ described (kind Binary roles.Value) (row 5 5 (codes "Occupied") 0 0)
+    ∷ described (kind MultiState roles.Input) (row 13 1 (codes "Mode seen") 1 3)
+    ∷ described (kind MultiState roles.Output) (row 14 1 (codes "Mode") 1 3)
+    ∷ described (kind MultiState roles.Value) (row 19 1 (codes "Season") 1 4)
     ∷ []
-
--- all of them can be points of a device
-unfoldable pub demo_points : List Description
-demo_points = filter_map description_of demo_rows
 
 -- one more point, where it is one that a device can have
 unfoldable pub with_row : DeviceState → Given → DeviceState
-with_row device given = record { info = device.info; standings = device.standings ++ option_to_list (option_map (standing_after []) (description_of given)) }
+with_row device given = unwrap_or (option_map (with_point device) (description_of given)) device

@@ -1,5 +1,5 @@
 -- The device: what it keeps, its own properties, and what can be added to it (clause 12.11).
-use Rattle.std.specs.Prelude.{ℕ, ◌==◌, ◌&&◌, ◌||◌, Bool, nat_eq, nat_lt, nat_le, if◌then◌else◌, List, [], ◌∷◌, ◌++◌, length, map, find, codes, Option, Some, None, Result, Ok, Err, ◌≡◌}
+use Rattle.std.specs.Prelude.{ℕ, ◌==◌, ◌&&◌, ◌||◌, Bool, nat_eq, nat_lt, nat_le, if◌then◌else◌, List, [], ◌∷◌, ◌++◌, length, map, find, codes, Option, Some, None, Result, Err, ◌≡◌}
 use Rattle.std.specs.List.{list_any}
 use Rattle.std.specs.Option.{option_map}
 use Rattle.std.specs.Cmp.Lexicographic.{pointwise}
@@ -13,7 +13,7 @@ use Rattle.bac_device.specs.Info.{Info}
 use Rattle.bac_device.specs.Steps.{needs}
 use Rattle.bac_device.specs.Kind.{is_commandable}
 use Rattle.bac_device.specs.Point.{Given, Description, description_of, same_object}
-use Rattle.bac_device.specs.Places.{Write, Standing, place, standing_after, present, put}
+use Rattle.bac_device.specs.Places.{Write, Standing, place, standing_after, present}
 use Rattle.bac_device.specs.Property.{Property, single, array, empty_list, point_objects}
 
 -- what a device keeps
@@ -47,6 +47,7 @@ point_at points object = find (λ point. same_object point.object object) points
 abbrev pub present_after : List Description → List Write → Identifier → Option ℕ
 present_after points writes object = option_map (λ point. present (standing_after writes point)) (point_at points object)
 
+-- what the point has at the priority after these writes, where it has such a place
 abbrev pub place_if : List Write → ℕ → Description → Option (Option ℕ)
 place_if writes priority point = if is_commandable point.kind.role && (nat_lt 0 priority && nat_le priority 16) then Some (place writes point.object priority) else None
 
@@ -56,12 +57,15 @@ place_after points writes object priority = point_at points object >>= place_if 
 
 -- ---- adding a point
 
+-- octet by octet
 abbrev pub same_name : List ℕ → List ℕ → Bool
 same_name a b = pointwise nat_eq a b
 
+-- a point is this object
 abbrev pub has_object : DeviceState → Identifier → Bool
 has_object device object = list_any (λ standing. same_object standing.point.object object) device.standings
 
+-- the device or a point has this name
 abbrev pub has_name : DeviceState → List ℕ → Bool
 has_name device name = same_name device.info.name name || list_any (λ standing. same_name standing.point.name name) device.standings
 
@@ -113,6 +117,7 @@ device_number number =
     else if number == 155 then Some (unsigned 1)
     else None
 
+-- the property with this text, or else with this number
 abbrev pub text_or_number : Option (List ℕ) → Option Datum → Option Property
 text_or_number (Some text) number = Some (single (char_string 0 text))
 text_or_number None number = option_map single number

@@ -11,6 +11,7 @@ use Rattle.bac_device.specs.declared.kind.Role.{Role}
 use Rattle.bac_device.specs.declared.kind.Role.TheVariants as roles
 use Rattle.bac_device.specs.declared.kind.Kind.{Kind}
 
+-- what a type of point is
 abbrev pub kind : Family → Role → Kind
 kind family role = record { family = family; role = role }
 
@@ -45,6 +46,7 @@ abbrev pub place_value : Family → Option ℕ → Datum
 place_value family None = null
 place_value family (Some n) = value_of family n
 
+-- the number of a Real, an Enumerated, an Unsigned
 abbrev pub real_in : Datum → Option ℕ
 real_in (real octets) = Some (from_be_bytes w32 octets)
 real_in _ = None
@@ -68,6 +70,7 @@ abbrev pub place_in : Family → Datum → Option (Option ℕ)
 place_in family null = Some None
 place_in family value = option_map Some (number_in family value)
 
+-- the value, where no octets are left
 abbrev pub alone : Datum → List ℕ → Option Datum
 alone value [] = Some value
 alone value _ = None
@@ -76,7 +79,7 @@ alone value _ = None
 unfoldable pub one_value : List ℕ → Option Datum
 one_value octets = value_at octets >>= (λ x. alone x.0 x.1)
 
--- the numbers of present values: those of four octets, the two binary values, the states from 1 on
+-- the numbers that a present value can have: those of four octets, the two binary values, the states from 1 to `extra`
 abbrev pub allows : Family → ℕ → ℕ → Bool
 allows Analog extra n = nat_lt n (2 ^ 32)
 allows Binary extra n = nat_lt n 2

@@ -1,7 +1,7 @@
 -- What a point has after writes: the sixteen places of its priority array, and its present value (clause 19.2).
-use Rattle.std.specs.Prelude.{ℕ, ◌≤◌, ◌-◌, ◌==◌, ◌&&◌, Bool, true, false, if◌then◌else◌, is_some, List, [], ◌∷◌, map, filter, find, slice_get, slice_set, unwrap_or, Option, Some, None, Result, Ok, Err}
+use Rattle.std.specs.Prelude.{ℕ, ◌≤◌, ◌-◌, ◌==◌, ◌&&◌, Bool, if◌then◌else◌, is_some, List, [], ◌∷◌, map, filter, find, slice_get, slice_set, unwrap_or, Option, Some, None, Result, Ok, Err}
 use Rattle.std.specs.List.{last_or}
-use Rattle.std.specs.Option.{option_map, option_and_then}
+use Rattle.std.specs.Option.{option_and_then}
 use Rattle.bac_wire.specs.Identifier.{Identifier, identifier}
 use Rattle.bac_device.specs.declared.failure.Failure.{Failure}
 use Rattle.bac_device.specs.declared.failure.Failure.TheVariants.{WrongType, OutOfRange}
@@ -20,9 +20,11 @@ pub record Write : Type 0 where
 abbrev pub IsUrgent : Write → Type 0
 IsUrgent write = (1 ≤ write.priority) × (write.priority ≤ 16)
 
+-- a write as the device keeps it
 abbrev pub write_seen : PlaceWrite → Write
 write_seen write = record { object = identifier write.object; priority = write.priority; value = write.value }
 
+-- whether the write is to the object at the priority
 abbrev pub is_to : Identifier → ℕ → Write → Bool
 is_to object priority write = same_object object write.object && (priority == write.priority)
 
@@ -62,9 +64,10 @@ in_range point (Some n) = if allows point.kind.family point.extra n then Ok (Som
 unfoldable pub written : Description → List ℕ → Result (Option ℕ) Failure
 written point octets = needs WrongType (option_and_then (place_in point.kind.family) (one_value octets)) >>= in_range point
 
+-- the point with this value at the priority
 abbrev pub with_place : Standing → ℕ → Option ℕ → Standing
 with_place standing priority value = record { point = standing.point; places = slice_set standing.places (priority - 1) value }
 
--- a point after one more write
+-- a point after one more write, which may be to another
 abbrev pub put : Write → Standing → Standing
 put write standing = if same_object standing.point.object write.object then with_place standing write.priority write.value else standing

@@ -1,5 +1,5 @@
 -- A point of the device: an object with a present value.
-use Rattle.std.specs.Prelude.{ℕ, ◌==◌, nat_lt, nat_le, ◌&&◌, Bool, not, if◌then◌else◌, List, length, Option, Some, None}
+use Rattle.std.specs.Prelude.{ℕ, ◌==◌, nat_lt, nat_le, ◌&&◌, Bool, if◌then◌else◌, List, length, Option, Some, None}
 use Rattle.bac_wire.specs.Identifier.{Identifier, identifier}
 use Rattle.bac_wire.specs.TagReading.{◌>>=◌}
 use Rattle.bac_device.specs.declared.kind.Kind.{Kind}
@@ -25,6 +25,7 @@ pub record Description : Type 0 where
   pub start : ℕ
   pub extra : ℕ
 
+-- the same type and instance
 abbrev pub same_object : Identifier → Identifier → Bool
 same_object a b = (a.kind == b.kind) && (a.instance == b.instance)
 
@@ -36,9 +37,11 @@ is_name name = nat_lt 0 (length name) && nat_le (length name) 64
 abbrev pub is_numbered : Identifier → Bool
 is_numbered object = nat_lt object.instance 4194303
 
+-- a point of this kind can be as it is given
 abbrev pub is_described : Kind → Given → Bool
 is_described kind point = is_name point.name && is_numbered point.object && allows_extra kind.family kind.role point.extra && allows kind.family point.extra point.start
 
+-- the point of this kind
 abbrev pub described : Kind → Given → Description
 described kind point = record { kind = kind; object = point.object; name = point.name; start = point.start; extra = point.extra }
 

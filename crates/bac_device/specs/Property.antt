@@ -1,8 +1,8 @@
 -- The values of a property, and the properties of a point (clause 12).
-use Rattle.std.specs.Prelude.{ℕ, ◌-◌, ◌==◌, ◌&&◌, nat_lt, Bool, true, false, not, if◌then◌else◌, List, [], ◌∷◌, ◌++◌, length, map, slice_get, Option, Some, None, Result, Ok, Err}
+use Rattle.std.specs.Prelude.{ℕ, ◌-◌, ◌==◌, Bool, true, false, not, if◌then◌else◌, List, [], ◌∷◌, length, map, slice_get, Option, Some, None, Result, Ok, Err}
 use Rattle.std.specs.List.{flat_map}
 use Rattle.std.specs.Option.{option_map}
-use Rattle.bac_wire.specs.Identifier.{Identifier, identifier}
+use Rattle.bac_wire.specs.Identifier.{identifier}
 use Rattle.bac_wire.specs.Datum.{Datum, datum, boolean, unsigned, enumerated, char_string, bit_string, object, plain, IsSound}
 use Rattle.bac_device.specs.declared.kind.Family.{Family}
 use Rattle.bac_device.specs.declared.kind.Family.TheVariants.{Analog, Binary, MultiState}
@@ -21,12 +21,15 @@ pub record Property : Type 0 where
   pub is_array : Bool
   pub values : List Datum
 
+-- one value
 abbrev pub single : Datum → Property
 single value = record { is_array = false; values = value ∷ [] }
 
+-- an array of these values
 abbrev pub array : List Datum → Property
 array values = record { is_array = true; values = values }
 
+-- a list without elements, which is no array
 abbrev pub empty_list : Property
 empty_list = record { is_array = false; values = [] }
 
@@ -52,6 +55,7 @@ IsSoundProperty (PriorityArray family places) = Unit {0}
 abbrev pub region_octets : Property → List ℕ
 region_octets property = flat_map plain property.values
 
+-- the value at this place, counted from 0
 abbrev pub element_at : List Datum → ℕ → Result Property Failure
 element_at values place = needs InvalidIndex (option_map single (slice_get values place))
 
@@ -65,19 +69,23 @@ element property (Some index) =
 
 -- ---- the properties of a point
 
+-- the property, where points of the role can be written
 abbrev pub if_commandable : Role → Property → Option Property
 if_commandable role property = if is_commandable role then Some property else None
 
+-- the units of an analog point
 abbrev pub units : Family → ℕ → Option Property
 units Analog extra = Some (single (enumerated extra))
 units Binary extra = None
 units MultiState extra = None
 
+-- the polarity of a binary input or output
 abbrev pub polarity : Family → Role → ℕ → Option Property
 polarity Binary roles.Input extra = Some (single (enumerated extra))
 polarity Binary roles.Output extra = Some (single (enumerated extra))
 polarity _ _ extra = None
 
+-- the number of states of a multi-state point
 abbrev pub number_of_states : Family → ℕ → Option Property
 number_of_states MultiState extra = Some (single (unsigned extra))
 number_of_states Analog extra = None

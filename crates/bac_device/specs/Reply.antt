@@ -1,5 +1,5 @@
 -- What the device answers to a datagram, and which write it accepts (clauses 5.4, 15.5, 15.9 and 16.10).
-use Rattle.std.specs.Prelude.{ℕ, ◌==◌, ◌&&◌, ◌<◌, not, nat_lt, nat_le, Bool, true, false, if◌then◌else◌, is_some, List, [], ◌∷◌, ◌++◌, length, map, unwrap_or, Option, Some, None, Result, Ok, Err}
+use Rattle.std.specs.Prelude.{ℕ, ◌==◌, ◌&&◌, nat_le, Bool, true, false, if◌then◌else◌, List, ◌++◌, length, map, Option, Some, None, Result, Ok, Err}
 use Rattle.std.specs.Option.{option_and_then, option_map, option_to_list}
 use Rattle.std.specs.Result.{result_ok}
 use Rattle.bac_wire.specs.Identifier.{Identifier}
@@ -84,18 +84,22 @@ unless_failed id service made (Err failure) = error id service (error_octets (er
 abbrev pub answered_object : Info → Identifier → Identifier
 answered_object info object = if is_device info object then device_object info else object
 
+-- what is acknowledged: the object, the property, the index as it was asked for, and the values
 abbrev pub answer_to : DeviceState → Reference → Property → Answer
 answer_to device r property = record {
   reference = record { object = answered_object device.info r.object; property = r.property; index = r.index };
   value = region_octets property;
 }
 
+-- the ReadProperty-ACK
 abbrev pub ack : DeviceState → ℕ → Reference → Property → Message
 ack device id r property = complex_ack None id 12 (ack_octets (answer_to device r property))
 
+-- the reply to a ReadProperty with this body
 unfoldable pub read_reply : DeviceState → ℕ → List ℕ → Message
 read_reply device id body = unless_rejected id (λ r. unless_failed id 12 (ack device id r) (read_property device r)) (read_of body)
 
+-- the reply to a WriteProperty with this body
 unfoldable pub write_reply : DeviceState → ℕ → List ℕ → Message
 write_reply device id body = unless_rejected id (λ o. unless_failed id 15 (λ _. simple_ack id 15) (accepted device o)) (write_of body)
 
@@ -112,6 +116,7 @@ unfoldable pub full_reply : DeviceState → Option Part → ℕ → ℕ → List
 full_reply device (Some part) id service body = refused id
 full_reply device None id service body = if service == 12 then read_reply device id body else if service == 15 then write_reply device id body else reject id 9
 
+-- the write that a request orders and the device accepts
 unfoldable pub write_in_request : DeviceState → Option Part → ℕ → List ℕ → Option Write
 write_in_request device (Some part) service body = None
 write_in_request device None service body = if service == 15 then write_in_body device body else None
@@ -122,10 +127,12 @@ fitting code id full = if nat_le (length (laid_out full)) (announced_size code) 
 
 -- ---- Who-Is (clause 16.10)
 
+-- whether a Who-Is asks for the device of this instance
 abbrev pub asks : WhoIs → ℕ → Bool
 asks limits.All instance = true
 asks (limits.Range low high) instance = nat_le low instance && nat_le instance high
 
+-- the device, 1476 octets, no segmentation, the vendor
 abbrev pub introduction_of : Info → Introduction
 introduction_of info = record { device = device_object info; max_apdu = 1476; segmentation = 3; vendor = 260 }
 
@@ -133,6 +140,7 @@ introduction_of info = record { device = device_object info; max_apdu = 1476; se
 abbrev pub i_am : Info → Message
 i_am info = unconfirmed 0 (i_am_octets (introduction_of info))
 
+-- the I-Am, where the body of a Who-Is asks for the device
 unfoldable pub introduced : Info → List ℕ → Option Message
 introduced info body = option_and_then (λ who. if asks who info.instance then Some (i_am info) else None) (who_is_of body)
 
@@ -149,6 +157,7 @@ reply_message device broadcast (error id service body) = None
 reply_message device broadcast (reject id reason) = None
 reply_message device broadcast (abort server id reason) = None
 
+-- the write that an APDU orders and the device accepts
 abbrev pub write_message : DeviceState → Bool → Message → Option Write
 write_message device broadcast (confirmed part code id service body) = if broadcast then None else write_in_request device part service body
 write_message device broadcast (unconfirmed service body) = None
@@ -163,9 +172,11 @@ write_message device broadcast (abort server id reason) = None
 unfoldable pub reply_apdu : DeviceState → Bool → List ℕ → Option (List ℕ)
 reply_apdu device broadcast apdu = option_and_then (λ message. option_map laid_out (reply_message device broadcast message)) (apdu_of apdu)
 
+-- the same of the octets of an APDU
 unfoldable pub write_apdu : DeviceState → Bool → List ℕ → Option Write
 write_apdu device broadcast apdu = option_and_then (write_message device broadcast) (apdu_of apdu)
 
+-- the reply to what a datagram carries, as a unicast to its peer
 abbrev pub reply_delivery : DeviceState → Delivery → Option (Station × List ℕ)
 reply_delivery device delivery = option_map (λ apdu. (delivery.peer, wrapped delivery.peer.route false apdu)) (reply_apdu device delivery.broadcast delivery.apdu)
 

@@ -8,7 +8,6 @@ ghost use Rattle.bac_device.specs.Places.{Write, write_seen, present, place_at, 
 ghost use Rattle.bac_device.specs.Steps.{result_seen};
 ghost use Rattle.bac_device.specs.Property.{property_seen, IsSoundProperty};
 ghost use Rattle.bac_device.specs.Device.{Holds, points_of, device_after, standing_at, present_after, place_after, same_name, has_object as has_object_in, has_name as has_name_in, add_point, device_text, device_number, device_property};
-ghost use Rattle.bac_device.specs.Demo.{with_row};
 ghost use Rattle.bac_device.specs.Reply.{property_of, commanded, with_write};
 
 use crate::failure::Failure;
@@ -94,20 +93,16 @@ impl Device {
         let Some(point) = StandingPoint::new(point) else {
             return Err(AddFault::BadPoint);
         };
-        self.points.push(point);
+        self.append(point);
         Ok(())
     }
 
-    /// One more point, where it is one that a device can have.
-    #[tactic(auto, unfolding(crate::specs::Demo::with_row))]
-    pub(crate) fn append(&mut self, point: &Point<'_>)
+    /// One more point.
+    pub(crate) fn append(&mut self, point: StandingPoint)
         requires { length self.old.standings < 32 }
-        ensures after { self.new ≡ with_row self.old (given point.now) }
-        ensures few { length self.new.standings ≤ length self.old.standings + 1 }
+        ensures { self.new ≡ record { info = self.old.info; standings = self.old.standings ++ point ∷ [] } }
     {
-        if let Some(point) = StandingPoint::new(point) {
-            self.points.push(point);
-        }
+        self.points.push(point);
     }
 
     /// The number of the present value of a point (clause 19.2), as in [`Point::start`]: what the most urgent place that is
@@ -129,10 +124,8 @@ impl Device {
     fn present_at(&self, object: ObjectId) -> Option<u32>
         ensures { result ≡ option_map present (standing_at self.now (identifier object)) }
     {
-        match self.point(object) {
-            Some(point) => Some(point.present()),
-            None => None,
-        }
+        let point = self.point(object)?;
+        Some(point.present())
     }
 
     fn place_at(&self, object: ObjectId, priority: u8) -> Option<Option<u32>>

@@ -1,7 +1,7 @@
 //! A small BACnet device: commandable points, priority arrays and exact replies.
 #![tactic(auto)]
 
-mod demo;
+mod demonstration;
 mod device;
 mod failure;
 mod info;
@@ -15,6 +15,7 @@ mod reply;
 mod tests;
 mod write;
 
+pub use demonstration::demo;
 pub use device::{AddFault, Device, POINTS};
 pub use info::DeviceInfo;
 pub use point::{NAME_OCTETS, Point};

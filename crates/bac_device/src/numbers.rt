@@ -63,7 +63,7 @@ pub(crate) const NORMAL: u32 = 0;
 /// The character set of every text.
 pub(crate) const UTF_8: u8 = 0;
 
-/// The instance that stands for no object, and for every device in a request (clause 12).
+/// The instance that no object has (clause 12); with the type of a device it stands for the device asked (clause 15.5).
 pub(crate) const NO_INSTANCE: u32 = 4_194_303;
 
 /// The system status of a device that works.
@@ -75,5 +75,5 @@ pub(crate) const MAX_APDU: u64 = 1476;
 /// The device neither sends nor takes segments.
 pub(crate) const NO_SEGMENTATION: u32 = 3;
 
-/// The number of the vendor.
+/// The number of the vendor, which is this project's own choice.
 pub(crate) const VENDOR: u64 = 260;

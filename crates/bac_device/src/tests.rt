@@ -7,7 +7,7 @@ mod points;
 mod replies;
 mod writes;
 
-use crate::{Device, DeviceInfo};
+use crate::{Device, DeviceInfo, demo};
 use arrayvec::ArrayVec;
 use bac_pdu::Peer;
 use bac_wire::{Frame, ObjectId};
@@ -21,7 +21,7 @@ const PEER: Peer = Peer {
 
 /// The device 1234, named `Small device`, with the demonstration points.
 fn small_device() -> Option<Device> {
-    Some(Device::demo(DeviceInfo::new(1234, "Small device")?))
+    Some(demo(DeviceInfo::new(1234, "Small device")?))
 }
 
 /// The present value of analog-output 1.

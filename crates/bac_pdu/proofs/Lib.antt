@@ -9,3 +9,4 @@ pub mod WriteLaws
 pub mod DiscoveryLaws
 pub mod RoundLaws
 pub mod ShortestLaws
+pub mod LengthLaws

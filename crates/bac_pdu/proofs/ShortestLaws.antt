@@ -1,12 +1,11 @@
 -- What is written of a body spells it, and no other spelling has fewer octets.
-use Rattle.std.proofs.Common.{◌≡◌, ℕ, zero, suc, ◌+◌, ◌^◌, ◌<◌, ◌≤◌, List, [], ◌∷◌, ◌++◌, length, Option, Some, None, refl, ap, subst, arith, inl, inr}
-use Rattle.std.specs.Prelude.{IfSome, OnOk, Result, Ok, Err, slice_index}
+use Rattle.std.proofs.Common.{◌≡◌, ℕ, ◌+◌, ◌^◌, ◌<◌, ◌≤◌, List, [], ◌∷◌, ◌++◌, length, Option, Some, None, refl, ap, subst, arith}
+use Rattle.std.specs.Prelude.{IfSome, OnOk, Result, Ok, Err}
 use Rattle.std.specs.List.{AllByRecursion}
-use Rattle.std.proofs.Math.Nat.{pow-le-pow_right}
-use Rattle.std.proofs.lemmas.Bool.{cases_lt, lt-ltb}
+use Rattle.std.proofs.lemmas.Bool.{lt-ltb}
 use Rattle.std.proofs.lemmas.List.{length-append}
-use Rattle.byteorder.specs.Endian.{big_number, big_bytes}
-use Rattle.byteorder.specs.Numbers.{big_from-lt, length-bytes_high_first}
+use Rattle.byteorder.specs.Endian.{big_bytes}
+use Rattle.byteorder.specs.Numbers.{length-bytes_high_first}
 use Rattle.bac_wire.specs.Identifier.{Identifier, number_of}
 use Rattle.bac_wire.specs.Front.{AreOctets, IsShortest}
 use Rattle.bac_wire.specs.Tag.{SpellsTag, plain_number, plain_tag}
@@ -15,7 +14,7 @@ use Rattle.bac_wire.specs.Datum.{Datum, Spells, unsigned, enumerated, octet_coun
 use Rattle.bac_wire.specs.Datum as values
 use Rattle.bac_wire.specs.Parameter.{context_tag, SpellsIn, IsNumber, IsObject, SpellsEnclosed, context_octets, number_octets, object_octets, enclosed_octets}
 use Rattle.bac_wire.proofs.PlainTag.{behind, tag_least}
-use Rattle.bac_wire.proofs.PlainDatum.{octet_count_cases}
+use Rattle.bac_wire.proofs.ShortestDatum.{octet_count_least, number_within, ahead}
 use Rattle.bac_pdu.specs.declared.discovery.WhoIs.{WhoIs}
 use Rattle.bac_pdu.specs.declared.discovery.WhoIs.TheVariants as limits
 use Rattle.bac_pdu.specs.Parameter.{Parameter, object, property, index, value, priority, IsParameter, SpellsParameter, SpellsTo, SpellsAll, optional, plain_parameter, plain_all}
@@ -27,39 +26,10 @@ use Rattle.bac_pdu.proofs.RoundLaws.{parameters_spell, range_spells}
 
 -- ---- the fewest octets of a number
 
-more_octets : (i k n : ℕ) → 256 ^ i ≤ n → n < 256 ^ k → i < k
-more_octets i k n low high =
-    elim (cases_lt i k) [
-      | inl less ↦ less
-      | inr most ↦ let grows : 256 ^ k ≤ 256 ^ i = pow-le-pow_right (omega arith) most in absurd (omega arith)
-    ]
-
-octet_count_least : (k n : ℕ) → 1 ≤ k → n < 256 ^ k → octet_count n ≤ k
-octet_count_least k n low fits = octet_count_cases (λ j. j ≤ k) n
-    (λ h. low)
-    (λ l h. more_octets 1 k n l fits)
-    (λ l h. more_octets 2 k n l fits)
-    (λ l h. more_octets 3 k n l fits)
-    (λ l h. more_octets 4 k n l fits)
-    (λ l h. more_octets 5 k n l fits)
-    (λ l h. more_octets 6 k n l fits)
-    (λ l. more_octets 7 k n l fits)
-
 number_least : (contents : List ℕ) (n : ℕ) → AreOctets contents → IsNumber contents n → octet_count n ≤ length contents
 number_least contents n fit s =
-    let within : big_number (length contents) contents < 256 ^ length contents = big_from-lt 0 (length contents) contents fit in
-    let fits : n < 256 ^ length contents = rw s.2 within in
+    let fits : n < 256 ^ length contents = rw s.2 (number_within contents fit) in
     octet_count_least (length contents) n s.0 fits
-
--- ---- parts of octets
-
-first_is : (front rest : List ℕ) (i : ℕ) → AreOctets (front ++ rest) → slice_index front i < 256
-first_is [] rest i fit = omega arith
-first_is (x ∷ front) rest zero fit = fit zero
-first_is (x ∷ front) rest (suc i) fit = first_is front rest i (λ j. fit (suc j))
-
-ahead : (front rest : List ℕ) → AreOctets (front ++ rest) → AreOctets front
-ahead front rest fit = λ i. first_is front rest i fit
 
 -- ---- a parameter
 

@@ -84,7 +84,7 @@ pub(crate) fn object_and_rest(number: u8, octets: &[u8]) -> Option<(ObjectId, &[
     Some((object, rest))
 }
 
-/// The whole items between an opening and a closing tag of this number.
+/// The whole items between an opening and a closing tag 3.
 #[tactic(auto, unfolding(bac_wire::specs::ParameterReading::enclosed_at))]
 pub(crate) fn enclosed_and_rest(octets: &[u8]) -> Option<(&[u8], &[u8])>
     ensures { option_map (λ x. (x.0.now, x.1.now)) result ≡ enclosed_at 3 octets.now }

@@ -10,7 +10,7 @@ pub const ADDRESS_OCTETS: usize = 7;
 pub struct Route {
     network: u16,
     count: u8,
-    octets: [u8; 7],
+    octets: [u8; ADDRESS_OCTETS],
     ghost local: { 0 < network },
     ghost global: { network < 65535 },
     ghost shortest: { 1 ≤ count },

@@ -12,4 +12,11 @@ pub mod SoFar
 pub mod ValueLists
 pub mod ValueTexts
 pub mod Routes
-pub mod ReadBodies
+pub mod Asking
+pub mod WordValues
+pub mod ValueRegions
+pub mod PairLemmas
+pub mod WriteBodies
+pub mod WordRanges
+pub mod BodiesInWords
+pub mod Shown

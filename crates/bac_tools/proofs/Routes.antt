@@ -1,6 +1,6 @@
 -- Routes as they are written.
-use Rattle.std.proofs.Common.{◌≡◌, ℕ, ◌+◌, ◌*◌, ◌<◌, ◌≤◌, true, false, List, length, Option, None, refl, arith}
-use Rattle.std.specs.Prelude.{◌&&◌, nat_lt, is_ok, IsTrue}
+use Rattle.std.proofs.Common.{◌≡◌, ℕ, ◌<◌, ◌≤◌, false, List, length, None, arith}
+use Rattle.std.specs.Prelude.{nat_lt, is_ok, IsTrue}
 use Rattle.std.proofs.lemmas.Bool.Decides.{nat_tests}
 use Rattle.hex.specs.Hex.{decode_of}
 use Rattle.bac_tools.specs.Words.{octets_in}

@@ -1,12 +1,17 @@
 -- Settings are said by nothing but the first line that says something.
-use Rattle.std.proofs.Common.{ℕ, ◌-◌, ◌^◌, Bool, true, false, List, [], ◌∷◌, Option, Some, None, Result, Ok, Err}
+use Rattle.std.proofs.Common.{ℕ, Bool, true, false, List, [], ◌∷◌, Option, Some, None, Result, Ok, Err}
 use Rattle.std.specs.Prelude.{ok_or, option_map, cond, bytes_eq, codes, slice_index, ◌==◌, if◌then◌else◌}
 use Rattle.std.specs.Str.{is_utf8}
 use Rattle.bac_tsm.specs.Events.{Event}
+use Rattle.bac_device.specs.Turns.{Arrival}
 use Rattle.bac_tools.specs.declared.line.LineFault.{LineFault}
 use Rattle.bac_tools.specs.declared.line.LineFault.TheVariants.{Bad}
-use Rattle.bac_tools.specs.Words.{words_of}
-use Rattle.bac_tools.specs.Line.{Said, Nothing, Settings, Happens, reading_of, arrival_of, tick_of, said_by, said_in, text_of_line, said}
+use Rattle.bac_pdu.specs.Peer.{Station}
+use Rattle.bac_tools.specs.declared.value_words.PairFault.{PairFault}
+use Rattle.bac_tools.specs.declared.value_words.PairFault.TheVariants.{TooLong}
+use Rattle.bac_tools.specs.declared.value_words.PairFault.TheVariants as pair
+use Rattle.bac_tools.specs.Words.{◌>>=◌, words_of}
+use Rattle.bac_tools.specs.Line.{Said, Nothing, Settings, Happens, Unsendable, Asks, reading_of, body_for, requested, writing_of, arrival_of, handed, tick_of, said_by, said_in, text_of_line, said}
 use Rattle.bac_tools.specs.Script.{is_silent, and_then, said_from, all_said}
 use Rattle.bac_tools.proofs.Machine.{NoSettings, SettingsFirst}
 
@@ -15,6 +20,8 @@ abbrev IsOther : Said → Type 0
 IsOther Nothing = Unit {0}
 IsOther (Settings timeout retries first_ticket) = ⊥
 IsOther (Happens event) = Unit {0}
+IsOther Unsendable = Unit {0}
+IsOther (Asks arrival) = Unit {0}
 
 abbrev AreOther : Option Said → Type 0
 AreOther None = Unit {0}
@@ -28,26 +35,54 @@ event_other : (found : Option Event) → AreOther (option_map Happens found)
 event_other None = tt
 event_other (Some event) = tt
 
+handed_other : (found : Option Arrival) → AreOther (option_map handed found)
+handed_other None = tt
+handed_other (Some arrival) = tt
+
+asked_other : (found : Option Arrival) → AreOther (option_map Asks found)
+asked_other None = tt
+asked_other (Some arrival) = tt
+
+requested_other : (peer : Station) (body : Result (List ℕ) PairFault) → AreOther (requested peer body)
+requested_other peer (Ok body) = tt
+requested_other peer (Err TooLong) = tt
+requested_other peer (Err pair.Bad) = tt
+
+writing_other : (words : List (List ℕ)) → AreOther (writing_of words)
+writing_other words = go (body_for words)
+  where
+    go : (found : Option (Station × Result (List ℕ) PairFault)) → AreOther (found >>= (λ one. requested one.0 one.1))
+    go None = tt
+    go (Some one) = requested_other one.0 one.1
+
 chosen_other : (b : Bool) (x y : Option Said) → AreOther x → AreOther y → AreOther (cond b x y)
 chosen_other true x y h k = h
 chosen_other false x y h k = k
 
+abbrev named_ask : List ℕ → List (List ℕ) → Option Said
+named_ask name others = if bytes_eq name (codes "ask") then option_map Asks (arrival_of others) else None
+
 abbrev named_tick : List ℕ → List (List ℕ) → Option Said
-named_tick name others = if bytes_eq name (codes "tick") then option_map Happens (tick_of others) else None
+named_tick name others = if bytes_eq name (codes "tick") then option_map Happens (tick_of others) else named_ask name others
 
 abbrev named_data : List ℕ → List (List ℕ) → Option Said
-named_data name others = if bytes_eq name (codes "data") then option_map Happens (arrival_of others) else named_tick name others
+named_data name others = if bytes_eq name (codes "data") then option_map handed (arrival_of others) else named_tick name others
+
+abbrev named_write : List ℕ → List (List ℕ) → Option Said
+named_write name others = if bytes_eq name (codes "write") then writing_of others else named_data name others
 
 abbrev named_read : List ℕ → List (List ℕ) → Option Said
-named_read name others = if bytes_eq name (codes "read") then option_map Happens (reading_of others) else named_data name others
+named_read name others = if bytes_eq name (codes "read") then option_map Happens (reading_of others) else named_write name others
 
 words_other : (words : List (List ℕ)) → AreOther (said_by false words)
 words_other [] = tt
 words_other (name ∷ others) =
     chosen_other (slice_index name 0 == 35) (Some Nothing) (named_read name others) tt
-    (chosen_other (bytes_eq name (codes "read")) (option_map Happens (reading_of others)) (named_data name others) (event_other (reading_of others))
-    (chosen_other (bytes_eq name (codes "data")) (option_map Happens (arrival_of others)) (named_tick name others) (event_other (arrival_of others))
-    (chosen_other (bytes_eq name (codes "tick")) (option_map Happens (tick_of others)) None (event_other (tick_of others)) tt)))
+    (chosen_other (bytes_eq name (codes "read")) (option_map Happens (reading_of others)) (named_write name others) (event_other (reading_of others))
+    (chosen_other (bytes_eq name (codes "write")) (writing_of others) (named_data name others) (writing_other others)
+    (chosen_other (bytes_eq name (codes "data")) (option_map handed (arrival_of others)) (named_tick name others) (handed_other (arrival_of others))
+    (chosen_other (bytes_eq name (codes "tick")) (option_map Happens (tick_of others)) (named_ask name others) (event_other (tick_of others))
+    (chosen_other (bytes_eq name (codes "ask")) (option_map Asks (arrival_of others)) None (asked_other (arrival_of others)) tt)))))
 
 found_other : (o : Option Said) (fault : LineFault) → AreOther o → FoundOther (ok_or o fault)
 found_other None fault h = tt
@@ -66,6 +101,8 @@ other_then (Err fault) later h rest = tt
 other_then (Ok Nothing) later h rest = rest
 other_then (Ok (Settings timeout retries first_ticket)) later h rest = absurd h
 other_then (Ok (Happens event)) later h rest = rest
+other_then (Ok Unsendable) later h rest = rest
+other_then (Ok (Asks arrival)) later h rest = rest
 
 -- Once something was said, no settings are.
 others_settled : (lines : List (List ℕ)) → NoSettings (said_from false lines)
@@ -78,6 +115,8 @@ first_then (Err fault) lines first others = tt
 first_then (Ok Nothing) lines first others = first
 first_then (Ok (Settings timeout retries first_ticket)) lines first others = others
 first_then (Ok (Happens event)) lines first others = others
+first_then (Ok Unsendable) lines first others = others
+first_then (Ok (Asks arrival)) lines first others = others
 
 pub settings_first : (lines : List (List ℕ)) → SettingsFirst (all_said lines)
 settings_first [] = tt

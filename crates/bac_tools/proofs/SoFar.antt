@@ -7,24 +7,25 @@ use Rattle.std.proofs.lemmas.List.{append-nil, length-append}
 use Rattle.std.proofs.lemmas.List.Folds.{list_all-append}
 use Rattle.std.proofs.lemmas.Option.{slice_get_past}
 use Rattle.bac_tsm.specs.Client.{Client}
+use Rattle.bac_device.specs.Device.{DeviceState}
 use Rattle.bac_tools.specs.declared.checked.Checked.{Checked}
 use Rattle.bac_tools.specs.declared.input.Reading.{Reading}
 use Rattle.bac_tools.specs.declared.input.Reading.TheVariants.{Open, AtEnd, Failed}
 use Rattle.bac_tools.specs.declared.line.LineFault.{LineFault}
 use Rattle.bac_tools.specs.declared.tracing.TraceEnd.{TraceEnd}
 use Rattle.bac_tools.specs.declared.tracing.TraceFault.{TraceFault}
-use Rattle.bac_tools.specs.declared.tracing.TraceFault.TheVariants.{ReadFailed, WriteFailed}
+use Rattle.bac_tools.specs.declared.tracing.TraceFault.TheVariants.{BadLine, LineTooLong, ReadFailed, WriteFailed}
 use Rattle.bac_tools.specs.Checked.{inner_of, has_failed}
 use Rattle.bac_tools.specs.Input.{Takes, StandsAs, HasNoFeed, IsCutAs}
 use Rattle.bac_tools.specs.Line.{Said, said}
-use Rattle.bac_tools.specs.Running.{ran}
+use Rattle.bac_tools.specs.Running.{Stage, Stands, new_client, device_with, ran}
 use Rattle.bac_tools.specs.Script.{lines, is_nothing, is_silent, and_then, said_from, all_said, text_of, text, fault_at, fault_after, first_fault, EndsAs, RunsWhole, Runs}
 use Rattle.bac_tools.specs.Page.{Prints}
-use Rattle.bac_tools.specs.Tracing.{Traces}
+use Rattle.bac_tools.specs.Tracing.{RunsOn}
 use Rattle.bac_tools.proofs.Pieces.{NextLine, next_ended, next_long, next_last, lines-ended, lines-rest, lines-last, said-whole_long}
 use Rattle.bac_tools.proofs.Taken.{Takes-none, Takes-more}
-use Rattle.bac_tools.proofs.Known.{Appends-none, Appends-more}
-use Rattle.bac_tools.proofs.Machine.{first_client, run_from, machine_text, client_after, text-append, after-push, text_is}
+use Rattle.bac_tools.proofs.Printed.{prints_nothing, prints_more}
+use Rattle.bac_tools.proofs.Machine.{first_stage, run_from, machine_text, stage_after, text-append, after-push, text_is}
 use Rattle.bac_tools.proofs.Settled.{settings_first}
 
 -- These lines are the front of every script that begins with these octets, and say this.
@@ -35,7 +36,7 @@ pub record Begins (octets : List ℕ) (before : List (List ℕ)) (all : List Sai
 
 -- The lines so far were taken and run.
 pub record SoFar {R W : Type 0} (remaining : R → Option (List ℕ)) (contents : W → Option (List ℕ)) (reader reader' : Checked R) (held : List ℕ)
-    (writer writer' : Checked W) (count : ℕ) (is_first : Bool) (client : Client) : Type 0 where
+    (writer writer' : Checked W) (page page' : List ℕ) (count : ℕ) (is_first : Bool) (client : Client) (device : DeviceState) : Type 0 where
   pub octets : List ℕ
   pub before : List (List ℕ)
   pub all : List Said
@@ -43,8 +44,8 @@ pub record SoFar {R W : Type 0} (remaining : R → Option (List ℕ)) (contents 
   pub begins : Begins octets before all
   pub counted : count ≡ length before
   pub quiet : is_first ≡ list_all is_nothing all
-  pub kept : client ≡ client_after all
-  pub wrote : Appends (contents (inner_of writer)) (contents (inner_of writer')) (machine_text all)
+  pub kept : Stands (stage_after all) client device
+  pub printed : Prints contents writer writer' page page' (machine_text all)
 
 Begins-none : Begins [] [] []
 Begins-none = record { split = λ more reading. refl; sound = λ others. refl; counted = refl }
@@ -106,7 +107,7 @@ text_of-said : (ls : List (List ℕ)) (all : List Said) → all_said ls ≡ all 
 text_of-said ls all e = text_is (all_said ls) (settings_first ls) ∙ ap machine_text e
 
 -- A script that a line stops.
-pub runs_fault : (octets line held : List ℕ) (before : List (List ℕ)) (all : List Said) (reading : Reading) (fault : LineFault) →
+runs_fault : (octets line held : List ℕ) (before : List (List ℕ)) (all : List Said) (reading : Reading) (fault : LineFault) →
     Begins octets before all → NextLine line held reading → said (list_all is_nothing all) line ≡ Err fault →
     RunsWhole ((octets ++ line) ++ held) reading (machine_text all) (Err (fault_at (length before + 1) (Err fault)))
 runs_fault octets line held before all reading fault b n err =
@@ -130,6 +131,14 @@ runs_fault octets line held before all reading fault b n err =
           (let e : answer ≡ Err (fault_at (length before + 1) (Err fault)) = refl in e);
     }
 
+-- The same, with the number of lines so far.
+pub runs_fault_after : (octets line held : List ℕ) (before : List (List ℕ)) (all : List Said) (reading : Reading) (fault : LineFault) (count : ℕ) → count ≡ length before →
+    Begins octets before all → NextLine line held reading → said (list_all is_nothing all) line ≡ Err fault →
+    RunsWhole ((octets ++ line) ++ held) reading (machine_text all) (Err (fault_at (count + 1) (Err fault)))
+runs_fault_after octets line held before all reading fault count counted b n err =
+    subst (λ (k : ℕ). RunsWhole ((octets ++ line) ++ held) reading (machine_text all) (Err (fault_at (k + 1) (Err fault)))) (sym counted)
+    (runs_fault octets line held before all reading fault b n err)
+
 fault_after-none : (all : List Said) (ls : List (List ℕ)) → length all ≡ length ls → fault_after all ls ≡ None
 fault_after-none all ls e = rw (e, slice_get_past ls (length ls) (omega arith)) refl
 
@@ -147,25 +156,25 @@ runs_whole octets reading before all answer e sound counted ends =
           (subst (λ ls. EndsAs reading (length ls) answer) (sym e) ends);
     }
 
--- A script that the writer stops in the text of a line.
-pub runs_write_failed : (octets line held : List ℕ) (before : List (List ℕ)) (all : List Said) (reading : Reading) (one : Said) (taken rest : List ℕ) →
-    Begins octets before all → NextLine line held reading → said (list_all is_nothing all) line ≡ Ok one →
-    (ran (client_after all) one).text ≡ taken ++ rest →
-    Runs ((octets ++ line) ++ held) reading (machine_text all ++ taken) (Err WriteFailed)
-runs_write_failed octets line held before all reading one taken rest b n ok part =
-    let cut : lines ((octets ++ line) ++ held) reading ≡ before ++ n.whole ∷ n.others =
-    ap (λ os. lines os reading) (append_assoc octets line held) ∙ b.split (line ++ held) reading ∙ ap (λ ls. before ++ ls) n.split in
-    let good : said (list_all is_nothing all) n.whole ≡ Ok one = n.same (list_all is_nothing all) ∙ ok in
-    let later = said_from (list_all is_nothing all && is_nothing one) n.others in
-    let sound : all_said (before ++ n.whole ∷ n.others) ≡ all ++ one ∷ later =
-    b.sound (n.whole ∷ n.others) ∙ ap (λ (xs : List Said). all ++ xs) (said_from-ok (list_all is_nothing all) n.whole n.others one good) in
-    let more = (run_from (ran (client_after all) one).after later).text in (
-      rest ++ more,
-      ap (λ ls. text_of (all_said ls)) cut ∙ text_of-said (before ++ n.whole ∷ n.others) (all ++ one ∷ later) sound ∙ text-append first_client all (one ∷ later)
-          ∙ ap (λ (xs : List ℕ). machine_text all ++ (xs ++ more)) part
-          ∙ ap (λ (xs : List ℕ). machine_text all ++ xs) (append_assoc taken rest more)
-          ∙ sym (append_assoc (machine_text all) taken (rest ++ more)),
+-- A script that stops between two lines, since the writer has failed.
+pub runs_front : (octets held : List ℕ) (before : List (List ℕ)) (all : List Said) (reading : Reading) → Begins octets before all →
+    Runs (octets ++ held) reading (machine_text all) (Err WriteFailed)
+runs_front octets held before all reading b =
+    let later = said_from (list_all is_nothing all) (lines held reading) in
+    let sound : all_said (before ++ lines held reading) ≡ all ++ later = b.sound (lines held reading) in (
+      (run_from (stage_after all) later).text,
+      ap (λ ls. text_of (all_said ls)) (b.split held reading) ∙ text_of-said (before ++ lines held reading) (all ++ later) sound ∙ text-append first_stage all later,
     )
+
+-- Of whatever is the text, or a front of it, a front is a front of the text.
+pub front_runs : (octets : List ℕ) (reading : Reading) (printed taken rest : List ℕ) (answer : Result TraceEnd TraceFault) → Runs octets reading printed answer →
+    printed ≡ taken ++ rest → Runs octets reading taken (Err WriteFailed)
+front_runs octets reading printed taken rest (Err WriteFailed) runs e =
+    (rest ++ runs.0, runs.1 ∙ ap (λ (xs : List ℕ). xs ++ runs.0) e ∙ append_assoc taken rest runs.0)
+front_runs octets reading printed taken rest (Err ReadFailed) runs e = (rest, sym runs.wrote ∙ e)
+front_runs octets reading printed taken rest (Err (BadLine n)) runs e = (rest, sym runs.wrote ∙ e)
+front_runs octets reading printed taken rest (Err (LineTooLong n)) runs e = (rest, sym runs.wrote ∙ e)
+front_runs octets reading printed taken rest (Ok end) runs e = (rest, sym runs.wrote ∙ e)
 
 stands_empty : {R : Type 0} (remaining : R → Option (List ℕ)) (reading : Reading) (reader : Checked R) (held : List ℕ) → StandsAs remaining reading reader held → StandsAs remaining reading reader []
 stands_empty remaining Open reader held h = h
@@ -173,21 +182,21 @@ stands_empty remaining AtEnd reader held h = (refl, h.1, h.2)
 stands_empty remaining Failed reader held h = (refl, h.1)
 
 -- What is left to say where the run stops.
-pub Traces-from : {R W : Type 0} (remaining : R → Option (List ℕ)) (contents : W → Option (List ℕ)) (reader middle reader' : Checked R) (before held octets line : List ℕ)
-    (writer writer' : Checked W) (written : List ℕ) (reading : Reading) (answer : Result TraceEnd TraceFault) →
+pub RunsOn-from : {R W : Type 0} (remaining : R → Option (List ℕ)) (contents : W → Option (List ℕ)) (reader middle reader' : Checked R) (before held octets line : List ℕ)
+    (writer writer' : Checked W) (page page' printed : List ℕ) (reading : Reading) (answer : Result TraceEnd TraceFault) →
     Takes remaining reader middle [] before octets → Takes remaining middle reader' before held line → StandsAs remaining reading reader' held →
-    Appends (contents (inner_of writer)) (contents (inner_of writer')) written → Runs ((octets ++ line) ++ held) reading written answer →
-    Traces remaining contents reader reader' writer writer' answer
-Traces-from remaining contents reader middle reader' before held octets line writer writer' written reading answer p q stands wrote runs =
+    Prints contents writer writer' page page' printed → Runs ((octets ++ line) ++ held) reading printed answer →
+    RunsOn remaining contents reader reader' writer writer' page page' answer
+RunsOn-from remaining contents reader middle reader' before held octets line writer writer' page page' printed reading answer p q stands prints runs =
     let t = Takes-more remaining reader middle reader' [] before held octets line p q in
     record {
       given = t.given;
       reading = reading;
-      written = written;
+      printed = printed;
       gave = t.gave;
       stopped = stands_empty remaining reading reader' held stands;
-      took = wrote;
-      runs = subst (λ os. Runs os reading written answer) (sym t.order) runs;
+      prints = prints;
+      runs = subst (λ os. Runs os reading printed answer) (sym t.order) runs;
     }
 
 -- The line that was taken, as the script has it.
@@ -262,20 +271,20 @@ open_from AtEnd f e = absurd (e refl)
 open_from Failed f e = absurd (f refl)
 
 -- The text of one more line is written after that of the lines before it.
-pub text_next : (client : Client) (all : List Said) (one : Said) → client ≡ client_after all →
-    machine_text (all ++ one ∷ []) ≡ machine_text all ++ (ran client one).text
-text_next client all one kept =
-    text-append first_client all (one ∷ [])
-    ∙ ap (λ (xs : List ℕ). machine_text all ++ xs) (append-nil (ran (client_after all) one).text ∙ ap (λ (c : Client). (ran c one).text) (sym kept))
+pub text_next : (all : List Said) (one : Said) → machine_text (all ++ one ∷ []) ≡ machine_text all ++ (ran (stage_after all) one).text
+text_next all one =
+    text-append first_stage all (one ∷ []) ∙ ap (λ (xs : List ℕ). machine_text all ++ xs) (append-nil (ran (stage_after all) one).text)
 
 -- One more line was run.
 pub SoFar-next : {R W : Type 0} (remaining : R → Option (List ℕ)) (contents : W → Option (List ℕ)) (reader middle reader' : Checked R) (before held line : List ℕ)
-    (writer between writer' : Checked W) (count : ℕ) (is_first is_first' : Bool) (client client' : Client) (reading : Reading) (one : Said) →
-    SoFar remaining contents reader middle before writer between count is_first client → Takes remaining middle reader' before held line → IsCutAs reading line →
-    reading ≢ Failed → reading ≢ AtEnd → said is_first line ≡ Ok one → is_first' ≡ (is_first && is_nothing one) → client' ≡ (ran client one).after →
-    Appends (contents (inner_of between)) (contents (inner_of writer')) (ran client one).text →
-    SoFar remaining contents reader reader' held writer writer' (count + 1) is_first' client'
-SoFar-next remaining contents reader middle reader' before held line writer between writer' count is_first is_first' client client' reading one s taken cut going more ok first kept wrote =
+    (writer between writer' : Checked W) (page kept page' : List ℕ) (count : ℕ) (is_first is_first' : Bool) (client client' : Client) (device device' : DeviceState)
+    (reading : Reading) (one : Said) →
+    (s : SoFar remaining contents reader middle before writer between page kept count is_first client device) →
+    Takes remaining middle reader' before held line → IsCutAs reading line → reading ≢ Failed → reading ≢ AtEnd → said is_first line ≡ Ok one →
+    is_first' ≡ (is_first && is_nothing one) → Stands (ran (stage_after s.all) one).after client' device' →
+    Prints contents between writer' kept page' (ran (stage_after s.all) one).text →
+    SoFar remaining contents reader reader' held writer writer' page page' (count + 1) is_first' client' device'
+SoFar-next remaining contents reader middle reader' before held line writer between writer' page kept page' count is_first is_first' client client' device device' reading one s taken cut going more ok first kept_on printed =
     record {
       octets = s.octets ++ line;
       before = s.before ++ line ∷ [];
@@ -286,15 +295,35 @@ SoFar-next remaining contents reader middle reader' before held line writer betw
           (ap (λ (b : Bool). said b line) (sym s.quiet) ∙ ok);
       counted = omega (arith, s.counted, length-append s.before (line ∷ []));
       quiet = first ∙ ap (λ (b : Bool). b && is_nothing one) s.quiet ∙ sym (list_all-push s.all one);
-      kept = kept ∙ ap (λ (c : Client). (ran c one).after) s.kept ∙ sym (after-push first_client s.all one);
-      wrote =
-          subst (λ (zs : List ℕ). Appends (contents (inner_of writer)) (contents (inner_of writer')) zs) (sym (text_next client s.all one s.kept))
-          (Appends-more (contents (inner_of writer)) (contents (inner_of between)) (contents (inner_of writer')) (machine_text s.all) (ran client one).text s.wrote wrote);
+      kept = subst (λ (stage : Stage). Stands stage client' device') (sym (after-push first_stage s.all one)) kept_on;
+      printed =
+          subst (λ (zs : List ℕ). Prints contents writer writer' page page' zs) (sym (text_next s.all one))
+          (prints_more contents writer between writer' page kept page' (machine_text s.all) (ran (stage_after s.all) one).text s.printed printed);
     }
 
-pub SoFar-none : {R W : Type 0} (remaining : R → Option (List ℕ)) (contents : W → Option (List ℕ)) (reader : Checked R) (held : List ℕ) (writer : Checked W) (client : Client) →
-    held ≡ [] → client ≡ first_client → SoFar remaining contents reader reader held writer writer 0 true client
-SoFar-none remaining contents reader held writer client none fresh = record {
+-- The page was turned in, or not.
+pub SoFar-handed : {R W : Type 0} (remaining : R → Option (List ℕ)) (contents : W → Option (List ℕ)) (reader reader' : Checked R) (held : List ℕ)
+    (writer between writer' : Checked W) (page kept page' : List ℕ) (count : ℕ) (is_first : Bool) (client : Client) (device : DeviceState) →
+    SoFar remaining contents reader reader' held writer between page kept count is_first client device → Prints contents between writer' kept page' [] →
+    SoFar remaining contents reader reader' held writer writer' page page' count is_first client device
+SoFar-handed remaining contents reader reader' held writer between writer' page kept page' count is_first client device s handed = record {
+  octets = s.octets;
+  before = s.before;
+  all = s.all;
+  taken = s.taken;
+  begins = s.begins;
+  counted = s.counted;
+  quiet = s.quiet;
+  kept = s.kept;
+  printed =
+      subst (λ (zs : List ℕ). Prints contents writer writer' page page' zs) (append-nil (machine_text s.all))
+      (prints_more contents writer between writer' page kept page' (machine_text s.all) [] s.printed handed);
+}
+
+pub SoFar-none : {R W : Type 0} (remaining : R → Option (List ℕ)) (contents : W → Option (List ℕ)) (reader : Checked R) (held : List ℕ) (writer : Checked W) (page : List ℕ)
+    (client : Client) (device : DeviceState) → held ≡ [] → client ≡ new_client 3000 3 0 → device ≡ device_with [] →
+    SoFar remaining contents reader reader held writer writer page page 0 true client device
+SoFar-none remaining contents reader held writer page client device none fresh unwritten = record {
   octets = [];
   before = [];
   all = [];
@@ -302,8 +331,8 @@ SoFar-none remaining contents reader held writer client none fresh = record {
   begins = Begins-none;
   counted = refl;
   quiet = refl;
-  kept = fresh;
-  wrote = Appends-none (contents (inner_of writer));
+  kept = record { as_client = fresh; as_device = unwritten };
+  printed = prints_nothing contents writer page;
 }
 
 -- What was printed on an empty page went to the writer, where it did not fail.

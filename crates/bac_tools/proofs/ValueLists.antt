@@ -1,8 +1,7 @@
 -- The values that a region is, from its front.
-use Rattle.std.proofs.Common.{◌≡◌, ℕ, zero, suc, ◌+◌, ◌<◌, ◌≤◌, List, [], ◌∷◌, ◌++◌, length, Option, Some, None, refl, sym, ◌∙◌, ap, subst, arith}
-use Rattle.std.specs.Prelude.{option_map, ◌↔◌}
-use Rattle.std.proofs.lemmas.Option.{none-some, some_pair_parts}
-use Rattle.bac_wire.specs.Front.{Begins}
+use Rattle.std.proofs.Common.{◌≡◌, ℕ, zero, suc, ◌+◌, ◌<◌, ◌≤◌, List, [], ◌∷◌, length, Option, Some, None, refl, sym, ◌∙◌, ap, subst, arith}
+use Rattle.std.specs.Prelude.{option_map}
+use Rattle.std.proofs.lemmas.Option.{none-some}
 use Rattle.bac_wire.specs.Datum.{Datum, Spells}
 use Rattle.bac_wire.specs.DatumReading.{value_at}
 use Rattle.bac_wire.proofs.DatumLaws.{value_reader}

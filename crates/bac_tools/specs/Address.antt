@@ -1,5 +1,5 @@
 -- A peer as it is written: four numbers joined by dots, a port after a colon, and a route after a slash.
-use Rattle.std.specs.Prelude.{ℕ, ◌+◌, ◌*◌, ◌==◌, ◌&&◌, nat_lt, nat_le, List, [], ◌∷◌, ◌++◌, length, take, drop, Option, Some, None, option_map, position, if◌then◌else◌}
+use Rattle.std.specs.Prelude.{ℕ, ◌+◌, ◌*◌, ◌==◌, ◌&&◌, nat_lt, nat_le, List, length, take, drop, Option, Some, None, option_map, position, if◌then◌else◌}
 use Rattle.bac_pdu.specs.Peer.{NetworkAddress, Station}
 use Rattle.bac_tools.specs.Words.{◌>>=◌, number_up_to, octets_of}
 

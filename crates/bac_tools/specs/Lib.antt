@@ -11,3 +11,6 @@ pub mod Script
 pub mod Tracing
 pub mod Values
 pub mod ValuesInWords
+pub mod ValueWords
+pub mod Pairs
+pub mod PairsInWords

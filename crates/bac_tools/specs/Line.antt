@@ -3,18 +3,25 @@ use Rattle.std.specs.Prelude.{ℕ, ◌-◌, ◌^◌, ◌==◌, ◌&&◌, Bool, n
 use Rattle.std.specs.Str.{is_utf8}
 use Rattle.std.specs.Str.Lines.{strip_carriage_return}
 use Rattle.bac_tsm.specs.Events.{Event, Ask, Data, Tick}
+use Rattle.bac_device.specs.Turns.{Arrival}
 use Rattle.bac_tools.specs.declared.line.LineFault.{LineFault}
 use Rattle.bac_tools.specs.declared.line.LineFault.TheVariants.{Bad, TooLong}
 use Rattle.bac_tools.specs.Words.{◌>>=◌, words_of, number_up_to, octets_of, next_as, at_end}
 use Rattle.bac_tools.specs.Address.{plain_peer_of, peer_of}
 use Rattle.bac_pdu.specs.Property.{Reference, read_octets}
-use Rattle.bac_wire.specs.Identifier.{Identifier}
+use Rattle.bac_pdu.specs.Peer.{Station}
+use Rattle.bac_tools.specs.declared.value_words.PairFault.{PairFault}
+use Rattle.bac_tools.specs.declared.value_words.PairFault.TheVariants as pair
+use Rattle.bac_tools.specs.Pairs.{body_of}
 
--- What a line says: nothing, the client's settings, or an event.
+-- What a line says: nothing, the client's settings, an event of the client, a request to write whose body is too long to be
+-- sent, or a datagram that the device is asked with.
 pub data Said : Type 0 where
   Nothing : Said
   Settings : (timeout retries first_ticket : ℕ) → Said
   Happens : (event : Event) → Said
+  Unsendable : Said
+  Asks : (arrival : Arrival) → Said
 
 -- TIMEOUT, at least 1, RETRIES and TICKET.
 abbrev pub settings_of : List (List ℕ) → Option Said
@@ -43,12 +50,49 @@ reading_of words = do
   index ← index_in property.1
   at_end index.1 (Ask peer.0 12 (read_octets (reference_to kind.0 instance.0 property.0 index.0)))
 
+-- A priority; 0 says none.
+abbrev pub priority_from : ℕ → Option ℕ
+priority_from n = if n == 0 then None else Some n
+
+-- PRIORITY, 0 to 16.
+abbrev pub priority_of : List ℕ → Option (Option ℕ)
+priority_of word = option_map priority_from (number_up_to 16 word)
+
+-- INDEX of a WriteProperty request; -1 says none.
+abbrev pub write_index_of : List ℕ → Option (Option ℕ)
+write_index_of word = if bytes_eq word (codes "-1") then Some None else option_map Some (number_up_to (2 ^ 32 - 1) word)
+
+-- PEER, KIND, INSTANCE, PROPERTY, PRIORITY, INDEX, and tags and values: whom a body is for, and the body.
+abbrev pub body_for : List (List ℕ) → Option (Station × Result (List ℕ) PairFault)
+body_for words = do
+  peer ← next_as peer_of words
+  kind ← next_as (number_up_to 1023) peer.1
+  instance ← next_as (number_up_to 4194303) kind.1
+  property ← next_as (number_up_to 4194303) instance.1
+  priority ← next_as priority_of property.1
+  index ← next_as write_index_of priority.1
+  Some (peer.0, body_of (record { kind = kind.0; instance = instance.0 }) property.0 index.0 priority.0 index.1)
+
+-- A request with this body, if it could be read.
+abbrev pub requested : Station → Result (List ℕ) PairFault → Option Said
+requested peer (Ok body) = Some (Happens (Ask peer 15 body))
+requested peer (Err pair.TooLong) = Some Unsendable
+requested peer (Err pair.Bad) = None
+
+-- What is said of a WriteProperty request (service 15).
+abbrev pub writing_of : List (List ℕ) → Option Said
+writing_of words = body_for words >>= (λ one. requested one.0 one.1)
+
 -- PEER and HEX, of a datagram that comes from the peer.
-abbrev pub arrival_of : List (List ℕ) → Option Event
+abbrev pub arrival_of : List (List ℕ) → Option Arrival
 arrival_of words = do
   peer ← next_as plain_peer_of words
   octets ← next_as octets_of peer.1
-  at_end octets.1 (Data peer.0 octets.0)
+  at_end octets.1 (record { from = peer.0; datagram = octets.0 })
+
+-- The client is handed the datagram.
+abbrev pub handed : Arrival → Said
+handed arrival = Happens (Data arrival.from arrival.datagram)
 
 -- N, the time of a tick.
 abbrev pub tick_of : List (List ℕ) → Option Event
@@ -64,8 +108,10 @@ said_by is_first (name ∷ others) =
     if slice_index name 0 == 35 then Some Nothing
     else if is_first && bytes_eq name (codes "client") then settings_of others
     else if bytes_eq name (codes "read") then option_map Happens (reading_of others)
-    else if bytes_eq name (codes "data") then option_map Happens (arrival_of others)
+    else if bytes_eq name (codes "write") then writing_of others
+    else if bytes_eq name (codes "data") then option_map handed (arrival_of others)
     else if bytes_eq name (codes "tick") then option_map Happens (tick_of others)
+    else if bytes_eq name (codes "ask") then option_map Asks (arrival_of others)
     else None
 
 -- A line feed (10) ends the line.

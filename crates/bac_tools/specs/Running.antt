@@ -1,23 +1,68 @@
--- What a line does to the client, and what it prints.
-use Rattle.std.specs.Prelude.{ℕ, List, []}
+-- What a line does to a script's client and device, and what it prints.
+use Rattle.std.specs.Prelude.{◌≡◌, ℕ, List, [], ◌∷◌, codes}
+use Rattle.bac_tsm.specs.declared.client.SubmitFault.TheVariants.{TooLong}
+use Rattle.bac_tsm.specs.Events.{Event, Refused}
 use Rattle.bac_tsm.specs.Machine.{Stepped, initial, step}
 use Rattle.bac_tsm.specs.Client.{Client, rules_of, keeping}
-use Rattle.bac_tools.specs.Line.{Said, Nothing, Settings, Happens}
-use Rattle.bac_tools.specs.Text.{notes_text}
+use Rattle.bac_device.specs.Info.{Info}
+use Rattle.bac_device.specs.Places.{Write}
+use Rattle.bac_device.specs.Demo.{demo_points}
+use Rattle.bac_device.specs.Device.{DeviceState, device_after}
+use Rattle.bac_device.specs.Reply.{reply_to, writes_after}
+use Rattle.bac_device.specs.Turns.{Arrival}
+use Rattle.bac_tools.specs.Line.{Said, Nothing, Settings, Happens, Unsendable, Asks}
+use Rattle.bac_tools.specs.Text.{notes_text, reply_text}
 
--- What was printed, and the client after it.
+-- What a script runs on: its client, and its device, as the writes that the device has accepted.
+pub record Stage : Type 0 where
+  pub client : Client
+  pub writes : List Write
+
+-- What was printed, and the stage after it.
 pub record Ran : Type 0 where
   pub text : List ℕ
-  pub after : Client
+  pub after : Stage
 
 abbrev pub new_client : ℕ → ℕ → ℕ → Client
 new_client timeout retries first_ticket = record { timeout = timeout; retries = retries; state = initial first_ticket }
 
--- The client steps, and its notes are printed.
-abbrev pub stepped : Client → Stepped → Ran
-stepped client one = record { text = notes_text one.notes; after = keeping client one.after }
+-- What the device of a script is known by.
+abbrev pub small_device : Info
+small_device = record { instance = 1234; name = codes "Small device" }
 
-abbrev pub ran : Client → Said → Ran
-ran client Nothing = record { text = []; after = client }
-ran client (Settings timeout retries first_ticket) = record { text = []; after = new_client timeout retries first_ticket }
-ran client (Happens event) = stepped client (step (rules_of client) client.state event)
+-- The demonstration device after these writes.
+abbrev pub device_with : List Write → DeviceState
+device_with writes = device_after small_device demo_points writes
+
+-- The client and the device are those of the stage.
+pub record Stands (stage : Stage) (client : Client) (device : DeviceState) : Type 0 where
+  pub as_client : client ≡ stage.client
+  pub as_device : device ≡ device_with stage.writes
+
+-- What the client does at an event.
+abbrev pub step_of : Client → Event → Stepped
+step_of client event = step (rules_of client) client.state event
+
+-- The client steps, and its notes are printed.
+abbrev pub stepped : Stage → Event → Ran
+stepped stage event = record {
+  text = notes_text (step_of stage.client event).notes;
+  after = record { client = keeping stage.client (step_of stage.client event).after; writes = stage.writes };
+}
+
+-- The reply to a datagram, after these writes.
+abbrev pub reply_after : List Write → Arrival → List ℕ
+reply_after writes arrival = reply_text (reply_to small_device demo_points writes arrival.from arrival.datagram)
+
+-- These writes, and the one that is accepted in the datagram.
+abbrev pub writes_with : List Write → Arrival → List Write
+writes_with writes arrival = writes_after small_device demo_points writes arrival.from arrival.datagram
+
+abbrev pub ran : Stage → Said → Ran
+ran stage Nothing = record { text = []; after = stage }
+ran stage (Settings timeout retries first_ticket) =
+    record { text = []; after = record { client = new_client timeout retries first_ticket; writes = stage.writes } }
+ran stage (Happens event) = stepped stage event
+ran stage Unsendable = record { text = notes_text (Refused TooLong ∷ []); after = stage }
+ran stage (Asks arrival) =
+    record { text = reply_after stage.writes arrival; after = record { client = stage.client; writes = writes_with stage.writes arrival } }

@@ -1,9 +1,13 @@
 -- A script as a whole: its lines, what they say, what is printed for them, and how it ends.
 use Rattle.std.specs.Prelude.{◌≡◌, ℕ, suc, ◌+◌, Bool, true, false, ◌&&◌, ◌||◌, ◌==◌, nat_lt, List, [], ◌∷◌, ◌++◌, length, filter, slice_get, Option, Result, Ok, Err, option_map, if◌then◌else◌, MatchOption}
 use Rattle.std.specs.List.{onto_first, list_all, flat_map}
-use Rattle.bac_tsm.specs.Events.{Event, Note}
-use Rattle.bac_tsm.specs.Lookahead.{output}
+use Rattle.bac_tsm.specs.declared.client.SubmitFault.TheVariants.{TooLong as TooLarge}
+use Rattle.bac_tsm.specs.Events.{Event, Note, Refused}
+use Rattle.bac_tsm.specs.Lookahead.{Accepted, accepted, output}
 use Rattle.bac_tsm.specs.Client.{client_rules}
+use Rattle.bac_pdu.specs.Peer.{Station}
+use Rattle.bac_device.specs.Demo.{demo_points}
+use Rattle.bac_device.specs.Turns.{Arrival, replies_to}
 use Rattle.bac_tools.specs.declared.input.Reading.{Reading}
 use Rattle.bac_tools.specs.declared.input.Reading.TheVariants.{Open, AtEnd, Failed}
 use Rattle.bac_tools.specs.declared.line.LineFault.{LineFault}
@@ -11,8 +15,9 @@ use Rattle.bac_tools.specs.declared.line.LineFault.TheVariants.{Bad, TooLong}
 use Rattle.bac_tools.specs.declared.tracing.TraceEnd.{TraceEnd}
 use Rattle.bac_tools.specs.declared.tracing.TraceFault.{TraceFault}
 use Rattle.bac_tools.specs.declared.tracing.TraceFault.TheVariants.{BadLine, LineTooLong, ReadFailed, WriteFailed}
-use Rattle.bac_tools.specs.Line.{Said, Nothing, Settings, Happens, said, ends_with_feed}
-use Rattle.bac_tools.specs.Text.{notes_text}
+use Rattle.bac_tools.specs.Line.{Said, Nothing, Settings, Happens, Unsendable, Asks, said, ends_with_feed}
+use Rattle.bac_tools.specs.Text.{notes_text, reply_text}
+use Rattle.bac_tools.specs.Running.{small_device}
 
 -- The octets cut after each line feed; the last piece may lack one.
 abbrev pub pieces : List ℕ → List (List ℕ)
@@ -33,6 +38,8 @@ abbrev pub is_nothing : Said → Bool
 is_nothing Nothing = true
 is_nothing (Settings timeout retries first_ticket) = false
 is_nothing (Happens event) = false
+is_nothing Unsendable = false
+is_nothing (Asks arrival) = false
 
 -- The line says nothing.
 abbrev pub is_silent : Result Said LineFault → Bool
@@ -70,30 +77,57 @@ settings_in (Nothing ∷ later) = settings_in later
 settings_in (Settings timeout retries first_ticket ∷ later) =
     record { timeout = timeout; retries = retries; first_ticket = first_ticket }
 settings_in (Happens event ∷ later) = usual_settings
+settings_in (Unsendable ∷ later) = usual_settings
+settings_in (Asks arrival ∷ later) = usual_settings
 
 abbrev pub event_in : Said → List Event
 event_in Nothing = []
 event_in (Settings timeout retries first_ticket) = []
 event_in (Happens event) = event ∷ []
+event_in Unsendable = []
+event_in (Asks arrival) = []
 
 -- The events of a script, in order.
 abbrev pub events_in : List Said → List Event
 events_in = flat_map event_in
 
--- What is printed: for each line with an event, the notes at the event's position among the events.
-abbrev pub printed : (ℕ → List Note) → ℕ → List Said → List ℕ
-printed notes at [] = []
-printed notes at (Nothing ∷ later) = printed notes at later
-printed notes at (Settings timeout retries first_ticket ∷ later) = printed notes at later
-printed notes at (Happens event ∷ later) = notes_text (notes at) ++ printed notes (suc at) later
+abbrev pub arrival_in : Said → List Arrival
+arrival_in Nothing = []
+arrival_in (Settings timeout retries first_ticket) = []
+arrival_in (Happens event) = []
+arrival_in Unsendable = []
+arrival_in (Asks arrival) = arrival ∷ []
 
--- The notes are those that the look-ahead gives for a client with these settings and these events.
-abbrev pub text_with : ClientSettings → List Event → List Said → List ℕ
-text_with settings events all =
+-- The datagrams that the device is asked with, in order.
+abbrev pub arrivals_in : List Said → List Arrival
+arrivals_in = flat_map arrival_in
+
+-- The requests of a script that its client accepts, in order.
+abbrev pub requests_in : List Said → List Accepted
+requests_in all =
+    accepted (client_rules (settings_in all).timeout (settings_in all).retries) (settings_in all).first_ticket (events_in all)
+    (length (events_in all))
+
+-- What is printed: for each line with an event, the notes at the event's position among the events; for a body that is too long
+-- that it is refused; for each datagram that the device is asked with, the next of its replies.
+abbrev pub printed : (ℕ → List Note) → ℕ → List Said → List (Option (Station × List ℕ)) → List ℕ
+printed notes at [] replies = []
+printed notes at (Nothing ∷ later) replies = printed notes at later replies
+printed notes at (Settings timeout retries first_ticket ∷ later) replies = printed notes at later replies
+printed notes at (Happens event ∷ later) replies = notes_text (notes at) ++ printed notes (suc at) later replies
+printed notes at (Unsendable ∷ later) replies = notes_text (Refused TooLarge ∷ []) ++ printed notes at later replies
+printed notes at (Asks arrival ∷ later) [] = []
+printed notes at (Asks arrival ∷ later) (reply ∷ replies) = reply_text reply ++ printed notes at later replies
+
+-- The notes are those that the look-ahead gives for a client with these settings and these events, and the replies those of
+-- the demonstration device.
+abbrev pub text_with : ClientSettings → List Event → List Arrival → List Said → List ℕ
+text_with settings events arrivals all =
     printed (output (client_rules settings.timeout settings.retries) settings.first_ticket events) 0 all
+    (replies_to small_device demo_points [] arrivals)
 
 abbrev pub text_of : List Said → List ℕ
-text_of all = text_with (settings_in all) (events_in all) all
+text_of all = text_with (settings_in all) (events_in all) (arrivals_in all) all
 
 -- The text of a script: that of the lines before the first that is bad or too long, or of all lines.
 abbrev pub text : List ℕ → Reading → List ℕ

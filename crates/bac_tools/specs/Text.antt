@@ -1,4 +1,4 @@
--- What is printed of the client's notes.
+-- What is printed of the client's notes, and of the device's replies.
 use Rattle.std.specs.Prelude.{ℕ, List, [], ◌∷◌, ◌++◌, map, codes, decimal, Option, Some, None}
 use Rattle.std.specs.List.{flat_map, join_with_byte}
 use Rattle.std.specs.Int.{w32, to_be_bytes}
@@ -48,3 +48,8 @@ note_text (TimedOut ticket) = codes "timeout " ++ (decimal ticket ++ 10 ∷ [])
 
 abbrev pub notes_text : List Note → List ℕ
 notes_text = flat_map note_text
+
+-- The line that is printed of the device's reply to a datagram.
+abbrev pub reply_text : Option (Station × List ℕ) → List ℕ
+reply_text None = codes "silent" ++ 10 ∷ []
+reply_text (Some reply) = codes "reply " ++ (peer_text reply.0 ++ 32 ∷ (encode_lower reply.1 ++ 10 ∷ []))

@@ -8,6 +8,7 @@ use Rattle.bac_tools.specs.declared.tracing.TraceFault.{TraceFault}
 use Rattle.bac_tools.specs.declared.tracing.TraceFault.TheVariants.{BadLine, LineTooLong, ReadFailed, WriteFailed}
 use Rattle.bac_tools.specs.Checked.{inner_of}
 use Rattle.bac_tools.specs.Input.{StandsAs}
+use Rattle.bac_tools.specs.Page.{Prints}
 use Rattle.bac_tools.specs.Script.{Runs}
 
 -- What was written and answered is that of the script of the octets that the reader gave, and of how reading stopped
@@ -19,6 +20,17 @@ pub record Traces {R W : Type 0} (remaining : R → Option (List ℕ)) (contents
   pub stopped : StandsAs remaining reading reader' []
   pub took : Appends (contents (inner_of writer)) (contents (inner_of writer')) written
   pub runs : Runs given reading written answer
+
+-- The same while some of the text may still be on the page: the text that was printed is that of the script, or, where the
+-- writer failed, a front of it.
+pub record RunsOn {R W : Type 0} (remaining : R → Option (List ℕ)) (contents : W → Option (List ℕ)) (reader reader' : Checked R) (writer writer' : Checked W) (held kept : List ℕ) (answer : Result TraceEnd TraceFault) : Type 0 where
+  pub given : List ℕ
+  pub reading : Reading
+  pub printed : List ℕ
+  pub gave : Consumes (remaining (inner_of reader)) (remaining (inner_of reader')) given
+  pub stopped : StandsAs remaining reading reader' []
+  pub prints : Prints contents writer writer' held kept printed
+  pub runs : Runs given reading printed answer
 
 -- The status of the program: a script to its end, a bad or too long line, a failed reader or writer.
 abbrev pub trace_status_of : Result TraceEnd TraceFault → ℕ

@@ -19,6 +19,7 @@ pub struct Checked<T> {
 pub(crate) struct WriteFailed;
 
 impl<T> Checked<T> {
+    /// The reader or writer as it is before its first read or write.
     pub fn new(inner: T) -> Self
         ensures { result ≡ fresh inner }
     {

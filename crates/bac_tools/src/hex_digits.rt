@@ -7,12 +7,26 @@ ghost use Rattle.bac_tools.specs.Words.{octets_of, octets_in};
 
 use crate::input::LONGEST_LINE;
 
+/// The octets of the longest datagram that a line has room for.
+pub(crate) const LONGEST_DATAGRAM: usize = LONGEST_LINE / 2;
+
 /// The octets of a datagram, as a positive even number of hexadecimal digits.
 #[derive(Clone, Copy)]
 pub(crate) struct HexDigits<'a> {
     pub(crate) digits: &'a [u8],
     ghost fits: { length digits.now ≤ 4096 },
     ghost read: { IsTrue (is_ok (decode_of digits.now)) },
+}
+
+impl HexDigits<'_> {
+    /// The octets that the digits write.
+    pub(crate) fn decode<'r>(&self, room: &'r mut [u8; LONGEST_DATAGRAM]) -> &'r [u8]
+        ensures { result.now ≡ octets_in self.now.digits.now }
+    {
+        let octets = &mut room[..self.digits.len() / 2];
+        let _ = hex::decode_to_slice(self.digits, octets);
+        octets
+    }
 }
 
 /// The digits of a word, if it is nothing else.
@@ -28,7 +42,7 @@ pub(crate) fn read_hex(word: &[u8]) -> Option<HexDigits<'_>>
     Some(HexDigits { digits: word })
 }
 
-fn is_hex(word: &[u8]) -> bool
+pub(crate) fn is_hex(word: &[u8]) -> bool
     ensures { result ≡ list_all is_ascii_hexdigit word.now }
 {
     word.iter().all(|digit| digit.is_ascii_hexdigit())

@@ -1,5 +1,6 @@
 //! The lines of a reader, one at a time.
-ghost use Rattle.std.specs.Prelude.{◌≡◌, ◌+◌, ◌≤◌, [], length, false};
+ghost use Rattle.std.specs.Prelude.{◌≡◌, ◌==◌, ◌+◌, ◌≤◌, [], length, false};
+ghost use Rattle.std.specs.List.{list_any};
 ghost use Rattle.arrayvec.specs.ArrayVec.{array_vec_len};
 ghost use Rattle.bac_tools.specs.Checked.{has_failed};
 ghost use Rattle.bac_tools.specs.Input.{octets_of, reading_of, may_come, Takes, StandsAs, IsCutAs};
@@ -60,6 +61,13 @@ impl Chunk {
             start: 0,
             end: 0,
         }
+    }
+
+    /// Whether the next line, with its line feed, is among the octets that were read.
+    pub fn has_line(&self) -> bool
+        ensures { result ≡ list_any (λ octet. octet == 10) self.now }
+    {
+        self.octets[self.start..self.end].contains(&b'\n')
     }
 
     /// Takes the next octet. It is `None` at the end of the input.

@@ -9,14 +9,18 @@ mod line;
 mod notes;
 mod numbers;
 mod page;
+mod pairs;
 mod peers;
 mod running;
 #[cfg(test)]
 mod tests;
 mod tracing;
+mod value_words;
 mod values;
 mod words;
 
 pub use checked::Checked;
+pub use notes::show_outcome;
+pub use peers::read_peer;
 pub use tracing::{TraceEnd, TraceFault, trace, trace_status};
 pub use values::show_value;

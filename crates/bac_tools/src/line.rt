@@ -1,25 +1,29 @@
 //! The lines of a script.
-ghost use Rattle.std.specs.Prelude.{◌≡◌, ◌==◌, ◌≤◌, ◌^◌, ◌<◌, [], ◌∷◌, true, length, option_map, ⊤, None, Some, MatchOption, MatchResult, Ok, Err};
+ghost use Rattle.std.specs.Prelude.{◌≡◌, ◌==◌, ◌≤◌, ◌^◌, ◌<◌, [], ◌∷◌, true, length, option_map, ⊤, None, Some, IfSome, MatchOption, MatchResult, Ok, Err};
 ghost use Rattle.bac_tools.specs.Words.{number_up_to, octets_of, next_as, at_end};
 ghost use Rattle.bac_pdu.specs.Peer.{station};
+ghost use Rattle.bac_pdu.specs.Property.{IsPriority};
 ghost use Rattle.bac_tools.specs.Address.{plain_peer_of, peer_of};
-ghost use Rattle.bac_tools.specs.Line.{Happens, settings_of, index_in, reading_of, arrival_of, tick_of, said_by, text_of_line, said};
+ghost use Rattle.bac_tools.specs.Line.{Happens, settings_of, index_in, reading_of, priority_of, write_index_of, writing_of, arrival_of, tick_of, said_by, text_of_line, said};
 ghost use Rattle.bac_tools.specs.Words.{octets_in};
 ghost use Rattle.bac_tools.specs.Script.{is_nothing};
-ghost use Rattle.bac_tools.specs.LineSeen.{line_seen, result_seen};
+ghost use Rattle.bac_tools.specs.LineSeen.{arrival_seen, line_seen, result_seen};
 
 use crate::hex_digits::{HexDigits, read_hex};
 use crate::input::LONGEST_LINE;
 use crate::numbers::read_number;
+use crate::pairs::read_write_body;
 use crate::peers::{peer_in, plain_peer_in};
+use crate::value_words::PairFault;
 use crate::words::Words;
+use arrayvec::ArrayVec;
 use bac_pdu::{Peer, ReadRequest};
-use bac_tsm::Config;
+use bac_tsm::{Config, LONGEST_BODY};
 use bac_wire::ObjectId;
 use std::str;
 
 /// What a line says.
-#[derive(Clone, Copy)]
+#[derive(Drop)]
 pub(crate) enum Line<'a> {
     /// Nothing: it is blank or a remark.
     Skipped,
@@ -27,10 +31,23 @@ pub(crate) enum Line<'a> {
     Client(Config, u64),
     /// A request that the client is asked to make of the peer.
     Read(Peer, ReadRequest),
-    /// A datagram that comes from the peer.
-    Data(Peer, HexDigits<'a>),
+    /// A request to write that the client is asked to make of the peer, with this service body.
+    Write(Peer, ArrayVec<u8, LONGEST_BODY>),
+    /// A request to write whose service body is too long to be sent.
+    LongWrite,
+    /// A datagram that the client is handed.
+    Data(Received<'a>),
     /// The time, in milliseconds.
     Tick(u64),
+    /// A datagram that the device is asked with.
+    Ask(Received<'a>),
+}
+
+/// A datagram, and whom it comes from.
+#[derive(Clone, Copy)]
+pub(crate) struct Received<'a> {
+    pub(crate) from: Peer,
+    pub(crate) hex: HexDigits<'a>,
 }
 
 impl Line<'_> {
@@ -94,11 +111,17 @@ fn read_words(mut words: Words<'_>, is_first: bool) -> Option<Line<'_>>
     if name == b"read".as_slice() {
         return read_reading(words);
     }
+    if name == b"write".as_slice() {
+        return read_writing(words);
+    }
     if name == b"data".as_slice() {
-        return read_arrival(words);
+        return read_arrival(words).map(Line::Data);
     }
     if name == b"tick".as_slice() {
         return read_tick(words);
+    }
+    if name == b"ask".as_slice() {
+        return read_arrival(words).map(Line::Ask);
     }
     None
 }
@@ -129,12 +152,32 @@ fn read_reading(mut words: Words<'_>) -> Option<Line<'_>>
     ended(words, Line::Read(peer, request))
 }
 
-fn read_arrival(mut words: Words<'_>) -> Option<Line<'_>>
-    ensures { option_map line_seen result ≡ option_map Happens (arrival_of words.entry) }
+fn read_writing(mut words: Words<'_>) -> Option<Line<'_>>
+    ensures { option_map line_seen result ≡ writing_of words.entry }
 {
-    let peer = next_plain_peer(&mut words)?;
+    let peer = next_peer(&mut words)?;
+    let kind = next_number(&mut words, 1_023)?;
+    let instance = next_number(&mut words, 4_194_303)?;
+    let property = next_number(&mut words, 4_194_303)?;
+    let priority = next_priority(&mut words)?;
+    let index = next_write_index(&mut words)?;
+    let object = ObjectId::new(kind as u16, instance as u32)?;
+    match read_write_body(object, property as u32, index, priority, words) {
+        Ok(body) => Some(Line::Write(peer, body)),
+        Err(PairFault::TooLong) => Some(Line::LongWrite),
+        Err(PairFault::Bad) => None,
+    }
+}
+
+fn read_arrival(mut words: Words<'_>) -> Option<Received<'_>>
+    ensures { option_map arrival_seen result ≡ arrival_of words.entry }
+{
+    let from = next_plain_peer(&mut words)?;
     let hex = next_hex(&mut words)?;
-    ended(words, Line::Data(peer, hex))
+    if words.next().is_some() {
+        return None;
+    }
+    Some(Received { from, hex })
 }
 
 fn read_tick(mut words: Words<'_>) -> Option<Line<'_>>
@@ -169,6 +212,29 @@ fn next_index(words: &mut Words<'_>) -> Option<Option<u32>>
     let Some(word) = words.next() else {
         return Some(None);
     };
+    let index = read_number(word, u32::MAX.into())?;
+    Some(Some(index as u32))
+}
+
+// The priority, where the number is not 0.
+fn next_priority(words: &mut Words<'_>) -> Option<Option<u8>>
+    ensures value { MatchOption result (next_as priority_of words.old ≡ None) (λ priority. next_as priority_of words.old ≡ Some (priority, words.new)) }
+    ensures priority { IfSome result (λ priority. IfSome priority IsPriority) }
+{
+    match next_number(words, 16)? {
+        0 => Some(None),
+        priority => Some(Some(priority as u8)),
+    }
+}
+
+// The number of an element, where the word is not -1.
+fn next_write_index(words: &mut Words<'_>) -> Option<Option<u32>>
+    ensures { MatchOption result (next_as write_index_of words.old ≡ None) (λ index. next_as write_index_of words.old ≡ Some (index, words.new)) }
+{
+    let word = words.next()?;
+    if word == b"-1".as_slice() {
+        return Some(None);
+    }
     let index = read_number(word, u32::MAX.into())?;
     Some(Some(index as u32))
 }

@@ -1,18 +1,39 @@
-//! What is printed of a client's notes.
-ghost use Rattle.std.specs.Prelude.{◌≡◌, ◌++◌, [], ◌∷◌, decimal, option_map};
+//! What is printed of a client's notes, and of a device's replies.
+ghost use Rattle.std.specs.Prelude.{◌≡◌, ◌++◌, [], ◌∷◌, false, decimal, option_map, is_err, IfErr, Some};
 ghost use Rattle.std.specs.List.{flat_map};
 ghost use Rattle.bac_pdu.specs.Peer.{station, network_address};
 ghost use Rattle.bac_tsm.specs.Events.{Failed, Refused, TimedOut};
 ghost use Rattle.bac_tsm.specs.Machine.{sent, due_notes};
 ghost use Rattle.bac_tsm.specs.Client.{end_seen, outcome_seen};
+ghost use Rattle.bac_tools.specs.Checked.{inner_of, has_failed, Puts};
 ghost use Rattle.bac_tools.specs.Page.{Prints};
-ghost use Rattle.bac_tools.specs.Text.{address_text, route_text, peer_text, outcome_text, refusal_text, note_text, notes_text};
+ghost use Rattle.bac_tools.specs.Text.{address_text, route_text, peer_text, outcome_text, refusal_text, note_text, notes_text, reply_text};
 
 use crate::checked::Checked;
 use crate::page::Page;
+use crate::tracing::TraceFault;
 use bac_pdu::{Peer, Route};
 use bac_tsm::{Client, Ended, Entry, Outcome, SubmitFault};
 use std::io::Write;
+
+/// Writes how a request ended, as `value 4290999a`, `error 2 32` or `abort 4`.
+///
+/// # Errors
+///
+/// `WriteFailed` where the writer failed or took no octet. A front of the text was then written.
+pub fn show_outcome<W: Write>(
+    outcome: &Outcome<'_>,
+    writer: &mut Checked<W>,
+) -> Result<(), TraceFault>
+    requires { has_failed writer.old ≡ false }
+    ensures text { Puts (W.contents (inner_of writer.old)) (W.contents (inner_of writer.new)) (outcome_text (outcome_seen outcome.now)) result }
+    ensures failed { has_failed writer.new ≡ is_err result }
+    ensures fault { IfErr result (λ fault. fault ≡ TraceFault.WriteFailed) }
+{
+    let mut page = Page::new();
+    page.print_outcome(writer, *outcome);
+    page.finish(writer)
+}
 
 impl Page {
     ghost use Rattle.bac_tsm.specs.Events.{Done};
@@ -152,6 +173,22 @@ impl Page {
     {
         self.print(writer, b"timeout ");
         self.print_number(writer, ticket);
+        self.print(writer, b"\n");
+    }
+
+    /// Prints the device's reply to the peer.
+    pub(crate) fn print_reply<W: Write>(
+        &mut self,
+        writer: &mut Checked<W>,
+        peer: Peer,
+        octets: &[u8],
+    )
+        ensures { Prints W.contents writer.old writer.new self.old self.new (reply_text (Some (station peer, octets.now))) }
+    {
+        self.print(writer, b"reply ");
+        self.print_peer(writer, peer);
+        self.print(writer, b" ");
+        self.print_hex(writer, octets);
         self.print(writer, b"\n");
     }
 }

@@ -1,9 +1,11 @@
 //! Text on its way to a writer.
-ghost use Rattle.std.specs.Prelude.{◌≡◌, ◌≤◌, [], ◌∷◌, length, decimal};
+ghost use Rattle.std.specs.Prelude.{◌≡◌, ◌≤◌, [], ◌∷◌, length, decimal, is_err, IfErr};
 ghost use Rattle.hex.specs.Hex.{encode_lower};
+ghost use Rattle.bac_tools.specs.Checked.{has_failed};
 ghost use Rattle.bac_tools.specs.Page.{Prints};
 
 use crate::checked::Checked;
+use crate::tracing::TraceFault;
 use arrayvec::ArrayVec;
 use std::io::Write;
 use std::marker::Model;
@@ -71,6 +73,19 @@ impl Page {
     {
         write_on(writer, self.held.as_slice());
         self.held.clear();
+    }
+
+    /// Turns the page in, and says whether the writer has failed.
+    pub(crate) fn finish<W: Write>(mut self, writer: &mut Checked<W>) -> Result<(), TraceFault>
+        ensures printed { Prints W.contents writer.old writer.new self [] [] }
+        ensures failed { has_failed writer.new ≡ is_err result }
+        ensures fault { IfErr result (λ fault. fault ≡ TraceFault.WriteFailed) }
+    {
+        self.turn_in(writer);
+        if writer.failed() {
+            return Err(TraceFault::WriteFailed);
+        }
+        Ok(())
     }
 
     /// Prints the text.

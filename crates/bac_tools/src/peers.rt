@@ -11,7 +11,15 @@ use bac_pdu::{ADDRESS_OCTETS, Peer, Route};
 /// The port of BACnet/IP where none is written (Annex J.1.2).
 const USUAL_PORT: u16 = 47_808;
 
-/// The peer that a text names: an IP address in dotted decimal, then, where it isn't the usual one, `:` and the port, and
+/// The peer that a text names, as `127.0.0.1`, `127.0.0.1:47808` or `127.0.0.1:47808/5/07`: the last is the station with
+/// the address 07 in network 5, behind the router at this address and port. It is `None` where the text names none.
+pub fn read_peer(text: &str) -> Option<Peer>
+    ensures { option_map station result ≡ peer_of text.now }
+{
+    peer_in(text.as_bytes())
+}
+
+/// The peer that octets name: an IP address in dotted decimal, then, where it isn't the usual one, `:` and the port, and
 /// for a station of another network `/`, the number of the network, `/` and the address there in hexadecimal digits.
 pub(crate) fn peer_in(text: &[u8]) -> Option<Peer>
     ensures { option_map station result ≡ peer_of text.now }
@@ -93,8 +101,8 @@ fn short_number(text: &[u8], digits: usize, limit: u32) -> Option<u32>
     Some(number as u32)
 }
 
-// What stands before and after the first such octet.
-fn cut(text: &[u8], octet: u8) -> Option<(&[u8], &[u8])>
+/// What stands before and after the first such octet.
+pub(crate) fn cut(text: &[u8], octet: u8) -> Option<(&[u8], &[u8])>
     ensures { option_map (λ parts. (parts.0.now, parts.1.now)) result ≡ cut_at octet text.now }
 {
     let place = place_of(text, octet)?;

@@ -1,9 +1,16 @@
 //! Scripts from outside, run over memory.
+mod devices;
 mod failing;
+mod pairs;
 mod scripts;
+mod texts;
+mod writes;
 
 use crate::checked::Checked;
+use crate::notes::show_outcome;
+use crate::peers::read_peer;
 use crate::tracing::{TraceEnd, TraceFault, trace, trace_status};
+use crate::values::show_value;
 use std::io::{self, ErrorKind, Read};
 use std::process::Abort;
 use std::test::Fail;
@@ -74,4 +81,11 @@ fn expect_end<H: Abort + AllocGlobal>(rt: &H, script: &str, lines: u64, text: &s
         Ok(TraceEnd { lines }),
         text,
     );
+}
+
+/// Runs scripts to their ends: each has so many lines, and prints this.
+fn expect_ends<H: Abort + AllocGlobal>(rt: &H, runs: &[(&str, u64, &str)]) {
+    for (script, lines, text) in runs {
+        expect_end(rt, script, *lines, text);
+    }
 }

@@ -1,15 +1,19 @@
 //! A script, run as it is read.
-ghost use Rattle.std.specs.Prelude.{◌≡◌, ◌⊎◌, ◌↔◌, true, false, Err};
+ghost use Rattle.std.specs.Prelude.{◌≡◌, ◌⊎◌, ◌↔◌, ℕ, List, [], true, false, Err};
 ghost use Rattle.bac_tools.specs.Checked.{has_failed, reads_of};
 ghost use Rattle.bac_tools.specs.Input.{most_reads};
 ghost use Rattle.bac_tools.specs.Running.{new_client};
-ghost use Rattle.bac_tools.specs.Tracing.{Traces, trace_status_of};
+ghost use Rattle.bac_tools.specs.Script.{lines, all_said, requests_in};
+ghost use Rattle.bac_tsm.specs.Laws.{NumbersComeBackLate};
+ghost use Rattle.bac_tsm.specs.declared.limits.TheConstants.{PLACES};
+ghost use Rattle.bac_tools.specs.Page.{Prints};
+ghost use Rattle.bac_tools.specs.Tracing.{Traces, RunsOn, trace_status_of};
 
 use crate::checked::Checked;
 use crate::input::{Chunk, Reading};
 use crate::line::{Line, LineFault, read_line};
 use crate::page::Page;
-use crate::running::run_line;
+use crate::running::{run_line, small_device};
 use arrayvec::ArrayVec;
 use bac_tsm::{Client, Config};
 use std::io::{Read, Write};
@@ -39,7 +43,7 @@ pub enum TraceFault {
     WriteFailed,
 }
 
-/// Runs each line of a script on a client, and writes what it prints before it reads the next.
+/// Runs each line of a script on a client and a device. What is printed is written before the reader is asked for more.
 pub fn trace<R: Read, W: Write>(
     reader: &mut Checked<R>,
     writer: &mut Checked<W>,
@@ -48,15 +52,39 @@ pub fn trace<R: Read, W: Write>(
     requires writer { has_failed writer.old ≡ false }
     ensures script { Traces R.remaining W.contents reader.old reader.new writer.old writer.new result }
     ensures read_failed { result ≡ Err TraceFault.ReadFailed → (has_failed reader.new ≡ true) ⊎ (reads_of reader.new ≡ most_reads) }
+    // Between two requests of a script with the same number at least 240 others are accepted.
+    ensures reuse { (octets : List ℕ) (reading : Reading) → NumbersComeBackLate PLACES (requests_in (all_said (lines octets reading))) }
     ensures write_failed { (has_failed writer.new ≡ true) ↔ (result ≡ Err TraceFault.WriteFailed) }
+{
+    let mut page = Page::new();
+    let answer = run_script(reader, writer, &mut page);
+    page.finish(writer)?;
+    answer
+}
+
+// Runs each line of a script. What is printed goes to the writer before more is read; in the end some of it may still be on the
+// page.
+fn run_script<R: Read, W: Write>(
+    reader: &mut Checked<R>,
+    writer: &mut Checked<W>,
+    page: &mut Page,
+) -> Result<TraceEnd, TraceFault>
+    requires reader { has_failed reader.old ≡ false }
+    ensures script { RunsOn R.remaining W.contents reader.old reader.new writer.old writer.new page.old page.new result }
+    ensures read_failed { result ≡ Err TraceFault.ReadFailed → (has_failed reader.new ≡ true) ⊎ (reads_of reader.new ≡ most_reads) }
+    ensures write_failed { result ≡ Err TraceFault.WriteFailed → has_failed writer.new ≡ true }
 {
     let mut chunk = Chunk::new();
     let mut text = ArrayVec::new();
-    let mut page = Page::new();
     let mut client = usual_client();
+    let mut device = small_device();
     let mut is_first = true;
     let mut lines = 0;
     loop {
+        hand_out(&chunk, page, writer);
+        if writer.failed() {
+            return Err(TraceFault::WriteFailed);
+        }
         let reading = chunk.next_line(reader, &mut text);
         if reading == Reading::Failed {
             return Err(TraceFault::ReadFailed);
@@ -71,14 +99,19 @@ pub fn trace<R: Read, W: Write>(
             Err(LineFault::TooLong) => return Err(TraceFault::LineTooLong(lines)),
         };
         is_first = is_first && line.is_skipped();
-        run_line(&mut client, line, &mut page, writer);
-        page.turn_in(writer);
-        if writer.failed() {
-            return Err(TraceFault::WriteFailed);
-        }
+        run_line(&mut client, &mut device, line, page, writer);
         if reading == Reading::AtEnd {
             return Ok(TraceEnd { lines });
         }
+    }
+}
+
+// Turns the page in where the next line has still to be read, so that nobody waits for text that was printed.
+fn hand_out<W: Write>(chunk: &Chunk, page: &mut Page, writer: &mut Checked<W>)
+    ensures { Prints W.contents writer.old writer.new page.old page.new [] }
+{
+    if !chunk.has_line() {
+        page.turn_in(writer);
     }
 }
 

@@ -31,11 +31,7 @@ pub fn show_value<W: Write>(region: &[u8], writer: &mut Checked<W>) -> Result<()
 {
     let mut page = Page::new();
     page.print_region(writer, region);
-    page.turn_in(writer);
-    if writer.failed() {
-        return Err(TraceFault::WriteFailed);
-    }
-    Ok(())
+    page.finish(writer)
 }
 
 impl Page {

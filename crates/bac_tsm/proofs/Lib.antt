@@ -1,4 +1,5 @@
 pub mod AnswersByNumber
+mod AnswersInWords
 mod CallNotes
 mod DatagramStep
 mod FirstAfter
@@ -6,7 +7,7 @@ mod FreeNumber
 mod LookaheadSteps
 mod LookingBack
 mod NumberCycle
-mod NumberReuse
+pub mod NumberReuse
 mod OpenRequests
 mod Placed
 mod RequestLife

@@ -3,6 +3,7 @@ pub mod Lookahead
 pub mod Machine
 pub mod Laws
 pub mod Answers
+pub mod AnswersInWords
 pub mod Client
 pub mod Seen
 pub mod Watching

@@ -26,8 +26,8 @@ pub use due::{Due, Entry};
 pub use event::{Event, Note};
 pub use examples::{examples_of_a_request, examples_of_answers, examples_of_many_events};
 pub use laws::{
-    answers_are_by_number, client_is_lookahead, numbers_come_back_late, output_looks_back,
-    run_is_lookahead, stations_are_compared_whole, table_is_bounded,
+    answers_are_by_number, answers_in_words, client_is_lookahead, numbers_come_back_late,
+    output_looks_back, run_is_lookahead, stations_are_compared_whole, table_is_bounded,
 };
 pub use limits::{LONGEST_BODY, PLACES};
 pub use outcome::{Ended, Outcome};

@@ -25,7 +25,7 @@ more_octets i k n low high =
       | inr most ↦ let grows : 256 ^ k ≤ 256 ^ i = pow-le-pow_right (omega arith) most in absurd (omega arith)
     ]
 
-octet_count_least : (k n : ℕ) → 1 ≤ k → n < 256 ^ k → octet_count n ≤ k
+pub octet_count_least : (k n : ℕ) → 1 ≤ k → n < 256 ^ k → octet_count n ≤ k
 octet_count_least k n low fits = octet_count_cases (λ j. j ≤ k) n
     (λ h. low)
     (λ l h. more_octets 1 k n l fits)
@@ -60,7 +60,7 @@ signed_count_least k x z low fits e =
 
 -- ---- the contents
 
-number_within : (contents : List ℕ) → AreOctets contents → big_number (length contents) contents < 256 ^ length contents
+pub number_within : (contents : List ℕ) → AreOctets contents → big_number (length contents) contents < 256 ^ length contents
 number_within contents fit = big_from-lt 0 (length contents) contents fit
 
 unsigned_least : (contents : List ℕ) (n : ℕ) → AreOctets contents → 1 ≤ length contents → n ≡ big_number (length contents) contents → length (big_bytes (octet_count n) n) ≤ length contents
@@ -134,7 +134,7 @@ first_is [] rest i fit = omega arith
 first_is (x ∷ front) rest zero fit = fit zero
 first_is (x ∷ front) rest (suc i) fit = first_is front rest i (λ j. fit (suc j))
 
-ahead : (front rest : List ℕ) → AreOctets (front ++ rest) → AreOctets front
+pub ahead : (front rest : List ℕ) → AreOctets (front ++ rest) → AreOctets front
 ahead front rest fit = λ i. first_is front rest i fit
 
 value_least : (other : List ℕ) (value : Datum) → AreOctets other → Spells other value → length (plain value) ≤ length other

@@ -1,71 +1,102 @@
 use crate::Device;
+use crate::tests::replies::{REPLIES, ROUTED};
+use crate::tests::writes::{READ, URGENT, WRITES};
 use crate::tests::{PEER, answers, octets, small_device, valve};
 use bac_wire::{Frame, ObjectId};
 
-/// Datagrams whose length octets are right.
-const DATAGRAMS: [&str; 12] = [
-    "8104000ec0a80105bac001001008",
-    "81040017c0a80105bac001040005010c0c000000051955",
-    "810a000801001008",
-    "810a000c0108000501071008",
-    "810a000e010010080a03e81a04d2",
-    "810a001101040000070c0c00000023194d",
-    "810a001301040005010c0c0040000119572903",
-    "810a001a01040005090f0c0040000119553e4441a000003f4910",
-    "810a0016010400050b0f0c0040000119553e003f4908",
-    "810a005301040005010f0c0040000119553e0e0e0e0e0e0e0e0e0e0e0e0e0e0e0e0e0e0e0e0e0e0e0e0e0e0e0e0e0e0e0e0e0f0f0f0f0f0f0f0f0f0f0f0f0f0f0f0f0f0f0f0f0f0f0f0f0f0f0f0f0f0f0f0f3f",
-    "810b000c0120ffff00ff1008",
-    "810b00100128ffff0000050107ff1008",
-];
+/// The points that can be commanded: type and instance.
+const COMMANDABLE: [(u16, u32); 6] = [(1, 1), (2, 2), (4, 4), (5, 5), (14, 1), (19, 1)];
 
-/// Whether the device is silent, with an empty frame and every place of analog-output 1 NULL.
-fn is_silent(device: &mut Device, datagram: &[u8]) -> bool {
-    let mut frame = Frame::new();
-    let peer = device.answer(PEER, datagram, &mut frame);
-    let Some(output) = ObjectId::new(1, 1) else {
+/// Whether every place of the point is NULL.
+fn is_null(device: &Device, kind: u16, instance: u32) -> bool {
+    let Some(object) = ObjectId::new(kind, instance) else {
         return false;
     };
-    let mut untouched = true;
     for priority in 1..=16_u8 {
-        untouched = untouched && device.place(output, priority) == Some(None);
+        if device.place(object, priority) != Some(None) {
+            return false;
+        }
     }
-    peer.is_none() && frame.is_empty() && untouched
+    true
+}
+
+/// Whether every place of every point is NULL.
+fn is_untouched(device: &Device) -> bool {
+    for (kind, instance) in COMMANDABLE {
+        if !is_null(device, kind, instance) {
+            return false;
+        }
+    }
+    true
+}
+
+/// Where a fresh device is silent, whether the frame is empty then and the places are as they were. None where it answers.
+fn silence(datagram: &[u8]) -> Option<bool> {
+    let mut device = small_device()?;
+    let mut frame = Frame::new();
+    match device.answer(PEER, datagram, &mut frame) {
+        Some(_) => None,
+        None => Some(frame.is_empty() && is_untouched(&device)),
+    }
+}
+
+/// Whether a device is silent at each proper front of the datagram, which has the length of the whole.
+fn is_silent_when_cut(text: &str) -> bool {
+    let datagram = octets(text);
+    let all = datagram.as_slice();
+    for count in 0..all.len() {
+        if silence(&all[..count]) != Some(true) {
+            return false;
+        }
+    }
+    true
+}
+
+/// Whether a device takes the datagram with one octet changed in each way: it answers, or it is silent and as it was. With
+/// another length in the link header, octets 2 and 3, it is silent.
+fn is_taken_when_changed(text: &str, place: usize) -> bool {
+    for change in 1..=255_u8 {
+        let mut datagram = octets(text);
+        if place < datagram.len() {
+            datagram[place] ^= change;
+        }
+        let outcome = silence(datagram.as_slice());
+        if outcome == Some(false) || (place < 4 && outcome.is_none()) {
+            return false;
+        }
+    }
+    true
+}
+
+/// Whether a device takes the datagram however it is cut, and with each octet behind the first two changed, those of every
+/// length among them.
+fn survives(text: &str) -> bool {
+    for place in 2..octets(text).len() {
+        if !is_taken_when_changed(text, place) {
+            return false;
+        }
+    }
+    is_silent_when_cut(text)
 }
 
 #[test]
-fn fronts_with_their_old_length(rt: HostRuntime) {
-    let Some(mut device) = small_device() else {
-        assert!(&rt; false, "no device");
-        return;
-    };
-    for text in DATAGRAMS {
-        let datagram = octets(text);
-        let all = datagram.as_slice();
-        for count in 0..all.len() {
-            assert!(&rt; is_silent(&mut device, &all[..count]), "{text} {count}");
-        }
+fn damaged_requests(rt: HostRuntime) {
+    for (datagram, _) in REPLIES {
+        assert!(&rt; survives(datagram), "{datagram}");
     }
 }
 
 #[test]
-fn other_lengths(rt: HostRuntime) {
-    let Some(mut device) = small_device() else {
-        assert!(&rt; false, "no device");
-        return;
-    };
-    for text in DATAGRAMS {
-        for place in 2..4_usize {
-            for change in 1..=255_u8 {
-                let mut datagram = octets(text);
-                if place < datagram.len() {
-                    datagram[place] ^= change;
-                }
-                assert!(&rt;
-                    is_silent(&mut device, datagram.as_slice()),
-                    "{text} {place} {change}"
-                );
-            }
-        }
+fn damaged_writes(rt: HostRuntime) {
+    for (datagram, _, _) in WRITES {
+        assert!(&rt; survives(datagram), "{datagram}");
+    }
+}
+
+#[test]
+fn damaged_others(rt: HostRuntime) {
+    for datagram in URGENT.iter().chain(&ROUTED).chain(&[READ]) {
+        assert!(&rt; survives(datagram), "{datagram}");
     }
 }
 

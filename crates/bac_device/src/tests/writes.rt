@@ -1,7 +1,7 @@
 use crate::tests::{answers, small_device, valve};
 
 /// Writes to analog-output 1, one after the other, with their replies and what is present after each.
-const WRITES: [(&str, &str, u32); 7] = [
+pub(super) const WRITES: [(&str, &str, u32); 7] = [
     (
         "810a001a01040005090f0c0040000119553e4441a000003f4910",
         "810a0009010020090f",
@@ -52,7 +52,7 @@ fn commands(rt: HostRuntime) {
 }
 
 /// Writes of one value at priorities 1 to 5, and then at 7.
-const URGENT: [&str; 6] = [
+pub(super) const URGENT: [&str; 6] = [
     "810a001a01040005090f0c0040000119553e4441a000003f4901",
     "810a001a01040005090f0c0040000119553e4441a000003f4902",
     "810a001a01040005090f0c0040000119553e4441a000003f4903",
@@ -61,23 +61,25 @@ const URGENT: [&str; 6] = [
     "810a001a01040005090f0c0040000119553e4441a000003f4907",
 ];
 
+/// Asks for the priority array, with 50 octets announced.
+pub(super) const READ: &str = "810a001101040000080c0c004000011957";
+
 #[test]
 fn priority_array_of_forty_eight_octets(rt: HostRuntime) {
     let Some(mut device) = small_device() else {
         assert!(&rt; false, "no device");
         return;
     };
-    let read = "810a001101040000080c0c004000011957";
     for (count, datagram) in URGENT.iter().enumerate() {
         if count == 5 {
             let all =
                 "810a0036010030080c0c0040000119573e4441a000004441a000004441a000004441a000004441a0000000000000000000000000003f";
-            assert!(&rt; answers(&mut device, read, Some(all)));
+            assert!(&rt; answers(&mut device, READ, Some(all)));
         }
         assert!(&rt;
             answers(&mut device, datagram, Some("810a0009010020090f")),
             "{datagram}"
         );
     }
-    assert!(&rt; answers(&mut device, read, Some("810a00090100710804")));
+    assert!(&rt; answers(&mut device, READ, Some("810a00090100710804")));
 }

@@ -5,17 +5,12 @@ use std::io::Write;
 const SCRIPT: &str =
     "read 127.0.0.1:47808 0 5 85\ntick 2999\ntick 3000\ntick 6000\ntick 9000\ntick 12000\n";
 
-const SENT: &str = "send 0 127.0.0.1:47808 810a001101040005010c0c000000051955\n";
-
 /// What the script prints.
-fn whole_text(rt: &impl AllocGlobal) -> Result<String, Fail> {
-    let mut text = String::new(rt.alloc());
-    for _ in 0..4 {
-        text.push_str(SENT)?;
-    }
-    text.push_str("timeout 0\n")?;
-    Ok(text)
-}
+const PRINTED: &str = "send 0 127.0.0.1:47808 810a001101040005010c0c000000051955\n\
+    send 0 127.0.0.1:47808 810a001101040005010c0c000000051955\n\
+    send 0 127.0.0.1:47808 810a001101040005010c0c000000051955\n\
+    send 0 127.0.0.1:47808 810a001101040005010c0c000000051955\n\
+    timeout 0\n";
 
 /// Takes so many octets, one at a time, and then fails, or takes none.
 #[derive(Drop)]
@@ -39,14 +34,29 @@ impl Write for Room<'_> {
     }
 
     fn flush(&mut self) -> io::Result<()> {
+        if self.fails {
+            return Err(io::Error::from(ErrorKind::Other));
+        }
         Ok(())
     }
 }
 
+// Script and text stand in fixed room, and nothing else asks for memory: with every request for memory refused the text is
+// the same.
 #[test]
-fn writes_fail_in_turn(rt: HostRuntime) -> Result<(), Fail> {
-    let text = whole_text(&rt)?;
-    let text = text.as_str().as_bytes();
+fn no_memory_is_taken(rt: HostRuntime) {
+    let mut room = [0; PRINTED.len()];
+    let got = trace(
+        &mut Checked::new(whole(SCRIPT)),
+        &mut Checked::new(room.as_mut_slice()),
+    );
+    assert_eq!(rt; got, Ok(TraceEnd { lines: 6 }));
+    assert_eq!(rt; room.as_slice(), PRINTED.as_bytes());
+}
+
+#[test]
+fn writes_fail_in_turn(rt: HostRuntime) {
+    let text = PRINTED.as_bytes();
     for left in 0..text.len() {
         for fails in [true, false] {
             let mut taken = Vec::new(rt.alloc());
@@ -62,31 +72,49 @@ fn writes_fail_in_turn(rt: HostRuntime) -> Result<(), Fail> {
             assert_eq!(rt; taken.as_slice(), &text[..left], "after {left}");
         }
     }
-    Ok(())
 }
 
-// The script, one octet a read, and the lines that are printed by the time a read fails.
+// The script, one octet a read, and how many octets are printed by the time a read fails.
 #[test]
-fn reads_fail_in_turn(rt: HostRuntime) -> Result<(), Fail> {
-    let ends = [28, 48, 58, 68];
+fn reads_fail_in_turn(rt: HostRuntime) {
+    let text = PRINTED.as_bytes();
     for reads in 0..SCRIPT.len() + 1 {
-        let mut text = String::new(rt.alloc());
-        for end in ends {
-            if end <= reads {
-                text.push_str(SENT)?;
-            }
-        }
-        if reads == SCRIPT.len() {
-            text.push_str("timeout 0\n")?;
-        }
-        expect(
-            &rt,
-            octet_by_octet(SCRIPT, reads),
-            Err(TraceFault::ReadFailed),
-            text.as_str(),
+        let printed = match reads {
+            0..=27 => 0,
+            28..=47 => 58,
+            48..=57 => 116,
+            58..=67 => 174,
+            68..=78 => 232,
+            _ => 242,
+        };
+        let mut written = Vec::new(rt.alloc());
+        let got = {
+            let mut reader = Checked::new(octet_by_octet(SCRIPT, reads));
+            let mut writer = Checked::new(&mut written);
+            trace(&mut reader, &mut writer)
+        };
+        assert_eq!(rt; got, Err(TraceFault::ReadFailed), "after {reads}");
+        assert_eq!(rt;
+            written.as_slice(),
+            &text[..text.len().min(printed)],
+            "after {reads}"
         );
     }
-    Ok(())
+}
+
+// A flush answers what the writer's own does, and is no failed write.
+#[test]
+fn flushes_are_handed_on(rt: HostRuntime) {
+    for fails in [true, false] {
+        let mut taken = Vec::new(rt.alloc());
+        let mut writer = Checked::new(Room {
+            taken: &mut taken,
+            left: 0,
+            fails,
+        });
+        assert_eq!(rt; writer.flush().is_err(), fails);
+        assert!(rt; !writer.failed());
+    }
 }
 
 #[test]

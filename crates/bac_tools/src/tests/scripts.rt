@@ -3,116 +3,477 @@ use super::*;
 
 const READ: &str = "read 127.0.0.1:47808 0 5 85\n";
 
-const ANSWER: &str = "data 127.0.0.1:47808 810a0017010030010c0c0000000519553e444290999a3f\n";
-
 const SENT: &str = "send 0 127.0.0.1:47808 810a001101040005010c0c000000051955\n";
 
 const DONE: &str = "done 0 value 4290999a\n";
 
-/// The lines joined.
-fn joined(rt: &impl AllocGlobal, lines: &[&str]) -> Result<String, Fail> {
-    let mut all = String::new(rt.alloc());
-    for line in lines {
-        all.push_str(line)?;
-    }
-    Ok(all)
-}
-
-#[test]
-fn one_read(rt: HostRuntime) -> Result<(), Fail> {
-    expect_end(
-        &rt,
-        joined(&rt, &[READ, ANSWER])?.as_str(),
+/// Scripts that run to their end, how many lines each has, and what it prints.
+static RUNS: [(&str, u64, &str); 5] = [
+    ("", 0, ""),
+    ("# a remark\n\n \t\r\n#\tmore", 4, ""),
+    (
+        "read 127.0.0.1:47808 0 5 85\n\
+        data 127.0.0.1:47808 810a0017010030010c0c0000000519553e444290999a3f\n",
         2,
-        joined(&rt, &[SENT, DONE])?.as_str(),
-    );
-    expect_end(&rt, "", 0, "");
-    expect_end(&rt, "# a remark\n\n \t\r\n#\tmore", 4, "");
-    Ok(())
-}
+        "send 0 127.0.0.1:47808 810a001101040005010c0c000000051955\n\
+        done 0 value 4290999a\n",
+    ),
+    // The longest and the shortest properties, kinds and instances, and the usual port.
+    (
+        "read 0.0.0.0:0 0 0 0\n\
+        read 255.255.255.255:65535 1023 4194303 255\n\
+        read 192.168.1.5 8 1234 256\n\
+        read 010.0.00.1 8 4194303 65535\n\
+        read 10.0.0.1 8 0 65536\n\
+        read 10.0.0.1 8 0 4194303\n",
+        6,
+        "send 0 0.0.0.0:0 810a001101040005010c0c000000001900\n\
+        send 1 255.255.255.255:65535 810a001101040005020c0cffffffff19ff\n\
+        send 2 192.168.1.5:47808 810a001201040005030c0c020004d21a0100\n\
+        send 3 10.0.0.1:47808 810a001201040005040c0c023fffff1affff\n\
+        send 4 10.0.0.1:47808 810a001301040005050c0c020000001b010000\n\
+        send 5 10.0.0.1:47808 810a001301040005060c0c020000001b3fffff\n",
+    ),
+    (
+        "read 127.0.0.1 1 1 87 0\n\
+        read 127.0.0.1 1 1 87 4294967295\n",
+        2,
+        "send 0 127.0.0.1:47808 810a001301040005010c0c0040000119572900\n\
+        send 1 127.0.0.1:47808 810a001601040005020c0c0040000119572cffffffff\n",
+    ),
+];
 
-#[test]
-fn retries(rt: HostRuntime) -> Result<(), Fail> {
-    let script = joined(
-        &rt,
-        &[
-            READ,
-            "tick 2999\ntick 3000\ntick 6000\ntick 9000\ntick 12000\n",
-        ],
-    )?;
-    let text = joined(&rt, &[SENT, SENT, SENT, SENT, "timeout 0\n"])?;
-    expect_end(&rt, script.as_str(), 6, text.as_str());
-    Ok(())
-}
-
-#[test]
-fn the_clock_leaps_and_goes_back(rt: HostRuntime) -> Result<(), Fail> {
-    let script = joined(&rt, &[READ, "tick 60000\ntick 5\ntick 62999\ntick 63000\n"])?;
-    expect_end(
-        &rt,
-        script.as_str(),
+/// The same, of the clock.
+static TIMES: [(&str, u64, &str); 5] = [
+    (
+        "read 127.0.0.1:47808 0 5 85\n\
+        tick 2999\ntick 3000\ntick 6000\ntick 9000\ntick 12000\n",
+        6,
+        "send 0 127.0.0.1:47808 810a001101040005010c0c000000051955\n\
+        send 0 127.0.0.1:47808 810a001101040005010c0c000000051955\n\
+        send 0 127.0.0.1:47808 810a001101040005010c0c000000051955\n\
+        send 0 127.0.0.1:47808 810a001101040005010c0c000000051955\n\
+        timeout 0\n",
+    ),
+    // The clock leaps, and doesn't go back.
+    (
+        "read 127.0.0.1:47808 0 5 85\n\
+        tick 60000\ntick 5\ntick 62999\ntick 63000\n",
         5,
-        joined(&rt, &[SENT, SENT, SENT])?.as_str(),
-    );
-    let script = joined(&rt, &["client 1000 0 0\n", READ, "tick 1000\n", ANSWER])?;
-    expect_end(
-        &rt,
-        script.as_str(),
+        "send 0 127.0.0.1:47808 810a001101040005010c0c000000051955\n\
+        send 0 127.0.0.1:47808 810a001101040005010c0c000000051955\n\
+        send 0 127.0.0.1:47808 810a001101040005010c0c000000051955\n",
+    ),
+    // An answer that comes too late.
+    (
+        "client 1000 0 0\n\
+        read 127.0.0.1:47808 0 5 85\n\
+        tick 1000\n\
+        data 127.0.0.1:47808 810a0017010030010c0c0000000519553e444290999a3f\n",
         4,
-        joined(&rt, &[SENT, "timeout 0\n", "drop\n"])?.as_str(),
-    );
-    Ok(())
-}
-
-#[test]
-fn two_are_due_at_once(rt: HostRuntime) -> Result<(), Fail> {
-    let second = "send 1 127.0.0.1:47808 810a001101040005020c0c00000005194d\n";
-    let script = joined(
-        &rt,
-        &[
-            READ,
-            "tick 1000\nread 127.0.0.1 0 5 77\ntick 3000\ntick 6000\n",
-        ],
-    )?;
-    expect_end(
-        &rt,
-        script.as_str(),
+        "send 0 127.0.0.1:47808 810a001101040005010c0c000000051955\n\
+        timeout 0\n\
+        drop\n",
+    ),
+    // Two requests that are due at one tick.
+    (
+        "read 127.0.0.1:47808 0 5 85\n\
+        tick 1000\n\
+        read 127.0.0.1 0 5 77\n\
+        tick 3000\ntick 6000\n",
         5,
-        joined(&rt, &[SENT, second, SENT, SENT, second])?.as_str(),
-    );
-    Ok(())
-}
+        "send 0 127.0.0.1:47808 810a001101040005010c0c000000051955\n\
+        send 1 127.0.0.1:47808 810a001101040005020c0c00000005194d\n\
+        send 0 127.0.0.1:47808 810a001101040005010c0c000000051955\n\
+        send 0 127.0.0.1:47808 810a001101040005010c0c000000051955\n\
+        send 1 127.0.0.1:47808 810a001101040005020c0c00000005194d\n",
+    ),
+    // The longest timeout.
+    (
+        "client 4294967295 1 0\n\
+        read 127.0.0.1:47808 0 5 85\n\
+        tick 4294967294\ntick 4294967295\ntick 18446744073709551615\ntick 0\n",
+        6,
+        "send 0 127.0.0.1:47808 810a001101040005010c0c000000051955\n\
+        send 0 127.0.0.1:47808 810a001101040005010c0c000000051955\n\
+        timeout 0\n",
+    ),
+];
 
-#[test]
-fn a_second_answer_is_dropped(rt: HostRuntime) -> Result<(), Fail> {
-    let script = joined(&rt, &[READ, ANSWER, ANSWER, "tick 3000"])?;
-    expect_end(
-        &rt,
-        script.as_str(),
-        4,
-        joined(&rt, &[SENT, DONE, "drop\n"])?.as_str(),
-    );
-    let other = "data 127.0.0.1:47809 810a0017010030010c0c0000000519553e444290999a3f\n";
-    let script = joined(&rt, &[READ, other, ANSWER])?;
-    expect_end(
-        &rt,
-        script.as_str(),
+/// The same, of settings and tickets.
+static SETTINGS: [(&str, u64, &str); 3] = [
+    (
+        "# settings\n\nclient 4294967295 255 18446744073709551615\n",
         3,
-        joined(&rt, &[SENT, "drop\n", DONE])?.as_str(),
-    );
+        "",
+    ),
+    (
+        "client 3000 3 7\n\
+        read 127.0.0.1:47808 0 5 85\n",
+        2,
+        "send 7 127.0.0.1:47808 810a001101040005010c0c000000051955\n",
+    ),
+    (
+        "client 3000 3 18446744073709551614\n\
+        tick 18446744073709551615\n\
+        read 127.0.0.1:47808 0 5 85\n\
+        read 127.0.0.1:47808 0 5 85\n\
+        tick 5\ntick 18446744073709551615\n",
+        6,
+        "send 18446744073709551614 127.0.0.1:47808 810a001101040005010c0c000000051955\n\
+        spent\n",
+    ),
+];
+
+/// The same, of who answers.
+static ANSWERERS: [(&str, u64, &str); 4] = [
+    // A second answer.
+    (
+        "read 127.0.0.1:47808 0 5 85\n\
+        data 127.0.0.1:47808 810a0017010030010c0c0000000519553e444290999a3f\n\
+        data 127.0.0.1:47808 810a0017010030010c0c0000000519553e444290999a3f\n\
+        tick 3000",
+        4,
+        "send 0 127.0.0.1:47808 810a001101040005010c0c000000051955\n\
+        done 0 value 4290999a\n\
+        drop\n",
+    ),
+    // Another port.
+    (
+        "read 127.0.0.1:47808 0 5 85\n\
+        data 127.0.0.1:47809 810a0017010030010c0c0000000519553e444290999a3f\n\
+        data 127.0.0.1:47808 810a0017010030010c0c0000000519553e444290999a3f\n",
+        3,
+        "send 0 127.0.0.1:47808 810a001101040005010c0c000000051955\n\
+        drop\n\
+        done 0 value 4290999a\n",
+    ),
+    // The router alone, another address behind it, and the station that was asked.
+    (
+        "read 127.0.0.1:47808/5/07 0 5 85\n\
+        data 127.0.0.1:47808 810a0017010030010c0c0000000519553e444290999a3f\n\
+        data 127.0.0.1:47808 810a001b01080005010830010c0c0000000519553e444290999a3f\n\
+        data 127.0.0.1:47808 810a001b01080005010730010c0c0000000519553e444290999a3f\n",
+        4,
+        "send 0 127.0.0.1:47808/5/07 810a0016012400050107ff0005010c0c000000051955\n\
+        drop\n\
+        drop\n\
+        done 0 value 4290999a\n",
+    ),
+    // A forwarded answer counts for the peer that it comes from at first.
+    (
+        "read 127.0.0.1:47808 0 5 85\n\
+        data 127.0.0.1:47808 8104001d7f000001c350010030010c0c0000000519553e444290999a3f\n\
+        data 127.0.0.1:50000 8104001d7f000001bac0010030010c0c0000000519553e444290999a3f\n",
+        3,
+        "send 0 127.0.0.1:47808 810a001101040005010c0c000000051955\n\
+        drop\n\
+        done 0 value 4290999a\n",
+    ),
+];
+
+/// The same, of answers of each kind: a datagram after a read, and what is printed of it.
+static ANSWERS: [(&str, u64, &str); 15] = [
+    (
+        "read 127.0.0.1:47808 0 5 85\n\
+        data 127.0.0.1:47809 810a0017010030010c0c0000000519553e444290999a3f\n",
+        2,
+        "send 0 127.0.0.1:47808 810a001101040005010c0c000000051955\n\
+        drop\n",
+    ),
+    (
+        "read 127.0.0.1:47808 0 5 85\n\
+        data 127.0.0.1 810a00090100700104\n",
+        2,
+        "send 0 127.0.0.1:47808 810a001101040005010c0c000000051955\n\
+        drop\n",
+    ),
+    (
+        "read 127.0.0.1:47808 0 5 85\n\
+        data 127.0.0.1 810a0009010020010f\n",
+        2,
+        "send 0 127.0.0.1:47808 810a001101040005010c0c000000051955\n\
+        drop\n",
+    ),
+    (
+        "read 127.0.0.1:47808 0 5 85\n\
+        data 127.0.0.1 810a000a010040010001\n",
+        2,
+        "send 0 127.0.0.1:47808 810a001101040005010c0c000000051955\n\
+        drop\n",
+    ),
+    (
+        "read 127.0.0.1:47808 0 5 85\n\
+        data 127.0.0.1 810a0018010030010c0c0000000519553e444290999a3f\n",
+        2,
+        "send 0 127.0.0.1:47808 810a001101040005010c0c000000051955\n\
+        drop\n",
+    ),
+    (
+        "read 127.0.0.1:47808 0 5 85\n\
+        data 127.0.0.1 810a00090100710104\n",
+        2,
+        "send 0 127.0.0.1:47808 810a001101040005010c0c000000051955\n\
+        done 0 abort 4\n",
+    ),
+    (
+        "read 127.0.0.1:47808 0 5 85\n\
+        data 127.0.0.1 810a0009010020010c\n",
+        2,
+        "send 0 127.0.0.1:47808 810a001101040005010c0c000000051955\n\
+        done 0 ok\n",
+    ),
+    (
+        "read 127.0.0.1:47808 0 5 85\n\
+        data 127.0.0.1 810a000b0100380100010c\n",
+        2,
+        "send 0 127.0.0.1:47808 810a001101040005010c0c000000051955\n\
+        done 0 segmented\n",
+    ),
+    (
+        "read 127.0.0.1:47808 0 5 85\n\
+        data 127.0.0.1 810a0009010050010c\n",
+        2,
+        "send 0 127.0.0.1:47808 810a001101040005010c0c000000051955\n\
+        done 0 bad-error\n",
+    ),
+    (
+        "read 127.0.0.1:47808 0 5 85\n\
+        data 127.0.0.1 810a000d010050010c91029120\n",
+        2,
+        "send 0 127.0.0.1:47808 810a001101040005010c0c000000051955\n\
+        done 0 error 2 32\n",
+    ),
+    (
+        "read 127.0.0.1:47808 0 5 85\n\
+        data 127.0.0.1 810a00090100600109\n",
+        2,
+        "send 0 127.0.0.1:47808 810a001101040005010c0c000000051955\n\
+        done 0 reject 9\n",
+    ),
+    (
+        "read 127.0.0.1:47808 0 5 85\n\
+        data 127.0.0.1 810a0015010030010c0c00000005194d3e72003f3f\n",
+        2,
+        "send 0 127.0.0.1:47808 810a001101040005010c0c000000051955\n\
+        done 0 value \"?\"\n",
+    ),
+    (
+        "read 127.0.0.1:47808 0 5 85\n\
+        data 127.0.0.1 810a0016010030010c0c0000000519553e0e21050f3f\n",
+        2,
+        "send 0 127.0.0.1:47808 810a001101040005010c0c000000051955\n\
+        done 0 value hex 0e21050f\n",
+    ),
+    (
+        "read 127.0.0.1:47808 0 5 85\n\
+        data 127.0.0.1 810a0016010030010c0c0000000519553e444290999a\n",
+        2,
+        "send 0 127.0.0.1:47808 810a001101040005010c0c000000051955\n\
+        done 0 bad-ack\n",
+    ),
+    (
+        "read 127.0.0.1:47808 0 5 85\n\
+        data 127.0.0.1:47808 810A0016010030010C0C0000000519553E444290999A\n",
+        2,
+        "send 0 127.0.0.1:47808 810a001101040005010c0c000000051955\n\
+        done 0 bad-ack\n",
+    ),
+];
+
+/// The same, of a table that is full, and of the number after those that are open.
+static FULL_TABLE: [(&str, u64, &str); 1] = [(
+    "read 127.0.0.1:47808 0 5 85\n\
+    read 127.0.0.1:47808 0 5 85\n\
+    read 127.0.0.1:47808 0 5 85\n\
+    read 127.0.0.1:47808 0 5 85\n\
+    read 127.0.0.1:47808 0 5 85\n\
+    read 127.0.0.1:47808 0 5 85\n\
+    read 127.0.0.1:47808 0 5 85\n\
+    read 127.0.0.1:47808 0 5 85\n\
+    read 127.0.0.1:47808 0 5 85\n\
+    read 127.0.0.1:47808 0 5 85\n\
+    read 127.0.0.1:47808 0 5 85\n\
+    read 127.0.0.1:47808 0 5 85\n\
+    read 127.0.0.1:47808 0 5 85\n\
+    read 127.0.0.1:47808 0 5 85\n\
+    read 127.0.0.1:47808 0 5 85\n\
+    read 127.0.0.1:47808 0 5 85\n\
+    read 127.0.0.1:47808 0 5 85\n\
+    data 127.0.0.1:47808 810a0017010030010c0c0000000519553e444290999a3f\n\
+    read 127.0.0.1:47808 0 5 85\n",
+    19,
+    "send 0 127.0.0.1:47808 810a001101040005010c0c000000051955\n\
+    send 1 127.0.0.1:47808 810a001101040005020c0c000000051955\n\
+    send 2 127.0.0.1:47808 810a001101040005030c0c000000051955\n\
+    send 3 127.0.0.1:47808 810a001101040005040c0c000000051955\n\
+    send 4 127.0.0.1:47808 810a001101040005050c0c000000051955\n\
+    send 5 127.0.0.1:47808 810a001101040005060c0c000000051955\n\
+    send 6 127.0.0.1:47808 810a001101040005070c0c000000051955\n\
+    send 7 127.0.0.1:47808 810a001101040005080c0c000000051955\n\
+    send 8 127.0.0.1:47808 810a001101040005090c0c000000051955\n\
+    send 9 127.0.0.1:47808 810a0011010400050a0c0c000000051955\n\
+    send 10 127.0.0.1:47808 810a0011010400050b0c0c000000051955\n\
+    send 11 127.0.0.1:47808 810a0011010400050c0c0c000000051955\n\
+    send 12 127.0.0.1:47808 810a0011010400050d0c0c000000051955\n\
+    send 13 127.0.0.1:47808 810a0011010400050e0c0c000000051955\n\
+    send 14 127.0.0.1:47808 810a0011010400050f0c0c000000051955\n\
+    send 15 127.0.0.1:47808 810a001101040005100c0c000000051955\n\
+    full\n\
+    done 0 value 4290999a\n\
+    send 16 127.0.0.1:47808 810a001101040005110c0c000000051955\n",
+)];
+
+#[test]
+fn scripts_run_to_their_end(rt: HostRuntime) {
+    expect_ends(&rt, &RUNS);
+    expect_ends(&rt, &TIMES);
+    expect_ends(&rt, &SETTINGS);
+    expect_ends(&rt, &ANSWERERS);
+    expect_ends(&rt, &ANSWERS);
+    expect_ends(&rt, &FULL_TABLE);
+}
+
+/// Lines that are bad after a read.
+static BAD_LINES: [&str; 27] = [
+    "tick x",
+    "tick",
+    "tick 1 2",
+    "tick -1",
+    "tick +1",
+    "tick 18446744073709551616",
+    "Tick 1",
+    "tick 1\r",
+    "client 3000 3 0",
+    "read 127.0.0.1:47808 0 5",
+    "read 127.0.0.1:47808 0 5 85 1 2",
+    "read 127.0.0.1:47808 1024 5 85",
+    "read 127.0.0.1:47808 0 4194304 85",
+    "read 127.0.0.1:47808 0 5 4194304",
+    "read 127.0.0.256 0 5 85",
+    "read 127.0.0 0 5 85",
+    "read 127.0.0.1.1 0 5 85",
+    "read 127.0.0.0001 0 5 85",
+    "read 127.0.0.1: 0 5 85",
+    "read 127.0.0.1:65536 0 5 85",
+    "read 127.0.0.1:000080 0 5 85",
+    "read 127.0.0.1:1:1 0 5 85",
+    "data 127.0.0.1:47808",
+    "data 127.0.0.1:47808 8",
+    "data 127.0.0.1:47808 8g",
+    "data 127.0.0.1:47808 81 0a",
+    "send 0",
+];
+
+/// Lines that are bad as the first of a script.
+static BAD_FIRST_LINES: [&str; 14] = [
+    "client 0 3 0",
+    "client 4294967296 3 0",
+    "client 3000 256 0",
+    "client 3000 3 18446744073709551616",
+    "client 3000 3",
+    "client 3000 3 0 0",
+    "data 127.0.0.1:47808/5/07 00",
+    "read 127.0.0.1/0/07 0 5 85",
+    "read 127.0.0.1/65535/07 0 5 85",
+    "read 127.0.0.1/5/ 0 5 85",
+    "read 127.0.0.1/5 0 5 85",
+    "read 127.0.0.1/5/0102030405060708 0 5 85",
+    "read 127.0.0.1/5/07/08 0 5 85",
+    "read 127.0.0.1 1 1 87 4294967296",
+];
+
+#[test]
+fn bad_lines(rt: HostRuntime) -> Result<(), Fail> {
+    for bad in BAD_LINES.iter() {
+        let script = format!(in rt.alloc(); "{READ}{bad}")?;
+        expect(
+            &rt,
+            whole(script.as_str()),
+            Err(TraceFault::BadLine(2)),
+            SENT,
+        );
+    }
     Ok(())
 }
 
+/// Scripts that stop at a bad line, the number of that line, and what is printed before it.
+static STOPS: [(&str, u64, &str); 16] = [
+    ("client 0 3 0", 1, ""),
+    ("client 4294967296 3 0", 1, ""),
+    ("client 3000 256 0", 1, ""),
+    ("client 3000 3 18446744073709551616", 1, ""),
+    ("client 3000 3", 1, ""),
+    ("client 3000 3 0 0", 1, ""),
+    ("client 1000 0 0\nclient 1000 0 0\n", 2, ""),
+    ("data 127.0.0.1:47808/5/07 00", 1, ""),
+    ("read 127.0.0.1/0/07 0 5 85", 1, ""),
+    ("read 127.0.0.1/65535/07 0 5 85", 1, ""),
+    ("read 127.0.0.1/5/ 0 5 85", 1, ""),
+    ("read 127.0.0.1/5 0 5 85", 1, ""),
+    ("read 127.0.0.1/5/0102030405060708 0 5 85", 1, ""),
+    ("read 127.0.0.1/5/07/08 0 5 85", 1, ""),
+    ("read 127.0.0.1 1 1 87 4294967296", 1, ""),
+    (
+        "read 127.0.0.1:47808 0 5 85\n#\u{80}\u{7f}x\ntick",
+        3,
+        "send 0 127.0.0.1:47808 810a001101040005010c0c000000051955\n",
+    ),
+];
+
 #[test]
-fn other_bodies_are_bad(rt: HostRuntime) -> Result<(), Fail> {
-    let cut = "data 127.0.0.1:47808 810A0016010030010C0C0000000519553E444290999A\n";
-    let script = joined(&rt, &[READ, cut])?;
-    expect_end(
-        &rt,
-        script.as_str(),
-        2,
-        joined(&rt, &[SENT, "done 0 bad-ack\n"])?.as_str(),
-    );
+fn scripts_stop_at_a_bad_line(rt: HostRuntime) {
+    for (script, line, text) in STOPS.iter() {
+        expect(&rt, whole(script), Err(TraceFault::BadLine(*line)), text);
+    }
+}
+
+#[test]
+fn octets_that_are_no_text(rt: HostRuntime) {
+    let mut printed = Vec::new(rt.alloc());
+    let got = {
+        let mut reader = Checked::new(b"\n#\xff\n".as_slice());
+        let mut writer = Checked::new(&mut printed);
+        trace(&mut reader, &mut writer)
+    };
+    assert_eq!(rt; got, Err(TraceFault::BadLine(2)));
+    assert!(rt; printed.is_empty());
+}
+
+/// A script of a read and a remark of so many octets, ended so.
+fn with_long_remark(rt: &impl AllocGlobal, octets: usize, end: &str) -> Result<String, Fail> {
+    let mut script = String::new(rt.alloc());
+    script.push_str(READ)?;
+    for _ in 0..octets {
+        script.push_str("#")?;
+    }
+    script.push_str(end)?;
+    Ok(script)
+}
+
+/// How many octets a remark has, how its line ends, and how the script does.
+static LONG_REMARKS: [(usize, &str, Result<TraceEnd, TraceFault>); 7] = [
+    (4096, "\n", Ok(TraceEnd { lines: 2 })),
+    (4096, "", Ok(TraceEnd { lines: 2 })),
+    (4095, "\r\n", Ok(TraceEnd { lines: 2 })),
+    (4097, "\n", Err(TraceFault::LineTooLong(2))),
+    (4097, "", Err(TraceFault::LineTooLong(2))),
+    (4096, "\r\n", Err(TraceFault::LineTooLong(2))),
+    (9000, "\ntick 1\n", Err(TraceFault::LineTooLong(2))),
+];
+
+#[test]
+fn long_lines(rt: HostRuntime) -> Result<(), Fail> {
+    for (octets, end, answer) in LONG_REMARKS.iter() {
+        let script = with_long_remark(&rt, *octets, end)?;
+        expect(&rt, whole(script.as_str()), *answer, SENT);
+        expect(
+            &rt,
+            octet_by_octet(script.as_str(), usize::MAX),
+            *answer,
+            SENT,
+        );
+    }
     Ok(())
 }
 
@@ -132,19 +493,17 @@ fn answer(rt: &impl AllocGlobal, number: u32) -> Result<String, Fail> {
     Ok(text)
 }
 
+// The answer under each number but the request's is dropped.
 #[test]
-fn the_table_is_full(rt: HostRuntime) -> Result<(), Fail> {
-    let mut script = String::new(rt.alloc());
-    let mut text = String::new(rt.alloc());
-    for ticket in 0..16 {
-        script.push_str(READ)?;
-        text.push_str(sent(&rt, ticket, ticket + 1)?.as_str())?;
+fn answers_under_each_number(rt: HostRuntime) -> Result<(), Fail> {
+    for number in 0..256 {
+        let octets = answer(&rt, number)?;
+        let script = format!(in rt.alloc(); "{READ}{octets}")?;
+        let end = if number == 1 { DONE } else { "drop\n" };
+        let text = format!(in rt.alloc(); "{SENT}{end}")?;
+        let answer = Ok(TraceEnd { lines: 2 });
+        expect(&rt, whole(script.as_str()), answer, text.as_str());
     }
-    script.push_str(joined(&rt, &[READ, ANSWER, READ])?.as_str())?;
-    text.push_str("full\n")?;
-    text.push_str(DONE)?;
-    text.push_str("send 16 127.0.0.1:47808 810a001101040005110c0c000000051955\n")?;
-    expect_end(&rt, script.as_str(), 19, text.as_str());
     Ok(())
 }
 
@@ -161,34 +520,12 @@ fn an_open_number_is_skipped(rt: HostRuntime) -> Result<(), Fail> {
             256 => 2,
             _ => ticket + 1,
         };
-        script.push_str(READ)?;
-        script.push_str(answer(&rt, number)?.as_str())?;
-        text.push_str(sent(&rt, ticket, number)?.as_str())?;
-        let done = format!(in rt.alloc(); "done {ticket} value 4290999a\n")?;
-        text.push_str(done.as_str())?;
+        let octets = answer(&rt, number)?;
+        script.push_str(format!(in rt.alloc(); "{READ}{octets}")?.as_str())?;
+        let sent = sent(&rt, ticket, number)?;
+        text.push_str(format!(in rt.alloc(); "{sent}done {ticket} value 4290999a\n")?.as_str())?;
     }
     expect_end(&rt, script.as_str(), 513, text.as_str());
-    Ok(())
-}
-
-#[test]
-fn tickets_are_spent(rt: HostRuntime) -> Result<(), Fail> {
-    let last = "send 18446744073709551614 127.0.0.1:47808 810a001101040005010c0c000000051955\n";
-    let script = joined(
-        &rt,
-        &[
-            "client 3000 3 18446744073709551614\ntick 18446744073709551615\n",
-            READ,
-            READ,
-            "tick 5\ntick 18446744073709551615\n",
-        ],
-    )?;
-    expect_end(
-        &rt,
-        script.as_str(),
-        6,
-        joined(&rt, &[last, "spent\n"])?.as_str(),
-    );
     Ok(())
 }
 
@@ -205,278 +542,4 @@ fn as_many_retries_as_there_may_be(rt: HostRuntime) -> Result<(), Fail> {
     }
     expect_end(&rt, script.as_str(), 258, text.as_str());
     Ok(())
-}
-
-// The longest and the shortest properties, kinds and instances, and the usual port.
-#[test]
-fn parameters_in_fewest_octets(rt: HostRuntime) {
-    let script = "read 0.0.0.0:0 0 0 0\nread 255.255.255.255:65535 1023 4194303 255\n\
-        read 192.168.1.5 8 1234 256\nread 010.0.00.1 8 4194303 65535\nread 10.0.0.1 8 0 65536\n\
-        read 10.0.0.1 8 0 4194303\n";
-    let text = "send 0 0.0.0.0:0 810a001101040005010c0c000000001900\n\
-        send 1 255.255.255.255:65535 810a001101040005020c0cffffffff19ff\n\
-        send 2 192.168.1.5:47808 810a001201040005030c0c020004d21a0100\n\
-        send 3 10.0.0.1:47808 810a001201040005040c0c023fffff1affff\n\
-        send 4 10.0.0.1:47808 810a001301040005050c0c020000001b010000\n\
-        send 5 10.0.0.1:47808 810a001301040005060c0c020000001b3fffff\n";
-    expect_end(&rt, script, 6, text);
-}
-
-#[test]
-fn bad_lines(rt: HostRuntime) -> Result<(), Fail> {
-    for bad in [
-        "tick x",
-        "tick",
-        "tick 1 2",
-        "tick -1",
-        "tick +1",
-        "tick 18446744073709551616",
-        "Tick 1",
-        "tick 1\r",
-        "client 3000 3 0",
-        "read 127.0.0.1:47808 0 5",
-        "read 127.0.0.1:47808 0 5 85 1 2",
-        "read 127.0.0.1:47808 1024 5 85",
-        "read 127.0.0.1:47808 0 4194304 85",
-        "read 127.0.0.1:47808 0 5 4194304",
-        "read 127.0.0.256 0 5 85",
-        "read 127.0.0 0 5 85",
-        "read 127.0.0.1.1 0 5 85",
-        "read 127.0.0.0001 0 5 85",
-        "read 127.0.0.1: 0 5 85",
-        "read 127.0.0.1:65536 0 5 85",
-        "read 127.0.0.1:000080 0 5 85",
-        "read 127.0.0.1:1:1 0 5 85",
-        "data 127.0.0.1:47808",
-        "data 127.0.0.1:47808 8",
-        "data 127.0.0.1:47808 8g",
-        "data 127.0.0.1:47808 81 0a",
-        "send 0",
-        "#\u{80}\u{7f}x\ntick",
-    ] {
-        let script = joined(&rt, &[READ, bad])?;
-        let line = if bad.starts_with("#") { 3 } else { 2 };
-        expect(
-            &rt,
-            whole(script.as_str()),
-            Err(TraceFault::BadLine(line)),
-            SENT,
-        );
-    }
-    Ok(())
-}
-
-#[test]
-fn settings_come_first(rt: HostRuntime) -> Result<(), Fail> {
-    let script = "client 1000 0 0\nclient 1000 0 0\n";
-    expect(&rt, whole(script), Err(TraceFault::BadLine(2)), "");
-    expect_end(
-        &rt,
-        "# settings\n\nclient 4294967295 255 18446744073709551615\n",
-        3,
-        "",
-    );
-    for bad in [
-        "client 0 3 0",
-        "client 4294967296 3 0",
-        "client 3000 256 0",
-        "client 3000 3 18446744073709551616",
-        "client 3000 3",
-        "client 3000 3 0 0",
-    ] {
-        expect(&rt, whole(bad), Err(TraceFault::BadLine(1)), "");
-    }
-    let script = joined(&rt, &["client 3000 3 7\n", READ])?;
-    expect_end(&rt, script.as_str(), 2, sent(&rt, 7, 1)?.as_str());
-    Ok(())
-}
-
-// A line of a remark with so many octets, ended so.
-fn long_remark(rt: &impl AllocGlobal, octets: usize, end: &str) -> Result<String, Fail> {
-    let mut line = String::new(rt.alloc());
-    for _ in 0..octets {
-        line.push_str("#")?;
-    }
-    line.push_str(end)?;
-    Ok(line)
-}
-
-/// A script of a read and a remark of so many octets, ended so.
-fn with_long_remark(rt: &impl AllocGlobal, octets: usize, end: &str) -> Result<String, Fail> {
-    let remark = long_remark(rt, octets, end)?;
-    joined(rt, &[READ, remark.as_str()])
-}
-
-#[test]
-fn long_lines(rt: HostRuntime) -> Result<(), Fail> {
-    for (octets, end) in [(4096, "\n"), (4096, ""), (4095, "\r\n")] {
-        let script = with_long_remark(&rt, octets, end)?;
-        expect_end(&rt, script.as_str(), 2, SENT);
-    }
-    for (octets, end) in [
-        (4097, "\n"),
-        (4097, ""),
-        (4096, "\r\n"),
-        (9000, "\ntick 1\n"),
-    ] {
-        let script = with_long_remark(&rt, octets, end)?;
-        expect(
-            &rt,
-            whole(script.as_str()),
-            Err(TraceFault::LineTooLong(2)),
-            SENT,
-        );
-    }
-    Ok(())
-}
-
-#[test]
-fn octets_that_are_no_text(rt: HostRuntime) {
-    let mut printed = Vec::new(rt.alloc());
-    let got = {
-        let mut reader = Checked::new(b"\n#\xff\n".as_slice());
-        let mut writer = Checked::new(&mut printed);
-        trace(&mut reader, &mut writer)
-    };
-    assert_eq!(rt; got, Err(TraceFault::BadLine(2)));
-    assert!(rt; printed.is_empty());
-}
-
-// Each datagram after a read, and what is printed of it.
-#[test]
-fn answers_of_each_kind(rt: HostRuntime) -> Result<(), Fail> {
-    for (peer, octets, text) in [
-        (
-            "127.0.0.1:47809",
-            "810a0017010030010c0c0000000519553e444290999a3f",
-            "drop",
-        ),
-        ("127.0.0.1", "810a00090100700104", "drop"),
-        ("127.0.0.1", "810a0009010020010f", "drop"),
-        ("127.0.0.1", "810a000a010040010001", "drop"),
-        (
-            "127.0.0.1",
-            "810a0018010030010c0c0000000519553e444290999a3f",
-            "drop",
-        ),
-        ("127.0.0.1", "810a00090100710104", "done 0 abort 4"),
-        ("127.0.0.1", "810a0009010020010c", "done 0 ok"),
-        ("127.0.0.1", "810a000b0100380100010c", "done 0 segmented"),
-        ("127.0.0.1", "810a0009010050010c", "done 0 bad-error"),
-        (
-            "127.0.0.1",
-            "810a000d010050010c91029120",
-            "done 0 error 2 32",
-        ),
-        ("127.0.0.1", "810a00090100600109", "done 0 reject 9"),
-        (
-            "127.0.0.1",
-            "810a0015010030010c0c00000005194d3e72003f3f",
-            "done 0 value \"?\"",
-        ),
-        (
-            "127.0.0.1",
-            "810a0016010030010c0c0000000519553e0e21050f3f",
-            "done 0 value hex 0e21050f",
-        ),
-        (
-            "127.0.0.1",
-            "810a0016010030010c0c0000000519553e444290999a",
-            "done 0 bad-ack",
-        ),
-    ] {
-        let script = format!(in rt.alloc(); "{READ}data {peer} {octets}\n")?;
-        let text = format!(in rt.alloc(); "{SENT}{text}\n")?;
-        expect_end(&rt, script.as_str(), 2, text.as_str());
-    }
-    Ok(())
-}
-
-// The answer under each number but the request's is dropped.
-#[test]
-fn answers_under_each_number(rt: HostRuntime) -> Result<(), Fail> {
-    for number in 0..256 {
-        let octets = answer(&rt, number)?;
-        let script = joined(&rt, &[READ, octets.as_str()])?;
-        let end = if number == 1 { DONE } else { "drop\n" };
-        let text = joined(&rt, &[SENT, end])?;
-        expect(
-            &rt,
-            whole(script.as_str()),
-            Ok(TraceEnd { lines: 2 }),
-            text.as_str(),
-        );
-    }
-    Ok(())
-}
-
-#[test]
-fn routed_peers(rt: HostRuntime) {
-    let script = "read 127.0.0.1:47808/5/07 0 5 85\n\
-        data 127.0.0.1:47808 810a0017010030010c0c0000000519553e444290999a3f\n\
-        data 127.0.0.1:47808 810a001b01080005010830010c0c0000000519553e444290999a3f\n\
-        data 127.0.0.1:47808 810a001b01080005010730010c0c0000000519553e444290999a3f\n";
-    let text = "send 0 127.0.0.1:47808/5/07 810a0016012400050107ff0005010c0c000000051955\n\
-        drop\ndrop\ndone 0 value 4290999a\n";
-    expect_end(&rt, script, 4, text);
-    for bad in [
-        "data 127.0.0.1:47808/5/07 00",
-        "read 127.0.0.1/0/07 0 5 85",
-        "read 127.0.0.1/65535/07 0 5 85",
-        "read 127.0.0.1/5/ 0 5 85",
-        "read 127.0.0.1/5 0 5 85",
-        "read 127.0.0.1/5/0102030405060708 0 5 85",
-        "read 127.0.0.1/5/07/08 0 5 85",
-    ] {
-        expect(&rt, whole(bad), Err(TraceFault::BadLine(1)), "");
-    }
-}
-
-// A forwarded answer counts for the peer that it comes from at first.
-#[test]
-fn forwarded_answers(rt: HostRuntime) -> Result<(), Fail> {
-    let script = joined(
-        &rt,
-        &[
-            READ,
-            "data 127.0.0.1:47808 8104001d7f000001c350010030010c0c0000000519553e444290999a3f\n",
-            "data 127.0.0.1:50000 8104001d7f000001bac0010030010c0c0000000519553e444290999a3f\n",
-        ],
-    )?;
-    expect_end(
-        &rt,
-        script.as_str(),
-        3,
-        joined(&rt, &[SENT, "drop\n", DONE])?.as_str(),
-    );
-    Ok(())
-}
-
-#[test]
-fn the_longest_timeout(rt: HostRuntime) -> Result<(), Fail> {
-    let script = joined(
-        &rt,
-        &[
-            "client 4294967295 1 0\n",
-            READ,
-            "tick 4294967294\ntick 4294967295\ntick 18446744073709551615\ntick 0\n",
-        ],
-    )?;
-    expect_end(
-        &rt,
-        script.as_str(),
-        6,
-        joined(&rt, &[SENT, SENT, "timeout 0\n"])?.as_str(),
-    );
-    Ok(())
-}
-
-#[test]
-fn an_element_is_read(rt: HostRuntime) {
-    let script = "read 127.0.0.1 1 1 87 0\nread 127.0.0.1 1 1 87 4294967295\n";
-    let text = "send 0 127.0.0.1:47808 810a001301040005010c0c0040000119572900\n\
-        send 1 127.0.0.1:47808 810a001601040005020c0c0040000119572cffffffff\n";
-    expect_end(&rt, script, 2, text);
-    let bad = "read 127.0.0.1 1 1 87 4294967296";
-    expect(&rt, whole(bad), Err(TraceFault::BadLine(1)), "");
 }

@@ -1,10 +1,9 @@
-use Rattle.std.proofs.Common.{◌≡◌, ◌∷◌, ◌-◌, Some, slice_get, map, refl, sym, ap, ◌∙◌}
+use Rattle.std.proofs.Common.{◌≡◌, ◌-◌, Some, slice_get, map, refl, sym, ap, ◌∙◌}
 use Rattle.std.specs.Option.{option_map}
 use Rattle.std.proofs.lemmas.Option.{slice_get-map, slice_get_read}
-use Rattle.bac_wire.specs.Datum.{Datum, datum, object}
+use Rattle.bac_wire.specs.Datum.{Datum, object}
 use Rattle.bac_wire.specs.Identifier.{identifier}
 use Rattle.bac_device.specs.Places.{Standing}
-use Rattle.bac_device.specs.Property.{point_objects}
 use Rattle.bac_device.proofs.ListLaws.{slice_get_behind}
 use Rattle.bac_device.proofs.property.object_at.Goals as goal
 

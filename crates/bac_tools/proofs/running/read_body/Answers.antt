@@ -1,7 +1,7 @@
-use Rattle.std.proofs.Common.{◌≡◌, ℕ, ◌+◌, ◌<◌, ◌≤◌, List, [], ◌++◌, length, Result, Ok, Err, ap, sym, ◌∙◌, arith}
+use Rattle.std.proofs.Common.{◌≡◌, ℕ, ◌+◌, ◌<◌, ◌≤◌, List, [], ◌++◌, length, Result, Ok, Err, ap, ◌∙◌, arith}
 use Rattle.std.specs.Prelude.{OnOk, OnErr}
 use Rattle.bac_pdu.specs.Property.{reference}
-use Rattle.bac_tools.proofs.ReadBodies.{read_octets_short}
+use Rattle.bac_pdu.proofs.LengthLaws.{read_octets_short}
 use Rattle.bac_tools.proofs.running.read_body.Goals as goal
 
 -- What is appended to nothing, where there is room for it.

@@ -1,6 +1,5 @@
-use Rattle.std.proofs.Common.{◌≡◌, ◌<◌, length, sym, ◌∙◌, arith}
+use Rattle.std.proofs.Common.{◌≡◌, ◌<◌, length, sym, arith}
 use Rattle.std.proofs.lemmas.Bool.Decides.{nat_tests}
-use Rattle.bac_wire.specs.Datum.{datum}
 use Rattle.bac_tools.proofs.ValueLists.{counted-none, counted-more, counted-stuck, counted-all}
 use Rattle.bac_tools.proofs.values.count_values.Goals as goal
 

@@ -1,4 +1,4 @@
-use Rattle.std.proofs.Common.{◌<◌, ◌≤◌, length, arith}
+use Rattle.std.proofs.Common.{arith}
 use Rattle.bac_pdu.specs.Property.{reference}
 use Rattle.bac_device.specs.Property.{property_seen}
 use Rattle.bac_device.specs.Reply.{answer_to}

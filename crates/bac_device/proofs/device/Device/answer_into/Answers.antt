@@ -1,4 +1,4 @@
-use Rattle.std.proofs.Common.{◌≡◌, ◌<◌, ◌≤◌, length, arith}
+use Rattle.std.proofs.Common.{◌≤◌, length, arith}
 use Rattle.std.specs.Option.{option_map}
 use Rattle.bac_pdu.specs.Peer.{station, network_address}
 use Rattle.bac_pdu.specs.Datagram.{delivery}

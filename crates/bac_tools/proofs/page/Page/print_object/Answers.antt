@@ -1,4 +1,4 @@
-use Rattle.std.proofs.Common.{ℕ, List, ◌∷◌, ◌++◌, decimal, ap, ◌∙◌}
+use Rattle.std.proofs.Common.{ℕ, ◌∷◌, ◌++◌, decimal, ap, ◌∙◌}
 use Rattle.bac_tools.proofs.Printed.{◌⨾◌, printed_as}
 use Rattle.bac_tools.proofs.page.Page.print_object.Goals as goal
 

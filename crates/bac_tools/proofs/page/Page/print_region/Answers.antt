@@ -1,8 +1,8 @@
-use Rattle.std.proofs.Common.{◌≡◌, false, sym, arith}
+use Rattle.std.proofs.Common.{◌≡◌, false, arith}
 use Rattle.std.specs.Prelude.{◌==◌}
 use Rattle.std.proofs.lemmas.Bool.Decides.{nat_tests}
 use Rattle.bac_tools.proofs.Printed.{◌⨾◌}
-use Rattle.bac_tools.proofs.ValueTexts.{printed_alone, printed_in_braces, printed_octets}
+use Rattle.bac_tools.proofs.ValueTexts.{printed_in_braces, printed_octets}
 use Rattle.bac_tools.proofs.page.Page.print_region.Goals as goal
 
 pub returns-in-Some : goal.returns-in-Some

@@ -1,0 +1,58 @@
+-- How long the body of a ReadProperty is at most.
+use Rattle.std.proofs.Common.{ℕ, ◌≤◌, Bool, true, false, cond, List, [], ◌∷◌, ◌++◌, length, Option, Some, None, arith}
+use Rattle.std.specs.Prelude.{nat_lt}
+use Rattle.std.proofs.lemmas.List.{length-append}
+use Rattle.byteorder.specs.Endian.{big_bytes}
+use Rattle.byteorder.specs.Numbers.{length-bytes_high_first}
+use Rattle.bac_wire.specs.Tag.{plain_tag, plain_number, plain_length}
+use Rattle.bac_wire.specs.Datum.{octet_count}
+use Rattle.bac_wire.specs.Identifier.{Identifier, number_of}
+use Rattle.bac_wire.specs.Parameter.{context_tag, context_octets, number_octets, object_octets}
+use Rattle.bac_wire.proofs.PlainTag.{plain_length_most}
+use Rattle.bac_wire.proofs.PlainDatum.{count_high}
+use Rattle.bac_pdu.specs.Parameter.{index, optional, plain_parameter, plain_all}
+use Rattle.bac_pdu.specs.Property.{Reference, read_octets}
+
+number_short : (number : ℕ) → length (plain_number number) ≤ 1
+number_short number = go (nat_lt number 15)
+  where
+    go : (b : Bool) → length (cond b [] (number ∷ [])) ≤ 1
+    go true = omega arith
+    go false = omega arith
+
+tag_short : (number count : ℕ) → length (plain_tag (context_tag number count)) ≤ 7
+unfolding plain_tag
+tag_short number count =
+    let low = number_short number in
+    let high = plain_length_most count in
+    omega (arith, length-append (plain_number number) (plain_length count), low, high)
+
+context_short : (number : ℕ) (contents : List ℕ) → length contents ≤ 8 → length (context_octets number contents) ≤ 15
+context_short number contents short =
+    let tag = tag_short number (length contents) in
+    omega (arith, length-append (plain_tag (context_tag number (length contents))) contents, tag, short)
+
+number_octets_short : (number n : ℕ) → length (number_octets number n) ≤ 15
+number_octets_short number n =
+    let count = count_high n in
+    let long = length-bytes_high_first (octet_count n) n in
+    context_short number (big_bytes (octet_count n) n) (omega (arith, count, long))
+
+object_octets_short : (number : ℕ) (id : Identifier) → length (object_octets number id) ≤ 15
+object_octets_short number id =
+    let long = length-bytes_high_first 4 (number_of id) in
+    context_short number (big_bytes 4 (number_of id)) (omega (arith, long))
+
+index_short : (i : Option ℕ) → length (plain_all plain_parameter (optional index i)) ≤ 15
+unfolding plain_parameter
+index_short None = omega arith
+index_short (Some n) = let short = number_octets_short 2 n in omega (arith, length-append (number_octets 2 n) [], short)
+
+pub read_octets_short : (r : Reference) → length (read_octets r) ≤ 45
+unfolding plain_parameter
+read_octets_short r =
+    let first = object_octets_short 0 r.object in
+    let second = number_octets_short 1 r.property in
+    let third = index_short r.index in
+    let rest = plain_all plain_parameter (optional index r.index) in
+    omega (arith, length-append (object_octets 0 r.object) (number_octets 1 r.property ++ rest), length-append (number_octets 1 r.property) rest, first, second, third)
