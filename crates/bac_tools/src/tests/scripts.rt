@@ -44,7 +44,40 @@ static RUNS: [(&str, u64, &str); 5] = [
 ];
 
 /// The same, of the clock.
-static TIMES: [(&str, u64, &str); 5] = [
+static TIMES: [(&str, u64, &str); 8] = [
+    // No retry: the request ends at its first due time, and two may at one tick.
+    (
+        "client 3000 0 0\n\
+        read 127.0.0.1:47808 0 5 85\n\
+        tick 2999\n\
+        tick 3000\n\
+        data 127.0.0.1:47808 810a0017010030010c0c0000000519553e444290999a3f\n",
+        5,
+        "send 0 127.0.0.1:47808 810a001101040005010c0c000000051955\n\
+        timeout 0\n\
+        drop\n",
+    ),
+    (
+        "client 3000 0 0\n\
+        read 127.0.0.1:47808 0 5 85\n\
+        tick 1000\n\
+        read 127.0.0.1:47808 0 5 77\n\
+        tick 4000\n",
+        5,
+        "send 0 127.0.0.1:47808 810a001101040005010c0c000000051955\n\
+        send 1 127.0.0.1:47808 810a001101040005020c0c00000005194d\n\
+        timeout 0\n\
+        timeout 1\n",
+    ),
+    // An answered request is not sent again.
+    (
+        "read 127.0.0.1:47808 0 5 85\n\
+        data 127.0.0.1:47808 810a0017010030010c0c0000000519553e444290999a3f\n\
+        tick 3000\n",
+        3,
+        "send 0 127.0.0.1:47808 810a001101040005010c0c000000051955\n\
+        done 0 value 4290999a\n",
+    ),
     (
         "read 127.0.0.1:47808 0 5 85\n\
         tick 2999\ntick 3000\ntick 6000\ntick 9000\ntick 12000\n",
@@ -126,7 +159,19 @@ static SETTINGS: [(&str, u64, &str); 3] = [
 ];
 
 /// The same, of who answers.
-static ANSWERERS: [(&str, u64, &str); 4] = [
+static ANSWERERS: [(&str, u64, &str); 5] = [
+    // The first of two requests is answered, and a third takes the next number.
+    (
+        "read 127.0.0.1:47808 0 5 85\n\
+        read 127.0.0.1:47808 0 5 85\n\
+        data 127.0.0.1:47808 810a0017010030010c0c0000000519553e444290999a3f\n\
+        read 127.0.0.1:47808 0 5 77\n",
+        4,
+        "send 0 127.0.0.1:47808 810a001101040005010c0c000000051955\n\
+        send 1 127.0.0.1:47808 810a001101040005020c0c000000051955\n\
+        done 0 value 4290999a\n\
+        send 2 127.0.0.1:47808 810a001101040005030c0c00000005194d\n",
+    ),
     // A second answer.
     (
         "read 127.0.0.1:47808 0 5 85\n\
@@ -363,24 +408,6 @@ static BAD_LINES: [&str; 27] = [
     "data 127.0.0.1:47808 8g",
     "data 127.0.0.1:47808 81 0a",
     "send 0",
-];
-
-/// Lines that are bad as the first of a script.
-static BAD_FIRST_LINES: [&str; 14] = [
-    "client 0 3 0",
-    "client 4294967296 3 0",
-    "client 3000 256 0",
-    "client 3000 3 18446744073709551616",
-    "client 3000 3",
-    "client 3000 3 0 0",
-    "data 127.0.0.1:47808/5/07 00",
-    "read 127.0.0.1/0/07 0 5 85",
-    "read 127.0.0.1/65535/07 0 5 85",
-    "read 127.0.0.1/5/ 0 5 85",
-    "read 127.0.0.1/5 0 5 85",
-    "read 127.0.0.1/5/0102030405060708 0 5 85",
-    "read 127.0.0.1/5/07/08 0 5 85",
-    "read 127.0.0.1 1 1 87 4294967296",
 ];
 
 #[test]
