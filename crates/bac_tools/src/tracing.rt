@@ -1,5 +1,6 @@
 //! A script, run as it is read.
-ghost use Rattle.std.specs.Prelude.{◌≡◌, ◌⊎◌, ◌↔◌, ℕ, List, [], true, false, Err};
+ghost use Rattle.std.specs.Prelude.{◌≡◌, ◌==◌, ◌⊎◌, ◌↔◌, ℕ, List, [], true, false, Err};
+ghost use Rattle.std.specs.List.{list_any};
 ghost use Rattle.bac_tools.specs.Checked.{has_failed, reads_of};
 ghost use Rattle.bac_tools.specs.Input.{most_reads};
 ghost use Rattle.bac_tools.specs.Running.{new_client};
@@ -108,7 +109,8 @@ fn run_script<R: Read, W: Write>(
 
 // Turns the page in where the next line has still to be read, so that nobody waits for text that was printed.
 fn hand_out<W: Write>(chunk: &Chunk, page: &mut Page, writer: &mut Checked<W>)
-    ensures { Prints W.contents writer.old writer.new page.old page.new [] }
+    ensures printed { Prints W.contents writer.old writer.new page.old page.new [] }
+    ensures empty { list_any (λ octet. octet == 10) chunk.now ≡ false → page.new ≡ [] }
 {
     if !chunk.has_line() {
         page.turn_in(writer);

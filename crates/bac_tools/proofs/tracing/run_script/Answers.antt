@@ -24,7 +24,7 @@ loop-chunk-init g c = record {
 
 pub returns-then-failed-clause-script : goal.returns-then-failed-clause-script
 returns-then-failed-clause-script g c =
-    let s = SoFar-handed _ _ _ _ _ _ _ _ _ _ _ _ _ _ _ c.loop-chunk.invariant.so_far c.hand_out.ensures in
+    let s = SoFar-handed _ _ _ _ _ _ _ _ _ _ _ _ _ _ _ c.loop-chunk.invariant.so_far c.hand_out.ensures.printed in
     record {
       given = s.taken.given;
       reading = Open;
@@ -37,7 +37,7 @@ returns-then-failed-clause-script g c =
 
 pub returns-then-eq-clause-script : goal.returns-then-eq-clause-script
 returns-then-eq-clause-script g c =
-    let s = SoFar-handed _ _ _ _ _ _ _ _ _ _ _ _ _ _ _ c.loop-chunk.invariant.so_far c.hand_out.ensures in
+    let s = SoFar-handed _ _ _ _ _ _ _ _ _ _ _ _ _ _ _ c.loop-chunk.invariant.so_far c.hand_out.ensures.printed in
     let n = c.next_line-reading.ensures in
     let failed = same_true the_type (search rules) _ _ (sym c.if-eq.ensures) in
     RunsOn-from _ _ _ _ _ _ _ _ _ _ _ _ _ _ _ _ s.taken n.taken n.stands s.printed
@@ -45,7 +45,7 @@ returns-then-eq-clause-script g c =
 
 pub returns-then-is_empty-clause-script : goal.returns-then-is_empty-clause-script
 returns-then-is_empty-clause-script g c =
-    let s = SoFar-handed _ _ _ _ _ _ _ _ _ _ _ _ _ _ _ c.loop-chunk.invariant.so_far c.hand_out.ensures in
+    let s = SoFar-handed _ _ _ _ _ _ _ _ _ _ _ _ _ _ _ c.loop-chunk.invariant.so_far c.hand_out.ensures.printed in
     let n = c.next_line-reading.ensures in
     RunsOn-from _ _ _ _ _ _ _ _ _ _ _ _ _ _ _ _ s.taken n.taken n.stands s.printed
     (runs_to_end g.R.Read.remaining c.next_line-reading.new.reader _ _ _ _ _ _ _ (λ e. absurd (let bad = rw e at c.if-eq.ensures in cc))
@@ -53,7 +53,7 @@ returns-then-is_empty-clause-script g c =
 
 pub returns-in-Err-Bad-clause-script : goal.returns-in-Err-Bad-clause-script
 returns-in-Err-Bad-clause-script g c =
-    let s = SoFar-handed _ _ _ _ _ _ _ _ _ _ _ _ _ _ _ c.loop-chunk.invariant.so_far c.hand_out.ensures in
+    let s = SoFar-handed _ _ _ _ _ _ _ _ _ _ _ _ _ _ _ c.loop-chunk.invariant.so_far c.hand_out.ensures.printed in
     let n = c.next_line-reading.ensures in
     let bad : said c.loop-chunk.is_first c.next_line-reading.new.line.items ≡ Err Bad =
     ap (said c.loop-chunk.is_first) (sym c.as_slice.ensures.value) ∙ sym c.read_line.ensures
@@ -65,7 +65,7 @@ returns-in-Err-Bad-clause-script g c =
 
 pub returns-in-Err-TooLong-clause-script : goal.returns-in-Err-TooLong-clause-script
 returns-in-Err-TooLong-clause-script g c =
-    let s = SoFar-handed _ _ _ _ _ _ _ _ _ _ _ _ _ _ _ c.loop-chunk.invariant.so_far c.hand_out.ensures in
+    let s = SoFar-handed _ _ _ _ _ _ _ _ _ _ _ _ _ _ _ c.loop-chunk.invariant.so_far c.hand_out.ensures.printed in
     let n = c.next_line-reading.ensures in
     let long : said c.loop-chunk.is_first c.next_line-reading.new.line.items ≡ Err TooLong =
     ap (said c.loop-chunk.is_first) (sym c.as_slice.ensures.value) ∙ sym c.read_line.ensures
@@ -77,7 +77,7 @@ returns-in-Err-TooLong-clause-script g c =
 
 pub returns-then-eq-2-clause-script : goal.returns-then-eq-2-clause-script
 returns-then-eq-2-clause-script g c =
-    let s = SoFar-handed _ _ _ _ _ _ _ _ _ _ _ _ _ _ _ c.loop-chunk.invariant.so_far c.hand_out.ensures in
+    let s = SoFar-handed _ _ _ _ _ _ _ _ _ _ _ _ _ _ _ c.loop-chunk.invariant.so_far c.hand_out.ensures.printed in
     let n = c.next_line-reading.ensures in
     let ok : said c.loop-chunk.is_first c.next_line-reading.new.line.items ≡ Ok (line_seen c.in-Ok.line) =
     ap (said c.loop-chunk.is_first) (sym c.as_slice.ensures.value) ∙ sym c.read_line.ensures ∙ ap result_seen c.in-Ok.is in
@@ -89,7 +89,7 @@ returns-then-eq-2-clause-script g c =
 
 pub loop-chunk-preserved : goal.loop-chunk-preserved
 loop-chunk-preserved g c =
-    let s = SoFar-handed _ _ _ _ _ _ _ _ _ _ _ _ _ _ _ c.loop-chunk.invariant.so_far c.hand_out.ensures in
+    let s = SoFar-handed _ _ _ _ _ _ _ _ _ _ _ _ _ _ _ c.loop-chunk.invariant.so_far c.hand_out.ensures.printed in
     let n = c.next_line-reading.ensures in
     let ok : said c.loop-chunk.is_first c.next_line-reading.new.line.items ≡ Ok (line_seen c.in-Ok.line) =
     ap (said c.loop-chunk.is_first) (sym c.as_slice.ensures.value) ∙ sym c.read_line.ensures ∙ ap result_seen c.in-Ok.is in
