@@ -1,31 +1,39 @@
-# make demo: builds the program, runs a first script, and shows what it writes
-# make test: the gate: proves every crate from nothing, and runs its tests and the examples
-# make examples: runs each script of examples/, and compares what it writes with the file beside it
-# make install PREFIX=/usr/local: copies the program to PREFIX/bin
+# make demo: builds the program, and shows what it does, with a small device on this machine
+# make test: the gate: proves every crate from nothing, and runs its tests, the examples, the program and the guide
+# make check: proves every crate, without tests and wrong bodies, over what earlier checks kept; for daily work
+# make examples: runs each script of examples/, the demonstration and the program's own tests, and compares what they write
+# packaging.mk has install, uninstall, deb, lint and guide; measuring.mk has bench, soak and interop
 
-PREFIX ?= /usr/local
 PROGRAM = crates/bactool/out/bactool
+SOURCES := $(shell find crates -name out -prune -o \( -name '*.rt' -o -name '*.antt' \) -print) crates.txt
 
-.PHONY: demo test examples install program
+.PHONY: demo test check examples program
 
-program:
-	cd crates/bactool && rt run -- bactrace </dev/null
+program: $(PROGRAM)
+
+$(PROGRAM): $(SOURCES)
+	@./build.sh
 
 demo: program
-	@echo '$$ bactool bactrace < examples/first.trace'
-	@cat examples/first.trace
-	@echo
-	@$(PROGRAM) bactrace < examples/first.trace
+	@examples/demo.sh $(PROGRAM) $$(examples/free-port.sh)
 
 test:
 	rt ci
 	$(MAKE) examples
+
+check:
+	rt all check
 
 examples: program
 	@for script in examples/*.trace; do \
 	    $(PROGRAM) bactrace < $$script | diff - $${script%.trace}.out || exit 1; \
 	    echo "$$script: as it is to be"; \
 	done
+	@port=$$(examples/free-port.sh); \
+	    examples/demo.sh $(PROGRAM) $$port | sed "s/$$port/47808/" | diff - examples/demo.out
+	@echo "examples/demo.sh: as it is to be"
+	@tests/program.sh $(PROGRAM)
+	@tests/memory.sh $(PROGRAM)
+	@tests/failing.sh $(PROGRAM)
 
-install: program
-	install -D -m 755 $(PROGRAM) $(DESTDIR)$(PREFIX)/bin/bactool
+include packaging.mk measuring.mk

@@ -7,7 +7,7 @@ use Rattle.std.proofs.lemmas.Bool.{and_right, lt-leb}
 use Rattle.bac_wire.specs.Identifier.{Identifier}
 use Rattle.bac_device.specs.Kind.{is_commandable}
 use Rattle.bac_device.specs.Point.{Description, same_object}
-use Rattle.bac_device.specs.Places.{Write, is_to, place, place_at, priorities, standing_after, with_place, put}
+use Rattle.bac_device.specs.Places.{Write, NoneTo, is_to, place, place_at, priorities, standing_after, with_place, put}
 use Rattle.bac_device.specs.Device.{place_if}
 
 pub map_same : {A B : Type 0} (f g : A → B) → ((x : A) → f x ≡ g x) → (xs : List A) → map f xs ≡ map g xs
@@ -107,3 +107,14 @@ put_after writes write point most least =
       | false ↦ refl
     ] in
     stands ∙ ap (λ (places : List (Option ℕ)). record { point = point; places = places }) (map_same _ _ (λ q. sym (place_more writes write point.object q)) priorities)
+
+-- ---- writes to other objects
+
+none_chosen : (writes : List Write) (object : Identifier) (priority : ℕ) → NoneTo object writes → filter (is_to object priority) writes ≡ []
+none_chosen [] object priority none = refl
+none_chosen (write ∷ writes) object priority none = rw none.0 (none_chosen writes object priority none.1)
+
+-- where no write is to the object its places are NULL
+pub place_none : (writes : List Write) (object : Identifier) (priority : ℕ) → NoneTo object writes → place writes object priority ≡ place [] object priority
+unfolding place
+place_none writes object priority none = ap (λ (to : List Write). option_and_then (λ write. write.value) (last_or None to)) (none_chosen writes object priority none)

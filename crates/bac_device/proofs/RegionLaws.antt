@@ -1,44 +1,9 @@
 -- Values one after the other are a region.
-use Rattle.std.proofs.Common.{◌≡◌, ℕ, zero, suc, ◌+◌, ◌<◌, ◌≤◌, List, [], ◌∷◌, ◌++◌, length, take, slice_get, Some, None, Result, Ok, Err, OnErr, refl, sym, ap, subst, ◌∙◌, append-nil, append_assoc, length-append, arith, inl}
+use Rattle.std.proofs.Common.{◌≡◌, ℕ, zero, suc, ◌+◌, ◌<◌, ◌≤◌, List, [], ◌∷◌, ◌++◌, length, map, take, slice_get, get_or, Some, None, Result, Ok, Err, OnErr, refl, sym, ap, ◌∙◌, append-nil, append_assoc, length-append, arith}
 use Rattle.std.specs.List.{flat_map}
-use Rattle.std.proofs.lemmas.Option.{none-some, same_Some}
-use Rattle.bac_wire.specs.Datum as values
-use Rattle.bac_wire.specs.Datum.{Datum, Spells, Holds, plain, shape_number, kind, tag_before}
-use Rattle.bac_wire.specs.Region.{Counts, IsSequence, none, more, IsItem, IsRegion}
-
--- an application tag counts the contents of a value
-contents_counted : (contents : List ℕ) (value : Datum) → Holds contents value → Counts (kind value) (tag_before value (length contents)).shape (length contents)
-contents_counted contents values.null held = refl
-contents_counted contents (values.boolean b) held = ap length held
-contents_counted contents (values.unsigned n) held = refl
-contents_counted contents (values.signed z) held = refl
-contents_counted contents (values.real r) held = refl
-contents_counted contents (values.double d) held = refl
-contents_counted contents (values.octet_string x) held = refl
-contents_counted contents (values.char_string set x) held = refl
-contents_counted contents (values.bit_string unused x) held = refl
-contents_counted contents (values.enumerated n) held = refl
-contents_counted contents (values.date d) held = refl
-contents_counted contents (values.time t) held = refl
-contents_counted contents (values.object id) held = refl
-
-pub value_item : (octets : List ℕ) (value : Datum) → Spells octets value → IsItem 32 octets
-value_item octets value s = inl (record {
-  tag = tag_before value (length s.contents);
-  spelling = s.tag;
-  contents = s.contents;
-  whole = s.whole;
-  tagged = s.tagged;
-  counted = contents_counted s.contents value s.held;
-})
-
-sequence_more : (Part : List ℕ → Type 0) (front last : List ℕ) → IsSequence Part front → Part last → IsSequence Part (front ++ last)
-sequence_more Part front last none part = subst (IsSequence Part) (append-nil last) (more part none)
-sequence_more Part front last (more {first} {rest} one others) part = subst (IsSequence Part) (sym (append_assoc first rest last)) (more one (sequence_more Part rest last others part))
-
--- a region and one more value
-pub region_more : (front octets : List ℕ) (value : Datum) → IsRegion 32 front → Spells octets value → IsRegion 32 (front ++ octets)
-region_more front octets value region s = sequence_more (IsItem 32) front octets region (value_item octets value s)
+use Rattle.std.specs.Option.{option_map}
+use Rattle.std.proofs.lemmas.Option.{none-some, same_Some, slice_get-map}
+use Rattle.bac_wire.specs.Datum.{Datum, plain}
 
 flat_map_append : {A B : Type 0} (f : A → List B) (xs ys : List A) → flat_map f (xs ++ ys) ≡ flat_map f xs ++ flat_map f ys
 flat_map_append f [] ys = refl
@@ -75,3 +40,25 @@ none_within (x ∷ xs) (suc i) at within = none_within xs i at (omega arith)
 pub on_err : {A E : Type 0} {P : Type 0} (r : Result A E) → P → OnErr r P
 on_err (Ok x) holds = tt
 on_err (Err e) holds = holds
+
+-- ---- values that are made of the elements of a list
+
+value_made : {A : Type 0} (f : A → Datum) (xs : List A) (i : ℕ) (x : A) (written : Datum) → slice_get xs i ≡ Some x → written ≡ f x → slice_get (map f xs) i ≡ Some written
+value_made f xs i x written at made = slice_get-map f xs i ∙ ap (option_map f) at ∙ ap Some (sym made)
+
+-- one more of them
+pub made_more : {A : Type 0} (f : A → Datum) (xs : List A) (i : ℕ) (x : A) (written : Datum) (before now new : List ℕ) → slice_get xs i ≡ Some x → written ≡ f x → now ≡ before ++ flat_map plain (take i (map f xs)) → new ≡ now ++ plain written → new ≡ before ++ flat_map plain (take (i + 1) (map f xs))
+made_more f xs i x written before now new at made so_far appended =
+    appended ∙ ap (λ (octets : List ℕ). octets ++ plain written) so_far ∙ append_assoc before (flat_map plain (take i (map f xs))) (plain written)
+    ∙ ap (λ (octets : List ℕ). before ++ octets) (sym (octets_more (map f xs) i written (value_made f xs i x written at made)))
+
+-- where one of them has no room all have none
+pub made_full : {A : Type 0} (f : A → Datum) (xs : List A) (i : ℕ) (x : A) (written : Datum) (before now : List ℕ) (room : ℕ) → slice_get xs i ≡ Some x → written ≡ f x → now ≡ before ++ flat_map plain (take i (map f xs)) → room < length now + length (plain written) → room < length before + length (flat_map plain (map f xs))
+made_full f xs i x written before now room at made so_far long =
+    omega (arith, octets_within (map f xs) i written (value_made f xs i x written at made), ap length so_far, length-append before (flat_map plain (take i (map f xs))))
+
+-- the element at a place within a list
+pub element_there : {A : Type 0} (xs : List A) (i : ℕ) (d : A) → i < length xs → slice_get xs i ≡ Some (get_or xs i d)
+element_there [] i d within = absurd (omega arith)
+element_there (x ∷ xs) zero d within = refl
+element_there (x ∷ xs) (suc i) d within = element_there xs i d (omega arith)

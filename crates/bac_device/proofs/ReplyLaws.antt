@@ -1,13 +1,10 @@
 -- How long replies are.
-use Rattle.std.proofs.Common.{◌≡◌, ℕ, ◌≤◌, List, [], ◌∷◌, ◌++◌, length, Option, Some, None, IfSome, false, refl, sym, subst, ap, length-append, arith}
+use Rattle.std.proofs.Common.{◌≡◌, ℕ, ◌≤◌, List, [], ◌∷◌, length, Option, Some, None, IfSome, false, refl, sym, subst, ap, length-append, arith}
 use Rattle.bac_wire.specs.Datum.{plain}
 use Rattle.bac_wire.specs.Tag.{plain_tag}
 use Rattle.bac_pdu.specs.Apdu.{laid_out}
 use Rattle.bac_pdu.specs.Peer.{Station, NetworkAddress, IsRoutable}
 use Rattle.bac_pdu.specs.Header.{plain_header, address_octets}
-use Rattle.bac_pdu.specs.Parameter.{Parameter, value, plain_parameter, plain_all}
-use Rattle.bac_pdu.specs.Property.{Answer, reference_parameters, ack_octets}
-use Rattle.bac_wire.specs.Region.{opening_tag, closing_tag}
 use Rattle.bac_pdu.specs.Datagram.{Delivery, Carries, wrapped}
 use Rattle.bac_device.specs.Info.{Info}
 use Rattle.bac_device.specs.Reply.{i_am}
@@ -29,15 +26,3 @@ length_wrapped to apdu routable short = omega (arith, header_short to routable, 
 -- a route leads to whom a datagram is from
 pub carried_routable : (from : Station) (datagram : List ℕ) (delivery : Delivery) → Carries from datagram delivery → IfSome delivery.peer.route IsRoutable
 carried_routable from datagram delivery carries = subst (λ (r : Option NetworkAddress). IfSome r IsRoutable) (sym (ap (λ (s : Station). s.route) carries.peer)) carries.heeded.answerable
-
-last_within : (parameters : List Parameter) (last : Parameter) → length (plain_parameter last) ≤ length (plain_all plain_parameter (parameters ++ last ∷ []))
-last_within [] last = omega (arith, length-append (plain_parameter last) [])
-last_within (p ∷ ps) last = omega (arith, last_within ps last, length-append (plain_parameter p) (plain_all plain_parameter (ps ++ last ∷ [])))
-
-value_enclosed : (octets : List ℕ) → length octets ≤ length (plain_parameter (value octets))
-unfolding plain_parameter
-value_enclosed octets = omega (arith, length-append (plain_tag (opening_tag 3)) (octets ++ plain_tag (closing_tag 3)), length-append octets (plain_tag (closing_tag 3)))
-
--- the value is a part of an answer
-pub value_within : (answer : Answer) → length answer.value ≤ length (ack_octets answer)
-value_within answer = omega (arith, value_enclosed answer.value, last_within (reference_parameters answer.reference) (value answer.value))

@@ -1,14 +1,22 @@
 -- A device whose places are those after some writes.
-use Rattle.std.proofs.Common.{◌≡◌, ℕ, ◌≤◌, Bool, true, false, cond, List, [], ◌∷◌, ◌++◌, map, find, Option, Some, None, refl, IfSome, sym, ap, ◌∙◌, append-nil}
+use Rattle.std.proofs.Common.{◌≡◌, ℕ, ◌≤◌, ◌==◌, Bool, true, false, cond, List, [], ◌∷◌, ◌++◌, map, find, length, Option, Some, None, Result, Ok, Err, refl, IfSome, sym, ap, subst, inl, inr, ◌∙◌, append-nil}
+use Rattle.std.specs.Prelude.{if◌then◌else◌}
+use Rattle.std.proofs.lemmas.Option.{none-some}
+use Rattle.bac_wire.proofs.Readers.{chosen}
+use Rattle.bac_wire.proofs.TagLaws.{bind_some}
+use Rattle.bac_device.specs.declared.device.AddFault.{AddFault}
+use Rattle.bac_device.specs.declared.device.AddFault.TheVariants.{TooMany, Twice, NameTwice, BadPoint}
+use Rattle.bac_device.specs.Kind.{kind_of}
+use Rattle.bac_device.specs.Steps.{needs}
 use Rattle.std.specs.Option.{option_map, option_and_then, option_to_list}
 use Rattle.bac_wire.specs.Identifier.{Identifier}
 use Rattle.bac_wire.specs.TagReading.{◌>>=◌}
 use Rattle.bac_device.specs.Info.{Info}
-use Rattle.bac_device.specs.Point.{Description, same_object}
-use Rattle.bac_device.specs.Places.{Write, Standing, IsUrgent, standing_after, present, place_at, put}
-use Rattle.bac_device.specs.Device.{DeviceState, points_of, device_after, Holds, standing_at, point_at, present_after, place_after, place_if}
+use Rattle.bac_device.specs.Point.{Given, Description, same_object, is_described, described, description_of}
+use Rattle.bac_device.specs.Places.{Write, Standing, IsUrgent, NoneTo, priorities, standing_after, present, place_at, put}
+use Rattle.bac_device.specs.Device.{DeviceState, points_of, device_after, Holds, has_object, has_name, with_point, add_point, standing_at, point_at, present_after, place_after, place_if}
 use Rattle.bac_device.specs.Reply.{with_write}
-use Rattle.bac_device.proofs.PlaceLaws.{map_same, place_chosen, put_after}
+use Rattle.bac_device.proofs.PlaceLaws.{map_same, place_chosen, place_none, put_after}
 
 find_map : {A B : Type 0} (f : A → B) (test : B → Bool) (xs : List A) → find test (map f xs) ≡ option_map f (find (λ x. test (f x)) xs)
 find_map f test [] = refl
@@ -58,3 +66,63 @@ write_held device writes None holds urgent = holds ∙ ap (device_after device.i
 write_held device writes (Some write) holds urgent =
     let before : device.standings ≡ map (standing_after writes) (points_of device) = ap (λ (d : DeviceState). d.standings) holds in
     ap (λ (s : List Standing). record { info = device.info; standings = s }) (ap (map (put write)) before ∙ standings_put (points_of device) writes write urgent.0 urgent.1)
+
+-- ---- one more point
+
+map_more : {A B : Type 0} (f : A → B) (xs : List A) (x : A) → map f (xs ++ x ∷ []) ≡ map f xs ++ f x ∷ []
+map_more f [] x = refl
+map_more f (y ∷ ys) x = ap (λ (rest : List _). f y ∷ rest) (map_more f ys x)
+
+point_stays : (point : Description) → (standing_after [] point).point ≡ point
+unfolding standing_after
+point_stays point = refl
+
+-- a point that none of the writes is to stands as it was added
+untouched : (writes : List Write) (point : Description) → NoneTo point.object writes → standing_after writes point ≡ standing_after [] point
+unfolding standing_after
+untouched writes point none = ap (λ (places : List (Option ℕ)). record { point = point; places = places }) (map_same _ _ (λ q. place_none writes point.object q none) priorities)
+
+-- a device with one more point holds the writes that it held, where none of them is to the point
+more_held : (device : DeviceState) (point : Description) (writes : List Write) → Holds device writes → NoneTo point.object writes → Holds (with_point device point) writes
+more_held device point writes holds none =
+    let before : device.standings ≡ map (standing_after writes) (points_of device) = ap (λ (d : DeviceState). d.standings) holds in
+    let points : points_of (with_point device point) ≡ points_of device ++ point ∷ [] = map_more (λ (standing : Standing). standing.point) device.standings (standing_after [] point) ∙ ap (λ (p : Description). points_of device ++ p ∷ []) (point_stays point) in
+    let all : map (standing_after writes) (points_of device ++ point ∷ []) ≡ device.standings ++ standing_after [] point ∷ [] =
+    map_more (standing_after writes) (points_of device) point ∙ ap (λ (s : List Standing). s ++ standing_after writes point ∷ []) (sym before) ∙ ap (λ (s : Standing). device.standings ++ s ∷ []) (untouched writes point none) in
+    ap (λ (s : List Standing). record { info = device.info; standings = s }) (sym (ap (map (standing_after writes)) points ∙ all))
+
+added_held : (device new : DeviceState) (point : Given) (writes : List Write) (found : Option Description) → ((d : Description) → found ≡ Some d → d.object ≡ point.object) → needs BadPoint (option_map (with_point device) found) ≡ Ok new → Holds device writes → NoneTo point.object writes → Holds new writes
+added_held device new point writes None same e holds none = let no : ◌≡◌ {A = Result DeviceState AddFault} (Err BadPoint) (Ok new) = e in absurd cc
+added_held device new point writes (Some d) same e holds none =
+    let is : with_point device d ≡ new = cc in
+    subst (λ (s : DeviceState). Holds s writes) is (more_held device d writes holds (subst (λ (o : Identifier). NoneTo o writes) (sym (same d refl)) none))
+
+described_object : (point : Given) (d : Description) → description_of point ≡ Some d → d.object ≡ point.object
+unfolding description_of
+described_object point d e =
+    let a = bind_some (kind_of point.object.kind) (λ kind. if is_described kind point then Some (described kind point) else None) d e in
+    elim (chosen (is_described a.0 point) (Some (described a.0 point)) None (Some d) a.2) [
+      | inl here ↦ let same : described a.0 point ≡ d = cc in ap (λ (x : Description). x.object) (sym same)
+      | inr other ↦ absurd (none-some d other.1)
+    ]
+
+-- a device to which a point was added holds the writes that it held, where none of them is to the point
+pub add_held : (device new : DeviceState) (point : Given) (writes : List Write) → add_point device point ≡ Ok new → Holds device writes → NoneTo point.object writes → Holds new writes
+unfolding add_point
+add_held device new point writes e holds none =
+    let made : Result DeviceState AddFault = needs BadPoint (option_map (with_point device) (description_of point)) in
+    let named : Result DeviceState AddFault = cond (has_name device point.name) (Err NameTwice) made in
+    let twice : Result DeviceState AddFault = cond (has_object device point.object) (Err Twice) named in
+    elim (chosen (length device.standings == 32) (Err TooMany) twice (Ok new) e) [
+      | inl full ↦ absurd (err_ok full.1)
+      | inr a ↦ elim (chosen (has_object device point.object) (Err Twice) named (Ok new) a.1) [
+        | inl object ↦ absurd (err_ok object.1)
+        | inr b ↦ elim (chosen (has_name device point.name) (Err NameTwice) made (Ok new) b.1) [
+          | inl name ↦ absurd (err_ok name.1)
+          | inr c ↦ added_held device new point writes (description_of point) (described_object point) c.1 holds none
+        ]
+      ]
+    ]
+  where
+    err_ok : {fault : AddFault} {d : DeviceState} → ◌≡◌ {A = Result DeviceState AddFault} (Err fault) (Ok d) → ⊥
+    err_ok e = cc

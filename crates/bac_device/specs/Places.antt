@@ -1,6 +1,6 @@
 -- What a point has after writes: the sixteen places of its priority array, and its present value (clause 19.2).
-use Rattle.std.specs.Prelude.{ℕ, ◌≤◌, ◌-◌, ◌==◌, ◌&&◌, Bool, if◌then◌else◌, is_some, List, [], ◌∷◌, map, filter, find, slice_get, slice_set, unwrap_or, Option, Some, None, Result, Ok, Err}
-use Rattle.std.specs.List.{last_or}
+use Rattle.std.specs.Prelude.{◌≡◌, ℕ, ◌≤◌, ◌-◌, ◌==◌, ◌&&◌, Bool, false, if◌then◌else◌, is_some, List, [], ◌∷◌, map, filter, find, slice_get, slice_set, unwrap_or, Option, Some, None, Result, Ok, Err}
+use Rattle.std.specs.List.{last_or, AllByRecursion}
 use Rattle.std.specs.Option.{option_and_then}
 use Rattle.bac_wire.specs.Identifier.{Identifier, identifier}
 use Rattle.bac_device.specs.declared.failure.Failure.{Failure}
@@ -31,6 +31,10 @@ is_to object priority write = same_object object write.object && (priority == wr
 -- the value of the last write to the object at the priority; NULL where there is none
 unfoldable pub place : List Write → Identifier → ℕ → Option ℕ
 place writes object priority = option_and_then (λ write. write.value) (last_or None (filter (is_to object priority) writes))
+
+-- none of the writes is to the object
+abbrev pub NoneTo : Identifier → List Write → Type 0
+NoneTo object writes = AllByRecursion (λ write. same_object object write.object ≡ false) writes
 
 -- 1 is the most urgent
 abbrev pub priorities : List ℕ

@@ -4,7 +4,7 @@ ghost use Rattle.std.specs.Option.{option_map, option_and_then, option_copied};
 ghost use Rattle.bac_wire.specs.Datum.{datum, IsSound};
 ghost use Rattle.bac_wire.specs.Identifier.{identifier};
 ghost use Rattle.bac_device.specs.Point.{given, same_object};
-ghost use Rattle.bac_device.specs.Places.{Write, write_seen, present, place_at, put as put_write};
+ghost use Rattle.bac_device.specs.Places.{Write, NoneTo, write_seen, present, place_at, put as put_write};
 ghost use Rattle.bac_device.specs.Steps.{result_seen};
 ghost use Rattle.bac_device.specs.Property.{property_seen, IsSoundProperty};
 ghost use Rattle.bac_device.specs.Device.{Holds, points_of, device_after, standing_at, present_after, place_after, same_name, has_object as has_object_in, has_name as has_name_in, add_point, device_text, device_number, device_property};
@@ -70,7 +70,7 @@ impl Device {
         }
     }
 
-    /// Adds a point, with every place of its priority array NULL.
+    /// Adds a point, with every place of its priority array NULL. The places of the others stay.
     ///
     /// # Errors
     ///
@@ -78,6 +78,8 @@ impl Device {
     #[tactic(auto, unfolding(crate::specs::Device::add_point))]
     pub fn add(&mut self, point: &Point<'_>) -> Result<(), AddFault>
         ensures ok { OnOk result (add_point self.old (given point.now) ≡ Ok self.new) }
+        ensures held { OnOk result ((writes : List Write) → Holds self.old writes
+            → NoneTo (identifier point.now.id) writes → Holds self.new writes) }
         ensures fault { IfErr result (λ fault. add_point self.old (given point.now) ≡ Err fault) }
         ensures err { OnErr result (self.new ≡ self.old) }
     {

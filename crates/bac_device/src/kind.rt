@@ -1,10 +1,9 @@
 ghost use Rattle.std.specs.Prelude.{◌≡◌, ◌^◌, ◌<◌, IsTrue};
 ghost use Rattle.std.specs.Option.{option_map};
 ghost use Rattle.bac_wire.specs.Datum.{datum, IsSound};
-ghost use Rattle.bac_wire.specs.DatumReading.{value_at};
 ghost use Rattle.bac_device.specs.Kind.{kind_of, is_commandable as has_priorities, value_of, place_value, number_in, place_in, one_value as only_value, allows as has_value, allows_extra as has_extra};
 
-use bac_wire::{Value, read_value};
+use bac_wire::{Value, value_and_rest};
 
 /// What the present value of a point is: a Real, one of two states, or one of several.
 #[derive(Clone, Copy, Debug, PartialEq, Eq)]
@@ -146,12 +145,4 @@ pub(crate) fn one_value(octets: &[u8]) -> Option<Value<'_>>
         return None;
     }
     Some(value)
-}
-
-/// The value at the front, and the octets behind it.
-fn value_and_rest(octets: &[u8]) -> Option<(Value<'_>, &[u8])>
-    ensures { option_map (λ x. (datum x.0, x.1.now)) result ≡ value_at octets.now }
-{
-    let (value, size) = read_value(octets)?;
-    Some((value, &octets[size..]))
 }

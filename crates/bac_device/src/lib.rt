@@ -11,8 +11,6 @@ mod numbers;
 mod point;
 mod property;
 mod reply;
-#[cfg(test)]
-mod tests;
 mod write;
 
 pub use demonstration::demo;

@@ -1,9 +1,9 @@
-ghost use Rattle.std.specs.Prelude.{◌≡◌, ◌<◌, ◌∷◌, length, slice_get, map, IfSome, IfOk, OnOk, OnErr};
+ghost use Rattle.std.specs.Prelude.{◌≡◌, ◌<◌, ◌+◌, ◌∷◌, ◌++◌, length, slice_get, map, IfSome, IfOk, OnOk, OnErr};
 ghost use Rattle.std.specs.Option.{option_map};
-ghost use Rattle.bac_wire.specs.Datum.{datum, IsSound, object};
+ghost use Rattle.std.specs.List.{flat_map};
+ghost use Rattle.bac_wire.specs.Datum.{datum, plain, IsSound, object};
 ghost use Rattle.bac_wire.specs.Identifier.{identifier};
 ghost use Rattle.bac_device.specs.Kind.{place_value};
-ghost use Rattle.bac_wire.specs.Region.{IsRegion};
 ghost use Rattle.bac_device.specs.Steps.{result_seen};
 ghost use Rattle.bac_device.specs.Property.{property_seen, IsSoundProperty, point_objects, element, region_octets};
 
@@ -103,18 +103,41 @@ fn place_at(family: Family, places: &[Option<u32>], place: usize) -> Option<Valu
     Some(family.place_value(*held))
 }
 
-/// The octets of the values, one after the other. `Full` only where they are more than a frame has room for.
-pub(crate) fn region(property: &Property<'_>) -> Result<Frame, Full>
+/// Appends the octets of the values, one after the other. `Full` only where there is no room for them.
+pub(crate) fn append_region(frame: &mut Frame, property: &Property<'_>) -> Result<(), Full>
     requires { IsSoundProperty property.now }
-    ensures ok { IfOk result (λ region. region ≡ region_octets (property_seen property.now)) }
-    ensures items { OnOk result (IsRegion 32 (region_octets (property_seen property.now))) }
-    ensures full { OnErr result (FRAME_OCTETS < length (region_octets (property_seen property.now))) }
+    ensures ok { OnOk result (frame.new ≡ frame.old ++ region_octets (property_seen property.now)) }
+    ensures full { OnErr result (FRAME_OCTETS < length frame.old + length (region_octets (property_seen property.now))) }
 {
-    let mut region = Frame::new();
-    for place in 0..property.count() {
-        if let Some(value) = property.value_at(place) {
-            write_value(&mut region, &value)?;
+    match property {
+        Property::Single(value) => write_value(frame, value),
+        Property::EmptyList => Ok(()),
+        Property::ObjectList(device, points) => {
+            write_value(frame, &Value::Object(*device))?;
+            append_objects(frame, points)
         }
+        Property::PriorityArray(family, places) => append_places(frame, *family, places),
     }
-    Ok(region)
+}
+
+/// Appends the identifiers of the points. `Full` only where there is no room for them.
+fn append_objects(frame: &mut Frame, points: &[StandingPoint]) -> Result<(), Full>
+    ensures ok { OnOk result (frame.new ≡ frame.old ++ flat_map plain (point_objects points.now)) }
+    ensures full { OnErr result (FRAME_OCTETS < length frame.old + length (flat_map plain (point_objects points.now))) }
+{
+    for point in points {
+        write_value(frame, &Value::Object(point.id()))?;
+    }
+    Ok(())
+}
+
+/// Appends the values of the places of a priority array. `Full` only where there is no room for them.
+fn append_places(frame: &mut Frame, family: Family, places: &[Option<u32>]) -> Result<(), Full>
+    ensures ok { OnOk result (frame.new ≡ frame.old ++ flat_map plain (map (place_value family) places.now)) }
+    ensures full { OnErr result (FRAME_OCTETS < length frame.old + length (flat_map plain (map (place_value family) places.now))) }
+{
+    for place in places {
+        write_value(frame, &family.place_value(*place))?;
+    }
+    Ok(())
 }

@@ -1,7 +1,7 @@
-ghost use Rattle.std.specs.Prelude.{◌≡◌, ◌<◌, ◌≤◌, ◌+◌, List, [], length, IfOk, IfSome, IfNone, OnErr};
+ghost use Rattle.std.specs.Prelude.{◌≡◌, ◌<◌, ◌≤◌, List, [], length, IfOk, IfSome, IfNone, OnOk, OnErr};
 ghost use Rattle.std.specs.Option.{option_map};
 ghost use Rattle.bac_wire.specs.Identifier.{identifier};
-ghost use Rattle.bac_pdu.specs.Apdu.{message, laid_out, IsWritable, reject, error};
+ghost use Rattle.bac_pdu.specs.Apdu.{laid_out, reject, error};
 ghost use Rattle.bac_pdu.specs.Peer.{station};
 ghost use Rattle.bac_pdu.specs.Property.{reference, order, IsPriority};
 ghost use Rattle.bac_pdu.specs.Failure.{error_octets};
@@ -17,23 +17,14 @@ use crate::device::Device;
 use crate::failure::Failure;
 use crate::info::DeviceInfo;
 use crate::numbers::{MAX_APDU, NO_SEGMENTATION, VENDOR};
-use crate::property::{Property, region};
+use crate::property::{Property, append_region};
 use crate::write::PlaceWrite;
 use bac_pdu::{
-    Ack, Apdu, IAm, Part, Peer, ReadRequest, RejectReason, WhoIs, WriteRequest, announced,
-    open_datagram, read_apdu, read_read, read_whois, read_write, wrap, write_ack, write_apdu,
-    write_error, write_iam,
+    Apdu, I_AM, IAm, Part, Peer, READ_PROPERTY, ReadRequest, RejectReason, WHO_IS, WRITE_PROPERTY,
+    WhoIs, WriteRequest, announced, begin_ack, end_ack, open_datagram, read_apdu, read_read,
+    read_whois, read_write, wrap_within, write_apdu, write_error, write_iam,
 };
 use bac_wire::{FRAME_OCTETS, Frame, Full, ObjectId};
-
-// The numbers of the services (clause 21, BACnetConfirmedServiceChoice and BACnetUnconfirmedServiceChoice).
-const READ_PROPERTY: u8 = 12;
-
-const WRITE_PROPERTY: u8 = 15;
-
-const I_AM: u8 = 0;
-
-const WHO_IS: u8 = 8;
 
 /// The abort reason of what would have to be sent or taken in segments (clause 18.10).
 const SEGMENTATION_NOT_SUPPORTED: u8 = 4;
@@ -89,70 +80,85 @@ impl Device {
         })
     }
 
-    /// The octets of the ReadProperty-ACK with these values.
-    fn ack(&self, id: u8, request: &ReadRequest, property: &Property<'_>) -> Result<Frame, Full>
-        requires { IsSoundProperty property.now }
-        ensures ok { IfOk result (λ apdu. apdu ≡ laid_out (ack_message self.now id (reference request.now) (property_seen property.now))) }
+    /// Appends the ReadProperty-ACK with these values to an empty frame.
+    fn ack(
+        &self,
+        id: u8,
+        request: &ReadRequest,
+        property: &Property<'_>,
+        frame: &mut Frame,
+    ) -> Result<(), Full>
+        requires sound { IsSoundProperty property.now }
+        requires empty { frame.old ≡ [] }
+        ensures ok { OnOk result (frame.new ≡ laid_out (ack_message self.now id (reference request.now) (property_seen property.now))) }
         ensures full { OnErr result (FRAME_OCTETS < length (laid_out (ack_message self.now id (reference request.now) (property_seen property.now)))) }
     {
-        let region = region(property)?;
-        let ack = Ack {
+        let answered = ReadRequest {
             object: self.answered_object(request.object),
             property: request.property,
             index: request.index,
-            value: region.as_slice(),
         };
-        let mut body = Frame::new();
-        write_ack(&mut body, &ack)?;
-        apdu_octets(&Apdu::ComplexAck {
-            part: None,
-            id,
-            service: READ_PROPERTY,
-            body: body.as_slice(),
-        })
+        // The body is put behind it.
+        write_apdu(
+            frame,
+            &Apdu::ComplexAck {
+                part: None,
+                id,
+                service: READ_PROPERTY,
+                body: &[],
+            },
+        )?;
+        begin_ack(frame, &answered)?;
+        append_region(frame, property)?;
+        end_ack(frame)
     }
 
-    /// The octets of the reply to a ReadProperty with this body.
+    /// Appends the reply to a ReadProperty with this body to an empty frame.
     #[tactic(auto, unfolding(crate::specs::Reply::read_reply))]
-    fn read_reply(&self, id: u8, body: &[u8]) -> Result<Frame, Full>
-        ensures ok { IfOk result (λ apdu. apdu ≡ laid_out (read_reply self.now id body.now)) }
+    fn read_reply(&self, id: u8, body: &[u8], frame: &mut Frame) -> Result<(), Full>
+        requires { frame.old ≡ [] }
+        ensures ok { OnOk result (frame.new ≡ laid_out (read_reply self.now id body.now)) }
         ensures full { OnErr result (FRAME_OCTETS < length (laid_out (read_reply self.now id body.now))) }
     {
         let request = match read_read(body) {
             Ok(request) => request,
-            Err(reason) => return rejected(id, reason),
+            Err(reason) => return rejected(id, reason, frame),
         };
         match self.read_property(&request) {
-            Ok(property) => self.ack(id, &request, &property),
-            Err(failure) => failed(id, READ_PROPERTY, failure),
+            Ok(property) => self.ack(id, &request, &property, frame),
+            Err(failure) => failed(id, READ_PROPERTY, failure, frame),
         }
     }
 
-    /// The octets of the reply to a WriteProperty with this body; an accepted write is made.
+    /// Appends the reply to a WriteProperty with this body to an empty frame; an accepted write is made.
     #[tactic(auto, unfolding(crate::specs::Reply::write_reply, crate::specs::Reply::write_in_body))]
-    fn write_reply(&mut self, id: u8, body: &[u8]) -> Result<Frame, Full>
-        ensures ok { IfOk result (λ apdu. apdu ≡ laid_out (write_reply self.old id body.now)) }
+    fn write_reply(&mut self, id: u8, body: &[u8], frame: &mut Frame) -> Result<(), Full>
+        requires { frame.old ≡ [] }
+        ensures ok { OnOk result (frame.new ≡ laid_out (write_reply self.old id body.now)) }
         ensures full { OnErr result (FRAME_OCTETS < length (laid_out (write_reply self.old id body.now))) }
         ensures after { self.new ≡ with_write self.old (write_in_body self.old body.now) }
         ensures urgent { IfSome (write_in_body self.old body.now) IsUrgent }
     {
         let request = match read_write(body) {
             Ok(request) => request,
-            Err(reason) => return rejected(id, reason),
+            Err(reason) => return rejected(id, reason, frame),
         };
         match self.accepted(&request) {
             Ok(write) => {
                 self.put(&write);
-                apdu_octets(&Apdu::SimpleAck {
-                    id,
-                    service: WRITE_PROPERTY,
-                })
+                write_apdu(
+                    frame,
+                    &Apdu::SimpleAck {
+                        id,
+                        service: WRITE_PROPERTY,
+                    },
+                )
             }
-            Err(failure) => failed(id, WRITE_PROPERTY, failure),
+            Err(failure) => failed(id, WRITE_PROPERTY, failure, frame),
         }
     }
 
-    /// The octets of the whole reply to a confirmed request; an accepted write is made.
+    /// Appends the whole reply to a confirmed request to an empty frame; an accepted write is made.
     #[tactic(auto, unfolding(crate::specs::Reply::full_reply, crate::specs::Reply::write_in_request))]
     fn full_reply(
         &mut self,
@@ -160,23 +166,26 @@ impl Device {
         id: u8,
         service: u8,
         body: &[u8],
-    ) -> Result<Frame, Full>
-        ensures ok { IfOk result (λ apdu. apdu ≡ laid_out (full_reply self.old part id service body.now)) }
+        frame: &mut Frame,
+    ) -> Result<(), Full>
+        requires { frame.old ≡ [] }
+        ensures ok { OnOk result (frame.new ≡ laid_out (full_reply self.old part id service body.now)) }
         ensures full { OnErr result (FRAME_OCTETS < length (laid_out (full_reply self.old part id service body.now))) }
         ensures after { self.new ≡ with_write self.old (write_in_request self.old part service body.now) }
         ensures urgent { IfSome (write_in_request self.old part service body.now) IsUrgent }
     {
         if part.is_some() {
-            return Ok(refused(id));
+            refuse(id, frame);
+            return Ok(());
         }
         match service {
-            READ_PROPERTY => self.read_reply(id, body),
-            WRITE_PROPERTY => self.write_reply(id, body),
-            _ => rejected(id, RejectReason::UnknownService),
+            READ_PROPERTY => self.read_reply(id, body, frame),
+            WRITE_PROPERTY => self.write_reply(id, body, frame),
+            _ => rejected(id, RejectReason::UnknownService, frame),
         }
     }
 
-    /// The octets of the reply to a confirmed request, of at most the octets that this code announces.
+    /// Appends the reply to a confirmed request, of at most the octets that this code announces, to an empty frame.
     fn fitting_reply(
         &mut self,
         part: Option<Part>,
@@ -184,23 +193,27 @@ impl Device {
         id: u8,
         service: u8,
         body: &[u8],
-    ) -> Frame
-        ensures reply { result ≡ laid_out (fitting code id (full_reply self.old part id service body.now)) }
-        ensures few { length result ≤ 1476 }
+        frame: &mut Frame,
+    )
+        requires { frame.old ≡ [] }
+        ensures reply { frame.new ≡ laid_out (fitting code id (full_reply self.old part id service body.now)) }
+        ensures few { length frame.new ≤ 1476 }
         ensures after { self.new ≡ with_write self.old (write_in_request self.old part service body.now) }
         ensures urgent { IfSome (write_in_request self.old part service body.now) IsUrgent }
     {
-        match self.full_reply(part, id, service, body) {
-            Ok(apdu) if apdu.len() <= usize::from(announced(code)) => apdu,
-            _ => refused(id),
+        match self.full_reply(part, id, service, body, frame) {
+            Ok(()) if frame.len() <= usize::from(announced(code)) => {}
+            _ => refuse(id, frame),
         }
     }
 
-    /// The octets of the reply to those of an APDU; an accepted write is made.
+    /// Appends the reply to the octets of an APDU to an empty frame; an accepted write is made. None where there is no reply.
     #[tactic(auto, unfolding(crate::specs::Reply::reply_apdu, crate::specs::Reply::write_apdu))]
-    fn reply(&mut self, broadcast: bool, apdu: &[u8]) -> Option<Frame>
-        ensures reply { result ≡ reply_apdu self.old broadcast apdu.now }
-        ensures few { IfSome result (λ reply. length reply ≤ 1476) }
+    fn reply(&mut self, broadcast: bool, apdu: &[u8], frame: &mut Frame) -> Option<()>
+        requires { frame.old ≡ [] }
+        ensures reply { option_map (λ _. frame.new) result ≡ reply_apdu self.old broadcast apdu.now }
+        ensures silent { IfNone result (frame.new ≡ []) }
+        ensures few { length frame.new ≤ 1476 }
         ensures after { self.new ≡ with_write self.old (write_in_apdu self.old broadcast apdu.now) }
         ensures urgent { IfSome (write_in_apdu self.old broadcast apdu.now) IsUrgent }
     {
@@ -211,11 +224,14 @@ impl Device {
                 id,
                 service,
                 body,
-            } if !broadcast => Some(self.fitting_reply(part, code, id, service, body)),
+            } if !broadcast => {
+                self.fitting_reply(part, code, id, service, body, frame);
+                Some(())
+            }
             Apdu::Unconfirmed {
                 service: WHO_IS,
                 body,
-            } => introduction(self.info(), body),
+            } => introduce(self.info(), body, frame),
             _ => None,
         }
     }
@@ -234,17 +250,18 @@ impl Device {
         self.answer_into(from, datagram, frame)
     }
 
-    /// The same, with the frame as it was where the device is silent.
+    /// The same, with an empty frame.
     #[tactic(auto, unfolding(crate::specs::Reply::reply_of, crate::specs::Reply::write_of_datagram))]
     fn answer_into(&mut self, from: Peer, datagram: &[u8], frame: &mut Frame) -> Option<Peer>
+        requires { frame.old ≡ [] }
         ensures reply { option_map (λ peer. (station peer, frame.new)) result ≡ reply_of self.old (station from) datagram.now }
-        ensures silent { IfNone result (frame.new ≡ frame.old) }
+        ensures silent { IfNone result (frame.new ≡ []) }
         ensures after { self.new ≡ with_write self.old (write_of_datagram self.old (station from) datagram.now) }
         ensures urgent { IfSome (write_of_datagram self.old (station from) datagram.now) IsUrgent }
     {
         let carried = open_datagram(from, datagram)?;
-        let reply = self.reply(carried.broadcast, carried.apdu)?;
-        match wrap(carried.peer, false, reply.as_slice(), frame) {
+        self.reply(carried.broadcast, carried.apdu, frame)?;
+        match wrap_within(carried.peer, false, frame) {
             Ok(()) => Some(carried.peer),
             // What is announced at most fits a frame behind any header.
             Err(Full) => unreachable!(),
@@ -252,21 +269,24 @@ impl Device {
     }
 }
 
-/// The octets of the I-Am of a device that the body of a Who-Is asks.
+/// Appends the I-Am of a device that the body of a Who-Is asks to an empty frame. None where it does not ask the device.
 #[tactic(auto, using(crate::proofs::ReplyLaws::length_i_am), unfolding(crate::specs::Reply::introduced))]
-fn introduction(info: &DeviceInfo, body: &[u8]) -> Option<Frame>
-    ensures value { result ≡ option_map laid_out (introduced info.now body.now) }
-    ensures few { IfSome result (λ reply. length reply ≡ 15) }
+fn introduce(info: &DeviceInfo, body: &[u8], frame: &mut Frame) -> Option<()>
+    requires { frame.old ≡ [] }
+    ensures value { option_map (λ _. frame.new) result ≡ option_map laid_out (introduced info.now body.now) }
+    ensures silent { IfNone result (frame.new ≡ []) }
+    ensures few { length frame.new ≤ 15 }
 {
     match read_whois(body)? {
         WhoIs::Range { low, high } if info.instance() < low || high < info.instance() => None,
-        _ => i_am(info).ok(),
+        _ => i_am(info, frame).ok(),
     }
 }
 
-/// The octets of the device's I-Am.
-fn i_am(info: &DeviceInfo) -> Result<Frame, Full>
-    ensures ok { IfOk result (λ apdu. apdu ≡ laid_out (i_am_message info.now)) }
+/// Appends the device's I-Am to an empty frame.
+fn i_am(info: &DeviceInfo, frame: &mut Frame) -> Result<(), Full>
+    requires { frame.old ≡ [] }
+    ensures ok { OnOk result (frame.new ≡ laid_out (i_am_message info.now)) }
     ensures full { OnErr result (FRAME_OCTETS < length (laid_out (i_am_message info.now))) }
 {
     let i_am = IAm {
@@ -275,12 +295,15 @@ fn i_am(info: &DeviceInfo) -> Result<Frame, Full>
         segmentation: NO_SEGMENTATION,
         vendor: VENDOR,
     };
-    let mut body = Frame::new();
-    write_iam(&mut body, &i_am)?;
-    apdu_octets(&Apdu::Unconfirmed {
-        service: I_AM,
-        body: body.as_slice(),
-    })
+    // The body is put behind it.
+    write_apdu(
+        frame,
+        &Apdu::Unconfirmed {
+            service: I_AM,
+            body: &[],
+        },
+    )?;
+    write_iam(frame, &i_am)
 }
 
 /// How urgent a write is.
@@ -296,54 +319,50 @@ fn urgency(priority: Option<u8>) -> Result<u8, Failure>
     }
 }
 
-/// The octets of a Reject.
-fn rejected(id: u8, reason: RejectReason) -> Result<Frame, Full>
-    ensures ok { IfOk result (λ apdu. apdu ≡ laid_out (reject id (reason_number reason))) }
+/// Appends a Reject to an empty frame.
+fn rejected(id: u8, reason: RejectReason, frame: &mut Frame) -> Result<(), Full>
+    requires { frame.old ≡ [] }
+    ensures ok { OnOk result (frame.new ≡ laid_out (reject id (reason_number reason))) }
     ensures full { OnErr result (FRAME_OCTETS < length (laid_out (reject id (reason_number reason)))) }
 {
-    apdu_octets(&Apdu::Reject {
-        id,
-        reason: reason.number(),
-    })
+    write_apdu(
+        frame,
+        &Apdu::Reject {
+            id,
+            reason: reason.number(),
+        },
+    )
 }
 
-/// The octets of an Error.
-fn failed(id: u8, service: u8, failure: Failure) -> Result<Frame, Full>
-    ensures ok { IfOk result (λ apdu. apdu ≡ laid_out (error id service (error_octets (error_class failure) (error_code failure)))) }
+/// Appends an Error to an empty frame.
+fn failed(id: u8, service: u8, failure: Failure, frame: &mut Frame) -> Result<(), Full>
+    requires { frame.old ≡ [] }
+    ensures ok { OnOk result (frame.new ≡ laid_out (error id service (error_octets (error_class failure) (error_code failure)))) }
     ensures full { OnErr result (FRAME_OCTETS < length (laid_out (error id service (error_octets (error_class failure) (error_code failure))))) }
 {
-    let mut body = Frame::new();
-    write_error(&mut body, failure.class(), failure.code())?;
-    apdu_octets(&Apdu::Error {
-        id,
-        service,
-        body: body.as_slice(),
-    })
+    // The body is put behind it.
+    write_apdu(
+        frame,
+        &Apdu::Error {
+            id,
+            service,
+            body: &[],
+        },
+    )?;
+    write_error(frame, failure.class(), failure.code())
 }
 
-/// The octets of the Abort of what would take segments.
-fn refused(id: u8) -> Frame
-    ensures { result ≡ laid_out (refused_message id) }
+/// Makes the frame the Abort of what would take segments.
+fn refuse(id: u8, frame: &mut Frame)
+    ensures { frame.new ≡ laid_out (refused_message id) }
 {
-    let mut apdu = Frame::new();
+    frame.clear();
     let _ = write_apdu(
-        &mut apdu,
+        frame,
         &Apdu::Abort {
             server: true,
             id,
             reason: SEGMENTATION_NOT_SUPPORTED,
         },
     );
-    apdu
-}
-
-/// The octets of an APDU.
-fn apdu_octets(apdu: &Apdu<'_>) -> Result<Frame, Full>
-    requires { IsWritable (message apdu.now) }
-    ensures ok { IfOk result (λ octets. octets ≡ laid_out (message apdu.now)) }
-    ensures full { OnErr result (FRAME_OCTETS < length (laid_out (message apdu.now))) }
-{
-    let mut octets = Frame::new();
-    write_apdu(&mut octets, apdu)?;
-    Ok(octets)
 }

@@ -1,6 +1,6 @@
 -- What is read of an APDU is what its octets lay out, and what is laid out is read back.
 use Rattle.std.proofs.Common.{◌≡◌, ℕ, ◌+◌, ◌/◌, ◌%◌, Bool, true, false, cond, eqb, List, [], ◌∷◌, ◌++◌, Option, Some, None, refl, ap, subst, ◌∙◌, arith, inl, inr}
-use Rattle.std.specs.Prelude.{◌↔◌}
+use Rattle.std.specs.Prelude.{◌==◌, if◌then◌else◌, ◌↔◌}
 use Rattle.std.proofs.lemmas.Bool.{eqb-true}
 use Rattle.std.proofs.lemmas.Option.{none-some, some_pair_parts}
 use Rattle.bac_wire.specs.TagReading.{◌>>=◌}
@@ -80,51 +80,83 @@ unconfirmed_takes first (service ∷ body) m kind e =
     let same : unconfirmed service body ≡ m = cc in
     subst (IsLaidOut (first ∷ service ∷ body)) same (first, kind, refl)
 
-numbered_takes_at : (first id octet : ℕ) (rest : List ℕ) (m : Message) → numbered_of first (id ∷ octet ∷ rest) ≡ Some m → IsLaidOut (first ∷ id ∷ octet ∷ rest) m
-numbered_takes_at first id octet rest m e =
-    let octets : List ℕ = first ∷ id ∷ octet ∷ rest in
-    let aborted : Option Message = Some (abort (bit 0 first) id octet) in
-    let from7 : Option Message = cond (eqb (first / 16) 7) aborted None in
-    let from6 : Option Message = cond (eqb (first / 16) 6) (Some (reject id octet)) from7 in
-    let from5 : Option Message = cond (eqb (first / 16) 5) (Some (error id octet rest)) from6 in
-    elim (chosen (eqb (first / 16) 2) (Some (simple_ack id octet)) from5 (Some m) e) [
-      | inl a ↦ let same : simple_ack id octet ≡ m = cc in subst (IsLaidOut octets) same (first, rest, eqb-true (first / 16) 2 a.0, refl)
-      | inr b ↦ elim (chosen (eqb (first / 16) 5) (Some (error id octet rest)) from6 (Some m) b.1) [
-        | inl a ↦ let same : error id octet rest ≡ m = cc in subst (IsLaidOut octets) same (first, eqb-true (first / 16) 5 a.0, refl)
-        | inr b ↦ elim (chosen (eqb (first / 16) 6) (Some (reject id octet)) from7 (Some m) b.1) [
-          | inl a ↦ let same : reject id octet ≡ m = cc in subst (IsLaidOut octets) same (first, rest, eqb-true (first / 16) 6 a.0, refl)
-          | inr b ↦ elim (chosen (eqb (first / 16) 7) aborted None (Some m) b.1) [
-            | inl a ↦ let same : abort (bit 0 first) id octet ≡ m = cc in subst (IsLaidOut octets) same (first, rest, eqb-true (first / 16) 7 a.0, refl, refl)
+-- an invoke id and one octet more
+numbered_takes : (made : ℕ → ℕ → List ℕ → Message) (octets : List ℕ) (m : Message) → numbered_of made octets ≡ Some m → (id octet : ℕ) × (rest : List ℕ) × (octets ≡ id ∷ octet ∷ rest) × (made id octet rest ≡ m)
+numbered_takes made [] m e = absurd (none-some m e)
+numbered_takes made (id ∷ []) m e = absurd (none-some m e)
+numbered_takes made (id ∷ octet ∷ rest) m e = (id, octet, rest, refl, cc)
+
+-- the octets of an APDU with these behind the first
+behind_first : (first : ℕ) (octets others : List ℕ) → octets ≡ others → first ∷ octets ≡ first ∷ others
+behind_first first octets others e = ap (λ (w : List ℕ). first ∷ w) e
+
+segment_takes : (first : ℕ) (octets : List ℕ) (m : Message) → first / 16 ≡ 4 → ◌≡◌ {A = Option Message} (Some segment_ack) (Some m) → IsLaidOut (first ∷ octets) m
+segment_takes first octets m kind e = let same : segment_ack ≡ m = cc in subst (IsLaidOut (first ∷ octets)) same (first, octets, kind, refl)
+
+simple_takes : (first : ℕ) (octets : List ℕ) (m : Message) → first / 16 ≡ 2 → numbered_of (λ id service _. simple_ack id service) octets ≡ Some m → IsLaidOut (first ∷ octets) m
+simple_takes first octets m kind e =
+    let n = numbered_takes (λ id service _. simple_ack id service) octets m e in
+    subst (IsLaidOut (first ∷ octets)) n.4 (first, n.2, kind, behind_first first octets (n.0 ∷ n.1 ∷ n.2) n.3)
+
+error_takes : (first : ℕ) (octets : List ℕ) (m : Message) → first / 16 ≡ 5 → numbered_of error octets ≡ Some m → IsLaidOut (first ∷ octets) m
+error_takes first octets m kind e =
+    let n = numbered_takes error octets m e in
+    subst (IsLaidOut (first ∷ octets)) n.4 (first, kind, behind_first first octets (n.0 ∷ n.1 ∷ n.2) n.3)
+
+reject_takes : (first : ℕ) (octets : List ℕ) (m : Message) → first / 16 ≡ 6 → numbered_of (λ id reason _. reject id reason) octets ≡ Some m → IsLaidOut (first ∷ octets) m
+reject_takes first octets m kind e =
+    let n = numbered_takes (λ id reason _. reject id reason) octets m e in
+    subst (IsLaidOut (first ∷ octets)) n.4 (first, n.2, kind, behind_first first octets (n.0 ∷ n.1 ∷ n.2) n.3)
+
+abort_takes : (first : ℕ) (octets : List ℕ) (m : Message) → first / 16 ≡ 7 → numbered_of (λ id reason _. abort (bit 0 first) id reason) octets ≡ Some m → IsLaidOut (first ∷ octets) m
+abort_takes first octets m kind e =
+    let n = numbered_takes (λ id reason _. abort (bit 0 first) id reason) octets m e in
+    subst (IsLaidOut (first ∷ octets)) n.4 (first, n.2, kind, refl, behind_first first octets (n.0 ∷ n.1 ∷ n.2) n.3)
+
+-- the kinds from 4 on
+abbrev late_of : ℕ → List ℕ → Option Message
+late_of first octets =
+    if first / 16 == 4 then Some segment_ack
+    else if first / 16 == 5 then numbered_of error octets
+    else if first / 16 == 6 then numbered_of (λ id reason _. reject id reason) octets
+    else if first / 16 == 7 then numbered_of (λ id reason _. abort (bit 0 first) id reason) octets
+    else None
+
+late_takes : (first : ℕ) (octets : List ℕ) (m : Message) → late_of first octets ≡ Some m → IsLaidOut (first ∷ octets) m
+late_takes first octets m e =
+    let from7 : Option Message = cond (eqb (first / 16) 7) (numbered_of (λ id reason _. abort (bit 0 first) id reason) octets) None in
+    let from6 : Option Message = cond (eqb (first / 16) 6) (numbered_of (λ id reason _. reject id reason) octets) from7 in
+    let from5 : Option Message = cond (eqb (first / 16) 5) (numbered_of error octets) from6 in
+    elim (chosen (eqb (first / 16) 4) (Some segment_ack) from5 (Some m) e) [
+      | inl a ↦ segment_takes first octets m (eqb-true (first / 16) 4 a.0) a.1
+      | inr b ↦ elim (chosen (eqb (first / 16) 5) (numbered_of error octets) from6 (Some m) b.1) [
+        | inl a ↦ error_takes first octets m (eqb-true (first / 16) 5 a.0) a.1
+        | inr b ↦ elim (chosen (eqb (first / 16) 6) (numbered_of (λ id reason _. reject id reason) octets) from7 (Some m) b.1) [
+          | inl a ↦ reject_takes first octets m (eqb-true (first / 16) 6 a.0) a.1
+          | inr b ↦ elim (chosen (eqb (first / 16) 7) (numbered_of (λ id reason _. abort (bit 0 first) id reason) octets) None (Some m) b.1) [
+            | inl a ↦ abort_takes first octets m (eqb-true (first / 16) 7 a.0) a.1
             | inr b ↦ absurd (none-some m b.1)
           ]
         ]
       ]
     ]
 
-numbered_takes : (first : ℕ) (octets : List ℕ) (m : Message) → numbered_of first octets ≡ Some m → IsLaidOut (first ∷ octets) m
-numbered_takes first [] m e = absurd (none-some m e)
-numbered_takes first (id ∷ []) m e = absurd (none-some m e)
-numbered_takes first (id ∷ octet ∷ rest) m e = numbered_takes_at first id octet rest m e
-
-segment_takes : (first : ℕ) (octets : List ℕ) (m : Message) → first / 16 ≡ 4 → ◌≡◌ {A = Option Message} (Some segment_ack) (Some m) → IsLaidOut (first ∷ octets) m
-segment_takes first octets m kind e = let same : segment_ack ≡ m = cc in subst (IsLaidOut (first ∷ octets)) same (first, octets, kind, refl)
-
 apdu_takes : (octets : List ℕ) (m : Message) → apdu_of octets ≡ Some m → IsLaidOut octets m
 unfolding apdu_of
 apdu_takes [] m e = absurd (none-some m e)
 apdu_takes (first ∷ octets) m e =
-    let from4 : Option Message = cond (eqb (first / 16) 4) (Some segment_ack) (numbered_of first octets) in
-    let from3 : Option Message = cond (eqb (first / 16) 3) (complex_ack_of first octets) from4 in
-    let from1 : Option Message = cond (eqb (first / 16) 1) (unconfirmed_of octets) from3 in
+    let from3 : Option Message = cond (eqb (first / 16) 3) (complex_ack_of first octets) (late_of first octets) in
+    let from2 : Option Message = cond (eqb (first / 16) 2) (numbered_of (λ id service _. simple_ack id service) octets) from3 in
+    let from1 : Option Message = cond (eqb (first / 16) 1) (unconfirmed_of octets) from2 in
     elim (chosen (eqb (first / 16) 0) (confirmed_of first octets) from1 (Some m) e) [
       | inl a ↦ confirmed_takes first octets m (eqb-true (first / 16) 0 a.0) a.1
-      | inr b ↦ elim (chosen (eqb (first / 16) 1) (unconfirmed_of octets) from3 (Some m) b.1) [
+      | inr b ↦ elim (chosen (eqb (first / 16) 1) (unconfirmed_of octets) from2 (Some m) b.1) [
         | inl a ↦ unconfirmed_takes first octets m (eqb-true (first / 16) 1 a.0) a.1
-        | inr b ↦ elim (chosen (eqb (first / 16) 3) (complex_ack_of first octets) from4 (Some m) b.1) [
-          | inl a ↦ complex_takes first octets m (eqb-true (first / 16) 3 a.0) a.1
-          | inr b ↦ elim (chosen (eqb (first / 16) 4) (Some segment_ack) (numbered_of first octets) (Some m) b.1) [
-            | inl a ↦ segment_takes first octets m (eqb-true (first / 16) 4 a.0) a.1
-            | inr b ↦ numbered_takes first octets m b.1
+        | inr b ↦ elim (chosen (eqb (first / 16) 2) (numbered_of (λ id service _. simple_ack id service) octets) from3 (Some m) b.1) [
+          | inl a ↦ simple_takes first octets m (eqb-true (first / 16) 2 a.0) a.1
+          | inr b ↦ elim (chosen (eqb (first / 16) 3) (complex_ack_of first octets) (late_of first octets) (Some m) b.1) [
+            | inl a ↦ complex_takes first octets m (eqb-true (first / 16) 3 a.0) a.1
+            | inr b ↦ late_takes first octets m b.1
           ]
         ]
       ]

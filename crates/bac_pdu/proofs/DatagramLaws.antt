@@ -1,17 +1,17 @@
 -- What is read of a datagram is what it carries, and what is written is carried back.
-use Rattle.std.proofs.Common.{◌≡◌, ℕ, ◌+◌, ◌/◌, ◌%◌, ◌<◌, ◌≤◌, Bool, true, false, cond, eqb, ltb, ◌&&◌, ◌||◌, List, [], ◌∷◌, ◌++◌, length, Option, Some, None, refl, sym, ap, subst, ◌∙◌, arith, inl, inr}
+use Rattle.std.proofs.Common.{◌≡◌, ℕ, ◌+◌, ◌/◌, ◌%◌, ◌<◌, ◌≤◌, Bool, true, false, cond, eqb, ltb, ◌&&◌, ◌||◌, List, [], ◌∷◌, ◌++◌, length, Option, Some, None, refl, sym, ap, subst, ◌∙◌, append_assoc, arith, inl, inr}
 use Rattle.std.specs.Prelude.{◌↔◌, is_some, IfSome, OnOk, Result, Ok, Err}
 use Rattle.std.proofs.lemmas.Bool.{eqb-true, ltb-true, lt-ltb, eq-eqb}
 use Rattle.std.proofs.lemmas.List.{length-append}
 use Rattle.std.proofs.lemmas.Option.{none-some, some_pair_parts}
-use Rattle.byteorder.specs.Endian.{big_number}
-use Rattle.byteorder.specs.Numbers.{big_number-reads_back}
+use Rattle.byteorder.specs.Endian.{big_number, big_bytes}
+use Rattle.byteorder.specs.Numbers.{big_number-reads_back, length-bytes_high_first}
 use Rattle.bac_wire.specs.TagReading.{◌>>=◌}
 use Rattle.bac_wire.proofs.Readers.{found_at, chosen}
 use Rattle.bac_wire.proofs.TagLaws.{bind_some}
 use Rattle.bac_pdu.specs.Peer.{NetworkAddress, Station, IsRoutable}
 use Rattle.bac_pdu.specs.Header.{NetworkHeader, SpellsHeader, plain_header}
-use Rattle.bac_pdu.specs.Datagram.{Delivery, SpellsOrigin, unicast, broadcast, forwarded, IsHeeded, Carries, IsFound, Takes, wrapped}
+use Rattle.bac_pdu.specs.Datagram.{Delivery, SpellsOrigin, unicast, broadcast, forwarded, IsHeeded, Carries, IsFound, IsSingle, Takes, wrapped, front_count, front_octets}
 use Rattle.bac_pdu.specs.DatagramReading.{header_at, forwarded_at, origin_at, link_at, is_routable, is_for_all, is_answerable, carried}
 use Rattle.bac_pdu.proofs.HeaderLaws.{header_reader, header_written}
 
@@ -246,6 +246,42 @@ unfolding wrapped
 frame_takes to expect apdu frame routable fits e =
     let short : length (wrapped to expect apdu) < 65536 = omega (arith, length-append (plain_header to expect) apdu) in
     subst (Takes to expect apdu) (sym e) (wrapped_takes to expect apdu routable short)
+
+-- the front and the APDU are the datagram
+pub front_before : (to : Option NetworkAddress) (expect : Bool) (apdu : List ℕ) → front_octets to expect (length apdu) ++ apdu ≡ wrapped to expect apdu
+unfolding front_octets wrapped
+front_before to expect apdu =
+    let header = plain_header to expect in
+    ap (λ (rest : List ℕ). 129 ∷ 10 ∷ rest) (append_assoc (big_bytes 2 (4 + (length header + length apdu))) header apdu ∙ ap (λ (n : ℕ). big_bytes 2 (4 + n) ++ (header ++ apdu)) (sym (length-append header apdu)))
+
+pub length_wrapped : (to : Option NetworkAddress) (expect : Bool) (apdu : List ℕ) → length (wrapped to expect apdu) ≡ length (front_octets to expect (length apdu)) + length apdu
+length_wrapped to expect apdu = sym (ap length (front_before to expect apdu)) ∙ length-append (front_octets to expect (length apdu)) apdu
+
+-- the exact count of the octets before an APDU, and of the whole datagram
+pub length_front : (to : Option NetworkAddress) (expect : Bool) (size : ℕ) → length (front_octets to expect size) ≡ front_count to
+unfolding front_octets
+length_front None expect size = refl
+length_front (Some station) expect size = omega (arith, length-append station.address (255 ∷ []))
+
+pub count_wrapped : (to : Option NetworkAddress) (expect : Bool) (apdu : List ℕ) → length (wrapped to expect apdu) ≡ front_count to + length apdu
+count_wrapped to expect apdu = length_wrapped to expect apdu ∙ ap (λ (n : ℕ). n + length apdu) (length_front to expect (length apdu))
+
+-- octets of which each spelling is read back spell one thing
+pub single : {A : Type 0} (Spells : List ℕ → A → Type 0) (read : List ℕ → Option A) → ((octets : List ℕ) (x : A) → Spells octets x → read octets ≡ Some x) → IsSingle Spells
+single Spells read again octets x y s t =
+    let same : ◌≡◌ {A = Option _} (Some x) (Some y) = sym (again octets x s) ∙ again octets y t in cc
+
+header_within : (to : Option NetworkAddress) (expect : Bool) (size : ℕ) → 4 + (length (plain_header to expect) + size) ≤ length (front_octets to expect size) + size
+unfolding front_octets
+header_within to expect size =
+    let header = plain_header to expect in
+    omega (arith, length-append (big_bytes 2 (4 + (length header + size))) header, length-bytes_high_first 2 (4 + (length header + size)))
+
+-- an APDU behind its front takes it to the station
+pub front_takes : (to : Option NetworkAddress) (expect : Bool) (apdu : List ℕ) (size : ℕ) (front frame : List ℕ) → IfSome to IsRoutable → size ≡ length apdu → length (front_octets to expect size) + size ≤ 1497 → front ≡ front_octets to expect size → frame ≡ front ++ apdu → Takes to expect apdu frame
+front_takes to expect apdu size front frame routable all fits is e =
+    let same : frame ≡ wrapped to expect apdu = e ∙ ap (λ (f : List ℕ). f ++ apdu) (is ∙ ap (front_octets to expect) all) ∙ front_before to expect apdu in
+    frame_takes to expect apdu frame routable (omega (arith, header_within to expect size, fits, all)) same
 
 pub on_ok : {T E : Type 0} (result : Result T E) (P Q : Type 0) → OnOk result P → (P → Q) → OnOk result Q
 on_ok (Ok x) P Q p f = f p

@@ -10,3 +10,5 @@ pub mod DiscoveryLaws
 pub mod RoundLaws
 pub mod ShortestLaws
 pub mod LengthLaws
+pub mod AckLaws
+pub mod ShortTags

@@ -7,11 +7,12 @@ use Rattle.bac_wire.specs.Datum.{Spells, enumerated, plain, IsDatum}
 use Rattle.bac_wire.specs.Parameter.{number_octets}
 use Rattle.bac_wire.proofs.PlainDatum.{plain_spells}
 use Rattle.bac_wire.proofs.ParameterLaws.{number_spells, object_spells, enclosed_spells}
+use Rattle.bac_pdu.specs.declared.discovery.WhoIs.{WhoIs}
 use Rattle.bac_pdu.specs.declared.discovery.WhoIs.TheVariants as limits
 use Rattle.bac_pdu.specs.Parameter.{Parameter, object, property, index, value, priority, IsParameter, SpellsParameter, SpellsAll, plain_parameter, plain_all}
 use Rattle.bac_pdu.specs.Property.{Reference, Answer, Order, reference_parameters, answer_parameters, order_parameters, IsPriority, read_octets, ack_octets, write_octets}
 use Rattle.bac_pdu.specs.PropertyReading.{read_of, write_of, ack_of}
-use Rattle.bac_pdu.specs.Discovery.{Introduction, introduction_values, IsWhoIsBody, who_is_octets, i_am_octets}
+use Rattle.bac_pdu.specs.Discovery.{HasLimits, Introduction, introduction_values, IsWhoIsBody, who_is_octets, i_am_octets}
 use Rattle.bac_pdu.specs.Failure.{error_octets}
 use Rattle.bac_pdu.specs.ValueReading.{who_is_of, introduction_of, error_of}
 use Rattle.bac_pdu.proofs.SequenceLaws.{all_spell, whole_spell}
@@ -47,6 +48,11 @@ range_spells low high l h =
 
 pub who_is_back : (low high : ℕ) → low < 2 ^ 32 → high < 2 ^ 32 → who_is_of (who_is_octets (limits.Range low high)) ≡ Some (limits.Range low high)
 who_is_back low high l h = (who_is_is (who_is_octets (limits.Range low high)) (limits.Range low high)).1 (range_spells low high l h)
+
+pub limits_back : (w : WhoIs) → HasLimits w → who_is_of (who_is_octets w) ≡ Some w
+unfolding who_is_of
+limits_back limits.All h = refl
+limits_back (limits.Range low high) h = who_is_back low high h.0 h.1
 
 pub introduction_back : (i : Introduction) → i.device.kind ≡ 8 → AllByRecursion IsDatum (introduction_values i) → introduction_of (i_am_octets i) ≡ Some i
 introduction_back i device h = (introduction_is (i_am_octets i) i).1 (record { device = device; spelled = whole_spell Spells plain IsDatum plain_spells (introduction_values i) h })

@@ -1,6 +1,6 @@
 -- What is written of a body spells it, and no other spelling has fewer octets.
 use Rattle.std.proofs.Common.{◌≡◌, ℕ, ◌+◌, ◌^◌, ◌<◌, ◌≤◌, List, [], ◌∷◌, ◌++◌, length, Option, Some, None, refl, ap, subst, arith}
-use Rattle.std.specs.Prelude.{IfSome, OnOk, Result, Ok, Err}
+use Rattle.std.specs.Prelude.{IfSome, Ok}
 use Rattle.std.specs.List.{AllByRecursion}
 use Rattle.std.proofs.lemmas.Bool.{lt-ltb}
 use Rattle.std.proofs.lemmas.List.{length-append}
@@ -19,10 +19,13 @@ use Rattle.bac_pdu.specs.declared.discovery.WhoIs.{WhoIs}
 use Rattle.bac_pdu.specs.declared.discovery.WhoIs.TheVariants as limits
 use Rattle.bac_pdu.specs.Parameter.{Parameter, object, property, index, value, priority, IsParameter, SpellsParameter, SpellsTo, SpellsAll, optional, plain_parameter, plain_all}
 use Rattle.bac_pdu.specs.Property.{Reference, Answer, Order, reference_parameters, answer_parameters, order_parameters, IsPriority, IsReadBody, IsAckBody, IsWriteBody, read_octets, ack_octets, write_octets}
-use Rattle.bac_pdu.specs.Discovery.{Introduction, introduction_values, IsWhoIsBody, IsIAmBody, who_is_octets, i_am_octets}
+use Rattle.bac_pdu.specs.Discovery.{HasLimits, Introduction, introduction_values, IsWhoIsBody, IsIAmBody, who_is_octets, i_am_octets}
 use Rattle.bac_pdu.specs.Failure.{IsErrorBody, error_octets}
-use Rattle.bac_pdu.proofs.SequenceLaws.{whole_spell}
-use Rattle.bac_pdu.proofs.RoundLaws.{parameters_spell, range_spells}
+use Rattle.bac_pdu.specs.PropertyReading.{write_of, ack_of}
+use Rattle.bac_pdu.specs.ValueReading.{introduction_of, error_of}
+use Rattle.bac_pdu.proofs.SequenceLaws.{all_spell, whole_spell}
+use Rattle.bac_pdu.proofs.DiscoveryLaws.{introduction_is, error_is}
+use Rattle.bac_pdu.proofs.RoundLaws.{parameters_spell, range_spells, write_back, ack_back}
 
 -- ---- the fewest octets of a number
 
@@ -117,11 +120,6 @@ ack_shortest a h = record { spelled = parameters_spell (answer_parameters a) h; 
 pub write_shortest : (o : Order) → AllByRecursion IsParameter (order_parameters o) → IfSome o.priority IsPriority → IsShortest IsWriteBody (write_octets o) o
 write_shortest o h urgent = record { spelled = record { spelled = parameters_spell (order_parameters o) h; urgent = urgent }; shortest = λ other fit s. parameters_least (order_parameters o) other h fit s.spelled }
 
--- the limits that there are
-abbrev pub HasLimits : WhoIs → Type 0
-HasLimits limits.All = Unit {0}
-HasLimits (limits.Range low high) = (low < 2 ^ 32) × (high < 2 ^ 32)
-
 range_least : (low high : ℕ) (body : List ℕ) → AreOctets body → IsWhoIsBody body (limits.Range low high) → length (who_is_octets (limits.Range low high)) ≤ length body
 range_least low high body fit s =
     let fits : AreOctets (s.1.front ++ s.0) = subst AreOctets s.1.whole fit in
@@ -144,6 +142,17 @@ error_shortest class code a b =
     let all : AllByRecursion IsWritten (enumerated class ∷ enumerated code ∷ []) = (a, (b, tt)) in
     record { spelled = ([], values_spell (enumerated class ∷ enumerated code ∷ []) all); shortest = λ other fit s. values_least (enumerated class ∷ enumerated code ∷ []) other s.0 all fit s.1 }
 
+-- what is written of an error is read back
+pub error_is_back : (class code : ℕ) → IsWritten (enumerated class) → IsWritten (enumerated code) → (rest : List ℕ) → error_of (error_octets class code ++ rest) ≡ Some (class, code)
+error_is_back class code a b rest =
+    let values : List Datum = enumerated class ∷ enumerated code ∷ [] in
+    let all : AllByRecursion IsWritten values = (a, (b, tt)) in
+    (error_is (error_octets class code ++ rest) (class, code)).1 (rest, all_spell Spells plain IsWritten (λ x is. is.spelled) values rest all)
+
+-- what is written of a device is read back
+pub i_am_is_back : (i : Introduction) → IsShortest IsIAmBody (i_am_octets i) i → introduction_of (i_am_octets i) ≡ Some i
+i_am_is_back i written = (introduction_is (i_am_octets i) i).1 written.spelled
+
 -- ---- the parameters of a request
 
 optional_is : (number : ℕ → Parameter) (i : Option ℕ) → ((n : ℕ) → n < 2 ^ 32 → IsParameter (number n)) → IfSome i (λ n. n < 2 ^ 32) → AllByRecursion IsParameter (optional number i)
@@ -158,6 +167,10 @@ all_append Is (x ∷ xs) ys h k = (h.0, all_append Is xs ys h.1 k)
 pub ack_is_written : (a : Answer) → AllByRecursion IsParameter (reference_parameters a.reference) → IsRegion 32 a.value → IsShortest IsAckBody (ack_octets a) a
 ack_is_written a named region = ack_shortest a (all_append IsParameter (reference_parameters a.reference) (value a.value ∷ []) named (region, tt))
 
+-- it is read back
+pub ack_is_back : (a : Answer) → AllByRecursion IsParameter (reference_parameters a.reference) → IsRegion 32 a.value → ack_of (ack_octets a) ≡ Some a
+ack_is_back a named region = ack_back a (all_append IsParameter (reference_parameters a.reference) (value a.value ∷ []) named (region, tt))
+
 urgent_is : (p : Option ℕ) → IfSome p IsPriority → IfSome p (λ n. n < 2 ^ 32)
 urgent_is None h = tt
 urgent_is (Some n) h = omega (arith, h.1)
@@ -166,12 +179,6 @@ urgent_is (Some n) h = omega (arith, h.1)
 pub order_is_written : (o : Order) → AllByRecursion IsParameter (reference_parameters o.reference) → IsRegion 32 o.value → IfSome o.priority IsPriority → IsShortest IsWriteBody (write_octets o) o
 order_is_written o named region urgent = write_shortest o (all_append IsParameter (reference_parameters o.reference) (value o.value ∷ optional priority o.priority) named (region, optional_is priority o.priority (λ n fits. fits) (urgent_is o.priority urgent))) urgent
 
--- where there are no limits
-pub no_limits_shortest : (w : WhoIs) → ((low high : ℕ) → w ≡ limits.Range low high → ⊥) → IsShortest IsWhoIsBody (who_is_octets w) w
-no_limits_shortest limits.All none = who_is_shortest limits.All tt
-no_limits_shortest (limits.Range low high) none = absurd (none low high refl)
-
--- whatever was answered
-pub on_any : {T E : Type 0} (result : Result T E) (P : Type 0) → P → OnOk result P
-on_any (Ok x) P p = p
-on_any (Err e) P p = tt
+-- it is read back
+pub order_is_back : (o : Order) → AllByRecursion IsParameter (reference_parameters o.reference) → IsRegion 32 o.value → IfSome o.priority IsPriority → write_of (write_octets o) ≡ Ok o
+order_is_back o named region urgent = write_back o (all_append IsParameter (reference_parameters o.reference) (value o.value ∷ optional priority o.priority) named (region, optional_is priority o.priority (λ n fits. fits) (urgent_is o.priority urgent))) urgent

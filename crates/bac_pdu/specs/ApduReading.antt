@@ -35,15 +35,10 @@ abbrev pub complex_ack_of : ℕ → List ℕ → Option Message
 complex_ack_of first (id ∷ octets) = parts_at first octets >>= (λ x. Some (complex_ack x.0 id x.1 x.2))
 complex_ack_of first _ = None
 
--- the kinds that are an invoke id and one octet more; an Error has a body behind them
-abbrev pub numbered_of : ℕ → List ℕ → Option Message
-numbered_of first (id ∷ octet ∷ rest) =
-    if first / 16 == 2 then Some (simple_ack id octet)
-    else if first / 16 == 5 then Some (error id octet rest)
-    else if first / 16 == 6 then Some (reject id octet)
-    else if first / 16 == 7 then Some (abort (bit 0 first) id octet)
-    else None
-numbered_of first _ = None
+-- a kind that is an invoke id and one octet more, and what stands behind them
+abbrev pub numbered_of : (ℕ → ℕ → List ℕ → Message) → List ℕ → Option Message
+numbered_of made (id ∷ octet ∷ rest) = Some (made id octet rest)
+numbered_of made _ = None
 
 -- the APDU that a list of octets is
 unfoldable pub apdu_of : List ℕ → Option Message
@@ -51,6 +46,10 @@ apdu_of [] = None
 apdu_of (first ∷ octets) =
     if first / 16 == 0 then confirmed_of first octets
     else if first / 16 == 1 then unconfirmed_of octets
+    else if first / 16 == 2 then numbered_of (λ id service _. simple_ack id service) octets
     else if first / 16 == 3 then complex_ack_of first octets
     else if first / 16 == 4 then Some segment_ack
-    else numbered_of first octets
+    else if first / 16 == 5 then numbered_of error octets
+    else if first / 16 == 6 then numbered_of (λ id reason _. reject id reason) octets
+    else if first / 16 == 7 then numbered_of (λ id reason _. abort (bit 0 first) id reason) octets
+    else None

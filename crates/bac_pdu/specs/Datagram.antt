@@ -52,6 +52,10 @@ pub record IsFound {A : Type 0} (Spells : List ℕ → A → Type 0) (octets : L
   pub spelled : IfSome found (Spells octets)
   pub all : (x : A) → Spells octets x → found ≡ Some x
 
+-- octets spell at most one thing
+abbrev pub IsSingle : {A : Type 0} → (List ℕ → A → Type 0) → Type 0
+IsSingle {A} Spells = (octets : List ℕ) (x y : A) → Spells octets x → Spells octets y → x ≡ y
+
 -- ---- the form that is written
 
 -- The unicast datagram that takes the APDU to a station: its network header names the station behind the router, if any, as
@@ -67,3 +71,12 @@ pub record Takes (to : Option NetworkAddress) (expect : Bool) (apdu datagram : L
 
 unfoldable pub wrapped : Option NetworkAddress → Bool → List ℕ → List ℕ
 wrapped to expect apdu = 129 ∷ 10 ∷ (big_bytes 2 (4 + length (plain_header to expect ++ apdu)) ++ (plain_header to expect ++ apdu))
+
+-- how many octets stand before an APDU: six, or ten and the address of a station behind a router
+abbrev pub front_count : Option NetworkAddress → ℕ
+front_count None = 6
+front_count (Some to) = 10 + length to.address
+
+-- what stands before an APDU of so many octets
+unfoldable pub front_octets : Option NetworkAddress → Bool → ℕ → List ℕ
+front_octets to expect size = 129 ∷ 10 ∷ (big_bytes 2 (4 + (length (plain_header to expect) + size)) ++ plain_header to expect)

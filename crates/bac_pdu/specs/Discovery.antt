@@ -1,5 +1,5 @@
 -- The bodies of Who-Is and I-Am (clauses 16.10 and 21).
-use Rattle.std.specs.Prelude.{◌≡◌, ℕ, List, [], ◌∷◌, ◌++◌}
+use Rattle.std.specs.Prelude.{◌≡◌, ℕ, ◌^◌, ◌<◌, List, [], ◌∷◌, ◌++◌}
 use Rattle.bac_wire.specs.Identifier.{Identifier, identifier}
 use Rattle.bac_wire.specs.Datum.{Datum, unsigned, enumerated, Spells, plain}
 use Rattle.bac_wire.specs.Datum as values
@@ -17,6 +17,11 @@ SpellsNumbered octets x = SpellsIn IsNumber x.0 octets x.1
 abbrev pub IsWhoIsBody : List ℕ → WhoIs → Type 0
 IsWhoIsBody body limits.All = body ≡ []
 IsWhoIsBody body (limits.Range low high) = SpellsAll SpellsNumbered body ((0, low) ∷ (1, high) ∷ [])
+
+-- the limits that there are: numbers of four octets at most
+abbrev pub HasLimits : WhoIs → Type 0
+HasLimits limits.All = Unit {0}
+HasLimits (limits.Range low high) = (low < 2 ^ 32) × (high < 2 ^ 32)
 
 -- a device, the APDU that it takes, its segmentation and its vendor
 pub record Introduction : Type 0 where

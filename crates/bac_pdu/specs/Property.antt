@@ -1,6 +1,8 @@
 -- The bodies of ReadProperty, its answer and WriteProperty: their parameters in their order (clauses 15.5, 15.9 and 21).
 use Rattle.std.specs.Prelude.{ℕ, ◌≤◌, List, [], ◌∷◌, ◌++◌, Option, IfSome}
 use Rattle.bac_wire.specs.Identifier.{Identifier, identifier}
+use Rattle.bac_wire.specs.Tag.{plain_tag}
+use Rattle.bac_wire.specs.Region.{opening_tag, closing_tag}
 use Rattle.bac_pdu.specs.declared.property.ReadRequest.{ReadRequest}
 use Rattle.bac_pdu.specs.declared.property.WriteRequest.{WriteRequest}
 use Rattle.bac_pdu.specs.declared.property.Ack.{Ack}
@@ -71,3 +73,10 @@ ack_octets a = plain_all plain_parameter (answer_parameters a)
 
 abbrev pub write_octets : Order → List ℕ
 write_octets o = plain_all plain_parameter (order_parameters o)
+
+-- the body of an answer up to its value, and behind it
+abbrev pub ack_front : Reference → List ℕ
+ack_front r = read_octets r ++ plain_tag (opening_tag 3)
+
+abbrev pub ack_end : List ℕ
+ack_end = plain_tag (closing_tag 3)

@@ -1,8 +1,8 @@
-ghost use Rattle.std.specs.Prelude.{◌≡◌, ◌<◌, ◌+◌, ◌++◌, [], ◌∷◌, length, OnOk, OnErr};
+ghost use Rattle.std.specs.Prelude.{◌≡◌, ◌<◌, ◌≤◌, ◌+◌, [], ◌++◌, ◌∷◌, length, Some, OnOk, OnErr};
 ghost use Rattle.std.specs.Option.{option_map};
 ghost use Rattle.bac_pdu.specs.Datagram.{IsFound};
 ghost use Rattle.bac_pdu.specs.Apdu.{message, IsLaidOut, laid_out, part_flags, part_octets, IsWritable, announced_size};
-ghost use Rattle.bac_pdu.specs.ApduReading.{confirmed_of, complex_ack_of, numbered_of, parts_at, apdu_of};
+ghost use Rattle.bac_pdu.specs.ApduReading.{confirmed_of, complex_ack_of, parts_at, apdu_of};
 
 use crate::bits::has_bit;
 use arrayvec::ArrayVec;
@@ -73,42 +73,31 @@ pub fn read_apdu(octets: &[u8]) -> Option<Apdu<'_>>
     let [first, rest @ ..] = octets else {
         return None;
     };
-    match *first >> 4 {
-        0 => read_confirmed(*first, rest),
-        1 => match rest {
-            [service, body @ ..] => Some(Apdu::Unconfirmed {
-                service: *service,
-                body,
-            }),
-            _ => None,
-        },
-        3 => read_complex_ack(*first, rest),
-        4 => Some(Apdu::SegmentAck),
-        2 | 5..=7 => read_numbered(*first, rest),
-        _ => None,
-    }
-}
-
-/// A SimpleACK, an Error, a Reject or an Abort: an invoke id, one octet more, and for an Error its body.
-fn read_numbered(first: u8, octets: &[u8]) -> Option<Apdu<'_>>
-    ensures { option_map message result ≡ numbered_of first octets.now }
-{
-    let [id, octet, rest @ ..] = octets else {
-        return None;
-    };
-    let (id, octet) = (*id, *octet);
-    match first >> 4 {
-        2 => Some(Apdu::SimpleAck { id, service: octet }),
-        5 => Some(Apdu::Error {
-            id,
-            service: octet,
-            body: rest,
+    match (*first >> 4, rest) {
+        (0, _) => read_confirmed(*first, rest),
+        (1, [service, body @ ..]) => Some(Apdu::Unconfirmed {
+            service: *service,
+            body,
         }),
-        6 => Some(Apdu::Reject { id, reason: octet }),
-        7 => Some(Apdu::Abort {
-            server: has_bit(0, first),
-            id,
-            reason: octet,
+        (2, [id, service, ..]) => Some(Apdu::SimpleAck {
+            id: *id,
+            service: *service,
+        }),
+        (3, _) => read_complex_ack(*first, rest),
+        (4, _) => Some(Apdu::SegmentAck),
+        (5, [id, service, body @ ..]) => Some(Apdu::Error {
+            id: *id,
+            service: *service,
+            body,
+        }),
+        (6, [id, reason, ..]) => Some(Apdu::Reject {
+            id: *id,
+            reason: *reason,
+        }),
+        (7, [id, reason, ..]) => Some(Apdu::Abort {
+            server: has_bit(0, *first),
+            id: *id,
+            reason: *reason,
         }),
         _ => None,
     }
@@ -174,6 +163,18 @@ fn read_parts(first: u8, octets: &[u8]) -> Option<(Option<Part>, u8, &[u8])>
 pub fn write_apdu(frame: &mut Frame, apdu: &Apdu<'_>) -> Result<(), Full>
     requires { IsWritable (message apdu.now) }
     ensures ok { OnOk result (frame.new ≡ frame.old ++ laid_out (message apdu.now)) }
+    ensures fits { OnOk result (length frame.old + length (laid_out (message apdu.now)) ≤ FRAME_OCTETS) }
+    ensures read_back { OnOk result (apdu_of (laid_out (message apdu.now)) ≡ Some (message apdu.now)) }
+    ensures full { OnErr result (FRAME_OCTETS < length frame.old + length (laid_out (message apdu.now))) }
+    ensures err { OnErr result (frame.new ≡ frame.old) }
+{
+    append_apdu(frame, apdu)
+}
+
+fn append_apdu(frame: &mut Frame, apdu: &Apdu<'_>) -> Result<(), Full>
+    requires { IsWritable (message apdu.now) }
+    ensures ok { OnOk result (frame.new ≡ frame.old ++ laid_out (message apdu.now)) }
+    ensures fits { OnOk result (length frame.old + length (laid_out (message apdu.now)) ≤ FRAME_OCTETS) }
     ensures full { OnErr result (FRAME_OCTETS < length frame.old + length (laid_out (message apdu.now))) }
     ensures err { OnErr result (frame.new ≡ frame.old) }
 {
@@ -240,6 +241,7 @@ fn head_of(begin: &[u8], part: Option<Part>, service: u8) -> ArrayVec<u8, 6>
 /// Appends the head and the body, or nothing.
 fn append_both(frame: &mut Frame, head: &[u8], body: &[u8]) -> Result<(), Full>
     ensures ok { OnOk result (frame.new ≡ frame.old ++ (head.now ++ body.now)) }
+    ensures fits { OnOk result (length frame.old + length (head.now ++ body.now) ≤ FRAME_OCTETS) }
     ensures full { OnErr result (FRAME_OCTETS < length frame.old + length (head.now ++ body.now)) }
     ensures err { OnErr result (frame.new ≡ frame.old) }
 {

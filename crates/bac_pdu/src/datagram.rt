@@ -1,12 +1,13 @@
-ghost use Rattle.std.specs.Prelude.{◌≡◌, ◌<◌, length, OnOk, OnErr};
+ghost use Rattle.std.specs.Prelude.{◌≡◌, ◌<◌, ◌≤◌, ◌+◌, ◌^◌, ◌++◌, length, IfOk, IfSome, OnOk, OnErr};
 ghost use Rattle.std.specs.Option.{option_map};
-ghost use Rattle.bac_pdu.specs.Peer.{station};
-ghost use Rattle.bac_pdu.specs.Datagram.{delivery, Carries, IsFound, Takes, wrapped};
+ghost use Rattle.bac_pdu.specs.Peer.{station, IsRoutable};
+ghost use Rattle.bac_pdu.specs.Datagram.{delivery, Carries, IsFound, Takes, wrapped, front_count, front_octets};
 ghost use Rattle.bac_pdu.specs.DatagramReading.{link_at, carried};
 
-use crate::header::{header_and_rest, network_header};
+use crate::header::{HEADER_OCTETS, header_and_rest, network_header};
 use crate::peer::Peer;
 use crate::route::Route;
+use arrayvec::ArrayVec;
 use bac_wire::{FRAME_OCTETS, Frame, Full};
 use byteorder::{BigEndian, ByteOrder};
 
@@ -31,6 +32,9 @@ const BROADCAST: u8 = 0x0b;
 const FORWARDED: u8 = 0x04;
 
 const ALL_NETWORKS: u16 = 0xffff;
+
+/// The octets before an APDU, at most: of the link header and of the network header.
+const FRONT_OCTETS: usize = 4 + HEADER_OCTETS;
 
 /// What the datagram that came from this address and port carries (Annex J and clause 6).
 ///
@@ -99,24 +103,61 @@ fn origin_and_rest(from: Peer, datagram: &[u8]) -> Option<(Peer, bool, &[u8])>
 ///
 /// `Full`, with the frame unchanged, only where the datagram has more octets than a frame: an APDU of more than 1,491
 /// octets, or with a route of more than 1,487 less those of its address; so never for one of at most 1,480.
-#[tactic(auto, unfolding(crate::specs::Datagram::wrapped))]
+#[tactic(auto, using(crate::proofs::DatagramLaws::front_before, crate::proofs::DatagramLaws::length_front, crate::proofs::DatagramLaws::length_wrapped))]
 pub fn wrap(to: Peer, expect: bool, apdu: &[u8], frame: &mut Frame) -> Result<(), Full>
     ensures ok { OnOk result (frame.new ≡ wrapped (station to).route expect apdu.now) }
     ensures whole { OnOk result (Takes (station to).route expect apdu.now frame.new) }
+    ensures size { OnOk result (length frame.new ≡ front_count (station to).route + length apdu.now) }
+    ensures fits { OnOk result (front_count (station to).route + length apdu.now ≤ FRAME_OCTETS) }
+    ensures cause { OnErr result (FRAME_OCTETS < front_count (station to).route + length apdu.now) }
     ensures full { OnErr result (FRAME_OCTETS < length (wrapped (station to).route expect apdu.now)) }
     ensures room { OnErr result (1480 < length apdu.now) }
     ensures err { OnErr result (frame.new ≡ frame.old) }
 {
+    let front = front_of(to, expect, apdu.len())?;
+    frame.clear();
+    frame.append(front.as_slice())?;
+    frame.append(apdu)
+}
+
+/// The same for the APDU that the octets of the frame are. It is copied within the frame alone.
+#[tactic(auto, using(crate::proofs::DatagramLaws::front_before, crate::proofs::DatagramLaws::length_front, crate::proofs::DatagramLaws::length_wrapped))]
+pub fn wrap_within(to: Peer, expect: bool, frame: &mut Frame) -> Result<(), Full>
+    ensures ok { OnOk result (frame.new ≡ wrapped (station to).route expect frame.old) }
+    ensures whole { OnOk result (Takes (station to).route expect frame.old frame.new) }
+    ensures size { OnOk result (length frame.new ≡ front_count (station to).route + length frame.old) }
+    ensures fits { OnOk result (front_count (station to).route + length frame.old ≤ FRAME_OCTETS) }
+    ensures cause { OnErr result (FRAME_OCTETS < front_count (station to).route + length frame.old) }
+    ensures full { OnErr result (FRAME_OCTETS < length (wrapped (station to).route expect frame.old)) }
+    ensures room { OnErr result (1480 < length frame.old) }
+    ensures err { OnErr result (frame.new ≡ frame.old) }
+{
+    let front = front_of(to, expect, frame.len())?;
+    frame.prepend(front.as_slice())
+}
+
+/// What stands before an APDU of this size: the link header and the network header. `Full` where no frame has room for
+/// these and the APDU.
+#[tactic(auto, unfolding(crate::specs::Datagram::front_octets))]
+fn front_of(to: Peer, expect: bool, size: usize) -> Result<ArrayVec<u8, FRONT_OCTETS>, Full>
+    requires { size < 2 ^ 63 }
+    ensures ok { IfOk result (λ front. front.items ≡ front_octets (station to).route expect size) }
+    ensures fits { OnOk result (length (front_octets (station to).route expect size) + size ≤ FRAME_OCTETS) }
+    ensures full { OnErr result (FRAME_OCTETS < length (front_octets (station to).route expect size) + size) }
+    ensures short { length (front_octets (station to).route expect size) ≤ FRONT_OCTETS }
+    ensures routable { IfSome (station to).route IsRoutable }
+{
     let header = network_header(to.route, expect);
-    let length = 4 + header.len() + apdu.len();
+    let length = 4 + header.len() + size;
     if FRAME_OCTETS < length {
         return Err(Full);
     }
     let mut count = [0; 2];
     BigEndian::write_u16(&mut count, length as u16);
-    frame.clear();
-    frame.append(&[BACNET_IP, UNICAST])?;
-    frame.append(&count)?;
-    frame.append(header.as_slice())?;
-    frame.append(apdu)
+    let mut front = ArrayVec::new();
+    front.push(BACNET_IP);
+    front.push(UNICAST);
+    let _ = front.try_extend_from_slice(&count);
+    let _ = front.try_extend_from_slice(header.as_slice());
+    Ok(front)
 }

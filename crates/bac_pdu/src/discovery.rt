@@ -1,9 +1,9 @@
-ghost use Rattle.std.specs.Prelude.{◌≡◌, ◌<◌, ◌+◌, ◌++◌, length, OnOk, OnErr};
+ghost use Rattle.std.specs.Prelude.{◌≡◌, ◌<◌, ◌≤◌, ◌+◌, ◌++◌, length, take, Some, OnOk, OnErr};
 ghost use Rattle.std.specs.Option.{option_map};
 ghost use Rattle.bac_wire.specs.Front.{IsShortest};
 ghost use Rattle.bac_wire.specs.Identifier.{identifier};
 ghost use Rattle.bac_pdu.specs.Datagram.{IsFound};
-ghost use Rattle.bac_pdu.specs.Discovery.{introduction, IsWhoIsBody, IsIAmBody, who_is_octets, i_am_octets};
+ghost use Rattle.bac_pdu.specs.Discovery.{HasLimits, introduction, IsWhoIsBody, IsIAmBody, who_is_octets, i_am_octets};
 ghost use Rattle.bac_pdu.specs.ValueReading.{who_is_of, introduction_of};
 
 use crate::parameter::{append_number, number_and_rest};
@@ -82,16 +82,36 @@ pub fn read_iam(body: &[u8]) -> Option<IAm>
 /// no room for it.
 pub fn write_whois(frame: &mut Frame, who: &WhoIs) -> Result<(), Full>
     ensures ok { OnOk result (frame.new ≡ frame.old ++ who_is_octets who.now) }
+    ensures fits { OnOk result (length frame.old + length (who_is_octets who.now) ≤ FRAME_OCTETS) }
     ensures shortest { OnOk result (IsShortest IsWhoIsBody (who_is_octets who.now) who.now) }
+    ensures read_back { OnOk result (who_is_of (who_is_octets who.now) ≡ Some who.now) }
     ensures full { OnErr result (FRAME_OCTETS < length frame.old + length (who_is_octets who.now)) }
     ensures err { OnErr result (frame.new ≡ frame.old) }
 {
-    let mut body = Frame::new();
-    if let WhoIs::Range { low, high } = who {
-        append_number(&mut body, LOW_LIMIT, *low)?;
-        append_number(&mut body, HIGH_LIMIT, *high)?;
+    let start = frame.len();
+    let appended = append_limits(frame, who);
+    if appended.is_err() {
+        frame.truncate(start);
     }
-    frame.append(body.as_slice())
+    appended
+}
+
+/// Appends the same, or a front of it.
+fn append_limits(frame: &mut Frame, who: &WhoIs) -> Result<(), Full>
+    ensures ok { OnOk result (frame.new ≡ frame.old ++ who_is_octets who.now) }
+    ensures fits { OnOk result (length frame.new ≤ FRAME_OCTETS) }
+    ensures full { OnErr result (FRAME_OCTETS < length frame.old + length (who_is_octets who.now)) }
+    ensures known { OnOk result (HasLimits who.now) }
+    ensures long { length frame.old ≤ length frame.new }
+    ensures front { take (length frame.old) frame.new ≡ frame.old }
+{
+    match who {
+        WhoIs::All => frame.append(&[]),
+        WhoIs::Range { low, high } => {
+            append_number(frame, LOW_LIMIT, *low)?;
+            append_number(frame, HIGH_LIMIT, *high)
+        }
+    }
 }
 
 /// Appends the body of an I-Am, each number in its fewest octets. `Full`, with the frame unchanged, only where there is
@@ -99,16 +119,38 @@ pub fn write_whois(frame: &mut Frame, who: &WhoIs) -> Result<(), Full>
 pub fn write_iam(frame: &mut Frame, i_am: &IAm) -> Result<(), Full>
     requires { (identifier i_am.now.device).kind ≡ 8 }
     ensures ok { OnOk result (frame.new ≡ frame.old ++ i_am_octets (introduction i_am.now)) }
+    ensures fits { OnOk result
+        (length frame.old + length (i_am_octets (introduction i_am.now)) ≤ FRAME_OCTETS) }
     ensures shortest { OnOk result
         (IsShortest IsIAmBody (i_am_octets (introduction i_am.now)) (introduction i_am.now)) }
+    ensures read_back { OnOk result
+        (introduction_of (i_am_octets (introduction i_am.now)) ≡ Some (introduction i_am.now)) }
     ensures full { OnErr result
         (FRAME_OCTETS < length frame.old + length (i_am_octets (introduction i_am.now))) }
     ensures err { OnErr result (frame.new ≡ frame.old) }
 {
-    let mut body = Frame::new();
-    write_value(&mut body, &Value::Object(i_am.device))?;
-    write_value(&mut body, &Value::Unsigned(i_am.max_apdu))?;
-    write_value(&mut body, &Value::Enumerated(i_am.segmentation))?;
-    write_value(&mut body, &Value::Unsigned(i_am.vendor))?;
-    frame.append(body.as_slice())
+    let start = frame.len();
+    let appended = append_introduction(frame, i_am);
+    if appended.is_err() {
+        frame.truncate(start);
+    }
+    appended
+}
+
+/// Appends the same, or a front of it.
+fn append_introduction(frame: &mut Frame, i_am: &IAm) -> Result<(), Full>
+    requires { (identifier i_am.now.device).kind ≡ 8 }
+    ensures ok { OnOk result (frame.new ≡ frame.old ++ i_am_octets (introduction i_am.now)) }
+    ensures shortest { OnOk result
+        (IsShortest IsIAmBody (i_am_octets (introduction i_am.now)) (introduction i_am.now)) }
+    ensures fits { OnOk result (length frame.new ≤ FRAME_OCTETS) }
+    ensures full { OnErr result
+        (FRAME_OCTETS < length frame.old + length (i_am_octets (introduction i_am.now))) }
+    ensures long { length frame.old ≤ length frame.new }
+    ensures front { take (length frame.old) frame.new ≡ frame.old }
+{
+    write_value(frame, &Value::Object(i_am.device))?;
+    write_value(frame, &Value::Unsigned(i_am.max_apdu))?;
+    write_value(frame, &Value::Enumerated(i_am.segmentation))?;
+    write_value(frame, &Value::Unsigned(i_am.vendor))
 }

@@ -1,4 +1,4 @@
-ghost use Rattle.std.specs.Prelude.{◌≡◌, ◌<◌, ◌+◌, ◌++◌, length, OnOk, OnErr};
+ghost use Rattle.std.specs.Prelude.{◌≡◌, ◌<◌, ◌≤◌, ◌+◌, ℕ, List, ◌++◌, length, Some, OnOk, OnErr};
 ghost use Rattle.bac_wire.specs.Front.{IsShortest};
 ghost use Rattle.bac_pdu.specs.Datagram.{IsFound};
 ghost use Rattle.bac_pdu.specs.Failure.{IsErrorBody, error_octets};
@@ -22,12 +22,17 @@ pub fn read_error(body: &[u8]) -> Option<(u32, u32)>
 /// is no room for it.
 pub fn write_error(frame: &mut Frame, class: u32, code: u32) -> Result<(), Full>
     ensures ok { OnOk result (frame.new ≡ frame.old ++ error_octets class code) }
+    ensures fits { OnOk result (length frame.old + length (error_octets class code) ≤ FRAME_OCTETS) }
     ensures shortest { OnOk result (IsShortest IsErrorBody (error_octets class code) (class, code)) }
+    ensures read_back { OnOk result ((rest : List ℕ) → error_of (error_octets class code ++ rest) ≡ Some (class, code)) }
     ensures full { OnErr result (FRAME_OCTETS < length frame.old + length (error_octets class code)) }
     ensures err { OnErr result (frame.new ≡ frame.old) }
 {
-    let mut body = Frame::new();
-    write_value(&mut body, &Value::Enumerated(class))?;
-    write_value(&mut body, &Value::Enumerated(code))?;
-    frame.append(body.as_slice())
+    let start = frame.len();
+    write_value(frame, &Value::Enumerated(class))?;
+    let appended = write_value(frame, &Value::Enumerated(code));
+    if appended.is_err() {
+        frame.truncate(start);
+    }
+    appended
 }

@@ -41,7 +41,7 @@ const DESTINED: u8 = 0x20;
 const HOPS: u8 = 255;
 
 /// The octets of a header that is written, at most.
-const HEADER_OCTETS: usize = 13;
+pub(crate) const HEADER_OCTETS: usize = 13;
 
 /// The network header at the front, and the APDU behind it. None where it is cut, of another version, or a message of the
 /// network layer.

@@ -7,12 +7,12 @@ ghost use Rattle.bac_pdu.specs.declared.discovery.WhoIs.{WhoIs as AnyWhoIs};
 ghost use Rattle.bac_pdu.specs.declared.discovery.WhoIs.TheVariants.{Range};
 ghost use Rattle.bac_pdu.specs.declared.reject.RejectReason.{RejectReason as AnyReason};
 ghost use Rattle.bac_pdu.specs.Peer.{Station, NetworkAddress, IsRoutable};
-ghost use Rattle.bac_pdu.specs.Datagram.{Delivery, Carries, Takes, wrapped};
+ghost use Rattle.bac_pdu.specs.Datagram.{Delivery, Carries, IsSingle, Takes, front_count, wrapped};
 ghost use Rattle.bac_pdu.specs.DatagramReading.{carried};
 ghost use Rattle.bac_pdu.specs.Apdu.{Message, IsLaidOut, IsWritable, laid_out};
 ghost use Rattle.bac_pdu.specs.ApduReading.{apdu_of};
 ghost use Rattle.bac_pdu.specs.Parameter.{IsParameter};
-ghost use Rattle.bac_pdu.specs.Property.{Reference, Answer, Order, reference_parameters, order_parameters, answer_parameters, IsPriority, IsReadBody, IsWriteBody, IsAckBody, read_octets, write_octets, ack_octets};
+ghost use Rattle.bac_pdu.specs.Property.{Reference, Answer, Order, reference_parameters, order_parameters, answer_parameters, IsPriority, IsReadBody, IsWriteBody, IsAckBody, read_octets, write_octets, ack_octets, ack_front, ack_end};
 ghost use Rattle.bac_pdu.specs.Reject.{IsOutcome, ReadFault, WriteFault};
 ghost use Rattle.bac_pdu.specs.PropertyReading.{read_of, write_of, ack_of};
 ghost use Rattle.bac_pdu.specs.Discovery.{Introduction, introduction_values, IsWhoIsBody, IsIAmBody, who_is_octets, i_am_octets};
@@ -89,6 +89,32 @@ pub fn error_in_words()
     ensures { (body : List ℕ) (x : ℕ × ℕ) → (error_of body ≡ Some x) ↔ IsErrorBody body x }
 {}
 
+/// A datagram carries one thing at most.
+pub fn one_delivery()
+    ensures { (from : Station) → IsSingle (Carries from) }
+{}
+
+/// Octets lay out one APDU at most.
+pub fn one_apdu()
+    ensures { IsSingle IsLaidOut }
+{}
+
+/// A body of each kind is one record at most.
+pub fn one_record()
+    ensures read { IsSingle IsReadBody }
+    ensures write { IsSingle IsWriteBody }
+    ensures ack { IsSingle IsAckBody }
+    ensures who_is { IsSingle IsWhoIsBody }
+    ensures i_am { IsSingle IsIAmBody }
+    ensures error { IsSingle IsErrorBody }
+{}
+
+/// What is written to take an APDU to a station has six octets more, or ten and its address behind a router.
+pub fn wrapped_length()
+    ensures { (to : Option NetworkAddress) (expect : Bool) (apdu : List ℕ)
+        → length (wrapped to expect apdu) ≡ front_count to + length apdu }
+{}
+
 /// What is written of a request to read is read back.
 pub fn read_comes_back()
     ensures { (r : Reference) → AllByRecursion IsParameter (reference_parameters r)
@@ -105,6 +131,11 @@ pub fn write_comes_back()
 pub fn ack_comes_back()
     ensures { (a : Answer) → AllByRecursion IsParameter (answer_parameters a)
         → ack_of (ack_octets a) ≡ Some a }
+{}
+
+/// What `begin_ack` appends, the value, and what `end_ack` appends are what `write_ack` appends.
+pub fn ack_in_parts()
+    ensures { (a : Answer) → ack_octets a ≡ (ack_front a.reference ++ a.value) ++ ack_end }
 {}
 
 /// What is written of two limits is read back.

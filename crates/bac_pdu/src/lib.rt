@@ -13,18 +13,18 @@ mod peer;
 mod property;
 mod reject;
 mod route;
-#[cfg(test)]
-mod tests;
+mod service;
 mod value;
 
 pub use apdu::{Apdu, Part, announced, read_apdu, write_apdu};
-pub use datagram::{Carried, open_datagram, wrap};
+pub use datagram::{Carried, open_datagram, wrap, wrap_within};
 pub use discovery::{IAm, WhoIs, read_iam, read_whois, write_iam, write_whois};
 pub use failure::{read_error, write_error};
 pub use peer::Peer;
 pub use property::{
-    Ack, ReadRequest, WriteRequest, read_ack, read_read, read_write, write_ack, write_read,
-    write_write,
+    Ack, ReadRequest, WriteRequest, begin_ack, end_ack, read_ack, read_read, read_write, write_ack,
+    write_read, write_write,
 };
 pub use reject::RejectReason;
 pub use route::{ADDRESS_OCTETS, Route};
+pub use service::{I_AM, READ_PROPERTY, WHO_IS, WRITE_PROPERTY};

@@ -1,14 +1,16 @@
-ghost use Rattle.std.specs.Prelude.{◌≡◌, ◌<◌, ◌≤◌, ◌^◌, ◌+◌, ◌++◌, length, OnOk, OnErr};
+ghost use Rattle.std.specs.Prelude.{◌≡◌, ◌<◌, ◌≤◌, ◌^◌, ◌+◌, ◌++◌, length, take, OnOk, OnErr};
 ghost use Rattle.std.specs.Option.{option_map};
 ghost use Rattle.bac_wire.specs.Identifier.{IsIdentifier, identifier};
-ghost use Rattle.bac_wire.specs.TagReading.{tag_at};
-ghost use Rattle.bac_wire.specs.Datum.{octet_count as count_octets};
+ghost use Rattle.bac_wire.specs.Tag.{plain_tag};
+ghost use Rattle.bac_wire.specs.Region.{opening_tag, closing_tag};
 ghost use Rattle.bac_wire.specs.ItemReading.{behind_closing, region_at};
 ghost use Rattle.bac_wire.specs.Parameter.{context_octets, number_octets, object_octets, enclosed_octets};
 ghost use Rattle.bac_wire.specs.ParameterReading.{context_at, number_of_contents, number_at, object_at, behind_opening, enclosed_at};
 ghost use Rattle.bac_pdu.specs.PropertyReading.{optional_at};
 
-use bac_wire::{FRAME_OCTETS, Frame, Full, ObjectId, Shape, Tag, read_tag, region, write_tag};
+use bac_wire::{
+    FRAME_OCTETS, Frame, Full, ObjectId, Shape, Tag, octet_count, region, tag_and_rest, write_tag,
+};
 use byteorder::{BigEndian, ByteOrder};
 
 // The numbers of the parameters of ReadProperty and WriteProperty.
@@ -21,14 +23,6 @@ pub(crate) const INDEX: u8 = 2;
 pub(crate) const VALUE: u8 = 3;
 
 pub(crate) const PRIORITY: u8 = 4;
-
-/// The tag at the front, and the octets behind it.
-fn tag_and_rest(octets: &[u8]) -> Option<(Tag, &[u8])>
-    ensures { option_map (λ x. (x.0, x.1.now)) result ≡ tag_at octets.now }
-{
-    let (tag, size) = read_tag(octets)?;
-    Some((tag, &octets[size..]))
-}
 
 /// The contents under a context tag of this number.
 #[tactic(auto, unfolding(bac_wire::specs::ParameterReading::context_at))]
@@ -123,53 +117,65 @@ fn rest_behind_closing(octets: &[u8]) -> Option<&[u8]>
     }
 }
 
-/// Appends a context tag and the contents that it counts.
+/// Appends a context tag and the contents that it counts, or nothing.
 fn append_context(body: &mut Frame, number: u8, contents: &[u8]) -> Result<(), Full>
     requires number { number < 255 }
     requires short { length contents.now ≤ 8 }
     ensures ok { OnOk result (body.new ≡ body.old ++ context_octets number contents.now) }
+    ensures fits { OnOk result (length body.new ≤ FRAME_OCTETS) }
     ensures full { OnErr result
         (FRAME_OCTETS < length body.old + length (context_octets number contents.now)) }
+    ensures err { OnErr result (body.new ≡ body.old) }
 {
+    let start = body.len();
     let shape = Shape::Context(contents.len() as u32);
     write_tag(body, Tag { number, shape })?;
-    body.append(contents)
+    let appended = body.append(contents);
+    if appended.is_err() {
+        body.truncate(start);
+    }
+    appended
 }
 
-/// Appends a number in its fewest octets.
+/// Appends a number in its fewest octets, or nothing.
 pub(crate) fn append_number(body: &mut Frame, number: u8, n: u32) -> Result<(), Full>
-    requires { number < 255 }
+    requires { number < 15 }
     ensures ok { OnOk result (body.new ≡ body.old ++ number_octets number n) }
+    ensures fits { OnOk result (length body.new ≤ FRAME_OCTETS) }
     ensures full { OnErr result (FRAME_OCTETS < length body.old + length (number_octets number n)) }
+    ensures err { OnErr result (body.new ≡ body.old) }
     ensures known { n < 2 ^ 32 }
 {
+    if n < 256 {
+        return append_octet(body, number, n as u8);
+    }
     let mut contents = [0; 8];
+    let n = u64::from(n);
     let count = octet_count(n);
-    BigEndian::write_uint(&mut contents, u64::from(n), count);
+    BigEndian::write_uint(&mut contents, n, count);
     append_context(body, number, &contents[..count])
 }
 
-/// The fewest octets that hold the number, at least one.
-fn octet_count(n: u32) -> usize
-    ensures value { result ≡ count_octets n }
-    ensures low { 1 ≤ result }
-    ensures high { result ≤ 4 }
-    ensures fits { n < 256 ^ result }
+/// Appends a number in one octet behind a tag of one octet, or nothing.
+#[tactic(auto, using(crate::proofs::ShortTags::one_number))]
+fn append_octet(body: &mut Frame, number: u8, n: u8) -> Result<(), Full>
+    requires { number < 15 }
+    ensures ok { OnOk result (body.new ≡ body.old ++ number_octets number n) }
+    ensures fits { OnOk result (length body.new ≤ FRAME_OCTETS) }
+    ensures full { OnErr result (FRAME_OCTETS < length body.old + length (number_octets number n)) }
+    ensures err { OnErr result (body.new ≡ body.old) }
 {
-    match n {
-        0..0x100 => 1,
-        0x100..0x1_0000 => 2,
-        0x1_0000..0x100_0000 => 3,
-        _ => 4,
-    }
+    body.append(&[16 * number + 9, n])
 }
 
-/// Appends an object's identifier.
+/// Appends an object's identifier, or nothing.
 pub(crate) fn append_object(body: &mut Frame, number: u8, id: ObjectId) -> Result<(), Full>
-    requires { number < 255 }
+    requires { number < 15 }
     ensures ok { OnOk result (body.new ≡ body.old ++ object_octets number (identifier id)) }
+    ensures fits { OnOk result (length body.new ≤ FRAME_OCTETS) }
     ensures full { OnErr result
         (FRAME_OCTETS < length body.old + length (object_octets number (identifier id))) }
+    ensures err { OnErr result (body.new ≡ body.old) }
     ensures known { IsIdentifier (identifier id) }
 {
     let mut contents = [0; 4];
@@ -177,28 +183,58 @@ pub(crate) fn append_object(body: &mut Frame, number: u8, id: ObjectId) -> Resul
         &mut contents,
         u32::from(id.kind()) * (1 << 22) + id.instance(),
     );
-    append_context(body, number, &contents)
+    append_four(body, number, &contents)
 }
 
-/// Appends whole items between an opening and a closing tag of this number.
-pub(crate) fn append_enclosed(body: &mut Frame, number: u8, items: &[u8]) -> Result<(), Full>
-    requires { number < 255 }
-    ensures ok { OnOk result (body.new ≡ body.old ++ enclosed_octets number items.now) }
-    ensures full { OnErr result (FRAME_OCTETS < length body.old + length (enclosed_octets number items.now)) }
+/// Appends a tag of one octet, and the four octets that it counts, or nothing.
+fn append_four(body: &mut Frame, number: u8, contents: &[u8]) -> Result<(), Full>
+    requires number { number < 15 }
+    requires four { length contents.now ≡ 4 }
+    ensures ok { OnOk result (body.new ≡ body.old ++ context_octets number contents.now) }
+    ensures fits { OnOk result (length body.new ≤ FRAME_OCTETS) }
+    ensures full { OnErr result
+        (FRAME_OCTETS < length body.old + length (context_octets number contents.now)) }
+    ensures err { OnErr result (body.new ≡ body.old) }
 {
-    write_tag(
-        body,
-        Tag {
-            number,
-            shape: Shape::Opening,
-        },
-    )?;
+    let mut octets = [16 * number + 12, 0, 0, 0, 0];
+    octets[1..].copy_from_slice(contents);
+    body.append(&octets)
+}
+
+/// Appends whole items between an opening and a closing tag of this number, or a front of that.
+pub(crate) fn append_enclosed(body: &mut Frame, number: u8, items: &[u8]) -> Result<(), Full>
+    requires { number < 15 }
+    ensures ok { OnOk result (body.new ≡ body.old ++ enclosed_octets number items.now) }
+    ensures fits { OnOk result (length body.new ≤ FRAME_OCTETS) }
+    ensures full { OnErr result (FRAME_OCTETS < length body.old + length (enclosed_octets number items.now)) }
+    ensures long { length body.old ≤ length body.new }
+    ensures front { take (length body.old) body.new ≡ body.old }
+{
+    append_opening(body, number)?;
     body.append(items)?;
-    write_tag(
-        body,
-        Tag {
-            number,
-            shape: Shape::Closing,
-        },
-    )
+    append_closing(body, number)
+}
+
+/// Appends an opening tag of one octet, or nothing.
+#[tactic(auto, using(crate::proofs::ShortTags::opening_octet))]
+pub(crate) fn append_opening(body: &mut Frame, number: u8) -> Result<(), Full>
+    requires { number < 15 }
+    ensures ok { OnOk result (body.new ≡ body.old ++ plain_tag (opening_tag number)) }
+    ensures fits { OnOk result (length body.new ≤ FRAME_OCTETS) }
+    ensures full { OnErr result (FRAME_OCTETS < length body.old + length (plain_tag (opening_tag number))) }
+    ensures err { OnErr result (body.new ≡ body.old) }
+{
+    body.append(&[16 * number + 14])
+}
+
+/// Appends a closing tag of one octet, or nothing.
+#[tactic(auto, using(crate::proofs::ShortTags::closing_octet))]
+pub(crate) fn append_closing(body: &mut Frame, number: u8) -> Result<(), Full>
+    requires { number < 15 }
+    ensures ok { OnOk result (body.new ≡ body.old ++ plain_tag (closing_tag number)) }
+    ensures fits { OnOk result (length body.new ≤ FRAME_OCTETS) }
+    ensures full { OnErr result (FRAME_OCTETS < length body.old + length (plain_tag (closing_tag number))) }
+    ensures err { OnErr result (body.new ≡ body.old) }
+{
+    body.append(&[16 * number + 15])
 }

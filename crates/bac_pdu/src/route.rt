@@ -1,21 +1,23 @@
-ghost use Rattle.std.specs.Prelude.{◌≡◌, ◌<◌, ◌≤◌, ◌↔◌, ℕ, slice_index, IsSome, IfSome};
+ghost use Rattle.std.specs.Prelude.{◌≡◌, ◌<◌, ◌≤◌, ◌↔◌, IsSome, IfSome};
 
 /// The octets that the address of a routed station has at most.
 pub const ADDRESS_OCTETS: usize = 7;
 
+/// The octets that are kept for an address: a word, which is copied as one.
+const ROOM: usize = ADDRESS_OCTETS + 1;
+
 /// The way from a router to a station of another network: the number of the network, and the station's address in it (clause 6.2.2).
 ///
-/// Two routes are equal where they have the same network and the same octets of address.
+/// Whether two peers have the same route, and are the same station, says [`Peer::is_same`](crate::Peer::is_same).
 #[derive(Clone, Copy, Debug, PartialEq, Eq)]
 pub struct Route {
     network: u16,
     count: u8,
-    octets: [u8; ADDRESS_OCTETS],
+    octets: [u8; ROOM],
     ghost local: { 0 < network },
     ghost global: { network < 65535 },
     ghost shortest: { 1 ≤ count },
     ghost longest: { count ≤ 7 },
-    ghost unused: { (i : ℕ) → count ≤ i → slice_index octets i ≡ 0 },
 }
 
 impl Route {
@@ -35,7 +37,7 @@ impl Route {
         {
             return None;
         }
-        let mut octets = [0; ADDRESS_OCTETS];
+        let mut octets = [0; ROOM];
         octets[..address.len()].copy_from_slice(address);
         Some(Route {
             network,

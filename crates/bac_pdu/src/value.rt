@@ -1,19 +1,9 @@
 ghost use Rattle.std.specs.Prelude.{◌≡◌};
 ghost use Rattle.std.specs.Option.{option_map};
 ghost use Rattle.bac_wire.specs.Identifier.{identifier};
-ghost use Rattle.bac_wire.specs.Datum.{datum};
-ghost use Rattle.bac_wire.specs.DatumReading.{value_at};
 ghost use Rattle.bac_wire.specs.ParameterReading.{kind_at, unsigned_in as only_unsigned, enumerated_in as only_enumerated, object_in as only_object};
 
-use bac_wire::{ObjectId, Value, read_value};
-
-/// The value at the front, and the octets behind it.
-fn value_and_rest(octets: &[u8]) -> Option<(Value<'_>, &[u8])>
-    ensures { option_map (λ x. (datum x.0, x.1.now)) result ≡ value_at octets.now }
-{
-    let (value, size) = read_value(octets)?;
-    Some((value, &octets[size..]))
-}
+use bac_wire::{ObjectId, Value, value_and_rest};
 
 /// The Enumerated at the front, and the octets behind it.
 #[tactic(auto, unfolding(bac_wire::specs::ParameterReading::kind_at))]

@@ -1,26 +1,12 @@
-//! The tools over a client and a device: scripts, and what they print.
+//! The tools: the words that ask for them, the links and loops of `bacrp`, `bacwp`, `bacwi` and `bacdev`, and the script of `bactrace`.
+//!
+//! Here is every name that a program needs. What each does is said, and proved, where it stands.
 #![tactic(auto)]
 
-mod checked;
-mod hex_digits;
-mod input;
-pub mod laws;
-mod line;
-mod notes;
-mod numbers;
-mod page;
-mod pairs;
-mod peers;
-mod running;
-#[cfg(test)]
-mod tests;
-mod tracing;
-mod value_words;
-mod values;
-mod words;
-
-pub use checked::Checked;
-pub use notes::show_outcome;
-pub use peers::read_peer;
-pub use tracing::{TraceEnd, TraceFault, trace, trace_status};
-pub use values::show_value;
+pub use bac_links::{
+    DATAGRAM_OCTETS, Datagram, Exit, Link, LinkFault, MemoryLink, Refused, Step, ToolFault,
+    UdpLink, run_read, run_whois, run_write, serve, status,
+};
+pub use bac_script::{TraceEnd, TraceFault, show_outcome, show_value, trace, trace_status};
+pub use bac_text::{Call, Checked, Search, read_peer};
+pub use bac_words::{Job, Serve, UsageFault, parse_words, usage_status};

@@ -1,21 +1,31 @@
-pub mod AnswersByNumber
+mod AnswersByNumber
 mod AnswersInWords
+mod ByKey
 mod CallNotes
+mod ClientSeen
 mod DatagramStep
 mod FirstAfter
+mod Followed
 mod FreeNumber
+mod Held
+mod InTurn
+pub mod Laws
 mod LookaheadSteps
 mod LookingBack
 mod NumberCycle
-pub mod NumberReuse
+mod NumberReuse
 mod OpenRequests
+mod Orderly
 mod Placed
 mod RequestLife
 mod RequestRoom
-mod Retained
 mod Runs
 mod SameStation
+mod SortedByKey
+mod SubmitStep
+mod TableEdits
+mod TableReads
 mod TickStep
 mod Turns
 mod Watches
-pub mod WholeRun
+mod WholeRun

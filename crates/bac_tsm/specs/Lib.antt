@@ -1,4 +1,7 @@
 pub mod Events
+pub mod Positions
+pub mod Accepting
+pub mod Requests
 pub mod Lookahead
 pub mod Machine
 pub mod Laws
@@ -7,4 +10,7 @@ pub mod AnswersInWords
 pub mod Client
 pub mod Seen
 pub mod Watching
+pub mod Rule
 pub mod Examples
+pub mod ByKey
+pub mod Table

@@ -1,23 +1,19 @@
 //! The client.
 
-ghost use Rattle.std.specs.Prelude.{◌≡◌, ◌<◌, ◌≤◌, IfNone, length, map, nat_eq, position, remove, slice_get};
-ghost use Rattle.std.specs.List.{flat_map, list_any};
+ghost use Rattle.std.specs.Prelude.{◌≡◌, ◌<◌, ◌≤◌, IfNone, length};
 ghost use Rattle.std.specs.Option.{option_map, option_copied};
-ghost use Rattle.bac_tsm.specs.Lookahead.{next_number, refusal_of};
-ghost use Rattle.bac_tsm.specs.Machine.{submit, datagram, tick, to_send, number_of, open_under, initial, due_answer, kept};
+ghost use Rattle.bac_tsm.specs.Lookahead.{refusal_of};
+ghost use Rattle.bac_tsm.specs.Machine.{submit, datagram, tick, to_send, number_of, open_under, initial};
 ghost use Rattle.bac_pdu.specs.Peer.{station};
-ghost use Rattle.bac_tsm.specs.Answers.{is_answer_to};
-ghost use Rattle.bac_tsm.specs.Seen.{answer_seen};
-ghost use Rattle.bac_tsm.specs.Client.{client_rules, rules_of, keeping, end_seen, send_seen};
+ghost use Rattle.bac_tsm.specs.Client.{rules_of, keeping, end_seen, send_seen};
 
-use crate::answer::{Answer, read_answer};
+use crate::answer::read_answer;
 use crate::config::Config;
-use crate::datagram::write_request;
 use crate::due::Due;
 use crate::limits::{LONGEST_BODY, PLACES};
 use crate::outcome::Ended;
-use crate::request::OpenRequest;
-use arrayvec::ArrayVec;
+use crate::request::{Asked, OpenRequest};
+use crate::table::Table;
 use bac_pdu::Peer;
 use std::marker::Model;
 
@@ -32,7 +28,7 @@ pub enum SubmitFault {
     TicketsSpent,
 }
 
-/// A client: its settings, its clock, and the requests that are open, in the order of their tickets.
+/// A client: its settings, its clock, and the requests that are open.
 ///
 /// It has a fixed size, takes no memory, and sends nothing itself: after a [`Client::submit`] that answers a ticket, and
 /// at each [`Entry::Resend`] of a tick, the caller sends what [`Client::to_send`] lends.
@@ -42,11 +38,13 @@ pub struct Client {
     clock: u64,
     last_number: u8,
     next_ticket: u64,
-    requests: ArrayVec<OpenRequest, PLACES>,
+    table: Table,
 }
 
 impl Model for Client {
     ghost use Rattle.bac_tsm.specs.Client.{Client as Held};
+    ghost use Rattle.bac_tsm.specs.ByKey.{by_key};
+    ghost use Rattle.bac_tsm.specs.Table.{ticket_in, IsOrderly};
 
     ghost Value = { Held };
 
@@ -57,9 +55,11 @@ impl Model for Client {
         clock = c.clock;
         last_number = c.last_number;
         next_ticket = c.next_ticket;
-        waiting = c.requests.items;
+        waiting = by_key ticket_in c.next_ticket c.table;
       };
     } };
+
+    ghost invariant = { λ c. IsOrderly c.clock c.next_ticket c.table };
 }
 
 impl Client {
@@ -76,7 +76,7 @@ impl Client {
             clock: 0,
             last_number: 0,
             next_ticket: first_ticket,
-            requests: ArrayVec::new(),
+            table: Table::new(),
         }
     }
 
@@ -94,16 +94,15 @@ impl Client {
             return Err(fault);
         }
         let ticket = self.next_ticket;
-        let number = free_number(self.last_number, &self.requests);
-        self.requests.push(OpenRequest {
+        let number = self.table.free_number(self.last_number);
+        let asked = Asked {
             ticket,
             peer,
             service,
             number,
-            base: self.clock,
-            count: 0,
-            datagram: write_request(peer, service, body, number),
-        });
+            clock: self.clock,
+        };
+        self.table.open(asked, body);
         self.last_number = number;
         self.next_ticket = ticket + 1;
         Ok(ticket)
@@ -115,8 +114,7 @@ impl Client {
             (option_map end_seen result ≡ step.answer) × (self.new ≡ keeping self.old step.after) }
     {
         let answer = read_answer(peer, bytes)?;
-        let place = answered_place(&self.requests, &answer)?;
-        let ticket = close(&mut self.requests, place);
+        let ticket = self.table.close(&answer)?;
         Some(Ended {
             ticket,
             outcome: answer.outcome,
@@ -131,11 +129,12 @@ impl Client {
     {
         let clock = now.max(self.clock);
         self.clock = clock;
-        let due = due_entries(&self.requests, clock, self.config);
-        if !due.entries.is_empty() {
-            go_on(&mut self.requests, clock, self.config);
+        let due = self.table.due_front(clock, self.config);
+        if due.is_empty() {
+            return due;
         }
-        due
+        self.table.go_on(due.len(), clock, self.config);
+        due.sorted()
     }
 
     /// Where the request with this ticket goes, and its datagram. None where no open request has the ticket.
@@ -151,7 +150,7 @@ impl Client {
         ensures count { result ≡ length self.now.state.waiting }
         ensures few { result ≤ PLACES }
     {
-        self.requests.len()
+        self.table.len()
     }
 
     /// The invoke id of the request with this ticket. None where no open request has the ticket.
@@ -179,7 +178,7 @@ impl Client {
     {
         if body.len() > LONGEST_BODY {
             Some(SubmitFault::TooLong)
-        } else if self.requests.is_full() {
+        } else if self.open_count() == PLACES {
             Some(SubmitFault::TableFull)
         } else if self.next_ticket == u64::MAX {
             Some(SubmitFault::TicketsSpent)
@@ -191,68 +190,6 @@ impl Client {
     fn find(&self, ticket: u64) -> Option<&OpenRequest>
         ensures { option_copied result ≡ open_under self.now.state ticket }
     {
-        self.requests
-            .iter()
-            .find(|request| request.has_ticket(ticket))
+        self.table.find(ticket)
     }
-}
-
-// The first number of the cycle after the last one that no open request has.
-fn free_number(last: u8, requests: &[OpenRequest]) -> u8
-    ensures { result ≡ next_number last (map (λ w. w.request.number) requests.now) }
-{
-    for step in 1..=u8::MAX {
-        let number = last.wrapping_add(step);
-        if !is_taken(number, requests) {
-            return number;
-        }
-    }
-    last
-}
-
-fn is_taken(number: u8, requests: &[OpenRequest]) -> bool
-    ensures { result ≡ list_any (λ w. nat_eq number w.request.number) requests.now }
-{
-    requests.iter().any(|request| request.has_number(number))
-}
-
-// The first request that the answer is to.
-fn answered_place(requests: &[OpenRequest], answer: &Answer<'_>) -> Option<usize>
-    ensures { result ≡ position (λ w. is_answer_to w.request (answer_seen answer.now)) requests.now }
-{
-    requests
-        .iter()
-        .position(|request| request.is_answered_by(answer))
-}
-
-// Takes the request at this place off the list, and answers its ticket.
-fn close(requests: &mut ArrayVec<OpenRequest, PLACES>, place: usize) -> u64
-    requires { place < length requests.old.items }
-    ensures ticket { Some result ≡ option_map (λ w. w.request.ticket) (slice_get requests.old.items place) }
-    ensures others { requests.new.items ≡ remove requests.old.items place }
-{
-    let ticket = requests[place].ticket();
-    let _ = requests.remove(place);
-    ticket
-}
-
-// What becomes of each request that is due.
-fn due_entries(requests: &[OpenRequest], clock: u64, config: Config) -> Due
-    requires { length requests.now ≤ PLACES }
-    ensures { result ≡ flat_map (due_answer (client_rules config.timeout config.retries) clock) requests.now }
-{
-    let mut entries = ArrayVec::new();
-    for request in requests {
-        if request.is_due(clock, config) {
-            entries.push(request.due_entry(config));
-        }
-    }
-    Due { entries }
-}
-
-// Ends each request that is due for the last time, and counts a send of the others that are due.
-fn go_on(requests: &mut ArrayVec<OpenRequest, PLACES>, clock: u64, config: Config)
-    ensures { requests.new.items ≡ flat_map (kept (client_rules config.timeout config.retries) clock) requests.old.items }
-{
-    requests.retain(|request| request.go_on(clock, config));
 }

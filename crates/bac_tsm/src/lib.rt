@@ -12,23 +12,23 @@ mod datagram;
 mod due;
 mod event;
 mod examples;
-mod laws;
 mod limits;
 mod outcome;
 mod request;
 mod running;
-#[cfg(test)]
-mod tests;
+mod table;
+mod theorems;
 
 pub use client::{Client, SubmitFault};
 pub use config::Config;
 pub use due::{Due, Entry};
 pub use event::{Event, Note};
 pub use examples::{examples_of_a_request, examples_of_answers, examples_of_many_events};
-pub use laws::{
-    answers_are_by_number, answers_in_words, client_is_lookahead, numbers_come_back_late,
-    output_looks_back, run_is_lookahead, stations_are_compared_whole, table_is_bounded,
-};
 pub use limits::{LONGEST_BODY, PLACES};
 pub use outcome::{Ended, Outcome};
 pub use running::{Watcher, run};
+pub use theorems::{
+    answers_are_by_number, answers_in_words, client_is_lookahead, numbers_come_back_late,
+    output_looks_back, passed_numbers_are_held, run_is_lookahead, stations_are_compared_whole,
+    table_is_bounded,
+};

@@ -1,19 +1,31 @@
 //! An open request.
 
-ghost use Rattle.std.specs.Prelude.{◌≡◌, [], ◌∷◌, nat_eq, nat_lt, if◌then◌else◌, true};
+ghost use Rattle.std.specs.Prelude.{◌≡◌, ◌≤◌, length, [], ◌∷◌, nat_eq, nat_lt, if◌then◌else◌, true};
 ghost use Rattle.bac_tsm.specs.Machine.{is_due, due_entry, kept};
 ghost use Rattle.bac_pdu.specs.Peer.{station};
 ghost use Rattle.std.specs.Option.{option_map_or};
 ghost use Rattle.bac_tsm.specs.Answers.{same_station, is_answer_to};
 ghost use Rattle.bac_tsm.specs.Seen.{answer_seen};
 ghost use Rattle.bac_tsm.specs.Client.{client_rules};
+ghost use Rattle.bac_tsm.specs.Table.{begun};
 
 use crate::answer::Answer;
 use crate::config::Config;
-use crate::datagram::Datagram;
+use crate::datagram::{Datagram, write_request};
 use crate::due::Entry;
+use crate::limits::LONGEST_BODY;
 use bac_pdu::Peer;
 use std::marker::Model;
+
+/// What a request is opened with: its ticket, whom it goes to, its service and number, and the clock at which it is sent.
+#[derive(Clone, Copy)]
+pub(crate) struct Asked {
+    pub(crate) ticket: u64,
+    pub(crate) peer: Peer,
+    pub(crate) service: u8,
+    pub(crate) number: u8,
+    pub(crate) clock: u64,
+}
 
 /// A request that is open, the clock when it was last sent, and how many times it was sent again.
 #[derive(Drop)]
@@ -68,22 +80,42 @@ impl Default for OpenRequest {
 }
 
 impl OpenRequest {
+    // Makes it a new request with this body.
+    pub(crate) fn begin(&mut self, asked: Asked, body: &[u8])
+        requires { length body.now ≤ LONGEST_BODY }
+        ensures { self.new ≡ begun asked body.now }
+    {
+        self.ticket = asked.ticket;
+        self.peer = asked.peer;
+        self.service = asked.service;
+        self.number = asked.number;
+        self.base = asked.clock;
+        self.count = 0;
+        write_request(
+            &mut self.datagram,
+            asked.peer,
+            asked.service,
+            body,
+            asked.number,
+        );
+    }
+
     pub(crate) fn ticket(&self) -> u64
         ensures { result ≡ self.now.request.ticket }
     {
         self.ticket
     }
 
+    pub(crate) fn number(&self) -> u8
+        ensures { result ≡ self.now.request.number }
+    {
+        self.number
+    }
+
     pub(crate) fn has_ticket(&self, ticket: u64) -> bool
         ensures { result ≡ nat_eq self.now.request.ticket ticket }
     {
         self.ticket == ticket
-    }
-
-    pub(crate) fn has_number(&self, number: u8) -> bool
-        ensures { result ≡ nat_eq number self.now.request.number }
-    {
-        number == self.number
     }
 
     // The timeout has passed since the request was last sent.
@@ -106,7 +138,8 @@ impl OpenRequest {
 
     // Brings the request to this clock, and says whether it stays open.
     pub(crate) fn go_on(&mut self, clock: u64, config: Config) -> bool
-        ensures { kept (client_rules config.timeout config.retries) clock self.old ≡ (if result then self.new ∷ [] else []) }
+        ensures kept { kept (client_rules config.timeout config.retries) clock self.old ≡ (if result then self.new ∷ [] else []) }
+        ensures request { self.new.request ≡ self.old.request }
     {
         if !self.is_due(clock, config) {
             return true;

@@ -1,5 +1,5 @@
 -- The shortest spelling of a value is a spelling.
-use Rattle.std.proofs.Common.{◌≡◌, ℕ, ℤ, pos, negsuc, suc, ◌-◌, ◌*◌, ◌^◌, ◌%◌, ◌<◌, ◌≤◌, true, false, [], length, refl, sym, ap, ◌∙◌, arith, inl, inr}
+use Rattle.std.proofs.Common.{◌≡◌, ℕ, ℤ, pos, negsuc, suc, ◌+◌, ◌-◌, ◌*◌, ◌^◌, ◌%◌, ◌<◌, ◌≤◌, min, true, false, List, [], ◌∷◌, ◌++◌, length, refl, sym, ap, ◌∙◌, arith, inl, inr}
 use Rattle.std.specs.Prelude.{FitsSigned, ◌-ℤ◌}
 use Rattle.std.specs.Int.{w64}
 use Rattle.std.proofs.lemmas.Int.{ints}
@@ -9,7 +9,7 @@ use Rattle.byteorder.specs.Endian.{big_number, big_bytes, twos_complement, low_b
 use Rattle.byteorder.specs.Numbers.{big_number-reads_back, length-bytes_high_first}
 use Rattle.bac_wire.specs.Identifier.{number_of}
 use Rattle.bac_wire.specs.Tag.{IsTag, plain_tag}
-use Rattle.bac_wire.specs.Datum.{Datum, null, boolean, unsigned, signed, real, double, octet_string, char_string, bit_string, enumerated, date, time, object, Holds, tag_before, Spells, octet_count, signed_count, plain_contents, plain, InRange, IsDatum}
+use Rattle.bac_wire.specs.Datum.{Datum, null, boolean, unsigned, signed, real, double, octet_string, char_string, bit_string, enumerated, date, time, object, Holds, tag_before, Spells, octet_count, signed_count, plain_contents, tagged, plain, InRange, IsDatum}
 use Rattle.bac_wire.proofs.PlainTag.{plain_tag_spells}
 
 -- what holds of the count of octets in each of its cases
@@ -155,3 +155,23 @@ plain_spells value h = record {
   tagged = plain_tag_spells (tag_before value (length (plain_contents value))) (tag_fits value h);
   held = plain_holds value h.range;
 }
+
+-- a tag with a number below 15 and a count below 5 is one octet
+pub short_tagged : (number : ℕ) (contents : List ℕ) → number < 15 → length contents < 5 → tagged number contents ≡ (16 * number + length contents) ∷ contents
+unfolding tagged plain_tag
+short_tagged number contents low short =
+    let same : 16 * min number 15 + min (length contents) 5 ≡ 16 * number + length contents = omega arith in
+    rw (lt-ltb number 15 low, lt-ltb (length contents) 5 short) (ap (λ (first : ℕ). first ∷ contents) same)
+
+-- the tag of four octets, and these
+pub four_tagged : (number : ℕ) (contents written : List ℕ) → number < 15 → length contents ≡ 4 → written ≡ contents → (16 * number + 4) ∷ (written ++ []) ≡ tagged number contents
+four_tagged number contents written low four same =
+    ap (λ (rest : List ℕ). (16 * number + 4) ∷ rest) (append-nil written ∙ same)
+    ∙ ap (λ (n : ℕ). (16 * number + n) ∷ contents) (sym four)
+    ∙ sym (short_tagged number contents low (omega arith))
+
+-- the tag of a number in one octet, and the number
+pub one_tagged : (number n : ℕ) → number < 15 → n < 256 → tagged number (big_bytes (octet_count n) n) ≡ (16 * number + 1) ∷ n ∷ []
+one_tagged number n low one =
+    let contents : big_bytes (octet_count n) n ≡ n ∷ [] = rw (lt-ltb n 256 one) (ap (λ (octet : ℕ). octet ∷ []) (omega arith)) in
+    ap (tagged number) contents ∙ short_tagged number (n ∷ []) low (omega arith)

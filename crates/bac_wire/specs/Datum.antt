@@ -81,18 +81,7 @@ Holds contents (object id) = (length contents ≡ 4) × (id.instance < 2 ^ 22) �
 -- The number in the tag: the length of the contents, for a boolean its value (20.2.3).
 abbrev pub shape_number : Datum → ℕ → ℕ
 shape_number (boolean b) n = if b then 1 else 0
-shape_number null n = n
-shape_number (unsigned _) n = n
-shape_number (signed _) n = n
-shape_number (real _) n = n
-shape_number (double _) n = n
-shape_number (octet_string _) n = n
-shape_number (char_string _ _) n = n
-shape_number (bit_string _ _) n = n
-shape_number (enumerated _) n = n
-shape_number (date _) n = n
-shape_number (time _) n = n
-shape_number (object _) n = n
+shape_number _ n = n
 
 -- the tag before a value with contents of this length
 abbrev pub tag_before : Datum → ℕ → Tag
@@ -151,19 +140,8 @@ plain value = plain_tag (tag_before value (length (plain_contents value))) ++ pl
 
 -- the values that can be written: all but bits that are none
 abbrev pub IsSound : Datum → Type 0
-IsSound null = Unit {0}
-IsSound (boolean _) = Unit {0}
-IsSound (unsigned _) = Unit {0}
-IsSound (signed _) = Unit {0}
-IsSound (real _) = Unit {0}
-IsSound (double _) = Unit {0}
-IsSound (octet_string _) = Unit {0}
-IsSound (char_string _ _) = Unit {0}
 IsSound (bit_string unused x) = AreBits unused x
-IsSound (enumerated _) = Unit {0}
-IsSound (date _) = Unit {0}
-IsSound (time _) = Unit {0}
-IsSound (object _) = Unit {0}
+IsSound _ = Unit {0}
 
 -- a value within the range of its kind
 abbrev pub InRange : Datum → Type 0

@@ -1,12 +1,12 @@
 -- The parameters of a service: contents under a context tag, or items between an opening and a closing tag (20.2.1.5, 20.2.15).
-use Rattle.std.specs.Prelude.{◌≡◌, ℕ, ◌^◌, ◌<◌, ◌≤◌, List, ◌++◌, length}
-use Rattle.byteorder.specs.Endian.{big_number, big_bytes}
+use Rattle.std.specs.Prelude.{◌≡◌, ℕ, List, ◌++◌, length}
+use Rattle.byteorder.specs.Endian.{big_bytes}
 use Rattle.bac_wire.specs.declared.tag.Shape.TheVariants.{Context}
 use Rattle.bac_wire.specs.declared.tag.Tag.{Tag}
 use Rattle.bac_wire.specs.Identifier.{Identifier, number_of}
 use Rattle.bac_wire.specs.Tag.{SpellsTag, plain_tag}
 use Rattle.bac_wire.specs.Region.{opening_tag, closing_tag, SpellsClosed}
-use Rattle.bac_wire.specs.Datum.{octet_count}
+use Rattle.bac_wire.specs.Datum.{Holds, enumerated, object, octet_count}
 
 -- the context tag of this number before so many octets
 abbrev pub context_tag : ℕ → ℕ → Tag
@@ -20,11 +20,11 @@ pub record SpellsContext (number : ℕ) (octets contents : List ℕ) : Type 0 wh
 
 -- a number in one to four octets, the high octet first (20.2.4)
 abbrev pub IsNumber : List ℕ → ℕ → Type 0
-IsNumber contents n = (1 ≤ length contents) × (length contents ≤ 4) × (n ≡ big_number (length contents) contents)
+IsNumber contents n = Holds contents (enumerated n)
 
 -- an object's identifier in four octets (20.2.14)
 abbrev pub IsObject : List ℕ → Identifier → Type 0
-IsObject contents id = (length contents ≡ 4) × (id.instance < 2 ^ 22) × (big_number 4 contents ≡ number_of id)
+IsObject contents id = Holds contents (object id)
 
 -- a context tag of this number, and contents that stand for the thing
 pub record SpellsIn {A : Type 0} (Stands : List ℕ → A → Type 0) (number : ℕ) (octets : List ℕ) (x : A) : Type 0 where

@@ -8,7 +8,7 @@ use Rattle.bac_wire.specs.Identifier.{Identifier, identifier_of}
 use Rattle.bac_wire.specs.TagReading.{◌>>=◌, tag_at}
 use Rattle.bac_wire.specs.ItemReading.{region_at}
 use Rattle.bac_wire.specs.Datum.{Datum, unsigned, enumerated, object}
-use Rattle.bac_wire.specs.DatumReading.{value_at}
+use Rattle.bac_wire.specs.DatumReading.{number_within, value_at}
 
 -- the contents that a tag counts, if it is a context tag of this number
 abbrev pub counted_of : ℕ → Tag → Shape → List ℕ → Option (List ℕ × List ℕ)
@@ -23,7 +23,7 @@ context_at number octets = tag_at octets >>= (λ x. counted_of number x.0 x.0.sh
 
 -- the number in one to four octets
 abbrev pub number_of_contents : List ℕ → Option ℕ
-number_of_contents contents = if nat_lt 0 (length contents) then (if nat_lt 4 (length contents) then None else Some (big_number (length contents) contents)) else None
+number_of_contents contents = number_within 4 contents
 
 -- the object's identifier in four octets
 abbrev pub object_of_contents : List ℕ → Option Identifier

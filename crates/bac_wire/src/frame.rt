@@ -74,6 +74,19 @@ impl Frame {
         self.octets.try_extend_from_slice(octets).map_err(|_| Full)
     }
 
+    /// Puts the octets before those that are there. Where they don't all fit it is `Full`, and the frame is as it was.
+    pub fn prepend(&mut self, octets: &[u8]) -> Result<(), Full>
+        ensures ok { OnOk result (self.new ≡ octets.now ++ self.old) }
+        ensures fits { OnOk result (length octets.now + length self.old ≤ FRAME_OCTETS) }
+        ensures full { OnErr result (FRAME_OCTETS < length octets.now + length self.old) }
+        ensures err { OnErr result (self.new ≡ self.old) }
+    {
+        let count = self.len();
+        self.append(octets)?;
+        put_before(self.octets.as_mut_slice(), count, octets);
+        Ok(())
+    }
+
     /// Keeps the first `n` octets, of at least so many.
     pub fn truncate(&mut self, n: usize)
         requires { n ≤ length self.old }
@@ -81,4 +94,13 @@ impl Frame {
     {
         self.octets.truncate(n);
     }
+}
+
+/// Moves the first `count` octets to the end, and puts these before them.
+fn put_before(octets: &mut [u8], count: usize, front: &[u8])
+    requires { length octets.old ≡ count + length front.now }
+    ensures { octets.new ≡ front.now ++ take count octets.old }
+{
+    octets.copy_within(..count, front.len());
+    octets[..front.len()].copy_from_slice(front);
 }

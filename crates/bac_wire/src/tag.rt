@@ -38,9 +38,9 @@ pub fn read_tag(octets: &[u8]) -> Option<(Tag, usize)>
     Some((tag, octets.len() - rest.len()))
 }
 
-/// The tag that begins the input, and the octets behind it.
+/// The tag that begins the input, and the octets behind it; `None` where `read_tag` gives none.
 #[tactic(auto, unfolding(crate::specs::TagReading::tag_at))]
-pub(crate) fn tag_and_rest(octets: &[u8]) -> Option<(Tag, &[u8])>
+pub fn tag_and_rest(octets: &[u8]) -> Option<(Tag, &[u8])>
     ensures { option_map (λ x. (x.0, x.1.now)) result ≡ tag_at octets.now }
 {
     let [initial, rest @ ..] = octets else {

@@ -6,7 +6,7 @@ ghost use Rattle.bac_wire.specs.Front.{FindsFront, IsShortest, IsReadBack};
 ghost use Rattle.bac_wire.specs.Tag.{plain_tag};
 ghost use Rattle.bac_wire.specs.declared.tag.Shape.TheVariants.{App as app};
 ghost use Rattle.bac_wire.specs.Datum.{Spells, Datum, datum, IsSound, InRange, plain, tagged as tagged_octets, octet_count as count_octets, signed_count as count_signed, AreBits};
-ghost use Rattle.bac_wire.specs.Datum.{boolean};
+ghost use Rattle.bac_wire.specs.Datum.{boolean, null};
 ghost use Rattle.bac_wire.specs.Identifier.{identifier, number_of};
 ghost use Rattle.bac_wire.specs.DatumReading.{exactly, number_within, bits_of as bits_at, contents_of, value_at};
 
@@ -64,9 +64,9 @@ pub fn read_value(octets: &[u8]) -> Option<(Value<'_>, usize)>
     Some((value, octets.len() - rest.len()))
 }
 
-/// The value that begins the input, and the octets behind it.
+/// The value that begins the input, and the octets behind it; `None` where `read_value` gives none.
 #[tactic(auto, unfolding(crate::specs::DatumReading::value_at))]
-fn value_and_rest(octets: &[u8]) -> Option<(Value<'_>, &[u8])>
+pub fn value_and_rest(octets: &[u8]) -> Option<(Value<'_>, &[u8])>
     ensures { option_map (λ x. (datum x.0, x.1.now)) result ≡ value_at octets.now }
 {
     let (tag, rest) = tag_and_rest(octets)?;
@@ -181,36 +181,54 @@ fn append_value(frame: &mut Frame, value: &Value<'_>) -> Result<(), Full>
     ensures err { OnErr result (frame.new ≡ frame.old) }
 {
     match value {
-        Value::Null => append_tagged(frame, 0, &[], &[]),
+        Value::Null => append_null(frame),
         Value::Bool(value) => append_boolean(frame, *value),
         Value::Unsigned(number) => append_number(frame, 2, *number),
         Value::Signed(number) => append_signed(frame, *number),
-        Value::Real(octets) => append_tagged(frame, 4, &[], octets),
+        Value::Real(octets) => append_four(frame, 4, octets),
         Value::Double(octets) => append_tagged(frame, 5, &[], octets),
         Value::Octets(octets) => append_tagged(frame, 6, &[], octets),
         Value::Chars(set, text) => append_tagged(frame, 7, &[*set], text),
         Value::Bits(unused, octets) => append_tagged(frame, 8, &[*unused], octets),
         Value::Enumerated(number) => append_number(frame, 9, u64::from(*number)),
-        Value::Date(octets) => append_tagged(frame, 10, &[], octets),
-        Value::Time(octets) => append_tagged(frame, 11, &[], octets),
+        Value::Date(octets) => append_four(frame, 10, octets),
+        Value::Time(octets) => append_four(frame, 11, octets),
         Value::Object(id) => append_object(frame, *id),
     }
 }
 
-#[tactic(auto, unfolding(crate::specs::Datum::plain))]
+#[tactic(auto, unfolding(crate::specs::Datum::plain, crate::specs::Tag::plain_tag))]
+fn append_null(frame: &mut Frame) -> Result<(), Full>
+    ensures ok { OnOk result (frame.new ≡ frame.old ++ plain null) }
+    ensures fits { OnOk result (length frame.old + length (plain null) ≤ FRAME_OCTETS) }
+    ensures full { OnErr result (FRAME_OCTETS < length frame.old + length (plain null)) }
+    ensures err { OnErr result (frame.new ≡ frame.old) }
+{
+    frame.append(&[0])
+}
+
+#[tactic(auto, unfolding(crate::specs::Datum::plain, crate::specs::Tag::plain_tag))]
 fn append_boolean(frame: &mut Frame, value: bool) -> Result<(), Full>
     ensures ok { OnOk result (frame.new ≡ frame.old ++ plain (boolean value)) }
     ensures fits { OnOk result (length frame.old + length (plain (boolean value)) ≤ FRAME_OCTETS) }
     ensures full { OnErr result (FRAME_OCTETS < length frame.old + length (plain (boolean value))) }
     ensures err { OnErr result (frame.new ≡ frame.old) }
 {
-    write_tag(
-        frame,
-        Tag {
-            number: 1,
-            shape: Shape::App(u32::from(value)),
-        },
-    )
+    frame.append(&[0x10 + u8::from(value)])
+}
+
+/// Appends a tag of one octet, and the four octets that it counts.
+fn append_four(frame: &mut Frame, number: u8, contents: &[u8]) -> Result<(), Full>
+    requires number { number < 15 }
+    requires four { length contents.now ≡ 4 }
+    ensures ok { OnOk result (frame.new ≡ frame.old ++ tagged_octets number contents.now) }
+    ensures fits { OnOk result (length frame.old + length (tagged_octets number contents.now) ≤ FRAME_OCTETS) }
+    ensures full { OnErr result (FRAME_OCTETS < length frame.old + length (tagged_octets number contents.now)) }
+    ensures err { OnErr result (frame.new ≡ frame.old) }
+{
+    let mut octets = [16 * number + 4, 0, 0, 0, 0];
+    octets[1..].copy_from_slice(contents);
+    frame.append(&octets)
 }
 
 /// Appends the tag of the contents, which are in two parts, and the contents.
@@ -237,16 +255,31 @@ fn append_tagged(frame: &mut Frame, number: u8, first: &[u8], rest: &[u8]) -> Re
 }
 
 fn append_number(frame: &mut Frame, number: u8, n: u64) -> Result<(), Full>
-    requires { number < 255 }
+    requires { number < 15 }
     ensures ok { OnOk result (frame.new ≡ frame.old ++ tagged_octets number (big_bytes (count_octets n) n)) }
     ensures fits { OnOk result (length frame.old + length (tagged_octets number (big_bytes (count_octets n) n)) ≤ FRAME_OCTETS) }
     ensures full { OnErr result (FRAME_OCTETS < length frame.old + length (tagged_octets number (big_bytes (count_octets n) n))) }
     ensures err { OnErr result (frame.new ≡ frame.old) }
 {
+    if n < 256 {
+        return append_octet(frame, number, n as u8);
+    }
     let mut contents = [0; 8];
     let count = octet_count(n);
     BigEndian::write_uint(&mut contents, n, count);
     append_tagged(frame, number, &contents[..count], &[])
+}
+
+/// Appends a tag of one octet, and a number in one.
+#[tactic(auto, using(crate::proofs::PlainDatum::one_tagged))]
+fn append_octet(frame: &mut Frame, number: u8, n: u8) -> Result<(), Full>
+    requires { number < 15 }
+    ensures ok { OnOk result (frame.new ≡ frame.old ++ tagged_octets number (big_bytes (count_octets n) n)) }
+    ensures fits { OnOk result (length frame.old + length (tagged_octets number (big_bytes (count_octets n) n)) ≤ FRAME_OCTETS) }
+    ensures full { OnErr result (FRAME_OCTETS < length frame.old + length (tagged_octets number (big_bytes (count_octets n) n))) }
+    ensures err { OnErr result (frame.new ≡ frame.old) }
+{
+    frame.append(&[16 * number + 1, n])
 }
 
 fn append_signed(frame: &mut Frame, n: i64) -> Result<(), Full>
@@ -269,11 +302,11 @@ fn append_object(frame: &mut Frame, id: ObjectId) -> Result<(), Full>
 {
     let mut contents = [0; 4];
     BigEndian::write_u32(&mut contents, id.number());
-    append_tagged(frame, 12, &contents, &[])
+    append_four(frame, 12, &contents)
 }
 
-/// The fewest octets that hold the number.
-fn octet_count(n: u64) -> usize
+/// The fewest octets that hold the number, at least one (ANSI/ASHRAE 135, 20.2.4).
+pub fn octet_count(n: u64) -> usize
     ensures value { result ≡ count_octets n }
     ensures low { 1 ≤ result }
     ensures high { result ≤ 8 }

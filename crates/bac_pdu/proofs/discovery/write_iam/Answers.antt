@@ -1,6 +1,7 @@
+use Rattle.std.proofs.lemmas.Result.{on_ok_weaker}
 use Rattle.bac_pdu.specs.Discovery.{introduction}
-use Rattle.bac_pdu.proofs.ShortestLaws.{i_am_shortest, on_any}
+use Rattle.bac_pdu.proofs.ShortestLaws.{i_am_is_back}
 use Rattle.bac_pdu.proofs.discovery.write_iam.Goals as goal
 
-pub returns-clause-shortest : goal.returns-clause-shortest
-returns-clause-shortest c = on_any c.append.result _ (i_am_shortest (introduction c.args.i_am.now) c.requires c.in_ok-write_value.ensures.shortest c.in_ok-write_value-2.ensures.shortest c.in_ok-write_value-3.ensures.shortest c.in_ok-write_value-4.ensures.shortest)
+pub returns-else-is_err-clause-read_back : goal.returns-else-is_err-clause-read_back
+returns-else-is_err-clause-read_back c = on_ok_weaker c.append_introduction-appended.result (λ written. i_am_is_back (introduction c.args.i_am.now) written) c.append_introduction-appended.ensures.shortest

@@ -1,6 +1,10 @@
+use Rattle.std.proofs.lemmas.Result.{on_ok_weaker}
 use Rattle.bac_pdu.specs.Property.{answer}
-use Rattle.bac_pdu.proofs.ShortestLaws.{ack_is_written, on_any}
+use Rattle.bac_pdu.proofs.ShortestLaws.{ack_is_written, ack_is_back}
 use Rattle.bac_pdu.proofs.property.write_ack.Goals as goal
 
-pub returns-clause-shortest : goal.returns-clause-shortest
-returns-clause-shortest c = on_any c.append.result _ (ack_is_written (answer c.args.ack.now) c.in_ok-body.ensures.known c.requires)
+pub returns-else-is_err-clause-shortest : goal.returns-else-is_err-clause-shortest
+returns-else-is_err-clause-shortest c = on_ok_weaker c.append_ack-appended.result (λ known. ack_is_written (answer c.args.ack.now) known c.requires) c.append_ack-appended.ensures.known
+
+pub returns-else-is_err-clause-read_back : goal.returns-else-is_err-clause-read_back
+returns-else-is_err-clause-read_back c = on_ok_weaker c.append_ack-appended.result (λ known. ack_is_back (answer c.args.ack.now) known c.requires) c.append_ack-appended.ensures.known

@@ -1,4 +1,4 @@
-use Rattle.std.proofs.Common.{◌≤◌, length, arith}
+use Rattle.std.proofs.Common.{arith}
 use Rattle.std.specs.Option.{option_map}
 use Rattle.bac_pdu.specs.Peer.{station, network_address}
 use Rattle.bac_pdu.specs.Datagram.{delivery}
@@ -8,7 +8,6 @@ use Rattle.bac_device.proofs.device.Device.answer_into.Goals as goal
 pub unreachable-requires : goal.unreachable-requires
 unreachable-requires c =
     let routable = carried_routable (station c.args.from) c.args.datagram.now (delivery c.in_ok-carried.carried) c.in_ok-carried.ensures.whole.spelled in
-    let short : length c.as_slice.result.now ≤ 1476 = rw c.as_slice.ensures.value c.in_ok-reply.ensures.few in
-    let fits = length_wrapped (option_map network_address c.in_ok-carried.carried.peer.route) c.as_slice.result.now routable short in
+    let fits = length_wrapped (option_map network_address c.in_ok-carried.carried.peer.route) c.reply.new.frame routable c.reply.ensures.few in
     let long = c.in-Err.ensures.full in
     omega (arith, fits, long)

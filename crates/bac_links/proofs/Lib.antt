@@ -1,0 +1,10 @@
+mod Faults
+mod Requests
+mod SendsInOrder
+mod CallEvents
+mod CallTurns
+mod CallEnds
+mod Room
+mod Searches
+mod Servings
+mod OneWay

@@ -1,0 +1,186 @@
+-- A search, turn by turn.
+use Rattle.std.proofs.Common.{◌≡◌, ◌≢◌, ℕ, suc, ◌-◌, ◌<◌, ◌≤◌, max, List, [], ◌∷◌, ◌++◌, Option, Some, None, Ok, Err, Bool, true, false, ◌||◌, refl, sym, ap, ◌∙◌, arith, append_assoc, subst, add-one, below_more}
+use Rattle.std.specs.Option.{ForSome}
+use Rattle.std.proofs.lemmas.List.{append-nil}
+use Rattle.std.specs.Io.KnownBytes.{Appends}
+use Rattle.bac_pdu.specs.declared.discovery.WhoIs.{WhoIs}
+use Rattle.bac_pdu.specs.Peer.{Station}
+use Rattle.bac_text.proofs.Known.{Appends-none, Appends-more}
+use Rattle.bac_links.specs.Told.{Told, Heard, Arrival, Failure, after_wait, waited, having_sent}
+use Rattle.bac_links.specs.Search.{Found, found_of, found_by, found_line, found_lines, found_after, passed, who_is_sending, search_exit, search_wait, search_hears, SearchEnds, Searched}
+use Rattle.bac_links.specs.SearchSteps.{has_found, Listens, SearchesSo, SearchGoes}
+use Rattle.bac_links.specs.declared.ending.Exit.TheVariants.{Good, Bad}
+use Rattle.bac_text.specs.declared.jobs.Search.{Search}
+use Rattle.bac_links.specs.declared.fault.ToolFault.{ToolFault}
+use Rattle.bac_links.specs.declared.fault.ToolFault.TheVariants.{SendFailed, ReceiveFailed, TurnsSpent, WriteFailed}
+
+-- ---- what a wait finds
+
+pub finds_one : (who : WhoIs) (heard : Heard) (from : Station) (octets : List ℕ) (found : Found) → heard ≡ Arrival from octets →
+    Some found ≡ found_of who from octets → (heard ≢ Failure) × (found_by who heard ≡ found ∷ [])
+finds_one who heard from octets found e one = rw (e, ← one) ((λ q. cc), refl)
+
+pub finds_none : (who : WhoIs) (heard : Heard) (from : Station) (octets : List ℕ) → heard ≡ Arrival from octets →
+    None ≡ found_of who from octets → (heard ≢ Failure) × ([] ≡ found_by who heard)
+finds_none who heard from octets e none = rw (e, ← none) ((λ q. cc), refl)
+
+-- ---- lists of devices
+
+found_lines-append : (xs ys : List Found) → found_lines (xs ++ ys) ≡ found_lines xs ++ found_lines ys
+found_lines-append [] ys = refl
+found_lines-append (x ∷ xs) ys =
+    ap (λ (zs : List ℕ). found_line x ++ zs) (found_lines-append xs ys) ∙ sym (append_assoc (found_line x) (found_lines xs) (found_lines ys))
+
+has_found-append : (xs ys : List Found) → has_found (xs ++ ys) ≡ (has_found xs || has_found ys)
+has_found-append [] ys = refl
+has_found-append (x ∷ xs) ys = refl
+
+pub good_exit : (found : List Found) → true ≡ has_found found → Good ≡ search_exit found
+good_exit [] e = cc
+good_exit (x ∷ found) e = refl
+
+pub bad_exit : (found : List Found) → false ≡ has_found found → Bad ≡ search_exit found
+bad_exit [] e = refl
+bad_exit (x ∷ found) e = cc
+
+-- ---- a turn, over what the link told
+
+module _ (search : Search) (t : Told) (link : Option Told) (first greatest : ℕ) (found : List Found) (n : ℕ) (far : SearchesSo search t link first greatest found n) where
+  abbrev here : Told
+  here = having_sent (who_is_sending search t ∷ []) (waited (search_wait search) n t)
+
+  abbrev heard : Heard
+  heard = search_hears search t n
+
+  all_received : heard ≢ Failure → (k : ℕ) → k < suc n → search_hears search t k ≢ Failure
+  all_received received k h = below_more (λ i. search_hears search t i ≢ Failure) n far.before.received received k (rw add-one h)
+
+  module _ (left : Option Told) (more : List Found) (now : ℕ) (received : heard ≢ Failure) (finds : more ≡ found_by search.who heard) (left_is : left ≡ Some (after_wait (search_wait search) here)) (now_is : now ≡ (after_wait (search_wait search) here).time []) where
+    found_next : found ++ more ≡ found_after search t (suc n)
+    found_next = rw (far.finds, finds) refl
+
+    passed_next : max greatest now - first ≡ passed search t (suc n)
+    passed_next = rw (far.time, far.began, now_is) refl
+
+    pub so_on : max greatest now - first < search.timeout → SearchesSo search t left first (max greatest now) (found ++ more) (suc n)
+    so_on in_time = record {
+      began = far.began;
+      time = rw (far.time, now_is) refl;
+      before = record {
+        received = all_received received;
+        in_time = λ k h. below_more (λ i. passed search t i < search.timeout) (suc n) far.before.in_time (rw (← passed_next) in_time) k (rw add-one h);
+      };
+      finds = found_next;
+      link_left = left_is;
+    }
+
+    pub so_ended : n < 65536 → search.timeout ≤ max greatest now - first → SearchEnds search t left (found ++ more) n
+    so_ended within over = record {
+      within = within;
+      before = far.before;
+      received = received;
+      over = rw (← passed_next) over;
+      finds = found_next;
+      link_left = left_is;
+    }
+
+-- ---- a turn
+
+module _ (search : Search) (before middle after : Option (List ℕ)) (told mid left : Option Told) (first greatest : ℕ) (any : Bool) (n : ℕ) (goes : SearchGoes search before middle told mid first greatest any n) where
+  -- A wait that goes well.
+  module _ (some : Bool) (listens : Listens search.who (search_wait search) middle after mid left (Ok some)) (now : ℕ) (now_is : ForSome left (λ t. now ≡ t.time [])) (last : Option Told) (same : last ≡ left) where
+    printed_next : Appends before after (found_lines (goes.found ++ listens.0))
+    printed_next =
+        subst (Appends before after) (sym (found_lines-append goes.found listens.0))
+        (Appends-more before middle after (found_lines goes.found) (found_lines listens.0) goes.printed listens.2)
+
+    any_next : (any || some) ≡ has_found (goes.found ++ listens.0)
+    any_next = rw (goes.any_is, listens.1) (sym (has_found-append goes.found listens.0))
+
+    pub goes_on : max greatest now - first < search.timeout → SearchGoes search before after told last first (max greatest now) (any || some) (suc n)
+    goes_on in_time = record {
+      found = goes.found ++ listens.0;
+      any_is = any_next;
+      printed = printed_next;
+      so_far = λ t e.
+          let far = goes.so_far t e in
+          let heard = listens.3 _ far.link_left in
+          so_on search t mid first greatest goes.found n far last listens.0 now heard.0 heard.1 (same ∙ heard.2) (now_is _ heard.2) in_time;
+    }
+
+    pub ended : n < 65536 → search.timeout ≤ max greatest now - first → (found : List Found) × ((any || some) ≡ has_found found)
+        × Appends before after (found_lines found) × ForSome told (λ t. (n : ℕ) × SearchEnds search t last found n)
+    ended within over = (
+      goes.found ++ listens.0,
+      any_next,
+      printed_next,
+      λ t e.
+          let far = goes.so_far t e in
+          let heard = listens.3 _ far.link_left in
+          (n, so_ended search t mid first greatest goes.found n far last listens.0 now heard.0 heard.1 (same ∙ heard.2) (now_is _ heard.2) within over),
+    )
+
+  -- A wait that fails.
+  failed : (fault : ToolFault) → n < 65536 → Listens search.who (search_wait search) middle after mid left (Err fault) →
+      Searched search before after told left (Err fault)
+  failed SendFailed within listens = absurd listens
+  failed ReceiveFailed within listens = (
+    goes.found,
+    subst (Appends before after) (append-nil (found_lines goes.found)) (Appends-more before middle after (found_lines goes.found) [] goes.printed listens.0),
+    λ t e.
+        let far = goes.so_far t e in
+        let heard = listens.1 _ far.link_left in
+        (n, record { within = within; before = far.before; failed = heard.0; finds = far.finds; link_left = heard.1 }),
+  )
+  failed TurnsSpent within listens = absurd listens
+  failed WriteFailed within listens = (
+    goes.found,
+    listens.0,
+    listens.1,
+    listens.2,
+    listens.3,
+    Appends-more before middle after (found_lines goes.found) listens.1 goes.printed listens.4,
+    λ t e.
+        let far = goes.so_far t e in
+        let heard = listens.5 _ far.link_left in
+        (n, record { within = within; before = far.before; finds = far.finds; heard = heard.0; link_left = heard.1 }),
+  )
+
+  pub fails : (fault : ToolFault) (wait : ℕ) → wait ≡ search_wait search → n < 65536 → Listens search.who wait middle after mid left (Err fault) →
+      Searched search before after told left (Err fault)
+  fails fault wait e within listens = failed fault within (subst (λ (w : ℕ). Listens search.who w middle after mid left (Err fault)) e listens)
+
+-- A search begins with its Who-Is sent.
+pub begun : (search : Search) (before : Option (List ℕ)) (told link : Option Told) (first : ℕ) → 0 < search.timeout →
+    ForSome told (λ t. (first ≡ t.time []) × (link ≡ Some (having_sent (who_is_sending search t ∷ []) t))) →
+    SearchGoes search before before told link first first false 0
+begun search before told link first positive sent = record {
+  found = [];
+  any_is = refl;
+  printed = Appends-none before;
+  so_far = λ t e.
+      let s = sent t e in
+      record {
+        began = s.0;
+        time = s.0;
+        before = record {
+          received = λ k h. absurd (omega arith);
+          in_time = λ k h. at_first t k (omega arith);
+        };
+        finds = refl;
+        link_left = s.1;
+      };
+}
+  where
+    at_first : (t : Told) (k : ℕ) → k ≡ 0 → passed search t k < search.timeout
+    at_first t k e = rw e (omega arith)
+
+pub spent : (search : Search) (before after : Option (List ℕ)) (told link : Option Told) (first greatest : ℕ) (any : Bool) (n : ℕ) → n ≡ 65536 →
+    SearchGoes search before after told link first greatest any n → Searched search before after told link (Err TurnsSpent)
+spent search before after told link first greatest any n all goes = (
+  goes.found,
+  goes.printed,
+  λ t e.
+      let far = goes.so_far t e in
+      (n, record { all = all; before = far.before; finds = far.finds; link_left = far.link_left }),
+)

@@ -1,0 +1,251 @@
+-- A device that serves, wait by wait.
+use Rattle.std.proofs.Common.{◌≡◌, ◌≢◌, ℕ, suc, ◌+◌, ◌<◌, List, [], ◌∷◌, ◌++◌, flat_map, length, length-append, Option, Some, Result, Ok, Err, refl, sym, ap, ◌∙◌, arith, append_assoc, subst, add-one, below_more}
+use Rattle.std.specs.Option.{ForSome, option_to_list}
+use Rattle.std.proofs.lemmas.List.{append-nil}
+use Rattle.bac_pdu.specs.Peer.{Station}
+use Rattle.bac_device.specs.Device.{DeviceState}
+use Rattle.bac_device.specs.Turns.{Arrival as Came, AnswersInTurn}
+use Rattle.bac_device.proofs.TurnLaws.{in_turn}
+use Rattle.bac_links.specs.Told.{Told, Heard, Silence, Arrival, Failure, Sending, after_wait, waited, having_sent}
+use Rattle.bac_links.specs.Serve.{Delivery, arrivals_of, delivery_at, brought, deliveries, reply_sendings, sent_for, reply_count, came_in, replied_in, AnswersAll, Waits, ServesSo, ServeUnsent, ServeDeaf, Serves, Responds, ServesOne, ServeGoes}
+use Rattle.bac_links.specs.declared.serving.TheConstants.{SERVE_WAIT}
+use Rattle.bac_links.specs.declared.serving.Brought.{Brought}
+use Rattle.bac_links.specs.declared.fault.ToolFault.{ToolFault}
+use Rattle.bac_links.specs.declared.fault.ToolFault.TheVariants.{SendFailed, ReceiveFailed, TurnsSpent, WriteFailed}
+
+-- ---- one datagram
+
+pub one_came : (t : Told) (from : Station) (octets : List ℕ) → t.heard [] SERVE_WAIT ≡ Arrival from octets →
+    (t.heard [] SERVE_WAIT ≢ Failure) × (record { from = from; datagram = octets } ∷ [] ≡ arrivals_of (brought t))
+    × ((reply : Option (Station × List ℕ)) → reply_sendings (t.time (SERVE_WAIT ∷ [])) reply ≡ sent_for (brought t) (reply ∷ []))
+one_came t from octets e = rw e ((λ q. cc), refl, λ reply. sym (append-nil (reply_sendings (t.time (SERVE_WAIT ∷ [])) reply)))
+
+pub none_came : (t : Told) → t.heard [] SERVE_WAIT ≡ Silence → (t.heard [] SERVE_WAIT ≢ Failure) × ([] ≡ arrivals_of (brought t)) × ([] ≡ sent_for (brought t) [])
+none_came t e = rw e ((λ q. cc), refl, refl)
+
+count_one : (reply : Option (Station × List ℕ)) → length (option_to_list reply) ≡ reply_count (reply ∷ [])
+count_one reply = ap length (sym (append-nil (option_to_list reply)))
+
+having_nothing : (t : Told) → t ≡ having_sent [] t
+having_nothing t = λ i. record { heard = t.heard; time = t.time; sent = sym (append-nil t.sent) i }
+
+pub left_as_it_is : (left : Option Told) (t : Told) (none : List Sending) → [] ≡ none → left ≡ Some t → left ≡ Some (having_sent none t)
+left_as_it_is left t none e same = same ∙ ap Some (having_nothing t) ∙ ap (λ (xs : List Sending). Some (having_sent xs t)) e
+
+-- ---- datagrams one after another
+
+turns-append : (before middle after : DeviceState) (xs ys : List Came) (rs ss : List (Option (Station × List ℕ))) →
+    AnswersInTurn before xs rs middle → AnswersInTurn middle ys ss after → AnswersInTurn before (xs ++ ys) (rs ++ ss) after
+turns-append before middle after [] ys [] ss first second = subst (λ (d : DeviceState). AnswersInTurn d ys ss after) first second
+turns-append before middle after [] ys (r ∷ rs) ss first second = absurd first
+turns-append before middle after (x ∷ xs) ys [] ss first second = absurd first
+turns-append before middle after (x ∷ xs) ys (r ∷ rs) ss (next, one, rest) second = (next, one, turns-append next middle after xs ys rs ss rest second)
+
+same_length : (before after : DeviceState) (xs : List Came) (rs : List (Option (Station × List ℕ))) → AnswersInTurn before xs rs after → length xs ≡ length rs
+same_length before after [] [] turns = refl
+same_length before after [] (r ∷ rs) turns = absurd turns
+same_length before after (x ∷ xs) [] turns = absurd turns
+same_length before after (x ∷ xs) (r ∷ rs) (next, one, rest) = ap suc (same_length next after xs rs rest)
+
+pub defined : (before after : DeviceState) (xs : List Came) (rs : List (Option (Station × List ℕ))) → AnswersInTurn before xs rs after → AnswersAll before xs rs after
+defined before after xs rs turns = λ writes holds. in_turn before xs rs after writes turns holds
+
+arrivals-append : (xs ys : List Delivery) → arrivals_of (xs ++ ys) ≡ arrivals_of xs ++ arrivals_of ys
+arrivals-append [] ys = refl
+arrivals-append (x ∷ xs) ys = ap (◌∷◌ x.arrival) (arrivals-append xs ys)
+
+pub length-arrivals : (xs : List Delivery) → length (arrivals_of xs) ≡ length xs
+length-arrivals [] = refl
+length-arrivals (x ∷ xs) = ap suc (length-arrivals xs)
+
+sent_for-append : (xs ys : List Delivery) (rs ss : List (Option (Station × List ℕ))) → length xs ≡ length rs →
+    sent_for (xs ++ ys) (rs ++ ss) ≡ sent_for xs rs ++ sent_for ys ss
+sent_for-append [] ys [] ss e = refl
+sent_for-append [] ys (r ∷ rs) ss e = absurd (omega (arith, e))
+sent_for-append (x ∷ xs) ys [] ss e = absurd (omega (arith, e))
+sent_for-append (x ∷ xs) ys (r ∷ rs) ss e =
+    ap (λ (zs : List Sending). reply_sendings x.time r ++ zs) (sent_for-append xs ys rs ss (omega (arith, e)))
+    ∙ sym (append_assoc (reply_sendings x.time r) (sent_for xs rs) (sent_for ys ss))
+
+count-append : (rs ss : List (Option (Station × List ℕ))) → reply_count (rs ++ ss) ≡ reply_count rs + reply_count ss
+count-append [] ss = let e : reply_count ss ≡ 0 + reply_count ss = omega arith in e
+count-append (r ∷ rs) ss =
+    let l = length-append (option_to_list r) (flat_map option_to_list (rs ++ ss)) in
+    let k = length-append (option_to_list r) (flat_map option_to_list rs) in
+    let more = count-append rs ss in
+    omega (arith, l, k, more)
+
+having_sent-both : (t : Told) (first more : List Sending) → having_sent more (having_sent first t) ≡ having_sent (first ++ more) t
+having_sent-both t first more = rw (append_assoc t.sent first more) refl
+
+-- ---- a wait, over what the link told
+
+module _ (t : Told) (link : Option Told) (arrivals more : List Came) (replies answers : List (Option (Station × List ℕ))) (count n : ℕ) (far : ServesSo t link arrivals replies count n) (same : length arrivals ≡ length replies) (fewer : length arrivals < count) where
+  abbrev here : Told
+  here = having_sent (sent_for (deliveries t n) replies) (waited SERVE_WAIT n t)
+
+  fewer_here : length (deliveries t n) < count
+  fewer_here = rw (← length-arrivals (deliveries t n), ← far.came) fewer
+
+  fewer_all : (k : ℕ) → k < suc n → length (deliveries t k) < count
+  fewer_all k h = below_more (λ i. length (deliveries t i) < count) n far.waits.fewer fewer_here k (rw add-one h)
+
+  module _ (received : here.heard [] SERVE_WAIT ≢ Failure) (brings : more ≡ arrivals_of (brought here)) where
+    waits_next : Waits t count (suc n)
+    waits_next = record {
+      received = λ k h. below_more (λ i. (waited SERVE_WAIT i t).heard [] SERVE_WAIT ≢ Failure) n far.waits.received received k (rw add-one h);
+      fewer = fewer_all;
+    }
+
+    came_next : arrivals ++ more ≡ arrivals_of (deliveries t (suc n))
+    came_next = rw (far.came, brings) (sym (arrivals-append (deliveries t n) (brought (waited SERVE_WAIT n t))))
+
+    sent_next : (answers : List (Option (Station × List ℕ))) → sent_for (deliveries t (suc n)) (replies ++ answers) ≡ sent_for (deliveries t n) replies ++ sent_for (brought (waited SERVE_WAIT n t)) answers
+    sent_next answers =
+        sent_for-append (deliveries t n) (brought (waited SERVE_WAIT n t)) replies answers
+        (sym (length-arrivals (deliveries t n)) ∙ ap length (sym far.came) ∙ same)
+
+    pub serves_on : n < 65536 → (left : Option Told) → left ≡ Some (having_sent (sent_for (brought here) answers) (after_wait SERVE_WAIT here)) →
+        ServesSo t left (arrivals ++ more) (replies ++ answers) count (suc n)
+    serves_on within left e = record {
+      within = omega arith;
+      waits = waits_next;
+      came = came_next;
+      link_left =
+          e ∙ ap Some (having_sent-both (waited SERVE_WAIT (suc n) t) (sent_for (deliveries t n) replies) (sent_for (brought here) answers))
+          ∙ ap (λ (xs : List Sending). Some (having_sent xs (waited SERVE_WAIT (suc n) t))) (sym (sent_next answers));
+    }
+
+    pub unsent_so : n < 65536 → (left : Option Told) (reply : Option (Station × List ℕ)) (lost : Sending) → sent_for (brought here) (reply ∷ []) ≡ lost ∷ [] →
+        left ≡ Some (after_wait SERVE_WAIT here) → ServeUnsent t left (arrivals ++ more) (replies ++ reply ∷ []) count n
+    unsent_so within left reply lost one e = record {
+      within = within;
+      waits = waits_next;
+      came = came_next;
+      made = sent_for (deliveries t n) replies;
+      lost = lost;
+      owed = sent_next (reply ∷ []) ∙ ap (λ (xs : List Sending). sent_for (deliveries t n) replies ++ xs) one;
+      link_left = e;
+    }
+
+  pub deaf_so : n < 65536 → (left : Option Told) → here.heard [] SERVE_WAIT ≡ Failure → left ≡ Some (after_wait SERVE_WAIT here) →
+      ServeDeaf t left arrivals replies count n
+  deaf_so within left failure e = record {
+    within = within;
+    waits = far.waits;
+    fewer = fewer_here;
+    failed = failure;
+    came = far.came;
+    link_left = e;
+  }
+
+-- ---- a wait
+
+-- One reply is one send.
+one_lost : (time : ℕ) (heard : Heard) (reply : Station × List ℕ) → length (arrivals_of (delivery_at time heard)) ≡ 1 →
+    (lost : Sending) × (sent_for (delivery_at time heard) (Some reply ∷ []) ≡ lost ∷ [])
+one_lost time Silence reply e = absurd (omega (arith, e))
+one_lost time (Arrival from octets) reply e = (record { time = time; to = reply.0; octets = reply.1 }, refl)
+one_lost time Failure reply e = absurd (omega (arith, e))
+
+-- A datagram that came, and its answer.
+pub responded : (before after : DeviceState) (arrival : Came) (told mid left : Option Told) (result : Result Brought ToolFault) → Responds before after arrival mid left result →
+    ForSome told (λ t. (t.heard [] SERVE_WAIT ≢ Failure) × (arrival ∷ [] ≡ arrivals_of (brought t))
+    × ((reply : Option (Station × List ℕ)) → reply_sendings (t.time (SERVE_WAIT ∷ [])) reply ≡ sent_for (brought t) (reply ∷ []))
+    × (mid ≡ Some (after_wait SERVE_WAIT t))) → ServesOne before after told left result
+responded before after arrival told mid left (Ok brings) r came = (
+  arrival ∷ [],
+  r.0 ∷ [],
+  r.1,
+  r.2,
+  r.3 ∙ count_one r.0,
+  λ t e.
+      let h = came t e in
+      (h.0, h.1, r.4 _ h.3 ∙ ap (λ (xs : List Sending). Some (having_sent xs (after_wait SERVE_WAIT t))) (h.2 r.0)),
+)
+responded before after arrival told mid left (Err SendFailed) r came = (
+  arrival ∷ [],
+  r.0,
+  r.1,
+  λ t e. let h = came t e in (h.0, h.1, r.2 ∙ h.3),
+)
+responded before after arrival told mid left (Err ReceiveFailed) r came = absurd r
+responded before after arrival told mid left (Err TurnsSpent) r came = absurd r
+responded before after arrival told mid left (Err WriteFailed) r came = absurd r
+
+pub serves_none : (device : DeviceState) (told : Option Told) (count : ℕ) → ServeGoes device device told told count 0 0 0
+serves_none device told count = record {
+  arrivals = [];
+  replies = [];
+  in_turn = refl;
+  came_is = refl;
+  replied_is = refl;
+  so_far = λ t e. record {
+    within = omega arith;
+    waits = record { received = λ k h. absurd (omega arith); fewer = λ k h. absurd (omega arith) };
+    came = refl;
+    link_left = e ∙ ap Some (having_nothing t);
+  };
+}
+
+module _ (before device : DeviceState) (told mid : Option Told) (count came replied n : ℕ) (goes : ServeGoes before device told mid count came replied n) where
+  pub serve_done : came ≡ count → Serves count before device told mid (Ok replied)
+  serve_done all = (
+    goes.arrivals,
+    goes.replies,
+    defined before device goes.arrivals goes.replies goes.in_turn,
+    (sym goes.came_is ∙ all, goes.replied_is, λ t e. (n, goes.so_far t e)),
+  )
+
+  pub serve_spent : n ≡ 65536 → came < count → Serves count before device told mid (Err TurnsSpent)
+  serve_spent all fewer = (
+    goes.arrivals,
+    goes.replies,
+    defined before device goes.arrivals goes.replies goes.in_turn,
+    (rw (← goes.came_is) fewer, λ t e. (n, all, goes.so_far t e)),
+  )
+
+  same : length goes.arrivals ≡ length goes.replies
+  same = same_length before device goes.arrivals goes.replies goes.in_turn
+
+  fewer_came : came < count → length goes.arrivals < count
+  fewer_came fewer = rw (← goes.came_is) fewer
+
+  pub serve_on : (after : DeviceState) (left : Option Told) → n < 65536 → came < count → (brings : Brought) → ServesOne device after mid left (Ok brings) →
+      ServeGoes before after told left count (came + came_in brings) (replied + replied_in brings) (suc n)
+  serve_on after left within fewer brings one = record {
+    arrivals = goes.arrivals ++ one.0;
+    replies = goes.replies ++ one.1;
+    in_turn = turns-append before device after goes.arrivals one.0 goes.replies one.1 goes.in_turn one.2;
+    came_is = rw (goes.came_is, one.3) (sym (length-append goes.arrivals one.0));
+    replied_is = rw (goes.replied_is, one.4) (sym (count-append goes.replies one.1));
+    so_far = λ t e.
+        let far = goes.so_far t e in
+        let heard = one.5 _ far.link_left in
+        serves_on t mid goes.arrivals one.0 goes.replies one.1 count n far same (fewer_came fewer) heard.0 heard.1 within left heard.2;
+  }
+
+  pub serve_fails : (after : DeviceState) (left : Option Told) → n < 65536 → came < count → (fault : ToolFault) → ServesOne device after mid left (Err fault) → Serves count before after told left (Err fault)
+  serve_fails after left within fewer SendFailed one = (
+    goes.arrivals ++ one.0,
+    goes.replies ++ Some one.1 ∷ [],
+    defined before after (goes.arrivals ++ one.0) (goes.replies ++ Some one.1 ∷ [])
+        (turns-append before device after goes.arrivals one.0 goes.replies (Some one.1 ∷ []) goes.in_turn one.2),
+    λ t e.
+        let far = goes.so_far t e in
+        let heard = one.3 _ far.link_left in
+        let single = ap length (sym heard.1) ∙ same_length device after one.0 (Some one.1 ∷ []) one.2 in
+        let lost = one_lost ((waited SERVE_WAIT n t).time (SERVE_WAIT ∷ [])) ((waited SERVE_WAIT n t).heard [] SERVE_WAIT) one.1 single in
+        (n, unsent_so t mid goes.arrivals one.0 goes.replies [] count n far same (fewer_came fewer) heard.0 heard.1 within left (Some one.1) lost.0 lost.1 heard.2),
+  )
+  serve_fails after left within fewer ReceiveFailed one = (
+    goes.arrivals,
+    goes.replies,
+    defined before after goes.arrivals goes.replies (subst (AnswersInTurn before goes.arrivals goes.replies) (sym one.0) goes.in_turn),
+    λ t e.
+        let far = goes.so_far t e in
+        let heard = one.1 _ far.link_left in
+        (n, deaf_so t mid goes.arrivals [] goes.replies [] count n far same (fewer_came fewer) within left heard.0 heard.1),
+  )
+  serve_fails after left within fewer TurnsSpent one = absurd one
+  serve_fails after left within fewer WriteFailed one = absurd one

@@ -1,0 +1,12 @@
+use Rattle.std.proofs.Common.{◌≡◌, ◌≤◌, false}
+use Rattle.bac_text.specs.Checked.{inner_of, has_failed}
+use Rattle.bac_links.specs.SearchSteps.{SearchGoes}
+use Rattle.bac_links.proofs.search.run_whois.Given as goal
+
+abbrev pub invariant-loop-turn : goal.invariant-loop-turn
+invariant-loop-turn g l = record {
+  sound : g.L.Link.has_failed l.link ≡ false;
+  unfailed : has_failed l.writer ≡ false;
+  later : l.first ≤ l.greatest;
+  goes : SearchGoes l.fn.search (g.W.Write.contents (inner_of l.fn.writer)) (g.W.Write.contents (inner_of l.writer)) (g.L.Link.told l.fn.link) (g.L.Link.told l.link) l.first l.greatest l.any l._turn;
+}

@@ -1,0 +1,11 @@
+use Rattle.std.proofs.Common.{◌≡◌, ◌<◌, ◌≤◌, false}
+use Rattle.bac_links.specs.Serve.{ServeGoes}
+use Rattle.bac_links.proofs.serving.serve.Given as goal
+
+abbrev pub invariant-loop-turn : goal.invariant-loop-turn
+invariant-loop-turn g l = record {
+  sound : g.L.Link.has_failed l.link ≡ false;
+  fewer : l.came < l.fn.count;
+  one_a_turn : l.replied ≤ l._turn;
+  goes : ServeGoes l.fn.device l.device (g.L.Link.told l.fn.link) (g.L.Link.told l.link) l.fn.count l.came l.replied l._turn;
+}

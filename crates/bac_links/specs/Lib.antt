@@ -1,0 +1,12 @@
+pub mod Told
+pub mod Memory
+pub mod Fault
+pub mod Moments
+pub mod Ending
+pub mod Call
+pub mod CallSteps
+pub mod Search
+pub mod SearchSteps
+pub mod Serve
+pub mod Courses
+pub mod Rehearsal

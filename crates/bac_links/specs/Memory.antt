@@ -1,0 +1,73 @@
+-- What a link in memory tells.
+use Rattle.std.specs.Prelude.{ℕ, ◌+◌, ◌-◌, ◌^◌, min, List, [], ◌∷◌, map, length, nat_le, if◌then◌else◌, Option, None}
+use Rattle.bac_pdu.specs.Peer.{Station, station}
+use Rattle.bac_links.specs.Told.{Told, Heard, Silence, Arrival, Failure, Sending}
+use Rattle.bac_links.specs.declared.datagram.TheConstants.{DATAGRAM_OCTETS}
+use Rattle.bac_links.specs.declared.memory.Step.{Step}
+use Rattle.bac_links.specs.declared.memory.Step.TheVariants.{Quiet, Packet, Broken}
+use Rattle.bac_links.specs.declared.memory.Kept.{Kept}
+use Rattle.bac_links.specs.declared.memory.Kept.TheVariants as kept
+use Rattle.bac_links.specs.declared.memory.Record.{Record}
+use Rattle.bac_links.specs.declared.memory.MemoryLink.{MemoryLink}
+
+-- What one receive hears, and the time then.
+pub data Scene : Type 0 where
+  Still : (time : ℕ) → Scene
+  Comes : (time : ℕ) (from : Station) (octets : List ℕ) → Scene
+  Breaks : Scene
+
+abbrev pub scene_of_step : Step → Scene
+scene_of_step (Quiet time) = Still time
+scene_of_step (Packet time from octets) = Comes time (station from) octets.now
+scene_of_step Broken = Breaks
+
+abbrev pub scene_of_kept : {A : Type 0} → Kept A → Scene
+scene_of_kept (kept.Quiet time) = Still time
+scene_of_kept (kept.Packet time from octets) = Comes time (station from) octets.items
+scene_of_kept kept.Broken = Breaks
+
+-- The address and the port of a station.
+abbrev pub unrouted : Station → Station
+unrouted peer = record { ip = peer.ip; port = peer.port; route = None }
+
+-- A datagram comes from an address and a port, and is not heard where no receive can hold it.
+abbrev pub heard_at : Scene → Heard
+heard_at (Still time) = Silence
+heard_at (Comes time from octets) = if nat_le (length octets) DATAGRAM_OCTETS then Arrival (unrouted from) octets else Silence
+heard_at Breaks = Failure
+
+-- A receive that fails leaves the time.
+abbrev pub time_at : Scene → ℕ → ℕ
+time_at (Still time) now = time
+time_at (Comes time from octets) now = time
+time_at Breaks now = now
+
+-- Each wait takes one scene, and once there is none it hears nothing.
+abbrev pub heard_after : List Scene → List ℕ → Heard
+heard_after [] waits = Silence
+heard_after (scene ∷ scenes) [] = heard_at scene
+heard_after (scene ∷ scenes) (wait ∷ waits) = heard_after scenes waits
+
+-- Once there is no scene, the time goes on by each wait, and stops at the greatest.
+abbrev pub time_after : List Scene → ℕ → List ℕ → ℕ
+time_after scenes now [] = now
+time_after [] now (wait ∷ waits) = time_after [] (min (now + wait) (2 ^ 64 - 1)) waits
+time_after (scene ∷ scenes) now (wait ∷ waits) = time_after scenes (time_at scene now) waits
+
+abbrev pub told_by : List Scene → ℕ → List Sending → Told
+told_by scenes now sent = record {
+  heard = λ waits wait. heard_after scenes waits;
+  time = time_after scenes now;
+  sent = sent;
+}
+
+abbrev pub sending_of : {A : Type 0} → Record A → Sending
+sending_of r = record { time = r.time; to = station r.to; octets = r.octets.items }
+
+-- What a link in memory tells, as it stands.
+abbrev pub told_of : {A : Type 0} → MemoryLink A → Told
+told_of link = told_by (map scene_of_kept link.steps.items) link.time (map sending_of link.sent.items)
+
+-- The number of the send that fails, if one is to.
+abbrev pub fails_at : {A : Type 0} → MemoryLink A → Option ℕ
+fails_at link = link.fail_send

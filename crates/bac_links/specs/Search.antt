@@ -1,0 +1,160 @@
+-- A search for devices over what its link tells: what it sends, which devices it finds, what it prints, and when it ends.
+use Rattle.std.specs.Prelude.{◌≡◌, ◌≢◌, ℕ, zero, suc, ◌-◌, ◌<◌, ◌≤◌, min, max, ◌==◌, false, List, [], ◌∷◌, ◌++◌, decimal, if◌then◌else◌, Option, Some, None, Result, Ok, Err}
+use Rattle.std.specs.Option.{ForSome, option_to_list, option_and_then}
+use Rattle.std.specs.List.{flat_map}
+use Rattle.std.specs.Io.KnownBytes.{Appends}
+use Rattle.bac_pdu.specs.declared.discovery.WhoIs.{WhoIs}
+use Rattle.bac_pdu.specs.Peer.{Station, station}
+use Rattle.bac_pdu.specs.Apdu.{Message, laid_out, confirmed, unconfirmed, simple_ack, complex_ack, segment_ack, error, reject, abort}
+use Rattle.bac_pdu.specs.ApduReading.{apdu_of}
+use Rattle.bac_pdu.specs.Datagram.{Delivery, wrapped}
+use Rattle.bac_pdu.specs.DatagramReading.{carried}
+use Rattle.bac_pdu.specs.Discovery.{Introduction, introduction, who_is_octets}
+use Rattle.bac_pdu.specs.ValueReading.{introduction_of}
+use Rattle.bac_device.specs.Reply.{asks}
+use Rattle.bac_text.specs.PeerTexts.{peer_text}
+use Rattle.bac_links.specs.Told.{Told, Heard, Silence, Arrival, Failure, Sending, waited, having_sent}
+use Rattle.bac_links.specs.declared.ending.Exit.{Exit}
+use Rattle.bac_links.specs.declared.ending.Exit.TheVariants.{Good, Bad}
+use Rattle.bac_links.specs.declared.fault.ToolFault.{ToolFault}
+use Rattle.bac_links.specs.declared.fault.ToolFault.TheVariants.{SendFailed, ReceiveFailed, TurnsSpent, WriteFailed}
+use Rattle.bac_text.specs.declared.jobs.Search.{Search}
+use Rattle.bac_links.specs.declared.search.Found.{Found as Finding}
+
+-- A device that introduced itself, and where it is.
+pub record Found : Type 0 where
+  pub peer : Station
+  pub device : Introduction
+
+abbrev pub found_seen : Finding → Found
+found_seen found = record { peer = station found.peer; device = introduction found.device }
+
+-- A Who-Is (8) to this peer (clause 16.10).
+abbrev pub who_is_datagram : Station → WhoIs → List ℕ
+who_is_datagram to who = wrapped to.route false (laid_out (unconfirmed 8 (who_is_octets who)))
+
+-- What an I-Am (0) says.
+abbrev pub introduced_in : Message → Option Introduction
+introduced_in (confirmed part code id service body) = None
+introduced_in (unconfirmed service body) = if service == 0 then introduction_of body else None
+introduced_in (simple_ack id service) = None
+introduced_in (complex_ack part id service body) = None
+introduced_in segment_ack = None
+introduced_in (error id service body) = None
+introduced_in (reject id reason) = None
+introduced_in (abort server id reason) = None
+
+-- The device, if it is one that was asked for.
+abbrev pub if_asked : WhoIs → Station → Introduction → Option Found
+if_asked who peer device = if asks who device.device.instance then Some (record { peer = peer; device = device }) else None
+
+-- The device that introduces itself in what a datagram carries.
+abbrev pub found_in : WhoIs → Delivery → Option Found
+found_in who delivery = option_and_then (λ message. option_and_then (if_asked who delivery.peer) (introduced_in message)) (apdu_of delivery.apdu)
+
+-- The device that introduces itself in a datagram, where it is one that was asked for.
+unfoldable pub found_of : WhoIs → Station → List ℕ → Option Found
+found_of who from octets = option_and_then (found_in who) (carried from octets)
+
+-- The device that a wait finds, if it finds one.
+abbrev pub found_by : WhoIs → Heard → List Found
+found_by who Silence = []
+found_by who (Arrival from octets) = option_to_list (found_of who from octets)
+found_by who Failure = []
+
+-- The line that is printed of a device.
+abbrev pub found_line : Found → List ℕ
+found_line found =
+    decimal found.device.device.instance
+    ++ 32 ∷ (peer_text found.peer
+    ++ 32 ∷ (decimal found.device.max_apdu ++ 32 ∷ (decimal found.device.segmentation ++ 32 ∷ (decimal found.device.vendor ++ 10 ∷ []))))
+
+abbrev pub found_lines : List Found → List ℕ
+found_lines = flat_map found_line
+
+-- It is good to have found a device.
+abbrev pub search_exit : List Found → Exit
+search_exit [] = Bad
+search_exit (found ∷ later) = Good
+
+abbrev pub search_wait : Search → ℕ
+search_wait search = min search.timeout 50
+
+-- What turn n hears.
+abbrev pub search_hears : Search → Told → ℕ → Heard
+search_hears search t n = (waited (search_wait search) n t).heard [] (search_wait search)
+
+-- The devices that the first n turns find, in their order.
+abbrev pub found_after : Search → Told → ℕ → List Found
+found_after search t zero = []
+found_after search t (suc n) = found_after search t n ++ found_by search.who (search_hears search t n)
+
+-- The greatest time at the beginning and after each of the first n turns.
+abbrev pub greatest_time : Search → Told → ℕ → ℕ
+greatest_time search t zero = t.time []
+greatest_time search t (suc n) = max (greatest_time search t n) ((waited (search_wait search) (suc n) t).time [])
+
+-- How much time has gone by after n turns.
+abbrev pub passed : Search → Told → ℕ → ℕ
+passed search t n = greatest_time search t n - t.time []
+
+-- The Who-Is, as it is sent at the beginning.
+abbrev pub who_is_sending : Search → Told → Sending
+who_is_sending search t = record { time = t.time []; to = station search.to; octets = who_is_datagram (station search.to) search.who }
+
+-- The link after n turns, with the Who-Is sent.
+abbrev pub searched : Search → Told → ℕ → Option Told
+searched search t n = Some (having_sent (who_is_sending search t ∷ []) (waited (search_wait search) n t))
+
+-- After n turns, none of which failed to receive, there is still time.
+pub record Searches (search : Search) (t : Told) (n : ℕ) : Type 0 where
+  pub received : (k : ℕ) → k < n → search_hears search t k ≢ Failure
+  pub in_time : (k : ℕ) → k < suc n → passed search t k < search.timeout
+
+-- The time is up after turn n.
+pub record SearchEnds (search : Search) (t : Told) (left : Option Told) (found : List Found) (n : ℕ) : Type 0 where
+  pub within : n < 65536
+  pub before : Searches search t n
+  pub received : search_hears search t n ≢ Failure
+  pub over : search.timeout ≤ passed search t (suc n)
+  pub finds : found ≡ found_after search t (suc n)
+  pub link_left : left ≡ searched search t (suc n)
+
+-- Turn n failed to receive.
+pub record SearchFails (search : Search) (t : Told) (left : Option Told) (found : List Found) (n : ℕ) : Type 0 where
+  pub within : n < 65536
+  pub before : Searches search t n
+  pub failed : search_hears search t n ≡ Failure
+  pub finds : found ≡ found_after search t n
+  pub link_left : left ≡ searched search t (suc n)
+
+-- All turns went by, and there is still time.
+pub record SearchSpent (search : Search) (t : Told) (left : Option Told) (found : List Found) (n : ℕ) : Type 0 where
+  pub all : n ≡ 65536
+  pub before : Searches search t n
+  pub finds : found ≡ found_after search t n
+  pub link_left : left ≡ searched search t n
+
+-- The line of the last of these devices, which turn n found, could not be written whole.
+pub record SearchStops (search : Search) (t : Told) (left : Option Told) (found : List Found) (last : Found) (n : ℕ) : Type 0 where
+  pub within : n < 65536
+  pub before : Searches search t n
+  pub finds : found ≡ found_after search t n
+  pub heard : found_by search.who (search_hears search t n) ≡ last ∷ []
+  pub link_left : left ≡ searched search t (suc n)
+
+-- What a search prints, answers, sends and leaves of its link, where the link tells what it will hear: the lines of the devices
+-- that were found, each whole before the next wait; of the last one a front, where the writer failed.
+abbrev pub Searched : Search → Option (List ℕ) → Option (List ℕ) → Option Told → Option Told → Result Exit ToolFault → Type 0
+Searched search before after told left (Ok exit) =
+    (found : List Found) × (exit ≡ search_exit found) × Appends before after (found_lines found)
+    × ForSome told (λ t. (n : ℕ) × SearchEnds search t left found n)
+Searched search before after told left (Err SendFailed) =
+    Appends before after [] × ForSome told (λ t. left ≡ Some t)
+Searched search before after told left (Err ReceiveFailed) =
+    (found : List Found) × Appends before after (found_lines found) × ForSome told (λ t. (n : ℕ) × SearchFails search t left found n)
+Searched search before after told left (Err TurnsSpent) =
+    (found : List Found) × Appends before after (found_lines found) × ForSome told (λ t. (n : ℕ) × SearchSpent search t left found n)
+Searched search before after told left (Err WriteFailed) =
+    (found : List Found) × (last : Found) × (taken rest : List ℕ) × (found_line last ≡ taken ++ rest)
+    × Appends before after (found_lines found ++ taken) × ForSome told (λ t. (n : ℕ) × SearchStops search t left found last n)

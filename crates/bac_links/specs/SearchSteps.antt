@@ -1,0 +1,42 @@
+-- One turn of a search.
+use Rattle.std.specs.Prelude.{◌≡◌, ◌≢◌, ℕ, Bool, true, false, List, [], ◌∷◌, ◌++◌, Option, Some, Result, Ok, Err}
+use Rattle.std.specs.Option.{ForSome}
+use Rattle.std.specs.Io.KnownBytes.{Appends}
+use Rattle.bac_pdu.specs.declared.discovery.WhoIs.{WhoIs}
+use Rattle.bac_links.specs.Told.{Told, Failure, after_wait}
+use Rattle.bac_links.specs.Search.{Found, found_by, found_line, found_lines, found_after, greatest_time, searched, Searches}
+use Rattle.bac_text.specs.declared.jobs.Search.{Search}
+use Rattle.bac_links.specs.declared.fault.ToolFault.{ToolFault}
+use Rattle.bac_links.specs.declared.fault.ToolFault.TheVariants.{SendFailed, ReceiveFailed, TurnsSpent, WriteFailed}
+
+abbrev pub has_found : List Found → Bool
+has_found [] = false
+has_found (found ∷ later) = true
+
+-- What a wait hears, and what is printed of that.
+abbrev pub Listens : WhoIs → ℕ → Option (List ℕ) → Option (List ℕ) → Option Told → Option Told → Result Bool ToolFault → Type 0
+Listens who wait before after told left (Ok any) =
+    (found : List Found) × (any ≡ has_found found) × Appends before after (found_lines found)
+    × ForSome told (λ t. (t.heard [] wait ≢ Failure) × (found ≡ found_by who (t.heard [] wait)) × (left ≡ Some (after_wait wait t)))
+Listens who wait before after told left (Err SendFailed) = ⊥
+Listens who wait before after told left (Err ReceiveFailed) =
+    Appends before after [] × ForSome told (λ t. (t.heard [] wait ≡ Failure) × (left ≡ Some (after_wait wait t)))
+Listens who wait before after told left (Err TurnsSpent) = ⊥
+Listens who wait before after told left (Err WriteFailed) =
+    (last : Found) × (taken rest : List ℕ) × (found_line last ≡ taken ++ rest) × Appends before after taken
+    × ForSome told (λ t. (found_by who (t.heard [] wait) ≡ last ∷ []) × (left ≡ Some (after_wait wait t)))
+
+-- A search after n turns, over what the link told.
+pub record SearchesSo (search : Search) (t : Told) (link : Option Told) (first greatest : ℕ) (found : List Found) (n : ℕ) : Type 0 where
+  pub began : first ≡ t.time []
+  pub time : greatest ≡ greatest_time search t n
+  pub before : Searches search t n
+  pub finds : found ≡ found_after search t n
+  pub link_left : link ≡ searched search t n
+
+-- A search after n turns.
+pub record SearchGoes (search : Search) (before after : Option (List ℕ)) (told link : Option Told) (first greatest : ℕ) (any : Bool) (n : ℕ) : Type 0 where
+  pub found : List Found
+  pub any_is : any ≡ has_found found
+  pub printed : Appends before after (found_lines found)
+  pub so_far : ForSome told (λ t. SearchesSo search t link first greatest found n)

@@ -1,0 +1,46 @@
+-- What a link tells before it is asked: what each wait will hear and what the time will be then, by the waits; and what it sent.
+use Rattle.std.specs.Prelude.{ℕ, zero, suc, List, ◌∷◌, ◌++◌, Option, Result, Some, None, Ok, Err}
+use Rattle.bac_pdu.specs.declared.peer.Peer.{Peer}
+use Rattle.bac_pdu.specs.Peer.{Station, station}
+use Rattle.bac_links.specs.declared.link.LinkFault.{LinkFault}
+
+-- What a receive hears.
+pub data Heard : Type 0 where
+  Silence : Heard
+  Arrival : (from : Station) (octets : List ℕ) → Heard
+  Failure : Heard
+
+-- A datagram that was sent, and when.
+pub record Sending : Type 0 where
+  pub time : ℕ
+  pub to : Station
+  pub octets : List ℕ
+
+-- What the next wait hears after these earlier ones, the time after these waits, and what was sent so far.
+pub record Told : Type 0 where
+  pub heard : List ℕ → ℕ → Heard
+  pub time : List ℕ → ℕ
+  pub sent : List Sending
+
+-- The link once it waited this long.
+abbrev pub after_wait : ℕ → Told → Told
+after_wait wait t = record {
+  heard = λ waits. t.heard (wait ∷ waits);
+  time = λ waits. t.time (wait ∷ waits);
+  sent = t.sent;
+}
+
+-- The link once it waited n times, always as long.
+abbrev pub waited : ℕ → ℕ → Told → Told
+waited wait zero t = t
+waited wait (suc n) t = after_wait wait (waited wait n t)
+
+-- The link once it sent these too.
+abbrev pub having_sent : List Sending → Told → Told
+having_sent more t = record { heard = t.heard; time = t.time; sent = t.sent ++ more }
+
+-- What is heard where `receive` answers this and leaves these octets in its datagram.
+abbrev pub heard_by : Result (Option Peer) LinkFault → List ℕ → Heard
+heard_by (Ok None) octets = Silence
+heard_by (Ok (Some from)) octets = Arrival (station from) octets
+heard_by (Err fault) octets = Failure

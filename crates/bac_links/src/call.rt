@@ -1,0 +1,223 @@
+//! One request to one peer, and its end.
+ghost use Rattle.std.specs.Prelude.{◌≡◌, ◌≢◌, ◌<◌, ℕ, suc, false, min, is_err, [], ◌∷◌, ◌++◌, Bool, List, Option, Some, MatchOption, IfOk, IfErr, OnOk, map};
+ghost use Rattle.std.specs.Option.{ForSome, option_map, option_to_list};
+ghost use Rattle.bac_pdu.specs.Peer.{station};
+ghost use Rattle.bac_tsm.specs.Events.{Outcome as How, Tick};
+ghost use Rattle.bac_tsm.specs.Machine.{step, sent};
+ghost use Rattle.bac_tsm.specs.Client.{rules_of, keeping, outcome_seen};
+ghost use Rattle.bac_text.specs.Checked.{inner_of, has_failed, Puts};
+ghost use Rattle.bac_links.specs.Told.{Told, Sending, Failure, after_wait, having_sent};
+ghost use Rattle.bac_links.specs.Fault.{is_link_fault, is_write_fault};
+ghost use Rattle.bac_links.specs.Ending.{ending_seen, ending_line, exit_of};
+ghost use Rattle.bac_links.specs.Call.{wait_of, sendings, FailsToSend, Tells};
+ghost use Rattle.bac_links.specs.CallSteps.{endings, heard_step, IsAlone, timeouts, answers, Underway, Ended, TurnFails};
+ghost use Rattle.bac_links.specs.declared.ending.Tool.{Tool as Purpose};
+ghost use Rattle.bac_text.specs.declared.jobs.Call.{Call as Asked};
+
+use crate::datagram::Datagram;
+use crate::ending::{Ending, Exit, Tool, show_ending};
+use crate::fault::ToolFault;
+use crate::link::Link;
+use bac_text::{Call, Checked};
+use bac_tsm::{Client, Config, Entry, Outcome};
+use std::io::Write;
+
+/// The longest wait of a turn, in milliseconds.
+const LONGEST_WAIT: u32 = 50;
+
+/// The turns after which a tool gives up.
+pub(crate) const TURNS: u32 = 65_536;
+
+/// How long a turn of a call or a search with this timeout waits, in milliseconds.
+pub(crate) fn turn_wait(timeout: u32) -> u32
+    ensures { result ≡ min timeout 50 }
+{
+    timeout.min(LONGEST_WAIT)
+}
+
+// Sends the datagram of an open request.
+fn send_request<L: Link>(client: &Client, ticket: u64, link: &mut L) -> Result<(), ToolFault>
+    requires { L.has_failed link.old ≡ false }
+    ensures fault { L.has_failed link.new ≡ is_link_fault result }
+    ensures ok { OnOk result (ForSome (L.told link.old) (λ t. L.told link.new ≡ Some (having_sent (sendings (t.time []) (sent client.now.state ticket)) t))) }
+    ensures err { IfErr result (λ fault. (fault ≡ ToolFault.SendFailed) × (L.told link.new ≡ L.told link.old)
+        × ((time : ℕ) → (lost : Sending) × (sendings time (sent client.now.state ticket) ≡ lost ∷ []))) }
+{
+    if let Some((to, octets)) = client.to_send(ticket) {
+        if link.send(to, octets).is_err() {
+            return Err(ToolFault::SendFailed);
+        }
+    }
+    Ok(())
+}
+
+// Hands the client what the link hears. What an answer ends the request with lends octets of the datagram.
+fn hear<'d, L: Link>(
+    client: &mut Client,
+    link: &mut L,
+    wait_ms: u32,
+    datagram: &'d mut Datagram,
+) -> Result<Option<Outcome<'d>>, ToolFault>
+    requires { L.has_failed link.old ≡ false }
+    ensures fault { L.has_failed link.new ≡ is_link_fault result }
+    ensures ok { IfOk result (λ outcome. ForSome (L.told link.old) (λ t.
+        let handed = heard_step (rules_of client.old) client.old.state (t.heard [] wait_ms) in
+        (t.heard [] wait_ms ≢ Failure) × (L.told link.new ≡ Some (after_wait wait_ms t))
+        × (endings handed.notes ≡ answers (option_map outcome_seen outcome)) × (client.new ≡ keeping client.old handed.after))) }
+    ensures err { IfErr result (λ fault. (fault ≡ ToolFault.ReceiveFailed)
+        × ForSome (L.told link.old) (λ t. (t.heard [] wait_ms ≡ Failure) × (L.told link.new ≡ Some (after_wait wait_ms t)))) }
+{
+    match link.receive(wait_ms, datagram) {
+        Ok(Some(from)) => match client.datagram(from, datagram.as_slice()) {
+            Some(ended) => Ok(Some(ended.outcome)),
+            None => Ok(None),
+        },
+        Ok(None) => Ok(None),
+        Err(_) => Err(ToolFault::ReceiveFailed),
+    }
+}
+
+// Tells the client the time, and sends the request again where that is due. True where it has ended instead.
+fn pass_time<L: Link>(client: &mut Client, link: &mut L) -> Result<bool, ToolFault>
+    requires { L.has_failed link.old ≡ false }
+    ensures fault { L.has_failed link.new ≡ is_link_fault result }
+    ensures ok { IfOk result (λ over. ForSome (L.told link.old) (λ t. IsAlone client.old.state →
+        (let ticked = step (rules_of client.old) client.old.state (Tick (t.time [])) in
+        (endings ticked.notes ≡ timeouts over) × (client.new ≡ keeping client.old ticked.after)
+        × (L.told link.new ≡ Some (having_sent (sendings (t.time []) ticked.notes) t))))) }
+    ensures err { IfErr result (λ fault. (fault ≡ ToolFault.SendFailed)
+        × ForSome (L.told link.old) (λ t. IsAlone client.old.state →
+        (let ticked = step (rules_of client.old) client.old.state (Tick (t.time [])) in
+        (endings ticked.notes ≡ []) × ((lost : Sending) × (sendings (t.time []) ticked.notes ≡ lost ∷ [])) × (L.told link.new ≡ Some t)))) }
+{
+    let due = client.tick(link.now());
+    match due.as_slice().first() {
+        Some(&Entry::Resend(ticket)) => {
+            send_request(client, ticket, link)?;
+            Ok(false)
+        }
+        Some(Entry::TimedOut(_)) => Ok(true),
+        None => Ok(false),
+    }
+}
+
+// One turn of a call: how the request ended, if it did. After an answer the time is not asked for.
+fn turn<'d, L: Link>(
+    client: &mut Client,
+    link: &mut L,
+    wait_ms: u32,
+    datagram: &'d mut Datagram,
+) -> Result<Option<Ending<'d>>, ToolFault>
+    requires { L.has_failed link.old ≡ false }
+    ensures fault { L.has_failed link.new ≡ is_link_fault result }
+    ensures ok { IfOk result (λ ending. (tool : Purpose) (call : Asked) (t : Told) (n : ℕ) → wait_ms ≡ wait_of call →
+        Underway tool call t (L.told link.old) client.old n →
+        MatchOption ending (Underway tool call t (L.told link.new) client.new (suc n))
+        (λ end. Ended tool call t (L.told link.new) (ending_seen end) n)) }
+    ensures err { IfErr result (λ fault. (fault ≢ ToolFault.WriteFailed)
+        × ((tool : Purpose) (call : Asked) (t : Told) (n : ℕ) → wait_ms ≡ wait_of call →
+        Underway tool call t (L.told link.old) client.old n → TurnFails tool call t (L.told link.new) n fault)) }
+{
+    match hear(client, link, wait_ms, datagram) {
+        Ok(Some(outcome)) => Ok(Some(Ending::Answered(outcome))),
+        Ok(None) => match pass_time(client, link) {
+            Ok(true) => Ok(Some(Ending::TimedOut)),
+            Ok(false) => Ok(None),
+            Err(fault) => Err(fault),
+        },
+        Err(fault) => Err(fault),
+    }
+}
+
+// Asks for what the call is for.
+fn begin<L: Link>(tool: Tool, call: &Call, link: &mut L) -> Result<Client, ToolFault>
+    requires sound { L.has_failed link.old ≡ false }
+    requires timeout { 0 < call.now.timeout }
+    ensures fault { L.has_failed link.new ≡ is_link_fault result }
+    ensures ok { IfOk result (λ client. ForSome (L.told link.old) (λ t. Underway tool call.now t (L.told link.new) client 0)) }
+    ensures err { IfErr result (λ fault. (fault ≡ ToolFault.SendFailed)
+        × ForSome (L.told link.old) (λ t. FailsToSend tool call.now t (L.told link.new) 0)) }
+{
+    let config = Config {
+        timeout: call.timeout,
+        retries: call.retries,
+    };
+    let mut client = Client::new(config, 0);
+    let _ = client.tick(link.now());
+    let ticket = client
+        .submit(call.to, tool.service(), call.body.as_slice())
+        .unwrap();
+    send_request(&client, ticket, link)?;
+    Ok(client)
+}
+
+// Makes the call's request, waits for its end, and prints how it ended.
+fn run<L: Link, W: Write>(
+    tool: Tool,
+    call: &Call,
+    link: &mut L,
+    writer: &mut Checked<W>,
+) -> Result<Exit, ToolFault>
+    requires link { L.has_failed link.old ≡ false }
+    requires writer { has_failed writer.old ≡ false }
+    requires timeout { 0 < call.now.timeout }
+    ensures link_fault { L.has_failed link.new ≡ is_link_fault result }
+    ensures write_fault { has_failed writer.new ≡ is_write_fault result }
+    ensures told { Tells tool call.now (W.contents (inner_of writer.old)) (W.contents (inner_of writer.new)) (L.told link.old) (L.told link.new) result }
+    ensures unprinted { IfErr result (λ fault. fault ≢ ToolFault.WriteFailed → writer.new ≡ writer.old) }
+{
+    let mut client = begin(tool, call, link)?;
+    let wait_ms = turn_wait(call.timeout);
+    let mut datagram = Datagram::new();
+    for _turn in 0..TURNS {
+        if let Some(ending) = turn(&mut client, link, wait_ms, &mut datagram)? {
+            return show_ending(tool, ending, writer);
+        }
+    }
+    Err(ToolFault::TurnsSpent)
+}
+
+/// Reads a property (clause 15.5): sends the request, waits for how it ends, and prints that in a line, as `4290999a`,
+/// `error 2 32` or `timeout`. It is good to have read a value. What the answer says of the object and the property is not
+/// compared with what was asked.
+///
+/// # Errors
+///
+/// `SendFailed` and `ReceiveFailed` where the link failed so, and `TurnsSpent` where the request is open after 65,536 turns;
+/// nothing was printed then. `WriteFailed` where the writer failed or took no octet; a front of the line was printed then.
+pub fn run_read<L: Link, W: Write>(
+    call: &Call,
+    link: &mut L,
+    writer: &mut Checked<W>,
+) -> Result<Exit, ToolFault>
+    requires link { L.has_failed link.old ≡ false }
+    requires writer { has_failed writer.old ≡ false }
+    requires timeout { 0 < call.now.timeout }
+    ensures link_fault { L.has_failed link.new ≡ is_link_fault result }
+    ensures write_fault { has_failed writer.new ≡ is_write_fault result }
+    ensures told { Tells Tool.Reading call.now (W.contents (inner_of writer.old)) (W.contents (inner_of writer.new)) (L.told link.old) (L.told link.new) result }
+    ensures unprinted { IfErr result (λ fault. fault ≢ ToolFault.WriteFailed → writer.new ≡ writer.old) }
+{
+    run(Tool::Reading, call, link, writer)
+}
+
+/// Writes a property (clause 15.9): the same, and where it was written the line is `ok`, which is good.
+///
+/// # Errors
+///
+/// Those of `run_read`.
+pub fn run_write<L: Link, W: Write>(
+    call: &Call,
+    link: &mut L,
+    writer: &mut Checked<W>,
+) -> Result<Exit, ToolFault>
+    requires link { L.has_failed link.old ≡ false }
+    requires writer { has_failed writer.old ≡ false }
+    requires timeout { 0 < call.now.timeout }
+    ensures link_fault { L.has_failed link.new ≡ is_link_fault result }
+    ensures write_fault { has_failed writer.new ≡ is_write_fault result }
+    ensures told { Tells Tool.Writing call.now (W.contents (inner_of writer.old)) (W.contents (inner_of writer.new)) (L.told link.old) (L.told link.new) result }
+    ensures unprinted { IfErr result (λ fault. fault ≢ ToolFault.WriteFailed → writer.new ≡ writer.old) }
+{
+    run(Tool::Writing, call, link, writer)
+}

@@ -1,0 +1,114 @@
+//! How a call ends, and what is printed of that.
+ghost use Rattle.std.specs.Prelude.{◌≡◌, false, is_err, is_some, if◌then◌else◌, IfOk, IfErr};
+ghost use Rattle.bac_text.specs.Checked.{inner_of, has_failed, Puts};
+ghost use Rattle.bac_text.specs.Page.{Prints};
+ghost use Rattle.bac_links.specs.Call.{service_of};
+ghost use Rattle.bac_pdu.specs.PropertyReading.{ack_of};
+ghost use Rattle.bac_links.specs.Ending.{ending_seen, ending_text, ending_line, exit_of, status_of, value_text};
+
+use crate::fault::ToolFault;
+use bac_outcomes::print_outcome;
+use bac_pdu::read_ack;
+use bac_text::{Checked, Page};
+use bac_tsm::Outcome;
+use std::io::Write;
+
+/// How a tool ends that has met no fault.
+#[derive(Clone, Copy, Debug, PartialEq, Eq)]
+pub enum Exit {
+    /// A value was read, a write was made, or a device was heard.
+    Good,
+    /// The request ended otherwise, or no device was heard.
+    Bad,
+}
+
+/// What a call is for.
+#[derive(Clone, Copy)]
+pub(crate) enum Tool {
+    Reading,
+    Writing,
+}
+
+/// How a request ended.
+#[derive(Clone, Copy)]
+pub(crate) enum Ending<'d> {
+    Answered(Outcome<'d>),
+    TimedOut,
+}
+
+impl Tool {
+    /// The service choice of the request (clause 21, BACnetConfirmedServiceChoice).
+    pub(crate) fn service(self) -> u8
+        ensures { result ≡ service_of self }
+    {
+        match self {
+            Tool::Reading => 12,
+            Tool::Writing => 15,
+        }
+    }
+}
+
+/// Prints the line that tells how the request ended.
+pub(crate) fn show_ending<W: Write>(
+    tool: Tool,
+    ending: Ending<'_>,
+    writer: &mut Checked<W>,
+) -> Result<Exit, ToolFault>
+    requires { has_failed writer.old ≡ false }
+    ensures text { Puts (W.contents (inner_of writer.old)) (W.contents (inner_of writer.new)) (ending_line tool (ending_seen ending.entry)) result }
+    ensures failed { has_failed writer.new ≡ is_err result }
+    ensures exit { IfOk result (λ exit. exit ≡ exit_of tool (ending_seen ending.entry)) }
+    ensures fault { IfErr result (λ fault. fault ≡ ToolFault.WriteFailed) }
+{
+    let mut page = Page::new(writer);
+    let exit = print_ending(&mut page, tool, ending);
+    page.print(b"\n");
+    page.finish()?;
+    Ok(exit)
+}
+
+fn print_ending<W: Write>(page: &mut Page<'_, W>, tool: Tool, ending: Ending<'_>) -> Exit
+    ensures text { Prints W.contents page.old page.new (ending_text tool (ending_seen ending.entry)) }
+    ensures exit { result ≡ exit_of tool (ending_seen ending.entry) }
+{
+    match (tool, ending) {
+        (Tool::Reading, Ending::Answered(Outcome::Complex(body))) => {
+            return print_value(page, body);
+        }
+        (Tool::Writing, Ending::Answered(Outcome::Simple)) => {
+            page.print(b"ok");
+            return Exit::Good;
+        }
+        (_, Ending::Answered(Outcome::Simple | Outcome::Complex(_))) => page.print(b"bad-ack"),
+        (_, Ending::Answered(outcome)) => print_outcome(page, outcome),
+        (_, Ending::TimedOut) => page.print(b"timeout"),
+    }
+    Exit::Bad
+}
+
+fn print_value<W: Write>(page: &mut Page<'_, W>, body: &[u8]) -> Exit
+    ensures text { Prints W.contents page.old page.new (value_text (ack_of body.now)) }
+    ensures exit { result ≡ (if is_some (ack_of body.now) then Exit.Good else Exit.Bad) }
+{
+    match read_ack(body) {
+        Some(ack) => {
+            page.print_region(ack.value);
+            Exit::Good
+        }
+        None => {
+            page.print(b"bad-ack");
+            Exit::Bad
+        }
+    }
+}
+
+/// The status with which the program ends: 0 where it is good, 1 where it is not, 3 after a fault.
+pub fn status(answer: &Result<Exit, ToolFault>) -> u8
+    ensures { result ≡ status_of answer.now }
+{
+    match answer {
+        Ok(Exit::Good) => 0,
+        Ok(Exit::Bad) => 1,
+        Err(_) => 3,
+    }
+}

@@ -1,0 +1,50 @@
+//! What the tools send and receive datagrams through.
+ghost use Rattle.std.specs.Prelude.{◌≡◌, Bool, false, is_err, [], ◌∷◌, Option, Some, None, IfOk, IfSome, OnOk, OnErr};
+ghost use Rattle.std.specs.Option.{ForSome};
+ghost use Rattle.bac_pdu.specs.Peer.{station};
+ghost use Rattle.bac_links.specs.Told.{Told, heard_by, after_wait, having_sent};
+
+use crate::datagram::Datagram;
+use bac_pdu::Peer;
+use thiserror::Error;
+
+/// A send or a receive failed, or a link could not be made.
+#[derive(Clone, Copy, Debug, PartialEq, Eq, Error)]
+#[error("bind failed")]
+pub struct LinkFault;
+
+/// What sends and receives datagrams, and knows the time. Once a send or a receive has failed, neither is called again.
+pub trait Link {
+    // What the link will hear, what its time will be, and what it sent, where it knows this.
+    ghost told: { Self → Option Told };
+
+    // A send or a receive has failed.
+    ghost has_failed: { Self → Bool };
+
+    /// Sends the octets to the peer's address and port; a route is in the octets.
+    fn send(&mut self, to: Peer, octets: &[u8]) -> Result<(), LinkFault>
+        requires { has_failed self.old ≡ false }
+        ensures fault { has_failed self.new ≡ is_err result }
+        ensures ok { OnOk result (ForSome (told self.old) (λ t. told self.new
+            ≡ Some (having_sent (record { time = t.time []; to = station to; octets = octets.now } ∷ []) t))) }
+        ensures err { OnErr result (told self.new ≡ told self.old) };
+
+    /// Waits so many milliseconds for a datagram, and tells from where it came. None, with the datagram as it was, where
+    /// none came.
+    fn receive(&mut self, wait_ms: u32, datagram: &mut Datagram) -> Result<Option<Peer>, LinkFault>
+        requires { has_failed self.old ≡ false }
+        ensures fault { has_failed self.new ≡ is_err result }
+        ensures plain { IfOk result (λ heard. IfSome heard (λ from. from.route ≡ None)) }
+        ensures heard { ForSome (told self.old) (λ t. t.heard [] wait_ms ≡ heard_by result datagram.new) }
+        ensures goes_on { ForSome (told self.old) (λ t. told self.new ≡ Some (after_wait wait_ms t)) };
+
+    /// The time in milliseconds.
+    fn now(&mut self) -> u64
+        ensures fault { has_failed self.new ≡ has_failed self.old }
+        ensures time { ForSome (told self.old) (λ t. result ≡ t.time []) }
+        ensures same { told self.new ≡ told self.old };
+
+    /// Whether a send or a receive has failed.
+    fn failed(&self) -> bool
+        ensures { result ≡ has_failed self.now };
+}

@@ -1,0 +1,194 @@
+//! The search for devices.
+ghost use Rattle.std.specs.Prelude.{◌≡◌, ◌≢◌, ◌<◌, ◌++◌, [], ◌∷◌, false, true, is_err, Some, None, Bool, List, IfOk, IfErr, OnOk, MatchOption};
+ghost use Rattle.std.specs.Option.{ForSome, option_map, option_to_list};
+ghost use Rattle.bac_pdu.specs.Peer.{station};
+ghost use Rattle.bac_text.specs.Checked.{inner_of, has_failed, Puts};
+ghost use Rattle.bac_text.specs.Page.{Prints};
+ghost use Rattle.bac_device.specs.Reply.{asks};
+ghost use Rattle.bac_links.specs.Told.{Told, Failure, after_wait, having_sent};
+ghost use Rattle.bac_links.specs.Fault.{is_link_fault, is_write_fault};
+ghost use Rattle.bac_links.specs.Search.{Found as Device, found_seen, found_of, found_by, found_line, who_is_datagram, who_is_sending, Searched};
+ghost use Rattle.bac_links.specs.SearchSteps.{Listens};
+
+use crate::call::{TURNS, turn_wait};
+use crate::datagram::Datagram;
+use crate::ending::Exit;
+use crate::fault::ToolFault;
+use crate::link::Link;
+use bac_pdu::{
+    Apdu, IAm, Peer, WhoIs, open_datagram, read_apdu, read_iam, wrap_within, write_apdu,
+    write_whois,
+};
+use bac_text::{Checked, Page, Search};
+use bac_wire::Frame;
+use std::io::Write;
+
+// The service choices of I-Am and Who-Is (clause 21, BACnetUnconfirmedServiceChoice).
+const I_AM: u8 = 0;
+
+const WHO_IS: u8 = 8;
+
+/// A device that introduced itself, and where it is.
+#[derive(Clone, Copy)]
+struct Found {
+    peer: Peer,
+    device: IAm,
+}
+
+// The datagram of a Who-Is. There is always room for it.
+fn who_is(to: Peer, who: WhoIs) -> Frame
+    ensures { result ≡ who_is_datagram (station to) who }
+{
+    let mut frame = Frame::new();
+    let _ = write_apdu(
+        &mut frame,
+        &Apdu::Unconfirmed {
+            service: WHO_IS,
+            body: &[],
+        },
+    );
+    let _ = write_whois(&mut frame, &who);
+    let _ = wrap_within(to, false, &mut frame);
+    frame
+}
+
+// Whether the device with this instance is asked to answer.
+fn is_asked(who: WhoIs, instance: u32) -> bool
+    ensures { result ≡ asks who instance }
+{
+    match who {
+        WhoIs::All => true,
+        WhoIs::Range { low, high } => low <= instance && instance <= high,
+    }
+}
+
+// The device that introduces itself in a datagram, where it is one that is asked.
+#[tactic(auto, unfolding(crate::specs::Search::found_of))]
+fn read_found(who: WhoIs, from: Peer, octets: &[u8]) -> Option<Found>
+    ensures { option_map found_seen result ≡ found_of who (station from) octets.now }
+{
+    let carried = open_datagram(from, octets)?;
+    let Apdu::Unconfirmed {
+        service: I_AM,
+        body,
+    } = read_apdu(carried.apdu)?
+    else {
+        return None;
+    };
+    let device = read_iam(body)?;
+    if !is_asked(who, device.device.instance()) {
+        return None;
+    }
+    Some(Found {
+        peer: carried.peer,
+        device,
+    })
+}
+
+// Prints the line of a device.
+fn show_found<W: Write>(found: Found, writer: &mut Checked<W>) -> Result<(), ToolFault>
+    requires { has_failed writer.old ≡ false }
+    ensures text { Puts (W.contents (inner_of writer.old)) (W.contents (inner_of writer.new)) (found_line (found_seen found)) result }
+    ensures failed { has_failed writer.new ≡ is_err result }
+    ensures fault { IfErr result (λ fault. fault ≡ ToolFault.WriteFailed) }
+{
+    let mut page = Page::new(writer);
+    print_found(&mut page, found);
+    page.finish()?;
+    Ok(())
+}
+
+fn print_found<W: Write>(page: &mut Page<'_, W>, found: Found)
+    ensures { Prints W.contents page.old page.new (found_line (found_seen found)) }
+{
+    let device = found.device;
+    page.print_number(u64::from(device.device.instance()));
+    page.print(b" ");
+    page.print_peer(found.peer);
+    page.print(b" ");
+    page.print_number(device.max_apdu);
+    page.print(b" ");
+    page.print_number(u64::from(device.segmentation));
+    page.print(b" ");
+    page.print_number(device.vendor);
+    page.print(b"\n");
+}
+
+// Sends the Who-Is.
+fn ask<L: Link>(search: &Search, link: &mut L) -> Result<(), ToolFault>
+    requires { L.has_failed link.old ≡ false }
+    ensures fault { L.has_failed link.new ≡ is_link_fault result }
+    ensures ok { OnOk result (ForSome (L.told link.old) (λ t. L.told link.new ≡ Some (having_sent (who_is_sending search.now t ∷ []) t))) }
+    ensures err { IfErr result (λ fault. (fault ≡ ToolFault.SendFailed) × (L.told link.new ≡ L.told link.old)) }
+{
+    let datagram = who_is(search.to, search.who);
+    match link.send(search.to, datagram.as_slice()) {
+        Ok(()) => Ok(()),
+        Err(_) => Err(ToolFault::SendFailed),
+    }
+}
+
+// Waits for a datagram, and prints the device that introduces itself in it. True where there is one. No page is open while
+// it waits, since a page would have the writer that it is given.
+fn listen<L: Link, W: Write>(
+    who: WhoIs,
+    link: &mut L,
+    wait_ms: u32,
+    datagram: &mut Datagram,
+    writer: &mut Checked<W>,
+) -> Result<bool, ToolFault>
+    requires link { L.has_failed link.old ≡ false }
+    requires writer { has_failed writer.old ≡ false }
+    ensures link_fault { L.has_failed link.new ≡ is_link_fault result }
+    ensures write_fault { has_failed writer.new ≡ is_write_fault result }
+    ensures told { Listens who wait_ms (W.contents (inner_of writer.old)) (W.contents (inner_of writer.new)) (L.told link.old) (L.told link.new) result }
+{
+    match link.receive(wait_ms, datagram) {
+        Ok(Some(from)) => match read_found(who, from, datagram.as_slice()) {
+            Some(found) => {
+                show_found(found, writer)?;
+                Ok(true)
+            }
+            None => Ok(false),
+        },
+        Ok(None) => Ok(false),
+        Err(_) => Err(ToolFault::ReceiveFailed),
+    }
+}
+
+/// Asks a station which devices there are (Who-Is, clause 16.10), and prints a line of each that introduces itself until the
+/// timeout has gone by: its instance, its peer, the longest APDU that it takes, its segmentation and its vendor. It is good
+/// to have heard a device. Each line is written before the next wait.
+///
+/// # Errors
+///
+/// `SendFailed` and `ReceiveFailed` where the link failed so, and `TurnsSpent` where there is time left after 65,536 turns;
+/// the lines of the turns before were printed then. `WriteFailed` where the writer failed or took no octet; the lines before
+/// and a front of the last were printed then.
+pub fn run_whois<L: Link, W: Write>(
+    search: &Search,
+    link: &mut L,
+    writer: &mut Checked<W>,
+) -> Result<Exit, ToolFault>
+    requires link { L.has_failed link.old ≡ false }
+    requires writer { has_failed writer.old ≡ false }
+    requires timeout { 0 < search.now.timeout }
+    ensures link_fault { L.has_failed link.new ≡ is_link_fault result }
+    ensures write_fault { has_failed writer.new ≡ is_write_fault result }
+    ensures told { Searched search.now (W.contents (inner_of writer.old)) (W.contents (inner_of writer.new)) (L.told link.old) (L.told link.new) result }
+{
+    let first = link.now();
+    ask(search, link)?;
+    let wait_ms = turn_wait(search.timeout);
+    let mut datagram = Datagram::new();
+    let mut greatest = first;
+    let mut any = false;
+    for _turn in 0..TURNS {
+        any |= listen(search.who, link, wait_ms, &mut datagram, writer)?;
+        greatest = greatest.max(link.now());
+        if greatest - first >= u64::from(search.timeout) {
+            return Ok(if any { Exit::Good } else { Exit::Bad });
+        }
+    }
+    Err(ToolFault::TurnsSpent)
+}

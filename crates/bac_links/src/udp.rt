@@ -1,0 +1,178 @@
+//! A link over a UDP socket.
+ghost use Rattle.std.specs.Prelude.{◌≡◌, None, IfOk, IfSome, false, vec_len};
+ghost use Rattle.bac_links.specs.declared.udp.TheConstants.{BUFFER};
+
+use crate::datagram::{DATAGRAM_OCTETS, Datagram};
+use crate::link::{Link, LinkFault};
+use bac_pdu::Peer;
+use std::alloc::Global;
+use std::io;
+use std::io::ErrorKind;
+use std::net::{Ipv4Addr, Net, SocketAddr, SocketAddrV4, UdpSocket};
+use std::time::{Clock, Duration, Instant};
+
+// One octet more than a datagram may have, so that a longer one is seen.
+const BUFFER: usize = DATAGRAM_OCTETS + 1;
+
+/// What becomes of a datagram that the system refuses to send: one to port 0, say, or to where there is no way.
+#[derive(Clone, Copy, Debug, PartialEq, Eq)]
+pub enum Refused {
+    /// The send fails. This is for a client, whose peer was given to it.
+    Fails,
+    /// The datagram is lost, as any may be on its way, and so is what a receive reports of one that was sent before. This is
+    /// for a server, which has its peers from strangers.
+    IsLost,
+}
+
+/// A link over a UDP socket. Its time is milliseconds since it was made.
+#[derive(Drop)]
+pub struct UdpLink<R: Clock + Drop> {
+    rt: R,
+    socket: UdpSocket,
+    buffer: Vec<u8>,
+    made: Instant,
+    time: u64,
+    // The time limit that the socket has, 0 before the first.
+    wait_ms: u32,
+    refused: Refused,
+    failed: bool,
+    ghost room: { vec_len buffer ≡ BUFFER },
+}
+
+impl<R: Net + Clock + Clone + Drop> UdpLink<R> {
+    /// A socket at this address, or at a free port of it where the port is 0. A send that the system refuses fails.
+    ///
+    /// # Errors
+    ///
+    /// `LinkFault` where there is no such socket to be had, no memory, or no clock.
+    pub fn bind(rt: &R, alloc: Global, at: Peer) -> Result<Self, LinkFault>
+        ensures { IfOk result (λ link. ⟦<UdpLink<R> as Link>⟧.has_failed link ≡ false) }
+    {
+        Self::bind_with(rt, alloc, at, Refused::Fails)
+    }
+
+    /// The same, with what becomes of a datagram that the system refuses to send.
+    ///
+    /// # Errors
+    ///
+    /// `LinkFault` where there is no such socket to be had, no memory, or no clock.
+    pub fn bind_with(rt: &R, alloc: Global, at: Peer, refused: Refused) -> Result<Self, LinkFault>
+        ensures { IfOk result (λ link. ⟦<UdpLink<R> as Link>⟧.has_failed link ≡ false) }
+    {
+        let socket = UdpSocket::bind(rt, address_of(at)).map_err(|_| LinkFault)?;
+        let made = Instant::now(rt).map_err(|_| LinkFault)?;
+        Ok(UdpLink {
+            rt: rt.clone().map_err(|_| LinkFault)?,
+            socket,
+            buffer: vec![in alloc; 0; BUFFER].map_err(|_| LinkFault)?,
+            made,
+            time: 0,
+            wait_ms: 0,
+            refused,
+            failed: false,
+        })
+    }
+}
+
+impl<R: Clock + Drop> UdpLink<R> {
+    // The socket waits at most so long from now on. The system is asked only where that is another time than before.
+    fn limit_wait(&mut self, wait_ms: u32) -> io::Result<()>
+        ensures { self.new.failed ≡ self.old.failed }
+    {
+        if wait_ms != self.wait_ms {
+            let wait = Duration::from_millis(u64::from(wait_ms));
+            self.socket.set_read_timeout(Some(wait))?;
+            self.wait_ms = wait_ms;
+        }
+        Ok(())
+    }
+
+    // The next datagram within the wait, where there is one that a `Datagram` holds.
+    fn next_datagram(&mut self, wait_ms: u32, datagram: &mut Datagram) -> io::Result<Option<Peer>>
+        ensures failed { self.new.failed ≡ self.old.failed }
+        ensures plain { IfOk result (λ heard. IfSome heard (λ from. from.route ≡ None)) }
+    {
+        self.limit_wait(wait_ms.max(1))?;
+        let (len, from) = match self.socket.recv_from(&mut self.buffer) {
+            Ok(came) => came,
+            Err(e) if is_quiet(self.refused, e.kind()) => return Ok(None),
+            Err(e) => return Err(e),
+        };
+        match peer_of(from) {
+            Some(peer) if datagram.set(&self.buffer[..len]) => Ok(Some(peer)),
+            _ => Ok(None),
+        }
+    }
+}
+
+// Whether a receive with this error heard nothing, and that is all.
+fn is_quiet(refused: Refused, kind: ErrorKind) -> bool {
+    match kind {
+        ErrorKind::WouldBlock | ErrorKind::TimedOut | ErrorKind::Interrupted => true,
+        // These tell of a datagram that was sent before.
+        ErrorKind::ConnectionRefused
+        | ErrorKind::ConnectionReset
+        | ErrorKind::HostUnreachable
+        | ErrorKind::NetworkUnreachable => refused == Refused::IsLost,
+        _ => false,
+    }
+}
+
+fn address_of(peer: Peer) -> SocketAddr {
+    SocketAddr::V4(SocketAddrV4::new(Ipv4Addr::from_bits(peer.ip), peer.port))
+}
+
+fn peer_of(address: SocketAddr) -> Option<Peer>
+    ensures { IfSome result (λ from. from.route ≡ None) }
+{
+    match address {
+        SocketAddr::V4(address) => Some(Peer {
+            ip: address.ip().to_bits(),
+            port: address.port(),
+            route: None,
+        }),
+        SocketAddr::V6(_) => None,
+    }
+}
+
+impl<R: Clock + Drop> Link for UdpLink<R> {
+    ghost told = { λ _. None };
+
+    ghost has_failed = { λ link. link.failed };
+
+    fn send(&mut self, to: Peer, octets: &[u8]) -> Result<(), LinkFault> {
+        match self.socket.send_to(octets, address_of(to)) {
+            Ok(sent) if sent == octets.len() => Ok(()),
+            _ if self.refused == Refused::IsLost => Ok(()),
+            _ => {
+                self.failed = true;
+                Err(LinkFault)
+            }
+        }
+    }
+
+    fn receive(
+        &mut self,
+        wait_ms: u32,
+        datagram: &mut Datagram,
+    ) -> Result<Option<Peer>, LinkFault> {
+        match self.next_datagram(wait_ms, datagram) {
+            Ok(from) => Ok(from),
+            Err(_) => {
+                self.failed = true;
+                Err(LinkFault)
+            }
+        }
+    }
+
+    fn now(&mut self) -> u64 {
+        if let Ok(passed) = self.made.elapsed(&self.rt) {
+            self.time = u64::try_from(passed.as_millis()).unwrap_or(u64::MAX);
+        }
+        self.time
+    }
+
+    fn failed(&self) -> bool {
+        self.failed
+    }
+}

@@ -1,0 +1,127 @@
+-- Where the octets of a script are cut.
+use Rattle.std.proofs.Common.{◌≡◌, ◌≢◌, ℕ, ◌-◌, ◌<◌, Bool, true, false, List, [], ◌∷◌, ◌++◌, length, take, get_or, refl, sym, ◌∙◌, ap, append_assoc, arith, Err}
+use Rattle.std.specs.Prelude.{nat_lt, cond, filter}
+use Rattle.std.specs.List.{onto_first}
+use Rattle.std.proofs.lemmas.List.{append-nil, length-append, length-take-le}
+use Rattle.std.proofs.lemmas.Bool.{ne_eqb}
+use Rattle.std.proofs.lemmas.Bool.Decides.{nat_tests}
+use Rattle.std.proofs.Math.Seq.{get_or-append_seam}
+use Rattle.bac_script.specs.declared.input.Reading.{Reading}
+use Rattle.bac_script.specs.declared.input.Reading.TheVariants.{Open, AtEnd, Failed}
+use Rattle.bac_script.specs.declared.line.LineFault.TheVariants.{TooLong}
+use Rattle.bac_script.specs.Input.{HasNoFeed}
+use Rattle.bac_script.specs.Line.{ends_with_feed, without_feed, said}
+use Rattle.bac_script.specs.Script.{pieces, lines, is_line}
+
+pub pieces-line : (text more : List ℕ) → HasNoFeed text → pieces (text ++ 10 ∷ more) ≡ (text ++ 10 ∷ []) ∷ pieces more
+pieces-line [] more h = refl
+pieces-line (x ∷ xs) more h = rw (ne_eqb x 10 h.0, pieces-line xs more h.1) refl
+
+pub pieces-open : (x : ℕ) (xs : List ℕ) → HasNoFeed (x ∷ xs) → pieces (x ∷ xs) ≡ (x ∷ xs) ∷ []
+pieces-open x [] h = rw (ne_eqb x 10 h.0) refl
+pieces-open x (y ∷ ys) h = rw (ne_eqb x 10 h.0, pieces-open y ys h.1) refl
+
+-- The first piece begins with this
+pub record Begun (line more : List ℕ) : Type 0 where
+  pub front : List ℕ
+  pub others : List (List ℕ)
+  pub is : pieces (line ++ more) ≡ (line ++ front) ∷ others
+
+onto_begun : (x : ℕ) (ps : List (List ℕ)) → (front : List ℕ) × (others : List (List ℕ)) × (onto_first x ps ≡ (x ∷ front) ∷ others)
+onto_begun x [] = ([], [], refl)
+onto_begun x (p ∷ ps) = (p, ps, refl)
+
+pub pieces-begun : (x : ℕ) (xs more : List ℕ) → HasNoFeed (x ∷ xs) → Begun (x ∷ xs) more
+pieces-begun x [] more h =
+    let b = onto_begun x (pieces more) in
+    record { front = b.0; others = b.1; is = rw (ne_eqb x 10 h.0) b.2 }
+pieces-begun x (y ∷ ys) more h =
+    let b = pieces-begun y ys more h.1 in
+    record { front = b.front; others = b.others; is = rw (ne_eqb x 10 h.0, b.is) refl }
+
+last_no_feed : (x : ℕ) (xs : List ℕ) → HasNoFeed (x ∷ xs) → get_or (x ∷ xs) (length xs) 0 ≢ 10
+last_no_feed x [] h = h.0
+last_no_feed x (y ∷ ys) h = last_no_feed y ys h.1
+
+pub ends_with_feed-none : (line : List ℕ) → HasNoFeed line → ends_with_feed line ≡ false
+ends_with_feed-none [] h = refl
+ends_with_feed-none (x ∷ xs) h =
+    let at : length (x ∷ xs) - 1 ≡ length xs = omega arith in
+    rw (at) (ne_eqb (get_or (x ∷ xs) (length xs) 0) 10 (last_no_feed x xs h))
+
+pub ends_with_feed-push : (text : List ℕ) → ends_with_feed (text ++ 10 ∷ []) ≡ true
+ends_with_feed-push text =
+    let at : length (text ++ 10 ∷ []) - 1 ≡ length text = omega (arith, length-append text (10 ∷ [])) in
+    rw (at, get_or-append_seam text 10 [] 0) refl
+
+is_line-ended : (reading : Reading) (line : List ℕ) → ends_with_feed line ≡ true → is_line reading line ≡ true
+is_line-ended AtEnd line h = refl
+is_line-ended Open line h = rw h refl
+is_line-ended Failed line h = rw h refl
+
+or_true : (a b : Bool) → b ≡ true → cond a true b ≡ true
+or_true true b h = refl
+or_true false b h = h
+
+is_line-long : (reading : Reading) (line : List ℕ) → 4096 < length line → is_line reading line ≡ true
+is_line-long AtEnd line h = refl
+is_line-long Open line h = grind (arith, nat_tests)
+is_line-long Failed line h = grind (arith, nat_tests)
+
+pub lines-ended : (text more : List ℕ) (reading : Reading) → HasNoFeed text → lines ((text ++ 10 ∷ []) ++ more) reading ≡ (text ++ 10 ∷ []) ∷ lines more reading
+lines-ended text more reading h =
+    rw (append_assoc text (10 ∷ []) more, pieces-line text more h, is_line-ended reading (text ++ 10 ∷ []) (ends_with_feed-push text)) refl
+
+-- What no line feed ends, and is not too long, is a line only at the end
+pub lines-rest : (line : List ℕ) → HasNoFeed line → length line < 4097 → lines line Failed ≡ []
+lines-rest [] h short = refl
+lines-rest (x ∷ xs) h short =
+    let e : nat_lt 4096 (length (x ∷ xs)) ≡ false = grind (arith, nat_tests) in
+    rw (pieces-open x xs h, ends_with_feed-none (x ∷ xs) h, e) refl
+
+pub lines-last : (x : ℕ) (xs : List ℕ) → HasNoFeed (x ∷ xs) → lines (x ∷ xs) AtEnd ≡ (x ∷ xs) ∷ []
+lines-last x xs h = rw (pieces-open x xs h) refl
+
+-- A line is as long without its line feed as it is, or one shorter
+without_feed_long : (line front : List ℕ) → HasNoFeed line → length line ≡ 4097 → 4096 < length (without_feed (line ++ front))
+without_feed_long line [] h long =
+    rw (append-nil line, ends_with_feed-none line h) (omega arith)
+without_feed_long line (x ∷ xs) h long = shorter (ends_with_feed (line ++ x ∷ xs)) (line ++ x ∷ xs) (omega (arith, length-append line (x ∷ xs)))
+  where
+    shorter : (b : Bool) (all : List ℕ) → 4097 < length all → 4096 < length (cond b (take (length all - 1) all) all)
+    shorter true all p = rw (length-take-le (length all - 1) all (omega arith)) (omega arith)
+    shorter false all p = omega arith
+
+pub said-long : (is_first : Bool) (line : List ℕ) → 4096 < length (without_feed line) → said is_first line ≡ Err TooLong
+said-long is_first line h =
+    let e : nat_lt 4096 (length (without_feed line)) ≡ true = grind (arith, nat_tests) in rw e refl
+
+-- The line that was taken says what the first line of the octets from there on says
+pub record NextLine (line held : List ℕ) (reading : Reading) : Type 0 where
+  pub whole : List ℕ
+  pub others : List (List ℕ)
+  pub split : lines (line ++ held) reading ≡ whole ∷ others
+  pub same : (is_first : Bool) → said is_first whole ≡ said is_first line
+
+pub next_long : (line held : List ℕ) (reading : Reading) → HasNoFeed line → length line ≡ 4097 → NextLine line held reading
+next_long [] held reading h long = absurd (omega arith)
+next_long (x ∷ xs) held reading h long =
+    let b = pieces-begun x xs held h in
+    let long' : 4096 < length ((x ∷ xs) ++ b.front) = omega (arith, length-append (x ∷ xs) b.front) in
+    let too_long : 4096 < length (without_feed (x ∷ xs)) = rw (ends_with_feed-none (x ∷ xs) h) (omega arith) in
+    record {
+      whole = (x ∷ xs) ++ b.front;
+      others = filter (is_line reading) b.others;
+      split = rw (b.is, is_line-long reading ((x ∷ xs) ++ b.front) long') refl;
+      same = λ is_first. said-long is_first ((x ∷ xs) ++ b.front) (without_feed_long (x ∷ xs) b.front h long) ∙ sym (said-long is_first (x ∷ xs) too_long);
+    }
+
+pub next_ended : (text held : List ℕ) (reading : Reading) → HasNoFeed text → NextLine (text ++ 10 ∷ []) held reading
+next_ended text held reading h = record { whole = text ++ 10 ∷ []; others = lines held reading; split = lines-ended text held reading h; same = λ is_first. refl }
+
+pub next_last : (line : List ℕ) → HasNoFeed line → 0 < length line → NextLine line [] AtEnd
+next_last [] h some = absurd (omega arith)
+next_last (x ∷ xs) h some = record { whole = x ∷ xs; others = []; split = ap (λ zs. lines zs AtEnd) (append-nil (x ∷ xs)) ∙ lines-last x xs h; same = λ is_first. refl }
+
+pub said-whole_long : (is_first : Bool) (line : List ℕ) → HasNoFeed line → length line ≡ 4097 → said is_first line ≡ Err TooLong
+said-whole_long is_first line h long = said-long is_first line (rw (ends_with_feed-none line h) (omega arith))

@@ -1,0 +1,9 @@
+use Rattle.std.proofs.Common.{take}
+use Rattle.std.specs.List.{flat_map}
+use Rattle.bac_tsm.specs.Machine.{due_notes}
+use Rattle.bac_text.specs.Page.{Prints}
+use Rattle.bac_script.specs.Text.{notes_text}
+use Rattle.bac_script.proofs.notes.print_due.Given as goal
+
+abbrev pub invariant-loop-entry : goal.invariant-loop-entry
+invariant-loop-entry g l = Prints g.W.Write.contents l.fn.page l.page (notes_text (flat_map (due_notes l.client.state) (take l.entry-index l.due)))

@@ -1,0 +1,124 @@
+-- The lines of a script, and what each says.
+use Rattle.std.specs.Prelude.{ℕ, ◌-◌, ◌^◌, ◌==◌, ◌&&◌, Bool, nat_lt, List, [], ◌∷◌, length, take, slice_index, bytes_eq, codes, Option, Some, None, option_map, Result, Ok, Err, ok_or, if◌then◌else◌}
+use Rattle.std.specs.Str.{is_utf8}
+use Rattle.std.specs.Str.Lines.{strip_carriage_return}
+use Rattle.bac_tsm.specs.Events.{Event, Ask, Data, Tick}
+use Rattle.bac_device.specs.Turns.{Arrival}
+use Rattle.bac_script.specs.declared.line.LineFault.{LineFault}
+use Rattle.bac_script.specs.declared.line.LineFault.TheVariants.{Bad, TooLong}
+use Rattle.bac_text.specs.Words.{◌>>=◌, words_of, number_up_to, octets_of, next_as, at_end}
+use Rattle.bac_text.specs.Parameters.{priority_from, write_index_of}
+use Rattle.bac_text.specs.Address.{plain_peer_of, peer_of}
+use Rattle.bac_pdu.specs.Property.{Reference, read_octets}
+use Rattle.bac_pdu.specs.Peer.{Station}
+use Rattle.bac_text.specs.Pairs.{whole_body_of}
+
+-- What a line says: nothing, the client's settings, an event of the client, or a datagram that the device is asked with.
+pub data Said : Type 0 where
+  Nothing : Said
+  Settings : (timeout retries first_ticket : ℕ) → Said
+  Happens : (event : Event) → Said
+  Asks : (arrival : Arrival) → Said
+
+-- TIMEOUT, at least 1, RETRIES and TICKET.
+abbrev pub settings_of : List (List ℕ) → Option Said
+settings_of words = do
+  timeout ← next_as (number_up_to (2 ^ 32 - 1)) words
+  retries ← next_as (number_up_to 255) timeout.1
+  ticket ← next_as (number_up_to (2 ^ 64 - 1)) retries.1
+  if nat_lt 0 timeout.0 then at_end ticket.1 (Settings timeout.0 retries.0 ticket.0) else None
+
+-- The number that the next word is, where there is one.
+abbrev pub index_in : List (List ℕ) → Option (Option ℕ × List (List ℕ))
+index_in [] = Some (None, [])
+index_in (word ∷ others) = option_map (λ n. (Some n, others)) (number_up_to (2 ^ 32 - 1) word)
+
+abbrev pub reference_to : ℕ → ℕ → ℕ → Option ℕ → Reference
+reference_to kind instance property index =
+    record { object = record { kind = kind; instance = instance }; property = property; index = index }
+
+-- PEER, KIND, INSTANCE, PROPERTY and, where there is one, INDEX, of a ReadProperty request (service 12).
+abbrev pub reading_of : List (List ℕ) → Option Event
+reading_of words = do
+  peer ← next_as peer_of words
+  kind ← next_as (number_up_to 1023) peer.1
+  instance ← next_as (number_up_to 4194303) kind.1
+  property ← next_as (number_up_to 4194303) instance.1
+  index ← index_in property.1
+  at_end index.1 (Ask peer.0 12 (read_octets (reference_to kind.0 instance.0 property.0 index.0)))
+
+-- PRIORITY, 0 to 16.
+abbrev pub priority_of : List ℕ → Option (Option ℕ)
+priority_of word = option_map priority_from (number_up_to 16 word)
+
+-- PEER, KIND, INSTANCE, PROPERTY, PRIORITY, INDEX, and tags and values: whom a body is for, and the body, however long it is.
+abbrev pub body_for : List (List ℕ) → Option (Station × Result (List ℕ) ℕ)
+body_for words = do
+  peer ← next_as peer_of words
+  kind ← next_as (number_up_to 1023) peer.1
+  instance ← next_as (number_up_to 4194303) kind.1
+  property ← next_as (number_up_to 4194303) instance.1
+  priority ← next_as priority_of property.1
+  index ← next_as write_index_of priority.1
+  Some (peer.0, whole_body_of (record { kind = kind.0; instance = instance.0 }) property.0 index.0 priority.0 index.1)
+
+-- A WriteProperty request with this body (service 15), if it could be read.
+abbrev pub requested : Station → Result (List ℕ) ℕ → Option Event
+requested peer (Ok body) = Some (Ask peer 15 body)
+requested peer (Err n) = None
+
+abbrev pub writing_of : List (List ℕ) → Option Event
+writing_of words = body_for words >>= (λ one. requested one.0 one.1)
+
+-- PEER and HEX, of a datagram that comes from the peer.
+abbrev pub arrival_of : List (List ℕ) → Option Arrival
+arrival_of words = do
+  peer ← next_as plain_peer_of words
+  octets ← next_as octets_of peer.1
+  at_end octets.1 (record { from = peer.0; datagram = octets.0 })
+
+-- The client is handed the datagram.
+abbrev pub handed : Arrival → Said
+handed arrival = Happens (Data arrival.from arrival.datagram)
+
+-- N, the time of a tick.
+abbrev pub tick_of : List (List ℕ) → Option Event
+tick_of words = do
+  now ← next_as (number_up_to (2 ^ 64 - 1)) words
+  at_end now.1 (Tick now.0)
+
+-- What the words of a line say, if they are in the language. The settings stand only on the first line that says
+-- something; a first word that begins with # (35) makes a remark.
+abbrev pub said_by : Bool → List (List ℕ) → Option Said
+said_by is_first [] = Some Nothing
+said_by is_first (name ∷ others) =
+    if slice_index name 0 == 35 then Some Nothing
+    else if is_first && bytes_eq name (codes "client") then settings_of others
+    else if bytes_eq name (codes "read") then option_map Happens (reading_of others)
+    else if bytes_eq name (codes "write") then option_map Happens (writing_of others)
+    else if bytes_eq name (codes "data") then option_map handed (arrival_of others)
+    else if bytes_eq name (codes "tick") then option_map Happens (tick_of others)
+    else if bytes_eq name (codes "ask") then option_map Asks (arrival_of others)
+    else None
+
+-- A line feed (10) ends the line.
+abbrev pub ends_with_feed : List ℕ → Bool
+ends_with_feed line = slice_index line (length line - 1) == 10
+
+abbrev pub without_feed : List ℕ → List ℕ
+without_feed line = if ends_with_feed line then take (length line - 1) line else line
+
+-- The text of a line, where it has at most 4,096 octets without its line feed. A carriage return before the line feed
+-- is dropped after that.
+abbrev pub text_of_line : List ℕ → Result (List ℕ) LineFault
+text_of_line line =
+    if nat_lt 4096 (length (without_feed line)) then Err TooLong
+    else Ok (if ends_with_feed line then strip_carriage_return (without_feed line) else line)
+
+abbrev pub said_in : Bool → Result (List ℕ) LineFault → Result Said LineFault
+said_in is_first (Ok text) = if is_utf8 text then ok_or (said_by is_first (words_of text)) Bad else Err Bad
+said_in is_first (Err fault) = Err fault
+
+-- What a line says, where it is, or isn't, the first that says something.
+abbrev pub said : Bool → List ℕ → Result Said LineFault
+said is_first line = said_in is_first (text_of_line line)

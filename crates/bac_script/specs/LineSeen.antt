@@ -1,0 +1,33 @@
+-- A line as the program keeps it, and what it says.
+use Rattle.std.specs.Prelude.{ℕ, List, Result, Ok, Err}
+use Rattle.bac_tsm.specs.Events.{Ask, Tick}
+use Rattle.bac_script.specs.declared.line.Line.{Line}
+use Rattle.bac_script.specs.declared.line.Line.TheVariants as line
+use Rattle.bac_script.specs.declared.long_write.LongWrite.{LongWrite}
+use Rattle.bac_script.specs.declared.line.Received.{Received}
+use Rattle.bac_wire.specs.Identifier.{identifier}
+use Rattle.bac_pdu.specs.Peer.{station}
+use Rattle.bac_device.specs.Turns.{Arrival}
+use Rattle.bac_text.specs.Pairs.{whole_body_of}
+use Rattle.bac_script.specs.Line.{Said, Nothing, Settings, Happens, Asks, handed}
+use Rattle.bac_script.specs.LongBody.{octets_or_none}
+
+abbrev pub arrival_seen : Received → Arrival
+arrival_seen received = record { from = station received.from; datagram = received.datagram.now }
+
+-- The body of a request that is too long to be sent.
+abbrev pub long_body : LongWrite → List ℕ
+long_body write = octets_or_none (whole_body_of (identifier write.object) write.property write.index write.priority write.words)
+
+abbrev pub line_seen : Line → Said
+line_seen line.Skipped = Nothing
+line_seen (line.Client config first_ticket) = Settings config.timeout config.retries first_ticket
+line_seen (line.Request peer service body) = Happens (Ask (station peer) service body.now)
+line_seen (line.LongWrite write) = Happens (Ask (station write.peer) 15 (long_body write))
+line_seen (line.Data received) = handed (arrival_seen received)
+line_seen (line.Tick now) = Happens (Tick now)
+line_seen (line.Ask received) = Asks (arrival_seen received)
+
+abbrev pub result_seen : {E : Type 0} → Result Line E → Result Said E
+result_seen (Ok line) = Ok (line_seen line)
+result_seen (Err fault) = Err fault

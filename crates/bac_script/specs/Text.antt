@@ -1,0 +1,32 @@
+-- What is printed of the client's notes, and of the device's replies.
+use Rattle.std.specs.Prelude.{ℕ, List, [], ◌∷◌, ◌++◌, codes, decimal, Option, Some, None}
+use Rattle.std.specs.List.{flat_map}
+use Rattle.hex.specs.Hex.{encode_lower}
+use Rattle.bac_pdu.specs.Peer.{Station}
+use Rattle.bac_tsm.specs.declared.client.SubmitFault.{SubmitFault}
+use Rattle.bac_tsm.specs.declared.client.SubmitFault.TheVariants.{TooLong, TableFull, TicketsSpent}
+use Rattle.bac_tsm.specs.Events.{Note, Sent, Refused, Done, Dropped, TimedOut}
+use Rattle.bac_text.specs.PeerTexts.{peer_text}
+use Rattle.bac_outcomes.specs.Outcomes.{outcome_text}
+
+abbrev pub refusal_text : SubmitFault → List ℕ
+refusal_text TooLong = codes "too-long"
+refusal_text TableFull = codes "full"
+refusal_text TicketsSpent = codes "spent"
+
+-- The line that is printed of a note.
+abbrev pub note_text : Note → List ℕ
+note_text (Sent ticket peer octets) =
+    codes "send " ++ (decimal ticket ++ 32 ∷ (peer_text peer ++ 32 ∷ (encode_lower octets ++ 10 ∷ [])))
+note_text (Refused why) = refusal_text why ++ 10 ∷ []
+note_text (Done ticket outcome) = codes "done " ++ (decimal ticket ++ 32 ∷ (outcome_text outcome ++ 10 ∷ []))
+note_text Dropped = codes "drop" ++ 10 ∷ []
+note_text (TimedOut ticket) = codes "timeout " ++ (decimal ticket ++ 10 ∷ [])
+
+abbrev pub notes_text : List Note → List ℕ
+notes_text = flat_map note_text
+
+-- The line that is printed of the device's reply to a datagram.
+abbrev pub reply_text : Option (Station × List ℕ) → List ℕ
+reply_text None = codes "silent" ++ 10 ∷ []
+reply_text (Some reply) = codes "reply " ++ (peer_text reply.0 ++ 32 ∷ (encode_lower reply.1 ++ 10 ∷ []))

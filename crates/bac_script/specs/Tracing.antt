@@ -1,0 +1,44 @@
+-- What a run read, and what it wrote and answered.
+use Rattle.std.specs.Prelude.{List, [], ℕ, ◌+◌, ◌≤◌, length, Option, Result, Ok, Err}
+use Rattle.std.specs.Io.KnownBytes.{Consumes, Appends}
+use Rattle.bac_text.specs.declared.checked.Checked.{Checked}
+use Rattle.bac_script.specs.declared.input.Reading.{Reading}
+use Rattle.bac_script.specs.declared.tracing.TraceEnd.{TraceEnd}
+use Rattle.bac_script.specs.declared.tracing.TraceFault.{TraceFault}
+use Rattle.bac_script.specs.declared.tracing.TraceFault.TheVariants.{BadLine, LineTooLong, ReadFailed, WriteFailed}
+use Rattle.bac_text.specs.declared.page.Page.{Page}
+use Rattle.bac_text.specs.Checked.{inner_of, reads_of}
+use Rattle.bac_script.specs.Input.{StandsAs}
+use Rattle.bac_text.specs.Page.{Prints}
+use Rattle.bac_script.specs.Script.{Runs}
+
+-- What was written and answered is that of the script of the octets that the reader gave, and of how reading stopped
+pub record Traces {R W : Type 0} (remaining : R → Option (List ℕ)) (contents : W → Option (List ℕ)) (reader reader' : Checked R) (writer writer' : Checked W) (answer : Result TraceEnd TraceFault) : Type 0 where
+  pub given : List ℕ
+  pub reading : Reading
+  pub written : List ℕ
+  pub gave : Consumes (remaining (inner_of reader)) (remaining (inner_of reader')) given
+  pub stopped : StandsAs remaining reading reader reader' []
+  pub asked : reads_of reader' ≤ reads_of reader + length given + 1
+  pub took : Appends (contents (inner_of writer)) (contents (inner_of writer')) written
+  pub runs : Runs given reading written answer
+
+-- The same while some of the text may still be on the page: the text that was printed is that of the script, or, where the
+-- writer failed, a front of it.
+pub record RunsOn {R W : Type 0} (remaining : R → Option (List ℕ)) (contents : W → Option (List ℕ)) (reader reader' : Checked R) (page page' : Page W) (answer : Result TraceEnd TraceFault) : Type 0 where
+  pub given : List ℕ
+  pub reading : Reading
+  pub printed : List ℕ
+  pub gave : Consumes (remaining (inner_of reader)) (remaining (inner_of reader')) given
+  pub stopped : StandsAs remaining reading reader reader' []
+  pub asked : reads_of reader' ≤ reads_of reader + length given + 1
+  pub prints : Prints contents page page' printed
+  pub runs : Runs given reading printed answer
+
+-- The status of the program: a script to its end, a bad or too long line, a failed reader or writer.
+abbrev pub trace_status_of : Result TraceEnd TraceFault → ℕ
+trace_status_of (Ok end) = 0
+trace_status_of (Err (BadLine n)) = 2
+trace_status_of (Err (LineTooLong n)) = 2
+trace_status_of (Err ReadFailed) = 3
+trace_status_of (Err WriteFailed) = 3

@@ -1,0 +1,178 @@
+//! The lines of a reader, one at a time.
+ghost use Rattle.std.specs.Prelude.{◌≡◌, ◌≢◌, ◌==◌, ◌+◌, ◌<◌, ◌≤◌, [], length, take, drop, position, true, false, MatchOption, MatchResult};
+ghost use Rattle.bac_text.specs.Checked.{has_failed, reads_of};
+ghost use Rattle.bac_text.specs.Page.{held, writer_of, Prints};
+ghost use Rattle.bac_script.specs.Input.{may_come, may_read, over, Takes, StandsAs, HasNotEnded, HasNoFeed, IsCutAs, IsNext};
+
+use bac_text::{Checked, Page, WriteFailed};
+use std::io::{Read, Write};
+use std::marker::Model;
+
+/// Room for what is held: a line that isn't whole yet, and what a read gives behind it.
+const CHUNK: usize = 8_192;
+
+/// The octets of the longest line with its line feed. So many without a line feed among them are a line that is too long.
+const LINE_ROOM: usize = 4_097;
+
+/// How reading stands.
+#[derive(Clone, Copy, PartialEq, Eq)]
+pub enum Reading {
+    /// More may come.
+    Open,
+    /// A read gave nothing.
+    AtEnd,
+    /// A read failed, or the reads are spent.
+    Failed,
+}
+
+/// The next line: so many of the first octets that are held. Where reading is over, they are all that was left.
+#[derive(Clone, Copy)]
+pub struct Next {
+    pub reading: Reading,
+    pub length: usize,
+}
+
+/// Octets that were read and not yet taken.
+#[derive(Drop)]
+pub struct Chunk {
+    octets: [u8; CHUNK],
+    start: usize,
+    end: usize,
+}
+
+impl Model for Chunk {
+    ghost use Rattle.std.specs.Prelude.{ℕ, ◌≤◌, List, slice_range};
+
+    ghost Value = { List ℕ };
+
+    ghost view = { λ chunk. slice_range chunk.octets chunk.start chunk.end };
+
+    ghost invariant = { λ chunk. (chunk.start ≤ chunk.end) × (chunk.end ≤ 8192) };
+}
+
+impl Chunk {
+    pub fn new() -> Self
+        ensures { result ≡ [] }
+    {
+        Chunk {
+            octets: [0; CHUNK],
+            start: 0,
+            end: 0,
+        }
+    }
+
+    // How many octets are held.
+    fn len(&self) -> usize
+        ensures { result ≡ length self.now }
+    {
+        self.end - self.start
+    }
+
+    /// The first octets that are held.
+    pub fn front(&self, count: usize) -> &[u8]
+        requires { count ≤ length self.now }
+        ensures { result.now ≡ take count self.now }
+    {
+        &self.octets[self.start..self.start + count]
+    }
+
+    /// Takes the first octets away.
+    pub fn skip(&mut self, count: usize)
+        requires { count ≤ length self.old }
+        ensures { self.new ≡ drop count self.old }
+    {
+        self.start += count;
+    }
+
+    /// Finds the next line, and reads until it is held. Before each read the page is turned in, so that nobody waits for text
+    /// that was printed.
+    ///
+    /// # Errors
+    ///
+    /// `WriteFailed` where the page has failed before a read that would be needed.
+    pub fn next_line<R: Read, W: Write>(
+        &mut self,
+        reader: &mut Checked<R>,
+        page: &mut Page<'_, W>,
+    ) -> Result<Next, WriteFailed>
+        requires { has_failed reader.old ≡ false }
+        ensures given { Takes R.remaining reader.old reader.new self.old self.new [] }
+        ensures printed { Prints W.contents page.old page.new [] }
+        ensures next { MatchResult result
+            (λ next. IsNext R.remaining reader.old reader.new self.new next.reading next.length)
+            (λ _. StandsAs R.remaining Reading.Open reader.old reader.new self.new) }
+        ensures writer { MatchResult result (λ _. Unit {0}) (λ _. has_failed (writer_of page.new) ≡ true) }
+        ensures asked { MatchResult result
+            (λ next. reads_of reader.new + length self.old ≤ reads_of reader.old + length self.new + over next.reading)
+            (λ _. reads_of reader.new + length self.old ≤ reads_of reader.old + length self.new) }
+        ensures room { may_come reader.new self.new ≤ may_come reader.old self.old }
+    {
+        loop {
+            if let Some(length) = self.line_length() {
+                let reading = Reading::Open;
+                return Ok(Next { reading, length });
+            }
+            page.turn_in();
+            if page.failed() {
+                return Err(WriteFailed);
+            }
+            let reading = self.read_more(reader, page);
+            if reading != Reading::Open {
+                let length = self.len();
+                return Ok(Next { reading, length });
+            }
+        }
+    }
+
+    // How many octets the next line has, where it is whole among those that are held.
+    fn line_length(&self) -> Option<usize>
+        ensures { MatchOption result (HasNoFeed self.now × (length self.now < LINE_ROOM))
+            (λ count. (count ≤ length self.now) × IsCutAs Reading.Open (take count self.now)) }
+    {
+        let held = &self.octets[self.start..self.end];
+        if held.len() < LINE_ROOM {
+            return Some(feed_place(held)? + 1);
+        }
+        match feed_place(&held[..LINE_ROOM]) {
+            Some(place) => Some(place + 1),
+            None => Some(LINE_ROOM),
+        }
+    }
+
+    // Reads once more behind what is held. The page is empty and its writer has not failed, so that nobody waits for text that
+    // was printed, and nothing is read for a text that can't be written.
+    fn read_more<R: Read, W>(&mut self, reader: &mut Checked<R>, _page: &Page<'_, W>) -> Reading
+        requires reader { has_failed reader.old ≡ false }
+        requires short { length self.old < LINE_ROOM }
+        requires turned_in { held _page.now ≡ [] }
+        requires writer { has_failed (writer_of _page.now) ≡ false }
+        ensures given { Takes R.remaining reader.old reader.new self.old self.new [] }
+        ensures stands { StandsAs R.remaining result reader.old reader.new [] }
+        ensures asked { reads_of reader.new + length self.old ≤ reads_of reader.old + length self.new + over result }
+        ensures room { may_come reader.new self.new ≤ may_come reader.old self.old }
+        ensures more { result ≡ Reading.Open → may_read reader.new < may_read reader.old }
+        ensures same { result ≢ Reading.Open → self.new ≡ self.old }
+    {
+        if reader.reads() == u32::MAX {
+            return Reading::Failed;
+        }
+        self.octets.copy_within(self.start..self.end, 0);
+        self.end -= self.start;
+        self.start = 0;
+        let Ok(count) = reader.read(&mut self.octets[self.end..]) else {
+            return Reading::Failed;
+        };
+        if count == 0 {
+            return Reading::AtEnd;
+        }
+        self.end += count;
+        Reading::Open
+    }
+}
+
+// Where the first line feed stands.
+fn feed_place(octets: &[u8]) -> Option<usize>
+    ensures { result ≡ position (λ octet. octet == 10) octets.now }
+{
+    octets.iter().position(|octet| *octet == b'\n')
+}

@@ -1,0 +1,14 @@
+//! The script of `bactrace`: a client and a device over its lines, and what is printed of them.
+#![tactic(auto)]
+
+mod input;
+mod line;
+mod long_write;
+mod notes;
+mod running;
+#[cfg(test)]
+mod tests;
+mod tracing;
+
+pub use notes::{show_outcome, show_value};
+pub use tracing::{TraceEnd, TraceFault, trace, trace_status};

@@ -1,0 +1,290 @@
+//! The lines of a script.
+ghost use Rattle.std.specs.Prelude.{◌≡◌, ◌==◌, ◌≤◌, ◌^◌, ◌<◌, [], ◌∷◌, true, length, option_map, ⊤, None, Some, IfSome, MatchOption, MatchResult, Ok, Err};
+ghost use Rattle.bac_pdu.specs.Peer.{station};
+ghost use Rattle.bac_pdu.specs.Property.{IsPriority};
+ghost use Rattle.bac_text.specs.Words.{number_up_to, octets_of, next_as, at_end};
+ghost use Rattle.bac_text.specs.Address.{plain_peer_of, peer_of};
+ghost use Rattle.bac_text.specs.Parameters.{write_index_of};
+ghost use Rattle.bac_script.specs.Line.{Happens, settings_of, index_in, reading_of, priority_of, writing_of, arrival_of, tick_of, said_by, text_of_line, said};
+ghost use Rattle.bac_script.specs.Script.{is_nothing};
+ghost use Rattle.bac_script.specs.LineSeen.{arrival_seen, line_seen, result_seen};
+
+use crate::long_write::LongWrite;
+use bac_pdu::{Peer, ReadRequest};
+use bac_text::{
+    BodyRoom, LONGEST_DATAGRAM, LONGEST_LINE, PairFault, WordSource, Words, peer_in, plain_peer_in,
+    priority_from, read_datagram, read_number, read_write_index,
+};
+use bac_tsm::Config;
+use bac_wire::ObjectId;
+use std::str;
+
+/// The service choices of ReadProperty and WriteProperty (clause 21, BACnetConfirmedServiceChoice).
+const READ_PROPERTY: u8 = 12;
+
+const WRITE_PROPERTY: u8 = 15;
+
+/// What a line says. Octets lie in the room that was lent to read it.
+#[derive(Drop)]
+pub(crate) enum Line<'a> {
+    /// Nothing: it is blank or a remark.
+    Skipped,
+    /// The client's settings and its first ticket.
+    Client(Config, u64),
+    /// A request that the client is asked to make of the peer: the service and its body.
+    Request(Peer, u8, &'a [u8]),
+    /// A request to write whose service body is too long to be sent.
+    LongWrite(LongWrite<'a>),
+    /// A datagram that the client is handed.
+    Data(Received<'a>),
+    /// The time, in milliseconds.
+    Tick(u64),
+    /// A datagram that the device is asked with.
+    Ask(Received<'a>),
+}
+
+/// A datagram, and whom it comes from.
+#[derive(Clone, Copy)]
+pub(crate) struct Received<'a> {
+    pub(crate) from: Peer,
+    pub(crate) datagram: &'a [u8],
+}
+
+/// Room for the octets that a line says, which is used again for the next line.
+#[derive(Drop)]
+pub(crate) struct LineRoom {
+    datagram: [u8; LONGEST_DATAGRAM],
+    body: BodyRoom,
+}
+
+impl LineRoom {
+    pub(crate) fn new() -> Self {
+        LineRoom {
+            datagram: [0; LONGEST_DATAGRAM],
+            body: BodyRoom::new(),
+        }
+    }
+}
+
+impl Line<'_> {
+    /// Whether the line says nothing.
+    pub(crate) fn is_skipped(&self) -> bool
+        ensures { result ≡ is_nothing (line_seen self.now) }
+    {
+        matches!(self, Line::Skipped)
+    }
+}
+
+/// Why a line can't be run.
+#[derive(Clone, Copy, PartialEq, Eq)]
+pub(crate) enum LineFault {
+    /// It is no line of the language.
+    Bad,
+    /// It has more octets than a line may have.
+    TooLong,
+}
+
+/// What a line says, with its line feed if it has one, and first among those that say something or not.
+pub(crate) fn read_line<'a>(
+    line: &'a [u8],
+    is_first: bool,
+    room: &'a mut LineRoom,
+) -> Result<Line<'a>, LineFault>
+    ensures { result_seen result ≡ said is_first line.now }
+{
+    let text = line_text(line)?;
+    if str::from_utf8(text).is_err() {
+        return Err(LineFault::Bad);
+    }
+    read_words(Words::new(text), is_first, room).ok_or(LineFault::Bad)
+}
+
+// The octets of a line without its line feed and a carriage return before that.
+fn line_text(line: &[u8]) -> Result<&[u8], LineFault>
+    ensures { MatchResult result (λ text. text_of_line line.now ≡ Ok text.now) (λ fault. text_of_line line.now ≡ Err fault) }
+{
+    let (text, is_ended) = match line {
+        [text @ .., b'\n'] => (text, true),
+        _ => (line, false),
+    };
+    if text.len() > LONGEST_LINE {
+        return Err(LineFault::TooLong);
+    }
+    match text {
+        [shorter @ .., b'\r'] if is_ended => Ok(shorter),
+        _ => Ok(text),
+    }
+}
+
+fn read_words<'a>(mut words: Words<'a>, is_first: bool, room: &'a mut LineRoom) -> Option<Line<'a>>
+    ensures { option_map line_seen result ≡ said_by is_first words.entry }
+{
+    let Some(name) = words.next_word() else {
+        return Some(Line::Skipped);
+    };
+    if name.first() == Some(&b'#') {
+        return Some(Line::Skipped);
+    }
+    if is_first && name == b"client".as_slice() {
+        return read_settings(words);
+    }
+    if name == b"read".as_slice() {
+        return read_reading(words, &mut room.body);
+    }
+    if name == b"write".as_slice() {
+        return read_writing(words, &mut room.body);
+    }
+    if name == b"data".as_slice() {
+        return read_arrival(words, &mut room.datagram).map(Line::Data);
+    }
+    if name == b"tick".as_slice() {
+        return read_tick(words);
+    }
+    if name == b"ask".as_slice() {
+        return read_arrival(words, &mut room.datagram).map(Line::Ask);
+    }
+    None
+}
+
+fn read_settings(mut words: Words<'_>) -> Option<Line<'_>>
+    ensures { option_map line_seen result ≡ settings_of words.entry }
+{
+    let timeout = next_number(&mut words, u32::MAX.into())?;
+    let retries = next_number(&mut words, u8::MAX.into())?;
+    let ticket = next_number(&mut words, u64::MAX)?;
+    let config = Config::new(timeout as u32, retries as u8)?;
+    ended(words, Line::Client(config, ticket))
+}
+
+fn read_reading<'a>(mut words: Words<'_>, room: &'a mut BodyRoom) -> Option<Line<'a>>
+    ensures { option_map line_seen result ≡ option_map Happens (reading_of words.entry) }
+{
+    let peer = next_peer(&mut words)?;
+    let kind = next_number(&mut words, 1_023)?;
+    let instance = next_number(&mut words, 4_194_303)?;
+    let property = next_number(&mut words, 4_194_303)?;
+    let index = next_index(&mut words)?;
+    let request = ReadRequest {
+        object: ObjectId::new(kind as u16, instance as u32)?,
+        property: property as u32,
+        index,
+    };
+    let body = room.read_body(&request);
+    ended(words, Line::Request(peer, READ_PROPERTY, body))
+}
+
+fn read_writing<'a>(mut words: Words<'a>, room: &'a mut BodyRoom) -> Option<Line<'a>>
+    ensures { option_map line_seen result ≡ option_map Happens (writing_of words.entry) }
+{
+    let peer = next_peer(&mut words)?;
+    let kind = next_number(&mut words, 1_023)?;
+    let instance = next_number(&mut words, 4_194_303)?;
+    let property = next_number(&mut words, 4_194_303)? as u32;
+    let priority = next_priority(&mut words)?;
+    let index = next_write_index(&mut words)?;
+    let object = ObjectId::new(kind as u16, instance as u32)?;
+    let pairs = words.again();
+    match room.write_body(object, property, index, priority, &mut words) {
+        Ok(body) => Some(Line::Request(peer, WRITE_PROPERTY, body)),
+        Err(PairFault::TooLong) => Some(Line::LongWrite(LongWrite {
+            peer,
+            object,
+            property,
+            index,
+            priority,
+            words: pairs,
+        })),
+        Err(PairFault::Bad(_)) => None,
+    }
+}
+
+fn read_arrival<'a>(
+    mut words: Words<'_>,
+    room: &'a mut [u8; LONGEST_DATAGRAM],
+) -> Option<Received<'a>>
+    ensures { option_map arrival_seen result ≡ arrival_of words.entry }
+{
+    let from = next_plain_peer(&mut words)?;
+    let datagram = next_datagram(&mut words, room)?;
+    if words.next_word().is_some() {
+        return None;
+    }
+    Some(Received { from, datagram })
+}
+
+fn read_tick(mut words: Words<'_>) -> Option<Line<'_>>
+    ensures { option_map line_seen result ≡ option_map Happens (tick_of words.entry) }
+{
+    let now = next_number(&mut words, u64::MAX)?;
+    ended(words, Line::Tick(now))
+}
+
+// The line, where no word is left.
+fn ended<'a>(mut words: Words<'_>, line: Line<'a>) -> Option<Line<'a>>
+    ensures { option_map line_seen result ≡ at_end words.entry (line_seen line.entry) }
+{
+    match words.next_word() {
+        Some(_) => None,
+        None => Some(line),
+    }
+}
+
+fn next_number(words: &mut Words<'_>, most: u64) -> Option<u64>
+    ensures value { MatchOption result (next_as (number_up_to most) words.old ≡ None) (λ number. next_as (number_up_to most) words.old ≡ Some (number, words.new)) }
+    ensures most { MatchOption result ⊤ (λ number. number ≤ most) }
+{
+    let word = words.next_word()?;
+    read_number(word, most)
+}
+
+// The number of an element, where a word is left.
+fn next_index(words: &mut Words<'_>) -> Option<Option<u32>>
+    ensures { MatchOption result (index_in words.old ≡ None) (λ index. index_in words.old ≡ Some (index, words.new)) }
+{
+    let Some(word) = words.next_word() else {
+        return Some(None);
+    };
+    let index = read_number(word, u32::MAX.into())?;
+    Some(Some(index as u32))
+}
+
+// The priority, where the number is not 0.
+fn next_priority(words: &mut Words<'_>) -> Option<Option<u8>>
+    ensures value { MatchOption result (next_as priority_of words.old ≡ None) (λ priority. next_as priority_of words.old ≡ Some (priority, words.new)) }
+    ensures priority { IfSome result (λ priority. IfSome priority IsPriority) }
+{
+    let number = next_number(words, 16)?;
+    Some(priority_from(number as u8))
+}
+
+// The number of an element, where the word is not -1.
+fn next_write_index(words: &mut Words<'_>) -> Option<Option<u32>>
+    ensures { MatchOption result (next_as write_index_of words.old ≡ None) (λ index. next_as write_index_of words.old ≡ Some (index, words.new)) }
+{
+    let word = words.next_word()?;
+    read_write_index(word)
+}
+
+fn next_peer(words: &mut Words<'_>) -> Option<Peer>
+    ensures { MatchOption result (next_as peer_of words.old ≡ None) (λ peer. next_as peer_of words.old ≡ Some (station peer, words.new)) }
+{
+    let word = words.next_word()?;
+    peer_in(word)
+}
+
+fn next_plain_peer(words: &mut Words<'_>) -> Option<Peer>
+    ensures { MatchOption result (next_as plain_peer_of words.old ≡ None) (λ peer. next_as plain_peer_of words.old ≡ Some (station peer, words.new)) }
+{
+    let word = words.next_word()?;
+    plain_peer_in(word)
+}
+
+fn next_datagram<'a>(
+    words: &mut Words<'_>,
+    room: &'a mut [u8; LONGEST_DATAGRAM],
+) -> Option<&'a [u8]>
+    ensures { MatchOption result (next_as octets_of words.old ≡ None) (λ datagram. next_as octets_of words.old ≡ Some (datagram.now, words.new)) }
+{
+    let word = words.next_word()?;
+    read_datagram(word, room)
+}

@@ -1,0 +1,21 @@
+//! A request to write whose service body is too long to be sent.
+ghost use Rattle.std.specs.Prelude.{IsTrue};
+ghost use Rattle.bac_wire.specs.Identifier.{identifier};
+ghost use Rattle.bac_text.specs.Pairs.{whole_body_of};
+ghost use Rattle.bac_script.specs.LongBody.{is_long};
+
+use bac_pdu::Peer;
+use bac_text::Words;
+use bac_wire::ObjectId;
+
+/// A request to write as a line says it, where its service body has more octets than a client sends.
+#[derive(Drop)]
+pub(crate) struct LongWrite<'a> {
+    pub(crate) peer: Peer,
+    pub(crate) object: ObjectId,
+    pub(crate) property: u32,
+    pub(crate) index: Option<u32>,
+    pub(crate) priority: Option<u8>,
+    pub(crate) words: Words<'a>,
+    ghost long: { IsTrue (is_long (whole_body_of (identifier object) property index priority words)) },
+}

@@ -1,0 +1,126 @@
+//! What is printed of a client's notes, and of a device's replies.
+ghost use Rattle.std.specs.Prelude.{◌≡◌, false, is_err, IfErr, Some};
+ghost use Rattle.std.specs.List.{flat_map};
+ghost use Rattle.bac_pdu.specs.Peer.{station};
+ghost use Rattle.bac_tsm.specs.Events.{Done, Refused, TimedOut};
+ghost use Rattle.bac_tsm.specs.Machine.{sent, due_notes};
+ghost use Rattle.bac_tsm.specs.Client.{end_seen, outcome_seen};
+ghost use Rattle.bac_text.specs.Checked.{inner_of, has_failed, Puts};
+ghost use Rattle.bac_text.specs.Page.{Prints};
+ghost use Rattle.bac_text.specs.Values.{region_text};
+ghost use Rattle.bac_outcomes.specs.Outcomes.{outcome_text};
+ghost use Rattle.bac_script.specs.Text.{note_text, notes_text, reply_text};
+
+use crate::tracing::TraceFault;
+use bac_outcomes::print_outcome;
+use bac_pdu::Peer;
+use bac_text::{Checked, Page};
+use bac_tsm::{Client, Ended, Entry, Outcome, SubmitFault};
+use std::io::Write;
+
+/// Writes how a request ended, as `value 4290999a`, `error 2 32` or `abort 4`.
+///
+/// # Errors
+///
+/// `WriteFailed` where the writer failed or took no octet. A front of the text was then written.
+pub fn show_outcome<W: Write>(
+    outcome: &Outcome<'_>,
+    writer: &mut Checked<W>,
+) -> Result<(), TraceFault>
+    requires { has_failed writer.old ≡ false }
+    ensures text { Puts (W.contents (inner_of writer.old)) (W.contents (inner_of writer.new)) (outcome_text (outcome_seen outcome.now)) result }
+    ensures failed { has_failed writer.new ≡ is_err result }
+    ensures fault { IfErr result (λ fault. fault ≡ TraceFault.WriteFailed) }
+{
+    Ok(bac_outcomes::show_outcome(outcome, writer)?)
+}
+
+/// Writes the text of a region: of one value its text, of none or several their texts in braces, and of anything else
+/// `hex ` and its octets.
+///
+/// # Errors
+///
+/// `WriteFailed` where the writer failed or took no octet. A front of the text was then written.
+pub fn show_value<W: Write>(region: &[u8], writer: &mut Checked<W>) -> Result<(), TraceFault>
+    requires { has_failed writer.old ≡ false }
+    ensures text { Puts (W.contents (inner_of writer.old)) (W.contents (inner_of writer.new)) (region_text region.now) result }
+    ensures failed { has_failed writer.new ≡ is_err result }
+    ensures fault { IfErr result (λ fault. fault ≡ TraceFault.WriteFailed) }
+{
+    Ok(bac_text::show_value(region, writer)?)
+}
+
+/// Prints what the client sends under the ticket, where the request is open.
+pub(crate) fn print_sent<W: Write>(page: &mut Page<'_, W>, client: &Client, ticket: u64)
+    ensures { Prints W.contents page.old page.new (notes_text (sent client.now.state ticket)) }
+{
+    if let Some((peer, octets)) = client.to_send(ticket) {
+        page.print(b"send ");
+        page.print_number(ticket);
+        page.print(b" ");
+        page.print_peer(peer);
+        page.print(b" ");
+        page.print_hex(octets);
+        page.print(b"\n");
+    }
+}
+
+/// Prints why a request was not accepted.
+pub(crate) fn print_refusal<W: Write>(page: &mut Page<'_, W>, fault: SubmitFault)
+    ensures { Prints W.contents page.old page.new (note_text (Refused fault)) }
+{
+    let text = match fault {
+        SubmitFault::TooLong => b"too-long\n".as_slice(),
+        SubmitFault::TableFull => b"full\n",
+        SubmitFault::TicketsSpent => b"spent\n",
+    };
+    page.print(text);
+}
+
+/// Prints the end of a request.
+pub(crate) fn print_end<W: Write>(page: &mut Page<'_, W>, ended: Ended<'_>)
+    ensures { Prints W.contents page.old page.new (note_text (Done ended.entry.ticket (outcome_seen ended.entry.outcome))) }
+{
+    page.print(b"done ");
+    page.print_number(ended.ticket);
+    page.print(b" ");
+    print_outcome(page, ended.outcome);
+    page.print(b"\n");
+}
+
+/// Prints what became of the requests that were due, in their order.
+pub(crate) fn print_due<W: Write>(page: &mut Page<'_, W>, client: &Client, due: &[Entry])
+    ensures { Prints W.contents page.old page.new (notes_text (flat_map (due_notes client.now.state) due.now)) }
+{
+    for entry in due {
+        print_entry(page, client, *entry);
+    }
+}
+
+fn print_entry<W: Write>(page: &mut Page<'_, W>, client: &Client, entry: Entry)
+    ensures { Prints W.contents page.old page.new (notes_text (due_notes client.now.state entry)) }
+{
+    match entry {
+        Entry::Resend(ticket) => print_sent(page, client, ticket),
+        Entry::TimedOut(ticket) => print_timeout(page, ticket),
+    }
+}
+
+fn print_timeout<W: Write>(page: &mut Page<'_, W>, ticket: u64)
+    ensures { Prints W.contents page.old page.new (note_text (TimedOut ticket)) }
+{
+    page.print(b"timeout ");
+    page.print_number(ticket);
+    page.print(b"\n");
+}
+
+/// Prints the device's reply to the peer.
+pub(crate) fn print_reply<W: Write>(page: &mut Page<'_, W>, peer: Peer, octets: &[u8])
+    ensures { Prints W.contents page.old page.new (reply_text (Some (station peer, octets.now))) }
+{
+    page.print(b"reply ");
+    page.print_peer(peer);
+    page.print(b" ");
+    page.print_hex(octets);
+    page.print(b"\n");
+}

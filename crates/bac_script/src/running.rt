@@ -1,0 +1,105 @@
+//! The lines of a script, run on its client and its device one after another.
+ghost use Rattle.std.specs.Prelude.{◌≡◌, List, []};
+ghost use Rattle.bac_tsm.specs.Events.{Ask, Data, Tick};
+ghost use Rattle.bac_tsm.specs.Client.{keeping};
+ghost use Rattle.bac_script.specs.LineSeen.{arrival_seen, line_seen};
+ghost use Rattle.bac_pdu.specs.Peer.{station};
+ghost use Rattle.bac_device.specs.Places.{Write as Written};
+ghost use Rattle.bac_text.specs.Page.{Prints};
+ghost use Rattle.bac_script.specs.Running.{Stage, Stands, step_of, device_with, writes_with, reply_after, ran};
+ghost use Rattle.bac_script.specs.Text.{notes_text};
+
+use crate::line::{Line, Received};
+use crate::notes::{print_due, print_end, print_refusal, print_reply, print_sent};
+use bac_device::{Device, DeviceInfo, demo};
+use bac_pdu::Peer;
+use bac_text::Page;
+use bac_tsm::{Client, SubmitFault};
+use bac_wire::Frame;
+use std::io::Write;
+
+// A body that words can make is one that the client sends.
+const _: () = prove!(bac_text::LONGEST_BODY == bac_tsm::LONGEST_BODY);
+
+/// The device that a script asks: the demonstration device under a number and a name of its own.
+pub(crate) fn small_device() -> Device
+    ensures { result ≡ device_with [] }
+{
+    let info = DeviceInfo::new(1_234, "Small device").unwrap();
+    demo(info)
+}
+
+/// Runs a line on the client and the device, and prints what comes of it. The device's reply is put into the frame.
+pub(crate) fn run_line<W: Write>(
+    client: &mut Client,
+    device: &mut Device,
+    line: Line<'_>,
+    reply: &mut Frame,
+    page: &mut Page<'_, W>,
+)
+    ensures stage { (stage : Stage) → Stands stage client.old device.old → Stands (ran stage (line_seen line.entry)).after client.new device.new }
+    ensures text { (stage : Stage) → Stands stage client.old device.old → Prints W.contents page.old page.new (ran stage (line_seen line.entry)).text }
+{
+    match line {
+        Line::Skipped => {}
+        Line::Client(config, first_ticket) => *client = Client::new(config, first_ticket),
+        Line::Request(peer, service, body) => submit(client, peer, service, body, page),
+        Line::LongWrite(_) => print_refusal(page, SubmitFault::TooLong),
+        Line::Data(received) => hand_in(client, received, page),
+        Line::Tick(now) => tick(client, now, page),
+        Line::Ask(received) => ask(device, received, reply, page),
+    }
+}
+
+// Asks the client to make a request of the peer.
+fn submit<W: Write>(
+    client: &mut Client,
+    peer: Peer,
+    service: u8,
+    body: &[u8],
+    page: &mut Page<'_, W>,
+)
+    ensures client { client.new ≡ keeping client.old (step_of client.old (Ask (station peer) service body.now)).after }
+    ensures text { Prints W.contents page.old page.new (notes_text (step_of client.old (Ask (station peer) service body.now)).notes) }
+{
+    match client.submit(peer, service, body) {
+        Ok(ticket) => print_sent(page, client, ticket),
+        Err(fault) => print_refusal(page, fault),
+    }
+}
+
+// Hands the client a datagram.
+fn hand_in<W: Write>(client: &mut Client, received: Received<'_>, page: &mut Page<'_, W>)
+    ensures client { client.new ≡ keeping client.old (step_of client.old (Data (arrival_seen received.entry).from (arrival_seen received.entry).datagram)).after }
+    ensures text { Prints W.contents page.old page.new (notes_text (step_of client.old (Data (arrival_seen received.entry).from (arrival_seen received.entry).datagram)).notes) }
+{
+    match client.datagram(received.from, received.datagram) {
+        Some(ended) => print_end(page, ended),
+        None => page.print(b"drop\n"),
+    }
+}
+
+// Tells the client the time.
+fn tick<W: Write>(client: &mut Client, now: u64, page: &mut Page<'_, W>)
+    ensures client { client.new ≡ keeping client.old (step_of client.old (Tick now)).after }
+    ensures text { Prints W.contents page.old page.new (notes_text (step_of client.old (Tick now)).notes) }
+{
+    let due = client.tick(now);
+    print_due(page, client, due.as_slice());
+}
+
+// Asks the device with a datagram. Its reply is put into the frame.
+fn ask<W: Write>(
+    device: &mut Device,
+    received: Received<'_>,
+    reply: &mut Frame,
+    page: &mut Page<'_, W>,
+)
+    ensures device { (writes : List Written) → device.old ≡ device_with writes → device.new ≡ device_with (writes_with writes (arrival_seen received.entry)) }
+    ensures text { (writes : List Written) → device.old ≡ device_with writes → Prints W.contents page.old page.new (reply_after writes (arrival_seen received.entry)) }
+{
+    match device.answer(received.from, received.datagram, reply) {
+        Some(peer) => print_reply(page, peer, reply.as_slice()),
+        None => page.print(b"silent\n"),
+    }
+}

@@ -1,0 +1,136 @@
+//! A script, run as it is read.
+ghost use Rattle.std.specs.Prelude.{◌≡◌, ◌⊎◌, ◌↔◌, ℕ, List, true, false, Err};
+ghost use Rattle.bac_text.specs.Checked.{has_failed, reads_of};
+ghost use Rattle.bac_script.specs.Input.{most_reads};
+ghost use Rattle.bac_script.specs.Running.{new_client};
+ghost use Rattle.bac_script.specs.Script.{lines, all_said, requests_in};
+ghost use Rattle.bac_tsm.specs.Laws.{NumbersComeBackLate};
+ghost use Rattle.bac_tsm.specs.declared.limits.TheConstants.{PLACES};
+ghost use Rattle.bac_text.specs.Page.{writer_of};
+ghost use Rattle.bac_script.specs.Tracing.{Traces, RunsOn, trace_status_of};
+
+use crate::input::{Chunk, Reading};
+use crate::line::{LineFault, LineRoom, read_line};
+use crate::running::{run_line, small_device};
+use bac_text::{Checked, Page, WriteFailed};
+use bac_tsm::{Client, Config};
+use bac_wire::Frame;
+use std::io::{Read, Write};
+use thiserror::Error;
+
+/// A script that ran to its end.
+#[derive(Clone, Copy, Debug, PartialEq, Eq)]
+pub struct TraceEnd {
+    /// The lines, skipped ones included.
+    pub lines: u64,
+}
+
+/// Why a script stopped.
+#[derive(Clone, Copy, Debug, PartialEq, Eq, Error)]
+pub enum TraceFault {
+    /// The line with this number, from 1, is no line of the language.
+    #[error("line {0}: bad line")]
+    BadLine(u64),
+    /// The line with this number, from 1, has more than 4,096 octets.
+    #[error("line {0}: too long")]
+    LineTooLong(u64),
+    /// The reader failed, or its reads are spent.
+    #[error("reading failed")]
+    ReadFailed,
+    /// The writer failed, or took no octet.
+    #[error("writing failed")]
+    WriteFailed,
+}
+
+impl From<WriteFailed> for TraceFault {
+    ghost use Rattle.bac_script.specs.declared.tracing.TraceFault.TheVariants as faults;
+
+    ghost from_gives = { λ _ fault. fault ≡ faults.WriteFailed };
+
+    fn from(_failed: WriteFailed) -> TraceFault {
+        TraceFault::WriteFailed
+    }
+}
+
+/// Runs each line of a script on a client and a device. What is printed is written before the reader is asked for more.
+pub fn trace<R: Read, W: Write>(
+    reader: &mut Checked<R>,
+    writer: &mut Checked<W>,
+) -> Result<TraceEnd, TraceFault>
+    requires reader { has_failed reader.old ≡ false }
+    requires writer { has_failed writer.old ≡ false }
+    ensures script { Traces R.remaining W.contents reader.old reader.new writer.old writer.new result }
+    ensures read_failed { result ≡ Err TraceFault.ReadFailed → (has_failed reader.new ≡ true) ⊎ (reads_of reader.new ≡ most_reads) }
+    // Between two requests of a script with the same number at least 192 others are accepted.
+    ensures reuse { (octets : List ℕ) (reading : Reading) → NumbersComeBackLate PLACES (requests_in (all_said (lines octets reading))) }
+    ensures write_failed { (has_failed writer.new ≡ true) ↔ (result ≡ Err TraceFault.WriteFailed) }
+{
+    let mut page = Page::new(writer);
+    let answer = run_script(reader, &mut page);
+    page.finish()?;
+    answer
+}
+
+// Runs each line of a script. What is printed goes to the writer before more is read; in the end some of it may still be on the
+// page.
+fn run_script<R: Read, W: Write>(
+    reader: &mut Checked<R>,
+    page: &mut Page<'_, W>,
+) -> Result<TraceEnd, TraceFault>
+    requires reader { has_failed reader.old ≡ false }
+    ensures script { RunsOn R.remaining W.contents reader.old reader.new page.old page.new result }
+    ensures read_failed { result ≡ Err TraceFault.ReadFailed → (has_failed reader.new ≡ true) ⊎ (reads_of reader.new ≡ most_reads) }
+    ensures write_failed { result ≡ Err TraceFault.WriteFailed → has_failed (writer_of page.new) ≡ true }
+{
+    let mut chunk = Chunk::new();
+    let mut room = LineRoom::new();
+    let mut reply = Frame::new();
+    let mut client = usual_client();
+    let mut device = small_device();
+    let mut is_first = true;
+    let mut lines = 0;
+    loop {
+        let next = chunk.next_line(reader, page)?;
+        if next.reading == Reading::Failed {
+            return Err(TraceFault::ReadFailed);
+        }
+        if next.length == 0 {
+            return Ok(TraceEnd { lines });
+        }
+        lines += 1;
+        let line = match read_line(chunk.front(next.length), is_first, &mut room) {
+            Ok(line) => line,
+            Err(LineFault::Bad) => return Err(TraceFault::BadLine(lines)),
+            Err(LineFault::TooLong) => return Err(TraceFault::LineTooLong(lines)),
+        };
+        is_first = is_first && line.is_skipped();
+        run_line(&mut client, &mut device, line, &mut reply, page);
+        if next.reading == Reading::AtEnd {
+            return Ok(TraceEnd { lines });
+        }
+        chunk.skip(next.length);
+    }
+}
+
+// The client of a script that says no settings: it waits for three seconds, and sends three times again.
+fn usual_client() -> Client
+    ensures { result ≡ new_client 3000 3 0 }
+{
+    let config = Config {
+        timeout: 3_000,
+        retries: 3,
+    };
+    Client::new(config, 0)
+}
+
+/// The status with which the program ends after a script: 0 at its end, 2 after a line that is bad or too long, 3 where
+/// reading or writing failed.
+pub fn trace_status(answer: &Result<TraceEnd, TraceFault>) -> u8
+    ensures { result ≡ trace_status_of answer.now }
+{
+    match answer {
+        Ok(_) => 0,
+        Err(TraceFault::BadLine(_) | TraceFault::LineTooLong(_)) => 2,
+        Err(TraceFault::ReadFailed | TraceFault::WriteFailed) => 3,
+    }
+}

@@ -1,0 +1,15 @@
+pub mod Known
+pub mod Printed
+pub mod NumberLemmas
+pub mod WordLemmas
+pub mod HexText
+pub mod ValueLists
+pub mod ValueTexts
+pub mod Routes
+pub mod WordValues
+pub mod ValueRegions
+pub mod PairLemmas
+pub mod WriteBodies
+pub mod WordRanges
+pub mod BodiesInWords
+pub mod Shown

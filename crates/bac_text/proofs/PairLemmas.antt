@@ -1,0 +1,172 @@
+-- The words of pairs, from their front, and the region that they write.
+use Rattle.std.proofs.Common.{◌≡◌, ℕ, ◌+◌, ◌*◌, ◌<◌, ◌≤◌, ◌-◌, Bool, true, false, List, [], ◌∷◌, ◌++◌, length, Option, Some, None, Result, Ok, Err, refl, sym, ◌∙◌, ap, subst, arith, append-nil, append_assoc, length-append}
+use Rattle.std.specs.Prelude.{nat_le}
+use Rattle.std.proofs.lemmas.Bool.Decides.{nat_tests}
+use Rattle.bac_wire.specs.Datum.{Datum, plain}
+use Rattle.bac_wire.specs.Tag.{plain_tag}
+use Rattle.bac_pdu.specs.Parameter.{plain_all}
+use Rattle.bac_text.specs.declared.value_words.ValueFault.TheVariants as faults
+use Rattle.bac_text.specs.declared.pairs.PairFault.TheVariants.{Bad, TooLong}
+use Rattle.bac_text.specs.ValueWords.{value_in, appended}
+use Rattle.bac_text.specs.Pairs.{value_before, pairs_from, values_in, region_with, region_of}
+use Rattle.bac_text.proofs.WordValues.{at_most-ok}
+
+-- ---- one more value behind others
+
+plain_all-more : (values : List Datum) (value : Datum) → plain_all plain (values ++ value ∷ []) ≡ plain_all plain values ++ plain value
+plain_all-more [] value = append-nil (plain value)
+plain_all-more (first ∷ others) value =
+    ap (λ (rest : List ℕ). plain first ++ rest) (plain_all-more others value) ∙ sym (append_assoc (plain first) (plain_all plain others) (plain value))
+
+-- ---- pairs from their front
+
+-- The values of the first words, and then those of the words that are left.
+abbrev pub then_values : List Datum → Result (List Datum) ℕ → Result (List Datum) ℕ
+then_values values (Ok more) = Ok (values ++ more)
+then_values values (Err bad) = Err bad
+
+-- What was appended of these values, and whether they have passed the room.
+abbrev pub Stands : Bool → List ℕ → List Datum → Type 0
+Stands true region values = 1497 < length (plain_all plain values)
+Stands false region values = (region ≡ plain_all plain values) × (length region ≤ 1497)
+
+-- The pair with this number is next.
+pub record Progress (all left : List (List ℕ)) (number : ℕ) (region : List ℕ) (is_too_long : Bool) : Type 0 where
+  pub values : List Datum
+  pub said : pairs_from 1 all ≡ then_values values (pairs_from number left)
+  pub counted : length all ≡ 2 * (number - 1) + length left
+  pub some : 1 ≤ number
+  pub stands : Stands is_too_long region values
+
+pub progress-none : (all : List (List ℕ)) (region : List ℕ) → region ≡ [] → Progress all all 1 region false
+progress-none all region e = record {
+  values = [];
+  said = go (pairs_from 1 all);
+  counted = omega arith;
+  some = omega arith;
+  stands = (e, (let none = ap length e in omega arith));
+}
+  where
+    go : (found : Result (List Datum) ℕ) → found ≡ then_values [] found
+    go (Err bad) = refl
+    go (Ok values) = refl
+
+first_pair : (n : ℕ) (tag word : List ℕ) (left : List (List ℕ)) (value : Datum) → value_in tag word ≡ Some value →
+    pairs_from n (tag ∷ word ∷ left) ≡ then_values (value ∷ []) (pairs_from (n + 1) left)
+first_pair n tag word left value e = ap (λ (found : Option Datum). value_before n found (pairs_from (n + 1) left)) e ∙ go (pairs_from (n + 1) left)
+  where
+    go : (found : Result (List Datum) ℕ) → value_before n (Some value) found ≡ then_values (value ∷ []) found
+    go (Err bad) = refl
+    go (Ok values) = refl
+
+then_then : (first second : List Datum) (found : Result (List Datum) ℕ) → then_values first (then_values second found) ≡ then_values (first ++ second) found
+then_then first second (Err bad) = refl
+then_then first second (Ok more) = ap (λ (values : List Datum). Ok values) (sym (append_assoc first second more))
+
+said-more : (all left : List (List ℕ)) (n : ℕ) (tag word : List ℕ) (values : List Datum) (value : Datum) →
+    pairs_from 1 all ≡ then_values values (pairs_from n (tag ∷ word ∷ left)) → value_in tag word ≡ Some value →
+    pairs_from 1 all ≡ then_values (values ++ value ∷ []) (pairs_from (n + 1) left)
+said-more all left n tag word values value said e =
+    said ∙ ap (then_values values) (first_pair n tag word left value e) ∙ then_then values (value ∷ []) (pairs_from (n + 1) left)
+
+appended-new : (region new : List ℕ) (value : Datum) (b : Bool) → nat_le (length (region ++ plain value)) 1497 ≡ b → appended region (Some value) ≡ Ok new →
+    (new ≡ region ++ plain value) × (length new ≤ 1497)
+appended-new region new value true fits e =
+    let same : Ok (region ++ plain value) ≡ Ok new = rw fits at e in
+    let is : new ≡ region ++ plain value = cc in
+    (is, (let long = ap length is in grind (arith, nat_tests)))
+appended-new region new value false past e = absurd (let bad : Err faults.TooLong ≡ Ok new = rw past at e in cc)
+
+appended-long : (region : List ℕ) (value : Datum) (b : Bool) → nat_le (length (region ++ plain value)) 1497 ≡ b → appended region (Some value) ≡ Err faults.TooLong →
+    1497 < length (region ++ plain value)
+appended-long region value true fits e = absurd (let bad : Ok (region ++ plain value) ≡ Err faults.TooLong = rw fits at e in cc)
+appended-long region value false past e = grind (arith, nat_tests)
+
+stands-more : (b : Bool) (region new : List ℕ) (values : List Datum) (value : Datum) → Stands b region values → appended region (Some value) ≡ Ok new →
+    Stands b new (values ++ value ∷ [])
+stands-more true region new values value long e =
+    let size = ap length (plain_all-more values value) in
+    omega (arith, size, long, length-append (plain_all plain values) (plain value))
+stands-more false region new values value stands e =
+    let added = appended-new region new value (nat_le (length (region ++ plain value)) 1497) refl e in
+    (added.0 ∙ ap (λ (w : List ℕ). w ++ plain value) stands.0 ∙ sym (plain_all-more values value), added.1)
+
+stands-long : (b : Bool) (region : List ℕ) (values : List Datum) (value : Datum) → Stands b region values → appended region (Some value) ≡ Err faults.TooLong →
+    1497 < length (plain_all plain (values ++ value ∷ []))
+stands-long true region values value long e =
+    let size = ap length (plain_all-more values value) in
+    omega (arith, size, long, length-append (plain_all plain values) (plain value))
+stands-long false region values value stands e =
+    let size = ap length (plain_all-more values value) in
+    let past = appended-long region value (nat_le (length (region ++ plain value)) 1497) refl e in
+    let same = ap length stands.0 in
+    omega (arith, size, past, same, length-append region (plain value), length-append (plain_all plain values) (plain value))
+
+pub progress-more : (all left : List (List ℕ)) (n : ℕ) (tag word region new : List ℕ) (b : Bool) → Progress all (tag ∷ word ∷ left) n region b →
+    appended region (value_in tag word) ≡ Ok new → Progress all left (n + 1) new b
+progress-more all left n tag word region new b p e = go (value_in tag word) refl e
+  where
+    go : (found : Option Datum) → value_in tag word ≡ found → appended region found ≡ Ok new → Progress all left (n + 1) new b
+    go None is e = absurd (cc)
+    go (Some value) is e = record {
+      values = p.values ++ value ∷ [];
+      said = said-more all left n tag word p.values value p.said is;
+      counted = omega (arith, p.counted, p.some);
+      some = omega arith;
+      stands = stands-more b region new p.values value p.stands e;
+    }
+
+pub progress-long : (all left : List (List ℕ)) (n : ℕ) (tag word region new : List ℕ) (b : Bool) → Progress all (tag ∷ word ∷ left) n region b →
+    appended region (value_in tag word) ≡ Err faults.TooLong → Progress all left (n + 1) new true
+progress-long all left n tag word region new b p e = go (value_in tag word) refl e
+  where
+    go : (found : Option Datum) → value_in tag word ≡ found → appended region found ≡ Err faults.TooLong → Progress all left (n + 1) new true
+    go None is e = absurd (cc)
+    go (Some value) is e = record {
+      values = p.values ++ value ∷ [];
+      said = said-more all left n tag word p.values value p.said is;
+      counted = omega (arith, p.counted, p.some);
+      some = omega arith;
+      stands = stands-long b region p.values value p.stands e;
+    }
+
+-- ---- what the region is in the end
+
+said-all : (values : List Datum) (n : ℕ) (left : List (List ℕ)) → left ≡ [] → then_values values (pairs_from n left) ≡ Ok values
+said-all values n left e = ap (λ (l : List (List ℕ)). then_values values (pairs_from n l)) e ∙ ap (λ (v : List Datum). Ok v) (append-nil values)
+
+values_in-some : (words : List (List ℕ)) (value : Datum) (others : List Datum) → pairs_from 1 words ≡ Ok (value ∷ others) → values_in words ≡ Ok (value ∷ others)
+values_in-some [] value others e = absurd (cc)
+values_in-some (tag ∷ words) value others e = e
+
+plain_some : (value : Datum) (others : List Datum) → 0 < length (plain_all plain (value ∷ others))
+unfolding plain plain_tag
+plain_some value others = omega arith
+
+none_first : (n : ℕ) (found : Option Datum) (more : Result (List Datum) ℕ) → value_before n found more ≡ Ok [] → ⊥
+none_first n None more e = cc
+none_first n (Some value) (Err bad) e = cc
+none_first n (Some value) (Ok values) e = cc
+
+values_in-empty : (words : List (List ℕ)) → pairs_from 1 words ≡ Ok [] → region_of words ≡ Err (Bad 1)
+values_in-empty [] e = refl
+values_in-empty (tag ∷ []) e = absurd (cc)
+values_in-empty (tag ∷ word ∷ left) e = absurd (none_first 1 (value_in tag word) (pairs_from 2 left) e)
+
+-- No value is spelled by nothing, so where nothing was appended there was no pair.
+pub progress-empty : (all left : List (List ℕ)) (n : ℕ) (region : List ℕ) → Progress all left n region false → left ≡ [] → region ≡ [] → region_of all ≡ Err (Bad 1)
+progress-empty all left n region p e none = go p.values (p.said ∙ said-all p.values n left e) (sym p.stands.0 ∙ none)
+  where
+    go : (values : List Datum) → pairs_from 1 all ≡ Ok values → plain_all plain values ≡ [] → region_of all ≡ Err (Bad 1)
+    go [] said same = values_in-empty all said
+    go (value ∷ others) said same = absurd (let size = ap length same in let some = plain_some value others in omega arith)
+
+pub progress-end : (all left : List (List ℕ)) (n : ℕ) (region : List ℕ) → Progress all left n region false → left ≡ [] → (region ≡ [] → ⊥) → region_of all ≡ Ok region
+progress-end all left n region p e some = go p.values (p.said ∙ said-all p.values n left e) p.stands
+  where
+    go : (values : List Datum) → pairs_from 1 all ≡ Ok values → Stands false region values → region_of all ≡ Ok region
+    go [] said stands = absurd (some stands.0)
+    go (value ∷ others) said stands =
+        ap region_with (values_in-some all value others said)
+        ∙ at_most-ok TooLong 1497 (plain_all plain (value ∷ others)) (subst (λ (w : List ℕ). length w ≤ 1497) stands.0 stands.1)
+        ∙ ap (λ (w : List ℕ). Ok w) (sym stands.0)

@@ -1,0 +1,136 @@
+-- The values that a region is, from its front.
+use Rattle.std.proofs.Common.{◌≡◌, ℕ, zero, suc, ◌+◌, ◌<◌, ◌≤◌, List, [], ◌∷◌, length, Option, Some, None, refl, sym, ◌∙◌, ap, subst, arith}
+use Rattle.std.specs.Prelude.{option_map}
+use Rattle.std.proofs.lemmas.Option.{none-some}
+use Rattle.bac_wire.specs.Datum.{Datum, Spells}
+use Rattle.bac_wire.specs.DatumReading.{value_at}
+use Rattle.bac_wire.proofs.DatumLaws.{value_reader}
+use Rattle.bac_wire.proofs.RegionReading.{tag_shorter}
+use Rattle.bac_pdu.specs.Parameter.{SpellsAll}
+use Rattle.bac_pdu.proofs.SequenceLaws.{begins, begins_read}
+use Rattle.bac_text.specs.Words.{◌>>=◌}
+use Rattle.bac_text.specs.Values.{values_within, values_of}
+
+-- A value has an octet at least.
+pub value-shorter : (octets : List ℕ) (value : Datum) (rest : List ℕ) → value_at octets ≡ Some (value, rest) → length rest < length octets
+value-shorter octets value rest e =
+    let b = begins Spells value_at value_reader octets value rest e in
+    subst (λ (w : List ℕ). length rest < length w) (sym b.whole) (tag_shorter b.spelled.tag b.spelled.contents b.front rest _ b.spelled.tagged b.spelled.whole)
+
+-- The values of the octets behind the first, after it.
+abbrev then_others : ℕ → Option (Datum × List ℕ) → Option (List Datum)
+then_others count found = found >>= (λ first. values_within count first.1 >>= (λ others. Some (first.0 ∷ others)))
+
+-- Any count that is large enough gives the same.
+enough : (count other : ℕ) (octets : List ℕ) → length octets ≤ count → length octets ≤ other → values_within count octets ≡ values_within other octets
+unfolding values_within
+enough zero zero [] h k = refl
+enough zero (suc n) [] h k = refl
+enough (suc m) zero [] h k = refl
+enough (suc m) (suc n) [] h k = refl
+enough zero n (x ∷ xs) h k = absurd (omega arith)
+enough (suc m) zero (x ∷ xs) h k = absurd (omega arith)
+enough (suc m) (suc n) (x ∷ xs) h k = go (λ rest. enough m n rest) (value_at (x ∷ xs)) refl
+  where
+    go : ((rest : List ℕ) → length rest ≤ m → length rest ≤ n → values_within m rest ≡ values_within n rest) →
+        (found : Option (Datum × List ℕ)) → value_at (x ∷ xs) ≡ found → then_others m found ≡ then_others n found
+    go same None e = refl
+    go same (Some first) e =
+        let short = value-shorter (x ∷ xs) first.0 first.1 e in
+        ap (λ (found : Option (List Datum)). found >>= (λ others. Some (first.0 ∷ others))) (same first.1 (omega arith) (omega arith))
+
+-- Where no value stands at the front of octets, they are no values.
+pub values-none : (octets : List ℕ) → value_at octets ≡ None → 0 < length octets → values_of octets ≡ None
+unfolding values_within
+values-none [] e h = absurd (omega arith)
+values-none (x ∷ xs) e h = ap (then_others (length xs)) e
+
+-- The first value, and those behind it.
+pub values-first : (octets : List ℕ) (value : Datum) (rest : List ℕ) → value_at octets ≡ Some (value, rest) →
+    values_of octets ≡ option_map (λ others. value ∷ others) (values_of rest)
+unfolding values_within
+values-first [] value rest e = absurd (let short = value-shorter [] value rest e in omega arith)
+values-first (x ∷ xs) value rest e =
+    let short = value-shorter (x ∷ xs) value rest e in
+    ap (then_others (length xs)) e
+    ∙ ap (λ (found : Option (List Datum)). found >>= (λ others. Some (value ∷ others))) (enough (length xs) (length rest) rest (omega arith) (omega arith))
+    ∙ mapped value (values_of rest)
+  where
+    mapped : (value : Datum) (found : Option (List Datum)) → (found >>= (λ others. Some (value ∷ others))) ≡ option_map (λ others. value ∷ others) found
+    mapped value None = refl
+    mapped value (Some others) = refl
+
+-- Only nothing is no values.
+pub values-empty : (octets : List ℕ) → values_of octets ≡ Some [] → octets ≡ []
+unfolding values_within
+values-empty [] e = refl
+values-empty (x ∷ xs) e = go (value_at (x ∷ xs)) refl
+  where
+    none : (first : Datum × List ℕ) (found : Option (List Datum)) → (found >>= (λ others. Some (first.0 ∷ others))) ≡ Some [] → ⊥
+    none first None h = none-some [] h
+    none first (Some others) h = (let bad : first.0 ∷ others ≡ [] = cc in absurd (cc))
+
+    go : (found : Option (Datum × List ℕ)) → value_at (x ∷ xs) ≡ found → x ∷ xs ≡ []
+    go None f = absurd (none-some [] (sym (ap (then_others (length xs)) f) ∙ e))
+    go (Some first) f = absurd (none first (values_within (length xs) first.1) (sym (ap (then_others (length xs)) f) ∙ e))
+
+-- So many values were counted before the rest.
+abbrev pub Counted : List ℕ → List ℕ → ℕ → Type 0
+Counted region rest count = option_map length (values_of region) ≡ option_map (λ (n : ℕ). count + n) (option_map length (values_of rest))
+
+pub counted-none : (region : List ℕ) → Counted region region 0
+counted-none region = go (values_of region)
+  where
+    go : (found : Option (List Datum)) → option_map length found ≡ option_map (λ (n : ℕ). 0 + n) (option_map length found)
+    go None = refl
+    go (Some values) = let same : length values ≡ 0 + length values = omega arith in ap (λ (n : ℕ). Some n) same
+
+pub counted-more : (region rest behind : List ℕ) (count : ℕ) (value : Datum) → Counted region rest count → value_at rest ≡ Some (value, behind) →
+    Counted region behind (count + 1)
+counted-more region rest behind count value h found =
+    h ∙ ap (λ (values : Option (List Datum)). option_map (λ (n : ℕ). count + n) (option_map length values)) (values-first rest value behind found)
+    ∙ shift (values_of behind)
+  where
+    shift : (values : Option (List Datum)) →
+        option_map (λ (n : ℕ). count + n) (option_map length (option_map (λ others. value ∷ others) values)) ≡ option_map (λ (n : ℕ). count + 1 + n) (option_map length values)
+    shift None = refl
+    shift (Some others) = let same : count + length (value ∷ others) ≡ count + 1 + length others = omega arith in ap (λ (n : ℕ). Some n) same
+
+pub counted-stuck : (region rest : List ℕ) (count : ℕ) → Counted region rest count → value_at rest ≡ None → 0 < length rest →
+    None ≡ option_map length (values_of region)
+counted-stuck region rest count h none some =
+    sym (h ∙ ap (λ (values : Option (List Datum)). option_map (λ (n : ℕ). count + n) (option_map length values)) (values-none rest none some))
+
+pub counted-all : (region rest : List ℕ) (count : ℕ) → Counted region rest count → length rest ≡ 0 → Some count ≡ option_map length (values_of region)
+unfolding values_within
+counted-all region [] count h e = let same : count ≡ count + 0 = omega arith in ap (λ (n : ℕ). Some n) same ∙ sym h
+counted-all region (x ∷ xs) count h e = absurd (omega arith)
+
+-- ---- the values in the standard's words
+
+-- what the values of octets are, they spell
+pub spelled : (values : List Datum) (octets : List ℕ) → values_of octets ≡ Some values → SpellsAll Spells octets values
+unfolding values_within
+spelled [] octets e = values-empty octets e
+spelled (value ∷ others) [] e = absurd (let bad : [] ≡ value ∷ others = cc in cc)
+spelled (value ∷ others) (x ∷ xs) e = go (λ rest. spelled others rest) (value_at (x ∷ xs)) refl
+  where
+    parts : (first : Datum) (found : Option (List Datum)) → option_map (λ more. first ∷ more) found ≡ Some (value ∷ others) → (first ≡ value) × (found ≡ Some others)
+    parts first None h = absurd (none-some (value ∷ others) h)
+    parts first (Some more) h = (cc, cc)
+
+    go : ((rest : List ℕ) → values_of rest ≡ Some others → SpellsAll Spells rest others) →
+        (found : Option (Datum × List ℕ)) → value_at (x ∷ xs) ≡ found → SpellsAll Spells (x ∷ xs) (value ∷ others)
+    go after None f = absurd (none-some (value ∷ others) (sym (values-none (x ∷ xs) f (omega arith)) ∙ e))
+    go after (Some first) f =
+        let found : value_at (x ∷ xs) ≡ Some (first.0, first.1) = f in
+        let both = parts first.0 (values_of first.1) (sym (values-first (x ∷ xs) first.0 first.1 found) ∙ e) in
+        (first.1, begins Spells value_at value_reader (x ∷ xs) value first.1 (found ∙ ap (λ (v : Datum). Some (v, first.1)) both.0), after first.1 both.1)
+
+-- what octets spell, their values are
+pub read_all : (values : List Datum) (octets : List ℕ) → SpellsAll Spells octets values → values_of octets ≡ Some values
+unfolding values_within
+read_all [] octets s = ap values_of s
+read_all (value ∷ others) octets s =
+    values-first octets value s.0 (begins_read Spells value_at value_reader octets value s.0 s.1)
+    ∙ ap (option_map (λ more. value ∷ more)) (read_all others s.0 s.2)

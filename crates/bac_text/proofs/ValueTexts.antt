@@ -1,0 +1,118 @@
+-- The texts of values, and of what they are made of.
+use Rattle.std.proofs.Common.{◌≡◌, ℕ, ◌+◌, ◌-◌, ◌<◌, false, List, [], ◌∷◌, ◌++◌, length, take, get_or, Option, Some, None, refl, sym, ◌∙◌, ap, arith, append_assoc, decimal}
+use Rattle.std.specs.Prelude.{◌==◌, ℤ, pos, negsuc, ◌<ℤ◌, unsigned_abs, option_map, IfSome}
+use Rattle.std.specs.Fmt.{signed_decimal}
+use Rattle.std.specs.List.{flat_map}
+use Rattle.std.proofs.lemmas.List.{append-nil, take_more}
+use Rattle.std.proofs.lemmas.List.Concat.{flat_map-append}
+use Rattle.std.proofs.lemmas.Option.{none-some}
+use Rattle.std.proofs.lemmas.Int.{ints}
+use Rattle.bac_wire.specs.Datum.{Datum}
+use Rattle.bac_wire.specs.DatumReading.{value_at}
+use Rattle.bac_text.specs.declared.page.Page.{Page}
+use Rattle.bac_text.specs.Page.{Prints}
+use Rattle.std.specs.Prelude.{codes}
+use Rattle.hex.specs.Hex.{encode_lower}
+use Rattle.bac_text.specs.Values.{octet_bits, bits_text, datum_text, separator, values_within, values_of, joined, text_or_octets, region_text}
+use Rattle.bac_text.proofs.Printed.{◌⨾◌, printed_as, prints_nothing}
+use Rattle.bac_text.proofs.ValueLists.{values-none, values-first, values-empty}
+
+-- The text of one more element.
+pub texts-more : {A : Type 0} (text : A → List ℕ) (xs : List A) (i : ℕ) (d : A) → i < length xs →
+    flat_map text (take i xs) ++ text (get_or xs i d) ≡ flat_map text (take (i + 1) xs)
+texts-more text xs i d within =
+    ap (λ (one : List ℕ). flat_map text (take i xs) ++ one) (sym (append-nil (text (get_or xs i d))))
+    ∙ sym (flat_map-append text (take i xs) (get_or xs i d ∷ [])) ∙ ap (flat_map text) (sym (take_more xs i d within))
+
+pub signed-negative : (z : ℤ) → z <ℤ pos 0 → 45 ∷ decimal (unsigned_abs z) ≡ signed_decimal z
+signed-negative (pos n) h = absurd (omega (arith, ints))
+signed-negative (negsuc n) h = refl
+
+-- The bits of octets, of which the last is known.
+pub bits-last : (others : List ℕ) (last unused : ℕ) →
+    flat_map octet_bits others ++ take (8 - unused) (octet_bits last) ≡ bits_text unused (others ++ last ∷ [])
+bits-last [] last unused = refl
+bits-last (x ∷ []) last unused = refl
+bits-last (x ∷ y ∷ ys) last unused = ap (λ (bits : List ℕ). octet_bits x ++ bits) (bits-last (y ∷ ys) last unused)
+
+-- One more value, and a comma where others follow.
+one_more : (first : Datum) (more : List Datum) (behind : List ℕ) → values_of behind ≡ Some more →
+    joined (first ∷ more) ≡ (datum_text first ++ separator behind) ++ joined more
+unfolding values_within
+one_more first [] [] e = sym (append-nil (datum_text first ++ []) ∙ append-nil (datum_text first))
+one_more first (second ∷ more) [] e = absurd (let bad : [] ≡ second ∷ more = cc in cc)
+one_more first [] (octet ∷ octets) e = absurd (let bad = values-empty (octet ∷ octets) e in cc)
+one_more first (second ∷ more) (octet ∷ octets) e = sym (append_assoc (datum_text first) (44 ∷ []) (joined (second ∷ more)))
+
+-- What stands behind the first of the values.
+behind_first : (value : Datum) (others : List Datum) (found : Option (List Datum)) → option_map (λ more. value ∷ more) found ≡ Some others →
+    (more : List Datum) × (found ≡ Some more) × (others ≡ value ∷ more)
+behind_first value others None e = absurd (none-some others e)
+behind_first value others (Some more) e = (more, refl, cc)
+
+nothing_left : (rest : List ℕ) (others : List Datum) → value_at rest ≡ None → values_of rest ≡ Some others → others ≡ []
+unfolding values_within
+nothing_left [] others none e = cc
+nothing_left (octet ∷ octets) others none e = absurd (none-some others (sym (values-none (octet ∷ octets) none (omega arith)) ∙ e))
+
+-- If the region is values and nothing else, the texts of those before the rest were printed.
+pub record PrintsFront {W : Type 0} (contents : W → Option (List ℕ)) (before after : Page W) (region rest : List ℕ) : Type 0 where
+  pub front : (values : List Datum) → values_of region ≡ Some values →
+      (text : List ℕ) × (others : List Datum) × (values_of rest ≡ Some others) × (joined values ≡ text ++ joined others) × Prints contents before after text
+
+-- The values were printed, where the region is values.
+abbrev pub PrintsValues : {W : Type 0} → (W → Option (List ℕ)) → Page W → Page W → List ℕ → Type 0
+PrintsValues contents before after region = IfSome (values_of region) (λ values. Prints contents before after (joined values))
+
+module _ {W : Type 0} {contents : W → Option (List ℕ)} where
+  pub front_none : (page : Page W) (region : List ℕ) → PrintsFront contents page page region region
+  front_none page region = record { front = λ values e. ([], values, e, refl, prints_nothing page) }
+
+  pub front_more : {before middle after : Page W} {region rest behind : List ℕ} (value : Datum) →
+      PrintsFront contents before middle region rest → value_at rest ≡ Some (value, behind) →
+      Prints contents middle after (datum_text value ++ separator behind) → PrintsFront contents before after region behind
+  front_more {rest = rest} {behind = behind} value so_far found printed = record {
+    front = λ values e.
+        let f = so_far.front values e in
+        let more = behind_first value f.1 (values_of behind) (sym (values-first rest value behind found) ∙ f.2) in (
+          f.0 ++ (datum_text value ++ separator behind),
+          more.0,
+          more.1,
+          f.3 ∙ ap (λ (all : List Datum). f.0 ++ joined all) more.2 ∙ ap (λ (text : List ℕ). f.0 ++ text) (one_more value more.0 behind more.1)
+              ∙ sym (append_assoc f.0 (datum_text value ++ separator behind) (joined more.0)),
+          f.4 ⨾ printed,
+        );
+  }
+
+  pub front_whole : {before after : Page W} {region rest : List ℕ} → PrintsFront contents before after region rest → value_at rest ≡ None →
+      PrintsValues contents before after region
+  front_whole {before} {after} {region} {rest} so_far none = go (values_of region) refl
+    where
+      go : (found : Option (List Datum)) → values_of region ≡ found → IfSome found (λ values. Prints contents before after (joined values))
+      go None e = tt
+      go (Some values) e =
+          let f = so_far.front values e in
+          printed_as f.4 (sym (f.3 ∙ ap (λ (all : List Datum). f.0 ++ joined all) (nothing_left rest f.1 none f.2) ∙ append-nil f.0))
+
+  -- None or several stand in braces.
+  pub printed_in_braces : {before first second after : Page W} (region : List ℕ) (count : ℕ) → Some count ≡ option_map length (values_of region) →
+      (count == 1) ≡ false → Prints contents before first (123 ∷ []) → PrintsValues contents first second region → Prints contents second after (125 ∷ []) →
+      Prints contents before after (region_text region)
+  printed_in_braces {before} {first} {second} {after} region count counted several opened printed closed = go (values_of region) counted printed
+    where
+      go : (found : Option (List Datum)) → Some count ≡ option_map length found → IfSome found (λ values. Prints contents first second (joined values)) →
+          Prints contents before after (text_or_octets region found)
+      go None e p = absurd (none-some count (sym e))
+      go (Some values) e p =
+          let same : count ≡ length values = cc in
+          let other : (length values == 1) ≡ false = ap (λ (n : ℕ). n == 1) (sym same) ∙ several in
+          printed_as (opened ⨾ p ⨾ closed) (rw other refl)
+
+  -- What is no values is shown by its octets.
+  pub printed_octets : {before after : Page W} (region : List ℕ) → None ≡ option_map length (values_of region) →
+      Prints contents before after (codes "hex " ++ encode_lower region) → Prints contents before after (region_text region)
+  printed_octets {before} {after} region none printed = go (values_of region) none
+    where
+      go : (found : Option (List Datum)) → None ≡ option_map length found → Prints contents before after (text_or_octets region found)
+      go None e = printed
+      go (Some values) e = absurd (none-some (length values) e)

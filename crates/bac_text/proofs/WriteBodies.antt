@@ -1,0 +1,49 @@
+-- The body of a WriteProperty request, by the region in it.
+use Rattle.std.proofs.Common.{◌≡◌, ℕ, ◌<◌, ◌≤◌, Bool, true, false, List, [], ◌∷◌, ◌++◌, length, Option, Result, Ok, Err, refl, ◌∙◌, arith, length-append}
+use Rattle.std.specs.Prelude.{nat_le}
+use Rattle.std.proofs.lemmas.Bool.Decides.{nat_tests}
+use Rattle.bac_wire.specs.Datum.{Datum, plain}
+use Rattle.bac_wire.specs.Identifier.{Identifier}
+use Rattle.bac_wire.specs.Region.{opening_tag, closing_tag}
+use Rattle.bac_wire.specs.Parameter.{enclosed_octets}
+use Rattle.bac_wire.specs.Tag.{plain_tag}
+use Rattle.bac_pdu.specs.Parameter as parameters
+use Rattle.bac_pdu.specs.Parameter.{Parameter, optional, plain_parameter, plain_all}
+use Rattle.bac_pdu.specs.Property.{Order, reference_parameters, write_octets}
+use Rattle.bac_text.specs.declared.pairs.PairFault.{PairFault}
+use Rattle.bac_text.specs.declared.pairs.PairFault.TheVariants.{TooLong}
+use Rattle.bac_text.specs.ValueWords.{at_most}
+use Rattle.bac_text.specs.Pairs.{values_in, region_with, region_of, order_of, body_with, body_of}
+use Rattle.bac_text.proofs.WordValues.{at_most-long}
+
+parameters_within : (front behind : List Parameter) (region : List ℕ) → length region ≤ length (plain_all plain_parameter (front ++ parameters.value region ∷ behind))
+unfolding plain_parameter
+parameters_within [] behind region =
+    omega (arith, length-append (enclosed_octets 3 region) (plain_all plain_parameter behind), length-append (plain_tag (opening_tag 3)) (region ++ plain_tag (closing_tag 3)), length-append region (plain_tag (closing_tag 3)))
+parameters_within (first ∷ others) behind region =
+    let rest = parameters_within others behind region in
+    omega (arith, length-append (plain_parameter first) (plain_all plain_parameter (others ++ parameters.value region ∷ behind)), rest)
+
+-- A body has its region in it.
+pub region_within : (o : Order) → length o.value ≤ length (write_octets o)
+region_within o = parameters_within (reference_parameters o.reference) (optional parameters.priority o.priority) o.value
+
+pub body-fault : (object : Identifier) (property : ℕ) (index priority : Option ℕ) (words : List (List ℕ)) (fault : PairFault) →
+    region_of words ≡ Err fault → body_of object property index priority words ≡ Err fault
+body-fault object property index priority words fault e = go (values_in words) e
+  where
+    within : (values : List Datum) → length (plain_all plain values) ≤ length (write_octets (order_of object property index priority (plain_all plain values)))
+    within values = region_within (order_of object property index priority (plain_all plain values))
+
+    long : (values : List Datum) (b : Bool) → nat_le (length (plain_all plain values)) 1497 ≡ b → at_most TooLong 1497 (plain_all plain values) ≡ Err fault →
+        body_with object property index priority (Ok values) ≡ Err fault
+    long values true fits e = absurd (let bad : Ok (plain_all plain values) ≡ Err fault = rw fits at e in cc)
+    long values false past e =
+        let same : Err TooLong ≡ Err fault = rw past at e in
+        let size = within values in
+        let more : 1497 < length (plain_all plain values) = grind (arith, nat_tests) in
+        at_most-long TooLong 476 (write_octets (order_of object property index priority (plain_all plain values))) (omega arith) ∙ same
+
+    go : (found : Result (List Datum) ℕ) → region_with found ≡ Err fault → body_with object property index priority found ≡ Err fault
+    go (Err n) e = e
+    go (Ok values) e = long values (nat_le (length (plain_all plain values)) 1497) refl e

@@ -1,0 +1,21 @@
+use Rattle.std.proofs.Common.{sym, subst}
+use Rattle.std.proofs.lemmas.Result.{err_from_is_err_and}
+use Rattle.bac_wire.specs.Identifier.{identifier}
+use Rattle.bac_wire.specs.Region.{IsRegion}
+use Rattle.bac_text.proofs.BodiesInWords.{region_written}
+use Rattle.bac_text.proofs.ValueRegions.{values_are_region}
+use Rattle.bac_text.proofs.WriteBodies.{body-fault}
+use Rattle.bac_text.proofs.bodies.BodyRoom.write_body.Goals as goal
+
+pub returns-in_err-read_pairs : goal.returns-in_err-read_pairs
+returns-in_err-read_pairs g c =
+    let p = err_from_is_err_and c.from_residual.result c.from_residual.ensures.1 in
+    record {
+      body = rw (p.1, p.2) (body-fault (identifier c.args.object) c.args.property c.args.index c.args.priority (g.S.WordSource.left c.args.words.now) _ c.in_err-read_pairs.ensures);
+      short = rw p.1 tt;
+    }
+
+pub write_write-requires-clause-region : goal.write_write-requires-clause-region
+write_write-requires-clause-region g c =
+    let written = region_written (g.S.WordSource.left c.args.words.now) c.read_pairs.new.region c.in_ok-read_pairs.ensures in
+    subst (IsRegion 32) (sym c.as_slice.ensures.value) (values_are_region written.values _ written.spelled)

@@ -1,0 +1,12 @@
+use Rattle.std.proofs.Common.{◌≡◌, ◌≤◌, ◌++◌, drop, length, decimal}
+use Rattle.bac_text.proofs.page.write_digits.Given as goal
+
+abbrev pub invariant-loop-rest : goal.invariant-loop-rest
+invariant-loop-rest l = record {
+  digits : decimal l.number ≡ decimal l.rest ++ drop l.start l.room;
+  fits : length (decimal l.rest) ≤ l.start;
+  room : l.start ≤ 20;
+}
+
+abbrev pub decreases-loop-rest : goal.decreases-loop-rest
+decreases-loop-rest l = l.rest

@@ -1,0 +1,36 @@
+-- What contracts see of a checked reader or writer.
+use Rattle.std.specs.Prelude.{◌≡◌, ℕ, Bool, false, true, ◌&&◌, ◌==◌, nat_lt, List, ◌++◌, length, Option, Result, Ok, Err}
+use Rattle.std.specs.Io.KnownBytes.{Appends}
+use Rattle.bac_text.specs.declared.checked.Checked.{Checked}
+
+abbrev pub inner_of : {T : Type 0} → Checked T → T
+inner_of checked = checked.inner
+
+abbrev pub has_failed : {T : Type 0} → Checked T → Bool
+has_failed checked = checked.failed
+
+-- the last read gave nothing, though there was room
+abbrev pub has_ended : {T : Type 0} → Checked T → Bool
+has_ended checked = checked.ended
+
+abbrev pub reads_of : {T : Type 0} → Checked T → ℕ
+reads_of checked = checked.reads
+
+-- as it is made
+abbrev pub fresh : {T : Type 0} → T → Checked T
+fresh inner = record { inner = inner; failed = false; ended = false; reads = 0 }
+
+-- a read that gave nothing into room for at least one octet
+abbrev pub is_end : {E : Type 0} → Result ℕ E → List ℕ → Bool
+is_end (Ok given) room = given == 0 && nat_lt 0 (length room)
+is_end (Err e) room = false
+
+-- a write that failed, or took nothing of at least one octet
+abbrev pub is_failed_write : {E : Type 0} → Result ℕ E → List ℕ → Bool
+is_failed_write (Ok taken) text = taken == 0 && nat_lt 0 (length text)
+is_failed_write (Err e) text = true
+
+-- the writer took the text, or, where it failed, a front of it
+abbrev pub Puts : {A E : Type 0} → Option (List ℕ) → Option (List ℕ) → List ℕ → Result A E → Type 0
+Puts before after text (Ok done) = Appends before after text
+Puts before after text (Err e) = (taken rest : List ℕ) × (text ≡ taken ++ rest) × Appends before after taken

@@ -1,0 +1,11 @@
+pub mod Checked
+pub mod Page
+pub mod Words
+pub mod Address
+pub mod PeerTexts
+pub mod Values
+pub mod ValuesInWords
+pub mod ValueWords
+pub mod Parameters
+pub mod Pairs
+pub mod PairsInWords

@@ -1,0 +1,29 @@
+-- What is printed on a page on its way to a writer.
+use Rattle.std.specs.Prelude.{◌≡◌, ℕ, true, false, List, [], ◌++◌, Option}
+use Rattle.std.specs.Io.KnownBytes.{Appends}
+use Rattle.bac_text.specs.declared.checked.Checked.{Checked}
+use Rattle.bac_text.specs.declared.page.Page.{Page}
+use Rattle.bac_text.specs.Checked.{inner_of, has_failed}
+
+-- The octets that were printed and not yet written.
+abbrev pub held : {W : Type 0} → Page W → List ℕ
+held page = page.held.items
+
+-- The writer as it stands.
+abbrev pub writer_of : {W : Type 0} → Page W → Checked W
+writer_of page = page.writer.now
+
+-- The octets that were held and then the text are those that the writer took and then those that are kept.
+-- Once a write has failed the writer takes nothing more, and the rest is lost.
+pub record Writes {W : Type 0} (contents : W → Option (List ℕ)) (before after : Checked W) (held kept text : List ℕ) : Type 0 where
+  pub taken : List ℕ
+  pub rest : List ℕ
+  pub took : Appends (contents (inner_of before)) (contents (inner_of after)) taken
+  pub whole : held ++ text ≡ taken ++ rest
+  pub sound : has_failed after ≡ false → (has_failed before ≡ false) × (rest ≡ kept)
+  pub stopped : has_failed before ≡ true → (has_failed after ≡ true) × (taken ≡ [])
+
+-- The text was printed on the page, which is still on its way to the same writer.
+pub record Prints {W : Type 0} (contents : W → Option (List ℕ)) (before after : Page W) (text : List ℕ) : Type 0 where
+  pub same : after.writer.ghost_name ≡ before.writer.ghost_name
+  pub wrote : Writes contents (writer_of before) (writer_of after) (held before) (held after) text

@@ -1,0 +1,62 @@
+-- The words of a property's value: tags and values in turn, and the body of the request that writes them.
+use Rattle.std.specs.Prelude.{ℕ, ◌+◌, List, [], ◌∷◌, Option, Some, None, Result, Ok, Err}
+use Rattle.bac_wire.specs.Datum.{Datum, plain}
+use Rattle.bac_wire.specs.Identifier.{Identifier}
+use Rattle.bac_pdu.specs.Parameter.{plain_all}
+use Rattle.bac_pdu.specs.Property.{Order, write_octets}
+use Rattle.bac_text.specs.declared.pairs.PairFault.{PairFault}
+use Rattle.bac_text.specs.declared.pairs.PairFault.TheVariants.{Bad, TooLong}
+use Rattle.bac_text.specs.ValueWords.{value_in, at_most}
+
+-- The value of a pair and those of the pairs behind it, or the number of the first pair that has none.
+abbrev pub value_before : ℕ → Option Datum → Result (List Datum) ℕ → Result (List Datum) ℕ
+value_before n None more = Err n
+value_before n (Some value) (Ok values) = Ok (value ∷ values)
+value_before n (Some value) (Err bad) = Err bad
+
+-- The values that words write two by two, or the number of the first pair that can't be read or lacks its value. The
+-- first pair has this number.
+abbrev pub pairs_from : ℕ → List (List ℕ) → Result (List Datum) ℕ
+pairs_from n [] = Ok []
+pairs_from n (tag ∷ []) = Err n
+pairs_from n (tag ∷ word ∷ others) = value_before n (value_in tag word) (pairs_from (n + 1) others)
+
+-- The values of at least one pair.
+abbrev pub values_in : List (List ℕ) → Result (List Datum) ℕ
+values_in [] = Err 1
+values_in (tag ∷ others) = pairs_from 1 (tag ∷ others)
+
+-- Their shortest spellings one after another, where a frame has room for them.
+abbrev pub region_with : Result (List Datum) ℕ → Result (List ℕ) PairFault
+region_with (Ok values) = at_most TooLong 1497 (plain_all plain values)
+region_with (Err n) = Err (Bad n)
+
+abbrev pub region_of : List (List ℕ) → Result (List ℕ) PairFault
+region_of words = region_with (values_in words)
+
+-- What a WriteProperty request orders: that a property has these octets as its value.
+abbrev pub order_of : Identifier → ℕ → Option ℕ → Option ℕ → List ℕ → Order
+order_of object property index priority region =
+    record { reference = record { object = object; property = property; index = index }; value = region; priority = priority }
+
+-- The body that orders these values, however long it is (clause 15.9).
+abbrev pub whole_body_with : Identifier → ℕ → Option ℕ → Option ℕ → Result (List Datum) ℕ → Result (List ℕ) ℕ
+whole_body_with object property index priority (Ok values) =
+    Ok (write_octets (order_of object property index priority (plain_all plain values)))
+whole_body_with object property index priority (Err n) = Err n
+
+-- The body of the request that writes the values of these words, or the number of the first pair that has none.
+abbrev pub whole_body_of : Identifier → ℕ → Option ℕ → Option ℕ → List (List ℕ) → Result (List ℕ) ℕ
+whole_body_of object property index priority words = whole_body_with object property index priority (values_in words)
+
+-- A body that a client sends has at most 476 octets.
+abbrev pub sendable : Result (List ℕ) ℕ → Result (List ℕ) PairFault
+sendable (Ok body) = at_most TooLong 476 body
+sendable (Err n) = Err (Bad n)
+
+abbrev pub body_with : Identifier → ℕ → Option ℕ → Option ℕ → Result (List Datum) ℕ → Result (List ℕ) PairFault
+body_with object property index priority values = sendable (whole_body_with object property index priority values)
+
+-- The body of the request that writes the values of these words, if it can be sent.
+abbrev pub body_of : Identifier → ℕ → Option ℕ → Option ℕ → List (List ℕ) → Result (List ℕ) PairFault
+body_of object property index priority words = body_with object property index priority (values_in words)

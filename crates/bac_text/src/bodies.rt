@@ -1,0 +1,117 @@
+//! The service bodies of requests.
+ghost use Rattle.std.specs.Prelude.{◌≡◌, ◌≤◌, length, IfSome, IfOk, MatchResult, Ok, Err};
+ghost use Rattle.bac_wire.specs.Identifier.{identifier};
+ghost use Rattle.bac_pdu.specs.Property.{IsPriority, reference, read_octets};
+ghost use Rattle.bac_text.specs.Pairs.{body_of};
+
+use crate::pairs::{PairFault, read_pairs};
+use crate::words::WordSource;
+use arrayvec::ArrayVec;
+use bac_pdu::{ReadRequest, WriteRequest, write_read, write_write};
+use bac_wire::{Frame, ObjectId};
+
+/// The octets of the longest service body that a client sends.
+pub const LONGEST_BODY: usize = 476;
+
+/// Room for one service body, which may be used again for the next.
+#[derive(Drop)]
+pub struct BodyRoom {
+    values: Frame,
+    body: Frame,
+}
+
+impl BodyRoom {
+    /// Room with nothing in it.
+    pub fn new() -> Self {
+        BodyRoom {
+            values: Frame::new(),
+            body: Frame::new(),
+        }
+    }
+
+    /// The body of the ReadProperty request (clause 15.5). There is always room for it.
+    pub fn read_body(&mut self, request: &ReadRequest) -> &[u8]
+        ensures body { result.now ≡ read_octets (reference request.now) }
+        ensures short { length result.now ≤ LONGEST_BODY }
+    {
+        self.body.clear();
+        let _ = write_read(&mut self.body, request);
+        self.body.as_slice()
+    }
+
+    /// The body of the WriteProperty request that gives a property the values of the words (clause 15.9).
+    ///
+    /// # Errors
+    ///
+    /// `Bad` with the number of the first pair whose words are no tag and a value of it, or which lacks its value, or with 1
+    /// where there is no word; and then `TooLong` where the body would have more than `LONGEST_BODY` octets.
+    pub fn write_body<'a, S: WordSource<'a>>(
+        &mut self,
+        object: ObjectId,
+        property: u32,
+        index: Option<u32>,
+        priority: Option<u8>,
+        words: &mut S,
+    ) -> Result<&[u8], PairFault>
+        requires { IfSome priority IsPriority }
+        ensures body { MatchResult result
+            (λ body. body_of (identifier object) property index priority (S.left words.old) ≡ Ok body.now)
+            (λ fault. body_of (identifier object) property index priority (S.left words.old) ≡ Err fault) }
+        ensures short { IfOk result (λ body. length body.now ≤ LONGEST_BODY) }
+    {
+        read_pairs(words, &mut self.values)?;
+        let request = WriteRequest {
+            object,
+            property,
+            index,
+            value: self.values.as_slice(),
+            priority,
+        };
+        self.body.clear();
+        write_write(&mut self.body, &request).map_err(|_| PairFault::TooLong)?;
+        if self.body.len() > LONGEST_BODY {
+            return Err(PairFault::TooLong);
+        }
+        Ok(self.body.as_slice())
+    }
+}
+
+/// The body of the ReadProperty request (clause 15.5), to be kept.
+pub fn read_body(request: &ReadRequest) -> ArrayVec<u8, LONGEST_BODY>
+    ensures { result.items ≡ read_octets (reference request.now) }
+{
+    let mut room = BodyRoom::new();
+    kept(room.read_body(request))
+}
+
+/// The body of the WriteProperty request that gives a property the values of the words (clause 15.9), to be kept.
+///
+/// # Errors
+///
+/// Those of [`BodyRoom::write_body`].
+pub fn read_write_body<'a, S: WordSource<'a>>(
+    object: ObjectId,
+    property: u32,
+    index: Option<u32>,
+    priority: Option<u8>,
+    words: &mut S,
+) -> Result<ArrayVec<u8, LONGEST_BODY>, PairFault>
+    requires { IfSome priority IsPriority }
+    ensures { MatchResult result
+        (λ body. body_of (identifier object) property index priority (S.left words.old) ≡ Ok body.items)
+        (λ fault. body_of (identifier object) property index priority (S.left words.old) ≡ Err fault) }
+{
+    let mut room = BodyRoom::new();
+    let body = room.write_body(object, property, index, priority, words)?;
+    Ok(kept(body))
+}
+
+// A body in room of its own.
+fn kept(body: &[u8]) -> ArrayVec<u8, LONGEST_BODY>
+    requires { length body.now ≤ LONGEST_BODY }
+    ensures { result.items ≡ body.now }
+{
+    let mut room = ArrayVec::new();
+    let _ = room.try_extend_from_slice(body);
+    room
+}

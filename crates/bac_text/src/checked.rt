@@ -1,0 +1,124 @@
+//! Readers and writers that remember whether they failed.
+ghost use Rattle.std.specs.Prelude.{◌≡◌, ◌+◌, ◌-◌, ◌^◌, ◌||◌, min, false, is_err};
+ghost use Rattle.std.specs.Io.{ReadsAtMost, WritesAtMost};
+ghost use Rattle.std.specs.Io.KnownBytes.{ReadConsumes, WriteAppends, Keeps};
+ghost use Rattle.bac_text.specs.Checked.{inner_of, has_failed, has_ended, reads_of, fresh, is_end, is_failed_write, Puts};
+
+use std::io::{self, Read, Write};
+
+/// A reader or a writer that remembers whether it failed and whether its end was read, and counts its reads.
+#[derive(Drop)]
+pub struct Checked<T> {
+    inner: T,
+    failed: bool,
+    ended: bool,
+    reads: u32,
+}
+
+/// The writer failed, or took no octet.
+#[derive(Clone, Copy, Debug, PartialEq, Eq)]
+pub struct WriteFailed;
+
+impl<T> Checked<T> {
+    /// The reader or writer as it is before its first read or write.
+    pub fn new(inner: T) -> Self
+        ensures { result ≡ fresh inner }
+    {
+        Checked {
+            inner,
+            failed: false,
+            ended: false,
+            reads: 0,
+        }
+    }
+
+    /// Whether a read or a write failed, or a write of at least one octet took none.
+    pub fn failed(&self) -> bool
+        ensures { result ≡ has_failed self.now }
+    {
+        self.failed
+    }
+
+    /// Whether the last read gave nothing, though there was room: what was read has ended.
+    pub fn ended(&self) -> bool
+        ensures { result ≡ has_ended self.now }
+    {
+        self.ended
+    }
+
+    /// The reads so far. At `u32::MAX` they are spent.
+    pub fn reads(&self) -> u32
+        ensures { result ≡ reads_of self.now }
+    {
+        self.reads
+    }
+}
+
+impl<R: Read> Read for Checked<R> {
+    ghost remaining = { λ reader. R.remaining (inner_of reader) };
+
+    fn read(&mut self, buf: &mut [u8]) -> io::Result<usize>
+        ensures bound { ReadsAtMost result buf.new }
+        ensures bytes { ReadConsumes (R.remaining (inner_of self.old)) (R.remaining (inner_of self.new)) result buf.new }
+        ensures failed { has_failed self.new ≡ (has_failed self.old || is_err result) }
+        ensures ended { has_ended self.new ≡ is_end result buf.new }
+        ensures reads { reads_of self.new ≡ min (reads_of self.old + 1) (2 ^ 32 - 1) }
+    {
+        self.reads = self.reads.saturating_add(1);
+        let outcome = self.inner.read(buf);
+        match outcome {
+            Ok(given) => self.ended = given == 0 && !buf.is_empty(),
+            Err(_) => {
+                self.ended = false;
+                self.failed = true;
+            }
+        }
+        outcome
+    }
+}
+
+impl<W: Write> Write for Checked<W> {
+    ghost contents = { λ writer. W.contents (inner_of writer) };
+
+    fn write(&mut self, buf: &[u8]) -> io::Result<usize>
+        ensures bound { WritesAtMost result buf.now }
+        ensures bytes { WriteAppends (W.contents (inner_of self.old)) (W.contents (inner_of self.new)) result buf.now }
+        ensures failed { has_failed self.new ≡ (has_failed self.old || is_failed_write result buf.now) }
+    {
+        let outcome = self.inner.write(buf);
+        match outcome {
+            Ok(0) => self.failed = self.failed || !buf.is_empty(),
+            Ok(_) => {}
+            Err(_) => self.failed = true,
+        }
+        outcome
+    }
+
+    fn flush(&mut self) -> io::Result<()>
+        ensures bytes { Keeps (W.contents (inner_of self.old)) (W.contents (inner_of self.new)) }
+        ensures failed { has_failed self.new ≡ has_failed self.old }
+    {
+        self.inner.flush()
+    }
+}
+
+impl<W: Write> Checked<W> {
+    /// Writes the whole text, or fails after a front of it.
+    pub(crate) fn put(&mut self, text: &[u8]) -> Result<(), WriteFailed>
+        requires { has_failed self.old ≡ false }
+        ensures text { Puts (W.contents (inner_of self.old)) (W.contents (inner_of self.new)) text.now result }
+        ensures failed { has_failed self.new ≡ is_err result }
+    {
+        let mut rest = text;
+        while !rest.is_empty() {
+            let Ok(taken) = self.write(rest) else {
+                return Err(WriteFailed);
+            };
+            if taken == 0 {
+                return Err(WriteFailed);
+            }
+            rest = &rest[taken..];
+        }
+        Ok(())
+    }
+}

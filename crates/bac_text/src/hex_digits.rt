@@ -1,0 +1,52 @@
+//! Octets in hexadecimal digits.
+ghost use Rattle.std.specs.Prelude.{◌≡◌, ◌≤◌, length, option_map, is_ok, IsTrue};
+ghost use Rattle.std.specs.List.{list_all};
+ghost use Rattle.std.specs.Char.{is_ascii_hexdigit};
+ghost use Rattle.hex.specs.Hex.{decode_of};
+ghost use Rattle.bac_text.specs.Words.{octets_of, octets_in};
+
+/// The octets of the longest line of a script, without its line feed.
+pub const LONGEST_LINE: usize = 4096;
+
+/// The octets of the longest datagram that a line has room for.
+pub const LONGEST_DATAGRAM: usize = LONGEST_LINE / 2;
+
+/// Octets, as a positive even number of hexadecimal digits.
+#[derive(Clone, Copy)]
+pub(crate) struct HexDigits<'a> {
+    /// The digits.
+    pub(crate) digits: &'a [u8],
+    ghost fits: { length digits.now ≤ 4096 },
+    ghost read: { IsTrue (is_ok (decode_of digits.now)) },
+}
+
+/// The octets of a datagram that a word writes, as a positive even number of hexadecimal digits. They lie in the room.
+pub fn read_datagram<'r>(word: &[u8], room: &'r mut [u8; LONGEST_DATAGRAM]) -> Option<&'r [u8]>
+    ensures { option_map (λ octets. octets.now) result ≡ octets_of word.now }
+{
+    if word.is_empty() || word.len() > LONGEST_LINE {
+        return None;
+    }
+    let octets = &mut room[..word.len() / 2];
+    hex::decode_to_slice(word, octets).ok()?;
+    Some(octets)
+}
+
+/// The digits of a word, if it is nothing else.
+pub(crate) fn read_hex(word: &[u8]) -> Option<HexDigits<'_>>
+    ensures { option_map (λ hex. octets_in hex.digits.now) result ≡ octets_of word.now }
+{
+    if word.is_empty() || word.len() > LONGEST_LINE || word.len() % 2 == 1 {
+        return None;
+    }
+    if !is_hex(word) {
+        return None;
+    }
+    Some(HexDigits { digits: word })
+}
+
+pub(crate) fn is_hex(word: &[u8]) -> bool
+    ensures { result ≡ list_all is_ascii_hexdigit word.now }
+{
+    word.iter().all(|digit| digit.is_ascii_hexdigit())
+}

@@ -1,0 +1,28 @@
+//! What the words of a client's tool ask for.
+use crate::bodies::LONGEST_BODY;
+use arrayvec::ArrayVec;
+use bac_pdu::{Peer, WhoIs};
+
+/// One request to a device.
+#[derive(Drop)]
+pub struct Call {
+    pub to: Peer,
+    /// The milliseconds after which the request is sent again, at least 1.
+    pub timeout: u32,
+    pub retries: u8,
+    /// The port that the request is sent from; 0 is any.
+    pub port: u16,
+    /// The body of the service.
+    pub body: ArrayVec<u8, LONGEST_BODY>,
+}
+
+/// A search for devices.
+#[derive(Drop)]
+pub struct Search {
+    pub to: Peer,
+    /// The milliseconds for which answers are waited for, at least 1.
+    pub timeout: u32,
+    /// The port that is asked from and listened at; 0 is any.
+    pub port: u16,
+    pub who: WhoIs,
+}

@@ -1,0 +1,33 @@
+//! Numbers in decimal digits.
+ghost use Rattle.std.specs.Prelude.{◌≡◌, ◌-◌, ◌^◌, ◌≤◌, IfSome};
+ghost use Rattle.bac_text.specs.Words.{number_up_to};
+
+/// The number that a word of one or more decimal digits writes, if it is at most `most`.
+pub fn read_number(word: &[u8], most: u64) -> Option<u64>
+    ensures value { result ≡ number_up_to most word.now }
+    ensures most { IfSome result (λ number. number ≤ most) }
+{
+    let number = plain_number(word)?;
+    if number > most {
+        return None;
+    }
+    Some(number)
+}
+
+fn plain_number(word: &[u8]) -> Option<u64>
+    ensures { result ≡ number_up_to (2 ^ 64 - 1) word.now }
+{
+    if word.is_empty() {
+        return None;
+    }
+    let mut number = 0u64;
+    for digit in word {
+        if !digit.is_ascii_digit() {
+            return None;
+        }
+        number = number
+            .checked_mul(10)?
+            .checked_add(u64::from(*digit - b'0'))?;
+    }
+    Some(number)
+}

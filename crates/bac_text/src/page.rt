@@ -1,0 +1,151 @@
+//! Text on its way to a writer.
+ghost use Rattle.std.specs.Prelude.{◌≡◌, ◌<◌, ◌≤◌, [], drop, length, decimal, is_err};
+ghost use Rattle.hex.specs.Hex.{encode_lower};
+ghost use Rattle.bac_text.specs.Checked.{has_failed};
+ghost use Rattle.bac_text.specs.Page.{held, writer_of, Writes, Prints};
+
+use crate::checked::{Checked, WriteFailed};
+use arrayvec::ArrayVec;
+use std::io::Write;
+
+/// The octets that a page holds before they go to the writer.
+const PAGE_ROOM: usize = 4_096;
+
+/// The octets that are turned into hexadecimal at a time.
+const HEX_PART: usize = 64;
+
+/// The digits of the longest number.
+const LONGEST_NUMBER: usize = 20;
+
+/// Text on its way to a writer: it is gathered in fixed room, and goes to the writer when the room is full or the page is
+/// turned in. After a failed write what is printed is lost, so that only the page need be asked, once, whether it failed.
+/// A page can't be dropped: it is finished.
+pub struct Page<'w, W> {
+    writer: &'w mut Checked<W>,
+    held: ArrayVec<u8, PAGE_ROOM>,
+}
+
+// Writes the decimal digits of a number at the end of the room, and says where they begin.
+fn write_digits(number: u64, room: &mut [u8; LONGEST_NUMBER]) -> usize
+    ensures digits { drop result room.new ≡ decimal number }
+    ensures start { result < LONGEST_NUMBER }
+{
+    let mut start = LONGEST_NUMBER;
+    let mut rest = number;
+    while rest >= 10 {
+        start -= 1;
+        room[start] = b'0' + (rest % 10) as u8;
+        rest /= 10;
+    }
+    start -= 1;
+    room[start] = b'0' + rest as u8;
+    start
+}
+
+// Writes the whole text, or nothing where the writer has failed before.
+fn write_on<W: Write>(writer: &mut Checked<W>, text: &[u8])
+    ensures { Writes W.contents writer.old writer.new [] [] text.now }
+{
+    if !writer.failed() {
+        let _ = writer.put(text);
+    }
+}
+
+impl<'w, W: Write> Page<'w, W> {
+    /// An empty page on its way to the writer.
+    pub fn new(writer: &'w mut Checked<W>) -> Self
+        ensures same { result.writer.ghost_name ≡ writer.entry.ghost_name }
+        ensures writer { writer_of result ≡ writer.old }
+        ensures empty { held result ≡ [] }
+    {
+        Page {
+            writer,
+            held: ArrayVec::new(),
+        }
+    }
+
+    /// Whether the writer has failed.
+    pub fn failed(&self) -> bool
+        ensures { result ≡ has_failed (writer_of self.now) }
+    {
+        self.writer.failed()
+    }
+
+    /// Hands the writer what the page holds.
+    pub fn turn_in(&mut self)
+        ensures printed { Prints W.contents self.old self.new [] }
+        ensures empty { held self.new ≡ [] }
+    {
+        write_on(self.writer, self.held.as_slice());
+        self.held.clear();
+    }
+
+    /// Turns the page in, and gives the writer back.
+    ///
+    /// # Errors
+    ///
+    /// `WriteFailed` where the writer has failed.
+    pub fn finish(self) -> Result<(), WriteFailed>
+        ensures printed { Writes W.contents (writer_of self.entry) self.exit.0.now (held self.entry) [] [] }
+        ensures failed { has_failed self.exit.0.now ≡ is_err result }
+    {
+        let Page { writer, held } = self;
+        write_on(writer, held.as_slice());
+        if writer.failed() {
+            return Err(WriteFailed);
+        }
+        Ok(())
+    }
+
+    /// Prints the text.
+    #[inline(always)]
+    pub fn print(&mut self, text: &[u8])
+        ensures { Prints W.contents self.old self.new text.now }
+    {
+        if self.held.try_extend_from_slice(text).is_err() {
+            self.print_past(text);
+        }
+    }
+
+    // Prints a text for which there is no room on the page.
+    #[cold]
+    fn print_past(&mut self, text: &[u8])
+        ensures { Prints W.contents self.old self.new text.now }
+    {
+        self.turn_in();
+        write_on(self.writer, text);
+    }
+}
+
+impl<W: Write> Page<'_, W> {
+    /// Prints the number in decimal digits.
+    pub fn print_number(&mut self, number: u64)
+        ensures { Prints W.contents self.old self.new (decimal number) }
+    {
+        let mut room = [0; LONGEST_NUMBER];
+        let start = write_digits(number, &mut room);
+        self.print(&room[start..]);
+    }
+
+    /// Prints the octets in hexadecimal digits, in lower case.
+    pub fn print_hex(&mut self, octets: &[u8])
+        ensures { Prints W.contents self.old self.new (encode_lower octets.now) }
+    {
+        let mut rest = octets;
+        while !rest.is_empty() {
+            let (part, later) = rest.split_at(rest.len().min(HEX_PART));
+            self.print_hex_part(part);
+            rest = later;
+        }
+    }
+
+    fn print_hex_part(&mut self, octets: &[u8])
+        requires { length octets.now ≤ HEX_PART }
+        ensures { Prints W.contents self.old self.new (encode_lower octets.now) }
+    {
+        let mut digits = [0; 2 * HEX_PART];
+        let digits = &mut digits[..2 * octets.len()];
+        let _ = hex::encode_to_slice(octets, digits);
+        self.print(digits);
+    }
+}

@@ -1,0 +1,71 @@
+//! The words of a property's value: tags and values in turn.
+ghost use Rattle.std.specs.Prelude.{◌≡◌, ◌∷◌, [], length, MatchResult, MatchOption, Ok, Err};
+ghost use Rattle.bac_text.specs.declared.pairs.PairFault.TheVariants.{Bad};
+ghost use Rattle.bac_text.specs.Pairs.{region_of};
+
+use crate::value_words::{ValueFault, append_pair};
+use crate::words::WordSource;
+use bac_wire::Frame;
+
+/// Why the values of words can't be written.
+#[derive(Clone, Copy, Debug, PartialEq, Eq)]
+pub enum PairFault {
+    /// The pair with this number, from 1, is no tag and a value of it, or it lacks its value.
+    Bad(u64),
+    /// There is no room for their octets.
+    TooLong,
+}
+
+/// Puts the values of the words into the region, spelled one after another. A word that can't be read is found however long
+/// the others are.
+///
+/// # Errors
+///
+/// `Bad` with the number of the first pair whose words are no tag and a value of it, or which lacks its value, or with 1
+/// where there is no word; and then `TooLong` where a frame has no room for the values.
+pub(crate) fn read_pairs<'a, S: WordSource<'a>>(
+    words: &mut S,
+    region: &mut Frame,
+) -> Result<(), PairFault>
+    ensures { MatchResult result
+        (λ _. region_of (S.left words.old) ≡ Ok region.new)
+        (λ fault. region_of (S.left words.old) ≡ Err fault) }
+{
+    words.are_countable();
+    region.clear();
+    let mut is_too_long = false;
+    let mut number: u64 = 1;
+    while let Some((tag, word)) = next_pair(words, number)? {
+        match append_pair(region, tag, word) {
+            Ok(()) => {}
+            Err(ValueFault::TooLong) => is_too_long = true,
+            Err(ValueFault::Bad) => return Err(PairFault::Bad(number)),
+        }
+        number += 1;
+    }
+    if is_too_long {
+        return Err(PairFault::TooLong);
+    }
+    // no value is spelled by nothing: no pair was there
+    if region.is_empty() {
+        return Err(PairFault::Bad(1));
+    }
+    Ok(())
+}
+
+// The next tag and the word behind it, where a word is left.
+fn next_pair<'a, S: WordSource<'a>>(
+    words: &mut S,
+    number: u64,
+) -> Result<Option<(&'a [u8], &'a [u8])>, PairFault>
+    ensures { MatchResult result
+        (λ found. MatchOption found (S.left words.old ≡ [])
+        (λ pair. S.left words.old ≡ pair.0.now ∷ pair.1.now ∷ S.left words.new))
+        (λ fault. (fault ≡ Bad number) × (length (S.left words.old) ≡ 1)) }
+{
+    let Some(tag) = words.next_word() else {
+        return Ok(None);
+    };
+    let word = words.next_word().ok_or(PairFault::Bad(number))?;
+    Ok(Some((tag, word)))
+}

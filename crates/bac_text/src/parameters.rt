@@ -1,0 +1,29 @@
+//! The parameters of a request, as words give them.
+ghost use Rattle.std.specs.Prelude.{◌≡◌, ◌≤◌, IfSome};
+ghost use Rattle.bac_pdu.specs.Property.{IsPriority};
+ghost use Rattle.bac_text.specs.Parameters.{priority_from, write_index_of};
+
+use crate::numbers::read_number;
+
+/// The number of an element, or none where the word is `-1`.
+pub fn read_write_index(word: &[u8]) -> Option<Option<u32>>
+    ensures { result ≡ write_index_of word.now }
+{
+    if word == b"-1".as_slice() {
+        return Some(None);
+    }
+    let index = read_number(word, u32::MAX.into())?;
+    Some(Some(index as u32))
+}
+
+/// The priority, where the number is not 0.
+pub fn priority_from(number: u8) -> Option<u8>
+    requires { number ≤ 16 }
+    ensures value { result ≡ priority_from number }
+    ensures priority { IfSome result IsPriority }
+{
+    match number {
+        0 => None,
+        _ => Some(number),
+    }
+}

@@ -1,0 +1,116 @@
+//! A peer as it is written.
+ghost use Rattle.std.specs.Prelude.{◌≡◌, ◌==◌, ◌≤◌, IfSome, option_map, position};
+ghost use Rattle.bac_pdu.specs.Peer.{station, network_address};
+ghost use Rattle.bac_text.specs.Words.{octets_in};
+ghost use Rattle.bac_text.specs.Address.{cut_at, short_number, address_of, routable, plain_peer_of, route_of, peer_of};
+
+use crate::hex_digits::{HexDigits, read_hex};
+use crate::numbers::read_number;
+use bac_pdu::{ADDRESS_OCTETS, Peer, Route};
+
+/// The port of BACnet/IP where none is written (Annex J.1.2).
+const USUAL_PORT: u16 = 47_808;
+
+/// The peer that a text names, as `127.0.0.1`, `127.0.0.1:47808` or `127.0.0.1:47808/5/07`: the last is the station with
+/// the address 07 in network 5, behind the router at this address and port. It is `None` where the text names none.
+pub fn read_peer(text: &str) -> Option<Peer>
+    ensures { option_map station result ≡ peer_of text.now }
+{
+    peer_in(text.as_bytes())
+}
+
+/// The peer that octets name: an IP address in dotted decimal, then, where it isn't the usual one, `:` and the port, and
+/// for a station of another network `/`, the number of the network, `/` and the address there in hexadecimal digits.
+pub fn peer_in(text: &[u8]) -> Option<Peer>
+    ensures { option_map station result ≡ peer_of text.now }
+{
+    match cut(text, b'/') {
+        None => plain_peer_in(text),
+        Some((router, route)) => {
+            let router = plain_peer_in(router)?;
+            let route = read_route(route)?;
+            Some(Peer {
+                ip: router.ip,
+                port: router.port,
+                route: Some(route),
+            })
+        }
+    }
+}
+
+/// The same, of a peer without a route.
+pub fn plain_peer_in(text: &[u8]) -> Option<Peer>
+    ensures { option_map station result ≡ plain_peer_of text.now }
+{
+    let (ip, port) = match cut(text, b':') {
+        None => (read_address(text)?, USUAL_PORT),
+        Some((address, port)) => {
+            let port = short_number(port, 5, 65_535)?;
+            (read_address(address)?, port as u16)
+        }
+    };
+    Some(Peer {
+        ip,
+        port,
+        route: None,
+    })
+}
+
+fn read_address(text: &[u8]) -> Option<u32>
+    ensures { result ≡ address_of text.now }
+{
+    let (first, rest) = cut(text, b'.')?;
+    let high = short_number(first, 3, 255)?;
+    let (second, rest) = cut(rest, b'.')?;
+    let high = high * 256 + short_number(second, 3, 255)?;
+    let (third, fourth) = cut(rest, b'.')?;
+    let high = high * 256 + short_number(third, 3, 255)?;
+    Some(high * 256 + short_number(fourth, 3, 255)?)
+}
+
+fn read_route(text: &[u8]) -> Option<Route>
+    ensures { option_map network_address result ≡ route_of text.now }
+{
+    let (network, address) = cut(text, b'/')?;
+    let network = read_number(network, 65_535)?;
+    let address = read_hex(address)?;
+    route_to(network as u16, address)
+}
+
+fn route_to(network: u16, address: HexDigits<'_>) -> Option<Route>
+    ensures { option_map network_address result ≡ routable network (octets_in address.entry.digits.now) }
+{
+    let mut room = [0; ADDRESS_OCTETS];
+    if address.digits.len() > 2 * ADDRESS_OCTETS {
+        return None;
+    }
+    let octets = &mut room[..address.digits.len() / 2];
+    let _ = hex::decode_to_slice(address.digits, octets);
+    Route::new(network, octets)
+}
+
+// A number of at most so many digits, up to a limit.
+fn short_number(text: &[u8], digits: usize, limit: u32) -> Option<u32>
+    ensures value { result ≡ short_number digits limit text.now }
+    ensures limit { IfSome result (λ n. n ≤ limit) }
+{
+    if text.len() > digits {
+        return None;
+    }
+    let number = read_number(text, limit.into())?;
+    Some(number as u32)
+}
+
+/// What stands before and after the first such octet.
+pub(crate) fn cut(text: &[u8], octet: u8) -> Option<(&[u8], &[u8])>
+    ensures { option_map (λ parts. (parts.0.now, parts.1.now)) result ≡ cut_at octet text.now }
+{
+    let place = place_of(text, octet)?;
+    Some((&text[..place], &text[place + 1..]))
+}
+
+fn place_of(text: &[u8], octet: u8) -> Option<usize>
+    ensures { result ≡ position (λ other. other == octet) text.now }
+{
+    text.iter().position(|other| *other == octet)
+}

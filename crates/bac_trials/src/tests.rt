@@ -1,0 +1,97 @@
+//! Worked rows of each crate, and hostile octets through the reader of datagrams, the client and the device.
+
+mod client;
+mod damage;
+mod datagrams;
+mod device;
+mod pdu;
+mod reading;
+mod whole;
+mod wire;
+
+use bac_device::{Device, DeviceInfo, demo};
+use bac_pdu::Peer;
+use bac_tsm::{Client, Config};
+use bac_wire::{Frame, ObjectId};
+
+/// 127.0.0.1:47808, which the client asks.
+const CONTROLLER: Peer = Peer {
+    ip: 0x7f00_0001,
+    port: 47808,
+    route: None,
+};
+
+/// 127.0.0.1:50000, which asks the device.
+const ASKER: Peer = Peer {
+    ip: 0x7f00_0001,
+    port: 50000,
+    route: None,
+};
+
+const READ_PROPERTY: u8 = 12;
+
+/// The body that asks for the present value of analog-input 5.
+const BODY: [u8; 7] = [0x0c, 0x00, 0x00, 0x00, 0x05, 0x19, 0x55];
+
+/// What the client sends for it under the number 1.
+const REQUEST: [u8; 17] = [
+    0x81, 0x0a, 0x00, 0x11, 0x01, 0x04, 0x00, 0x05, 0x01, 0x0c, 0x0c, 0x00, 0x00, 0x00, 0x05, 0x19,
+    0x55,
+];
+
+/// The points that can be commanded: type and instance.
+const COMMANDABLE: [(u16, u32); 6] = [(1, 1), (2, 2), (4, 4), (5, 5), (14, 1), (19, 1)];
+
+/// A client that has asked the controller, under the ticket 0 and the number 1.
+fn asking() -> Client {
+    let config = Config {
+        timeout: 3000,
+        retries: 3,
+    };
+    let mut client = Client::new(config, 0);
+    let _ = client.submit(CONTROLLER, READ_PROPERTY, &BODY);
+    client
+}
+
+/// Whether the client stands as it did when it had asked.
+fn is_asking(client: &Client) -> bool {
+    let sent = match client.to_send(0) {
+        Some((peer, octets)) => peer == CONTROLLER && octets == REQUEST.as_slice(),
+        None => false,
+    };
+    sent && client.open_count() == 1 && client.number_of(0) == Some(1) && client.clock() == 0
+}
+
+/// The device 1234, named `Small device`, with the demonstration points.
+fn small_device() -> Option<Device> {
+    Some(demo(DeviceInfo::new(1234, "Small device")?))
+}
+
+/// Whether every place of the point is NULL.
+fn is_relinquished(device: &Device, kind: u16, instance: u32) -> bool {
+    let Some(object) = ObjectId::new(kind, instance) else {
+        return false;
+    };
+    for priority in 1..=16_u8 {
+        if device.place(object, priority) != Some(None) {
+            return false;
+        }
+    }
+    true
+}
+
+/// Whether every place of every point is NULL, as in a fresh device.
+fn is_fresh(device: &Device) -> bool {
+    for (kind, instance) in COMMANDABLE {
+        if !is_relinquished(device, kind, instance) {
+            return false;
+        }
+    }
+    true
+}
+
+/// Whether the device is silent, leaves the frame empty, and stands as a fresh one.
+fn is_silent(device: &mut Device, datagram: &[u8]) -> bool {
+    let mut frame = Frame::new();
+    device.answer(ASKER, datagram, &mut frame).is_none() && frame.is_empty() && is_fresh(device)
+}

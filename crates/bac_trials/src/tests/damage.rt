@@ -1,0 +1,153 @@
+//! Each datagram cut, and with each octet behind the first two changed in all 255 ways, those of every length among them.
+
+use crate::tests::datagrams::{ANSWERS, IGNORED, RELAYED, REQUESTS, STRAYS};
+use crate::tests::{ASKER, CONTROLLER, asking, is_asking, is_fresh, is_silent, small_device};
+use bac_device::Device;
+use bac_pdu::{open_datagram, read_apdu};
+use bac_tsm::Client;
+use bac_wire::Frame;
+use std::alloc::Global;
+
+/// Whether the octets are ignored: they carry nothing, and client and device stay as they were.
+fn is_ignored(client: &mut Client, device: &mut Device, octets: &[u8]) -> bool {
+    open_datagram(CONTROLLER, octets).is_none()
+        && client.datagram(CONTROLLER, octets).is_none()
+        && is_asking(client)
+        && is_silent(device, octets)
+}
+
+/// Whether a client takes the octets: they end its request, or it stays as it was. Afterwards it has asked.
+fn is_taken(client: &mut Client, octets: &[u8]) -> bool {
+    match client.datagram(CONTROLLER, octets) {
+        Some(_) => {
+            let is_over = client.open_count() == 0;
+            *client = asking();
+            is_over
+        }
+        None => is_asking(client),
+    }
+}
+
+/// Whether a device takes the octets: its reply is a datagram with an APDU, or it is silent, with an empty frame, and as it was.
+/// Afterwards it is a fresh one.
+fn is_answered(device: &mut Device, octets: &[u8]) -> bool {
+    let mut frame = Frame::new();
+    if device.answer(ASKER, octets, &mut frame).is_none() {
+        return frame.is_empty() && is_fresh(device);
+    }
+    match small_device() {
+        Some(fresh) => *device = fresh,
+        None => return false,
+    }
+    is_reply(frame.as_slice())
+}
+
+/// Whether the octets are a datagram with an APDU. A reply to a station behind a router is for another network, so that it is read
+/// without its destination.
+fn is_reply(octets: &[u8]) -> bool {
+    match octets {
+        [0x81, 0x0a, _, _, 0x01, 0x00, apdu @ ..] => read_apdu(apdu).is_some(),
+        [0x81, 0x0a, _, _, 0x01, 0x20, _, _, count, rest @ ..] => {
+            let behind = usize::from(*count) + 1;
+            rest.get(behind..)
+                .is_some_and(|apdu| read_apdu(apdu).is_some())
+        }
+        _ => false,
+    }
+}
+
+/// Whether every proper front of the datagram, with its old length, is ignored.
+fn is_ignored_when_cut(client: &mut Client, device: &mut Device, datagram: &[u8]) -> bool {
+    for count in 0..datagram.len() {
+        if !is_ignored(client, device, &datagram[..count]) {
+            return false;
+        }
+    }
+    true
+}
+
+/// Whether the octets are taken with the octet at the place changed in each way. With another length in the link header, octets 2
+/// and 3, they are ignored.
+fn is_taken_when_changed(
+    client: &mut Client,
+    device: &mut Device,
+    datagram: &mut [u8],
+    place: usize,
+) -> bool {
+    let Some(octet) = datagram.get(place).copied() else {
+        return false;
+    };
+    for change in 1..=255_u8 {
+        set(datagram, place, octet ^ change);
+        let is_well = match place {
+            2 | 3 if !has_own_length(datagram) => is_ignored(client, device, datagram),
+            _ => is_taken(client, datagram) && is_answered(device, datagram),
+        };
+        if !is_well {
+            return false;
+        }
+    }
+    set(datagram, place, octet);
+    true
+}
+
+/// Whether the link header has the datagram's own length.
+fn has_own_length(datagram: &[u8]) -> bool {
+    match datagram {
+        [_, _, high, low, ..] => {
+            usize::from(u16::from_be_bytes([*high, *low])) == datagram.len()
+        }
+        _ => false,
+    }
+}
+
+fn set(octets: &mut [u8], place: usize, octet: u8) {
+    if let Some(there) = octets.get_mut(place) {
+        *there = octet;
+    }
+}
+
+/// Whether reader, client and device take the datagram however it is cut or damaged.
+fn is_survived(alloc: Global, text: &str) -> bool {
+    let (Ok(mut datagram), Some(mut device)) = (hex::decode(alloc, text), small_device()) else {
+        return false;
+    };
+    let mut client = asking();
+    if !is_ignored_when_cut(&mut client, &mut device, datagram.as_slice()) {
+        return false;
+    }
+    for place in 2..datagram.len() {
+        if !is_taken_when_changed(&mut client, &mut device, datagram.as_mut_slice(), place) {
+            return false;
+        }
+    }
+    true
+}
+
+#[test]
+fn plain(rt: HostRuntime) {
+    for text in IGNORED.iter().chain(&STRAYS) {
+        assert!(&rt; is_survived(rt.alloc(), text), "{text}");
+    }
+}
+
+#[test]
+fn answers(rt: HostRuntime) {
+    for (text, _) in ANSWERS {
+        assert!(&rt; is_survived(rt.alloc(), text), "{text}");
+    }
+}
+
+#[test]
+fn requests(rt: HostRuntime) {
+    for (text, _) in REQUESTS {
+        assert!(&rt; is_survived(rt.alloc(), text), "{text}");
+    }
+}
+
+#[test]
+fn relayed(rt: HostRuntime) {
+    for row in RELAYED {
+        assert!(&rt; is_survived(rt.alloc(), row.datagram), "{}", row.datagram);
+    }
+}

@@ -1,0 +1,4 @@
+//! What no proof says: worked rows from outside.
+
+mod frames;
+mod rows;

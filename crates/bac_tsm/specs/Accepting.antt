@@ -1,0 +1,25 @@
+-- What a new request gets, or why it is refused.
+use Rattle.std.specs.Prelude.{ℕ, ◌+◌, ◌-◌, ◌%◌, ◌^◌, List, length, Option, Some, None, not, nat_lt, nat_le, nat_eq, if◌then◌else◌, unwrap_or, Result, Ok, Err}
+use Rattle.std.specs.List.{list_any}
+use Rattle.bac_tsm.specs.declared.limits.TheConstants.{LONGEST_BODY}
+use Rattle.bac_tsm.specs.declared.client.SubmitFault.{SubmitFault}
+use Rattle.bac_tsm.specs.declared.client.SubmitFault.TheVariants.{TooLong, TableFull, TicketsSpent}
+use Rattle.bac_tsm.specs.Positions.{first_within}
+
+-- The first number of the cycle after the last one that is not taken: the invoke id of a new request, which no open
+-- request has (clause 20.1.2.6).
+unfoldable pub next_number : ℕ → List ℕ → ℕ
+next_number last taken =
+    (last + unwrap_or (first_within (λ d. not (list_any (nat_eq ((last + d) % 256)) taken)) 1 256) 0) % 256
+
+-- The first reason against a request with this body, with so many places, so many open and this ticket the next.
+unfoldable pub refusal_of : ℕ → List ℕ → ℕ → ℕ → Option SubmitFault
+refusal_of places body open_count ticket =
+    if nat_lt LONGEST_BODY (length body) then Some TooLong
+    else if nat_le places open_count then Some TableFull
+    else if nat_lt ticket (2 ^ 64 - 1) then None else Some TicketsSpent
+
+-- The request itself, if there is no reason against it.
+abbrev pub unless_refused : {A : Type 0} → Option SubmitFault → A → Result A SubmitFault
+unless_refused None request = Ok request
+unless_refused (Some why) request = Err why

@@ -1,0 +1,64 @@
+-- A request as it was accepted, its end, and the notes on it.
+use Rattle.std.specs.Prelude.{ℕ, List, [], ◌∷◌, map, Option, Some, None, Bool, false, nat_lt, nat_eq, if◌then◌else◌, Result, Ok, Err}
+use Rattle.std.specs.List.{fold}
+use Rattle.bac_tsm.specs.declared.client.SubmitFault.{SubmitFault}
+use Rattle.bac_tsm.specs.Events.{Outcome, Event, Data, Note, Sent, Refused, Done, Dropped, TimedOut, Request, Rules}
+
+-- A request, and the position at which it was accepted.
+pub record Accepted : Type 0 where
+  pub position : ℕ
+  pub request : Request
+
+-- Where a request ends, and the outcome of the answer that ends it; no outcome is a timeout.
+pub record End : Type 0 where
+  pub position : ℕ
+  pub outcome : Option Outcome
+
+-- The earlier of two ends.
+abbrev pub earlier : Option End → Option End → Option End
+earlier None late = late
+earlier (Some early) None = Some early
+earlier (Some early) (Some late) = if nat_lt early.position late.position then Some early else Some late
+
+-- There is an end, and it lies before position i.
+abbrev pub is_over : ℕ → Option End → Bool
+is_over i None = false
+is_over i (Some e) = nat_lt e.position i
+
+-- The outcome that the event gives to a request, if it is an answer to it.
+abbrev pub outcome_in : Rules → Request → Option Event → Option Outcome
+outcome_in rules request (Some (Data peer bytes)) = rules.outcome_of request peer bytes
+outcome_in rules request _ = None
+
+-- The numbers of these requests.
+abbrev pub numbers_of : List Accepted → List ℕ
+numbers_of requests = map (λ a. a.request.number) requests
+
+-- The number of the last of these requests, 0 if there is none.
+abbrev pub last_number : List Accepted → ℕ
+last_number requests = fold (λ last a. a.request.number) 0 requests
+
+-- The request that was accepted, if one was.
+abbrev pub ok_to_list : Result Accepted SubmitFault → List Accepted
+ok_to_list (Ok a) = a ∷ []
+ok_to_list (Err why) = []
+
+-- The note on an end.
+abbrev pub end_note : Request → Option Outcome → Note
+end_note request None = TimedOut request.ticket
+end_note request (Some outcome) = Done request.ticket outcome
+
+-- The note on an end, if it is at position i.
+abbrev pub end_notes : ℕ → Request → Option End → List Note
+end_notes i request None = []
+end_notes i request (Some e) = if nat_eq e.position i then end_note request e.outcome ∷ [] else []
+
+-- These notes, or that the datagram was dropped.
+abbrev pub or_dropped : List Note → List Note
+or_dropped [] = Dropped ∷ []
+or_dropped (note ∷ notes) = note ∷ notes
+
+-- The note on what an Ask comes to.
+abbrev pub ask_notes : Result Accepted SubmitFault → List Note
+ask_notes (Ok a) = Sent a.request.ticket a.request.peer a.request.octets ∷ []
+ask_notes (Err why) = Refused why ∷ []

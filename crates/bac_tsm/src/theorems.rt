@@ -1,0 +1,79 @@
+//! The laws of the client: what its machine does is what the look-ahead says.
+
+ghost use Rattle.std.specs.Prelude.{◌≡◌, ◌≢◌, ◌↔◌, ℕ, suc, ◌+◌, ◌<◌, ◌≤◌, List, ◌∷◌, ◌++◌, length, Some, take, true};
+ghost use Rattle.std.specs.List.{AllPairs};
+ghost use Rattle.bac_pdu.specs.Peer.{Station};
+ghost use Rattle.bac_tsm.specs.Answers.{same_station, outcome_of};
+ghost use Rattle.bac_tsm.specs.AnswersInWords.{IsAnsweredBy};
+ghost use Rattle.bac_tsm.specs.Client.{client_rules};
+ghost use Rattle.bac_tsm.specs.Events.{Event, Outcome, Request, Rules};
+ghost use Rattle.bac_tsm.specs.Lookahead.{Accepted, accepted, still_open, open_at, output, sends};
+ghost use Rattle.bac_tsm.specs.Machine.{folded, initial};
+ghost use Rattle.bac_tsm.specs.Laws.{AnswersByNumber, NumbersComeBackLate, PassedAreHeld, outputs, state_at};
+
+/// The machine tells, at each position, the notes that the look-ahead gives there, and keeps what it says is open.
+pub fn run_is_lookahead()
+    ensures notes { (rules : Rules) (first_ticket : ℕ) (events : List Event) →
+        AnswersByNumber rules → rules.places ≤ 255 →
+        (folded rules (initial first_ticket) 0 events).notes ≡ outputs rules first_ticket events 0 (length events) }
+    ensures kept { (rules : Rules) (first_ticket : ℕ) (events : List Event) (n : ℕ) →
+        AnswersByNumber rules → rules.places ≤ 255 → n ≤ length events →
+        (folded rules (initial first_ticket) 0 (take n events)).after ≡ state_at rules first_ticket events n }
+{}
+
+/// The same of the rules that a client goes by.
+pub fn client_is_lookahead()
+    ensures notes { (timeout retries first_ticket : ℕ) (events : List Event) → let rules = client_rules timeout retries in
+        (folded rules (initial first_ticket) 0 events).notes ≡ outputs rules first_ticket events 0 (length events) }
+    ensures kept { (timeout retries first_ticket : ℕ) (events : List Event) (n : ℕ) → n ≤ length events → let rules = client_rules timeout retries in
+        (folded rules (initial first_ticket) 0 (take n events)).after ≡ state_at rules first_ticket events n }
+{}
+
+/// The requests that one datagram answers have the same number.
+pub fn answers_are_by_number()
+    ensures { (timeout retries : ℕ) → AnswersByNumber (client_rules timeout retries) }
+{}
+
+/// An answer is to a request only where it comes from the same station: address, port and route.
+pub fn stations_are_compared_whole()
+    ensures { (a b : Station) → (same_station a b ≡ true) ↔ (a ≡ b) }
+{}
+
+/// A datagram gives a request an outcome exactly where it answers it so, in the standard's words.
+pub fn answers_in_words()
+    ensures { (request : Request) (from : Station) (datagram : List ℕ) (outcome : Outcome) →
+        (outcome_of request from datagram ≡ Some outcome) ↔ IsAnsweredBy request from datagram outcome }
+{}
+
+/// At each position few requests are open, under different numbers, and each is sent only so often.
+pub fn table_is_bounded()
+    ensures few { (rules : Rules) (first_ticket : ℕ) (events : List Event) (n : ℕ) →
+        rules.places ≤ 255 → length (open_at rules first_ticket events n) ≤ rules.places }
+    ensures apart { (rules : Rules) (first_ticket : ℕ) (events : List Event) (n : ℕ) →
+        rules.places ≤ 255 → AllPairs (λ a b. a.request.number ≢ b.request.number) (open_at rules first_ticket events n) }
+    ensures tickets { (rules : Rules) (first_ticket : ℕ) (events : List Event) (n : ℕ) →
+        AllPairs (λ a b. a.request.ticket < b.request.ticket) (open_at rules first_ticket events n) }
+    ensures sends { (rules : Rules) (events : List Event) (a : Accepted) →
+        length (sends rules events a) ≤ 1 + rules.retries }
+{}
+
+/// What is told at a position rests on nothing that comes after it.
+pub fn output_looks_back()
+    ensures { (rules : Rules) (first_ticket : ℕ) (events others : List Event) (n : ℕ) →
+        n < length events → take (suc n) events ≡ take (suc n) others →
+        output rules first_ticket events n ≡ output rules first_ticket others n }
+{}
+
+/// Between two requests with the same number many others are accepted.
+pub fn numbers_come_back_late()
+    ensures { (rules : Rules) (first_ticket : ℕ) (events : List Event) (n : ℕ) →
+        rules.places ≤ 255 → NumbersComeBackLate rules.places (accepted rules first_ticket events n) }
+{}
+
+/// Each number that was passed since a request was accepted, given or skipped, is its own, or that of a request open then or
+/// accepted since.
+pub fn passed_numbers_are_held()
+    ensures { (rules : Rules) (first_ticket : ℕ) (events : List Event) (n : ℕ) → rules.places ≤ 255 →
+        (before since : List Accepted) (a : Accepted) → accepted rules first_ticket events n ≡ before ++ a ∷ since →
+        PassedAreHeld a (still_open rules events a.position before) since }
+{}

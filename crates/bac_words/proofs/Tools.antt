@@ -1,0 +1,104 @@
+-- Words that `clap` takes name one of the five tools, with matches that passed its rules.
+use Rattle.std.proofs.Common.{◌∙◌, ◌≡◌, ◌⊎◌, ◌||◌, Bool, codes, true, false, refl, sym, subst, inl, inr, List, [], ◌∷◌, Some, Result, Ok, Err}
+use Rattle.std.specs.Prelude.{IsSomeAnd, IsErrAnd}
+use Rattle.std.specs.List.{find}
+use Rattle.std.specs.Str.{bytes_eq}
+use Rattle.std.proofs.lemmas.Bool.{false≢true}
+use Rattle.std.proofs.lemmas.Slice.Eq.{bytes_eq-Decides}
+use Rattle.clap.specs.Walk.{Text, answers_to, nothing_held}
+use Rattle.clap.specs.Simple.{Shape, built, label_of, is_simple, rows_at, subcommand_of}
+use Rattle.clap.specs.Faults.{fault_of, is_simple_and_free, level_fault}
+use Rattle.clap.specs.Kinds.{HasKind, IsAmong}
+use Rattle.clap.specs.Values.{kind_of}
+use Rattle.clap.specs.declared.error.Error.{Error}
+use Rattle.clap.specs.declared.error.kind.ErrorKind.{ErrorKind}
+use Rattle.clap.specs.declared.error.kind.ErrorKind.TheVariants as kind
+use Rattle.bac_words.specs.declared.faults.UsageFault.{UsageFault}
+use Rattle.bac_words.specs.Command.{bactool}
+use Rattle.bac_words.specs.Fault.{fault_by, fault_from}
+use Rattle.bac_words.specs.Job.{IsTool}
+use Rattle.bac_words.specs.Line.{IsRefusal, IsRefused}
+use Rattle.bac_words.specs.Marks.{marked_words}
+use Rattle.clap_laws.specs.Entering.{asks_for_help}
+use Rattle.bac_words.specs.declared.jobs.Job.{Job}
+use Rattle.clap_laws.proofs.Enters.{enters}
+use Rattle.clap_laws.proofs.Rows.{level_taken}
+
+abbrev AllOf : (Shape → Type 0) → List Shape → Type 0
+AllOf P [] = Unit {0}
+AllOf P (s ∷ rest) = P s × AllOf P rest
+
+one_found : (P : Shape → Type 0) (p : Shape → Bool) (xs : List Shape) (t : Shape) → AllOf P xs → find p xs ≡ Some t → P t × (p t ≡ true)
+one_found P p [] t all found = cc
+one_found P p (x ∷ xs) t all found = go (p x) refl (λ rest. one_found P p xs t all.1 rest) found
+  where
+    go : (b : Bool) → p x ≡ b → (find p xs ≡ Some t → P t × (p t ≡ true)) → find p (x ∷ xs) ≡ Some t → P t × (p t ≡ true)
+    go true e later f =
+        let same : Some x ≡ Some t = rw e at f in
+        let is : x ≡ t = cc in
+        (subst P is all.0, subst (λ s. p s ≡ true) is e)
+    go false e later f = later (rw e at f)
+
+-- A tool that the name answers to takes the words, where the name asks for no help.
+abbrev Passed : Shape → Type 0
+Passed s = (name : Text) (words : List Text) → answers_to name (label_of s) ≡ true → asks_for_help (built bactool) name ≡ false →
+    level_fault s [] nothing_held words false [] ≡ [] → IsTool (rows_at s words)
+
+-- The name of `clap`'s own subcommand asks for help.
+asks : (name : Text) → answers_to name (codes "help", []) ≡ true → asks_for_help (built bactool) name ≡ true
+asks name answers =
+    let is : codes "help" ≡ name = (bytes_eq-Decides (codes "help") name).0 (or_false (bytes_eq (codes "help") name) answers) in
+    subst (λ (n : Text). asks_for_help (built bactool) n ≡ true) is refl
+  where
+    or_false : (b : Bool) → (b || false) ≡ true → b ≡ true
+    or_false true e = refl
+    or_false false e = e
+
+each_tool : AllOf Passed (built bactool).subs
+each_tool = (
+  (λ name words answers other none. inl (refl, level_taken _ words (record { plain = refl; distinct = refl }) refl none)),
+  (
+    (λ name words answers other none. inr (inl (refl, level_taken _ words (record { plain = refl; distinct = refl }) refl none))),
+    (
+      (λ name words answers other none. inr (inr (inl (refl, level_taken _ words (record { plain = refl; distinct = refl }) refl none)))),
+      (
+        (λ name words answers other none. inr (inr (inr (inl (refl, level_taken _ words (record { plain = refl; distinct = refl }) refl none))))),
+        (
+          (λ name words answers other none. inr (inr (inr (inr refl)))),
+          ((λ name words answers other none. absurd (false≢true (sym other ∙ asks name answers))), tt),
+        ),
+      ),
+    ),
+  ),
+)
+
+pub tool_met : (words : List Text) → fault_of bactool words ≡ [] → IsSomeAnd (subcommand_of bactool words) IsTool
+tool_met words none =
+    let in_tool = enters bactool words refl none in
+    let found = one_found Passed (λ s. answers_to in_tool.name (label_of s)) (built bactool).subs in_tool.tool each_tool in_tool.found in
+    subst (λ o. IsSomeAnd o IsTool) (sym in_tool.rows) (found.0 in_tool.name in_tool.rest found.1 in_tool.other in_tool.passes)
+
+pub bactool_is_free : is_simple_and_free bactool ≡ true
+bactool_is_free = refl
+
+pub bactool_is_simple : is_simple bactool ≡ true
+bactool_is_simple = refl
+
+refusal : (words : List Text) (e : Error) (k : ErrorKind) → kind_of e ≡ k → (k ≡ kind.OutOfMemory) ⊎ IsAmong k (fault_of bactool (marked_words words))
+    → IsRefusal words (fault_by k e)
+refusal words e kind.OutOfMemory is h = tt
+refusal words e kind.DisplayHelp is h = elim h [
+  | inl m ↦ cc
+  | inr among ↦ (is, subst (λ k. IsAmong k (fault_of bactool (marked_words words))) (sym is) among)
+]
+refusal words e _ is h = elim h [
+  | inl m ↦ cc
+  | inr among ↦ ((λ help. let bad = sym is ∙ help in cc bad), subst (λ k. IsAmong k (fault_of bactool (marked_words words))) (sym is) among)
+]
+
+-- an error of `clap` is passed up as a refusal
+pub refused : (words marked : List Text) (e : Error) (r : Result Job UsageFault) → marked ≡ marked_words words → HasKind (fault_of bactool marked) e
+    → IsErrAnd r (λ f. f ≡ fault_from e) → IsRefused words r
+refused words marked e (Ok x) same h is = absurd is
+refused words marked e (Err f) same h is =
+    subst (IsRefusal words) (sym is) (refusal words e (kind_of e) refl (subst (λ w. HasKind (fault_of bactool w) e) same h))

@@ -1,0 +1,51 @@
+-- The command line of `bactool`, as `clap` reads it: five tools, each with its words.
+use Rattle.std.specs.Prelude.{List, [], ◌∷◌, ◌++◌, codes}
+use Rattle.clap.specs.Words.{App, Rule, new_app, new_rule, with_subcommand}
+use Rattle.clap_laws.specs.Commands.{number, needed, by_name, several, with_rules, wanting}
+
+abbrev pub target : List Rule
+target = needed (number (codes "device-instance") 0 4194303)
+    ∷ needed (number (codes "object-type") 0 1023)
+    ∷ needed (number (codes "object-instance") 0 4194303)
+    ∷ needed (number (codes "property") 0 4194303) ∷ []
+
+-- The instance of a device; the last one stands for every device.
+abbrev pub own_instance : Rule
+own_instance = needed (number (codes "device-instance") 0 4194302)
+
+abbrev pub mac : Rule
+mac = needed (by_name (new_rule (codes "mac")))
+
+abbrev pub port : Rule
+port = by_name (number (codes "port") 0 65535)
+
+abbrev pub timeout : Rule
+timeout = by_name (number (codes "apdu-timeout") 1 60000)
+
+abbrev pub retries : Rule
+retries = by_name (number (codes "apdu-retries") 0 9)
+
+abbrev pub bacrp : App
+bacrp = with_rules (new_app (codes "bacrp")) (target ++ number (codes "index") 0 4294967295
+    ∷ mac ∷ timeout ∷ retries ∷ port ∷ [])
+
+abbrev pub bacwp : App
+bacwp = with_rules (new_app (codes "bacwp")) (target ++ needed (number (codes "priority") 0 16)
+    ∷ needed (new_rule (codes "index")) ∷ needed (several (new_rule (codes "tag value")))
+    ∷ mac ∷ timeout ∷ retries ∷ port ∷ [])
+
+abbrev pub bacwi : App
+bacwi = with_rules (new_app (codes "bacwi")) (number (codes "min") 0 4194303
+    ∷ number (codes "max") 0 4194303 ∷ mac ∷ timeout ∷ port ∷ [])
+
+abbrev pub bacdev : App
+bacdev = with_rules (new_app (codes "bacdev"))
+    (own_instance ∷ port ∷ by_name (number (codes "count") 1 65535) ∷ [])
+
+abbrev pub bactrace : App
+bactrace = new_app (codes "bactrace")
+
+-- The program: one of the five tools is wanted. `help` before a tool's name asks for help.
+abbrev pub bactool : App
+bactool = with_subcommand (with_subcommand (with_subcommand (with_subcommand
+    (with_subcommand (wanting (new_app (codes "bactool"))) bacrp.top) bacwp.top) bacwi.top) bacdev.top) bactrace.top

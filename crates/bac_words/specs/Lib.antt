@@ -1,0 +1,6 @@
+pub mod Command
+pub mod Fault
+pub mod Marks
+pub mod Orders
+pub mod Job
+pub mod Line

@@ -1,0 +1,25 @@
+-- The words as `clap` is to see them, and as they were typed.
+use Rattle.std.specs.Prelude.{ℕ, Bool, ◌==◌, ◌&&◌, ◌||◌, nat_le, List, [], ◌∷◌, drop, map}
+use Rattle.std.specs.Prelude.{if◌then◌else◌, slice_index}
+use Rattle.clap.specs.Words.{Text}
+
+abbrev pub is_digit : ℕ → Bool
+is_digit byte = nat_le 48 byte && nat_le byte 57
+
+-- A word that begins with `~` (126), or with `-` (45) and a digit.
+abbrev pub wants_mark : Text → Bool
+wants_mark word =
+    slice_index word 0 == 126 || (slice_index word 0 == 45 && is_digit (slice_index word 1))
+
+-- Such a word gets a `~` in front.
+abbrev pub marked : Text → Text
+marked word = if wants_mark word then 126 ∷ word else word
+
+-- Each word after the program's name is marked.
+abbrev pub marked_words : List Text → List Text
+marked_words [] = []
+marked_words (program ∷ words) = program ∷ map marked words
+
+-- A word as it was typed, without the `~`.
+abbrev pub unmarked : Text → Text
+unmarked word = if slice_index word 0 == 126 then drop 1 word else word

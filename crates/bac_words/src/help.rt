@@ -1,0 +1,140 @@
+//! What help says of the tools and of their words.
+
+pub(crate) const ABOUT: &str =
+    "Reads and writes properties of BACnet/IP controllers, finds devices, and plays a small device";
+
+pub(crate) const READS: &str = "Reads a property of an object, and prints its value";
+
+pub(crate) const WRITES: &str = "Writes a property of an object, or relinquishes a priority";
+
+pub(crate) const SEARCHES: &str =
+    "Asks which devices are at an address, and prints those that answer";
+
+pub(crate) const SERVES: &str = "Plays a small device with eleven points, to try things out";
+
+pub(crate) const TRACES: &str =
+    "Runs a script of requests, datagrams and clock ticks from standard input";
+
+pub(crate) const TYPICAL: &str = "A typical line of each tool:
+  bactool bacrp 1234 0 5 85 --mac 192.0.2.7
+      reads the present value (85) of analog input (0) 5
+  bactool bacwp 1234 1 1 85 8 -1 4 41a00000 --mac 192.0.2.7
+      writes 20.0, a Real (4), to analog output (1) 1 at priority 8; the tags are in its help
+  bactool bacwi 1000 1999 --mac 192.0.2.7
+      asks for the devices 1000 to 1999
+  bactool bacdev 1234
+      is the device 1234 at UDP port 47808
+  bactool bactrace < session.trace
+      runs a script, with no network
+
+Status: 0 done, or help; 1 another answer or none; 2 wrong words or a bad line;
+3 a port, a datagram or a text that failed; 4 out of memory";
+
+pub(crate) const READ_LINES: &str = "Example:
+  bactool bacrp 1234 0 5 85 --mac 192.0.2.7
+      prints 4290999a, the octets of the Real 72.3
+
+Prints one line. Status 0: the value, spelled as bacwp takes it, but for
+  \"text\"  X'01ff'  B'1010'  D'7c0a1f04'  T'0c1e0000'  {1,2}  null
+that is a string, octets, bits, a date, a time, several values, and Null.
+Status 1: timeout, error CLASS CODE, reject REASON, abort REASON, segmented, bad-error or bad-ack.";
+
+pub(crate) const WRITE_LINES: &str = "Tags, and how the value is written:
+   0  Null          any word; it relinquishes the priority
+   1  Boolean       true, false, 1 or 0
+   2  Unsigned      0 to 18446744073709551615
+   3  Signed        -9223372036854775808 to 9223372036854775807
+   4  Real          8 hexadecimal digits, as 41a00000 for 20.0
+   5  Double        16 hexadecimal digits, as 4034000000000000 for 20.0
+   6  Octet String  hexadecimal digits, an even number of them, as 01ff
+   7  String        a text in UTF-8, as \"Room 5\"
+   8  Bit String    digits 0 and 1, the first bit first, as 1010
+   9  Enumerated    0 to 4294967295
+  10  Date          8 hexadecimal digits: year less 1900, month, day, day of the week, as 7c0a1f04
+  11  Time          8 hexadecimal digits: hour, minute, second, hundredths, as 0c1e0000
+  12  Object        TYPE:INSTANCE, as 8:1234
+A text that begins with a dash and no digit stands last, behind --, as in: --mac 192.0.2.7 -- 7 -x
+
+Examples:
+  bactool bacwp 1234 1 1 85 8 -1 4 41a00000 --mac 192.0.2.7
+      writes 20.0 to the present value of analog output 1 at priority 8
+  bactool bacwp 1234 1 1 85 8 -1 0 null --mac 192.0.2.7
+      relinquishes priority 8
+
+Prints one line. Status 0: ok. Status 1: timeout, error CLASS CODE, reject REASON, abort REASON,
+segmented, bad-error or bad-ack.";
+
+pub(crate) const SEARCH_LINES: &str = "Examples:
+  bactool bacwi --mac 192.0.2.7
+      asks for every device
+  bactool bacwi 1000 1999 --mac 192.0.2.7
+      asks for the devices 1000 to 1999
+
+Prints a line for each answer: INSTANCE ADDRESS:PORT, the octets of an APDU that it takes, its
+segmentation (3 is none) and its vendor, as 1234 192.0.2.7:47808 1476 3 260.
+Status 0: at least one. Status 1: none.";
+
+pub(crate) const SERVE_LINES: &str = "Example:
+  bactool bacdev 1234
+      answers Who-Is, ReadProperty and WriteProperty as the device 1234
+
+Prints nothing. Status 0: it has taken --count datagrams.";
+
+pub(crate) const TRACE_LINES: &str = "Example:
+  bactool bactrace < session.trace
+      where session.trace has: read 192.0.2.7 0 5 85
+
+Writes what the client sends, how each request ends, and what the device replies.";
+
+pub(crate) const DEVICE: &str = "Instance of the device, 0 to 4194303, as 1234; it is not sent";
+
+pub(crate) const OWN_INSTANCE: &str = "Instance of the device, 0 to 4194302, as 1234";
+
+pub(crate) const OBJECT_TYPE: &str = "Type of the object, 0 to 1023, as 0:
+0 analog input, 1 analog output, 2 analog value, 3 binary input, 4 binary output,
+5 binary value, 8 device, 13 multi-state input, 14 output, 19 value";
+
+pub(crate) const OBJECT_INSTANCE: &str = "Instance of the object, 0 to 4194303, as 5";
+
+pub(crate) const PROPERTY: &str = "Number of the property, 0 to 4194303, as 85:
+85 present value, 77 object name, 117 units, 87 priority array, 76 object list";
+
+pub(crate) const ELEMENT: &str =
+    "Element of an array, 0 to 4294967295, as 3; 0 is how many there are
+[default: the whole property]";
+
+pub(crate) const PRIORITY: &str =
+    "Priority, 1 (most urgent) to 16, as 8; 0 leaves it out, which means 16";
+
+pub(crate) const WRITTEN_ELEMENT: &str =
+    "Element of an array, 0 to 4294967295, as 3; -1 is the whole property";
+
+pub(crate) const PAIRS: &str =
+    "A tag, 0 to 12, and its value, as 4 41a00000; more of them for several values";
+
+pub(crate) const LEAST: &str = "Least instance, 0 to 4194303, as 1000 [default: all are asked]";
+
+pub(crate) const MOST: &str = "Greatest instance, 0 to 4194303, as 1999 [default: the least one]";
+
+pub(crate) const MAC: &str = "Address to send to, as 192.0.2.7 or 192.0.2.7:47809
+[default port: 47808]";
+
+pub(crate) const TIMEOUT: &str = "Milliseconds until it is sent again or given up, 1 to 60000,
+as 500 [default: 3000]";
+
+pub(crate) const SEARCH_TIME: &str = "Milliseconds for which answers are waited for, 1 to 60000,
+as 500 [default: 3000]";
+
+pub(crate) const RETRIES: &str = "How often it is sent again, 0 to 9, as 1 [default: 3]";
+
+pub(crate) const PORT: &str = "UDP port to send from, 0 to 65535, as 47809; 0 is any free one
+[default: 0]";
+
+pub(crate) const SEARCH_PORT: &str = "UDP port to send from and to listen at, 0 to 65535,
+as 47808; 0 is any free one [default: 0]";
+
+pub(crate) const SERVE_PORT: &str = "UDP port to listen at, 0 to 65535, as 47809; 0 is any free one
+[default: 47808]";
+
+pub(crate) const COUNT: &str = "Datagrams after which it ends, 1 to 65535, as 10
+[default: 65535]";

@@ -1,0 +1,27 @@
+//! What the words ask for.
+use bac_device::DeviceInfo;
+use bac_text::{Call, Search};
+
+/// What the program is to do.
+#[derive(Drop)]
+pub enum Job {
+    /// Reads a property: `bacrp`.
+    Read(Call),
+    /// Writes a property: `bacwp`.
+    Write(Call),
+    /// Looks for devices: `bacwi`.
+    WhoIs(Search),
+    /// Is a device: `bacdev`.
+    Device(Serve),
+    /// Runs a script: `bactrace`.
+    Trace,
+}
+
+/// A device to be run.
+#[derive(Drop)]
+pub struct Serve {
+    pub info: DeviceInfo,
+    pub port: u16,
+    /// The datagrams after which it ends, at least 1.
+    pub count: u32,
+}

@@ -1,0 +1,4 @@
+pub mod Rows
+pub mod Enters
+pub mod Getters
+pub mod Built

@@ -1,0 +1,43 @@
+-- Commands as they are put together.
+use Rattle.std.specs.Prelude.{◌≡◌, ℕ, pos, true, false, List, [], ◌∷◌, ◌++◌, Some}
+use Rattle.clap.specs.Words.{App, Rule, Text, app_of, new_rule, with_rule}
+use Rattle.clap.specs.Simple.{filled_from, help_rule}
+use Rattle.clap.specs.Lexer.{usize_max}
+use Rattle.clap.specs.declared.builder.command.Command.TheViews.{out-Command}
+use Rattle.clap.specs.declared.builder.command.Command.{Command}
+use Rattle.clap.specs.declared.builder.value_parser.ValueParser.TheVariants.{Signed}
+
+-- A word that is a number from the least to the most.
+abbrev pub number : Text → ℕ → ℕ → Rule
+number id least most = record (new_rule id) { parser = Some (Signed (pos least) (pos most)) }
+
+-- A word that has to be there.
+abbrev pub needed : Rule → Rule
+needed a = record a { required = true }
+
+-- The argument is given by its name, as `--port 47808`.
+abbrev pub by_name : Rule → Rule
+by_name a = record a { long = Some a.id }
+
+-- One word or more.
+abbrev pub several : Rule → Rule
+several a = record a {
+  range = Some (record { start_inclusive = 1; end_inclusive = usize_max });
+}
+
+abbrev pub with_rules : App → List Rule → App
+with_rules a [] = a
+with_rules a (r ∷ rs) = with_rules (with_rule a r) rs
+
+-- One of the subcommands is wanted.
+abbrev pub wanting : App → App
+wanting a = record a { top = record a.top { subcommand_required = true } }
+
+-- The arguments of a tool as `clap` builds them, with the flag for help.
+abbrev pub rules_of : App → List Rule
+rules_of tool = filled_from 1 (tool.top.rules ++ help_rule ∷ [])
+
+-- The command is this one, and none of its arguments goes to its subcommands.
+pub record IsCommand (c : Command) (app : App) : Type 0 where
+  pub shape : app_of c ≡ app
+  pub local : (out-Command c).has_globals ≡ false

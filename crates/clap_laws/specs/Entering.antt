@@ -1,0 +1,55 @@
+-- What holds of the words that `clap` takes.
+use Rattle.std.specs.Prelude.{◌≡◌, ◌&&◌, ◌||◌, Bool, true, false, not, nat_lt, List, [], ◌∷◌, Option, Some, codes}
+use Rattle.std.specs.List.{find, list_all, list_any}
+use Rattle.std.specs.Str.{bytes_eq}
+use Rattle.clap.specs.Facts.{unwrap_or_range}
+use Rattle.clap.specs.Values.{is_request}
+use Rattle.clap.specs.Walk.{Row, Rule, Text, action_of, answers_to, is_empty, nothing_held, rows_after}
+use Rattle.clap.specs.Simple.{App, Shape, built, label_of, rows_at, subcommand_of}
+use Rattle.clap.specs.Faults.{fault_of, level_fault}
+use Rattle.clap.specs.declared.builder.action.ArgAction.{ArgAction}
+use Rattle.clap.specs.declared.builder.action.ArgAction.TheVariants as action
+use Rattle.clap_laws.specs.Passes.{IsTaken}
+
+-- An argument that keeps one value or more of each use.
+abbrev pub keeps_values : ArgAction → Bool
+keeps_values action.Set = true
+keeps_values action.Append = true
+keeps_values _ = false
+
+-- The same, or a request for help; and it has no default.
+abbrev pub is_plain_rule : Rule → Bool
+is_plain_rule a = is_empty a.defaults && (is_request (action_of a)
+    || (keeps_values (action_of a) && nat_lt 0 (unwrap_or_range a.range).start_inclusive))
+
+-- No two rules have one id.
+abbrev pub has_distinct_ids : List Rule → Bool
+has_distinct_ids [] = true
+has_distinct_ids (a ∷ rest) = not (list_any (λ b. bytes_eq a.id b.id) rest) && has_distinct_ids rest
+
+pub record IsPlainLevel (c : List Rule) : Type 0 where
+  pub plain : list_all is_plain_rule c ≡ true
+  pub distinct : has_distinct_ids c ≡ true
+
+-- The name is that of `clap`'s own subcommand, which asks for help.
+abbrev pub asks_for_help : App → Text → Bool
+asks_for_help a name = bytes_eq name (codes "help") && not a.top.disable_help_subcommand
+
+-- The words name a subcommand other than `help`, and the words after it pass its rules.
+pub record Enters (a : App) (words : List Text) : Type 0 where
+  pub tool : Shape
+  pub name : Text
+  pub rest : List Text
+  pub found : find (λ s. answers_to name (label_of s)) (built a).subs ≡ Some tool
+  pub other : asks_for_help (built a) name ≡ false
+  pub rows : subcommand_of a words ≡ Some (rows_at tool rest)
+  pub passes : level_fault tool [] nothing_held rest false [] ≡ []
+
+-- Where a program wants a subcommand and takes the words, they enter one.
+abbrev pub WordsEnter : Type 0
+WordsEnter = (a : App) (words : List Text) → (built a).top.subcommand_required ≡ true → fault_of a words ≡ [] → Enters a words
+
+-- Where a level takes the words, each entry passed its rules, and what is required was given.
+abbrev pub LevelsPass : Type 0
+LevelsPass = (s : Shape) (words : List Text) → IsPlainLevel s.rules → s.subcommand_negates_reqs ≡ false →
+    level_fault s [] nothing_held words false [] ≡ [] → IsTaken s.rules (rows_after s.rules [] words)

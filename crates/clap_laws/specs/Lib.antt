@@ -1,0 +1,4 @@
+pub mod Passes
+pub mod Numbers
+pub mod Commands
+pub mod Entering

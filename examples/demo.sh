@@ -1,0 +1,71 @@
+#!/bin/sh
+# The demonstration: a small device on this machine is found, read, commanded and released. Each command is shown, then what it prints, then
+# its status. Usage: examples/demo.sh PROGRAM PORT, with a UDP port that is free.
+set -eu
+program=$1
+port=$2
+
+# Shows a command, runs it, and shows its status.
+run() {
+    echo "\$ bactool $*"
+    status=0
+    "$program" "$@" || status=$?
+    echo "status $status"
+}
+
+# A line on what comes next.
+say() {
+    printf '\n# %s\n' "$1"
+}
+
+# Whether a socket has the port.
+is_open() {
+    grep -q "^ *[0-9]*: [0-9A-F]*:$(printf %04X "$port") " /proc/net/udp
+}
+
+# Waits, for ten seconds at most, until a command succeeds.
+until_it() {
+    tries=100
+    until "$@" || [ $((tries -= 1)) = 0 ]; do
+        sleep 0.1
+    done
+}
+
+device_ended() {
+    ! kill -0 "$device" 2>/dev/null
+}
+
+echo '# A small device with eleven points; it ends after eight datagrams'
+echo "\$ bactool bacdev 1234 --port $port --count 8 &"
+"$program" bacdev 1234 --port "$port" --count 8 &
+device=$!
+trap 'kill $device 2>/dev/null || true' EXIT
+until_it is_open
+
+say 'Which devices are there? Instance, address, greatest APDU, segmentation (3 is none), vendor'
+run bacwi --mac "127.0.0.1:$port" --apdu-timeout 500
+
+say 'The present value (85) of analog input (0) 5, the outdoor temperature: the octets of the Real 72.3'
+run bacrp 1234 0 5 85 --mac "127.0.0.1:$port"
+
+say 'Command analog output (1) 1, a valve, to 20.0 at priority 8'
+run bacwp 1234 1 1 85 8 -1 4 41a00000 --mac "127.0.0.1:$port"
+
+say 'Its present value, and its priority array (87)'
+run bacrp 1234 1 1 85 --mac "127.0.0.1:$port"
+run bacrp 1234 1 1 87 --mac "127.0.0.1:$port"
+
+say 'Relinquish priority 8, and the valve is back at its default'
+run bacwp 1234 1 1 85 8 -1 0 null --mac "127.0.0.1:$port"
+run bacrp 1234 1 1 85 --mac "127.0.0.1:$port"
+
+say 'There is no analog input 99: error class 1 (object), code 31 (unknown object)'
+run bacrp 1234 0 99 85 --mac "127.0.0.1:$port"
+
+say 'That was the eighth datagram, and the device has ended'
+echo '$ wait'
+until_it device_ended
+kill "$device" 2>/dev/null || true
+status=0
+wait "$device" || status=$?
+echo "status $status"

@@ -1,0 +1,29 @@
+# What measures and tries the built program from outside. None of it is in the gate.
+#
+# make bench: what the program costs. Over 127.0.0.1: bacdev beside a bare echo server, bacrp beside a bare client, memory;
+#     then a script of a million lines, and replies and values in memory, whose benchmarks are proved first (some minutes,
+#     kept in ROOM for the next time). ROUNDS=15 ROOM=~/.cache/bactool-bench
+# make bench-loopback: its first part alone
+# make soak: random datagrams against bacdev, a random script through bactrace. DATAGRAMS=1000000 LINES=10000000
+# make interop: nmap and tshark against the device and the tools (tests/interop.sh)
+
+ROUNDS ?= 15
+ROOM ?= $(HOME)/.cache/bactool-bench
+DATAGRAMS ?= 1000000
+LINES ?= 10000000
+
+.PHONY: bench bench-loopback soak interop
+
+bench: bench-loopback
+	@bench/lines.sh
+	@mkdir -p $(ROOM) && bench/run.sh $(ROOM)
+
+bench-loopback: program
+	@bench/loopback.sh $(ROUNDS)
+
+soak: program
+	@bench/soak_device.py $(DATAGRAMS)
+	@bench/soak_scripts.py $(LINES)
+
+interop: program
+	@tests/interop.sh

@@ -1,0 +1,19 @@
+#!/usr/bin/env -S zsh -f
+# Prints what zsh completes a line to, one word a line. Usage: tests/complete.zsh LINE, in the repository's folder.
+zmodload zsh/zpty
+zpty shell zsh -f -i
+send() { zpty -w shell "$1" }
+send 'PROMPT=; unsetopt zle_bracketed_paste; zstyle ":completion:*" list-prompt ""; LISTMAX=1000'
+send "fpath=(${PWD}/completions \$fpath); autoload -Uz compinit; compinit -u -D"
+# Each match is printed in place of being shown, and then the line is thrown away.
+send 'compadd() {
+    if [[ ${@[1,(i)(-|--)]} == *-(O|A|D)\ * ]]; then builtin compadd "$@"; return; fi
+    local -a hits; builtin compadd -A hits "$@"
+    local hit; for hit in $hits; do print -r -- "match:$hit"; done
+}'
+send 'finish() { zle complete-word; print end:; zle kill-buffer }; zle -C complete-word complete-word _main_complete; zle -N finish; bindkey "^I" finish; print ready:'
+zpty -r shell text '*ready:?*ready:*'
+zpty -w -n shell "$1"$'\t'
+zpty -r shell text '*end:*'
+print -r -- $text | tr -d '\r' | sed -n 's/.*match:\([^ ]*\).*/\1/p'
+zpty -d shell

@@ -1,0 +1,79 @@
+/* Loaded in front of the C library, it has one call of a program to the system fail: that with the number FAILED, from 1, among the calls
+   that open a socket, send, receive, read and write. It says on the descriptor 3, where that is open, which call it was. */
+#define _GNU_SOURCE
+#include <dlfcn.h>
+#include <errno.h>
+#include <stdio.h>
+#include <stdlib.h>
+#include <string.h>
+#include <sys/socket.h>
+#include <unistd.h>
+
+static long calls;
+
+static void say(const char *name)
+{
+    static ssize_t (*next)(int, const void *, size_t);
+    if (!next)
+        next = dlsym(RTLD_NEXT, "write");
+    (void)!next(3, name, strlen(name));
+}
+
+static int fails(const char *name)
+{
+    static long failed = -1;
+    if (failed < 0) {
+        const char *number = getenv("FAILED");
+        failed = number ? atol(number) : 0;
+    }
+    calls++;
+    if (calls != failed)
+        return 0;
+    say(name);
+    errno = EIO;
+    return 1;
+}
+
+#define NEXT(name, type) static __typeof__(type) *next; if (!next) next = (__typeof__(type) *)dlsym(RTLD_NEXT, name)
+
+int socket(int domain, int type, int protocol)
+{
+    NEXT("socket", int(int, int, int));
+    return fails("socket") ? -1 : next(domain, type, protocol);
+}
+
+int bind(int fd, const struct sockaddr *address, socklen_t length)
+{
+    NEXT("bind", int(int, const struct sockaddr *, socklen_t));
+    return fails("bind") ? -1 : next(fd, address, length);
+}
+
+int setsockopt(int fd, int level, int name, const void *value, socklen_t length)
+{
+    NEXT("setsockopt", int(int, int, int, const void *, socklen_t));
+    return fails("setsockopt") ? -1 : next(fd, level, name, value, length);
+}
+
+ssize_t sendto(int fd, const void *octets, size_t count, int flags, const struct sockaddr *to, socklen_t length)
+{
+    NEXT("sendto", ssize_t(int, const void *, size_t, int, const struct sockaddr *, socklen_t));
+    return fails("sendto") ? -1 : next(fd, octets, count, flags, to, length);
+}
+
+ssize_t recvfrom(int fd, void *octets, size_t count, int flags, struct sockaddr *from, socklen_t *length)
+{
+    NEXT("recvfrom", ssize_t(int, void *, size_t, int, struct sockaddr *, socklen_t *));
+    return fails("recvfrom") ? -1 : next(fd, octets, count, flags, from, length);
+}
+
+ssize_t read(int fd, void *octets, size_t count)
+{
+    NEXT("read", ssize_t(int, void *, size_t));
+    return fails("read") ? -1 : next(fd, octets, count);
+}
+
+ssize_t write(int fd, const void *octets, size_t count)
+{
+    NEXT("write", ssize_t(int, const void *, size_t));
+    return fails(fd == 2 ? "tell" : "write") ? -1 : next(fd, octets, count);
+}

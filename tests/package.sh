@@ -1,0 +1,35 @@
+#!/usr/bin/env bash
+# Installs a Debian package in a root that has nothing but Debian's smallest set, runs the demonstration there, finds the manual
+# pages and completions in their places, and takes the package away again. Needs root, debootstrap and a mirror of Debian.
+# Usage: tests/package.sh PACKAGE.deb [ROOT], where ROOT keeps the system for the next time.
+set -euo pipefail
+package=$(realpath "$1")
+cd "$(dirname "$0")/.."
+root=${2:-}
+if [ -z "$root" ]; then
+    root=$(mktemp -d)
+    trap 'rm -r "$root"' EXIT
+fi
+[ -e "$root/bin/sh" ] || debootstrap --variant=minbase stable "$root" >/dev/null
+cp "$package" "$root/tmp/bactool.deb"
+
+chroot "$root" dpkg -i /tmp/bactool.deb
+mkdir -p "$root/tmp/demo"
+cp examples/demo.sh examples/free-port.sh "$root/tmp/demo"
+mount -t proc proc "$root/proc"
+port=$(chroot "$root" /tmp/demo/free-port.sh)
+chroot "$root" /tmp/demo/demo.sh /usr/bin/bactool "$port" >"$root/tmp/demo/out" || true
+umount "$root/proc"
+sed "s/$port/47808/" "$root/tmp/demo/out" | diff - examples/demo.out
+echo "the demonstration: as it is to be"
+
+chroot "$root" dpkg -L bactool >"$root/tmp/demo/files"
+for tool in bactool bacrp bacwp bacwi bacdev bactrace; do
+    for file in /usr/bin/$tool /usr/share/man/man1/$tool.1.gz /usr/share/bash-completion/completions/$tool; do
+        grep -qx "$file" "$root/tmp/demo/files" || { echo "not there: $file"; exit 1; }
+    done
+done
+chroot "$root" bacdev --help | head -n 1
+chroot "$root" dpkg -P bactool
+[ -z "$(find "$root/usr" -name '*bactool*')" ] || { echo "left behind"; exit 1; }
+echo "installed, run and taken away"
