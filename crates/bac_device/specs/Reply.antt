@@ -50,23 +50,31 @@ takes_index property (Some index) = property.is_array
 
 -- the point whose present value the reference names, where it can be written
 abbrev pub commanded : DeviceState → Reference → Option Standing
-commanded device r = if r.property == 85 then option_and_then (λ standing. if is_commandable standing.point.kind.role then Some standing else None) (standing_at device r.object) else None
+commanded device r =
+    if is_device device.info r.object then None
+    else if r.property == 85 then option_and_then (λ standing. if is_commandable standing.point.kind.role then Some standing else None) (standing_at device r.object)
+    else None
 
 -- without a priority it is the least urgent; 6 is kept for minimum on and off times (clause 19.2)
 abbrev pub urgency : Option ℕ → Result ℕ Failure
 urgency None = Ok 16
 urgency (Some priority) = if priority == 6 then Err WriteDenied else Ok priority
 
+-- the write that an order asks of a point, or the first of the failures: priority 6, a value of another type, a value out of range
+unfoldable pub ordered : Standing → Order → Result Write Failure
+ordered standing o =
+    urgency o.priority >>= (λ priority.
+    written standing.point o.value >>= (λ value.
+    Ok (record { object = o.reference.object; priority = priority; value = value })))
+
 -- The write that is ordered, or the first of the failures: unknown object, unknown property, an index at what is no array, what
--- can't be written, priority 6, a value of another type, a value out of range.
+-- can't be written, and those of the point.
 unfoldable pub accepted : DeviceState → Order → Result Write Failure
 accepted device o =
     property_of device o.reference.object o.reference.property >>= (λ property.
     needs NotAnArray (if takes_index property o.reference.index then Some property else None) >>= (λ _.
     needs WriteDenied (commanded device o.reference) >>= (λ standing.
-    urgency o.priority >>= (λ priority.
-    written standing.point o.value >>= (λ value.
-    Ok (record { object = o.reference.object; priority = priority; value = value }))))))
+    ordered standing o)))
 
 -- ---- the replies to confirmed requests
 

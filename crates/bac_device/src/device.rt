@@ -162,7 +162,7 @@ impl Device {
     pub(crate) fn commanded(&self, object: ObjectId, number: u32) -> Option<&StandingPoint>
         ensures { option_copied result ≡ commanded self.now (record { object = identifier object; property = number; index = None }) }
     {
-        if number != PRESENT_VALUE {
+        if number != PRESENT_VALUE || self.info.is_object(object) {
             return None;
         }
         match self.point(object) {

@@ -11,12 +11,13 @@ ghost use Rattle.bac_device.specs.Places.{Write, IsUrgent, write_seen};
 ghost use Rattle.bac_device.specs.Property.{property_seen, IsSoundProperty};
 ghost use Rattle.bac_device.specs.Failure.{error_class, error_code};
 ghost use Rattle.bac_device.specs.Device.{Holds, points_of, device_after};
-ghost use Rattle.bac_device.specs.Reply.{answered_object, read_property, accepted, ack as ack_message, urgency as urgency_of, read_reply, write_reply, write_in_body, full_reply, write_in_request, fitting, refused as refused_message, introduced, i_am as i_am_message, reply_apdu, write_apdu as write_in_apdu, reply_of, write_of_datagram, with_write, reply_to, writes_after};
+ghost use Rattle.bac_device.specs.Reply.{answered_object, read_property, accepted, ordered, ack as ack_message, urgency as urgency_of, read_reply, write_reply, write_in_body, full_reply, write_in_request, fitting, refused as refused_message, introduced, i_am as i_am_message, reply_apdu, write_apdu as write_in_apdu, reply_of, write_of_datagram, with_write, reply_to, writes_after};
 
 use crate::device::Device;
 use crate::failure::Failure;
 use crate::info::DeviceInfo;
 use crate::numbers::{MAX_APDU, NO_SEGMENTATION, VENDOR};
+use crate::point::StandingPoint;
 use crate::property::{Property, append_region};
 use crate::write::PlaceWrite;
 use bac_pdu::{
@@ -59,25 +60,23 @@ impl Device {
     }
 
     /// The write that a request orders, where the device accepts it.
-    #[tactic(auto, unfolding(crate::specs::Reply::accepted))]
+    #[tactic(auto, using(crate::proofs::OrderLaws::accepted_at), unfolding(crate::specs::Reply::accepted))]
     fn accepted(&self, request: &WriteRequest<'_>) -> Result<PlaceWrite, Failure>
         requires { IfSome request.now.priority IsPriority }
         ensures { result_seen write_seen result ≡ accepted self.now (order request.now) }
     {
-        let property = self.property(request.object, request.property)?;
-        if request.index.is_some() && !property.is_array() {
+        let Some(point) = self.commanded(request.object, request.property) else {
+            let property = self.property(request.object, request.property)?;
+            if request.index.is_some() && !property.is_array() {
+                return Err(Failure::NotAnArray);
+            }
+            return Err(Failure::WriteDenied);
+        };
+        // A present value is no array.
+        if request.index.is_some() {
             return Err(Failure::NotAnArray);
         }
-        let point = self
-            .commanded(request.object, request.property)
-            .ok_or(Failure::WriteDenied)?;
-        let priority = urgency(request.priority)?;
-        let value = point.value_in(request.value)?;
-        Ok(PlaceWrite {
-            object: request.object,
-            priority,
-            value,
-        })
+        ordered(point, request)
     }
 
     /// Appends the ReadProperty-ACK with these values to an empty frame.
@@ -304,6 +303,21 @@ fn i_am(info: &DeviceInfo, frame: &mut Frame) -> Result<(), Full>
         },
     )?;
     write_iam(frame, &i_am)
+}
+
+/// The write that a request orders of a point.
+#[tactic(auto, unfolding(crate::specs::Reply::ordered))]
+fn ordered(point: &StandingPoint, request: &WriteRequest<'_>) -> Result<PlaceWrite, Failure>
+    requires { IfSome request.now.priority IsPriority }
+    ensures { result_seen write_seen result ≡ ordered point.now (order request.now) }
+{
+    let priority = urgency(request.priority)?;
+    let value = point.value_in(request.value)?;
+    Ok(PlaceWrite {
+        object: request.object,
+        priority,
+        value,
+    })
 }
 
 /// How urgent a write is.

@@ -10,8 +10,6 @@ mod link;
 mod memory;
 mod search;
 mod serving;
-#[cfg(test)]
-mod tests;
 mod udp;
 
 pub use call::{run_read, run_write};

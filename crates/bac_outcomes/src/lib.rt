@@ -2,7 +2,5 @@
 #![tactic(auto)]
 
 mod outcomes;
-#[cfg(test)]
-mod tests;
 
 pub use outcomes::{print_outcome, show_outcome};

@@ -1,5 +1,5 @@
 -- What is read of a datagram is what it carries, and what is written is carried back.
-use Rattle.std.proofs.Common.{◌≡◌, ℕ, ◌+◌, ◌/◌, ◌%◌, ◌<◌, ◌≤◌, Bool, true, false, cond, eqb, ltb, ◌&&◌, ◌||◌, List, [], ◌∷◌, ◌++◌, length, Option, Some, None, refl, sym, ap, subst, ◌∙◌, append_assoc, arith, inl, inr}
+use Rattle.std.proofs.Common.{slice_index_or, ◌≡◌, ℕ, ◌+◌, ◌/◌, ◌%◌, ◌<◌, ◌≤◌, Bool, true, false, cond, eqb, ltb, ◌&&◌, ◌||◌, List, [], ◌∷◌, ◌++◌, length, Option, Some, None, refl, sym, ap, subst, ◌∙◌, append_assoc, arith, inl, inr}
 use Rattle.std.specs.Prelude.{◌↔◌, is_some, IfSome, OnOk, Result, Ok, Err}
 use Rattle.std.proofs.lemmas.Bool.{eqb-true, ltb-true, lt-ltb, eq-eqb}
 use Rattle.std.proofs.lemmas.List.{length-append}
@@ -266,6 +266,14 @@ length_front (Some station) expect size = omega (arith, length-append station.ad
 pub count_wrapped : (to : Option NetworkAddress) (expect : Bool) (apdu : List ℕ) → length (wrapped to expect apdu) ≡ front_count to + length apdu
 count_wrapped to expect apdu = length_wrapped to expect apdu ∙ ap (λ (n : ℕ). n + length apdu) (length_front to expect (length apdu))
 
+-- the six octets before an APDU for a station of this network
+pub local_front : (expect : Bool) (size : ℕ) (header : List ℕ) → size ≤ 1497 → header ≡ plain_header None expect → 129 ∷ 10 ∷ (6 + size) / 256 ∷ (6 + size) % 256 ∷ slice_index_or header 0 0 ∷ slice_index_or header 1 0 ∷ [] ≡ front_octets None expect size
+unfolding front_octets
+local_front expect size header few is =
+    let high : (6 + size) / 256 ≡ (4 + (2 + size)) / 256 % 256 = omega arith in
+    let low : (6 + size) % 256 ≡ (4 + (2 + size)) % 256 = omega arith in
+    rw (is, high, low) refl
+
 -- octets of which each spelling is read back spell one thing
 pub single : {A : Type 0} (Spells : List ℕ → A → Type 0) (read : List ℕ → Option A) → ((octets : List ℕ) (x : A) → Spells octets x → read octets ≡ Some x) → IsSingle Spells
 single Spells read again octets x y s t =
@@ -286,6 +294,11 @@ front_takes to expect apdu size front frame routable all fits is e =
 pub on_ok : {T E : Type 0} (result : Result T E) (P Q : Type 0) → OnOk result P → (P → Q) → OnOk result Q
 on_ok (Ok x) P Q p f = f p
 on_ok (Err e) P Q p f = tt
+
+-- the same of a call that put the front there
+pub put_front_takes : {T E : Type 0} (result : Result T E) (to : Option NetworkAddress) (expect : Bool) (apdu : List ℕ) (size : ℕ) (front frame : List ℕ) → IfSome to IsRoutable → size ≡ length apdu → front ≡ front_octets to expect size → OnOk result (frame ≡ front ++ apdu) → OnOk result (length front + length apdu ≤ 1497) → OnOk result (Takes to expect apdu frame)
+put_front_takes (Ok x) to expect apdu size front frame routable all is e fits = front_takes to expect apdu size front frame routable all (omega (arith, all, fits, ap length is)) is e
+put_front_takes (Err x) to expect apdu size front frame routable all is e fits = tt
 
 -- what takes an APDU to a station of this network is carried to it
 pub taken_carries : (from : Station) (expect : Bool) (apdu datagram : List ℕ) → Takes None expect apdu datagram → carried from datagram ≡ Some (record { peer = record { ip = from.ip; port = from.port; route = None }; broadcast = false; apdu = apdu })

@@ -1,5 +1,5 @@
 -- Tags of one octet: of a number below 15, before at most four octets.
-use Rattle.std.proofs.Common.{◌≡◌, ℕ, ◌+◌, ◌*◌, ◌<◌, min, List, [], ◌∷◌, ◌++◌, length, sym, ap, ◌∙◌, append-nil, arith}
+use Rattle.std.proofs.Common.{◌≡◌, ℕ, ◌+◌, ◌*◌, ◌<◌, min, List, [], ◌∷◌, length, slice_index_or, sym, ap, ◌∙◌, arith}
 use Rattle.std.proofs.lemmas.Bool.{lt-ltb}
 use Rattle.byteorder.specs.Endian.{big_bytes}
 use Rattle.bac_wire.specs.Tag.{plain_tag}
@@ -13,12 +13,14 @@ short_context number contents low short =
     let same : 16 * min number 15 + (8 + min (length contents) 5) ≡ 16 * number + (8 + length contents) = omega arith in
     rw (lt-ltb number 15 low, lt-ltb (length contents) 5 short) (ap (λ (first : ℕ). first ∷ contents) same)
 
--- four octets, and what was written of them
-pub four_context : (number : ℕ) (contents written : List ℕ) → number < 15 → length contents ≡ 4 → written ≡ contents → (16 * number + 12) ∷ (written ++ []) ≡ context_octets number contents
-four_context number contents written low four same =
-    ap (λ (rest : List ℕ). (16 * number + 12) ∷ rest) (append-nil written ∙ same)
-    ∙ ap (λ (n : ℕ). (16 * number + (8 + n)) ∷ contents) (sym four)
-    ∙ sym (short_context number contents low (omega arith))
+-- four octets
+pub four_context : (number : ℕ) (contents : List ℕ) → number < 15 → length contents ≡ 4 → (16 * number + 12) ∷ slice_index_or contents 0 0 ∷ slice_index_or contents 1 0 ∷ slice_index_or contents 2 0 ∷ slice_index_or contents 3 0 ∷ [] ≡ context_octets number contents
+four_context number (a ∷ b ∷ c ∷ d ∷ []) low four = sym (short_context number (a ∷ b ∷ c ∷ d ∷ []) low (omega arith))
+four_context number [] low four = absurd (omega (arith, four))
+four_context number (a ∷ []) low four = absurd (omega (arith, four))
+four_context number (a ∷ b ∷ []) low four = absurd (omega (arith, four))
+four_context number (a ∷ b ∷ c ∷ []) low four = absurd (omega (arith, four))
+four_context number (a ∷ b ∷ c ∷ d ∷ e ∷ rest) low four = absurd (omega (arith, four))
 
 -- a number in one octet
 pub one_number : (number n : ℕ) → number < 15 → n < 256 → number_octets number n ≡ (16 * number + 9) ∷ n ∷ []

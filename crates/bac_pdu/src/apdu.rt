@@ -160,6 +160,7 @@ fn read_parts(first: u8, octets: &[u8]) -> Option<(Option<Part>, u8, &[u8])>
 
 /// Appends the APDU, with 0 in each bit that is not looked at. `Full`, with the frame unchanged, only where there is no
 /// room for it.
+#[inline(always)]
 pub fn write_apdu(frame: &mut Frame, apdu: &Apdu<'_>) -> Result<(), Full>
     requires { IsWritable (message apdu.now) }
     ensures ok { OnOk result (frame.new ≡ frame.old ++ laid_out (message apdu.now)) }
@@ -171,6 +172,7 @@ pub fn write_apdu(frame: &mut Frame, apdu: &Apdu<'_>) -> Result<(), Full>
     append_apdu(frame, apdu)
 }
 
+#[inline(always)]
 fn append_apdu(frame: &mut Frame, apdu: &Apdu<'_>) -> Result<(), Full>
     requires { IsWritable (message apdu.now) }
     ensures ok { OnOk result (frame.new ≡ frame.old ++ laid_out (message apdu.now)) }
@@ -224,6 +226,7 @@ fn flags_of(part: Option<Part>) -> u8
 }
 
 /// What stands before the body of a message that can have a part.
+#[inline(always)]
 fn head_of(begin: &[u8], part: Option<Part>, service: u8) -> ArrayVec<u8, 6>
     requires { length begin.now < 4 }
     ensures value { result.items ≡ begin.now ++ (part_octets part ++ service ∷ []) }

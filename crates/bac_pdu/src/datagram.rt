@@ -1,10 +1,10 @@
-ghost use Rattle.std.specs.Prelude.{◌≡◌, ◌<◌, ◌≤◌, ◌+◌, ◌^◌, ◌++◌, length, IfOk, IfSome, OnOk, OnErr};
+ghost use Rattle.std.specs.Prelude.{◌≡◌, ◌<◌, ◌≤◌, ◌+◌, ◌^◌, ◌++◌, length, None, IfOk, IfSome, OnOk, OnErr};
 ghost use Rattle.std.specs.Option.{option_map};
 ghost use Rattle.bac_pdu.specs.Peer.{station, IsRoutable};
 ghost use Rattle.bac_pdu.specs.Datagram.{delivery, Carries, IsFound, Takes, wrapped, front_count, front_octets};
 ghost use Rattle.bac_pdu.specs.DatagramReading.{link_at, carried};
 
-use crate::header::{HEADER_OCTETS, header_and_rest, network_header};
+use crate::header::{HEADER_OCTETS, header_and_rest, local_header, network_header};
 use crate::peer::Peer;
 use crate::route::Route;
 use arrayvec::ArrayVec;
@@ -132,8 +132,30 @@ pub fn wrap_within(to: Peer, expect: bool, frame: &mut Frame) -> Result<(), Full
     ensures room { OnErr result (1480 < length frame.old) }
     ensures err { OnErr result (frame.new ≡ frame.old) }
 {
-    let front = front_of(to, expect, frame.len())?;
-    frame.prepend(front.as_slice())
+    match to.route {
+        None => frame.prepend(&local_front(expect, frame.len())),
+        Some(_) => {
+            let front = front_of(to, expect, frame.len())?;
+            frame.prepend(front.as_slice())
+        }
+    }
+}
+
+/// What stands before an APDU of this size for a station of this network.
+fn local_front(expect: bool, size: usize) -> [u8; 6]
+    requires { size ≤ FRAME_OCTETS }
+    ensures { result ≡ front_octets None expect size }
+{
+    let length = 6 + size;
+    let [version, control] = local_header(expect);
+    [
+        BACNET_IP,
+        UNICAST,
+        (length / 256) as u8,
+        (length % 256) as u8,
+        version,
+        control,
+    ]
 }
 
 /// What stands before an APDU of this size: the link header and the network header. `Full` where no frame has room for

@@ -1,4 +1,4 @@
-ghost use Rattle.std.specs.Prelude.{◌≡◌, ◌≤◌, length, IfSome};
+ghost use Rattle.std.specs.Prelude.{◌≡◌, ◌≤◌, length, IfSome, None};
 ghost use Rattle.std.specs.Option.{option_map};
 ghost use Rattle.bac_pdu.specs.Peer.{IsRoutable, network_address};
 ghost use Rattle.bac_pdu.specs.Header.{address_seen, header_seen, plain_header};
@@ -113,18 +113,25 @@ pub(crate) fn network_header(route: Option<Route>, expect: bool) -> ArrayVec<u8,
     ensures routable { IfSome (option_map network_address route) IsRoutable }
 {
     let mut header = ArrayVec::new();
-    let expected = if expect { EXPECTS_REPLY } else { 0 };
-    header.push(VERSION);
+    let [version, control] = local_header(expect);
+    header.push(version);
     let Some(route) = route else {
-        header.push(expected);
+        header.push(control);
         return header;
     };
     let mut network = [0; 2];
     BigEndian::write_u16(&mut network, route.network());
-    header.push(DESTINED + expected);
+    header.push(DESTINED + control);
     let _ = header.try_extend_from_slice(&network);
     header.push(route.address().len() as u8);
     let _ = header.try_extend_from_slice(route.address());
     header.push(HOPS);
     header
+}
+
+/// The same for a station of this network.
+pub(crate) fn local_header(expect: bool) -> [u8; 2]
+    ensures { result ≡ plain_header None expect }
+{
+    [VERSION, if expect { EXPECTS_REPLY } else { 0 }]
 }

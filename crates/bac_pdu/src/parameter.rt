@@ -26,6 +26,7 @@ pub(crate) const PRIORITY: u8 = 4;
 
 /// The contents under a context tag of this number.
 #[tactic(auto, unfolding(bac_wire::specs::ParameterReading::context_at))]
+#[inline(always)]
 fn context_and_rest(number: u8, octets: &[u8]) -> Option<(&[u8], &[u8])>
     ensures { option_map (λ x. (x.0.now, x.1.now)) result ≡ context_at number octets.now }
 {
@@ -48,10 +49,12 @@ pub(crate) fn number_and_rest(number: u8, octets: &[u8]) -> Option<(u32, &[u8])>
 fn number_in(contents: &[u8]) -> Option<u32>
     ensures { result ≡ number_of_contents contents.now }
 {
-    if contents.is_empty() || 4 < contents.len() {
-        return None;
+    match contents {
+        [] => None,
+        [n] => Some(u32::from(*n)),
+        _ if 4 < contents.len() => None,
+        _ => Some(BigEndian::read_uint(contents, contents.len()) as u32),
     }
-    Some(BigEndian::read_uint(contents, contents.len()) as u32)
 }
 
 /// A number under a context tag of this number, where there is one.
@@ -187,18 +190,16 @@ pub(crate) fn append_object(body: &mut Frame, number: u8, id: ObjectId) -> Resul
 }
 
 /// Appends a tag of one octet, and the four octets that it counts, or nothing.
-fn append_four(body: &mut Frame, number: u8, contents: &[u8]) -> Result<(), Full>
-    requires number { number < 15 }
-    requires four { length contents.now ≡ 4 }
+fn append_four(body: &mut Frame, number: u8, contents: &[u8; 4]) -> Result<(), Full>
+    requires { number < 15 }
     ensures ok { OnOk result (body.new ≡ body.old ++ context_octets number contents.now) }
     ensures fits { OnOk result (length body.new ≤ FRAME_OCTETS) }
     ensures full { OnErr result
         (FRAME_OCTETS < length body.old + length (context_octets number contents.now)) }
     ensures err { OnErr result (body.new ≡ body.old) }
 {
-    let mut octets = [16 * number + 12, 0, 0, 0, 0];
-    octets[1..].copy_from_slice(contents);
-    body.append(&octets)
+    let [a, b, c, d] = *contents;
+    body.append(&[16 * number + 12, a, b, c, d])
 }
 
 /// Appends whole items between an opening and a closing tag of this number, or a front of that.

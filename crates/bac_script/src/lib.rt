@@ -6,8 +6,6 @@ mod line;
 mod long_write;
 mod notes;
 mod running;
-#[cfg(test)]
-mod tests;
 mod tracing;
 
 pub use notes::{show_outcome, show_value};

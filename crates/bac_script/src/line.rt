@@ -10,7 +10,7 @@ ghost use Rattle.bac_script.specs.Script.{is_nothing};
 ghost use Rattle.bac_script.specs.LineSeen.{arrival_seen, line_seen, result_seen};
 
 use crate::long_write::LongWrite;
-use bac_pdu::{Peer, ReadRequest};
+use bac_pdu::{Peer, READ_PROPERTY, ReadRequest, WRITE_PROPERTY};
 use bac_text::{
     BodyRoom, LONGEST_DATAGRAM, LONGEST_LINE, PairFault, WordSource, Words, peer_in, plain_peer_in,
     priority_from, read_datagram, read_number, read_write_index,
@@ -18,11 +18,6 @@ use bac_text::{
 use bac_tsm::Config;
 use bac_wire::ObjectId;
 use std::str;
-
-/// The service choices of ReadProperty and WriteProperty (clause 21, BACnetConfirmedServiceChoice).
-const READ_PROPERTY: u8 = 12;
-
-const WRITE_PROPERTY: u8 = 15;
 
 /// What a line says. Octets lie in the room that was lent to read it.
 #[derive(Drop)]

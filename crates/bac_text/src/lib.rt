@@ -12,8 +12,6 @@ mod pairs;
 mod parameters;
 mod peer_texts;
 mod peers;
-#[cfg(test)]
-mod tests;
 mod value_words;
 mod values;
 mod words;

@@ -11,7 +11,7 @@ use crate::peers::cut;
 use bac_wire::{FRAME_OCTETS, Frame, ObjectId, Value, write_value};
 
 /// Why the value of a tag and a word can't be written.
-#[derive(Clone, Copy, Debug, PartialEq, Eq)]
+#[derive(Clone, Copy)]
 pub(crate) enum ValueFault {
     /// The first word is no tag, or the second no value of it.
     Bad,

@@ -13,6 +13,7 @@ use bac_device::{Device, DeviceInfo, demo};
 use bac_pdu::Peer;
 use bac_tsm::{Client, Config};
 use bac_wire::{Frame, ObjectId};
+use std::process::Abort;
 
 /// 127.0.0.1:47808, which the client asks.
 const CONTROLLER: Peer = Peer {
@@ -33,11 +34,21 @@ const READ_PROPERTY: u8 = 12;
 /// The body that asks for the present value of analog-input 5.
 const BODY: [u8; 7] = [0x0c, 0x00, 0x00, 0x00, 0x05, 0x19, 0x55];
 
-/// What the client sends for it under the number 1.
-const REQUEST: [u8; 17] = [
-    0x81, 0x0a, 0x00, 0x11, 0x01, 0x04, 0x00, 0x05, 0x01, 0x0c, 0x0c, 0x00, 0x00, 0x00, 0x05, 0x19,
-    0x55,
-];
+/// What the client sends for it under this number.
+fn request(number: u8) -> [u8; 17] {
+    [
+        0x81, 0x0a, 0x00, 0x11, 0x01, 0x04, 0x00, 0x05, number, 0x0c, 0x0c, 0x00, 0x00, 0x00, 0x05,
+        0x19, 0x55,
+    ]
+}
+
+/// The octets that a text of hexadecimal digits spells. Any other text ends the test.
+fn octets<H: Abort + AllocGlobal>(rt: &H, text: &str) -> Vec<u8> {
+    match hex::decode(rt.alloc(), text) {
+        Ok(octets) => octets,
+        Err(_) => panic!(rt; "no octets in {text}"),
+    }
+}
 
 /// The points that can be commanded: type and instance.
 const COMMANDABLE: [(u16, u32); 6] = [(1, 1), (2, 2), (4, 4), (5, 5), (14, 1), (19, 1)];
@@ -56,7 +67,7 @@ fn asking() -> Client {
 /// Whether the client stands as it did when it had asked.
 fn is_asking(client: &Client) -> bool {
     let sent = match client.to_send(0) {
-        Some((peer, octets)) => peer == CONTROLLER && octets == REQUEST.as_slice(),
+        Some((peer, octets)) => peer == CONTROLLER && octets == request(1).as_slice(),
         None => false,
     };
     sent && client.open_count() == 1 && client.number_of(0) == Some(1) && client.clock() == 0
@@ -67,24 +78,16 @@ fn small_device() -> Option<Device> {
     Some(demo(DeviceInfo::new(1234, "Small device")?))
 }
 
-/// Whether every place of the point is NULL.
-fn is_relinquished(device: &Device, kind: u16, instance: u32) -> bool {
-    let Some(object) = ObjectId::new(kind, instance) else {
-        return false;
-    };
-    for priority in 1..=16_u8 {
-        if device.place(object, priority) != Some(None) {
-            return false;
-        }
-    }
-    true
-}
-
 /// Whether every place of every point is NULL, as in a fresh device.
 fn is_fresh(device: &Device) -> bool {
     for (kind, instance) in COMMANDABLE {
-        if !is_relinquished(device, kind, instance) {
+        let Some(object) = ObjectId::new(kind, instance) else {
             return false;
+        };
+        for priority in 1..=16_u8 {
+            if device.place(object, priority) != Some(None) {
+                return false;
+            }
         }
     }
     true

@@ -1,5 +1,5 @@
 -- The shortest spelling of a value is a spelling.
-use Rattle.std.proofs.Common.{◌≡◌, ℕ, ℤ, pos, negsuc, suc, ◌+◌, ◌-◌, ◌*◌, ◌^◌, ◌%◌, ◌<◌, ◌≤◌, min, true, false, List, [], ◌∷◌, ◌++◌, length, refl, sym, ap, ◌∙◌, arith, inl, inr}
+use Rattle.std.proofs.Common.{◌≡◌, ℕ, ℤ, pos, negsuc, suc, slice_index_or, ◌+◌, ◌-◌, ◌*◌, ◌^◌, ◌%◌, ◌<◌, ◌≤◌, min, true, false, List, [], ◌∷◌, length, refl, sym, ap, ◌∙◌, arith, inl, inr}
 use Rattle.std.specs.Prelude.{FitsSigned, ◌-ℤ◌}
 use Rattle.std.specs.Int.{w64}
 use Rattle.std.proofs.lemmas.Int.{ints}
@@ -164,11 +164,13 @@ short_tagged number contents low short =
     rw (lt-ltb number 15 low, lt-ltb (length contents) 5 short) (ap (λ (first : ℕ). first ∷ contents) same)
 
 -- the tag of four octets, and these
-pub four_tagged : (number : ℕ) (contents written : List ℕ) → number < 15 → length contents ≡ 4 → written ≡ contents → (16 * number + 4) ∷ (written ++ []) ≡ tagged number contents
-four_tagged number contents written low four same =
-    ap (λ (rest : List ℕ). (16 * number + 4) ∷ rest) (append-nil written ∙ same)
-    ∙ ap (λ (n : ℕ). (16 * number + n) ∷ contents) (sym four)
-    ∙ sym (short_tagged number contents low (omega arith))
+pub four_tagged : (number : ℕ) (contents : List ℕ) → number < 15 → length contents ≡ 4 → (16 * number + 4) ∷ slice_index_or contents 0 0 ∷ slice_index_or contents 1 0 ∷ slice_index_or contents 2 0 ∷ slice_index_or contents 3 0 ∷ [] ≡ tagged number contents
+four_tagged number (a ∷ b ∷ c ∷ d ∷ []) low four = sym (short_tagged number (a ∷ b ∷ c ∷ d ∷ []) low (omega arith))
+four_tagged number [] low four = absurd (omega (arith, four))
+four_tagged number (a ∷ []) low four = absurd (omega (arith, four))
+four_tagged number (a ∷ b ∷ []) low four = absurd (omega (arith, four))
+four_tagged number (a ∷ b ∷ c ∷ []) low four = absurd (omega (arith, four))
+four_tagged number (a ∷ b ∷ c ∷ d ∷ e ∷ rest) low four = absurd (omega (arith, four))
 
 -- the tag of a number in one octet, and the number
 pub one_tagged : (number n : ℕ) → number < 15 → n < 256 → tagged number (big_bytes (octet_count n) n) ≡ (16 * number + 1) ∷ n ∷ []

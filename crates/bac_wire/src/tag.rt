@@ -40,6 +40,7 @@ pub fn read_tag(octets: &[u8]) -> Option<(Tag, usize)>
 
 /// The tag that begins the input, and the octets behind it; `None` where `read_tag` gives none.
 #[tactic(auto, unfolding(crate::specs::TagReading::tag_at))]
+#[inline(always)]
 pub fn tag_and_rest(octets: &[u8]) -> Option<(Tag, &[u8])>
     ensures { option_map (λ x. (x.0, x.1.now)) result ≡ tag_at octets.now }
 {
@@ -100,6 +101,8 @@ fn length_and_rest(low: u8, octets: &[u8]) -> Option<(u32, &[u8])>
 
 /// A length that follows: one octet, or two behind 254, or four behind 255.
 #[tactic(auto, unfolding(crate::specs::TagReading::long_length_at))]
+#[cold]
+#[inline(never)]
 fn long_length_and_rest(octets: &[u8]) -> Option<(u32, &[u8])>
     ensures { option_map (λ x. (x.0, x.1.now)) result ≡ long_length_at octets.now }
 {

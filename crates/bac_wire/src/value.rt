@@ -158,6 +158,7 @@ fn bits_of(contents: &[u8]) -> Option<Value<'_>>
 
 /// Appends the shortest spelling of the value, which is sound. Where it passes the frame's room it is `Full`, and the
 /// frame is as it was.
+#[inline(always)]
 pub fn write_value(frame: &mut Frame, value: &Value<'_>) -> Result<(), Full>
     requires { IsSound (datum value.now) }
     ensures ok { OnOk result (frame.new ≡ frame.old ++ plain (datum value.now)) }
@@ -171,6 +172,7 @@ pub fn write_value(frame: &mut Frame, value: &Value<'_>) -> Result<(), Full>
 }
 
 #[tactic(auto, unfolding(crate::specs::Datum::plain, crate::specs::Datum::tagged))]
+#[inline(always)]
 fn append_value(frame: &mut Frame, value: &Value<'_>) -> Result<(), Full>
     requires { IsSound (datum value.now) }
     // what the types of the fields say, for the caller's proof
@@ -218,17 +220,18 @@ fn append_boolean(frame: &mut Frame, value: bool) -> Result<(), Full>
 }
 
 /// Appends a tag of one octet, and the four octets that it counts.
-fn append_four(frame: &mut Frame, number: u8, contents: &[u8]) -> Result<(), Full>
-    requires number { number < 15 }
-    requires four { length contents.now ≡ 4 }
+#[inline(always)]
+fn append_four(frame: &mut Frame, number: u8, contents: &[u8; 4]) -> Result<(), Full>
+    requires { number < 15 }
+    // what the type of the contents says, for the caller's proof
+    ensures four { length contents.now ≡ 4 }
     ensures ok { OnOk result (frame.new ≡ frame.old ++ tagged_octets number contents.now) }
     ensures fits { OnOk result (length frame.old + length (tagged_octets number contents.now) ≤ FRAME_OCTETS) }
     ensures full { OnErr result (FRAME_OCTETS < length frame.old + length (tagged_octets number contents.now)) }
     ensures err { OnErr result (frame.new ≡ frame.old) }
 {
-    let mut octets = [16 * number + 4, 0, 0, 0, 0];
-    octets[1..].copy_from_slice(contents);
-    frame.append(&octets)
+    let [a, b, c, d] = *contents;
+    frame.append(&[16 * number + 4, a, b, c, d])
 }
 
 /// Appends the tag of the contents, which are in two parts, and the contents.

@@ -7,8 +7,6 @@ mod help;
 mod jobs;
 mod marks;
 mod parse;
-#[cfg(test)]
-mod tests;
 mod typed;
 
 pub use bac_text::{Call, Search};

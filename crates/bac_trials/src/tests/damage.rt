@@ -1,12 +1,14 @@
 //! Each datagram cut, and with each octet behind the first two changed in all 255 ways, those of every length among them.
 
-use crate::tests::datagrams::{ANSWERS, IGNORED, RELAYED, REQUESTS, STRAYS};
-use crate::tests::{ASKER, CONTROLLER, asking, is_asking, is_fresh, is_silent, small_device};
+use crate::tests::datagrams::all_datagrams;
+use crate::tests::{
+    ASKER, CONTROLLER, asking, is_asking, is_fresh, is_silent, octets, small_device,
+};
 use bac_device::Device;
 use bac_pdu::{open_datagram, read_apdu};
 use bac_tsm::Client;
 use bac_wire::Frame;
-use std::alloc::Global;
+use std::test::Fail;
 
 /// Whether the octets are ignored: they carry nothing, and client and device stay as they were.
 fn is_ignored(client: &mut Client, device: &mut Device, octets: &[u8]) -> bool {
@@ -49,21 +51,11 @@ fn is_reply(octets: &[u8]) -> bool {
         [0x81, 0x0a, _, _, 0x01, 0x00, apdu @ ..] => read_apdu(apdu).is_some(),
         [0x81, 0x0a, _, _, 0x01, 0x20, _, _, count, rest @ ..] => {
             let behind = usize::from(*count) + 1;
-            rest.get(behind..)
-                .is_some_and(|apdu| read_apdu(apdu).is_some())
+            let apdu = rest.get(behind..).unwrap_or(&[]);
+            read_apdu(apdu).is_some()
         }
         _ => false,
     }
-}
-
-/// Whether every proper front of the datagram, with its old length, is ignored.
-fn is_ignored_when_cut(client: &mut Client, device: &mut Device, datagram: &[u8]) -> bool {
-    for count in 0..datagram.len() {
-        if !is_ignored(client, device, &datagram[..count]) {
-            return false;
-        }
-    }
-    true
 }
 
 /// Whether the octets are taken with the octet at the place changed in each way. With another length in the link header, octets 2
@@ -78,7 +70,7 @@ fn is_taken_when_changed(
         return false;
     };
     for change in 1..=255_u8 {
-        set(datagram, place, octet ^ change);
+        datagram[place] = octet ^ change;
         let is_well = match place {
             2 | 3 if !has_own_length(datagram) => is_ignored(client, device, datagram),
             _ => is_taken(client, datagram) && is_answered(device, datagram),
@@ -87,7 +79,7 @@ fn is_taken_when_changed(
             return false;
         }
     }
-    set(datagram, place, octet);
+    datagram[place] = octet;
     true
 }
 
@@ -101,23 +93,20 @@ fn has_own_length(datagram: &[u8]) -> bool {
     }
 }
 
-fn set(octets: &mut [u8], place: usize, octet: u8) {
-    if let Some(there) = octets.get_mut(place) {
-        *there = octet;
-    }
-}
-
-/// Whether reader, client and device take the datagram however it is cut or damaged.
-fn is_survived(alloc: Global, text: &str) -> bool {
-    let (Ok(mut datagram), Some(mut device)) = (hex::decode(alloc, text), small_device()) else {
+/// Whether reader, client and device take the datagram however it is cut or damaged. Every proper front, with its old length, is
+/// ignored.
+fn is_survived(datagram: &mut [u8]) -> bool {
+    let Some(mut device) = small_device() else {
         return false;
     };
     let mut client = asking();
-    if !is_ignored_when_cut(&mut client, &mut device, datagram.as_slice()) {
-        return false;
+    for count in 0..datagram.len() {
+        if !is_ignored(&mut client, &mut device, &datagram[..count]) {
+            return false;
+        }
     }
     for place in 2..datagram.len() {
-        if !is_taken_when_changed(&mut client, &mut device, datagram.as_mut_slice(), place) {
+        if !is_taken_when_changed(&mut client, &mut device, datagram, place) {
             return false;
         }
     }
@@ -125,29 +114,10 @@ fn is_survived(alloc: Global, text: &str) -> bool {
 }
 
 #[test]
-fn plain(rt: HostRuntime) {
-    for text in IGNORED.iter().chain(&STRAYS) {
-        assert!(&rt; is_survived(rt.alloc(), text), "{text}");
+fn cut_and_changed_datagrams(rt: HostRuntime) -> Result<(), Fail> {
+    for text in all_datagrams(&rt)? {
+        let mut datagram = octets(&rt, text);
+        assert!(&rt; is_survived(datagram.as_mut_slice()), "{text}");
     }
-}
-
-#[test]
-fn answers(rt: HostRuntime) {
-    for (text, _) in ANSWERS {
-        assert!(&rt; is_survived(rt.alloc(), text), "{text}");
-    }
-}
-
-#[test]
-fn requests(rt: HostRuntime) {
-    for (text, _) in REQUESTS {
-        assert!(&rt; is_survived(rt.alloc(), text), "{text}");
-    }
-}
-
-#[test]
-fn relayed(rt: HostRuntime) {
-    for row in RELAYED {
-        assert!(&rt; is_survived(rt.alloc(), row.datagram), "{}", row.datagram);
-    }
+    Ok(())
 }

@@ -1,15 +1,16 @@
 //! Every part of every datagram goes through the readers of tags, values and regions, also with octets changed. The counts that
 //! are expected come from `oracle/count.py`, a reader of the same grammar that was written apart.
 
-use crate::tests::datagrams::{ANSWERS, IGNORED, RELAYED, REQUESTS, STRAYS};
+use crate::tests::datagrams::all_datagrams;
+use crate::tests::octets;
 use bac_wire::{Shape, read_tag, read_value, region};
-use std::alloc::Global;
+use std::test::Fail;
 
 /// The octets that each octet is changed to: the edges of a length, and octets that begin tags.
 const CHANGES: [u8; 8] = [0x00, 0x05, 0x0e, 0x3f, 0x65, 0xfd, 0xfe, 0xff];
 
 /// What stood at the front of the parts that were read. Numbers and counts are those in the tags.
-#[derive(Clone, Copy, Debug, Default, PartialEq, Eq)]
+#[derive(Debug, Default, Drop, PartialEq)]
 struct Tally {
     parts: u64,
     tags: u64,
@@ -78,72 +79,44 @@ impl Tally {
             datagram[place] = kept;
         }
     }
-
-    /// Takes a datagram, whole and cut, or with octets changed. It answers whether the digits spell one.
-    fn take_datagram(&mut self, alloc: Global, digits: &str, is_changed: bool) -> bool {
-        let Ok(mut datagram) = hex::decode(alloc, digits) else {
-            return false;
-        };
-        if is_changed {
-            self.take_changes(datagram.as_mut_slice());
-        } else {
-            self.take_prefixes(datagram.as_slice());
-        }
-        true
-    }
-
-    /// Takes each datagram of the list. It answers whether the digits of each spell one.
-    fn take_all(&mut self, alloc: Global, is_changed: bool) -> bool {
-        let mut is_spelled = true;
-        for digits in IGNORED.iter().chain(&STRAYS) {
-            is_spelled = self.take_datagram(alloc, digits, is_changed) && is_spelled;
-        }
-        for (digits, _) in ANSWERS.iter().chain(&REQUESTS) {
-            is_spelled = self.take_datagram(alloc, digits, is_changed) && is_spelled;
-        }
-        for row in RELAYED {
-            is_spelled = self.take_datagram(alloc, row.datagram, is_changed) && is_spelled;
-        }
-        is_spelled
-    }
 }
 
-#[test]
-fn prefixes(rt: HostRuntime) {
-    let mut tally = Tally::default();
-    assert!(&rt; tally.take_all(rt.alloc(), false));
-    assert_eq!(&rt;
-        tally,
-        Tally {
-            parts: 26578,
-            tags: 25759,
-            numbers: 35581,
-            counts: 4295035125,
-            tag_octets: 27442,
-            values: 6338,
-            value_octets: 8261,
-            regions: 349,
-            region_octets: 3102,
-        }
-    );
-}
+/// What stands at the front of the parts of all datagrams, whole and cut.
+const OF_PREFIXES: Tally = Tally {
+    parts: 26578,
+    tags: 25759,
+    numbers: 35581,
+    counts: 4295035125,
+    tag_octets: 27442,
+    values: 6338,
+    value_octets: 8261,
+    regions: 349,
+    region_octets: 3102,
+};
+
+/// The same where octets are changed.
+const OF_CHANGED: Tally = Tally {
+    parts: 409752,
+    tags: 396668,
+    numbers: 712270,
+    counts: 600255309028,
+    tag_octets: 435357,
+    values: 99538,
+    value_octets: 170573,
+    regions: 50023,
+    region_octets: 556069,
+};
 
 #[test]
-fn changed_octets(rt: HostRuntime) {
-    let mut tally = Tally::default();
-    assert!(&rt; tally.take_all(rt.alloc(), true));
-    assert_eq!(&rt;
-        tally,
-        Tally {
-            parts: 409752,
-            tags: 396668,
-            numbers: 712270,
-            counts: 600255309028,
-            tag_octets: 435357,
-            values: 99538,
-            value_octets: 170573,
-            regions: 50023,
-            region_octets: 556069,
-        }
-    );
+fn prefixes_and_changed_octets(rt: HostRuntime) -> Result<(), Fail> {
+    let mut of_prefixes = Tally::default();
+    let mut of_changed = Tally::default();
+    for text in all_datagrams(&rt)? {
+        let mut datagram = octets(&rt, text);
+        of_prefixes.take_prefixes(datagram.as_slice());
+        of_changed.take_changes(datagram.as_mut_slice());
+    }
+    assert_eq!(&rt; of_prefixes, OF_PREFIXES);
+    assert_eq!(&rt; of_changed, OF_CHANGED);
+    Ok(())
 }

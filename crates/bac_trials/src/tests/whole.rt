@@ -1,6 +1,6 @@
 //! Each datagram whole: what it carries, how it ends the client's request, and what the device replies.
 
-use crate::tests::datagrams::{ANSWERS, IGNORED, RELAYED, REQUESTS, Relayed, STRAYS, Sender};
+use crate::tests::datagrams::{IGNORED, PLAIN, RELAYED, Relayed, Sender};
 use crate::tests::{ASKER, CONTROLLER, asking, is_asking, is_silent, small_device};
 use bac_outcomes::show_outcome;
 use bac_pdu::{Peer, Route, open_datagram};
@@ -44,10 +44,7 @@ pub fn carries(datagram: &[u8], from: Peer, peer: Peer, is_to_all: bool, headers
 /// Whether the text of the outcome is this.
 fn is_shown(alloc: Global, outcome: &Outcome<'_>, text: &str) -> bool {
     let mut printed = Vec::new(alloc);
-    let shown = {
-        let mut writer = Checked::new(&mut printed);
-        show_outcome(outcome, &mut writer)
-    };
+    let shown = show_outcome(outcome, &mut Checked::new(&mut printed));
     shown.is_ok() && printed.as_slice() == text.as_bytes()
 }
 
@@ -115,63 +112,39 @@ fn is_ignored(alloc: Global, text: &str) -> bool {
         && replies(alloc, octets, ASKER, "")
 }
 
-/// A request, cut to an APDU of 0 to 11 octets with its length mended, and the device's reply.
-const CUT_REQUESTS: [(&str, &str); 12] = [
-    ("810a00060104", ""),
-    ("810a0007010400", ""),
-    ("810a000801040005", ""),
-    ("810a00090104000501", ""),
-    ("810a000a01040005010c", "810a00090100600105"),
-    ("810a000b01040005010c0c", "810a00090100600104"),
-    ("810a000c01040005010c0c00", "810a00090100600104"),
-    ("810a000d01040005010c0c0000", "810a00090100600104"),
-    ("810a000e01040005010c0c000000", "810a00090100600104"),
-    ("810a000f01040005010c0c00000005", "810a00090100600105"),
-    ("810a001001040005010c0c0000000519", "810a00090100600104"),
+/// A request, cut to an APDU of 0 to 11 octets with its length mended, as a row of the list.
+static CUT_REQUESTS: [(&str, &str, &str); 12] = [
+    ("810a00060104", "", ""),
+    ("810a0007010400", "", ""),
+    ("810a000801040005", "", ""),
+    ("810a00090104000501", "", ""),
+    ("810a000a01040005010c", "", "810a00090100600105"),
+    ("810a000b01040005010c0c", "", "810a00090100600104"),
+    ("810a000c01040005010c0c00", "", "810a00090100600104"),
+    ("810a000d01040005010c0c0000", "", "810a00090100600104"),
+    ("810a000e01040005010c0c000000", "", "810a00090100600104"),
+    ("810a000f01040005010c0c00000005", "", "810a00090100600105"),
+    ("810a001001040005010c0c0000000519", "", "810a00090100600104"),
     (
         "810a001101040005010c0c000000051955",
+        "",
         "810a0017010030010c0c0000000519553e444290999a3f",
     ),
 ];
 
 #[test]
-fn cut_requests(rt: HostRuntime) {
-    for (text, reply) in CUT_REQUESTS {
-        assert!(&rt; is_plain(rt.alloc(), text, "", reply), "{text}");
+fn plain_datagrams(rt: HostRuntime) {
+    for (text, end, reply) in PLAIN.iter().chain(&CUT_REQUESTS) {
+        assert!(&rt; is_plain(rt.alloc(), text, end, reply), "{text}");
     }
 }
 
 #[test]
-fn ignored(rt: HostRuntime) {
-    for text in IGNORED {
+fn ignored_and_relayed_datagrams(rt: HostRuntime) {
+    for text in &IGNORED {
         assert!(&rt; is_ignored(rt.alloc(), text), "{text}");
     }
-}
-
-#[test]
-fn answers(rt: HostRuntime) {
-    for (text, end) in ANSWERS {
-        assert!(&rt; is_plain(rt.alloc(), text, end, ""), "{text}");
-    }
-}
-
-#[test]
-fn requests(rt: HostRuntime) {
-    for (text, reply) in REQUESTS {
-        assert!(&rt; is_plain(rt.alloc(), text, "", reply), "{text}");
-    }
-}
-
-#[test]
-fn strays(rt: HostRuntime) {
-    for text in STRAYS {
-        assert!(&rt; is_plain(rt.alloc(), text, "", ""), "{text}");
-    }
-}
-
-#[test]
-fn relayed(rt: HostRuntime) {
-    for row in RELAYED {
-        assert!(&rt; is_relayed(rt.alloc(), row), "{}", row.datagram);
+    for row in &RELAYED {
+        assert!(&rt; is_relayed(rt.alloc(), *row), "{}", row.datagram);
     }
 }

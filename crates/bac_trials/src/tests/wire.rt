@@ -1,4 +1,4 @@
-//! What no proof says: worked rows from outside.
+//! Frames, and worked rows of tags, values and regions.
 
 mod frames;
 mod rows;

@@ -1,10 +1,11 @@
 //! Answers that are cut or damaged.
 
-use crate::tests::client::{DEVICE, asking, octets, reading_from, routed};
+use crate::tests::client::{asking, routed};
+use crate::tests::{CONTROLLER, READ_PROPERTY, octets};
 use bac_tsm::{Client, Outcome};
 
 /// Answers to the first request, which is a write.
-const ANSWERS_TO_A_WRITE: [&str; 4] = [
+static ANSWERS_TO_A_WRITE: [&str; 4] = [
     "810a0009010020010f",
     "810a000d010050010f91029109",
     "810a000d010050010f91029125",
@@ -14,72 +15,68 @@ const ANSWERS_TO_A_WRITE: [&str; 4] = [
 /// Whether no front of the datagram is taken.
 fn fronts_are_dropped(client: &mut Client, datagram: &[u8]) -> bool {
     for count in 0..datagram.len() {
-        if client.datagram(DEVICE, &datagram[..count]).is_some() {
+        if client.datagram(CONTROLLER, &datagram[..count]).is_some() {
             return false;
         }
     }
     true
 }
 
-/// Whether the datagram is not taken with some bits of the octet at this place changed.
-fn changes_are_dropped(client: &mut Client, text: &str, place: usize) -> bool {
+/// Whether the datagram is not taken with some bits of the octet at this place changed. Afterwards it is as it was.
+fn changes_are_dropped(client: &mut Client, datagram: &mut [u8], place: usize) -> bool {
+    let Some(octet) = datagram.get(place).copied() else {
+        return false;
+    };
     for change in 1..=255_u8 {
-        let mut datagram = octets(text);
-        if let Some(octet) = datagram.get_mut(place) {
-            *octet ^= change;
-        }
-        if client.datagram(DEVICE, datagram.as_slice()).is_some() {
+        datagram[place] = octet ^ change;
+        if client.datagram(CONTROLLER, datagram).is_some() {
             return false;
         }
     }
+    datagram[place] = octet;
     true
 }
 
 /// Whether the datagram is taken only whole and under its own length, and nothing changes until then.
-fn is_taken_whole(mut client: Client, text: &str) -> bool {
-    let datagram = octets(text);
-    fronts_are_dropped(&mut client, datagram.as_slice())
-        && changes_are_dropped(&mut client, text, 2)
-        && changes_are_dropped(&mut client, text, 3)
+fn is_taken_whole(mut client: Client, datagram: &mut [u8]) -> bool {
+    fronts_are_dropped(&mut client, datagram)
+        && changes_are_dropped(&mut client, datagram, 2)
+        && changes_are_dropped(&mut client, datagram, 3)
         && client.open_count() == 1
         && client.number_of(0) == Some(1)
-        && client.datagram(DEVICE, datagram.as_slice()).is_some()
+        && client.datagram(CONTROLLER, datagram).is_some()
 }
 
+// The octet at place 8 of an answer that was routed counts the octets of the source's address.
 #[test]
-fn answers_to_a_write_are_taken_whole(rt: HostRuntime) {
-    for text in ANSWERS_TO_A_WRITE {
-        assert!(&rt; is_taken_whole(asking(DEVICE, 15), text), "{text}");
+fn answers_are_taken_whole(rt: HostRuntime) {
+    for text in &ANSWERS_TO_A_WRITE {
+        let mut datagram = octets(&rt, text);
+        let client = asking(CONTROLLER, 15);
+        assert!(&rt; is_taken_whole(client, datagram.as_mut_slice()), "{text}");
     }
-}
-
-// The octet at place 8 counts the octets of the source's address.
-#[test]
-fn a_routed_answer_is_taken_whole(rt: HostRuntime) {
     let text = "810a001b01080005010730010c0c0000000519553e444290999a3f";
-    let mut client = reading_from(routed(7));
-    assert!(&rt; changes_are_dropped(&mut client, text, 8));
-    assert!(&rt; is_taken_whole(client, text));
-}
-
-/// How an Error ends the read, with some bits of the octet at this place changed.
-fn is_bad_error(place: usize, change: u8) -> bool {
-    let mut datagram = octets("810a000d010050010c91029120");
-    if let Some(octet) = datagram.get_mut(place) {
-        *octet ^= change;
-    }
-    let mut client = reading_from(DEVICE);
-    let ended = client.datagram(DEVICE, datagram.as_slice());
-    ended.is_some_and(|ended| ended.outcome == Outcome::BadError)
+    let mut datagram = octets(&rt, text);
+    let mut client = asking(routed(7), READ_PROPERTY);
+    assert!(&rt; changes_are_dropped(&mut client, datagram.as_mut_slice(), 8));
+    assert!(&rt; is_taken_whole(client, datagram.as_mut_slice()));
 }
 
 // The tags of the class and of the code are at places 9 and 11.
 #[test]
 fn an_error_under_other_tags(rt: HostRuntime) {
-    for change in 1..=255_u8 {
-        assert!(&rt;
-            is_bad_error(9, change) && is_bad_error(11, change),
-            "{change}"
-        );
+    for place in [9_usize, 11] {
+        for change in 1..=255_u8 {
+            let mut datagram = octets(&rt, "810a000d010050010c91029120");
+            if let Some(octet) = datagram.get_mut(place) {
+                *octet ^= change;
+            }
+            let mut client = asking(CONTROLLER, READ_PROPERTY);
+            let is_bad_error = match client.datagram(CONTROLLER, datagram.as_slice()) {
+                Some(ended) => ended.outcome == Outcome::BadError,
+                None => false,
+            };
+            assert!(&rt; is_bad_error, "{place} {change}");
+        }
     }
 }

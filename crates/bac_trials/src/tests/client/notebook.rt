@@ -123,12 +123,12 @@ impl Notebook {
 
     /// Whether it keeps these notes, at these positions, and no others.
     pub(crate) fn has(&self, notes: &[(usize, Note<'_>)]) -> bool {
+        for (kept, note) in self.kept.iter().zip(notes) {
+            if kept.note() != *note {
+                return false;
+            }
+        }
         self.kept.len() == notes.len()
-            && self
-                .kept
-                .iter()
-                .zip(notes)
-                .all(|(kept, note)| kept.note() == *note)
     }
 }
 

@@ -1,13 +1,9 @@
 //! Whole runs.
 
 use crate::tests::client::notebook::Notebook;
-use crate::tests::client::{BODY, DEVICE, READ_PROPERTY, VALUE, answer, request};
-use bac_tsm::{Config, Ended, Event, Note, Outcome, SubmitFault, run};
-
-const USUAL: Config = Config {
-    timeout: 3000,
-    retries: 3,
-};
+use crate::tests::client::{USUAL, VALUE, answer};
+use crate::tests::{BODY, CONTROLLER, READ_PROPERTY, request};
+use bac_tsm::{Ended, Event, Note, Outcome, SubmitFault, run};
 
 /// Whether the book has a read that was sent so, its value, and an answer that came too late.
 fn has_a_read<'n>(book: &Notebook, sent: &'n [u8], body: &'n [u8]) -> bool {
@@ -16,20 +12,24 @@ fn has_a_read<'n>(book: &Notebook, sent: &'n [u8], body: &'n [u8]) -> bool {
         outcome: Outcome::Complex(body),
     };
     book.has(&[
-        (0, Note::Sent(0, DEVICE, sent)),
+        (0, Note::Sent(0, CONTROLLER, sent)),
         (2, Note::Done(ended)),
         (3, Note::Dropped),
     ])
 }
 
 #[test]
-fn a_read_and_its_answers(rt: HostRuntime) {
+fn no_event_and_a_read_and_its_answers(rt: HostRuntime) {
+    let mut book = Notebook::new(16);
+    let client = run(USUAL, 0, &[], &mut book);
+    assert!(&rt; book.has(&[]) && !book.has_dropped);
+    assert!(&rt; client.open_count() == 0 && client.clock() == 0);
     let value = answer(1);
     let events = [
-        Event::Ask(DEVICE, READ_PROPERTY, &BODY),
+        Event::Ask(CONTROLLER, READ_PROPERTY, &BODY),
         Event::Tick(2999),
-        Event::Data(DEVICE, &value),
-        Event::Data(DEVICE, &value),
+        Event::Data(CONTROLLER, &value),
+        Event::Data(CONTROLLER, &value),
         Event::Tick(6000),
     ];
     let mut book = Notebook::new(16);
@@ -45,7 +45,7 @@ fn a_read_and_its_answers(rt: HostRuntime) {
 #[test]
 fn retries_and_a_leap(rt: HostRuntime) {
     let events = [
-        Event::Ask(DEVICE, READ_PROPERTY, &BODY),
+        Event::Ask(CONTROLLER, READ_PROPERTY, &BODY),
         Event::Tick(2999),
         Event::Tick(3000),
         Event::Tick(60000),
@@ -59,10 +59,10 @@ fn retries_and_a_leap(rt: HostRuntime) {
     let sent = request(1);
     assert!(&rt;
         book.has(&[
-            (0, Note::Sent(0, DEVICE, &sent)),
-            (2, Note::Sent(0, DEVICE, &sent)),
-            (3, Note::Sent(0, DEVICE, &sent)),
-            (6, Note::Sent(0, DEVICE, &sent)),
+            (0, Note::Sent(0, CONTROLLER, &sent)),
+            (2, Note::Sent(0, CONTROLLER, &sent)),
+            (3, Note::Sent(0, CONTROLLER, &sent)),
+            (6, Note::Sent(0, CONTROLLER, &sent)),
             (7, Note::TimedOut(0))
         ])
     );
@@ -74,9 +74,9 @@ fn retries_and_a_leap(rt: HostRuntime) {
 #[test]
 fn two_are_due_at_one_tick(rt: HostRuntime) {
     let events = [
-        Event::Ask(DEVICE, READ_PROPERTY, &BODY),
+        Event::Ask(CONTROLLER, READ_PROPERTY, &BODY),
         Event::Tick(1000),
-        Event::Ask(DEVICE, READ_PROPERTY, &BODY),
+        Event::Ask(CONTROLLER, READ_PROPERTY, &BODY),
         Event::Tick(3000),
         Event::Tick(6000),
     ];
@@ -86,11 +86,11 @@ fn two_are_due_at_one_tick(rt: HostRuntime) {
     let younger = request(2);
     assert!(&rt;
         book.has(&[
-            (0, Note::Sent(7, DEVICE, &older)),
-            (2, Note::Sent(8, DEVICE, &younger)),
-            (3, Note::Sent(7, DEVICE, &older)),
-            (4, Note::Sent(7, DEVICE, &older)),
-            (4, Note::Sent(8, DEVICE, &younger))
+            (0, Note::Sent(7, CONTROLLER, &older)),
+            (2, Note::Sent(8, CONTROLLER, &younger)),
+            (3, Note::Sent(7, CONTROLLER, &older)),
+            (4, Note::Sent(7, CONTROLLER, &older)),
+            (4, Note::Sent(8, CONTROLLER, &younger))
         ])
     );
     assert!(&rt; !book.has_dropped);
@@ -103,11 +103,11 @@ fn a_watcher_that_drops_notes(rt: HostRuntime) {
     let value = answer(1);
     let events = [
         Event::Tick(7),
-        Event::Ask(DEVICE, READ_PROPERTY, &BODY),
-        Event::Ask(DEVICE, READ_PROPERTY, &[7; 477]),
-        Event::Ask(DEVICE, READ_PROPERTY, &BODY),
-        Event::Data(DEVICE, &value),
-        Event::Data(DEVICE, &value),
+        Event::Ask(CONTROLLER, READ_PROPERTY, &BODY),
+        Event::Ask(CONTROLLER, READ_PROPERTY, &[7; 477]),
+        Event::Ask(CONTROLLER, READ_PROPERTY, &BODY),
+        Event::Data(CONTROLLER, &value),
+        Event::Data(CONTROLLER, &value),
         Event::Tick(3007),
         Event::Tick(6007),
     ];
@@ -118,7 +118,7 @@ fn a_watcher_that_drops_notes(rt: HostRuntime) {
         if room == 2 {
             assert!(&rt;
                 book.has(&[
-                    (1, Note::Sent(5, DEVICE, &sent)),
+                    (1, Note::Sent(5, CONTROLLER, &sent)),
                     (2, Note::Refused(SubmitFault::TooLong))
                 ])
             );
@@ -126,18 +126,10 @@ fn a_watcher_that_drops_notes(rt: HostRuntime) {
         assert!(&rt; book.has_dropped == (room == 2));
         assert!(&rt; client.open_count() == 1 && client.clock() == 6007);
         assert!(&rt; client.number_of(5).is_none() && client.number_of(6) == Some(2));
-        assert!(&rt; client.to_send(6) == Some((DEVICE, request(2).as_slice())));
+        assert!(&rt; client.to_send(6) == Some((CONTROLLER, request(2).as_slice())));
         assert!(&rt; client.tick(9006).as_slice().is_empty());
         assert!(&rt; client.tick(9007).as_slice().len() == 1);
-        assert!(&rt; client.submit(DEVICE, READ_PROPERTY, &BODY) == Ok(7));
+        assert!(&rt; client.submit(CONTROLLER, READ_PROPERTY, &BODY) == Ok(7));
         assert!(&rt; client.number_of(7) == Some(3));
     }
-}
-
-#[test]
-fn an_empty_run(rt: HostRuntime) {
-    let mut book = Notebook::new(16);
-    let client = run(USUAL, 0, &[], &mut book);
-    assert!(&rt; book.has(&[]) && !book.has_dropped);
-    assert!(&rt; client.open_count() == 0 && client.clock() == 0);
 }

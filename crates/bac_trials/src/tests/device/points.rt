@@ -1,4 +1,4 @@
-use crate::tests::device::small_device;
+use crate::tests::small_device;
 use bac_device::{AddFault, Device, DeviceInfo, POINTS, Point};
 use bac_wire::ObjectId;
 
@@ -45,35 +45,30 @@ fn refused_points(rt: HostRuntime) {
     }
 }
 
-/// A device with this many analog inputs, each with another name.
-fn with_inputs(count: u8) -> Option<Device> {
+/// A device with 31 analog inputs, each with another name.
+fn with_inputs() -> Option<Device> {
     let mut device = Device::new(DeviceInfo::new(1, "x")?);
-    for number in 0..count {
-        let name = ["a", "b", "c", "d", "e", "f", "g", "h"][usize::from(number % 8)];
-        let pair = [b'0' + number / 8, name.as_bytes().first().copied()?];
-        let text = std::str::from_utf8(&pair).ok()?;
-        let _ = added(&mut device, 0, u32::from(number), text, 0, 0)?;
+    for number in 0..31_u8 {
+        let pair = [b'0' + number / 8, b'a' + number % 8];
+        let name = std::str::from_utf8(&pair).ok()?;
+        let _ = added(&mut device, 0, u32::from(number), name, 0, 0)?;
     }
     Some(device)
 }
 
 #[test]
-fn thirty_three_points(rt: HostRuntime) {
-    let mut last = None;
-    if let Some(mut device) = with_inputs(31) {
-        let before = added(&mut device, 0, 98, "last", 0, 0);
-        assert!(&rt; before == Some(Ok(())));
-        last = added(&mut device, 0, 99, "one more", 0, 0);
-    }
-    assert!(&rt; POINTS == 32);
-    assert!(&rt; last == Some(Err(AddFault::TooMany)));
-}
-
-#[test]
-fn device_infos(rt: HostRuntime) {
+fn device_infos_and_thirty_three_points(rt: HostRuntime) {
     assert!(&rt; DeviceInfo::new(4_194_303, "x").is_none());
     assert!(&rt; DeviceInfo::new(1, "").is_none());
     assert!(&rt; DeviceInfo::new(4_194_302, "x").is_some());
+    assert!(&rt; POINTS == 32);
+    let Some(mut device) = with_inputs() else {
+        panic!(&rt; "no device");
+    };
+    let before = added(&mut device, 0, 98, "last", 0, 0);
+    assert!(&rt; before == Some(Ok(())));
+    let last = added(&mut device, 0, 99, "one more", 0, 0);
+    assert!(&rt; last == Some(Err(AddFault::TooMany)));
 }
 
 #[test]
@@ -84,8 +79,7 @@ fn places(rt: HostRuntime) {
         ObjectId::new(0, 99),
         ObjectId::new(0, 5),
     ) else {
-        assert!(&rt; false, "no device");
-        return;
+        panic!(&rt; "no device");
     };
     assert!(&rt; device.present(missing).is_none());
     assert!(&rt; device.present(input) == Some(0x4290_999a));

@@ -1,12 +1,12 @@
 ghost use Rattle.bac_pdu.specs.Apdu.{IsWritable, message};
 
-use crate::tests::pdu::octets;
+use crate::tests::octets;
 use bac_pdu::{Apdu, Part, announced, read_apdu, write_apdu};
 use bac_wire::Frame;
 use std::process::Abort;
 
 /// Reads as this APDU, which is written with the same octets.
-fn is_read_and_written(rt: &impl Abort, text: &str, apdu: Apdu<'_>) -> bool {
+fn is_read_and_written<H: Abort + AllocGlobal>(rt: &H, text: &str, apdu: Apdu<'_>) -> bool {
     let apdu_octets = octets(rt, text);
     let mut frame = Frame::new();
     let written = match apdu {
@@ -63,7 +63,7 @@ const LAST: Part = Part {
 };
 
 #[test]
-fn requests(rt: HostRuntime) {
+fn requests_and_answers(rt: HostRuntime) {
     let body = octets(&rt, "0c000000051955");
     assert!(&rt;
         is_read_and_written(
@@ -79,10 +79,6 @@ fn requests(rt: HostRuntime) {
         body: body.as_slice(),
     };
     assert!(&rt; is_read_and_written(&rt, "10080a03e81a04d2", who_is));
-}
-
-#[test]
-fn answers(rt: HostRuntime) {
     assert!(&rt; is_read_and_written(&rt, "20010f", Apdu::SimpleAck { id: 1, service: 15 }));
     let body = octets(&rt, "0c0000000519553e444290999a3f");
     let whole = answer(None, body.as_slice());
@@ -102,8 +98,30 @@ fn answers(rt: HostRuntime) {
     assert!(&rt; is_read_and_written(&rt, "710104", abort(true)));
 }
 
+/// APDUs that are cut.
+static CUT: [&str; 18] = [
+    "",
+    "00",
+    "0005",
+    "000501",
+    "08050100",
+    "0805010001",
+    "10",
+    "20",
+    "2001",
+    "30",
+    "3001",
+    "38010001",
+    "50",
+    "5001",
+    "60",
+    "6001",
+    "70",
+    "7101",
+];
+
 #[test]
-fn not_looked_at(rt: HostRuntime) {
+fn what_is_not_looked_at_and_what_is_unreadable(rt: HostRuntime) {
     assert!(&rt; read_apdu(&[0x40, 1, 0, 1]) == Some(Apdu::SegmentAck));
     assert!(&rt; read_apdu(&[0x4f]) == Some(Apdu::SegmentAck));
     // The greatest number of segments, the bit that segments are taken, the reserved bits, and MOR without SEG.
@@ -118,31 +136,7 @@ fn not_looked_at(rt: HostRuntime) {
     assert!(&rt; read_apdu(&[0x2f, 1, 15, 9, 9]) == Some(Apdu::SimpleAck { id: 1, service: 15 }));
     assert!(&rt; read_apdu(&[0x6f, 1, 9, 9]) == Some(Apdu::Reject { id: 1, reason: 9 }));
     assert!(&rt; read_apdu(&[0x7e, 1, 4, 9]) == Some(abort(false)));
-}
-
-#[test]
-fn unreadable(rt: HostRuntime) {
-    let cut = [
-        "",
-        "00",
-        "0005",
-        "000501",
-        "08050100",
-        "0805010001",
-        "10",
-        "20",
-        "2001",
-        "30",
-        "3001",
-        "38010001",
-        "50",
-        "5001",
-        "60",
-        "6001",
-        "70",
-        "7101",
-    ];
-    for text in cut {
+    for text in &CUT {
         let apdu = octets(&rt, text);
         assert!(&rt; read_apdu(apdu.as_slice()).is_none(), "{text}");
     }
@@ -152,17 +146,13 @@ fn unreadable(rt: HostRuntime) {
 }
 
 #[test]
-fn full_frame(rt: HostRuntime) {
+fn a_full_frame_and_announced_sizes(rt: HostRuntime) {
     let mut frame = Frame::new();
     assert!(&rt; frame.append(&[0; 1490]).is_ok());
     assert!(&rt; write_apdu(&mut frame, &error(&[0; 5])).is_err());
     assert!(&rt; frame.len() == 1490);
     assert!(&rt; write_apdu(&mut frame, &error(&[0; 4])).is_ok());
     assert!(&rt; frame.len() == 1497);
-}
-
-#[test]
-fn announced_sizes(rt: HostRuntime) {
     for (code, size) in [
         (0, 50),
         (1, 128),

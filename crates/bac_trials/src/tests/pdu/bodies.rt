@@ -1,4 +1,4 @@
-use crate::tests::pdu::octets;
+use crate::tests::octets;
 use bac_pdu::{
     Ack, IAm, ReadRequest, RejectReason, WhoIs, WriteRequest, read_ack, read_error, read_iam,
     read_read, read_whois, read_write, write_ack, write_error, write_iam, write_read, write_whois,
@@ -8,7 +8,12 @@ use bac_wire::{Frame, ObjectId, is_region};
 use std::process::Abort;
 
 /// Whether the octets are read as this request to read, which is written so.
-fn is_read_request(rt: &impl Abort, text: &str, property: u32, index: Option<u32>) -> bool {
+fn is_read_request<H: Abort + AllocGlobal>(
+    rt: &H,
+    text: &str,
+    property: u32,
+    index: Option<u32>,
+) -> bool {
     let body = octets(rt, text);
     let Some(object) = ObjectId::new(0, 5) else {
         return false
@@ -25,7 +30,7 @@ fn is_read_request(rt: &impl Abort, text: &str, property: u32, index: Option<u32
 }
 
 /// Whether the octets are read as this answer, which is written so.
-fn is_answer(rt: &impl Abort, text: &str, value: &str) -> bool {
+fn is_answer<H: Abort + AllocGlobal>(rt: &H, text: &str, value: &str) -> bool {
     let body = octets(rt, text);
     let value = octets(rt, value);
     let Some(object) = ObjectId::new(0, 5) else {
@@ -45,7 +50,13 @@ fn is_answer(rt: &impl Abort, text: &str, value: &str) -> bool {
 }
 
 /// Whether the octets are read as this order for the property 85, which is written so.
-fn is_order(rt: &impl Abort, text: &str, instance: u32, value: &str, priority: Option<u8>) -> bool {
+fn is_order<H: Abort + AllocGlobal>(
+    rt: &H,
+    text: &str,
+    instance: u32,
+    value: &str,
+    priority: Option<u8>,
+) -> bool {
     let body = octets(rt, text);
     let value = octets(rt, value);
     let Some(object) = ObjectId::new(1, instance) else {
@@ -77,11 +88,11 @@ fn read_property(rt: HostRuntime) {
     assert!(&rt; is_read_request(&rt, "0c000000051affff2cffffffff", 65535, Some(u32::MAX)));
     // A property in more octets than it needs, and tags in longer forms.
     let body = octets(&rt, "fd000400000005fd010200552a0001");
-    assert!(&rt;
-        read_read(body.as_slice()).is_ok_and(|r| r.property == 85
-            && r.index == Some(1)
-            && r.object.instance() == 5)
-    );
+    let Ok(request) = read_read(body.as_slice()) else {
+        panic!(&rt; "no request");
+    };
+    assert!(&rt; request.property == 85 && request.index == Some(1));
+    assert!(&rt; request.object.instance() == 5);
 }
 
 #[test]
@@ -93,10 +104,10 @@ fn read_property_answer(rt: HostRuntime) {
     assert!(&rt; is_answer(&rt, "0c0000000519553e3e3f3f", "3e3f"));
     assert!(&rt; is_answer(&rt, "0c0000000519553e3f", ""));
     let body = octets(&rt, "0c00000005195529013e72003f3f");
-    assert!(&rt;
-        read_ack(body.as_slice()).is_some_and(|a| a.index == Some(1)
-            && a.value == [0x72, 0, 0x3f].as_slice())
-    );
+    let Some(ack) = read_ack(body.as_slice()) else {
+        panic!(&rt; "no answer");
+    };
+    assert!(&rt; ack.index == Some(1) && ack.value == [0x72, 0, 0x3f].as_slice());
     for text in [
         "",
         "0c00000005",
@@ -143,69 +154,67 @@ fn write_property(rt: HostRuntime) {
     );
 }
 
-#[test]
-fn rejected_reads(rt: HostRuntime) {
-    let rows = [
-        ("", RejectReason::MissingParameter),
-        ("0c00000005", RejectReason::MissingParameter),
-        ("0c0000000519", RejectReason::InvalidTag),
-        ("0c00000005195500", RejectReason::TooMany),
-        ("0c00000005195529", RejectReason::TooMany),
-        ("0c000000051955290129", RejectReason::TooMany),
-        ("0b000005", RejectReason::InvalidTag),
-        ("0c0000000519554911", RejectReason::TooMany),
-        ("0c0000000518", RejectReason::InvalidTag),
-        ("0c000000051d050000000000", RejectReason::InvalidTag),
-        ("0c000000052955", RejectReason::InvalidTag),
-        ("0c0dffffffffff", RejectReason::InvalidTag),
-        ("c400000005", RejectReason::InvalidTag),
-    ];
-    for (text, reason) in rows {
-        let body = octets(&rt, text);
-        assert!(&rt; read_read(body.as_slice()) == Err(reason), "{text}");
-    }
-}
+/// Bodies that are no request to read, and the first reason that applies.
+static REJECTED_READS: [(&str, RejectReason); 13] = [
+    ("", RejectReason::MissingParameter),
+    ("0c00000005", RejectReason::MissingParameter),
+    ("0c0000000519", RejectReason::InvalidTag),
+    ("0c00000005195500", RejectReason::TooMany),
+    ("0c00000005195529", RejectReason::TooMany),
+    ("0c000000051955290129", RejectReason::TooMany),
+    ("0b000005", RejectReason::InvalidTag),
+    ("0c0000000519554911", RejectReason::TooMany),
+    ("0c0000000518", RejectReason::InvalidTag),
+    ("0c000000051d050000000000", RejectReason::InvalidTag),
+    ("0c000000052955", RejectReason::InvalidTag),
+    ("0c0dffffffffff", RejectReason::InvalidTag),
+    ("c400000005", RejectReason::InvalidTag),
+];
+
+/// The same of requests to write.
+static REJECTED_WRITES: [(&str, RejectReason); 16] = [
+    ("", RejectReason::MissingParameter),
+    ("0c00400001", RejectReason::MissingParameter),
+    ("0c004000011955", RejectReason::MissingParameter),
+    ("0c0040000119552901", RejectReason::MissingParameter),
+    ("0c0040000119553e4441f000003f4900", RejectReason::OutOfRange),
+    ("0c0040000119553e4441f000003f4911", RejectReason::OutOfRange),
+    (
+        "0c0040000119553e4441f000003f4cffffffff",
+        RejectReason::OutOfRange,
+    ),
+    ("0c0040000119553e4441f000003f491100", RejectReason::TooMany),
+    ("0c0040000119553e4441f000003f491000", RejectReason::TooMany),
+    ("0c0040000119553e4441f000003f48", RejectReason::TooMany),
+    ("0c0040000119553e003f3f", RejectReason::TooMany),
+    ("0c0040000119553e4441f00000", RejectReason::InvalidTag),
+    ("0c0040000119554441f00000", RejectReason::InvalidTag),
+    ("0c0040000119552e003f", RejectReason::InvalidTag),
+    ("0c0040000119553e002f", RejectReason::InvalidTag),
+    ("0c0dffffffffff", RejectReason::InvalidTag),
+];
+
+/// The number of each reason.
+const REASONS: [(RejectReason, u8); 5] = [
+    (RejectReason::InvalidTag, 4),
+    (RejectReason::MissingParameter, 5),
+    (RejectReason::OutOfRange, 6),
+    (RejectReason::TooMany, 7),
+    (RejectReason::UnknownService, 9),
+];
 
 #[test]
-fn rejected_writes(rt: HostRuntime) {
-    let rows = [
-        ("", RejectReason::MissingParameter),
-        ("0c00400001", RejectReason::MissingParameter),
-        ("0c004000011955", RejectReason::MissingParameter),
-        ("0c0040000119552901", RejectReason::MissingParameter),
-        ("0c0040000119553e4441f000003f4900", RejectReason::OutOfRange),
-        ("0c0040000119553e4441f000003f4911", RejectReason::OutOfRange),
-        (
-            "0c0040000119553e4441f000003f4cffffffff",
-            RejectReason::OutOfRange,
-        ),
-        ("0c0040000119553e4441f000003f491100", RejectReason::TooMany),
-        ("0c0040000119553e4441f000003f491000", RejectReason::TooMany),
-        ("0c0040000119553e4441f000003f48", RejectReason::TooMany),
-        ("0c0040000119553e003f3f", RejectReason::TooMany),
-        ("0c0040000119553e4441f00000", RejectReason::InvalidTag),
-        ("0c0040000119554441f00000", RejectReason::InvalidTag),
-        ("0c0040000119552e003f", RejectReason::InvalidTag),
-        ("0c0040000119553e002f", RejectReason::InvalidTag),
-        ("0c0dffffffffff", RejectReason::InvalidTag),
-    ];
-    for (text, reason) in rows {
+fn rejected_reads_and_writes(rt: HostRuntime) {
+    for (text, reason) in &REJECTED_READS {
         let body = octets(&rt, text);
-        assert!(&rt; read_write(body.as_slice()) == Err(reason), "{text}");
+        assert!(&rt; read_read(body.as_slice()) == Err(*reason), "{text}");
     }
-}
-
-#[test]
-fn reason_numbers(rt: HostRuntime) {
-    let rows = [
-        (RejectReason::InvalidTag, 4),
-        (RejectReason::MissingParameter, 5),
-        (RejectReason::OutOfRange, 6),
-        (RejectReason::TooMany, 7),
-        (RejectReason::UnknownService, 9),
-    ];
-    for (reason, number) in rows {
-        assert!(&rt; reason.number() == number);
+    for (text, reason) in &REJECTED_WRITES {
+        let body = octets(&rt, text);
+        assert!(&rt; read_write(body.as_slice()) == Err(*reason), "{text}");
+    }
+    for (reason, number) in REASONS {
+        assert!(&rt; reason.number() == number, "{number}");
     }
 }
 

@@ -3,9 +3,10 @@
 use bac_wire::{FRAME_OCTETS, Frame};
 
 #[test]
-fn a_frame_holds_so_many_octets_and_no_more(rt: HostRuntime) {
+fn a_frame_is_filled_cut_and_cleared(rt: HostRuntime) {
     let octets = [7; FRAME_OCTETS];
     let mut frame = Frame::new();
+    assert!(&rt; frame.is_empty());
     assert!(&rt; frame.append(&octets[..1496]).is_ok());
     assert!(&rt; frame.append(&[1, 2]).is_err());
     assert!(&rt; frame.len() == 1496);
@@ -14,11 +15,7 @@ fn a_frame_holds_so_many_octets_and_no_more(rt: HostRuntime) {
     assert!(&rt; frame.append(&[]).is_ok());
     assert!(&rt; frame.append(&[1]).is_err());
     assert!(&rt; frame.as_slice().ends_with(&[7, 1]));
-}
-
-#[test]
-fn a_frame_is_cut_and_cleared(rt: HostRuntime) {
-    let mut frame = Frame::new();
+    frame.clear();
     assert!(&rt; frame.is_empty());
     assert!(&rt; frame.append(&[1, 2, 3]).is_ok());
     assert!(&rt; frame.len() == 3);

@@ -76,13 +76,12 @@ fn the_other_kinds(rt: HostRuntime) {
 }
 
 #[test]
-fn a_longer_spelling_is_read_and_written_shortest(rt: HostRuntime) {
+fn spellings_that_are_longer_or_past_the_input(rt: HostRuntime) {
     assert!(&rt; read_value(&[0x22, 0x00, 0x05]) == Some((Value::Unsigned(5), 3)));
     assert!(&rt; written(&Value::Unsigned(5)).as_slice() == [0x21, 0x05].as_slice());
-}
-
-#[test]
-fn long_strings(rt: HostRuntime) {
+    assert!(&rt; read_value(&[0x65, 0xfe, 0xff, 0xff, 0x00]).is_none());
+    assert!(&rt; read_value(&[0x65, 0xff, 0xff, 0xff, 0xff]).is_none());
+    assert!(&rt; read_value(&[0x65, 0xff, 0xff, 0xff, 0xff, 0xff]).is_none());
     let octets = [0; 1494];
     assert!(&rt;
         written(&Value::Octets(&octets[..253]))
@@ -100,60 +99,37 @@ fn long_strings(rt: HostRuntime) {
     assert!(&rt; frame.is_empty());
 }
 
-#[test]
-fn lengths_past_the_input_are_no_value(rt: HostRuntime) {
-    assert!(&rt; read_value(&[0x65, 0xfe, 0xff, 0xff, 0x00]).is_none());
-    assert!(&rt; read_value(&[0x65, 0xff, 0xff, 0xff, 0xff]).is_none());
-    assert!(&rt; read_value(&[0x65, 0xff, 0xff, 0xff, 0xff, 0xff]).is_none());
-}
+/// Octets, and the number and the shape of the tag that they spell.
+const TAGS: [(&[u8], u8, Shape); 4] = [
+    (&[0xf9, 0x14], 20, Shape::Context(1)),
+    (&[0xf9, 0x05], 5, Shape::Context(1)),
+    (&[0x3e], 3, Shape::Opening),
+    (&[0x3f], 3, Shape::Closing),
+];
+
+/// Octets that spell no tag.
+const NO_TAGS: [&[u8]; 3] = [&[0xf9, 0xff], &[0x06, 0x05], &[0x06]];
 
 #[test]
 fn tags(rt: HostRuntime) {
-    let mut frame = Frame::new();
     let twenty = Tag {
         number: 20,
         shape: Shape::Context(1),
     };
+    let mut frame = Frame::new();
     assert!(&rt; write_tag(&mut frame, twenty).is_ok());
     assert!(&rt; frame.as_slice() == [0xf9, 0x14].as_slice());
-    assert!(&rt; read_tag(&[0xf9, 0x14]) == Some((twenty, 2)));
-    assert!(&rt;
-        read_tag(&[0xf9, 0x05])
-            == Some((
-                Tag {
-                    number: 5,
-                    shape: Shape::Context(1)
-                },
-                2
-            ))
-    );
-    assert!(&rt;
-        read_tag(&[0x3e])
-            == Some((
-                Tag {
-                    number: 3,
-                    shape: Shape::Opening
-                },
-                1
-            ))
-    );
-    assert!(&rt;
-        read_tag(&[0x3f])
-            == Some((
-                Tag {
-                    number: 3,
-                    shape: Shape::Closing
-                },
-                1
-            ))
-    );
-    assert!(&rt; read_tag(&[0xf9, 0xff]).is_none());
-    assert!(&rt; read_tag(&[0x06, 0x05]).is_none());
-    assert!(&rt; read_tag(&[0x06]).is_none());
+    for (octets, number, shape) in TAGS {
+        let tag = Tag { number, shape };
+        assert!(&rt; read_tag(octets) == Some((tag, octets.len())), "{tag:?}");
+    }
+    for octets in NO_TAGS {
+        assert!(&rt; read_tag(octets).is_none());
+    }
 }
 
 #[test]
-fn regions(rt: HostRuntime) {
+fn regions_and_nesting(rt: HostRuntime) {
     assert!(&rt; region(&[0x3f]) == Some(0));
     assert!(&rt; region(&[0x00, 0x3f]) == Some(1));
     assert!(&rt; region(&[0x72, 0x00, 0x3f, 0x3f]) == Some(3));
@@ -162,10 +138,6 @@ fn regions(rt: HostRuntime) {
     assert!(&rt; is_region(&[]));
     assert!(&rt; is_region(&[0x00, 0x0e, 0x21, 0x05, 0x0f]));
     assert!(&rt; !is_region(&[0x3f]));
-}
-
-#[test]
-fn nesting(rt: HostRuntime) {
     let mut deepest = [0x0e; 65];
     deepest[32..64].fill(0x0f);
     deepest[64] = 0x3f;
@@ -179,16 +151,12 @@ fn nesting(rt: HostRuntime) {
 }
 
 #[test]
-fn identifiers(rt: HostRuntime) {
+fn identifiers_and_bits(rt: HostRuntime) {
     let last = ObjectId::new(1023, 4194303);
     assert!(&rt; last.map(ObjectId::kind) == Some(1023));
     assert!(&rt; last.map(ObjectId::instance) == Some(4194303));
     assert!(&rt; ObjectId::new(1024, 0).is_none());
     assert!(&rt; ObjectId::new(0, 4194304).is_none());
-}
-
-#[test]
-fn bits(rt: HostRuntime) {
     assert!(&rt; !Value::Bits(8, &[0]).sound());
     assert!(&rt; !Value::Bits(1, &[]).sound());
     assert!(&rt; Value::Bits(0, &[]).sound());

@@ -1,7 +1,0 @@
-use Rattle.std.proofs.Common.{ap, Some}
-use Rattle.bac_links.proofs.tests.failing.read_within.Goals as goal
-
-pub returns-in-Ok : goal.returns-in-Ok
-returns-in-Ok g c =
-    let told = c.in-Ok.ensures.told in
-    (told.0, told.1, (_, told.3 _ (ap Some c.in_ok-link.ensures.told)))

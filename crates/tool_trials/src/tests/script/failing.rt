@@ -1,0 +1,187 @@
+//! Readers and writers that fail, one operation after another.
+use crate::tests::streams::{Progress, Room, Told, in_pieces, octet_by_octet};
+use bac_script::{TraceEnd, TraceFault, trace, trace_status};
+use bac_text::Checked;
+use std::io::{self, ErrorKind, Read};
+use std::process::Abort;
+use std::test::Fail;
+
+const SCRIPT: &str =
+    "read 127.0.0.1:47808 0 5 85\ntick 2999\ntick 3000\ntick 6000\ntick 9000\ntick 12000\n";
+
+/// What the script prints.
+const PRINTED: &str = "send 0 127.0.0.1:47808 810a001101040005010c0c000000051955\n\
+    send 0 127.0.0.1:47808 810a001101040005010c0c000000051955\n\
+    send 0 127.0.0.1:47808 810a001101040005010c0c000000051955\n\
+    send 0 127.0.0.1:47808 810a001101040005010c0c000000051955\n\
+    timeout 0\n";
+
+// Script and text may stand in fixed room: a run asks for no memory, as its signature says.
+#[test]
+fn a_text_in_fixed_room(rt: HostRuntime) {
+    let mut room = [0; PRINTED.len()];
+    let got = trace(
+        &mut Checked::new(in_pieces(SCRIPT, usize::MAX)),
+        &mut Checked::new(room.as_mut_slice()),
+    );
+    assert_eq!(rt; got, Ok(TraceEnd { lines: 6 }));
+    assert_eq!(rt; room.as_slice(), PRINTED.as_bytes());
+}
+
+#[test]
+fn writes_fail_in_turn(rt: HostRuntime) {
+    let text = PRINTED.as_bytes();
+    for left in 0..text.len() {
+        for fails in [true, false] {
+            let mut taken = Vec::new(rt.alloc());
+            let got = {
+                let room = Room {
+                    taken: &mut taken,
+                    left,
+                    fails,
+                };
+                trace(
+                    &mut Checked::new(in_pieces(SCRIPT, usize::MAX)),
+                    &mut Checked::new(room),
+                )
+            };
+            assert_eq!(rt; got, Err(TraceFault::WriteFailed), "after {left}");
+            assert_eq!(rt; taken.as_slice(), &text[..left], "after {left}");
+        }
+    }
+}
+
+/// How many octets of the text are printed once so many octets of the script were read.
+fn printed_after(octets: usize) -> usize {
+    match octets {
+        0..=27 => 0,
+        28..=47 => 58,
+        48..=57 => 116,
+        58..=67 => 174,
+        68..=78 => 232,
+        _ => PRINTED.len(),
+    }
+}
+
+#[test]
+fn reads_fail_in_turn(rt: HostRuntime) {
+    let text = PRINTED.as_bytes();
+    for reads in 0..SCRIPT.len() + 1 {
+        let mut written = Vec::new(rt.alloc());
+        let got = {
+            let mut reader = Checked::new(octet_by_octet(SCRIPT, reads));
+            let mut writer = Checked::new(&mut written);
+            trace(&mut reader, &mut writer)
+        };
+        assert_eq!(rt; got, Err(TraceFault::ReadFailed), "after {reads}");
+        let printed = text.len().min(printed_after(reads));
+        assert_eq!(rt; written.as_slice(), &text[..printed], "after {reads}");
+    }
+}
+
+/// Gives the script an octet at a time, and fails once, at the read with this number.
+#[derive(Drop)]
+struct Asked<'a> {
+    progress: &'a Progress,
+    fails_at: usize,
+}
+
+impl Read for Asked<'_> {
+    fn read(&mut self, buf: &mut [u8]) -> io::Result<usize> {
+        let read = self.progress.read.get();
+        if self.progress.is_broken.get() || self.progress.written.get() < printed_after(read) {
+            self.progress.is_early.set(true);
+        }
+        let reads = self.progress.reads.get();
+        self.progress.reads.set(reads.saturating_add(1));
+        if reads == self.fails_at {
+            return Err(io::Error::from(ErrorKind::Other));
+        }
+        match (SCRIPT.as_bytes().get(read), buf.first_mut()) {
+            (Some(octet), Some(place)) => {
+                *place = *octet;
+                self.progress.read.set(read.saturating_add(1));
+                Ok(1)
+            }
+            _ => Ok(0),
+        }
+    }
+}
+
+/// Runs the script where the read and the write with these numbers fail, and sees how it ends, and that no read came early.
+fn expect_watched(
+    rt: &impl Abort,
+    progress: &Progress,
+    fails: (usize, usize, bool),
+    answer: Result<TraceEnd, TraceFault>,
+) {
+    let (read, write, takes_none) = fails;
+    let mut reader = Checked::new(Asked {
+        progress,
+        fails_at: read,
+    });
+    let mut writer = Checked::new(Told {
+        progress,
+        fails_at: write,
+        takes_none,
+    });
+    let got = trace(&mut reader, &mut writer);
+    assert_eq!(rt; got, answer, "where {read} and {write} fail");
+    assert_eq!(rt;
+        reader.failed(),
+        answer == Err(TraceFault::ReadFailed),
+        "at read {read}"
+    );
+    assert_eq!(rt;
+        writer.failed(),
+        answer == Err(TraceFault::WriteFailed),
+        "at write {write}"
+    );
+    assert!(rt; !progress.is_early.get(), "where {read} and {write} fail");
+}
+
+// At each read all that was printed before is written.
+#[test]
+fn nobody_waits_for_text(rt: HostRuntime) {
+    let progress = Progress::new();
+    let never = (usize::MAX, usize::MAX, false);
+    expect_watched(&rt, &progress, never, Ok(TraceEnd { lines: 6 }));
+    assert_eq!(rt; progress.written.get(), PRINTED.len());
+    assert_eq!(rt; progress.reads.get(), SCRIPT.len() + 1);
+    assert_eq!(rt; progress.writes.get(), 5);
+}
+
+// A reader that fails once is not asked again. Nor is a writer that fails once, or takes nothing once, and nothing is read after
+// that.
+#[test]
+fn what_failed_is_not_asked_again(rt: HostRuntime) {
+    for read in 0..SCRIPT.len() + 1 {
+        let progress = Progress::new();
+        let fails = (read, usize::MAX, false);
+        expect_watched(&rt, &progress, fails, Err(TraceFault::ReadFailed));
+        assert_eq!(rt; progress.reads.get(), read.saturating_add(1), "at {read}");
+    }
+    for write in 0..5 {
+        for takes_none in [true, false] {
+            let progress = Progress::new();
+            let fails = (usize::MAX, write, takes_none);
+            expect_watched(&rt, &progress, fails, Err(TraceFault::WriteFailed));
+            assert_eq!(rt; progress.writes.get(), write + 1, "at {write}");
+        }
+    }
+}
+
+#[test]
+fn statuses_and_messages(rt: HostRuntime) -> Result<(), Fail> {
+    assert_eq!(rt; trace_status(&Ok(TraceEnd { lines: 3 })), 0);
+    for (fault, status, message) in [
+        (TraceFault::BadLine(2), 2, "line 2: bad line"),
+        (TraceFault::LineTooLong(17), 2, "line 17: too long"),
+        (TraceFault::ReadFailed, 3, "reading failed"),
+        (TraceFault::WriteFailed, 3, "writing failed"),
+    ] {
+        assert_eq!(rt; trace_status(&Err(fault)), status);
+        assert_eq!(rt; format!(in rt.alloc(); "{fault}")?.as_str(), message);
+    }
+    Ok(())
+}

@@ -1,0 +1,5 @@
+//! Words and texts.
+
+mod checked;
+mod pairs;
+mod texts;

@@ -1,0 +1,34 @@
+//! Readers and writers that fail.
+use crate::tests::streams::{Room, octet_by_octet};
+use bac_text::{Checked, WriteFailed, show_value};
+use std::io::{Read, Write};
+
+#[test]
+fn a_fresh_reader_has_not_failed(rt: HostRuntime) {
+    let mut reader = Checked::new(octet_by_octet("aa", 1));
+    let mut octets = [0; 4];
+    assert!(rt; !reader.failed());
+    assert_eq!(rt; reader.reads(), 0);
+    assert!(rt; reader.read(&mut octets).is_ok());
+    assert!(rt; !reader.failed());
+    assert!(rt; reader.read(&mut octets).is_err());
+    assert!(rt; reader.failed());
+    assert_eq!(rt; reader.reads(), 2);
+}
+
+// A flush answers what the writer's own does, and is no failed write. A writer that takes none of an octet has failed.
+#[test]
+fn a_full_writer_has_failed_and_a_flush_has_not(rt: HostRuntime) {
+    for fails in [true, false] {
+        let mut taken = Vec::new(rt.alloc());
+        let mut writer = Checked::new(Room {
+            taken: &mut taken,
+            left: 0,
+            fails,
+        });
+        assert_eq!(rt; writer.flush().is_err(), fails);
+        assert!(rt; !writer.failed());
+        assert_eq!(rt; show_value(b"\x00", &mut writer), Err(WriteFailed));
+        assert!(rt; writer.failed());
+    }
+}

@@ -1,0 +1,19 @@
+//! Command lines.
+
+mod calls;
+mod help;
+mod others;
+mod ranges;
+mod refusals;
+
+use crate::tests::{LOCALHOST, P, Q, expect_digits};
+use bac_text::Call;
+use bac_words::{Job, UsageFault, parse_words, usage_status};
+use std::process::Abort;
+use std::test::Fail;
+
+/// The words of a line, cut at spaces, of which the first is the program's name.
+fn parse<H: Abort + AllocGlobal>(rt: &H, line: &str) -> Result<Job, UsageFault> {
+    let words: Vec<&str> = line.split(' ').collect(rt.alloc())?;
+    parse_words(rt.alloc(), words.as_slice())
+}

@@ -1,0 +1,166 @@
+//! Requests to read and to write.
+use super::*;
+use crate::tests::repeated;
+
+/// Words of `bacrp`, and the body of the request.
+static READS: [(&str, &str); 5] = [
+    (
+        "bactool bacrp 1234 0 5 85 --mac 127.0.0.1:47808",
+        "0c000000051955",
+    ),
+    (
+        "bactool bacrp 1234 0 5 85 --mac 127.0.0.1",
+        "0c000000051955",
+    ),
+    (
+        "bactool bacrp 1234 1 1 87 0 --mac=127.0.0.1",
+        "0c0040000119572900",
+    ),
+    (
+        "bactool bacrp --mac 127.0.0.1 -- 1234 0 5 85",
+        "0c000000051955",
+    ),
+    (
+        "bactool bacrp --mac 127.0.0.1 4194303 1023 4194303 4194303 4294967295",
+        "0cffffffff1b3fffff2cffffffff",
+    ),
+];
+
+/// Words of `bacwp`, and the body of the request.
+static WRITES: [(&str, &str); 13] = [
+    (
+        "bactool bacwp 1234 2 2 85 16 -1 3 -5 --mac 127.0.0.1",
+        "0c0080000219553e31fb3f4910",
+    ),
+    (
+        "bactool bacwp 1234 1 1 85 16 -1 4 41a00000 --mac 127.0.0.1",
+        "0c0040000119553e4441a000003f4910",
+    ),
+    (
+        "bactool bacwp 1234 2 2 85 0 -1 7 ~x --mac 127.0.0.1",
+        "0c0080000219553e73007e783f",
+    ),
+    (
+        "bactool bacwp 1234 2 2 85 0 -1 7 ~~x --mac 127.0.0.1",
+        "0c0080000219553e74007e7e783f",
+    ),
+    (
+        "bactool bacwp 1234 2 2 85 0 -1 12 8:1234 --mac 127.0.0.1",
+        "0c0080000219553ec4020004d23f",
+    ),
+    (
+        "bactool bacwp 1234 1 1 87 1 3 0 null --mac 127.0.0.1",
+        "0c00400001195729033e003f4901",
+    ),
+    (
+        "bactool bacwp 1234 2 2 85 0 -1 3 -1 3 1 --mac 127.0.0.1",
+        "0c0080000219553e31ff31013f",
+    ),
+    (
+        "bactool bacwp 1234 2 2 85 0 -1 --mac 127.0.0.1 -- 7 --x",
+        "0c0080000219553e74002d2d783f",
+    ),
+    (
+        "bactool bacwp 1234 2 2 85 0 -1 --mac 127.0.0.1 -- 7 --",
+        "0c0080000219553e73002d2d3f",
+    ),
+    (
+        "bactool bacwp 1234 2 2 85 0 -1 7 -5 --mac 127.0.0.1",
+        "0c0080000219553e73002d353f",
+    ),
+    (
+        "bactool bacwp 1234 2 2 85 0 -1 7 ~-5 --mac 127.0.0.1",
+        "0c0080000219553e74007e2d353f",
+    ),
+    (
+        "bactool bacwp 1234 2 2 85 0 -1 7  --mac 127.0.0.1",
+        "0c0080000219553e71003f",
+    ),
+    (
+        "bactool bacwp 1234 2 2 85 0 -1 7  7 x --mac 127.0.0.1",
+        "0c0080000219553e71007200783f",
+    ),
+];
+
+/// Sees that a request is for 127.0.0.1 at the port 47808, has the usual settings, and this body.
+fn expect_call<H: Abort + AllocGlobal>(
+    rt: &H,
+    call: &Call,
+    body: &str,
+    line: &str,
+) -> Result<(), Fail> {
+    assert_eq!(rt; call.to, P, "for {line:?}");
+    assert_eq!(rt;
+        (call.timeout, call.retries, call.port),
+        (3_000, 3, 0),
+        "for {line:?}"
+    );
+    expect_digits(rt, call.body.as_slice(), body, line)
+}
+
+#[test]
+fn reads_and_writes(rt: HostRuntime) -> Result<(), Fail> {
+    for (line, body) in &READS {
+        let Job::Read(call) = parse(&rt, line)? else {
+            panic!(rt; "another job for {line:?}");
+        };
+        expect_call(&rt, &call, body, line)?;
+    }
+    for (line, body) in &WRITES {
+        let Job::Write(call) = parse(&rt, line)? else {
+            panic!(rt; "another job for {line:?}");
+        };
+        expect_call(&rt, &call, body, line)?;
+    }
+    Ok(())
+}
+
+// Options may stand before the positional words, among them and after them.
+#[test]
+fn settings(rt: HostRuntime) -> Result<(), Fail> {
+    let options = "--apdu-timeout 100 --apdu-retries 1 --port 50000 --mac=127.0.0.1:1";
+    for (before, behind) in [
+        ("bacrp", "1234 0 5 85"),
+        ("bacrp 1234 0", "5 85"),
+        ("bacrp 1234 0 5 85", ""),
+        ("bacwp", "1234 0 5 85 0 -1 0 x"),
+        ("bacwp 1234 0 5 85 0 -1 0", "x"),
+        ("bacwp 1234 0 5 85 0 -1 0 x", ""),
+    ] {
+        let line = format!(in rt.alloc(); "bactool {before} {options} {behind}")?;
+        let call = match parse(&rt, line.as_str().trim_end())? {
+            Job::Read(call) | Job::Write(call) => call,
+            _ => panic!(rt; "another job for {line:?}"),
+        };
+        assert_eq!(rt;
+            (call.timeout, call.retries, call.port),
+            (100, 1, 50_000),
+            "for {line:?}"
+        );
+        assert_eq!(rt; (call.to.ip, call.to.port), (LOCALHOST, 1), "for {line:?}");
+    }
+    Ok(())
+}
+
+// 93 reals make a body of exactly 476 octets.
+#[test]
+fn long_bodies(rt: HostRuntime) -> Result<(), Fail> {
+    let reals = repeated(&rt, " 4 41a00000", 93)?;
+    let line = format!(in rt.alloc(); "bactool bacwp 1234 1 1 85 16 -1{reals} --mac 127.0.0.1")?;
+    let Job::Write(call) = parse(&rt, line.as_str())? else {
+        panic!(rt; "another job");
+    };
+    assert_eq!(rt; call.body.len(), 476);
+    let reals = repeated(&rt, " 4 41a00000", 94)?;
+    let line = format!(in rt.alloc(); "bactool bacwp 1234 1 1 85 16 -1{reals} --mac 127.0.0.1")?;
+    let longer = parse(&rt, line.as_str());
+    assert!(rt; matches!(longer, Err(UsageFault::BodyTooLong)));
+    let text = repeated(&rt, "x", 600)?;
+    let line = format!(in rt.alloc(); "bactool bacwp 1234 2 2 85 16 -1 --mac 127.0.0.1 7 {text}")?;
+    let long = parse(&rt, line.as_str());
+    assert!(rt; matches!(long, Err(UsageFault::BodyTooLong)));
+    let line = format!(in rt.alloc(); "{line} 2 x")?;
+    let bad = parse(&rt, line.as_str());
+    assert!(rt; matches!(bad, Err(UsageFault::BadValue(2))));
+    Ok(())
+}

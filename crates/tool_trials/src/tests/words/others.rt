@@ -1,0 +1,74 @@
+//! Searches, devices and scripts.
+use super::*;
+use crate::tests::A;
+use bac_device::demo;
+use bac_pdu::WhoIs;
+use bac_wire::Frame;
+
+/// Words of `bacwi`, and which devices are asked.
+const SEARCHES: [(&str, WhoIs); 4] = [
+    (
+        "bactool bacwi 1000 1234 --mac 127.0.0.1",
+        WhoIs::Range {
+            low: 1000,
+            high: 1234,
+        },
+    ),
+    (
+        "bactool bacwi 1235 --mac 127.0.0.1",
+        WhoIs::Range {
+            low: 1235,
+            high: 1235,
+        },
+    ),
+    ("bactool bacwi --mac 127.0.0.1", WhoIs::All),
+    (
+        "bactool bacwi --mac 127.0.0.1 5 3",
+        WhoIs::Range { low: 5, high: 3 },
+    ),
+];
+
+#[test]
+fn searches(rt: HostRuntime) -> Result<(), Fail> {
+    for (line, who) in SEARCHES {
+        let Job::WhoIs(search) = parse(&rt, line)? else {
+            panic!(rt; "another job for {line:?}");
+        };
+        assert_eq!(rt; search.who, who, "for {line:?}");
+        assert_eq!(rt;
+            (search.to.ip, search.timeout, search.port),
+            (LOCALHOST, 3_000, 0),
+            "for {line:?}"
+        );
+    }
+    let Job::WhoIs(search) = parse(
+        &rt,
+        "bactool bacwi --mac 127.0.0.1 --apdu-timeout 60000 --port 47808",
+    )?
+    else {
+        panic!(rt; "another job");
+    };
+    assert_eq!(rt; (search.timeout, search.port), (60_000, 47_808));
+    Ok(())
+}
+
+// The device answers a read of its name, so the information is what was asked for.
+#[test]
+fn devices_and_a_trace(rt: HostRuntime) -> Result<(), Fail> {
+    let Job::Device(serve) = parse(&rt, "bactool bacdev 1234")? else {
+        panic!(rt; "another job");
+    };
+    assert_eq!(rt; (serve.port, serve.count), (47_808, 65_535));
+    let mut device = demo(serve.info);
+    let mut reply = Frame::new();
+    let who_is = b"\x81\x0a\x00\x0e\x01\x00\x10\x08\x0a\x03\xe8\x1a\x04\xd2";
+    assert!(rt; device.answer(Q, who_is, &mut reply).is_some());
+    expect_digits(&rt, reply.as_slice(), A, "bactool bacdev 1234")?;
+    let Job::Device(serve) = parse(&rt, "bactool bacdev 4194302 --port 1 --count 1")? else {
+        panic!(rt; "another job");
+    };
+    assert_eq!(rt; (serve.port, serve.count), (1, 1));
+    let job = parse(&rt, "bactool bactrace")?;
+    assert!(rt; matches!(job, Job::Trace));
+    Ok(())
+}
