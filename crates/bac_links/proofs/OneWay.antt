@@ -11,10 +11,10 @@ use Rattle.bac_text.specs.declared.jobs.Call.{Call}
 use Rattle.bac_text.specs.declared.jobs.Search.{Search}
 use Rattle.bac_links.specs.Told.{Told, Heard, Silence, Arrival, Failure, waited}
 use Rattle.bac_links.specs.Moments.{Moment, events_of, at_time, data_in, turn, last_turn, turns}
-use Rattle.bac_links.specs.Call.{rules_for, wait_of, asked, begun_at, moments, moments_to, IsOpenAfter, EndsAfter, EndsIn, FailsToReceive, RunsOut}
+use Rattle.bac_links.specs.Call.{rules_for, wait_of, asked, begun_at, moments, moments_to, IsOpenAfter, EndsAfter}
 use Rattle.bac_links.specs.CallSteps.{endings, NoAsk}
-use Rattle.bac_links.specs.Search.{Found, found_after, SearchEnds, SearchFails, SearchSpent}
-use Rattle.bac_links.specs.Serve.{arrivals_of, deliveries, ServesSo, ServeDeaf}
+use Rattle.bac_links.specs.Search.{Found, found_after}
+use Rattle.bac_links.specs.Serve.{arrivals_of, deliveries}
 use Rattle.bac_links.specs.Courses.{Course, Ends, Deaf, Spent, CallGoes, SearchRuns, ServeRuns}
 use Rattle.bac_links.specs.declared.ending.Tool.{Tool}
 use Rattle.bac_links.proofs.CallEvents.{with_rest, accepted_is, NoAsk-append, news_at, news_ends, endings_at, length-push}
