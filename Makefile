@@ -20,6 +20,7 @@ demo: program
 test:
 	rt ci
 	$(MAKE) examples
+	@tests/allocation.sh
 
 check:
 	rt all check
@@ -33,6 +34,7 @@ examples: program
 	    examples/demo.sh $(PROGRAM) $$port | sed "s/$$port/47808/" | diff - examples/demo.out
 	@echo "examples/demo.sh: as it is to be"
 	@tests/program.sh $(PROGRAM)
+	@tests/rows.py $(PROGRAM)
 	@tests/memory.sh $(PROGRAM)
 	@tests/failing.sh $(PROGRAM)
 

@@ -1,5 +1,6 @@
 /* Loaded in front of the C library, it has one call of a program to the system fail: that with the number FAILED, from 1, among the calls
-   that open a socket, send, receive, read and write. It says on the descriptor 3, where that is open, which call it was. */
+   that open a socket, send, receive, read and write. It says on the descriptor 3, where that is open, which call it was. Where ONE_OCTET is
+   set, a read gives at most one octet. */
 #define _GNU_SOURCE
 #include <dlfcn.h>
 #include <errno.h>
@@ -69,6 +70,8 @@ ssize_t recvfrom(int fd, void *octets, size_t count, int flags, struct sockaddr 
 ssize_t read(int fd, void *octets, size_t count)
 {
     NEXT("read", ssize_t(int, void *, size_t));
+    if (count > 1 && getenv("ONE_OCTET"))
+        count = 1;
     return fails("read") ? -1 : next(fd, octets, count);
 }
 

@@ -27,20 +27,6 @@ const Q: Peer = Peer {
     route: None,
 };
 
-/// The present value of analog-input 5 is asked for, and its answer.
-const M: &str = "810a001101040005010c0c000000051955";
-
-const V: &str = "810a0017010030010c0c0000000519553e444290999a3f";
-
-/// The I-Am of the device 1234.
-const A: &str = "810a001501001000c4020004d22205c49103220104";
-
-/// The octets that hexadecimal digits write.
-fn octets<H: AllocGlobal>(rt: &H, digits: &str) -> Result<Vec<u8>, Fail> {
-    let octets = hex::decode(rt.alloc(), digits).map_err(|_| "no digits")?;
-    Ok(octets)
-}
-
 /// Sees that these octets came of the row, as digits.
 fn expect_digits<H: Abort + AllocGlobal>(
     rt: &H,

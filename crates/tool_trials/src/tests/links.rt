@@ -7,7 +7,7 @@ mod requests;
 mod sockets;
 mod watching;
 
-use crate::tests::{A, M, P, Q, V, octets};
+use crate::tests::{P, Q};
 use arrayvec::ArrayVec;
 use bac_device::{DeviceInfo, demo};
 use bac_links::{
@@ -17,6 +17,20 @@ use bac_pdu::{Peer, WhoIs};
 use bac_text::{Call, Checked, Search};
 use std::process::Abort;
 use std::test::Fail;
+
+/// The present value of analog-input 5 is asked for: the body, its datagram, and the answer.
+const BODY: &[u8] = b"\x0c\x00\x00\x00\x05\x19\x55";
+
+const ASK: &[u8] = b"\x81\x0a\x00\x11\x01\x04\x00\x05\x01\x0c\x0c\x00\x00\x00\x05\x19\x55";
+
+const VALUE: &[u8] =
+    b"\x81\x0a\x00\x17\x01\x00\x30\x01\x0c\x0c\x00\x00\x00\x05\x19\x55\x3e\x44\x42\x90\x99\x9a\x3f";
+
+/// Who is there, and the I-Am of the device 1234.
+const WHO_IS: &[u8] = b"\x81\x0a\x00\x08\x01\x00\x10\x08";
+
+const I_AM: &[u8] =
+    b"\x81\x0a\x00\x15\x01\x00\x10\x00\xc4\x02\x00\x04\xd2\x22\x05\xc4\x91\x03\x22\x01\x04";
 
 /// A call of P with this body.
 fn call_of(timeout: u32, retries: u8, body: &[u8]) -> Call
@@ -57,7 +71,7 @@ fn expect_call<H: Abort + AllocGlobal>(
     fail_send: Option<u32>,
     answer: Result<Exit, ToolFault>,
     text: &str,
-    sent: &[(u64, &str)],
+    sent: &[(u64, &[u8])],
 ) -> Result<(), Fail>
     requires { 0 < call.now.timeout }
 {
@@ -72,23 +86,14 @@ fn expect_call<H: Abort + AllocGlobal>(
     };
     assert_eq!(rt; got, answer, "printing {text:?}");
     assert_eq!(rt; printed.as_slice(), text.as_bytes());
-    expect_sent(rt, &link, sent)
+    expect_sent(rt, &link, P, sent);
+    Ok(())
 }
 
-/// Sees that this was sent to P at these times, and nothing else.
-fn expect_sent<H: Abort + AllocGlobal>(
-    rt: &H,
-    link: &MemoryLink,
-    sent: &[(u64, &str)],
-) -> Result<(), Fail> {
-    for (n, (time, digits)) in sent.iter().enumerate() {
-        let datagram = octets(rt, digits)?;
-        assert_eq!(rt;
-            link.sent(n),
-            Some((*time, P, datagram.as_slice())),
-            "send {n}"
-        );
+/// Sees that this was sent to the peer at these times, and nothing else.
+fn expect_sent(rt: &impl Abort, link: &MemoryLink, to: Peer, sent: &[(u64, &[u8])]) {
+    for (n, (time, datagram)) in sent.iter().enumerate() {
+        assert_eq!(rt; link.sent(n), Some((*time, to, *datagram)), "send {n}");
     }
     assert_eq!(rt; link.sent(sent.len()), None);
-    Ok(())
 }

@@ -6,9 +6,9 @@ use std::io::{self, ErrorKind, Read, Write};
 /// Gives its octets a few at a time, and fails once its reads are used up.
 #[derive(Drop)]
 pub(crate) struct Pieces<'a> {
-    pub(crate) rest: &'a [u8],
-    pub(crate) most: usize,
-    pub(crate) reads: usize,
+    rest: &'a [u8],
+    most: usize,
+    reads: usize,
 }
 
 impl Read for Pieces<'_> {
@@ -25,11 +25,11 @@ impl Read for Pieces<'_> {
     }
 }
 
-/// A text of which at most so many octets come at a read.
-pub(crate) fn in_pieces(text: &str, most: usize) -> Pieces<'_> {
+/// A text of which as much comes at a read as there is room for.
+pub(crate) fn whole(text: &str) -> Pieces<'_> {
     Pieces {
         rest: text.as_bytes(),
-        most,
+        most: usize::MAX,
         reads: usize::MAX,
     }
 }

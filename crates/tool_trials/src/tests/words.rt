@@ -1,9 +1,7 @@
 //! Command lines.
 
 mod calls;
-mod help;
 mod others;
-mod ranges;
 mod refusals;
 
 use crate::tests::{LOCALHOST, P, Q, expect_digits};

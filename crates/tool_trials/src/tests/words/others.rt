@@ -1,6 +1,5 @@
 //! Searches, devices and scripts.
 use super::*;
-use crate::tests::A;
 use bac_device::demo;
 use bac_pdu::WhoIs;
 use bac_wire::Frame;
@@ -63,7 +62,8 @@ fn devices_and_a_trace(rt: HostRuntime) -> Result<(), Fail> {
     let mut reply = Frame::new();
     let who_is = b"\x81\x0a\x00\x0e\x01\x00\x10\x08\x0a\x03\xe8\x1a\x04\xd2";
     assert!(rt; device.answer(Q, who_is, &mut reply).is_some());
-    expect_digits(&rt, reply.as_slice(), A, "bactool bacdev 1234")?;
+    let i_am = "810a001501001000c4020004d22205c49103220104";
+    expect_digits(&rt, reply.as_slice(), i_am, "bactool bacdev 1234")?;
     let Job::Device(serve) = parse(&rt, "bactool bacdev 4194302 --port 1 --count 1")? else {
         panic!(rt; "another job");
     };

@@ -1,0 +1,199 @@
+#!/usr/bin/env python3
+"""Runs the scripts and the command lines of tests/rows/ by the built program, and compares what it prints and how it ends.
+
+Usage: tests/rows.py PROGRAM. Each script is run twice: whole, and with one octet at each read, which needs cc.
+
+Rows are parted by blank lines. The mark at the front of a line says what the rest of it is:
+
+    #   a remark
+    <   a line of a script for bactrace
+    |   the last line of a script: with several of them the row is several scripts
+    $   a command line, cut at each space, where '' is an empty word: with several of them the row is several command lines
+    N   the least and the greatest value of the number N of these command lines: the row holds of both, and one past either is refused
+    >   a line of standard output
+    ~   what stands somewhere in standard output, which is the same text for all command lines of the row and ends with a line feed
+    !   the status, where it is not 0, and standard error behind `bactool: `; or what it begins with, if it ends with two full stops
+
+In a line, P, Q, M, V and A as whole words stand for the texts below, {93*x} for 93 times x, and \\n, \\r, \\t and \\xff for octets. A
+backslash at the end of a line of a script says that no line feed follows.
+"""
+import glob
+import os
+import re
+import shutil
+import subprocess
+import sys
+import tempfile
+from collections import namedtuple
+from concurrent.futures import ThreadPoolExecutor
+
+HERE = os.path.dirname(os.path.abspath(__file__))
+LETTERS = {
+    "P": "127.0.0.1:47808",
+    "Q": "127.0.0.1:50000",
+    "M": "810a001101040005010c0c000000051955",
+    "V": "810a0017010030010c0c0000000519553e444290999a3f",
+    "A": "810a001501001000c4020004d22205c49103220104",
+}
+READ, SENT, DONE = "read P 0 5 85\n", "send 0 P M\n", "done 0 value 4290999a\n"
+PLACES = 64
+
+# What is run, and what is to come. An `error` may end with two full stops, as a row does; where there are `parts`, `output` is not looked at.
+Case = namedtuple("Case", "place words script status output error parts", defaults=[()])
+
+
+def spelled(text):
+    text = re.sub(r"\{(\d+)\*(.*?)\}", lambda found: found[2] * int(found[1]), text)
+    text = re.sub(r"\b[PQMVA]\b", lambda found: LETTERS[found[0]], text)
+    return text.encode("ascii").decode("unicode_escape")
+
+
+def text_of(lines):
+    return spelled("".join(line[:-1] if line.endswith("\\") else line + "\n" for line in lines))
+
+
+def words_of(line):
+    """The words behind the program's name."""
+    return ["" if word == "''" else word for word in spelled(line).split(" ")][1:]
+
+
+def blocks(path):
+    """Each row as its place and its lines by their marks."""
+    with open(path, encoding="ascii") as file:
+        text = file.read()
+    for block in re.finditer(r"(?:.+\n?)+", text):
+        place = "%s:%d" % (path, text.count("\n", 0, block.start()) + 1)
+        row = {}
+        for line in block[0].splitlines():
+            if not re.match(r"[#<|$N>~!]( |$)", line):
+                sys.exit(f"{place}: no mark before {line!a}")
+            row.setdefault(line[0], []).append(line[2:])
+        if row.keys() != {"#"}:
+            yield place, row
+
+
+def with_numbers(line, row):
+    """The line with its number at both ends, where the row holds, and one past them, with the fault. clap sees a number below 0 marked."""
+    if "N" not in row:
+        return [(line, None)]
+    least, most = map(int, row["N"][0].split())
+    past = [(number, f"error: invalid value '{'~' * (number < 0)}{number}' for '..") for number in (least - 1, most + 1)]
+    return [(line.replace("N", str(number)), fault) for number, fault in [(least, None), (most, None), *past]]
+
+
+def row_cases(path):
+    for place, row in blocks(path):
+        [end] = row.get("!", ["0 "])
+        status, error = end.split(" ", 1)
+        if error and not error.startswith("error:"):
+            error = f"bactool: {error}\n"
+        parts = [spelled(part) for part in row.get("~", [])]
+        case = Case(place, ["bactrace"], text_of(row.get("<", [])), int(status), text_of(row.get(">", [])), error, parts)
+        if "$" not in row:
+            for last in row.get("|", ["\\"]):
+                yield case._replace(script=case.script + text_of([last]))
+        for line in row.get("$", []):
+            for words, fault in with_numbers(line, row):
+                wanted = case._replace(status=2, output="", error=fault, parts=[]) if fault else case
+                yield wanted._replace(words=words_of(words))
+
+
+def generated(name, script, output):
+    return Case("tests/rows.py, " + name, ["bactrace"], spelled(script), 0, spelled(output), "")
+
+
+def sent(ticket, number):
+    return f"send {ticket} P 810a001101040005{number:02x}0c0c000000051955\n"
+
+
+def answer(number):
+    return f"data P 810a0017010030{number:02x}0c0c0000000519553e444290999a3f\n"
+
+
+def answers_under_each_number():
+    """The answer under each number but the request's is dropped."""
+    for number in range(256):
+        yield generated(f"answer under {number}", READ + answer(number), SENT + (DONE if number == 1 else "drop\n"))
+
+
+def full_tables():
+    """As many requests as there are places, and one more. Once the first is answered there is room again, under the next number. The table
+    is full before the tickets are spent."""
+    asked = READ * (PLACES + 1) + "data P V\n" + READ
+    for first in (0, 2**64 - 1 - PLACES):
+        sends = "".join(sent(first + place, place + 1) for place in range(PLACES))
+        next_one = sent(PLACES, PLACES + 1) if first == 0 else "spent\n"
+        settings = f"client 3000 3 {first}\n" if first else ""
+        yield generated(f"full table from {first}", settings + asked, f"{sends}full\ndone {first} value 4290999a\n{next_one}")
+
+
+def open_number():
+    """The request with number 1 stays open while 256 others are answered, and its number is left out."""
+    script, output = READ, SENT
+    for ticket in range(1, 257):
+        number = {255: 0, 256: 2}.get(ticket, ticket + 1)
+        script += READ + answer(number)
+        output += sent(ticket, number) + f"done {ticket} value 4290999a\n"
+    return generated("open number", script, output)
+
+
+def retries():
+    """As many retries as there may be."""
+    ticks = "".join(f"tick {now}\n" for now in range(1, 257))
+    return generated("retries", "client 1 255 0\n" + READ + ticks, SENT * 256 + "timeout 0\n")
+
+
+def run(program, case, library):
+    """The case with what the program prints, and how it ends. With the library each of its reads gives one octet."""
+    settings = dict(os.environ, LD_PRELOAD=library, ONE_OCTET="1") if library else None
+    words, script = [word.encode("latin-1") for word in case.words], case.script.encode("latin-1")
+    try:
+        ended = subprocess.run([program, *words], input=script, capture_output=True, env=settings, timeout=60)
+    except subprocess.TimeoutExpired:
+        return case._replace(status="none in a minute", output="", error="")
+    return case._replace(status=ended.returncode, output=ended.stdout.decode("latin-1"), error=ended.stderr.decode("latin-1"))
+
+
+def is_right(case, ending):
+    error, output = ending.error == case.error, ending.output == case.output
+    if case.error.endswith(".."):
+        error = ending.error.startswith(case.error[:-2]) and ending.error.endswith("\n")
+    if case.parts:
+        output = ending.output.endswith("\n") and all(part in ending.output for part in case.parts)
+    return ending.status == case.status and error and output
+
+
+def tell(case, ending, how):
+    """Says what was to come and what came; long texts are cut, from the line on in which they differ."""
+    same = len(os.path.commonprefix([case.output, ending.output]))
+    start = case.output.rfind("\n", 0, same) + 1
+    wanted, came = case.parts or case.output[start:start + 300], ending.output[start:start + 300]
+    print(f"{case.place}: not as it is to be{how}: {' '.join(case.words)[:300]} < {case.script[:300]!a}")
+    print(f"    wanted: status {case.status}, error {case.error!a}, output from {start} on {wanted!a}")
+    print(f"    came:   status {ending.status}, error {ending.error[:300]!a}, output from {start} on {came!a}")
+
+
+def main(program):
+    rows = [case for path in sorted(glob.glob(os.path.relpath(HERE) + "/rows/*.rows")) for case in row_cases(path)]
+    cases = [*rows, *answers_under_each_number(), *full_tables(), open_number(), retries()]
+    scripts = [case for case in cases if case.words == ["bactrace"]]
+    wrong, texts = set(), {}
+    with tempfile.TemporaryDirectory() as room, ThreadPoolExecutor() as pool:
+        runs = [(case, None, "") for case in cases]
+        if shutil.which("cc"):
+            library = os.path.join(room, "fail.so")
+            subprocess.run(["cc", "-O1", "-shared", "-fPIC", "-o", library, os.path.join(HERE, "fail.c")], check=True)
+            runs += [(case, library, ", one octet at a read") for case in scripts]
+        else:
+            print("tests/rows.py: one octet at a read is left out, since it needs cc")
+        for (case, _, how), ending in zip(runs, pool.map(lambda each: run(program, each[0], each[1]), runs)):
+            is_same = not case.parts or texts.setdefault(case.place, ending.output) == ending.output
+            if not is_right(case, ending) or not is_same:
+                wrong.add((case.place, case.script, *case.words))
+                tell(case, ending, how)
+    print(f"tests/rows.py: {len(scripts)} scripts and {len(cases) - len(scripts)} command lines, {len(wrong)} not as they are to be")
+    return 1 if wrong or not rows else 0
+
+
+if __name__ == "__main__":
+    sys.exit(main(os.path.abspath(sys.argv[1])) if len(sys.argv) == 2 else __doc__)
