@@ -1,4 +1,4 @@
-# What measures and tries the built program from outside. None of it is in the gate.
+# What measures and tries the built program from outside. None of it is in the gate. docs/SPEED.md has what was measured.
 #
 # make bench: what the program costs. Over 127.0.0.1: bacdev beside a bare echo server, bacrp beside a bare client, memory;
 #     then a script of a million lines, and replies and values in memory, whose benchmarks are proved first (some minutes,

@@ -1,43 +1,31 @@
 # Puts the built program where a Unix expects it, takes it away again, and packs it.
 #
-# make install PREFIX=/usr/local DESTDIR=: the program, links of the tools' names to it, manual pages, completions
-# make uninstall: takes these away, with the same PREFIX and DESTDIR
-# make lint: the manual pages by mandoc, the completions in bash, zsh and fish, where these are installed
-# make guide: runs every command of docs/GUIDE.md, and compares what comes out; make examples runs it too
+# make install PREFIX=/usr/local DESTDIR=: the program, links of the tools' names to it, manual pages, completions. What is there and
+#     was not put by it, such as another vendor's bacrp, is named and not replaced, unless FORCE=1 says so
+# make uninstall: takes away what make install put, where it is still as it was put, with the same PREFIX and DESTDIR
+# make lint: the manual pages by mandoc and against the help, the numbers against Wireshark's names, the completions in bash, zsh and fish,
+#     and make install in a folder of its own. What mandoc, tshark and a shell would look at is left out where it is not installed
+# make guide: runs every command of docs/GUIDE.md, and compares what comes out; make examples runs it too. It needs perl
 # make deb: a Debian package in crates/bactool/out; needs dpkg-deb and binutils
 
 PREFIX ?= /usr/local
-TOOLS = bacrp bacwp bacwi bacdev bactrace
-BIN = $(DESTDIR)$(PREFIX)/bin
-MAN = $(DESTDIR)$(PREFIX)/share/man/man1
-BASH_COMPLETIONS = $(DESTDIR)$(PREFIX)/share/bash-completion/completions
-ZSH_COMPLETIONS ?= $(DESTDIR)$(PREFIX)/share/zsh/site-functions
-FISH_COMPLETIONS = $(DESTDIR)$(PREFIX)/share/fish/vendor_completions.d
+DESTDIR ?=
+FORCE ?= 0
+export PREFIX DESTDIR FORCE ZSH_COMPLETIONS
 
 .PHONY: install uninstall lint guide deb
 
 install: program
-	install -D -m 755 $(PROGRAM) $(BIN)/bactool
-	install -d $(MAN) $(BASH_COMPLETIONS) $(ZSH_COMPLETIONS) $(FISH_COMPLETIONS)
-	install -m 644 man/bactool.1 $(TOOLS:%=man/%.1) $(MAN)
-	install -m 644 completions/bactool.bash $(BASH_COMPLETIONS)/bactool
-	install -m 644 completions/_bactool $(ZSH_COMPLETIONS)/_bactool
-	install -m 644 completions/bactool.fish $(FISH_COMPLETIONS)/bactool.fish
-	for tool in $(TOOLS); do \
-	    ln -sf bactool $(BIN)/$$tool && \
-	    ln -sf bactool $(BASH_COMPLETIONS)/$$tool && \
-	    ln -sf bactool.fish $(FISH_COMPLETIONS)/$$tool.fish || exit 1; \
-	done
+	@packaging/install.sh $(PROGRAM)
 
 uninstall:
-	for name in bactool $(TOOLS); do \
-	    rm -f $(BIN)/$$name $(MAN)/$$name.1 $(BASH_COMPLETIONS)/$$name $(FISH_COMPLETIONS)/$$name.fish || exit 1; \
-	done
-	rm -f $(ZSH_COMPLETIONS)/_bactool
+	@packaging/install.sh --remove
 
-lint:
-	cd man && mandoc -Tlint *.1
-	tests/completions.sh
+lint: program
+	@tests/pages.sh $(PROGRAM)
+	@tests/numbers.sh
+	@tests/completions.sh
+	@tests/install.sh $(PROGRAM)
 
 examples: guide
 

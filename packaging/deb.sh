@@ -1,12 +1,13 @@
 #!/usr/bin/env bash
 # Packs the built program as a Debian package. Usage: packaging/deb.sh PROGRAM FOLDER, which gets bactool_VERSION_ARCH.deb.
-# The version is the first of CHANGELOG.md. MAINTAINER names the one who makes the package.
+# The version is that of the program's help (packaging/version.sh). MAINTAINER names the one who makes the package.
 set -euo pipefail
 program=$(realpath "$1")
 folder=$(realpath "$2")
 cd "$(dirname "$0")/.."
-version=$(sed -n 's/^## \([0-9][0-9.]*\).*/\1/p' CHANGELOG.md | head -n 1)
-date=$(sed -n 's/^## [0-9.]* (\(.*\))$/\1/p' CHANGELOG.md | head -n 1)
+version=$(packaging/version.sh "$program")
+date=$(sed -n "s/^## $version (\\(.*\\))\$/\\1/p" CHANGELOG.md)
+[ -n "$date" ] || { echo "packaging/deb.sh: CHANGELOG.md has no date of the version $version" >&2; exit 1; }
 maintainer=${MAINTAINER:-bactool authors <maintainers@bactool.invalid>}
 architecture=$(dpkg --print-architecture)
 room=$(mktemp -d)
@@ -15,15 +16,20 @@ root=$room/root
 doc=$root/usr/share/doc/bactool
 umask 022
 
-make --no-print-directory -s -o program install PROGRAM="$program" DESTDIR="$root" PREFIX=/usr \
-    ZSH_COMPLETIONS="$root/usr/share/zsh/vendor-completions"
+DESTDIR="$root" PREFIX=/usr ZSH_COMPLETIONS=/usr/share/zsh/vendor-completions packaging/install.sh "$program"
+rm -r "$root/usr/share/bactool"
 strip --strip-unneeded --remove-section=.comment --remove-section=.note "$root/usr/bin/bactool"
-gzip -9n "$root"/usr/share/man/man1/*.1
+gzip -9n "$root"/usr/share/man/man[17]/*.[17]
 
-install -d "$doc/examples" "$root/DEBIAN"
-install -m 644 README.md SECURITY.md docs/PROTOCOL.md "$doc"
-[ ! -f docs/GUIDE.md ] || install -m 644 docs/GUIDE.md "$doc"
+# The documents in the folders that they have in the repository, so that their links lead on. README.md names no other.
+install -d "$doc/docs" "$doc/examples" "$root/DEBIAN"
+install -m 644 ./*.md LICENSE "$doc"
+install -m 644 docs/*.md "$doc/docs"
 install -m 644 examples/* "$doc/examples"
+sed -i 's|/usr/local/bin|/usr/bin|' "$doc/examples/bacdev.service"
+grep -o ']([^)#]*' README.md | sed 's|^](||' | grep -v '^[a-z]*:' | grep . | while read -r link; do
+    [ -e "$doc/$link" ] || { echo "packaging/deb.sh: the package lacks what README.md names: $link" >&2; exit 1; }
+done
 {
     printf 'bactool (%s) unstable; urgency=medium\n\n' "$version"
     sed -n "/^## $version/,/^## /p" CHANGELOG.md | awk '

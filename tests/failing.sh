@@ -63,6 +63,14 @@ in_turn() {
 
 printf 'read 127.0.0.1:47808 0 5 85\ntick 3000\ntick 6000\ntick 9000\ntick 12000\n' >"$room/input"
 in_turn 0 bactrace
+
+# What stands behind the last line feed is no line where the read behind it fails: the third call, after a read and a write.
+printf 'read 127.0.0.1:47808 0 5 85\ntick 3000' >"$room/input"
+in_turn 0 bactrace
+status=0
+FAILED=3 LD_PRELOAD=$room/fail.so "$program" bactrace <"$room/input" >"$room/output" 2>"$room/error" 3>"$room/failed" || status=$?
+[ "$(cat "$room/failed"),$status" = read,3 ] || wrong "a last line without its line feed: $(cat "$room/failed"), status $status"
+head -n 1 "$room/whole" | cmp -s - "$room/output" || wrong "a last line without its line feed: output"
 : >"$room/input"
 silent="--mac 127.0.0.1:$port --apdu-timeout 20"
 in_turn 1 bacrp 1234 0 5 85 $silent --apdu-retries 1

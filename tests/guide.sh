@@ -4,8 +4,9 @@
 #
 # A block that begins with ```console has commands behind `$ `, whose further lines begin with `> `; all other lines are what
 # they print. A block that begins with ```console and a program's name is left out where that program is not installed. Where
-# port 47808 is taken, another one is put in its place all over the guide.
+# port 47808 or 48000 is taken, another one is put in its place all over the guide. What the guide leaves running is ended.
 set -euo pipefail
+export LC_ALL=C
 cd "$(dirname "$0")/.."
 bactool=$(realpath "${BACTOOL:-crates/bactool/out/bactool}")
 room=$(mktemp -d)
@@ -17,12 +18,15 @@ done
 cp -r examples "$room/work"
 
 port=$(examples/free-port.sh)
+second=$(examples/free-port.sh 48000)
 sed -E "/^\`\`\`console/,/^\`\`\`\$/ {
-    s/(--mac[ =]127\.0\.0\.1)([^.:0-9]|\$)/\1:$port\2/g
-    s/\b(bacdev [0-9]+)/\1 --port $port/g
+    s/127\.0\.0\.1:48000\b|--port 48000\b/&@/g
+    s/48000@/$second/g
+    s/(--mac[ =]127\.0\.0\.[0-9]|watch\.sh 127\.0\.0\.1)([^.:0-9]|\$)/\1:$port\2/g
+    s/\b(bacdev [0-9]+) &/\1 --port $port \&/g
     s/(127\.0\.0\.1):47808\b/\1:$port/g
 }" docs/GUIDE.md >"$room/guide"
-if [ "$port" = 47808 ]; then
+if [ "$port.$second" = 47808.48000 ]; then
     cp docs/GUIDE.md "$room/guide"
 fi
 
@@ -42,9 +46,13 @@ awk -v script="$room/script" -v shown="$room/shown" '
     inside && /^> / { command = command "\n" substr($0, 3); next }
     inside && /^>$/ { command = command "\n"; next }
     inside { output = output $0 "\n" }
-    END { print "left=$(jobs -p); [ -z \"$left\" ] || kill $left" >script; print count " commands" }
+    END { print count " commands" }
 ' "$room/guide" >"$room/count"
-(cd "$room/work" && PATH=$room/bin:$PATH bash "$room/script") </dev/null >"$room/came" 2>&1 || true
+# In a group of its own, so that all it leaves running can be ended.
+(cd "$room/work" && PATH=$room/bin:$PATH exec setsid bash "$room/script") </dev/null >"$room/came" 2>&1 &
+group=$!
+trap 'kill -- "-$group" 2>/dev/null || true; rm -r "$room"' EXIT
+wait "$group" || true
 if ! diff "$room/shown" "$room/came"; then
     echo "docs/GUIDE.md shows otherwise (<); a line [N] L ends command N, which stands in line L" >&2
     exit 1

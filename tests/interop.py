@@ -1,7 +1,7 @@
 #!/usr/bin/env python3
 """Runs the tools and nmap against bacdev through a relay that keeps every datagram, and has tshark read them all.
 
-Usage: tests/interop.sh, which installs what is missing. It prints the table of docs/INTEROP.md, and ends with 1 where something
+Usage: tests/interop.sh, which installs what is missing. It prints the tables, and ends with 1 where something
 is not as it is to be: a tool or nmap that prints something else, a datagram that tshark finds malformed or reads as something
 else than it is.
 """

@@ -1,6 +1,6 @@
 #!/usr/bin/env bash
-# Installs a Debian package in a root that has nothing but Debian's smallest set, runs the demonstration there, finds the manual
-# pages and completions in their places, and takes the package away again. Needs root, debootstrap and a mirror of Debian.
+# Installs a Debian package in a root that has nothing but Debian's smallest set, runs the demonstration there, finds the manual pages,
+# completions and documents in their places, and takes the package away again. Needs root, debootstrap and a mirror of Debian.
 # Usage: tests/package.sh PACKAGE.deb [ROOT], where ROOT keeps the system for the next time.
 set -euo pipefail
 package=$(realpath "$1")
@@ -28,6 +28,10 @@ for tool in bactool bacrp bacwp bacwi bacdev bactrace; do
     for file in /usr/bin/$tool /usr/share/man/man1/$tool.1.gz /usr/share/bash-completion/completions/$tool; do
         grep -qx "$file" "$root/tmp/demo/files" || { echo "not there: $file"; exit 1; }
     done
+done
+doc=/usr/share/doc/bactool
+for file in /usr/share/man/man7/bactool-numbers.7.gz $doc/README.md $doc/docs/GUIDE.md $doc/docs/NUMBERS.md $doc/examples/poll.sh; do
+    grep -qx "$file" "$root/tmp/demo/files" || { echo "not there: $file"; exit 1; }
 done
 chroot "$root" bacdev --help | head -n 1
 chroot "$root" dpkg -P bactool

@@ -54,7 +54,7 @@ read='read 127.0.0.1:47808 0 5 85\n'
 
 # Help, all ways to ask for it, and no words.
 for words in --help -h help; do
-    expect 0 "Reads and writes properties*Usage: bactool *" '' tool $words
+    expect 0 "bactool 0.2.0: reads and writes properties*Usage: bactool *" '' tool $words
 done
 for name in bacrp bacwp bacwi bacdev bactrace; do
     expect 0 "*Usage: bactool $name*$line" '' tool $name --help
@@ -97,11 +97,12 @@ for name in bacrp bacwi; do
     ln -s "$program" "$room/$name"
 done
 expect 2 '' "bactool: bad mac$line" "$room/bacrp" 1234 0 5 85 --mac 1.2.3
+expect 2 '' "error: *Usage: bacrp --mac <mac>*$line" "$room/bacrp" 1234 0 5 85
 expect 1 '' '' "$room/bacwi" $silent
-expect 0 "*Usage: bactool bacwi*$line" '' "$room/bacwi" --help
+expect 0 "*Usage: bacwi *$line" '' "$room/bacwi" --help
 
-# A port that is taken, and a device that takes a datagram, answers and ends.
-"$program" bacdev 1234 --port "$port" --count 1 &
+# A port that is taken, and a device that takes three datagrams, answers them and ends.
+"$program" bacdev 1234 --port "$port" --count 3 &
 device=$!
 for _ in 1 2 3 4 5 6 7 8 9 10; do
     [ "$("$(dirname "$0")/../examples/free-port.sh")" = "$port" ] || break
@@ -109,6 +110,10 @@ for _ in 1 2 3 4 5 6 7 8 9 10; do
 done
 for words in 'bacdev 1234' 'bacwi --mac 127.0.0.1' 'bacrp 1234 0 5 85 --mac 127.0.0.1' 'bacwp 1234 1 1 85 8 -1 0 x --mac 127.0.0.1'; do
     expect 3 '' "bactool: bind failed$line" tool $words --port "$port"
+done
+# It is reached at each address of this machine.
+for address in 127.0.0.1 127.0.0.2; do
+    expect 0 "1234 127.0.0.*:$port 1476 3 260$line" '' tool bacwi --mac "$address:$port" --apdu-timeout 500
 done
 expect 0 "4290999a$line" '' tool bacrp 1234 0 5 85 --mac "127.0.0.1:$port"
 expect 0 '' '' wait $device

@@ -10,12 +10,13 @@ Rows are parted by blank lines. The mark at the front of a line says what the re
     |   the last line of a script: with several of them the row is several scripts
     $   a command line, cut at each space, where '' is an empty word: with several of them the row is several command lines
     N   the least and the greatest value of the number N of these command lines: the row holds of both, and one past either is refused
+    X   what stands for each X of the other lines and, behind ` = `, for each Y: with several of them the row is several rows
     >   a line of standard output
     ~   what stands somewhere in standard output, which is the same text for all command lines of the row and ends with a line feed
     !   the status, where it is not 0, and standard error behind `bactool: `; or what it begins with, if it ends with two full stops
 
-In a line, P, Q, M, V and A as whole words stand for the texts below, {93*x} for 93 times x, and \\n, \\r, \\t and \\xff for octets. A
-backslash at the end of a line of a script says that no line feed follows.
+In a line, P, Q, M, V and A as whole words stand for the texts below, {93*x} for 93 times x, [0100..] for the datagram whose link header has
+these octets behind it, and \\n, \\r, \\t and \\xff for octets. A backslash at the end of a line of a script says that no line feed follows.
 """
 import glob
 import os
@@ -45,6 +46,7 @@ Case = namedtuple("Case", "place words script status output error parts", defaul
 def spelled(text):
     text = re.sub(r"\{(\d+)\*(.*?)\}", lambda found: found[2] * int(found[1]), text)
     text = re.sub(r"\b[PQMVA]\b", lambda found: LETTERS[found[0]], text)
+    text = re.sub(r"\[(01[0-9a-f]+)\]", lambda found: "810a%04x%s" % (4 + len(found[1]) // 2, found[1]), text)
     return text.encode("ascii").decode("unicode_escape")
 
 
@@ -65,11 +67,21 @@ def blocks(path):
         place = "%s:%d" % (path, text.count("\n", 0, block.start()) + 1)
         row = {}
         for line in block[0].splitlines():
-            if not re.match(r"[#<|$N>~!]( |$)", line):
+            if not re.match(r"[#<|$NX>~!]( |$)", line):
                 sys.exit(f"{place}: no mark before {line!a}")
             row.setdefault(line[0], []).append(line[2:])
         if row.keys() != {"#"}:
             yield place, row
+
+
+def filled(row):
+    """The row once for each of its lines X, with what stands there for X and for Y; or as it is, where it has none."""
+    fills = [line.partition(" = ")[::2] for line in row.pop("X", [])]
+    for left, right in fills:
+        fill = {"X": left, "Y": right}
+        yield {mark: [re.sub("[XY]", lambda found: fill[found[0]], line) for line in lines] for mark, lines in row.items()}
+    if not fills:
+        yield row
 
 
 def with_numbers(line, row):
@@ -82,7 +94,7 @@ def with_numbers(line, row):
 
 
 def row_cases(path):
-    for place, row in blocks(path):
+    for place, row in ((place, row) for place, block in blocks(path) for row in filled(block)):
         [end] = row.get("!", ["0 "])
         status, error = end.split(" ", 1)
         if error and not error.startswith("error:"):
@@ -117,14 +129,14 @@ def answers_under_each_number():
 
 
 def full_tables():
-    """As many requests as there are places, and one more. Once the first is answered there is room again, under the next number. The table
-    is full before the tickets are spent."""
-    asked = READ * (PLACES + 1) + "data P V\n" + READ
-    for first in (0, 2**64 - 1 - PLACES):
+    """As many requests as there are places, two more, and one whose body is too long. Once one is answered there is room again, under the
+    next number. The table is full before the tickets are spent."""
+    last = 2**64 - 1 - PLACES
+    for first, number, next_one in [(0, 1, sent(PLACES, PLACES + 1)), (last, 1, "spent\n"), (last, 3, "spent\n")]:
         sends = "".join(sent(first + place, place + 1) for place in range(PLACES))
-        next_one = sent(PLACES, PLACES + 1) if first == 0 else "spent\n"
-        settings = f"client 3000 3 {first}\n" if first else ""
-        yield generated(f"full table from {first}", settings + asked, f"{sends}full\ndone {first} value 4290999a\n{next_one}")
+        asked = READ * (PLACES + 2) + "write P 1 1 85 16 -1{94* 4 41a00000}\n" + answer(number) + READ
+        ends = f"full\nfull\ntoo-long\ndone {first + number - 1} value 4290999a\n{next_one}"
+        yield generated(f"full table from {first}", f"client 3000 3 {first}\n{asked}", sends + ends)
 
 
 def open_number():
@@ -135,6 +147,40 @@ def open_number():
         script += READ + answer(number)
         output += sent(ticket, number) + f"done {ticket} value 4290999a\n"
     return generated("open number", script, output)
+
+
+def changed(datagram, place):
+    """The datagram with the octet at this place changed in each way."""
+    octets = bytes.fromhex(datagram)
+    for change in range(1, 256):
+        yield (octets[:place] + bytes([octets[place] ^ change]) + octets[place + 1:]).hex()
+
+
+def damaged_answers():
+    """An answer is dropped at each cut, and with each octet of a length changed in each way; then it is taken whole."""
+    write, wrote = "write P 1 1 85 16 -1 4 41a00000\n", "send 0 P 810a001a01040005010f0c0040000119553e4441a000003f4910\n"
+    routed, sent_on = "read P/5/07 0 5 85\n", "send 0 P/5/07 810a0016012400050107ff0005010c0c000000051955\n"
+    for asked, sends, datagram, end, lengths in [
+        (write, wrote, "810a0009010020010f", "ok", [2, 3]),
+        (write, wrote, "810a000d010050010f91029109", "error 2 9", [2, 3]),
+        (write, wrote, "810a000d010050010f91029125", "error 2 37", [2, 3]),
+        (write, wrote, "810a000d010050010f91029128", "error 2 40", [2, 3]),
+        (routed, sent_on, "810a001b01080005010730010c0c0000000519553e444290999a3f", "value 4290999a", [2, 3, 8]),
+    ]:
+        cut = [datagram[:count] for count in range(2, len(datagram), 2)]
+        dropped = [*cut, *(other for place in lengths for other in changed(datagram, place))]
+        script = asked + "".join(f"data P {other}\n" for other in [*dropped, datagram])
+        yield generated(f"damaged {datagram}", script, sends + "drop\n" * len(dropped) + f"done 0 {end}\n")
+
+
+def errors_under_other_tags():
+    """An error in which the tag of the class or of the code, at places 9 and 11, is another one. Each answers a request of its own."""
+    script, output = "", ""
+    for ticket, other in enumerate(other for place in (9, 11) for other in changed("810a000d010050010c91029120", place)):
+        number = (ticket + 1) % 256
+        script += READ + f"data P {other[:14]}{number:02x}{other[16:]}\n"
+        output += sent(ticket, number) + f"done {ticket} bad-error\n"
+    return generated("errors under other tags", script, output)
 
 
 def retries():
@@ -175,7 +221,7 @@ def tell(case, ending, how):
 
 def main(program):
     rows = [case for path in sorted(glob.glob(os.path.relpath(HERE) + "/rows/*.rows")) for case in row_cases(path)]
-    cases = [*rows, *answers_under_each_number(), *full_tables(), open_number(), retries()]
+    cases = [*rows, *answers_under_each_number(), *damaged_answers(), errors_under_other_tags(), *full_tables(), open_number(), retries()]
     scripts = [case for case in cases if case.words == ["bactrace"]]
     wrong, texts = set(), {}
     with tempfile.TemporaryDirectory() as room, ThreadPoolExecutor() as pool:

@@ -3,6 +3,7 @@ pub mod PlaceLaws
 pub mod StateLaws
 pub mod RegionLaws
 pub mod ReplyLaws
+pub mod SizeLaws
 pub mod OrderLaws
 pub mod DemoLaws
 pub mod TurnLaws

@@ -10,7 +10,7 @@ use Rattle.bac_device.specs.Kind.{kind_of}
 use Rattle.bac_device.specs.Steps.{needs}
 use Rattle.std.specs.Option.{option_map, option_and_then, option_to_list}
 use Rattle.bac_wire.specs.Identifier.{Identifier}
-use Rattle.bac_wire.specs.TagReading.{◌>>=◌}
+use Rattle.bac_wire.specs.Steps.{◌>>=◌}
 use Rattle.bac_device.specs.Info.{Info}
 use Rattle.bac_device.specs.Point.{Given, Description, same_object, is_described, described, description_of}
 use Rattle.bac_device.specs.Places.{Write, Standing, IsUrgent, NoneTo, priorities, standing_after, present, place_at, put}

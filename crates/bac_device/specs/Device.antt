@@ -4,7 +4,7 @@ use Rattle.std.specs.List.{list_any}
 use Rattle.std.specs.Option.{option_map}
 use Rattle.std.specs.Cmp.Lexicographic.{pointwise}
 use Rattle.bac_wire.specs.Identifier.{Identifier}
-use Rattle.bac_wire.specs.TagReading.{◌>>=◌}
+use Rattle.bac_wire.specs.Steps.{◌>>=◌}
 use Rattle.bac_wire.specs.Datum as values
 use Rattle.bac_wire.specs.Datum.{Datum, unsigned, enumerated, char_string}
 use Rattle.bac_device.specs.declared.device.AddFault.{AddFault}

@@ -4,7 +4,8 @@ use Rattle.std.specs.Int.{w32, to_be_bytes, from_be_bytes}
 use Rattle.std.specs.Option.{option_map}
 use Rattle.bac_wire.specs.Datum.{Datum, null, real, unsigned, enumerated}
 use Rattle.bac_wire.specs.DatumReading.{value_at}
-use Rattle.bac_wire.specs.TagReading.{◌>>=◌}
+use Rattle.bac_wire.specs.ParameterReading.{unsigned_in, enumerated_in}
+use Rattle.bac_wire.specs.Steps.{◌>>=◌}
 use Rattle.bac_device.specs.declared.kind.Family.{Family}
 use Rattle.bac_device.specs.declared.kind.Family.TheVariants.{Analog, Binary, MultiState}
 use Rattle.bac_device.specs.declared.kind.Role.{Role}
@@ -46,18 +47,10 @@ abbrev pub place_value : Family → Option ℕ → Datum
 place_value family None = null
 place_value family (Some n) = value_of family n
 
--- the number of a Real, an Enumerated, an Unsigned
+-- the number of a Real
 abbrev pub real_in : Datum → Option ℕ
 real_in (real octets) = Some (from_be_bytes w32 octets)
 real_in _ = None
-
-abbrev pub enumerated_in : Datum → Option ℕ
-enumerated_in (enumerated n) = Some n
-enumerated_in _ = None
-
-abbrev pub unsigned_in : Datum → Option ℕ
-unsigned_in (unsigned n) = Some n
-unsigned_in _ = None
 
 -- the number that a value of the family stands for
 abbrev pub number_in : Family → Datum → Option ℕ

@@ -7,5 +7,6 @@ pub mod Property
 pub mod Failure
 pub mod Device
 pub mod Reply
+pub mod Size
 pub mod Demo
 pub mod Turns

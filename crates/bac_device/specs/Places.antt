@@ -1,8 +1,9 @@
 -- What a point has after writes: the sixteen places of its priority array, and its present value (clause 19.2).
-use Rattle.std.specs.Prelude.{◌≡◌, ℕ, ◌≤◌, ◌-◌, ◌==◌, ◌&&◌, Bool, false, if◌then◌else◌, is_some, List, [], ◌∷◌, map, filter, find, slice_get, slice_set, unwrap_or, Option, Some, None, Result, Ok, Err}
+use Rattle.std.specs.Prelude.{◌≡◌, ℕ, ◌-◌, ◌==◌, ◌&&◌, Bool, false, if◌then◌else◌, is_some, List, [], ◌∷◌, map, filter, find, slice_get, slice_set, unwrap_or, Option, Some, None, Result, Ok, Err}
 use Rattle.std.specs.List.{last_or, AllByRecursion}
 use Rattle.std.specs.Option.{option_and_then}
 use Rattle.bac_wire.specs.Identifier.{Identifier, identifier}
+use Rattle.bac_pdu.specs.Property.{IsPriority}
 use Rattle.bac_device.specs.declared.failure.Failure.{Failure}
 use Rattle.bac_device.specs.declared.failure.Failure.TheVariants.{WrongType, OutOfRange}
 use Rattle.bac_device.specs.declared.write.PlaceWrite.{PlaceWrite}
@@ -16,9 +17,9 @@ pub record Write : Type 0 where
   pub priority : ℕ
   pub value : Option ℕ
 
--- 1 is the most urgent priority, 16 the least
+-- a write at a priority that there is
 abbrev pub IsUrgent : Write → Type 0
-IsUrgent write = (1 ≤ write.priority) × (write.priority ≤ 16)
+IsUrgent write = IsPriority write.priority
 
 -- a write as the device keeps it
 abbrev pub write_seen : PlaceWrite → Write

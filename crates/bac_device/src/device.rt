@@ -11,7 +11,7 @@ ghost use Rattle.bac_device.specs.Device.{Holds, points_of, device_after, standi
 ghost use Rattle.bac_device.specs.Reply.{property_of, commanded, with_write};
 
 use crate::failure::Failure;
-use crate::info::{DEVICE, DeviceInfo};
+use crate::info::DeviceInfo;
 use crate::numbers::{
     APDU_TIMEOUT, APPLICATION_SOFTWARE_VERSION, DATABASE_REVISION, DESCRIPTION,
     DEVICE_ADDRESS_BINDING, FIRMWARE_REVISION, MAX_APDU, MAX_APDU_LENGTH_ACCEPTED, MODEL_NAME,
@@ -23,6 +23,7 @@ use crate::point::{Point, StandingPoint};
 use crate::property::Property;
 use crate::write::PlaceWrite;
 use arrayvec::ArrayVec;
+use bac_pdu::DEVICE;
 use bac_wire::{ObjectId, Value};
 use std::marker::Model;
 

@@ -6,11 +6,9 @@ ghost use Rattle.bac_device.specs.Device.{device_object, is_device};
 use crate::numbers::NO_INSTANCE;
 use crate::point::NAME_OCTETS;
 use arrayvec::ArrayString;
+use bac_pdu::DEVICE;
 use bac_wire::ObjectId;
 use std::marker::Model;
-
-/// The object type of devices (clause 21).
-pub(crate) const DEVICE: u16 = 8;
 
 /// What a device is known by: the instance of its device object, and its name.
 #[derive(Drop)]

@@ -1,14 +1,17 @@
-//! What holds of the definitions that the contracts cite. Each function has an empty body, and its clause is the law.
+//! What holds of the definitions that the contracts cite. Each function has an empty body, and its clause is the law; those at
+//! the end are `==` of a type, and say what it compares.
 
-ghost use Rattle.std.specs.Prelude.{◌≡◌, ℕ, List, Option, length};
+ghost use Rattle.std.specs.Prelude.{IsTrue, ◌≡◌, ◌↔◌, ℕ, List, Option, Some};
 ghost use Rattle.bac_pdu.specs.Peer.{Station};
-ghost use Rattle.bac_pdu.specs.Apdu.{laid_out};
 ghost use Rattle.bac_device.specs.Info.{Info};
 ghost use Rattle.bac_device.specs.Point.{Description};
 ghost use Rattle.bac_device.specs.Places.{Write};
 ghost use Rattle.bac_device.specs.Device.{DeviceState, points_of, device_after, Holds};
-ghost use Rattle.bac_device.specs.Reply.{i_am};
+ghost use Rattle.bac_device.specs.Reply.{reply_of};
+ghost use Rattle.bac_device.specs.Size.{CarriesRequest, CarriesUnconfirmed, IsWithinAnnounced, HasFifteen};
 ghost use Rattle.bac_device.specs.Turns.{Arrival, AnswersInTurn, AreDefined};
+
+use crate::device::AddFault;
 
 /// Over any list of datagrams the replies of a device that answers each in turn are those of the definition, and its places
 /// are those after the accepted writes.
@@ -26,7 +29,20 @@ pub fn points_stay()
     ensures { (info : Info) (points : List Description) (writes : List Write) → points_of (device_after info points writes) ≡ points }
 {}
 
-/// An I-Am, to which no size is announced, has fifteen octets.
-pub fn i_am_is_short()
-    ensures { (info : Info) → length (laid_out (i_am info)) ≡ 15 }
+/// The APDU of each reply to a confirmed request has no more octets than its code announces, or is the Abort 71 id 04; that
+/// of an I-Am, to which no size is announced, has fifteen.
+pub fn replies_fit()
+    ensures confirmed { (device : DeviceState) (from to : Station) (datagram reply : List ℕ) (code id : ℕ)
+        → CarriesRequest from datagram code id → reply_of device from datagram ≡ Some (to, reply)
+        → IsWithinAnnounced to code id reply }
+    ensures introduced { (device : DeviceState) (from to : Station) (datagram reply : List ℕ)
+        → CarriesUnconfirmed from datagram → reply_of device from datagram ≡ Some (to, reply)
+        → HasFifteen to reply }
 {}
+
+/// The fault.
+pub fn same_fault(a: &AddFault, b: &AddFault) -> bool
+    ensures { IsTrue result ↔ (a.now ≡ b.now) }
+{
+    a == b
+}

@@ -1,6 +1,7 @@
 ghost use Rattle.std.specs.Prelude.{◌≡◌, ◌<◌, ◌+◌, ◌∷◌, ◌++◌, length, slice_get, map, IfSome, IfOk, OnOk, OnErr};
 ghost use Rattle.std.specs.Option.{option_map};
 ghost use Rattle.std.specs.List.{flat_map};
+ghost use Rattle.bac_wire.specs.Limits.{frame_room};
 ghost use Rattle.bac_wire.specs.Datum.{datum, plain, IsSound, object};
 ghost use Rattle.bac_wire.specs.Identifier.{identifier};
 ghost use Rattle.bac_device.specs.Kind.{place_value};
@@ -10,7 +11,7 @@ ghost use Rattle.bac_device.specs.Property.{property_seen, IsSoundProperty, poin
 use crate::failure::Failure;
 use crate::kind::Family;
 use crate::point::StandingPoint;
-use bac_wire::{FRAME_OCTETS, Frame, Full, ObjectId, Value, write_value};
+use bac_wire::{Frame, Full, ObjectId, Value, write_value};
 
 /// The values of a property (clause 12).
 #[derive(Clone, Copy)]
@@ -107,7 +108,7 @@ fn place_at(family: Family, places: &[Option<u32>], place: usize) -> Option<Valu
 pub(crate) fn append_region(frame: &mut Frame, property: &Property<'_>) -> Result<(), Full>
     requires { IsSoundProperty property.now }
     ensures ok { OnOk result (frame.new ≡ frame.old ++ region_octets (property_seen property.now)) }
-    ensures full { OnErr result (FRAME_OCTETS < length frame.old + length (region_octets (property_seen property.now))) }
+    ensures full { OnErr result (frame_room < length frame.old + length (region_octets (property_seen property.now))) }
 {
     match property {
         Property::Single(value) => write_value(frame, value),
@@ -123,7 +124,7 @@ pub(crate) fn append_region(frame: &mut Frame, property: &Property<'_>) -> Resul
 /// Appends the identifiers of the points. `Full` only where there is no room for them.
 fn append_objects(frame: &mut Frame, points: &[StandingPoint]) -> Result<(), Full>
     ensures ok { OnOk result (frame.new ≡ frame.old ++ flat_map plain (point_objects points.now)) }
-    ensures full { OnErr result (FRAME_OCTETS < length frame.old + length (flat_map plain (point_objects points.now))) }
+    ensures full { OnErr result (frame_room < length frame.old + length (flat_map plain (point_objects points.now))) }
 {
     for point in points {
         write_value(frame, &Value::Object(point.id()))?;
@@ -134,7 +135,7 @@ fn append_objects(frame: &mut Frame, points: &[StandingPoint]) -> Result<(), Ful
 /// Appends the values of the places of a priority array. `Full` only where there is no room for them.
 fn append_places(frame: &mut Frame, family: Family, places: &[Option<u32>]) -> Result<(), Full>
     ensures ok { OnOk result (frame.new ≡ frame.old ++ flat_map plain (map (place_value family) places.now)) }
-    ensures full { OnErr result (FRAME_OCTETS < length frame.old + length (flat_map plain (map (place_value family) places.now))) }
+    ensures full { OnErr result (frame_room < length frame.old + length (flat_map plain (map (place_value family) places.now))) }
 {
     for place in places {
         write_value(frame, &family.place_value(*place))?;

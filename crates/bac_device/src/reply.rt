@@ -1,5 +1,6 @@
-ghost use Rattle.std.specs.Prelude.{◌≡◌, ◌<◌, ◌≤◌, List, [], length, IfOk, IfSome, IfNone, OnOk, OnErr};
+ghost use Rattle.std.specs.Prelude.{◌≡◌, ℕ, ◌<◌, ◌≤◌, List, [], length, IfOk, IfSome, IfNone, OnOk, OnErr};
 ghost use Rattle.std.specs.Option.{option_map};
+ghost use Rattle.bac_wire.specs.Limits.{frame_room};
 ghost use Rattle.bac_wire.specs.Identifier.{identifier};
 ghost use Rattle.bac_pdu.specs.Apdu.{laid_out, reject, error};
 ghost use Rattle.bac_pdu.specs.Peer.{station};
@@ -11,6 +12,7 @@ ghost use Rattle.bac_device.specs.Places.{Write, IsUrgent, write_seen};
 ghost use Rattle.bac_device.specs.Property.{property_seen, IsSoundProperty};
 ghost use Rattle.bac_device.specs.Failure.{error_class, error_code};
 ghost use Rattle.bac_device.specs.Device.{Holds, points_of, device_after};
+ghost use Rattle.bac_device.specs.Size.{CarriesRequest, CarriesUnconfirmed, IsWithinAnnounced, HasFifteen};
 ghost use Rattle.bac_device.specs.Reply.{answered_object, read_property, accepted, ordered, ack as ack_message, urgency as urgency_of, read_reply, write_reply, write_in_body, full_reply, write_in_request, fitting, refused as refused_message, introduced, i_am as i_am_message, reply_apdu, write_apdu as write_in_apdu, reply_of, write_of_datagram, with_write, reply_to, writes_after};
 
 use crate::device::Device;
@@ -25,7 +27,7 @@ use bac_pdu::{
     WhoIs, WriteRequest, announced, begin_ack, end_ack, open_datagram, read_apdu, read_read,
     read_whois, read_write, wrap_within, write_apdu, write_error, write_iam,
 };
-use bac_wire::{FRAME_OCTETS, Frame, Full, ObjectId};
+use bac_wire::{Frame, Full, ObjectId};
 
 /// The abort reason of what would have to be sent or taken in segments (clause 18.10).
 const SEGMENTATION_NOT_SUPPORTED: u8 = 4;
@@ -90,7 +92,7 @@ impl Device {
         requires sound { IsSoundProperty property.now }
         requires empty { frame.old ≡ [] }
         ensures ok { OnOk result (frame.new ≡ laid_out (ack_message self.now id (reference request.now) (property_seen property.now))) }
-        ensures full { OnErr result (FRAME_OCTETS < length (laid_out (ack_message self.now id (reference request.now) (property_seen property.now)))) }
+        ensures full { OnErr result (frame_room < length (laid_out (ack_message self.now id (reference request.now) (property_seen property.now)))) }
     {
         let answered = ReadRequest {
             object: self.answered_object(request.object),
@@ -117,15 +119,15 @@ impl Device {
     fn read_reply(&self, id: u8, body: &[u8], frame: &mut Frame) -> Result<(), Full>
         requires { frame.old ≡ [] }
         ensures ok { OnOk result (frame.new ≡ laid_out (read_reply self.now id body.now)) }
-        ensures full { OnErr result (FRAME_OCTETS < length (laid_out (read_reply self.now id body.now))) }
+        ensures full { OnErr result (frame_room < length (laid_out (read_reply self.now id body.now))) }
     {
         let request = match read_read(body) {
             Ok(request) => request,
-            Err(reason) => return rejected(id, reason, frame),
+            Err(reason) => return append_reject(id, reason, frame),
         };
         match self.read_property(&request) {
             Ok(property) => self.ack(id, &request, &property, frame),
-            Err(failure) => failed(id, READ_PROPERTY, failure, frame),
+            Err(failure) => append_error(id, READ_PROPERTY, failure, frame),
         }
     }
 
@@ -134,13 +136,13 @@ impl Device {
     fn write_reply(&mut self, id: u8, body: &[u8], frame: &mut Frame) -> Result<(), Full>
         requires { frame.old ≡ [] }
         ensures ok { OnOk result (frame.new ≡ laid_out (write_reply self.old id body.now)) }
-        ensures full { OnErr result (FRAME_OCTETS < length (laid_out (write_reply self.old id body.now))) }
+        ensures full { OnErr result (frame_room < length (laid_out (write_reply self.old id body.now))) }
         ensures after { self.new ≡ with_write self.old (write_in_body self.old body.now) }
         ensures urgent { IfSome (write_in_body self.old body.now) IsUrgent }
     {
         let request = match read_write(body) {
             Ok(request) => request,
-            Err(reason) => return rejected(id, reason, frame),
+            Err(reason) => return append_reject(id, reason, frame),
         };
         match self.accepted(&request) {
             Ok(write) => {
@@ -153,7 +155,7 @@ impl Device {
                     },
                 )
             }
-            Err(failure) => failed(id, WRITE_PROPERTY, failure, frame),
+            Err(failure) => append_error(id, WRITE_PROPERTY, failure, frame),
         }
     }
 
@@ -169,18 +171,18 @@ impl Device {
     ) -> Result<(), Full>
         requires { frame.old ≡ [] }
         ensures ok { OnOk result (frame.new ≡ laid_out (full_reply self.old part id service body.now)) }
-        ensures full { OnErr result (FRAME_OCTETS < length (laid_out (full_reply self.old part id service body.now))) }
+        ensures full { OnErr result (frame_room < length (laid_out (full_reply self.old part id service body.now))) }
         ensures after { self.new ≡ with_write self.old (write_in_request self.old part service body.now) }
         ensures urgent { IfSome (write_in_request self.old part service body.now) IsUrgent }
     {
         if part.is_some() {
-            refuse(id, frame);
+            make_abort(id, frame);
             return Ok(());
         }
         match service {
             READ_PROPERTY => self.read_reply(id, body, frame),
             WRITE_PROPERTY => self.write_reply(id, body, frame),
-            _ => rejected(id, RejectReason::UnknownService, frame),
+            _ => append_reject(id, RejectReason::UnknownService, frame),
         }
     }
 
@@ -202,7 +204,7 @@ impl Device {
     {
         match self.full_reply(part, id, service, body, frame) {
             Ok(()) if frame.len() <= usize::from(announced(code)) => {}
-            _ => refuse(id, frame),
+            _ => make_abort(id, frame),
         }
     }
 
@@ -239,10 +241,14 @@ impl Device {
     /// an empty frame, where the device is silent.
     ///
     /// Who-Is is answered where the device is asked for; a confirmed request where it was sent to this device alone. A reply
-    /// that has more octets than the requester announced becomes an Abort.
+    /// that has more octets than the requester announced becomes an Abort. An I-Am has fifteen octets.
     pub fn answer(&mut self, from: Peer, datagram: &[u8], frame: &mut Frame) -> Option<Peer>
         ensures reply { (writes : List Write) → Holds self.old writes → option_map (λ peer. (station peer, frame.new)) result ≡ reply_to self.old.info (points_of self.old) writes (station from) datagram.now }
         ensures after { (writes : List Write) → Holds self.old writes → self.new ≡ device_after self.old.info (points_of self.old) (writes_after self.old.info (points_of self.old) writes (station from) datagram.now) }
+        ensures fits { (code id : ℕ) → CarriesRequest (station from) datagram.now code id
+            → IfSome result (λ peer. IsWithinAnnounced (station peer) code id frame.new) }
+        ensures introduced { CarriesUnconfirmed (station from) datagram.now
+            → IfSome result (λ peer. HasFifteen (station peer) frame.new) }
         ensures silent { IfNone result (frame.new ≡ []) }
     {
         frame.clear();
@@ -286,7 +292,7 @@ fn introduce(info: &DeviceInfo, body: &[u8], frame: &mut Frame) -> Option<()>
 fn i_am(info: &DeviceInfo, frame: &mut Frame) -> Result<(), Full>
     requires { frame.old ≡ [] }
     ensures ok { OnOk result (frame.new ≡ laid_out (i_am_message info.now)) }
-    ensures full { OnErr result (FRAME_OCTETS < length (laid_out (i_am_message info.now))) }
+    ensures full { OnErr result (frame_room < length (laid_out (i_am_message info.now))) }
 {
     let i_am = IAm {
         device: info.object(),
@@ -334,10 +340,10 @@ fn urgency(priority: Option<u8>) -> Result<u8, Failure>
 }
 
 /// Appends a Reject to an empty frame.
-fn rejected(id: u8, reason: RejectReason, frame: &mut Frame) -> Result<(), Full>
+fn append_reject(id: u8, reason: RejectReason, frame: &mut Frame) -> Result<(), Full>
     requires { frame.old ≡ [] }
     ensures ok { OnOk result (frame.new ≡ laid_out (reject id (reason_number reason))) }
-    ensures full { OnErr result (FRAME_OCTETS < length (laid_out (reject id (reason_number reason)))) }
+    ensures full { OnErr result (frame_room < length (laid_out (reject id (reason_number reason)))) }
 {
     write_apdu(
         frame,
@@ -349,10 +355,10 @@ fn rejected(id: u8, reason: RejectReason, frame: &mut Frame) -> Result<(), Full>
 }
 
 /// Appends an Error to an empty frame.
-fn failed(id: u8, service: u8, failure: Failure, frame: &mut Frame) -> Result<(), Full>
+fn append_error(id: u8, service: u8, failure: Failure, frame: &mut Frame) -> Result<(), Full>
     requires { frame.old ≡ [] }
     ensures ok { OnOk result (frame.new ≡ laid_out (error id service (error_octets (error_class failure) (error_code failure)))) }
-    ensures full { OnErr result (FRAME_OCTETS < length (laid_out (error id service (error_octets (error_class failure) (error_code failure))))) }
+    ensures full { OnErr result (frame_room < length (laid_out (error id service (error_octets (error_class failure) (error_code failure))))) }
 {
     // The body is put behind it.
     write_apdu(
@@ -367,7 +373,7 @@ fn failed(id: u8, service: u8, failure: Failure, frame: &mut Frame) -> Result<()
 }
 
 /// Makes the frame the Abort of what would take segments.
-fn refuse(id: u8, frame: &mut Frame)
+fn make_abort(id: u8, frame: &mut Frame)
     ensures { frame.new ≡ laid_out (refused_message id) }
 {
     frame.clear();

@@ -10,6 +10,6 @@ pub(crate) struct PlaceWrite {
     pub(crate) priority: u8,
     /// None is NULL.
     pub(crate) value: Option<u32>,
-    ghost most: { 1 ≤ priority },
-    ghost least: { priority ≤ 16 },
+    ghost least: { 1 ≤ priority },
+    ghost most: { priority ≤ 16 },
 }

@@ -4,10 +4,11 @@ use Rattle.std.specs.Option.{ForSome}
 use Rattle.bac_tsm.specs.Events.{Outcome}
 use Rattle.bac_tsm.specs.Client.{Client}
 use Rattle.bac_text.specs.Checked.{Puts}
+use Rattle.bac_links.specs.Limits.{most_turns}
 use Rattle.bac_links.specs.Told.{Told}
 use Rattle.bac_links.specs.Ending.{ending_line, exit_of}
 use Rattle.bac_links.specs.Call.{IsOpenAfter, EndsIn, Tells}
-use Rattle.bac_links.specs.CallSteps.{Underway, Ended, TurnFails}
+use Rattle.bac_links.specs.CallSteps.{Underway, TurnFails}
 use Rattle.bac_links.specs.declared.ending.Tool.{Tool}
 use Rattle.bac_links.specs.declared.ending.Exit.{Exit}
 use Rattle.bac_text.specs.declared.jobs.Call.{Call}
@@ -18,20 +19,10 @@ use Rattle.bac_links.specs.declared.fault.ToolFault.TheVariants.{SendFailed, Rec
 pub is_open : (tool : Tool) (call : Call) (t : Told) (link : Option Told) (client : Client) (n : ℕ) → Underway tool call t link client n → IsOpenAfter tool call t n
 is_open tool call t link client n far = record { received = far.received; still_open = far.carried.still_open }
 
-pub ends_in : (tool : Tool) (call : Call) (t : Told) (left : Option Told) (ending : Option Outcome) (n : ℕ) → n < 65536 →
-    IsOpenAfter tool call t n → Ended tool call t left ending n → EndsIn tool call t left ending n
-ends_in tool call t left ending n within before ended = record {
-  within = within;
-  before = before;
-  received = ended.received;
-  ended = ended.ended;
-  link_left = ended.link_left;
-}
-
 -- A turn that fails.
 pub record Failure (tool : Tool) (call : Call) (t : Told) (left : Option Told) (fault : ToolFault) : Type 0 where
   pub n : ℕ
-  pub within : n < 65536
+  pub within : n < most_turns
   pub before : IsOpenAfter tool call t n
   pub fails : TurnFails tool call t left n fault
 

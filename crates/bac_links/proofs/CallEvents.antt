@@ -1,13 +1,12 @@
 -- What the look-ahead says of the events of a call, one event after another.
 use Rattle.std.proofs.Common.{◌≡◌, ℕ, zero, suc, ◌+◌, ◌<◌, ◌≤◌, List, [], ◌∷◌, ◌++◌, length, Option, Some, None, Result, Ok, slice_get, Bool, true, false, not, ◌⊎◌, nat_eq, nat_lt, refl, sym, ap, ◌∙◌, arith, append_assoc, inl, inr, subst, if◌then◌else◌, eq-eqb}
-use Rattle.std.proofs.lemmas.List.{append-nil}
-use Rattle.std.proofs.lemmas.List.{take-append-le}
+use Rattle.std.proofs.lemmas.List.{append-nil, length-map, length_push, map-append, take-append-le}
 use Rattle.std.proofs.lemmas.Bool.{cases_Bool, cases_eq, cases_lt}
 use Rattle.std.proofs.lemmas.Bool.Decides.{nat_tests}
 use Rattle.std.proofs.Math.Seq.{take-append_seam}
 use Rattle.std.specs.List.{list_any}
 use Rattle.bac_pdu.specs.Peer.{Station, station}
-use Rattle.bac_tsm.specs.declared.limits.TheConstants.{LONGEST_BODY}
+use Rattle.bac_links.specs.Limits.{longest_body}
 use Rattle.bac_tsm.specs.Events.{Outcome, Event, Ask, Data, Tick, Note, Sent, Refused, Done, Dropped, TimedOut, Rules, Request}
 use Rattle.bac_tsm.specs.Lookahead.{Accepted, End, accepted, accepted_at, end, end_notes, end_note, or_dropped, send_notes, is_open_at, next_number, refusal_of, output, notes_on, is_tick, sends}
 use Rattle.bac_tsm.specs.Machine.{State, Stepped, Answered, Run, step, initial, folded, submit, tick, sent}
@@ -29,15 +28,11 @@ pub slice_get-last : (events : List Event) (event : Event) → slice_get (events
 slice_get-last [] event = refl
 slice_get-last (x ∷ events) event = slice_get-last events event
 
-pub length-push : {A : Type 0} (xs : List A) (x : A) → length (xs ++ x ∷ []) ≡ suc (length xs)
-length-push [] x = refl
-length-push (y ∷ xs) x = ap suc (length-push xs x)
-
 module _ (rules : Rules) (by_number : AnswersByNumber rules) (small : rules.places ≤ 255) (events : List Event) (event : Event) where
   -- What is kept before the last event does not rest on it.
   pub state_before : state_at rules 0 (events ++ event ∷ []) (length events) ≡ state_at rules 0 events (length events)
   state_before =
-      let first = run_first rules 0 (events ++ event ∷ []) by_number small (length events) (let e = length-push events event in omega arith) in
+      let first = run_first rules 0 (events ++ event ∷ []) by_number small (length events) (let e = length_push events event in omega arith) in
       let whole = run_whole rules 0 events by_number small in
       sym (ap (λ r. r.after) first) ∙ ap (λ xs. (folded rules (initial 0) 0 xs).after) (take-append_seam events (event ∷ []))
       ∙ ap (λ r. r.after) whole
@@ -74,15 +69,15 @@ module _ (tool : Tool) (call : Call) (time : ℕ) where
   abbrev pub with_rest : List Event → List Event
   with_rest rest = Tick time ∷ Ask (station call.to) (service_of tool) call.body.items ∷ rest
 
-  fitting : length call.body.items ≤ LONGEST_BODY → nat_lt LONGEST_BODY (length call.body.items) ≡ false
+  fitting : length call.body.items ≤ longest_body → nat_lt longest_body (length call.body.items) ≡ false
   fitting short = grind (arith, nat_tests)
 
-  accepted_first : (rest : List Event) → length call.body.items ≤ LONGEST_BODY → accepted (rules_for call) 0 (with_rest rest) 2 ≡ asked tool call ∷ []
+  accepted_first : (rest : List Event) → length call.body.items ≤ longest_body → accepted (rules_for call) 0 (with_rest rest) 2 ≡ asked tool call ∷ []
   unfolding refusal_of next_number
   accepted_first rest short = rw (fitting short) refl
 
   -- The request is accepted, and no other is asked for.
-  pub accepted_is : (rest : List Event) → length call.body.items ≤ LONGEST_BODY → NoAsk rest → (j : ℕ) →
+  pub accepted_is : (rest : List Event) → length call.body.items ≤ longest_body → NoAsk rest → (j : ℕ) →
       accepted (rules_for call) 0 (with_rest rest) (suc (suc j)) ≡ asked tool call ∷ []
   accepted_is rest short quiet zero = accepted_first rest short
   accepted_is rest short quiet (suc j) =
@@ -199,7 +194,7 @@ module _ (rules : Rules) (events : List Event) (i : ℕ) (a : Accepted) (only : 
       ∙ ap (λ (xs : List Sending). sendings at (send_notes rules events i a) ++ xs) (sendings_ended at i a.request (end rules events a))
       ∙ append-nil (sendings at (send_notes rules events i a))
 
-module _ (tool : Tool) (call : Call) (time : ℕ) (rest : List Event) (short : length call.body.items ≤ LONGEST_BODY) (quiet : NoAsk rest) where
+module _ (tool : Tool) (call : Call) (time : ℕ) (rest : List Event) (short : length call.body.items ≤ longest_body) (quiet : NoAsk rest) where
   abbrev all : List Event
   all = with_rest tool call time rest
 
@@ -225,7 +220,7 @@ module _ (tool : Tool) (call : Call) (time : ℕ) (rest : List Event) (short : l
     rw (accepted_is tool call time rest short quiet (length rest), unended) refl,
   )
 
-module _ (tool : Tool) (call : Call) (time : ℕ) (rest : List Event) (short : length call.body.items ≤ LONGEST_BODY) (quiet : NoAsk rest) (event : Event) (news : IsNews event) (unended : end (rules_for call) (with_rest tool call time rest) (asked tool call) ≡ None) where
+module _ (tool : Tool) (call : Call) (time : ℕ) (rest : List Event) (short : length call.body.items ≤ longest_body) (quiet : NoAsk rest) (event : Event) (news : IsNews event) (unended : end (rules_for call) (with_rest tool call time rest) (asked tool call) ≡ None) where
   abbrev before : List Event
   before = with_rest tool call time rest
 
@@ -240,7 +235,7 @@ module _ (tool : Tool) (call : Call) (time : ℕ) (rest : List Event) (short : l
       ≡ record { notes = output (rules_for call) 0 after (length before); after = state_at (rules_for call) 0 after (length after) }
   step_is =
       last_step (rules_for call) (by_number call.timeout call.retries) few_places before event
-      ∙ both_are _ _ _ _ refl (ap (state_at (rules_for call) 0 after) (sym (length-push before event)))
+      ∙ both_are _ _ _ _ refl (ap (state_at (rules_for call) 0 after) (let l = length_push before event in let e : suc (length before) ≡ length after = omega arith in e))
 
   still_here : is_open_at (rules_for call) after (length before) (asked tool call) ≡ true
   still_here = elim (cases_Bool (is_open_at (rules_for call) after (length before) (asked tool call))) [
@@ -264,7 +259,7 @@ module _ (tool : Tool) (call : Call) (time : ℕ) (rest : List Event) (short : l
       elim (cases_eq (length before) x.position) [
         | inl same ↦ inr (x.outcome, λ i. Some (record { position = sym same i; outcome = x.outcome }))
         | inr other ↦
-            let past : length after ≤ x.position = let l = length-push before event in omega arith in
+            let past : length after ≤ x.position = let l = length_push before event in omega arith in
             let none = rw e at (past_unended (rules_for call) after (asked tool call) x.position past (omega arith)) in
             let bad : x.outcome ∷ [] ≡ [] = sym (endings_at x.position (asked tool call).request x.outcome) ∙ ap endings none in
             cc
@@ -330,13 +325,13 @@ told-before : (rules : Rules) (events : List Event) (event : Event) (i : ℕ) (a
     told_from rules (events ++ event ∷ []) i all ≡ told_from rules events i all
 told-before rules events event i [] within = refl
 told-before rules events event i (x ∷ all) within =
-    let l = length-push events event in
+    let l = length_push events event in
     let same = take-append-le (suc i) events (event ∷ []) (omega arith) in
     let here = looks_back rules 0 (events ++ event ∷ []) events i (omega arith) (omega arith) same in
     ap (λ (ns : List Note). sendings x.time ns ++ told_from rules (events ++ event ∷ []) (suc i) all) here
     ∙ ap (λ (xs : List Sending). sendings x.time (output rules 0 events i) ++ xs) (told-before rules events event (suc i) all (omega arith))
 
-module _ (tool : Tool) (call : Call) (time : ℕ) (rest : List Event) (short : length call.body.items ≤ LONGEST_BODY) (quiet : NoAsk rest) where
+module _ (tool : Tool) (call : Call) (time : ℕ) (rest : List Event) (short : length call.body.items ≤ longest_body) (quiet : NoAsk rest) where
   sent_told : (i : ℕ) (moments : List Moment) → i + length moments ≤ length (with_rest tool call time rest) →
       sent_from (rules_for call) (with_rest tool call time rest) (asked tool call) i moments ≡ told_from (rules_for call) (with_rest tool call time rest) i moments
   sent_told i [] within = refl
@@ -345,28 +340,20 @@ module _ (tool : Tool) (call : Call) (time : ℕ) (rest : List Event) (short : l
       (sym (same_sends tool call time rest short quiet x.time i (omega arith)))
       ∙ ap (λ (xs : List Sending). sendings x.time (output (rules_for call) 0 (with_rest tool call time rest) i) ++ xs) (sent_told (suc i) moments (omega arith))
 
-length_events : (moments : List Moment) → length (events_of moments) ≡ length moments
-length_events [] = refl
-length_events (m ∷ moments) = ap suc (length_events moments)
-
-events-push : (moments : List Moment) (m : Moment) → events_of (moments ++ m ∷ []) ≡ events_of moments ++ m.event ∷ []
-events-push [] m = refl
-events-push (x ∷ moments) m = ap (◌∷◌ x.event) (events-push moments m)
-
 -- ---- a call, moment by moment
 
 abbrev Client_of : Call → State → Client
 Client_of call state = record { timeout = call.timeout; retries = call.retries; state = state }
 
-sent_in_told : (tool : Tool) (call : Call) (time : ℕ) (later : List Moment) → length call.body.items ≤ LONGEST_BODY → NoAsk (events_of later) →
+sent_in_told : (tool : Tool) (call : Call) (time : ℕ) (later : List Moment) → length call.body.items ≤ longest_body → NoAsk (events_of later) →
     sent_in tool call (begun_at tool call time later) ≡ told_from (rules_for call) (with_rest tool call time (events_of later)) 0 (begun_at tool call time later)
 sent_in_told tool call time later short quiet =
-    let l = length_events later in
+    let l = length-map later (λ m. m.event) in
     sends_in_order (rules_for call) (with_rest tool call time (events_of later)) (asked tool call) (begun_at tool call time later) (omega arith) (omega arith)
     ∙ sent_told tool call time (events_of later) short quiet 0 (begun_at tool call time later) (omega arith)
 
 pub NoAsk-push : (moments : List Moment) (m : Moment) → NoAsk (events_of moments) → IsNews m.event → NoAsk (events_of (moments ++ m ∷ []))
-NoAsk-push moments m quiet news = rw (events-push moments m) (NoAsk-append (events_of moments) (m.event ∷ []) quiet (news_quiet m.event news))
+NoAsk-push moments m quiet news = rw (map-append (λ (m : Moment). m.event) moments (m ∷ [])) (NoAsk-append (events_of moments) (m.event ∷ []) quiet (news_quiet m.event news))
 
 module _ (tool : Tool) (call : Call) (time : ℕ) (later : List Moment) (client : Client) (far : Carries tool call time later client) (m : Moment) (news : IsNews m.event) where
   abbrev handed : Stepped
@@ -381,10 +368,10 @@ module _ (tool : Tool) (call : Call) (time : ℕ) (later : List Moment) (client 
   state_is : client.state ≡ state_at (rules_for call) 0 (with_rest tool call time rest) (length (with_rest tool call time rest))
   state_is =
       ap (λ c. c.state) far.client_is
-      ∙ ap (λ n. state_at (rules_for call) 0 (with_rest tool call time rest) (suc (suc n))) (sym (length_events later))
+      ∙ ap (λ n. state_at (rules_for call) 0 (with_rest tool call time rest) (suc (suc n))) (sym (length-map later (λ m. m.event)))
 
   same_events : with_rest tool call time (rest ++ m.event ∷ []) ≡ with_rest tool call time (events_of next)
-  same_events = ap (with_rest tool call time) (sym (events-push later m))
+  same_events = ap (with_rest tool call time) (sym (map-append (λ m. m.event) later (m ∷ [])))
 
   quiet_next : NoAsk (events_of next)
   quiet_next = NoAsk-push later m far.quiet news
@@ -394,9 +381,9 @@ module _ (tool : Tool) (call : Call) (time : ℕ) (later : List Moment) (client 
     after = state_at (rules_for call) 0 (with_rest tool call time (events_of next)) (length (begun_at tool call time next));
   }
   handed_is =
-      let q : length (with_rest tool call time rest) ≡ length (begun_at tool call time later) = ap (λ n. suc (suc n)) (length_events later) in
+      let q : length (with_rest tool call time rest) ≡ length (begun_at tool call time later) = ap (λ n. suc (suc n)) (length-map later (λ m. m.event)) in
       let r : length (with_rest tool call time (rest ++ m.event ∷ [])) ≡ length (begun_at tool call time next) =
-      ap (λ (xs : List Event). suc (suc (length xs))) (sym (events-push later m)) ∙ ap (λ n. suc (suc n)) (length_events next) in
+      ap (λ (xs : List Event). suc (suc (length xs))) (sym (map-append (λ m. m.event) later (m ∷ []))) ∙ ap (λ n. suc (suc n)) (length-map next (λ m. m.event)) in
       ap (λ s. step (rules_for call) s m.event) state_is
       ∙ step_is tool call time rest far.short far.quiet m.event news far.still_open.unended
       ∙ both_are _ _ _ _ (λ i. output (rules_for call) 0 (same_events i) (q i)) (λ i. state_at (rules_for call) 0 (same_events i) (r i))
@@ -405,8 +392,8 @@ module _ (tool : Tool) (call : Call) (time : ℕ) (later : List Moment) (client 
   pub sends_next : sent_in tool call (begun_at tool call time next) ≡ sent_in tool call (begun_at tool call time later) ++ sendings m.time handed.notes
   sends_next =
       let all = begun_at tool call time later in
-      let l = length_events later in
-      let k = length_events next in
+      let l = length-map later (λ m. m.event) in
+      let k = length-map next (λ m. m.event) in
       let z : 0 + length all ≡ length all = omega arith in
       sent_in_told tool call time next far.short quiet_next
       ∙ told-push (rules_for call) (with_rest tool call time (events_of next)) 0 all m
@@ -441,7 +428,7 @@ module _ (tool : Tool) (call : Call) (time : ℕ) (later : List Moment) (client 
   ends_next o one = record {
     request = request_is;
     position = length (with_rest tool call time rest);
-    last = ap (λ n. suc (suc (suc n))) (length_events later) ∙ ap (λ n. suc (suc n)) (sym (length-push later m));
+    last = let l = length-map later (λ m. m.event) in let k = length_push later m in omega arith;
     ended =
         subst (λ (events : List Event). end (rules_for call) events (asked tool call) ≡ Some (record { position = length (with_rest tool call time rest); outcome = o })) same_events
         (stops tool call time rest far.short far.quiet m.event news far.still_open.unended o
@@ -452,12 +439,12 @@ module _ (tool : Tool) (call : Call) (time : ℕ) (later : List Moment) (client 
 pub carried_alone : (tool : Tool) (call : Call) (time : ℕ) (later : List Moment) (client : Client) → Carries tool call time later client → IsAlone client.state
 carried_alone tool call time later client far =
     let one = alone tool call time (events_of later) far.short far.quiet far.still_open.unended in
-    let e = ap (λ c. c.state) far.client_is ∙ ap (λ n. state_at (rules_for call) 0 (with_rest tool call time (events_of later)) (suc (suc n))) (sym (length_events later)) in
+    let e = ap (λ c. c.state) far.client_is ∙ ap (λ n. state_at (rules_for call) 0 (with_rest tool call time (events_of later)) (suc (suc n))) (sym (length-map later (λ m. m.event))) in
     (one.0, ap (λ s. s.waiting) e ∙ one.1)
 
 -- ---- the beginning
 
-module _ (tool : Tool) (call : Call) (time : ℕ) (short : length call.body.items ≤ LONGEST_BODY) where
+module _ (tool : Tool) (call : Call) (time : ℕ) (short : length call.body.items ≤ longest_body) where
   abbrev first : List Event
   first = with_rest tool call time []
 

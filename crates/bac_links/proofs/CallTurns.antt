@@ -5,15 +5,18 @@ use Rattle.bac_pdu.specs.Peer.{Station}
 use Rattle.bac_tsm.specs.Events.{Outcome, Data, Tick, Rules}
 use Rattle.bac_tsm.specs.Machine.{State, Stepped, datagram_notes, datagram, step, sent}
 use Rattle.bac_tsm.specs.Client.{Client, rules_of, keeping}
-use Rattle.bac_tsm.specs.declared.limits.TheConstants.{LONGEST_BODY}
+use Rattle.bac_links.specs.Limits.{most_turns}
+use Rattle.bac_links.specs.Limits.{longest_body}
 use Rattle.bac_links.specs.Told.{Told, Heard, Silence, Arrival, Failure, Sending, after_wait, waited, having_sent}
 use Rattle.bac_links.specs.Moments.{Moment, data_in, at_time, turn, turns}
-use Rattle.bac_links.specs.Call.{sendings, wait_of, rules_for, begun_at, moments, sent_in, heard_in, left_by, EndsAfter, FailsToSend}
-use Rattle.bac_links.specs.CallSteps.{endings, heard_step, timeouts, IsAlone, Carries, Underway, Ended, TurnFails}
+use Rattle.bac_links.specs.Call.{sendings, wait_of, rules_for, begun_at, moments, sent_in, heard_in, left_by, EndsAfter, EndsIn, FailsToSend}
+use Rattle.bac_links.specs.CallSteps.{endings, heard_step, timeouts, IsAlone, Carries, Underway, TurnFails}
 use Rattle.bac_links.specs.declared.ending.Tool.{Tool}
 use Rattle.bac_text.specs.declared.jobs.Call.{Call}
 use Rattle.bac_links.specs.declared.fault.ToolFault.TheVariants.{SendFailed, ReceiveFailed}
 use Rattle.bac_links.proofs.CallEvents.{carries_on, ends_next, sends_next, carried_alone, submitted, begins, begins_open, begins_sent}
+use Rattle.bac_links.proofs.CallEnds.{is_open}
+use Rattle.bac_links.proofs.Sendings.{having_sent-both}
 
 -- A datagram sends nothing.
 data_unsent : (time : ℕ) (rules : Rules) (state : State) (from : Station) (octets : List ℕ) → sendings time (step rules state (Data from octets)).notes ≡ []
@@ -39,13 +42,16 @@ module _ (tool : Tool) (call : Call) (time : ℕ) (later : List Moment) (client 
   rules_are : rules_of client ≡ rules_for call
   rules_are = ap rules_of far.client_is
 
-  heard_on : (heard : Heard) (left : Client) → endings (heard_step (rules_of client) client.state heard).notes ≡ [] →
-      left ≡ keeping client (heard_step (rules_of client) client.state heard).after →
-      Hears tool call time later (later ++ at_time at (data_in heard)) left
-  heard_on Silence left none e = record {
+  nothing_on : (left : Client) → left ≡ client → Hears tool call time later (later ++ []) left
+  nothing_on left e = record {
     carried = subst (λ (ms : List Moment). Carries tool call time ms left) (sym (append-nil later)) (subst (Carries tool call time later) (sym e) far);
     unsent = ap (λ (ms : List Moment). sent_in tool call (begun_at tool call time ms)) (append-nil later);
   }
+
+  heard_on : (heard : Heard) (left : Client) → endings (heard_step (rules_of client) client.state heard).notes ≡ [] →
+      left ≡ keeping client (heard_step (rules_of client) client.state heard).after →
+      Hears tool call time later (later ++ at_time at (data_in heard)) left
+  heard_on Silence left none e = nothing_on left e
   heard_on (Arrival from octets) left none e =
       let m : Moment = record { time = at; event = Data from octets } in
       record {
@@ -55,10 +61,7 @@ module _ (tool : Tool) (call : Call) (time : ℕ) (later : List Moment) (client 
             ∙ ap (λ (xs : List Sending). sent_in tool call (begun_at tool call time later) ++ xs) (data_unsent at (rules_for call) client.state from octets)
             ∙ append-nil (sent_in tool call (begun_at tool call time later));
       }
-  heard_on Failure left none e = record {
-    carried = subst (λ (ms : List Moment). Carries tool call time ms left) (sym (append-nil later)) (subst (Carries tool call time later) (sym e) far);
-    unsent = ap (λ (ms : List Moment). sent_in tool call (begun_at tool call time ms)) (append-nil later);
-  }
+  heard_on Failure left none e = nothing_on left e
 
   heard_end : (heard : Heard) (outcome : Outcome) → endings (heard_step (rules_of client) client.state heard).notes ≡ Some outcome ∷ [] →
       EndsAfter tool call (begun_at tool call time (later ++ at_time at (data_in heard))) (Some outcome)
@@ -72,9 +75,6 @@ module _ (tool : Tool) (call : Call) (time : ℕ) (later : List Moment) (client 
             ∙ append-nil (sent_in tool call (begun_at tool call time later)),
       )
   heard_end Failure outcome one = cc
-
-having_sent-both : (t : Told) (first more : List Sending) → having_sent more (having_sent first t) ≡ having_sent (first ++ more) t
-having_sent-both t first more = rw (append_assoc t.sent first more) refl
 
 module _ (tool : Tool) (call : Call) (t : Told) (link : Option Told) (client : Client) (n : ℕ) (far : Underway tool call t link client n) where
   abbrev here : Told
@@ -98,10 +98,10 @@ module _ (tool : Tool) (call : Call) (t : Told) (link : Option Told) (client : C
   -- An answer ends the call.
   pub answered : (left : Option Told) (outcome : Outcome) → heard ≢ Failure →
       endings (heard_step (rules_of client) client.state heard).notes ≡ Some outcome ∷ [] →
-      left ≡ Some (after_wait (wait_of call) (having_sent sent_yet here)) → Ended tool call t left (Some outcome) n
-  answered left outcome received one e =
+      left ≡ Some (after_wait (wait_of call) (having_sent sent_yet here)) → n < most_turns → EndsIn tool call t left (Some outcome) n
+  answered left outcome received one e within =
       let end = heard_end tool call (t.time []) later client far.carried time_then heard outcome one in
-      record { received = received; ended = end.0; link_left = e ∙ ap (left_by call t (suc n)) (sym end.1) }
+      record { within = within; before = is_open tool call t link client n far; received = received; ended = end.0; link_left = e ∙ ap (left_by call t (suc n)) (sym end.1) }
 
   pub unheard : (left : Option Told) → heard ≡ Failure → left ≡ Some (after_wait (wait_of call) (having_sent sent_yet here)) →
       TurnFails tool call t left n ReceiveFailed
@@ -163,8 +163,10 @@ module _ (tool : Tool) (call : Call) (t : Told) (link : Option Told) (client : C
     }
 
     -- The time runs out.
-    pub timed_out : (left : Option Told) → endings ticked.notes ≡ timeouts true → Sends left → Ended tool call t left None n
-    timed_out left one e = record {
+    pub timed_out : (left : Option Told) → endings ticked.notes ≡ timeouts true → Sends left → n < most_turns → EndsIn tool call t left None n
+    timed_out left one e within = record {
+      within = within;
+      before = is_open tool call t link client n far;
       received = received;
       ended =
           subst (λ (ms : List Moment). EndsAfter tool call (begun_at tool call (t.time []) ms) None) (sym last_is)
@@ -183,7 +185,7 @@ module _ (tool : Tool) (call : Call) (t : Told) (link : Option Told) (client : C
 
 -- ---- the beginning
 
-module _ (tool : Tool) (call : Call) (t : Told) (link : Option Told) (short : length call.body.items ≤ LONGEST_BODY) (client : Client) (client_is : client ≡ record {
+module _ (tool : Tool) (call : Call) (t : Told) (link : Option Told) (short : length call.body.items ≤ longest_body) (client : Client) (client_is : client ≡ record {
   timeout = call.timeout;
   retries = call.retries;
   state = (submitted tool call (t.time []) short).after;

@@ -1,12 +1,9 @@
 -- Faults that are not the writer's.
 use Rattle.std.proofs.Common.{◌≢◌}
-use Rattle.bac_links.specs.declared.fault.ToolFault.TheVariants.{SendFailed, ReceiveFailed, TurnsSpent, WriteFailed}
+use Rattle.bac_links.specs.declared.fault.ToolFault.TheVariants.{SendFailed, ReceiveFailed, WriteFailed}
 
 pub SendFailed-is-not-WriteFailed : SendFailed ≢ WriteFailed
 SendFailed-is-not-WriteFailed = λ e. cc
 
 pub ReceiveFailed-is-not-WriteFailed : ReceiveFailed ≢ WriteFailed
 ReceiveFailed-is-not-WriteFailed = λ e. cc
-
-pub TurnsSpent-is-not-WriteFailed : TurnsSpent ≢ WriteFailed
-TurnsSpent-is-not-WriteFailed = λ e. cc

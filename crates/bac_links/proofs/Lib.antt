@@ -1,10 +1,12 @@
 mod Faults
 mod Requests
+mod Sendings
 mod SendsInOrder
 mod CallEvents
-mod CallTurns
 mod CallEnds
+mod CallTurns
 mod Room
 mod Searches
 mod Servings
 mod OneWay
+mod Progress

@@ -1,9 +1,9 @@
 -- One course at most fits what a link tells.
-use Rattle.std.proofs.Common.{◌≡◌, ℕ, zero, suc, ◌<◌, ◌≤◌, List, [], ◌∷◌, ◌++◌, length, Option, Some, None, option_map, refl, sym, ap, ◌∙◌, arith, append_assoc, inl, inr, subst, length-append}
-use Rattle.std.proofs.lemmas.List.{append-nil, take-append-le}
+use Rattle.std.proofs.Common.{◌≡◌, ◌≢◌, ℕ, zero, suc, ◌<◌, ◌≤◌, List, [], ◌∷◌, ◌++◌, length, Option, Some, None, option_map, refl, sym, ap, ◌∙◌, arith, append_assoc, inl, inr, subst, length-append}
+use Rattle.std.proofs.lemmas.List.{append-nil, length-map, length_push, map-append, take-append-le}
 use Rattle.std.proofs.lemmas.Bool.{cases_eq, cases_lt, ne_eqb}
 use Rattle.bac_device.specs.Turns.{Arrival as Came}
-use Rattle.bac_tsm.specs.declared.limits.TheConstants.{LONGEST_BODY}
+use Rattle.bac_links.specs.Limits.{longest_body, most_turns, serve_wait}
 use Rattle.bac_tsm.specs.Events.{Outcome, Event, Ask, Data, Tick}
 use Rattle.bac_tsm.specs.Lookahead.{End, end, end_notes, output}
 use Rattle.bac_tsm.proofs.Laws.{drop_head, looks_back, early_unended}
@@ -11,24 +11,40 @@ use Rattle.bac_text.specs.declared.jobs.Call.{Call}
 use Rattle.bac_text.specs.declared.jobs.Search.{Search}
 use Rattle.bac_links.specs.Told.{Told, Heard, Silence, Arrival, Failure, waited}
 use Rattle.bac_links.specs.Moments.{Moment, events_of, at_time, data_in, turn, last_turn, turns}
-use Rattle.bac_links.specs.Call.{rules_for, wait_of, asked, begun_at, moments, moments_to, IsOpenAfter, EndsAfter}
+use Rattle.bac_links.specs.Call.{rules_for, wait_of, asked, begun_at, moments_to, heard_in, IsOpenAfter, EndsAfter}
 use Rattle.bac_links.specs.CallSteps.{endings, NoAsk}
-use Rattle.bac_links.specs.Search.{Found, found_after}
-use Rattle.bac_links.specs.Serve.{arrivals_of, deliveries}
+use Rattle.bac_links.specs.Search.{Found, found_after, passed, search_hears, Searches}
+use Rattle.bac_links.specs.Serve.{arrivals_of, deliveries, Waits}
 use Rattle.bac_links.specs.Courses.{Course, Ends, Deaf, Spent, CallGoes, SearchRuns, ServeRuns}
 use Rattle.bac_links.specs.declared.ending.Tool.{Tool}
-use Rattle.bac_links.proofs.CallEvents.{with_rest, accepted_is, NoAsk-append, news_at, news_ends, endings_at, length-push}
-use Rattle.bac_links.proofs.Servings.{length-arrivals}
+use Rattle.bac_links.proofs.CallEvents.{with_rest, accepted_is, NoAsk-append, news_at, news_ends, endings_at}
+
+-- ---- where turns stop
+
+-- Each turn before this one goes on, and this one doesn't, if it is a turn at all.
+record StopsIn (Goes : ℕ → Type 0) (n : ℕ) : Type 0 where
+  went : (k : ℕ) → k < n → Goes k
+  within : n ≤ most_turns
+  stops : n < most_turns → Goes n → ⊥
+
+same_turn : (Goes : ℕ → Type 0) (n m : ℕ) → StopsIn Goes n → StopsIn Goes m → n ≡ m
+same_turn Goes n m p q =
+    let low = p.within in
+    let high = q.within in
+    elim (cases_lt n m) [
+      | inl less ↦ absurd (p.stops (omega arith) (q.went n less))
+      | inr not_less ↦ elim (cases_eq n m) [
+        | inl same ↦ same
+        | inr other ↦ absurd (q.stops (omega arith) (p.went m (omega arith)))
+      ]
+    ]
+
+abbrev turn_of : {End : Type 0} → Course End → ℕ
+turn_of (Ends end n) = n
+turn_of (Deaf n) = n
+turn_of Spent = most_turns
 
 -- ---- the events of turns
-
-events-append : (xs ys : List Moment) → events_of (xs ++ ys) ≡ events_of xs ++ events_of ys
-events-append [] ys = refl
-events-append (x ∷ xs) ys = ap (◌∷◌ x.event) (events-append xs ys)
-
-length_events : (moments : List Moment) → length (events_of moments) ≡ length moments
-length_events [] = refl
-length_events (m ∷ moments) = ap suc (length_events moments)
 
 NoAsk-front : (xs ys : List Event) → NoAsk (xs ++ ys) → NoAsk xs
 NoAsk-front [] ys quiet = tt
@@ -47,7 +63,7 @@ quiet_turn wait t = go (t.heard [] wait)
 quiet_turns : (wait : ℕ) (t : Told) (n : ℕ) → NoAsk (events_of (turns wait t n))
 quiet_turns wait t zero = tt
 quiet_turns wait t (suc n) =
-    subst NoAsk (sym (events-append (turns wait t n) (turn wait (waited wait n t))))
+    subst NoAsk (sym (map-append (λ m. m.event) (turns wait t n) (turn wait (waited wait n t))))
     (NoAsk-append (events_of (turns wait t n)) (events_of (turn wait (waited wait n t))) (quiet_turns wait t n) (quiet_turn wait (waited wait n t)))
 
 -- ---- more at the end
@@ -95,7 +111,7 @@ ended_extend ending wait t n m lt =
 
 -- ---- an end stands, whatever comes later
 
-module _ (tool : Tool) (call : Call) (time : ℕ) (later long : List Moment) (short : length call.body.items ≤ LONGEST_BODY) (quiet : NoAsk (events_of long)) (extends : Extends later long) (ending : Option Outcome) (ended : EndsAfter tool call (begun_at tool call time later) ending) where
+module _ (tool : Tool) (call : Call) (time : ℕ) (later long : List Moment) (short : length call.body.items ≤ longest_body) (quiet : NoAsk (events_of long)) (extends : Extends later long) (ending : Option Outcome) (ended : EndsAfter tool call (begun_at tool call time later) ending) where
   abbrev early : List Event
   early = with_rest tool call time (events_of later)
 
@@ -103,10 +119,10 @@ module _ (tool : Tool) (call : Call) (time : ℕ) (later long : List Moment) (sh
   all = with_rest tool call time (events_of later ++ events_of extends.0)
 
   all_is : all ≡ with_rest tool call time (events_of long)
-  all_is = ap (with_rest tool call time) (sym (events-append later extends.0) ∙ ap events_of (sym extends.1))
+  all_is = ap (with_rest tool call time) (sym (map-append (λ m. m.event) later extends.0) ∙ ap events_of (sym extends.1))
 
   quiet_all : NoAsk (events_of later ++ events_of extends.0)
-  quiet_all = subst NoAsk (ap events_of extends.1 ∙ events-append later extends.0) quiet
+  quiet_all = subst NoAsk (ap events_of extends.1 ∙ map-append (λ m. m.event) later extends.0) quiet
 
   -- What is told at a position after the request is the end there.
   told_early : (j : ℕ) → j < length (events_of later) →
@@ -145,7 +161,7 @@ module _ (tool : Tool) (call : Call) (time : ℕ) (later long : List Moment) (sh
 
   stands : endings (end_notes ended.position (asked tool call).request (end (rules_for call) (events_of (begun_at tool call time long)) (asked tool call))) ≡ ending ∷ []
   stands =
-      let l = length_events later in
+      let l = length-map later (λ m. m.event) in
       ap (λ (events : List Event). endings (end_notes ended.position (asked tool call).request (end (rules_for call) events (asked tool call)))) (sym all_is)
       ∙ stands_at ended.position (let last = ended.last in omega arith) ended_at
 
@@ -165,7 +181,7 @@ module _ (tool : Tool) (call : Call) (time : ℕ) (later long : List Moment) (sh
 
 -- ---- calls
 
-module _ (tool : Tool) (call : Call) (t : Told) (short : length call.body.items ≤ LONGEST_BODY) where
+module _ (tool : Tool) (call : Call) (t : Told) (short : length call.body.items ≤ longest_body) where
   -- A call that ended in turn n is open after no later turn.
   closed : (ending : Option Outcome) (n m : ℕ) → n < m → EndsAfter tool call (moments_to tool call t n ending) ending → IsOpenAfter tool call t m → ⊥
   closed ending n m lt ended later =
@@ -181,7 +197,7 @@ module _ (tool : Tool) (call : Call) (t : Told) (short : length call.body.items 
       let whole : turns (wait_of call) t (suc n) ≡ later ++ tick.0 ∷ [] =
       ap (λ (xs : List Moment). turns (wait_of call) t n ++ xs) tick.1
       ∙ sym (append_assoc (turns (wait_of call) t n) (last_turn (Some outcome) (wait_of call) (waited (wait_of call) n t)) (tick.0 ∷ [])) in
-      let longer = length-push later tick.0 in
+      let longer = length_push later tick.0 in
       let whole_length = ap length whole in
       not_again tool call (t.time []) later (turns (wait_of call) t (suc n)) short (quiet_turns (wait_of call) t (suc n))
       (tick.0 ∷ [], whole) (Some outcome) answered None (omega arith) late
@@ -195,110 +211,74 @@ module _ (tool : Tool) (call : Call) (t : Told) (short : length call.body.items 
       let both : Some (Some x) ≡ Some (Some y) = ap (option_map (λ (e : End). e.outcome)) (sym one.ended ∙ other.ended) in
       cc
 
-  ends_or_deaf : (a : Option Outcome) (n m : ℕ) → CallGoes tool call t (Ends a n) → CallGoes tool call t (Deaf m) → ⊥
-  ends_or_deaf a n m p q = elim (cases_lt n m) [
-    | inl less ↦ closed a n m less p.1.ended q.1.before
-    | inr not_less ↦ elim (cases_eq n m) [
-      | inl same ↦ p.1.received (rw (← same) at q.1.received)
-      | inr other ↦ p.1.before.received m (omega arith) q.1.received
-    ]
-  ]
+  -- The turn hears no failure, and the request doesn't end in it.
+  abbrev CallsOn : ℕ → Type 0
+  CallsOn k = (heard_in call t k ≢ Failure) × ((ending : Option Outcome) → EndsAfter tool call (moments_to tool call t k ending) ending → ⊥)
 
-  ends_or_spent : (a : Option Outcome) (n : ℕ) → CallGoes tool call t (Ends a n) → CallGoes tool call t Spent → ⊥
-  ends_or_spent a n p q =
-      let within = p.1.within in
-      let all = q.1.1.all in
-      closed a n q.1.0 (omega arith) p.1.ended q.1.1.before
+  calls_on : (n : ℕ) → IsOpenAfter tool call t n → (k : ℕ) → k < n → CallsOn k
+  calls_on n still k less = (still.received k less, λ ending ended. closed ending k n less ended still)
 
-  deaf_or_spent : (n : ℕ) → CallGoes tool call t (Deaf n) → CallGoes tool call t Spent → ⊥
-  deaf_or_spent n p q =
-      let within = p.1.within in
-      let all = q.1.1.all in
-      q.1.1.before.received n (omega arith) p.1.received
+  call_stops : (one : Course (Option Outcome)) → CallGoes tool call t one → StopsIn CallsOn (turn_of one)
+  call_stops (Ends a n) p =
+      record { went = calls_on n p.1.before; within = let within = p.1.within in omega arith; stops = λ less on. on.1 a p.1.ended }
+  call_stops (Deaf n) p =
+      record { went = calls_on n p.1.before; within = let within = p.1.within in omega arith; stops = λ less on. on.0 p.1.received }
+  call_stops Spent p =
+      record { went = calls_on most_turns (subst (IsOpenAfter tool call t) p.1.1.all p.1.1.before); within = omega arith; stops = λ less on. absurd (omega arith) }
 
   pub call_goes : (one other : Course (Option Outcome)) → CallGoes tool call t one → CallGoes tool call t other → one ≡ other
-  call_goes (Ends a n) (Ends b m) p q = elim (cases_lt n m) [
-    | inl less ↦ absurd (closed a n m less p.1.ended q.1.before)
-    | inr not_less ↦ elim (cases_eq n m) [
-      | inl same ↦ let ending = same_ending n a b p.1.ended (rw (← same) at q.1.ended) in λ i. Ends (ending i) (same i)
-      | inr other ↦ absurd (closed b m n (omega arith) q.1.ended p.1.before)
-    ]
-  ]
-  call_goes (Ends a n) (Deaf m) p q = absurd (ends_or_deaf a n m p q)
-  call_goes (Ends a n) Spent p q = absurd (ends_or_spent a n p q)
-  call_goes (Deaf n) (Ends b m) p q = absurd (ends_or_deaf b m n q p)
-  call_goes (Deaf n) (Deaf m) p q = elim (cases_lt n m) [
-    | inl less ↦ absurd (q.1.before.received n less p.1.received)
-    | inr not_less ↦ elim (cases_eq n m) [
-      | inl same ↦ ap Deaf same
-      | inr other ↦ absurd (p.1.before.received m (omega arith) q.1.received)
-    ]
-  ]
-  call_goes (Deaf n) Spent p q = absurd (deaf_or_spent n p q)
-  call_goes Spent (Ends b m) p q = absurd (ends_or_spent b m q p)
-  call_goes Spent (Deaf m) p q = absurd (deaf_or_spent m q p)
-  call_goes Spent Spent p q = refl
+  call_goes one other p q = go one other p q (same_turn CallsOn (turn_of one) (turn_of other) (call_stops one p) (call_stops other q))
+    where
+      go : (one other : Course (Option Outcome)) → CallGoes tool call t one → CallGoes tool call t other → turn_of one ≡ turn_of other → one ≡ other
+      go (Ends a n) (Ends b m) p q same = let ending = same_ending n a b p.1.ended (rw (← same) at q.1.ended) in λ i. Ends (ending i) (same i)
+      go (Ends a n) (Deaf m) p q same = absurd (p.1.received (rw (← same) at q.1.received))
+      go (Ends a n) Spent p q same = let within = p.1.within in absurd (omega arith)
+      go (Deaf n) (Ends b m) p q same = absurd (q.1.received (rw same at p.1.received))
+      go (Deaf n) (Deaf m) p q same = ap Deaf same
+      go (Deaf n) Spent p q same = let within = p.1.within in absurd (omega arith)
+      go Spent (Ends b m) p q same = let within = q.1.within in absurd (omega arith)
+      go Spent (Deaf m) p q same = let within = q.1.within in absurd (omega arith)
+      go Spent Spent p q same = refl
 
 -- ---- searches
 
 module _ (search : Search) (t : Told) where
-  search_ends_or_deaf : (x : Unit {0}) (found found' : List Found) (n m : ℕ) → SearchRuns search t found (Ends x n) → SearchRuns search t found' (Deaf m) → ⊥
-  search_ends_or_deaf x found found' n m p q = elim (cases_lt n m) [
-    | inl less ↦
-        let early = q.1.before.in_time (suc n) (omega arith) in
-        let late = p.1.over in
-        omega (arith, early, late)
-    | inr not_less ↦ elim (cases_eq n m) [
-      | inl same ↦ p.1.received (rw (← same) at q.1.failed)
-      | inr other ↦ p.1.before.received m (omega arith) q.1.failed
-    ]
-  ]
+  -- The turn hears no failure, and there is time after it.
+  abbrev SearchesOn : ℕ → Type 0
+  SearchesOn k = (search_hears search t k ≢ Failure) × (passed search t (suc k) < search.timeout)
 
-  search_ends_or_spent : (x : Unit {0}) (found found' : List Found) (n : ℕ) → SearchRuns search t found (Ends x n) → SearchRuns search t found' Spent → ⊥
-  search_ends_or_spent x found found' n p q =
-      let within = p.1.within in
-      let all = q.1.1.all in
-      let early = q.1.1.before.in_time (suc n) (omega arith) in
-      let late = p.1.over in
-      omega (arith, early, late)
+  searches_on : (n : ℕ) → Searches search t n → (k : ℕ) → k < n → SearchesOn k
+  searches_on n so k less = (so.received k less, so.in_time (suc k) (omega arith))
 
-  search_deaf_or_spent : (found found' : List Found) (n : ℕ) → SearchRuns search t found (Deaf n) → SearchRuns search t found' Spent → ⊥
-  search_deaf_or_spent found found' n p q =
-      let within = p.1.within in
-      let all = q.1.1.all in
-      q.1.1.before.received n (omega arith) p.1.failed
+  search_stops : (found : List Found) (one : Course (Unit {0})) → SearchRuns search t found one → StopsIn SearchesOn (turn_of one)
+  search_stops found (Ends x n) p =
+      record {
+        went = searches_on n p.1.before;
+        within = let within = p.1.within in omega arith;
+        stops = λ less on. let late = p.1.over in let early = on.1 in omega (arith, early, late);
+      }
+  search_stops found (Deaf n) p =
+      record { went = searches_on n p.1.before; within = let within = p.1.within in omega arith; stops = λ less on. on.0 p.1.failed }
+  search_stops found Spent p =
+      record { went = searches_on most_turns (subst (Searches search t) p.1.1.all p.1.1.before); within = omega arith; stops = λ less on. absurd (omega arith) }
 
   pub search_goes : (found found' : List Found) (one other : Course (Unit {0})) → SearchRuns search t found one → SearchRuns search t found' other →
       (one ≡ other) × (found ≡ found')
-  search_goes found found' (Ends x n) (Ends y m) p q = elim (cases_lt n m) [
-    | inl less ↦
-        let early = q.1.before.in_time (suc n) (omega arith) in
-        let late = p.1.over in
-        absurd (omega (arith, early, late))
-    | inr not_less ↦ elim (cases_eq n m) [
-      | inl same ↦ ((λ i. Ends tt (same i)), p.1.finds ∙ sym (rw (← same) at q.1.finds))
-      | inr other ↦
-          let early = p.1.before.in_time (suc m) (omega arith) in
-          let late = q.1.over in
-          absurd (omega (arith, early, late))
-    ]
-  ]
-  search_goes found found' (Ends x n) (Deaf m) p q = absurd (search_ends_or_deaf x found found' n m p q)
-  search_goes found found' (Ends x n) Spent p q = absurd (search_ends_or_spent x found found' n p q)
-  search_goes found found' (Deaf n) (Ends y m) p q = absurd (search_ends_or_deaf y found' found m n q p)
-  search_goes found found' (Deaf n) (Deaf m) p q = elim (cases_lt n m) [
-    | inl less ↦ absurd (q.1.before.received n less p.1.failed)
-    | inr not_less ↦ elim (cases_eq n m) [
-      | inl same ↦ (ap Deaf same, p.1.finds ∙ sym (rw (← same) at q.1.finds))
-      | inr other ↦ absurd (p.1.before.received m (omega arith) q.1.failed)
-    ]
-  ]
-  search_goes found found' (Deaf n) Spent p q = absurd (search_deaf_or_spent found found' n p q)
-  search_goes found found' Spent (Ends y m) p q = absurd (search_ends_or_spent y found' found m q p)
-  search_goes found found' Spent (Deaf m) p q = absurd (search_deaf_or_spent found' found m q p)
-  search_goes found found' Spent Spent p q =
-      let same : p.1.0 ≡ q.1.0 = p.1.1.all ∙ sym q.1.1.all in
-      (refl, p.1.1.finds ∙ ap (found_after search t) same ∙ sym q.1.1.finds)
+  search_goes found found' one other p q = go one other p q (same_turn SearchesOn (turn_of one) (turn_of other) (search_stops found one p) (search_stops found' other q))
+    where
+      go : (one other : Course (Unit {0})) → SearchRuns search t found one → SearchRuns search t found' other → turn_of one ≡ turn_of other →
+          (one ≡ other) × (found ≡ found')
+      go (Ends x n) (Ends y m) p q same = ((λ i. Ends tt (same i)), p.1.finds ∙ sym (rw (← same) at q.1.finds))
+      go (Ends x n) (Deaf m) p q same = absurd (p.1.received (rw (← same) at q.1.failed))
+      go (Ends x n) Spent p q same = let within = p.1.within in absurd (omega arith)
+      go (Deaf n) (Ends y m) p q same = absurd (q.1.received (rw same at p.1.failed))
+      go (Deaf n) (Deaf m) p q same = (ap Deaf same, p.1.finds ∙ sym (rw (← same) at q.1.finds))
+      go (Deaf n) Spent p q same = let within = p.1.within in absurd (omega arith)
+      go Spent (Ends y m) p q same = let within = q.1.within in absurd (omega arith)
+      go Spent (Deaf m) p q same = let within = q.1.within in absurd (omega arith)
+      go Spent Spent p q same =
+          let both : p.1.0 ≡ q.1.0 = p.1.1.all ∙ sym q.1.1.all in
+          (refl, p.1.1.finds ∙ ap (found_after search t) both ∙ sym q.1.1.finds)
 
 -- ---- servers
 
@@ -306,56 +286,47 @@ module _ (count : ℕ) (t : Told) where
   -- Those that came by turn n are all that were asked for, so that no later wait is made.
   all_came : (arrivals : List Came) (n : ℕ) → length arrivals ≡ count → arrivals ≡ arrivals_of (deliveries t n) → length (deliveries t n) < count → ⊥
   all_came arrivals n all came fewer =
-      let counted = ap length came ∙ length-arrivals (deliveries t n) in
+      let counted = ap length came ∙ length-map (deliveries t n) (λ d. d.arrival) in
       omega (arith, counted, all, fewer)
 
-  serve_ends_or_deaf : (x : Unit {0}) (arrivals arrivals' : List Came) (n m : ℕ) → ServeRuns count t arrivals (Ends x n) → ServeRuns count t arrivals' (Deaf m) → ⊥
-  serve_ends_or_deaf x arrivals arrivals' n m p q =
-      let far = p.1.1.1 in
-      let deaf = q.1.1 in
-      elim (cases_lt n m) [
-        | inl less ↦ all_came arrivals n p.0 far.came (deaf.waits.fewer n less)
-        | inr not_less ↦ elim (cases_eq n m) [
-          | inl same ↦ all_came arrivals n p.0 far.came (rw (← same) at deaf.fewer)
-          | inr other ↦ far.waits.received m (omega arith) deaf.failed
-        ]
-      ]
+  -- The wait is made, and hears no failure.
+  abbrev ServesOn : ℕ → Type 0
+  ServesOn k = (length (deliveries t k) < count) × ((waited serve_wait k t).heard [] serve_wait ≢ Failure)
 
-  serve_ends_or_spent : (x : Unit {0}) (arrivals arrivals' : List Came) (n : ℕ) → ServeRuns count t arrivals (Ends x n) → ServeRuns count t arrivals' Spent → ⊥
-  serve_ends_or_spent x arrivals arrivals' n p q =
-      let far = p.1.1.1 in
-      let spent = q.1.1.1 in
-      let within = far.within in
-      elim (cases_eq n 65536) [
-        | inl same ↦
-            let both : arrivals ≡ arrivals' = far.came ∙ ap (λ n. arrivals_of (deliveries t n)) same ∙ sym spent.came in
-            omega (arith, p.0, q.0, ap length both)
-        | inr other ↦ all_came arrivals n p.0 far.came (spent.waits.fewer n (omega arith))
-      ]
+  serves_on : (n : ℕ) → Waits t count n → (k : ℕ) → k < n → ServesOn k
+  serves_on n waits k less = (waits.fewer k less, waits.received k less)
 
-  serve_deaf_or_spent : (arrivals arrivals' : List Came) (n : ℕ) → ServeRuns count t arrivals (Deaf n) → ServeRuns count t arrivals' Spent → ⊥
-  serve_deaf_or_spent arrivals arrivals' n p q = q.1.1.1.waits.received n p.1.1.within p.1.1.failed
+  serve_stops : (arrivals : List Came) (one : Course (Unit {0})) → ServeRuns count t arrivals one → StopsIn ServesOn (turn_of one)
+  serve_stops arrivals (Ends x n) p =
+      let far = p.1.1.1 in
+      record { went = serves_on n far.waits; within = far.within; stops = λ less on. all_came arrivals n p.0 far.came on.0 }
+  serve_stops arrivals (Deaf n) p =
+      let deaf = p.1.1 in
+      record { went = serves_on n deaf.waits; within = let within = deaf.within in omega arith; stops = λ less on. on.1 deaf.failed }
+  serve_stops arrivals Spent p = record { went = serves_on most_turns p.1.1.1.waits; within = omega arith; stops = λ less on. absurd (omega arith) }
+
+  all_or_fewer : (arrivals arrivals' : List Came) (n m : ℕ) → n ≡ m → arrivals ≡ arrivals_of (deliveries t n) → arrivals' ≡ arrivals_of (deliveries t m) →
+      length arrivals ≡ count → length arrivals' < count → ⊥
+  all_or_fewer arrivals arrivals' n m same one other all fewer =
+      let both : arrivals ≡ arrivals' = one ∙ ap (λ n. arrivals_of (deliveries t n)) same ∙ sym other in
+      omega (arith, all, fewer, ap length both)
 
   pub serve_goes : (arrivals arrivals' : List Came) (one other : Course (Unit {0})) → ServeRuns count t arrivals one → ServeRuns count t arrivals' other →
       (one ≡ other) × (arrivals ≡ arrivals')
-  serve_goes arrivals arrivals' (Ends x n) (Ends y m) p q = elim (cases_lt n m) [
-    | inl less ↦ absurd (all_came arrivals n p.0 p.1.1.1.came (q.1.1.1.waits.fewer n less))
-    | inr not_less ↦ elim (cases_eq n m) [
-      | inl same ↦ ((λ i. Ends tt (same i)), p.1.1.1.came ∙ ap (λ n. arrivals_of (deliveries t n)) same ∙ sym q.1.1.1.came)
-      | inr other ↦ absurd (all_came arrivals' m q.0 q.1.1.1.came (p.1.1.1.waits.fewer m (omega arith)))
-    ]
-  ]
-  serve_goes arrivals arrivals' (Ends x n) (Deaf m) p q = absurd (serve_ends_or_deaf x arrivals arrivals' n m p q)
-  serve_goes arrivals arrivals' (Ends x n) Spent p q = absurd (serve_ends_or_spent x arrivals arrivals' n p q)
-  serve_goes arrivals arrivals' (Deaf n) (Ends y m) p q = absurd (serve_ends_or_deaf y arrivals' arrivals m n q p)
-  serve_goes arrivals arrivals' (Deaf n) (Deaf m) p q = elim (cases_lt n m) [
-    | inl less ↦ absurd (q.1.1.waits.received n less p.1.1.failed)
-    | inr not_less ↦ elim (cases_eq n m) [
-      | inl same ↦ (ap Deaf same, p.1.1.came ∙ ap (λ n. arrivals_of (deliveries t n)) same ∙ sym q.1.1.came)
-      | inr other ↦ absurd (p.1.1.waits.received m (omega arith) q.1.1.failed)
-    ]
-  ]
-  serve_goes arrivals arrivals' (Deaf n) Spent p q = absurd (serve_deaf_or_spent arrivals arrivals' n p q)
-  serve_goes arrivals arrivals' Spent (Ends y m) p q = absurd (serve_ends_or_spent y arrivals' arrivals m q p)
-  serve_goes arrivals arrivals' Spent (Deaf m) p q = absurd (serve_deaf_or_spent arrivals' arrivals m q p)
-  serve_goes arrivals arrivals' Spent Spent p q = (refl, p.1.1.1.came ∙ sym q.1.1.1.came)
+  serve_goes arrivals arrivals' one other p q =
+      go one other p q (same_turn ServesOn (turn_of one) (turn_of other) (serve_stops arrivals one p) (serve_stops arrivals' other q))
+    where
+      came_in : (n m : ℕ) → n ≡ m → arrivals ≡ arrivals_of (deliveries t n) → arrivals' ≡ arrivals_of (deliveries t m) → arrivals ≡ arrivals'
+      came_in n m same one other = one ∙ ap (λ n. arrivals_of (deliveries t n)) same ∙ sym other
+
+      go : (one other : Course (Unit {0})) → ServeRuns count t arrivals one → ServeRuns count t arrivals' other → turn_of one ≡ turn_of other →
+          (one ≡ other) × (arrivals ≡ arrivals')
+      go (Ends x n) (Ends y m) p q same = ((λ i. Ends tt (same i)), came_in n m same p.1.1.1.came q.1.1.1.came)
+      go (Ends x n) (Deaf m) p q same = absurd (all_came arrivals n p.0 p.1.1.1.came (rw (← same) at q.1.1.fewer))
+      go (Ends x n) Spent p q same = absurd (all_or_fewer arrivals arrivals' n most_turns same p.1.1.1.came q.1.1.1.came p.0 q.0)
+      go (Deaf n) (Ends y m) p q same = absurd (all_came arrivals' m q.0 q.1.1.1.came (rw same at p.1.1.fewer))
+      go (Deaf n) (Deaf m) p q same = (ap Deaf same, came_in n m same p.1.1.came q.1.1.came)
+      go (Deaf n) Spent p q same = let within = p.1.1.within in absurd (omega arith)
+      go Spent (Ends y m) p q same = absurd (all_or_fewer arrivals' arrivals m most_turns (sym same) q.1.1.1.came p.1.1.1.came q.0 p.0)
+      go Spent (Deaf m) p q same = let within = q.1.1.within in absurd (omega arith)
+      go Spent Spent p q same = (refl, came_in most_turns most_turns refl p.1.1.1.came q.1.1.1.came)

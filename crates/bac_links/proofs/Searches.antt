@@ -1,11 +1,13 @@
 -- A search, turn by turn.
-use Rattle.std.proofs.Common.{◌≡◌, ◌≢◌, ℕ, suc, ◌-◌, ◌<◌, ◌≤◌, max, List, [], ◌∷◌, ◌++◌, Option, Some, None, Ok, Err, Bool, true, false, ◌||◌, refl, sym, ap, ◌∙◌, arith, append_assoc, subst, add-one, below_more}
+use Rattle.std.proofs.Common.{◌≡◌, ◌≢◌, ℕ, suc, ◌-◌, ◌<◌, ◌≤◌, max, List, [], ◌∷◌, ◌++◌, Option, Some, None, Ok, Err, Bool, true, false, ◌||◌, refl, sym, ◌∙◌, arith, subst, add-one, below_more}
 use Rattle.std.specs.Option.{ForSome}
 use Rattle.std.proofs.lemmas.List.{append-nil}
+use Rattle.std.proofs.lemmas.List.Concat.{flat_map-append}
 use Rattle.std.specs.Io.KnownBytes.{Appends}
 use Rattle.bac_pdu.specs.declared.discovery.WhoIs.{WhoIs}
 use Rattle.bac_pdu.specs.Peer.{Station}
 use Rattle.bac_text.proofs.Known.{Appends-none, Appends-more}
+use Rattle.bac_links.specs.Limits.{most_turns}
 use Rattle.bac_links.specs.Told.{Told, Heard, Arrival, Failure, after_wait, waited, having_sent}
 use Rattle.bac_links.specs.Search.{Found, found_of, found_by, found_line, found_lines, found_after, passed, who_is_sending, search_exit, search_wait, search_hears, SearchEnds, Searched}
 use Rattle.bac_links.specs.SearchSteps.{has_found, Listens, SearchesSo, SearchGoes}
@@ -25,11 +27,6 @@ pub finds_none : (who : WhoIs) (heard : Heard) (from : Station) (octets : List �
 finds_none who heard from octets e none = rw (e, ← none) ((λ q. cc), refl)
 
 -- ---- lists of devices
-
-found_lines-append : (xs ys : List Found) → found_lines (xs ++ ys) ≡ found_lines xs ++ found_lines ys
-found_lines-append [] ys = refl
-found_lines-append (x ∷ xs) ys =
-    ap (λ (zs : List ℕ). found_line x ++ zs) (found_lines-append xs ys) ∙ sym (append_assoc (found_line x) (found_lines xs) (found_lines ys))
 
 has_found-append : (xs ys : List Found) → has_found (xs ++ ys) ≡ (has_found xs || has_found ys)
 has_found-append [] ys = refl
@@ -74,7 +71,7 @@ module _ (search : Search) (t : Told) (link : Option Told) (first greatest : ℕ
       link_left = left_is;
     }
 
-    pub so_ended : n < 65536 → search.timeout ≤ max greatest now - first → SearchEnds search t left (found ++ more) n
+    pub so_ended : n < most_turns → search.timeout ≤ max greatest now - first → SearchEnds search t left (found ++ more) n
     so_ended within over = record {
       within = within;
       before = far.before;
@@ -91,7 +88,7 @@ module _ (search : Search) (before middle after : Option (List ℕ)) (told mid l
   module _ (some : Bool) (listens : Listens search.who (search_wait search) middle after mid left (Ok some)) (now : ℕ) (now_is : ForSome left (λ t. now ≡ t.time [])) (last : Option Told) (same : last ≡ left) where
     printed_next : Appends before after (found_lines (goes.found ++ listens.0))
     printed_next =
-        subst (Appends before after) (sym (found_lines-append goes.found listens.0))
+        subst (Appends before after) (sym (flat_map-append found_line goes.found listens.0))
         (Appends-more before middle after (found_lines goes.found) (found_lines listens.0) goes.printed listens.2)
 
     any_next : (any || some) ≡ has_found (goes.found ++ listens.0)
@@ -108,7 +105,7 @@ module _ (search : Search) (before middle after : Option (List ℕ)) (told mid l
           so_on search t mid first greatest goes.found n far last listens.0 now heard.0 heard.1 (same ∙ heard.2) (now_is _ heard.2) in_time;
     }
 
-    pub ended : n < 65536 → search.timeout ≤ max greatest now - first → (found : List Found) × ((any || some) ≡ has_found found)
+    pub ended : n < most_turns → search.timeout ≤ max greatest now - first → (found : List Found) × ((any || some) ≡ has_found found)
         × Appends before after (found_lines found) × ForSome told (λ t. (n : ℕ) × SearchEnds search t last found n)
     ended within over = (
       goes.found ++ listens.0,
@@ -121,7 +118,7 @@ module _ (search : Search) (before middle after : Option (List ℕ)) (told mid l
     )
 
   -- A wait that fails.
-  failed : (fault : ToolFault) → n < 65536 → Listens search.who (search_wait search) middle after mid left (Err fault) →
+  failed : (fault : ToolFault) → n < most_turns → Listens search.who (search_wait search) middle after mid left (Err fault) →
       Searched search before after told left (Err fault)
   failed SendFailed within listens = absurd listens
   failed ReceiveFailed within listens = (
@@ -146,7 +143,7 @@ module _ (search : Search) (before middle after : Option (List ℕ)) (told mid l
         (n, record { within = within; before = far.before; finds = far.finds; heard = heard.0; link_left = heard.1 }),
   )
 
-  pub fails : (fault : ToolFault) (wait : ℕ) → wait ≡ search_wait search → n < 65536 → Listens search.who wait middle after mid left (Err fault) →
+  pub fails : (fault : ToolFault) (wait : ℕ) → wait ≡ search_wait search → n < most_turns → Listens search.who wait middle after mid left (Err fault) →
       Searched search before after told left (Err fault)
   fails fault wait e within listens = failed fault within (subst (λ (w : ℕ). Listens search.who w middle after mid left (Err fault)) e listens)
 
@@ -175,7 +172,7 @@ begun search before told link first positive sent = record {
     at_first : (t : Told) (k : ℕ) → k ≡ 0 → passed search t k < search.timeout
     at_first t k e = rw e (omega arith)
 
-pub spent : (search : Search) (before after : Option (List ℕ)) (told link : Option Told) (first greatest : ℕ) (any : Bool) (n : ℕ) → n ≡ 65536 →
+pub spent : (search : Search) (before after : Option (List ℕ)) (told link : Option Told) (first greatest : ℕ) (any : Bool) (n : ℕ) → n ≡ most_turns →
     SearchGoes search before after told link first greatest any n → Searched search before after told link (Err TurnsSpent)
 spent search before after told link first greatest any n all goes = (
   goes.found,

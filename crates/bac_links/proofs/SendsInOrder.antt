@@ -6,7 +6,7 @@ use Rattle.std.proofs.lemmas.List.{append-nil, length-append}
 use Rattle.std.proofs.lemmas.Bool.{cases_Bool, cases_eq, eq-eqb, ne_eqb}
 use Rattle.std.proofs.lemmas.Option.{same_Some, none-some}
 use Rattle.bac_tsm.specs.Events.{Event, Rules, Sent}
-use Rattle.bac_tsm.specs.Lookahead.{Accepted, first_within, has_waited, first_after, due, answered, is_before, sends, sends_within}
+use Rattle.bac_tsm.specs.Lookahead.{Accepted, first_within, has_waited, first_after, due, answered_at, is_before, sends, sends_within}
 use Rattle.bac_tsm.proofs.Laws.{step_back, due_back, first_after_from}
 use Rattle.bac_links.specs.Told.{Sending}
 use Rattle.bac_links.specs.Moments.{Moment}
@@ -72,7 +72,7 @@ module _ (rules : Rules) (events : List Event) (a : Accepted) (placed : a.positi
   ordered (suc k) = go (ordered k) (due rules events a.position (suc k)) refl
     where
       go : Ordered k (sends_within rules events a k) → (d : Option ℕ) → due rules events a.position (suc k) ≡ d →
-          Ordered (suc k) (sends_within rules events a k ++ filter (λ i. is_before i (answered rules events a)) (option_to_list d))
+          Ordered (suc k) (sends_within rules events a k ++ filter (λ i. is_before i (answered_at rules events a)) (option_to_list d))
       go o None e =
           record {
             top = o.top;
@@ -88,7 +88,7 @@ module _ (rules : Rules) (events : List Event) (a : Accepted) (placed : a.positi
           let same : i ≡ b.0 = same_Some i b.0 (sym e ∙ b.1) in
           let lt = b.2 in
           let r : suc i ≤ j = omega arith in r) in
-          elim (cases_Bool (is_before i (answered rules events a))) [
+          elim (cases_Bool (is_before i (answered_at rules events a))) [
             | inl y ↦ record {
               top = suc i;
               rising = rw y (ascends-push a.position o.top i (sends_within rules events a k) o.rising (o.later i e));

@@ -1,33 +1,38 @@
 -- A device that serves, wait by wait.
-use Rattle.std.proofs.Common.{◌≡◌, ◌≢◌, ℕ, suc, ◌+◌, ◌<◌, List, [], ◌∷◌, ◌++◌, flat_map, length, length-append, Option, Some, Result, Ok, Err, refl, sym, ap, ◌∙◌, arith, append_assoc, subst, add-one, below_more}
+use Rattle.std.proofs.Common.{◌≡◌, ◌≢◌, ℕ, suc, ◌+◌, ◌<◌, List, [], ◌∷◌, ◌++◌, flat_map, length, length-append, Option, Some, None, Result, Ok, Err, refl, sym, ap, ◌∙◌, arith, append_assoc, subst, add-one, below_more}
 use Rattle.std.specs.Option.{ForSome, option_to_list}
-use Rattle.std.proofs.lemmas.List.{append-nil}
+use Rattle.std.proofs.lemmas.List.{append-nil, length-map, map-append}
+use Rattle.std.proofs.lemmas.List.Concat.{flat_map-append}
 use Rattle.bac_pdu.specs.Peer.{Station}
-use Rattle.bac_device.specs.Device.{DeviceState}
-use Rattle.bac_device.specs.Turns.{Arrival as Came, AnswersInTurn}
+use Rattle.bac_device.specs.Device.{DeviceState, device_after, points_of}
+use Rattle.bac_device.specs.Info.{Info}
+use Rattle.bac_device.specs.Places.{Write}
+use Rattle.bac_device.specs.Point.{Description}
+use Rattle.bac_device.specs.Reply.{reply_to, writes_after}
+use Rattle.bac_device.specs.Turns.{Arrival as Came, AnswersInTurn, replies_to}
+use Rattle.bac_device.proofs.SizeLaws.{introduction_fits, request_fits}
 use Rattle.bac_device.proofs.TurnLaws.{in_turn}
+use Rattle.bac_links.specs.Limits.{most_turns, serve_wait}
 use Rattle.bac_links.specs.Told.{Told, Heard, Silence, Arrival, Failure, Sending, after_wait, waited, having_sent}
-use Rattle.bac_links.specs.Serve.{Delivery, arrivals_of, delivery_at, brought, deliveries, reply_sendings, sent_for, reply_count, came_in, replied_in, AnswersAll, Waits, ServesSo, ServeUnsent, ServeDeaf, Serves, Responds, ServesOne, ServeGoes}
-use Rattle.bac_links.specs.declared.serving.TheConstants.{SERVE_WAIT}
+use Rattle.bac_links.specs.Serve.{Delivery, arrivals_of, delivery_at, brought, deliveries, reply_sendings, sent_for, reply_count, AnswersAll, RepliesFit, ReplyFits, Waits, ServesSo, ServeUnsent, ServeDeaf, Serves}
+use Rattle.bac_links.specs.ServeSteps.{came_in, replied_in, Responds, ServesOne, ServeGoes}
+use Rattle.bac_links.proofs.Sendings.{having_nothing, having_sent-both}
 use Rattle.bac_links.specs.declared.serving.Brought.{Brought}
 use Rattle.bac_links.specs.declared.fault.ToolFault.{ToolFault}
 use Rattle.bac_links.specs.declared.fault.ToolFault.TheVariants.{SendFailed, ReceiveFailed, TurnsSpent, WriteFailed}
 
 -- ---- one datagram
 
-pub one_came : (t : Told) (from : Station) (octets : List ℕ) → t.heard [] SERVE_WAIT ≡ Arrival from octets →
-    (t.heard [] SERVE_WAIT ≢ Failure) × (record { from = from; datagram = octets } ∷ [] ≡ arrivals_of (brought t))
-    × ((reply : Option (Station × List ℕ)) → reply_sendings (t.time (SERVE_WAIT ∷ [])) reply ≡ sent_for (brought t) (reply ∷ []))
-one_came t from octets e = rw e ((λ q. cc), refl, λ reply. sym (append-nil (reply_sendings (t.time (SERVE_WAIT ∷ [])) reply)))
+pub one_came : (t : Told) (from : Station) (octets : List ℕ) → t.heard [] serve_wait ≡ Arrival from octets →
+    (t.heard [] serve_wait ≢ Failure) × (record { from = from; datagram = octets } ∷ [] ≡ arrivals_of (brought t))
+    × ((reply : Option (Station × List ℕ)) → reply_sendings (t.time (serve_wait ∷ [])) reply ≡ sent_for (brought t) (reply ∷ []))
+one_came t from octets e = rw e ((λ q. cc), refl, λ reply. sym (append-nil (reply_sendings (t.time (serve_wait ∷ [])) reply)))
 
-pub none_came : (t : Told) → t.heard [] SERVE_WAIT ≡ Silence → (t.heard [] SERVE_WAIT ≢ Failure) × ([] ≡ arrivals_of (brought t)) × ([] ≡ sent_for (brought t) [])
+pub none_came : (t : Told) → t.heard [] serve_wait ≡ Silence → (t.heard [] serve_wait ≢ Failure) × ([] ≡ arrivals_of (brought t)) × ([] ≡ sent_for (brought t) [])
 none_came t e = rw e ((λ q. cc), refl, refl)
 
 count_one : (reply : Option (Station × List ℕ)) → length (option_to_list reply) ≡ reply_count (reply ∷ [])
 count_one reply = ap length (sym (append-nil (option_to_list reply)))
-
-having_nothing : (t : Told) → t ≡ having_sent [] t
-having_nothing t = λ i. record { heard = t.heard; time = t.time; sent = sym (append-nil t.sent) i }
 
 pub left_as_it_is : (left : Option Told) (t : Told) (none : List Sending) → [] ≡ none → left ≡ Some t → left ≡ Some (having_sent none t)
 left_as_it_is left t none e same = same ∙ ap Some (having_nothing t) ∙ ap (λ (xs : List Sending). Some (having_sent xs t)) e
@@ -47,16 +52,28 @@ same_length before after [] (r ∷ rs) turns = absurd turns
 same_length before after (x ∷ xs) [] turns = absurd turns
 same_length before after (x ∷ xs) (r ∷ rs) (next, one, rest) = ap suc (same_length next after xs rs rest)
 
+reply_fits : (info : Info) (points : List Description) (writes : List Write) (x : Came) (to : Station) (reply : List ℕ) →
+    reply_to info points writes x.from x.datagram ≡ Some (to, reply) → ReplyFits x to reply
+reply_fits info points writes x to reply e = record {
+  confirmed = λ code id carried. request_fits (device_after info points writes) x.from to x.datagram reply code id carried e;
+  introduced = λ carried. introduction_fits (device_after info points writes) x.from to x.datagram reply carried e;
+}
+
+replies_fit : (info : Info) (points : List Description) (writes : List Write) (xs : List Came) → RepliesFit xs (replies_to info points writes xs)
+replies_fit info points writes [] = refl
+replies_fit info points writes (x ∷ xs) =
+    go (reply_to info points writes x.from x.datagram) refl (replies_fit info points (writes_after info points writes x.from x.datagram) xs)
+  where
+    go : (reply : Option (Station × List ℕ)) → reply_to info points writes x.from x.datagram ≡ reply
+        → RepliesFit xs (replies_to info points (writes_after info points writes x.from x.datagram) xs)
+        → RepliesFit (x ∷ xs) (reply ∷ replies_to info points (writes_after info points writes x.from x.datagram) xs)
+    go None e rest = rest
+    go (Some reply) e rest = (reply_fits info points writes x reply.0 reply.1 e, rest)
+
 pub defined : (before after : DeviceState) (xs : List Came) (rs : List (Option (Station × List ℕ))) → AnswersInTurn before xs rs after → AnswersAll before xs rs after
-defined before after xs rs turns = λ writes holds. in_turn before xs rs after writes turns holds
-
-arrivals-append : (xs ys : List Delivery) → arrivals_of (xs ++ ys) ≡ arrivals_of xs ++ arrivals_of ys
-arrivals-append [] ys = refl
-arrivals-append (x ∷ xs) ys = ap (◌∷◌ x.arrival) (arrivals-append xs ys)
-
-pub length-arrivals : (xs : List Delivery) → length (arrivals_of xs) ≡ length xs
-length-arrivals [] = refl
-length-arrivals (x ∷ xs) = ap suc (length-arrivals xs)
+defined before after xs rs turns = λ writes holds.
+    let these = in_turn before xs rs after writes turns holds in
+    (these, subst (RepliesFit xs) (sym these.replied) (replies_fit before.info (points_of before) writes xs))
 
 sent_for-append : (xs ys : List Delivery) (rs ss : List (Option (Station × List ℕ))) → length xs ≡ length rs →
     sent_for (xs ++ ys) (rs ++ ss) ≡ sent_for xs rs ++ sent_for ys ss
@@ -68,56 +85,49 @@ sent_for-append (x ∷ xs) ys (r ∷ rs) ss e =
     ∙ sym (append_assoc (reply_sendings x.time r) (sent_for xs rs) (sent_for ys ss))
 
 count-append : (rs ss : List (Option (Station × List ℕ))) → reply_count (rs ++ ss) ≡ reply_count rs + reply_count ss
-count-append [] ss = let e : reply_count ss ≡ 0 + reply_count ss = omega arith in e
-count-append (r ∷ rs) ss =
-    let l = length-append (option_to_list r) (flat_map option_to_list (rs ++ ss)) in
-    let k = length-append (option_to_list r) (flat_map option_to_list rs) in
-    let more = count-append rs ss in
-    omega (arith, l, k, more)
-
-having_sent-both : (t : Told) (first more : List Sending) → having_sent more (having_sent first t) ≡ having_sent (first ++ more) t
-having_sent-both t first more = rw (append_assoc t.sent first more) refl
+count-append rs ss =
+    ap length (flat_map-append option_to_list rs ss) ∙ length-append (flat_map option_to_list rs) (flat_map option_to_list ss)
 
 -- ---- a wait, over what the link told
 
 module _ (t : Told) (link : Option Told) (arrivals more : List Came) (replies answers : List (Option (Station × List ℕ))) (count n : ℕ) (far : ServesSo t link arrivals replies count n) (same : length arrivals ≡ length replies) (fewer : length arrivals < count) where
   abbrev here : Told
-  here = having_sent (sent_for (deliveries t n) replies) (waited SERVE_WAIT n t)
+  here = having_sent (sent_for (deliveries t n) replies) (waited serve_wait n t)
 
   fewer_here : length (deliveries t n) < count
-  fewer_here = rw (← length-arrivals (deliveries t n), ← far.came) fewer
+  fewer_here = rw (← length-map (deliveries t n) (λ d. d.arrival), ← far.came) fewer
 
   fewer_all : (k : ℕ) → k < suc n → length (deliveries t k) < count
   fewer_all k h = below_more (λ i. length (deliveries t i) < count) n far.waits.fewer fewer_here k (rw add-one h)
 
-  module _ (received : here.heard [] SERVE_WAIT ≢ Failure) (brings : more ≡ arrivals_of (brought here)) where
+  module _ (received : here.heard [] serve_wait ≢ Failure) (brings : more ≡ arrivals_of (brought here)) where
     waits_next : Waits t count (suc n)
     waits_next = record {
-      received = λ k h. below_more (λ i. (waited SERVE_WAIT i t).heard [] SERVE_WAIT ≢ Failure) n far.waits.received received k (rw add-one h);
+      received = λ k h. below_more (λ i. (waited serve_wait i t).heard [] serve_wait ≢ Failure) n far.waits.received received k (rw add-one h);
       fewer = fewer_all;
     }
 
     came_next : arrivals ++ more ≡ arrivals_of (deliveries t (suc n))
-    came_next = rw (far.came, brings) (sym (arrivals-append (deliveries t n) (brought (waited SERVE_WAIT n t))))
+    came_next = rw (far.came, brings) (sym (map-append (λ d. d.arrival) (deliveries t n) (brought (waited serve_wait n t))))
 
-    sent_next : (answers : List (Option (Station × List ℕ))) → sent_for (deliveries t (suc n)) (replies ++ answers) ≡ sent_for (deliveries t n) replies ++ sent_for (brought (waited SERVE_WAIT n t)) answers
+    sent_next : (answers : List (Option (Station × List ℕ))) → sent_for (deliveries t (suc n)) (replies ++ answers) ≡ sent_for (deliveries t n) replies ++ sent_for (brought (waited serve_wait n t)) answers
     sent_next answers =
-        sent_for-append (deliveries t n) (brought (waited SERVE_WAIT n t)) replies answers
-        (sym (length-arrivals (deliveries t n)) ∙ ap length (sym far.came) ∙ same)
+        sent_for-append (deliveries t n) (brought (waited serve_wait n t)) replies answers
+        (sym (length-map (deliveries t n) (λ d. d.arrival)) ∙ ap length (sym far.came) ∙ same)
 
-    pub serves_on : n < 65536 → (left : Option Told) → left ≡ Some (having_sent (sent_for (brought here) answers) (after_wait SERVE_WAIT here)) →
+    pub serves_on : n < most_turns → (left : Option Told) → left ≡ Some (having_sent (sent_for (brought here) answers) (after_wait serve_wait here)) →
         ServesSo t left (arrivals ++ more) (replies ++ answers) count (suc n)
     serves_on within left e = record {
       within = omega arith;
       waits = waits_next;
       came = came_next;
       link_left =
-          e ∙ ap Some (having_sent-both (waited SERVE_WAIT (suc n) t) (sent_for (deliveries t n) replies) (sent_for (brought here) answers))
-          ∙ ap (λ (xs : List Sending). Some (having_sent xs (waited SERVE_WAIT (suc n) t))) (sym (sent_next answers));
+          e ∙ ap Some (having_sent-both (waited serve_wait (suc n) t) (sent_for (deliveries t n) replies) (sent_for (brought here) answers))
+          ∙ ap (λ (xs : List Sending). Some (having_sent xs (waited serve_wait (suc n) t))) (sym (sent_next answers));
     }
 
-    pub unsent_so : n < 65536 → (left : Option Told) (reply : Option (Station × List ℕ)) (lost : Sending) → sent_for (brought here) (reply ∷ []) ≡ lost ∷ [] →
-        left ≡ Some (after_wait SERVE_WAIT here) → ServeUnsent t left (arrivals ++ more) (replies ++ reply ∷ []) count n
+    pub unsent_so : n < most_turns → (left : Option Told) (reply : Option (Station × List ℕ)) (lost : Sending) → sent_for (brought here) (reply ∷ []) ≡ lost ∷ [] →
+        left ≡ Some (after_wait serve_wait here) → ServeUnsent t left (arrivals ++ more) (replies ++ reply ∷ []) count n
     unsent_so within left reply lost one e = record {
       within = within;
       waits = waits_next;
@@ -128,7 +138,7 @@ module _ (t : Told) (link : Option Told) (arrivals more : List Came) (replies an
       link_left = e;
     }
 
-  pub deaf_so : n < 65536 → (left : Option Told) → here.heard [] SERVE_WAIT ≡ Failure → left ≡ Some (after_wait SERVE_WAIT here) →
+  pub deaf_so : n < most_turns → (left : Option Told) → here.heard [] serve_wait ≡ Failure → left ≡ Some (after_wait serve_wait here) →
       ServeDeaf t left arrivals replies count n
   deaf_so within left failure e = record {
     within = within;
@@ -150,9 +160,9 @@ one_lost time Failure reply e = absurd (omega (arith, e))
 
 -- A datagram that came, and its answer.
 pub responded : (before after : DeviceState) (arrival : Came) (told mid left : Option Told) (result : Result Brought ToolFault) → Responds before after arrival mid left result →
-    ForSome told (λ t. (t.heard [] SERVE_WAIT ≢ Failure) × (arrival ∷ [] ≡ arrivals_of (brought t))
-    × ((reply : Option (Station × List ℕ)) → reply_sendings (t.time (SERVE_WAIT ∷ [])) reply ≡ sent_for (brought t) (reply ∷ []))
-    × (mid ≡ Some (after_wait SERVE_WAIT t))) → ServesOne before after told left result
+    ForSome told (λ t. (t.heard [] serve_wait ≢ Failure) × (arrival ∷ [] ≡ arrivals_of (brought t))
+    × ((reply : Option (Station × List ℕ)) → reply_sendings (t.time (serve_wait ∷ [])) reply ≡ sent_for (brought t) (reply ∷ []))
+    × (mid ≡ Some (after_wait serve_wait t))) → ServesOne before after told left result
 responded before after arrival told mid left (Ok brings) r came = (
   arrival ∷ [],
   r.0 ∷ [],
@@ -161,7 +171,7 @@ responded before after arrival told mid left (Ok brings) r came = (
   r.3 ∙ count_one r.0,
   λ t e.
       let h = came t e in
-      (h.0, h.1, r.4 _ h.3 ∙ ap (λ (xs : List Sending). Some (having_sent xs (after_wait SERVE_WAIT t))) (h.2 r.0)),
+      (h.0, h.1, r.4 _ h.3 ∙ ap (λ (xs : List Sending). Some (having_sent xs (after_wait serve_wait t))) (h.2 r.0)),
 )
 responded before after arrival told mid left (Err SendFailed) r came = (
   arrival ∷ [],
@@ -197,7 +207,7 @@ module _ (before device : DeviceState) (told mid : Option Told) (count came repl
     (sym goes.came_is ∙ all, goes.replied_is, λ t e. (n, goes.so_far t e)),
   )
 
-  pub serve_spent : n ≡ 65536 → came < count → Serves count before device told mid (Err TurnsSpent)
+  pub serve_spent : n ≡ most_turns → came < count → Serves count before device told mid (Err TurnsSpent)
   serve_spent all fewer = (
     goes.arrivals,
     goes.replies,
@@ -211,7 +221,7 @@ module _ (before device : DeviceState) (told mid : Option Told) (count came repl
   fewer_came : came < count → length goes.arrivals < count
   fewer_came fewer = rw (← goes.came_is) fewer
 
-  pub serve_on : (after : DeviceState) (left : Option Told) → n < 65536 → came < count → (brings : Brought) → ServesOne device after mid left (Ok brings) →
+  pub serve_on : (after : DeviceState) (left : Option Told) → n < most_turns → came < count → (brings : Brought) → ServesOne device after mid left (Ok brings) →
       ServeGoes before after told left count (came + came_in brings) (replied + replied_in brings) (suc n)
   serve_on after left within fewer brings one = record {
     arrivals = goes.arrivals ++ one.0;
@@ -225,7 +235,7 @@ module _ (before device : DeviceState) (told mid : Option Told) (count came repl
         serves_on t mid goes.arrivals one.0 goes.replies one.1 count n far same (fewer_came fewer) heard.0 heard.1 within left heard.2;
   }
 
-  pub serve_fails : (after : DeviceState) (left : Option Told) → n < 65536 → came < count → (fault : ToolFault) → ServesOne device after mid left (Err fault) → Serves count before after told left (Err fault)
+  pub serve_fails : (after : DeviceState) (left : Option Told) → n < most_turns → came < count → (fault : ToolFault) → ServesOne device after mid left (Err fault) → Serves count before after told left (Err fault)
   serve_fails after left within fewer SendFailed one = (
     goes.arrivals ++ one.0,
     goes.replies ++ Some one.1 ∷ [],
@@ -235,7 +245,7 @@ module _ (before device : DeviceState) (told mid : Option Told) (count came repl
         let far = goes.so_far t e in
         let heard = one.3 _ far.link_left in
         let single = ap length (sym heard.1) ∙ same_length device after one.0 (Some one.1 ∷ []) one.2 in
-        let lost = one_lost ((waited SERVE_WAIT n t).time (SERVE_WAIT ∷ [])) ((waited SERVE_WAIT n t).heard [] SERVE_WAIT) one.1 single in
+        let lost = one_lost ((waited serve_wait n t).time (serve_wait ∷ [])) ((waited serve_wait n t).heard [] serve_wait) one.1 single in
         (n, unsent_so t mid goes.arrivals one.0 goes.replies [] count n far same (fewer_came fewer) heard.0 heard.1 within left (Some one.1) lost.0 lost.1 heard.2),
   )
   serve_fails after left within fewer ReceiveFailed one = (

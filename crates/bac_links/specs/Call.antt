@@ -6,6 +6,7 @@ use Rattle.bac_pdu.specs.Peer.{station}
 use Rattle.bac_tsm.specs.Events.{Outcome, Ask, Tick, Note, Sent, Refused, Done, Dropped, TimedOut, Rules, request_of}
 use Rattle.bac_tsm.specs.Lookahead.{Accepted, accepted, end, sends}
 use Rattle.bac_tsm.specs.Client.{client_rules}
+use Rattle.bac_links.specs.Limits.{longest_wait, most_turns}
 use Rattle.bac_links.specs.Told.{Told, Heard, Failure, Sending, waited, having_sent}
 use Rattle.bac_links.specs.Moments.{Moment, events_of, turns, last_turn}
 use Rattle.bac_links.specs.declared.ending.Tool.{Tool}
@@ -49,7 +50,7 @@ sending_at a all i = record { time = time_of all i; to = a.request.peer; octets 
 
 -- How long a turn waits.
 abbrev pub wait_of : Call → ℕ
-wait_of call = min call.timeout 50
+wait_of call = min call.timeout longest_wait
 
 module _ (tool : Tool) (call : Call) where
   -- The request: it is asked for after one event, by a client that has none open, so it has the first ticket and the number 1.
@@ -103,7 +104,7 @@ pub record IsOpenAfter (tool : Tool) (call : Call) (t : Told) (n : ℕ) : Type 0
 
 -- In turn n the request ends so.
 pub record EndsIn (tool : Tool) (call : Call) (t : Told) (left : Option Told) (ending : Option Outcome) (n : ℕ) : Type 0 where
-  pub within : n < 65536
+  pub within : n < most_turns
   pub before : IsOpenAfter tool call t n
   pub received : heard_in call t n ≢ Failure
   pub ended : EndsAfter tool call (moments_to tool call t n ending) ending
@@ -111,7 +112,7 @@ pub record EndsIn (tool : Tool) (call : Call) (t : Told) (left : Option Told) (e
 
 -- The last datagram of n turns, or of the beginning, could not be sent.
 pub record FailsToSend (tool : Tool) (call : Call) (t : Told) (left : Option Told) (n : ℕ) : Type 0 where
-  pub within : n ≤ 65536
+  pub within : n ≤ most_turns
   pub before : IsOpenAfter tool call t n
   pub made : List Sending
   pub lost : Sending
@@ -120,14 +121,14 @@ pub record FailsToSend (tool : Tool) (call : Call) (t : Told) (left : Option Tol
 
 -- Turn n failed to receive.
 pub record FailsToReceive (tool : Tool) (call : Call) (t : Told) (left : Option Told) (n : ℕ) : Type 0 where
-  pub within : n < 65536
+  pub within : n < most_turns
   pub before : IsOpenAfter tool call t n
   pub received : heard_in call t n ≡ Failure
   pub link_left : left ≡ left_by call t (suc n) (sent_in tool call (moments tool call t n))
 
 -- All turns went by, and the request is still open.
 pub record RunsOut (tool : Tool) (call : Call) (t : Told) (left : Option Told) (n : ℕ) : Type 0 where
-  pub all : n ≡ 65536
+  pub all : n ≡ most_turns
   pub before : IsOpenAfter tool call t n
   pub link_left : left ≡ left_by call t n (sent_in tool call (moments tool call t n))
 
@@ -143,3 +144,10 @@ Tells tool call before after told left (Err TurnsSpent) = ForSome told (λ t. (n
 Tells tool call before after told left (Err WriteFailed) =
     (ending : Option Outcome) × AppendsFront before after (ending_line tool ending)
     × ForSome told (λ t. (n : ℕ) × EndsIn tool call t left ending n)
+
+-- What a read tells, and what a write.
+abbrev pub ReadTells : Call → Option (List ℕ) → Option (List ℕ) → Option Told → Option Told → Result Exit ToolFault → Type 0
+ReadTells = Tells Reading
+
+abbrev pub WriteTells : Call → Option (List ℕ) → Option (List ℕ) → Option Told → Option Told → Result Exit ToolFault → Type 0
+WriteTells = Tells Writing

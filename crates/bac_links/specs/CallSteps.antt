@@ -5,10 +5,10 @@ use Rattle.bac_tsm.specs.Machine.{State, Waiting, Stepped, step}
 use Rattle.bac_tsm.specs.Lookahead.{Accepted, send_notes}
 use Rattle.bac_tsm.specs.Laws.{state_at}
 use Rattle.bac_tsm.specs.Client.{Client}
-use Rattle.bac_tsm.specs.declared.limits.TheConstants.{LONGEST_BODY}
+use Rattle.bac_links.specs.Limits.{longest_body}
 use Rattle.bac_links.specs.Told.{Told, Heard, Silence, Arrival, Failure, Sending}
 use Rattle.bac_links.specs.Moments.{Moment, events_of, turns}
-use Rattle.bac_links.specs.Call.{rules_for, wait_of, begun_at, moments, moments_to, sent_in, left_by, heard_in, IsOpenIn, IsOpenAfter, EndsAfter, sendings}
+use Rattle.bac_links.specs.Call.{rules_for, wait_of, begun_at, moments, sent_in, left_by, heard_in, IsOpenIn, IsOpenAfter, sendings}
 use Rattle.bac_links.specs.declared.ending.Tool.{Tool}
 use Rattle.bac_text.specs.declared.jobs.Call.{Call}
 use Rattle.bac_links.specs.declared.fault.ToolFault.{ToolFault}
@@ -56,7 +56,7 @@ NoAsk (Tick now ∷ later) = NoAsk later
 
 -- The client of a call that began at this time and went on so, with its request open.
 pub record Carries (tool : Tool) (call : Call) (time : ℕ) (later : List Moment) (client : Client) : Type 0 where
-  pub short : length call.body.items ≤ LONGEST_BODY
+  pub short : length call.body.items ≤ longest_body
   pub quiet : NoAsk (events_of later)
   pub still_open : IsOpenIn tool call (begun_at tool call time later)
   pub client_is : client ≡ record {
@@ -70,12 +70,6 @@ pub record Underway (tool : Tool) (call : Call) (t : Told) (link : Option Told) 
   pub received : (k : ℕ) → k < n → heard_in call t k ≢ Failure
   pub carried : Carries tool call (t.time []) (turns (wait_of call) t n) client
   pub link_left : link ≡ left_by call t n (sent_in tool call (moments tool call t n))
-
--- Turn n ended the request so.
-pub record Ended (tool : Tool) (call : Call) (t : Told) (left : Option Told) (ending : Option Outcome) (n : ℕ) : Type 0 where
-  pub received : heard_in call t n ≢ Failure
-  pub ended : EndsAfter tool call (moments_to tool call t n ending) ending
-  pub link_left : left ≡ left_by call t (suc n) (sent_in tool call (moments_to tool call t n ending))
 
 -- Turn n failed.
 abbrev pub TurnFails : Tool → Call → Told → Option Told → ℕ → ToolFault → Type 0

@@ -5,6 +5,7 @@ use Rattle.bac_device.specs.Turns.{Arrival as Came}
 use Rattle.bac_tsm.specs.Events.{Outcome}
 use Rattle.bac_text.specs.declared.jobs.Call.{Call}
 use Rattle.bac_text.specs.declared.jobs.Search.{Search}
+use Rattle.bac_links.specs.Limits.{most_turns}
 use Rattle.bac_links.specs.Told.{Told}
 use Rattle.bac_links.specs.Call.{EndsIn, FailsToReceive, RunsOut}
 use Rattle.bac_links.specs.Search.{Found, SearchEnds, SearchFails, SearchSpent}
@@ -36,4 +37,4 @@ ServeRuns count t arrivals (Ends end n) =
 ServeRuns count t arrivals (Deaf n) =
     (left : Option Told) × ((replies : List (Option (Station × List ℕ))) × ServeDeaf t left arrivals replies count n)
 ServeRuns count t arrivals Spent =
-    (length arrivals < count) × ((left : Option Told) × ((replies : List (Option (Station × List ℕ))) × ServesSo t left arrivals replies count 65536))
+    (length arrivals < count) × ((left : Option Told) × ((replies : List (Option (Station × List ℕ))) × ServesSo t left arrivals replies count most_turns))

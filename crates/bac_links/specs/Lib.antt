@@ -1,5 +1,7 @@
+pub mod Limits
 pub mod Told
 pub mod Memory
+pub mod Socket
 pub mod Fault
 pub mod Moments
 pub mod Ending
@@ -8,5 +10,6 @@ pub mod CallSteps
 pub mod Search
 pub mod SearchSteps
 pub mod Serve
+pub mod ServeSteps
 pub mod Courses
-pub mod Rehearsal
+pub mod Progress

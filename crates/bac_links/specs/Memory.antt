@@ -1,8 +1,8 @@
 -- What a link in memory tells.
 use Rattle.std.specs.Prelude.{ℕ, ◌+◌, ◌-◌, ◌^◌, min, List, [], ◌∷◌, map, length, nat_le, if◌then◌else◌, Option, None}
 use Rattle.bac_pdu.specs.Peer.{Station, station}
+use Rattle.bac_links.specs.Limits.{longest_datagram}
 use Rattle.bac_links.specs.Told.{Told, Heard, Silence, Arrival, Failure, Sending}
-use Rattle.bac_links.specs.declared.datagram.TheConstants.{DATAGRAM_OCTETS}
 use Rattle.bac_links.specs.declared.memory.Step.{Step}
 use Rattle.bac_links.specs.declared.memory.Step.TheVariants.{Quiet, Packet, Broken}
 use Rattle.bac_links.specs.declared.memory.Kept.{Kept}
@@ -33,7 +33,7 @@ unrouted peer = record { ip = peer.ip; port = peer.port; route = None }
 -- A datagram comes from an address and a port, and is not heard where no receive can hold it.
 abbrev pub heard_at : Scene → Heard
 heard_at (Still time) = Silence
-heard_at (Comes time from octets) = if nat_le (length octets) DATAGRAM_OCTETS then Arrival (unrouted from) octets else Silence
+heard_at (Comes time from octets) = if nat_le (length octets) longest_datagram then Arrival (unrouted from) octets else Silence
 heard_at Breaks = Failure
 
 -- A receive that fails leaves the time.

@@ -13,6 +13,7 @@ use Rattle.bac_pdu.specs.Discovery.{Introduction, introduction, who_is_octets}
 use Rattle.bac_pdu.specs.ValueReading.{introduction_of}
 use Rattle.bac_device.specs.Reply.{asks}
 use Rattle.bac_text.specs.PeerTexts.{peer_text}
+use Rattle.bac_links.specs.Limits.{longest_wait, most_turns}
 use Rattle.bac_links.specs.Told.{Told, Heard, Silence, Arrival, Failure, Sending, waited, having_sent}
 use Rattle.bac_links.specs.declared.ending.Exit.{Exit}
 use Rattle.bac_links.specs.declared.ending.Exit.TheVariants.{Good, Bad}
@@ -78,7 +79,7 @@ search_exit [] = Bad
 search_exit (found ∷ later) = Good
 
 abbrev pub search_wait : Search → ℕ
-search_wait search = min search.timeout 50
+search_wait search = min search.timeout longest_wait
 
 -- What turn n hears.
 abbrev pub search_hears : Search → Told → ℕ → Heard
@@ -113,7 +114,7 @@ pub record Searches (search : Search) (t : Told) (n : ℕ) : Type 0 where
 
 -- The time is up after turn n.
 pub record SearchEnds (search : Search) (t : Told) (left : Option Told) (found : List Found) (n : ℕ) : Type 0 where
-  pub within : n < 65536
+  pub within : n < most_turns
   pub before : Searches search t n
   pub received : search_hears search t n ≢ Failure
   pub over : search.timeout ≤ passed search t (suc n)
@@ -122,7 +123,7 @@ pub record SearchEnds (search : Search) (t : Told) (left : Option Told) (found :
 
 -- Turn n failed to receive.
 pub record SearchFails (search : Search) (t : Told) (left : Option Told) (found : List Found) (n : ℕ) : Type 0 where
-  pub within : n < 65536
+  pub within : n < most_turns
   pub before : Searches search t n
   pub failed : search_hears search t n ≡ Failure
   pub finds : found ≡ found_after search t n
@@ -130,14 +131,14 @@ pub record SearchFails (search : Search) (t : Told) (left : Option Told) (found 
 
 -- All turns went by, and there is still time.
 pub record SearchSpent (search : Search) (t : Told) (left : Option Told) (found : List Found) (n : ℕ) : Type 0 where
-  pub all : n ≡ 65536
+  pub all : n ≡ most_turns
   pub before : Searches search t n
   pub finds : found ≡ found_after search t n
   pub link_left : left ≡ searched search t n
 
 -- The line of the last of these devices, which turn n found, could not be written whole.
 pub record SearchStops (search : Search) (t : Told) (left : Option Told) (found : List Found) (last : Found) (n : ℕ) : Type 0 where
-  pub within : n < 65536
+  pub within : n < most_turns
   pub before : Searches search t n
   pub finds : found ≡ found_after search t n
   pub heard : found_by search.who (search_hears search t n) ≡ last ∷ []

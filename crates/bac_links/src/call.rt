@@ -6,11 +6,12 @@ ghost use Rattle.bac_tsm.specs.Events.{Outcome as How, Tick};
 ghost use Rattle.bac_tsm.specs.Machine.{step, sent};
 ghost use Rattle.bac_tsm.specs.Client.{rules_of, keeping, outcome_seen};
 ghost use Rattle.bac_text.specs.Checked.{inner_of, has_failed, Puts};
+ghost use Rattle.bac_links.specs.Limits.{longest_wait, most_turns};
 ghost use Rattle.bac_links.specs.Told.{Told, Sending, Failure, after_wait, having_sent};
 ghost use Rattle.bac_links.specs.Fault.{is_link_fault, is_write_fault};
 ghost use Rattle.bac_links.specs.Ending.{ending_seen, ending_line, exit_of};
-ghost use Rattle.bac_links.specs.Call.{wait_of, sendings, FailsToSend, Tells};
-ghost use Rattle.bac_links.specs.CallSteps.{endings, heard_step, IsAlone, timeouts, answers, Underway, Ended, TurnFails};
+ghost use Rattle.bac_links.specs.Call.{wait_of, sendings, EndsIn, FailsToSend, Tells, ReadTells, WriteTells};
+ghost use Rattle.bac_links.specs.CallSteps.{endings, heard_step, IsAlone, timeouts, answers, Underway, TurnFails};
 ghost use Rattle.bac_links.specs.declared.ending.Tool.{Tool as Purpose};
 ghost use Rattle.bac_text.specs.declared.jobs.Call.{Call as Asked};
 
@@ -30,7 +31,7 @@ pub(crate) const TURNS: u32 = 65_536;
 
 /// How long a turn of a call or a search with this timeout waits, in milliseconds.
 pub(crate) fn turn_wait(timeout: u32) -> u32
-    ensures { result ≡ min timeout 50 }
+    ensures { result ≡ min timeout longest_wait }
 {
     timeout.min(LONGEST_WAIT)
 }
@@ -113,7 +114,7 @@ fn turn<'d, L: Link>(
     ensures ok { IfOk result (λ ending. (tool : Purpose) (call : Asked) (t : Told) (n : ℕ) → wait_ms ≡ wait_of call →
         Underway tool call t (L.told link.old) client.old n →
         MatchOption ending (Underway tool call t (L.told link.new) client.new (suc n))
-        (λ end. Ended tool call t (L.told link.new) (ending_seen end) n)) }
+        (λ end. n < most_turns → EndsIn tool call t (L.told link.new) (ending_seen end) n)) }
     ensures err { IfErr result (λ fault. (fault ≢ ToolFault.WriteFailed)
         × ((tool : Purpose) (call : Asked) (t : Told) (n : ℕ) → wait_ms ≡ wait_of call →
         Underway tool call t (L.told link.old) client.old n → TurnFails tool call t (L.told link.new) n fault)) }
@@ -195,7 +196,7 @@ pub fn run_read<L: Link, W: Write>(
     requires timeout { 0 < call.now.timeout }
     ensures link_fault { L.has_failed link.new ≡ is_link_fault result }
     ensures write_fault { has_failed writer.new ≡ is_write_fault result }
-    ensures told { Tells Tool.Reading call.now (W.contents (inner_of writer.old)) (W.contents (inner_of writer.new)) (L.told link.old) (L.told link.new) result }
+    ensures told { ReadTells call.now (W.contents (inner_of writer.old)) (W.contents (inner_of writer.new)) (L.told link.old) (L.told link.new) result }
     ensures unprinted { IfErr result (λ fault. fault ≢ ToolFault.WriteFailed → writer.new ≡ writer.old) }
 {
     run(Tool::Reading, call, link, writer)
@@ -216,7 +217,7 @@ pub fn run_write<L: Link, W: Write>(
     requires timeout { 0 < call.now.timeout }
     ensures link_fault { L.has_failed link.new ≡ is_link_fault result }
     ensures write_fault { has_failed writer.new ≡ is_write_fault result }
-    ensures told { Tells Tool.Writing call.now (W.contents (inner_of writer.old)) (W.contents (inner_of writer.new)) (L.told link.old) (L.told link.new) result }
+    ensures told { WriteTells call.now (W.contents (inner_of writer.old)) (W.contents (inner_of writer.new)) (L.told link.old) (L.told link.new) result }
     ensures unprinted { IfErr result (λ fault. fault ≢ ToolFault.WriteFailed → writer.new ≡ writer.old) }
 {
     run(Tool::Writing, call, link, writer)

@@ -1,5 +1,6 @@
 //! A datagram that a link received.
 ghost use Rattle.std.specs.Prelude.{◌≡◌, ◌≤◌, ◌↔◌, [], length, IsTrue, true, false};
+ghost use Rattle.bac_links.specs.Limits.{longest_datagram};
 
 use arrayvec::ArrayVec;
 use std::marker::Model;
@@ -34,14 +35,14 @@ impl Datagram {
     /// The octets.
     pub fn as_slice(&self) -> &[u8]
         ensures value { result.now ≡ self.now }
-        ensures few { length self.now ≤ DATAGRAM_OCTETS }
+        ensures few { length self.now ≤ longest_datagram }
     {
         self.octets.as_slice()
     }
 
     /// Puts these octets in place of those that are there. False, with nothing changed, only where there are more than 2,047.
     pub fn set(&mut self, octets: &[u8]) -> bool
-        ensures fits { IsTrue result ↔ (length octets.now ≤ DATAGRAM_OCTETS) }
+        ensures fits { IsTrue result ↔ (length octets.now ≤ longest_datagram) }
         ensures held { result ≡ true → self.new ≡ octets.now }
         ensures kept { result ≡ false → self.new ≡ self.old }
     {

@@ -1,5 +1,5 @@
 //! What the tools send and receive datagrams through.
-ghost use Rattle.std.specs.Prelude.{◌≡◌, Bool, false, is_err, [], ◌∷◌, Option, Some, None, IfOk, IfSome, OnOk, OnErr};
+ghost use Rattle.std.specs.Prelude.{◌≡◌, Bool, false, is_err, [], ◌∷◌, Option, Some, None, IfOk, IfSome, OnOk, OnErr, MatchResult};
 ghost use Rattle.std.specs.Option.{ForSome};
 ghost use Rattle.bac_pdu.specs.Peer.{station};
 ghost use Rattle.bac_links.specs.Told.{Told, heard_by, after_wait, having_sent};
@@ -29,13 +29,14 @@ pub trait Link {
             ≡ Some (having_sent (record { time = t.time []; to = station to; octets = octets.now } ∷ []) t))) }
         ensures err { OnErr result (told self.new ≡ told self.old) };
 
-    /// Waits so many milliseconds for a datagram, and tells from where it came. None, with the datagram as it was, where
-    /// none came.
+    /// Waits so many milliseconds for a datagram, and tells from where it came. None where none came; then, and after a
+    /// fault, the datagram is as it was.
     fn receive(&mut self, wait_ms: u32, datagram: &mut Datagram) -> Result<Option<Peer>, LinkFault>
         requires { has_failed self.old ≡ false }
         ensures fault { has_failed self.new ≡ is_err result }
         ensures plain { IfOk result (λ heard. IfSome heard (λ from. from.route ≡ None)) }
         ensures heard { ForSome (told self.old) (λ t. t.heard [] wait_ms ≡ heard_by result datagram.new) }
+        ensures kept { MatchResult result (λ heard. heard ≡ None → datagram.new ≡ datagram.old) (λ fault. datagram.new ≡ datagram.old) }
         ensures goes_on { ForSome (told self.old) (λ t. told self.new ≡ Some (after_wait wait_ms t)) };
 
     /// The time in milliseconds.

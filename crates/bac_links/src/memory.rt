@@ -1,8 +1,8 @@
 //! A link in memory.
-ghost use Rattle.std.specs.Prelude.{◌≡◌, ◌++◌, ◌∷◌, [], false, length, map, IfOk, OnOk, OnErr, is_err, slice_get, IsTrue, MatchOption, Some, None};
+ghost use Rattle.std.specs.Prelude.{◌≡◌, ◌++◌, ◌∷◌, [], false, length, map, IfOk, OnOk, OnErr, is_err, slice_get, IfSome, MatchResult, IsTrue, MatchOption, Some, None};
 ghost use Rattle.std.specs.Option.{ForSome};
 ghost use Rattle.bac_pdu.specs.Peer.{station};
-ghost use Rattle.bac_links.specs.Told.{having_sent};
+ghost use Rattle.bac_links.specs.Told.{after_wait, having_sent, heard_by};
 ghost use Rattle.bac_links.specs.Memory.{told_of, told_by, fails_at, scene_of_step, scene_of_kept, sending_of, unrouted};
 
 use crate::datagram::Datagram;
@@ -152,11 +152,15 @@ impl<A: Allocator + Copy> Link for MemoryLink<A> {
         Ok(())
     }
 
-    fn receive(
-        &mut self,
-        wait_ms: u32,
-        datagram: &mut Datagram,
-    ) -> Result<Option<Peer>, LinkFault> {
+    fn receive(&mut self, wait_ms: u32, datagram: &mut Datagram) -> Result<Option<Peer>, LinkFault>
+        requires { self.old.failed ≡ false }
+        ensures fault { self.new.failed ≡ is_err result }
+        ensures plain { IfOk result (λ heard. IfSome heard (λ from. from.route ≡ None)) }
+        ensures heard { ForSome (Some (told_of self.old)) (λ t. t.heard [] wait_ms ≡ heard_by result datagram.new) }
+        ensures kept { MatchResult result (λ heard. heard ≡ None → datagram.new ≡ datagram.old) (λ fault. datagram.new ≡ datagram.old) }
+        ensures goes_on { ForSome (Some (told_of self.old)) (λ t. Some (told_of self.new) ≡ Some (after_wait wait_ms t)) }
+        ensures fails_at { fails_at self.new ≡ fails_at self.old }
+    {
         match self.steps.pop_front() {
             None => {
                 self.time = self.time.saturating_add(u64::from(wait_ms));
@@ -181,7 +185,12 @@ impl<A: Allocator + Copy> Link for MemoryLink<A> {
         }
     }
 
-    fn now(&mut self) -> u64 {
+    fn now(&mut self) -> u64
+        ensures fault { self.new.failed ≡ self.old.failed }
+        ensures time { ForSome (Some (told_of self.old)) (λ t. result ≡ t.time []) }
+        ensures same { Some (told_of self.new) ≡ Some (told_of self.old) }
+        ensures fails_at { fails_at self.new ≡ fails_at self.old }
+    {
         self.time
     }
 

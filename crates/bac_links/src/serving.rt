@@ -2,7 +2,8 @@
 ghost use Rattle.std.specs.Prelude.{◌≡◌, ◌≤◌, false, IfOk};
 ghost use Rattle.bac_pdu.specs.Peer.{station};
 ghost use Rattle.bac_links.specs.Fault.{is_link_fault};
-ghost use Rattle.bac_links.specs.Serve.{Serves, came_in, replied_in, Responds, ServesOne};
+ghost use Rattle.bac_links.specs.Serve.{Serves};
+ghost use Rattle.bac_links.specs.ServeSteps.{came_in, replied_in, Responds, ServesOne};
 
 use crate::call::TURNS;
 use crate::datagram::Datagram;

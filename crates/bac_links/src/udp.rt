@@ -1,6 +1,7 @@
 //! A link over a UDP socket.
-ghost use Rattle.std.specs.Prelude.{◌≡◌, None, IfOk, IfSome, false, vec_len};
-ghost use Rattle.bac_links.specs.declared.udp.TheConstants.{BUFFER};
+ghost use Rattle.std.specs.Prelude.{◌≡◌, ◌+◌, None, IfOk, IfSome, MatchOption, MatchResult, OnOk, OnErr, false, max, vec_len};
+ghost use Rattle.bac_links.specs.Limits.{longest_datagram};
+ghost use Rattle.bac_links.specs.Socket.{IsAddressOf, heard_from, is_quiet, peer_at};
 
 use crate::datagram::{DATAGRAM_OCTETS, Datagram};
 use crate::link::{Link, LinkFault};
@@ -36,7 +37,7 @@ pub struct UdpLink<R: Clock + Drop> {
     wait_ms: u32,
     refused: Refused,
     failed: bool,
-    ghost room: { vec_len buffer ≡ BUFFER },
+    ghost room: { vec_len buffer ≡ longest_datagram + 1 },
 }
 
 impl<R: Net + Clock + Clone + Drop> UdpLink<R> {
@@ -77,7 +78,8 @@ impl<R: Net + Clock + Clone + Drop> UdpLink<R> {
 impl<R: Clock + Drop> UdpLink<R> {
     // The socket waits at most so long from now on. The system is asked only where that is another time than before.
     fn limit_wait(&mut self, wait_ms: u32) -> io::Result<()>
-        ensures { self.new.failed ≡ self.old.failed }
+        ensures ok { OnOk result (self.new ≡ record self.old { wait_ms = wait_ms }) }
+        ensures err { OnErr result (self.new ≡ self.old) }
     {
         if wait_ms != self.wait_ms {
             let wait = Duration::from_millis(u64::from(wait_ms));
@@ -90,23 +92,36 @@ impl<R: Clock + Drop> UdpLink<R> {
     // The next datagram within the wait, where there is one that a `Datagram` holds.
     fn next_datagram(&mut self, wait_ms: u32, datagram: &mut Datagram) -> io::Result<Option<Peer>>
         ensures failed { self.new.failed ≡ self.old.failed }
+        ensures limited { OnOk result (self.new.wait_ms ≡ max wait_ms 1) }
         ensures plain { IfOk result (λ heard. IfSome heard (λ from. from.route ≡ None)) }
+        ensures kept { MatchResult result (λ heard. heard ≡ None → datagram.new ≡ datagram.old) (λ fault. datagram.new ≡ datagram.old) }
     {
         self.limit_wait(wait_ms.max(1))?;
-        let (len, from) = match self.socket.recv_from(&mut self.buffer) {
-            Ok(came) => came,
-            Err(e) if is_quiet(self.refused, e.kind()) => return Ok(None),
-            Err(e) => return Err(e),
-        };
-        match peer_of(from) {
-            Some(peer) if datagram.set(&self.buffer[..len]) => Ok(Some(peer)),
-            _ => Ok(None),
+        match self.socket.recv_from(&mut self.buffer) {
+            Ok((len, from)) => Ok(hear(from, &self.buffer[..len], datagram)),
+            Err(e) if is_quiet(self.refused, e.kind()) => Ok(None),
+            Err(e) => Err(e),
         }
     }
 }
 
+// Keeps the octets that came from there, and tells the peer. None where they are too many.
+fn hear(from: SocketAddr, octets: &[u8], datagram: &mut Datagram) -> Option<Peer>
+    ensures peer { result ≡ heard_from from octets.now }
+    ensures held { MatchOption result (datagram.new ≡ datagram.old) (λ peer. datagram.new ≡ octets.now) }
+{
+    let peer = peer_of(from)?;
+    if datagram.set(octets) {
+        Some(peer)
+    } else {
+        None
+    }
+}
+
 // Whether a receive with this error heard nothing, and that is all.
-fn is_quiet(refused: Refused, kind: ErrorKind) -> bool {
+fn is_quiet(refused: Refused, kind: ErrorKind) -> bool
+    ensures { result ≡ is_quiet refused kind }
+{
     match kind {
         ErrorKind::WouldBlock | ErrorKind::TimedOut | ErrorKind::Interrupted => true,
         // These tell of a datagram that was sent before.
@@ -118,12 +133,14 @@ fn is_quiet(refused: Refused, kind: ErrorKind) -> bool {
     }
 }
 
-fn address_of(peer: Peer) -> SocketAddr {
+fn address_of(peer: Peer) -> SocketAddr
+    ensures { IsAddressOf peer result }
+{
     SocketAddr::V4(SocketAddrV4::new(Ipv4Addr::from_bits(peer.ip), peer.port))
 }
 
 fn peer_of(address: SocketAddr) -> Option<Peer>
-    ensures { IfSome result (λ from. from.route ≡ None) }
+    ensures { result ≡ peer_at address }
 {
     match address {
         SocketAddr::V4(address) => Some(Peer {

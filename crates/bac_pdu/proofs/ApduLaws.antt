@@ -3,15 +3,12 @@ use Rattle.std.proofs.Common.{◌≡◌, ℕ, ◌+◌, ◌/◌, ◌%◌, Bool, t
 use Rattle.std.specs.Prelude.{◌==◌, if◌then◌else◌, ◌↔◌}
 use Rattle.std.proofs.lemmas.Bool.{eqb-true}
 use Rattle.std.proofs.lemmas.Option.{none-some, some_pair_parts}
-use Rattle.bac_wire.specs.TagReading.{◌>>=◌}
 use Rattle.bac_wire.proofs.Readers.{found_at, chosen}
 use Rattle.bac_wire.proofs.TagLaws.{bind_some}
 use Rattle.bac_pdu.specs.declared.apdu.Part.{Part}
 use Rattle.bac_pdu.specs.Bits.{bit}
 use Rattle.bac_pdu.specs.Apdu.{Message, confirmed, unconfirmed, simple_ack, complex_ack, segment_ack, error, reject, abort, SpellsPart, IsConfirmed, IsComplexAck, IsLaidOut, part_flags, part_octets, laid_out, IsWritable}
 use Rattle.bac_pdu.specs.ApduReading.{part_at, service_at, parts_at, confirmed_of, unconfirmed_of, complex_ack_of, numbered_of, apdu_of}
-use Rattle.bac_pdu.specs.Datagram.{IsFound}
-use Rattle.bac_pdu.proofs.DatagramLaws.{found_is}
 
 -- ---- the part
 
@@ -39,17 +36,17 @@ service_takes (first ∷ others) service body e = let parts = some_pair_parts fi
 parts_takes : (first : ℕ) (octets : List ℕ) (x : Option Part × ℕ × List ℕ) → parts_at first octets ≡ Some x → (front : List ℕ) × SpellsPart first front x.0 × (octets ≡ front ++ x.1 ∷ x.2)
 unfolding parts_at
 parts_takes first octets x e =
-    let a = bind_some (part_at first octets (bit 3 first)) (λ part. service_at part.1 >>= λ service. Some (part.0, service.0, service.1)) x e in
-    let b = bind_some (service_at a.0.1) (λ service. Some (a.0.0, service.0, service.1)) x a.2 in
-    let part = part_takes first octets (bit 3 first) a.0.0 a.0.1 refl a.1 in
-    let service = service_takes a.0.1 b.0.0 b.0.1 b.1 in
+    let a = bind_some _ _ _ e in
+    let b = bind_some _ _ _ a.2 in
+    let part = part_takes _ _ _ _ _ refl a.1 in
+    let service = service_takes _ _ _ b.1 in
     let made : Option Part × ℕ × List ℕ = (a.0.0, b.0.0, b.0.1) in
     let same : made ≡ x = cc in
     subst (λ (y : Option Part × ℕ × List ℕ). (front : List ℕ) × SpellsPart first front y.0 × (octets ≡ front ++ y.1 ∷ y.2)) same (part.0, part.1, part.2 ∙ ap (λ (w : List ℕ). part.0 ++ w) service)
 
 parts_again : (first : ℕ) (front : List ℕ) (part : Option Part) (service : ℕ) (body : List ℕ) → SpellsPart first front part → parts_at first (front ++ service ∷ body) ≡ Some (part, service, body)
 unfolding parts_at
-parts_again first front part service body s = rw (part_again first front part (service ∷ body) s) refl
+parts_again first front part service body s = rw (part_again _ _ _ _ s) refl
 
 -- ---- each kind
 
@@ -57,8 +54,8 @@ confirmed_takes : (first : ℕ) (octets : List ℕ) (m : Message) → first / 16
 confirmed_takes first [] m kind e = absurd (none-some m e)
 confirmed_takes first (second ∷ []) m kind e = absurd (none-some m e)
 confirmed_takes first (second ∷ id ∷ octets) m kind e =
-    let a = bind_some (parts_at first octets) (λ x. Some (confirmed x.0 (second % 16) id x.1 x.2)) m e in
-    let parts = parts_takes first octets a.0 a.1 in
+    let a = bind_some _ _ _ e in
+    let parts = parts_takes _ _ _ a.1 in
     let made : Message = confirmed a.0.0 (second % 16) id a.0.1 a.0.2 in
     let same : made ≡ m = cc in
     let here : IsConfirmed (first ∷ second ∷ id ∷ octets) a.0.0 (second % 16) id a.0.1 a.0.2 = record { first = first; second = second; part_octets = parts.0; whole = ap (λ (w : List ℕ). first ∷ second ∷ id ∷ w) parts.2; kind = kind; coded = refl; spelled = parts.1 } in
@@ -67,8 +64,8 @@ confirmed_takes first (second ∷ id ∷ octets) m kind e =
 complex_takes : (first : ℕ) (octets : List ℕ) (m : Message) → first / 16 ≡ 3 → complex_ack_of first octets ≡ Some m → IsLaidOut (first ∷ octets) m
 complex_takes first [] m kind e = absurd (none-some m e)
 complex_takes first (id ∷ octets) m kind e =
-    let a = bind_some (parts_at first octets) (λ x. Some (complex_ack x.0 id x.1 x.2)) m e in
-    let parts = parts_takes first octets a.0 a.1 in
+    let a = bind_some _ _ _ e in
+    let parts = parts_takes _ _ _ a.1 in
     let made : Message = complex_ack a.0.0 id a.0.1 a.0.2 in
     let same : made ≡ m = cc in
     let here : IsComplexAck (first ∷ id ∷ octets) a.0.0 id a.0.1 a.0.2 = record { first = first; part_octets = parts.0; whole = ap (λ (w : List ℕ). first ∷ id ∷ w) parts.2; kind = kind; spelled = parts.1 } in
@@ -95,23 +92,23 @@ segment_takes first octets m kind e = let same : segment_ack ≡ m = cc in subst
 
 simple_takes : (first : ℕ) (octets : List ℕ) (m : Message) → first / 16 ≡ 2 → numbered_of (λ id service _. simple_ack id service) octets ≡ Some m → IsLaidOut (first ∷ octets) m
 simple_takes first octets m kind e =
-    let n = numbered_takes (λ id service _. simple_ack id service) octets m e in
-    subst (IsLaidOut (first ∷ octets)) n.4 (first, n.2, kind, behind_first first octets (n.0 ∷ n.1 ∷ n.2) n.3)
+    let n = numbered_takes _ _ _ e in
+    subst (IsLaidOut (first ∷ octets)) n.4 (first, n.2, kind, behind_first _ _ _ n.3)
 
 error_takes : (first : ℕ) (octets : List ℕ) (m : Message) → first / 16 ≡ 5 → numbered_of error octets ≡ Some m → IsLaidOut (first ∷ octets) m
 error_takes first octets m kind e =
-    let n = numbered_takes error octets m e in
-    subst (IsLaidOut (first ∷ octets)) n.4 (first, kind, behind_first first octets (n.0 ∷ n.1 ∷ n.2) n.3)
+    let n = numbered_takes _ _ _ e in
+    subst (IsLaidOut (first ∷ octets)) n.4 (first, kind, behind_first _ _ _ n.3)
 
 reject_takes : (first : ℕ) (octets : List ℕ) (m : Message) → first / 16 ≡ 6 → numbered_of (λ id reason _. reject id reason) octets ≡ Some m → IsLaidOut (first ∷ octets) m
 reject_takes first octets m kind e =
-    let n = numbered_takes (λ id reason _. reject id reason) octets m e in
-    subst (IsLaidOut (first ∷ octets)) n.4 (first, n.2, kind, behind_first first octets (n.0 ∷ n.1 ∷ n.2) n.3)
+    let n = numbered_takes _ _ _ e in
+    subst (IsLaidOut (first ∷ octets)) n.4 (first, n.2, kind, behind_first _ _ _ n.3)
 
 abort_takes : (first : ℕ) (octets : List ℕ) (m : Message) → first / 16 ≡ 7 → numbered_of (λ id reason _. abort (bit 0 first) id reason) octets ≡ Some m → IsLaidOut (first ∷ octets) m
 abort_takes first octets m kind e =
-    let n = numbered_takes (λ id reason _. abort (bit 0 first) id reason) octets m e in
-    subst (IsLaidOut (first ∷ octets)) n.4 (first, n.2, kind, refl, behind_first first octets (n.0 ∷ n.1 ∷ n.2) n.3)
+    let n = numbered_takes _ _ _ e in
+    subst (IsLaidOut (first ∷ octets)) n.4 (first, n.2, kind, refl, behind_first _ _ _ n.3)
 
 -- the kinds from 4 on
 abbrev late_of : ℕ → List ℕ → Option Message
@@ -164,19 +161,19 @@ apdu_takes (first ∷ octets) m e =
 
 confirmed_again : (first second id service : ℕ) (part_octets body : List ℕ) (part : Option Part) → first / 16 ≡ 0 → SpellsPart first part_octets part → apdu_of (first ∷ second ∷ id ∷ (part_octets ++ service ∷ body)) ≡ Some (confirmed part (second % 16) id service body)
 unfolding apdu_of
-confirmed_again first second id service part_octets body part kind s = rw (kind, parts_again first part_octets part service body s) refl
+confirmed_again first second id service part_octets body part kind s = rw (kind, parts_again _ _ _ _ _ s) refl
 
 complex_again : (first id service : ℕ) (part_octets body : List ℕ) (part : Option Part) → first / 16 ≡ 3 → SpellsPart first part_octets part → apdu_of (first ∷ id ∷ (part_octets ++ service ∷ body)) ≡ Some (complex_ack part id service body)
 unfolding apdu_of
-complex_again first id service part_octets body part kind s = rw (kind, parts_again first part_octets part service body s) refl
+complex_again first id service part_octets body part kind s = rw (kind, parts_again _ _ _ _ _ s) refl
 
 apdu_again : (octets : List ℕ) (m : Message) → IsLaidOut octets m → apdu_of octets ≡ Some m
 unfolding apdu_of
 apdu_again octets (confirmed part code id service body) s =
-    ap apdu_of s.whole ∙ confirmed_again s.first s.second id service s.part_octets body part s.kind s.spelled ∙ ap (λ (k : ℕ). Some (confirmed part k id service body)) s.coded
+    ap apdu_of s.whole ∙ confirmed_again _ _ _ _ _ _ _ s.kind s.spelled ∙ ap (λ (k : ℕ). Some (confirmed part k id service body)) s.coded
 apdu_again octets (unconfirmed service body) s = ap apdu_of s.2 ∙ rw s.1 refl
 apdu_again octets (simple_ack id service) s = ap apdu_of s.3 ∙ rw s.2 refl
-apdu_again octets (complex_ack part id service body) s = ap apdu_of s.whole ∙ complex_again s.first id service s.part_octets body part s.kind s.spelled
+apdu_again octets (complex_ack part id service body) s = ap apdu_of s.whole ∙ complex_again _ _ _ _ _ _ s.kind s.spelled
 apdu_again octets segment_ack s = ap apdu_of s.3 ∙ rw s.2 refl
 apdu_again octets (error id service body) s = ap apdu_of s.2 ∙ rw s.1 refl
 apdu_again octets (reject id reason) s = ap apdu_of s.3 ∙ rw s.2 refl
@@ -184,10 +181,6 @@ apdu_again octets (abort server id reason) s = ap apdu_of s.4 ∙ rw (s.2, s.3) 
 
 pub apdu_is : (octets : List ℕ) (m : Message) → (apdu_of octets ≡ Some m) ↔ IsLaidOut octets m
 apdu_is octets m = (apdu_takes octets m, apdu_again octets m)
-
--- what is read is found
-pub apdu_found : (octets : List ℕ) (found : Option Message) → found ≡ apdu_of octets → IsFound IsLaidOut octets found
-apdu_found octets found e = found_is IsLaidOut octets (apdu_of octets) found (apdu_is octets) e
 
 -- ---- what is written
 
@@ -225,4 +218,4 @@ laid_out_is (abort true id reason) h = (113, [], refl, refl, refl)
 laid_out_is (abort false id reason) h = (112, [], refl, refl, refl)
 
 pub apdu_back : (m : Message) → IsWritable m → apdu_of (laid_out m) ≡ Some m
-apdu_back m h = apdu_again (laid_out m) m (laid_out_is m h)
+apdu_back m h = apdu_again _ _ (laid_out_is m h)

@@ -1,31 +1,28 @@
 -- What is read of a datagram is what it carries, and what is written is carried back.
-use Rattle.std.proofs.Common.{slice_index_or, ◌≡◌, ℕ, ◌+◌, ◌/◌, ◌%◌, ◌<◌, ◌≤◌, Bool, true, false, cond, eqb, ltb, ◌&&◌, ◌||◌, List, [], ◌∷◌, ◌++◌, length, Option, Some, None, refl, sym, ap, subst, ◌∙◌, append_assoc, arith, inl, inr}
+use Rattle.std.proofs.Common.{slice_index_or, ◌≡◌, ℕ, ◌+◌, ◌/◌, ◌%◌, ◌<◌, ◌≤◌, Bool, true, false, cond, eqb, ◌||◌, List, [], ◌∷◌, ◌++◌, length, Option, Some, None, refl, sym, ap, subst, ◌∙◌, append_assoc, arith, inl, inr}
 use Rattle.std.specs.Prelude.{◌↔◌, is_some, IfSome, OnOk, Result, Ok, Err}
 use Rattle.std.proofs.lemmas.Bool.{eqb-true, ltb-true, lt-ltb, eq-eqb}
 use Rattle.std.proofs.lemmas.List.{length-append}
 use Rattle.std.proofs.lemmas.Option.{none-some, some_pair_parts}
 use Rattle.byteorder.specs.Endian.{big_number, big_bytes}
 use Rattle.byteorder.specs.Numbers.{big_number-reads_back, length-bytes_high_first}
-use Rattle.bac_wire.specs.TagReading.{◌>>=◌}
 use Rattle.bac_wire.proofs.Readers.{found_at, chosen}
 use Rattle.bac_wire.proofs.TagLaws.{bind_some}
 use Rattle.bac_pdu.specs.Peer.{NetworkAddress, Station, IsRoutable}
 use Rattle.bac_pdu.specs.Header.{NetworkHeader, SpellsHeader, plain_header}
-use Rattle.bac_pdu.specs.Datagram.{Delivery, SpellsOrigin, unicast, broadcast, forwarded, IsHeeded, Carries, IsFound, IsSingle, Takes, wrapped, front_count, front_octets}
-use Rattle.bac_pdu.specs.DatagramReading.{header_at, forwarded_at, origin_at, link_at, is_routable, is_for_all, is_answerable, carried}
+use Rattle.bac_wire.specs.Front.{IsSingle}
+use Rattle.bac_pdu.specs.Datagram.{Delivery, SpellsOrigin, unicast, broadcast, forwarded, IsHeeded, Carries, Takes, wrapped, front_count, front_octets}
+use Rattle.bac_pdu.specs.DatagramReading.{forwarded_at, origin_at, link_at, is_routable, is_for_all, is_answerable, carried}
+use Rattle.bac_pdu.proofs.PeerLaws.{both}
 use Rattle.bac_pdu.proofs.HeaderLaws.{header_reader, header_written}
 
 -- ---- which headers are ignored
 
-both : (a b : Bool) → (a && b) ≡ true → (a ≡ true) × (b ≡ true)
-both true b e = (refl, e)
-both false b e = absurd cc
-
 routable_holds : (to : NetworkAddress) → is_routable to ≡ true → IsRoutable to
 routable_holds to e =
-    let a = both (ltb 0 to.network) (ltb to.network 65535 && (ltb 0 (length to.address) && ltb (length to.address) 8)) e in
-    let b = both (ltb to.network 65535) (ltb 0 (length to.address) && ltb (length to.address) 8) a.1 in
-    let c = both (ltb 0 (length to.address)) (ltb (length to.address) 8) b.1 in
+    let a = both _ _ e in
+    let b = both _ _ a.1 in
+    let c = both _ _ b.1 in
     let short = ltb-true 0 (length to.address) c.0 in
     let long = ltb-true (length to.address) 8 c.1 in
     record { local = ltb-true 0 to.network a.0; global = ltb-true to.network 65535 b.0; shortest = omega arith; longest = omega arith }
@@ -162,8 +159,8 @@ heeded_again sender to_all header apdu h = rw (destined_tests header.destination
 carried_takes : (from : Station) (datagram : List ℕ) (d : Delivery) → carried from datagram ≡ Some d → Carries from datagram d
 unfolding carried
 carried_takes from datagram d e =
-    let a = bind_some (link_at from datagram) (λ link. header_at link.1 >>= λ header. heeded_as link.0.0 link.0.1 header.0 header.1) d e in
-    let b = bind_some (header_at a.0.1) (λ header. heeded_as a.0.0.0 a.0.0.1 header.0 header.1) d a.2 in
+    let a = bind_some _ _ _ e in
+    let b = bind_some _ _ _ a.2 in
     let link = link_takes from datagram a.0.0 a.0.1 a.1 in
     let header = header_reader.takes a.0.1 b.0.0 b.0.1 b.1 in
     let heard = heeded_takes a.0.0.0 a.0.0.1 b.0.0 b.0.1 d b.2 in
@@ -173,14 +170,14 @@ carried_takes from datagram d e =
       high = link.high;
       low = link.low;
       origin = link.origin;
-      header = header.0;
+      header = header.front;
       sender = a.0.0.0;
       to_all = a.0.0.1;
       network = b.0.0;
-      whole = link.whole ∙ ap (λ (w : List ℕ). 129 ∷ link.function ∷ link.high ∷ link.low ∷ (link.origin ++ w)) header.2;
+      whole = link.whole ∙ ap (λ (w : List ℕ). 129 ∷ link.function ∷ link.high ∷ link.low ∷ (link.origin ++ w)) header.whole;
       counted = link.counted;
       sent = link.sent;
-      headed = header.1;
+      headed = header.spelled;
       heeded = heard.heeded;
       peer = refl;
       broadcast = refl;
@@ -197,22 +194,10 @@ carried_again : (from : Station) (datagram : List ℕ) (d : Delivery) → Carrie
 carried_again from datagram d c =
     let counted : big_number 2 (c.high ∷ c.low ∷ []) ≡ 4 + length (c.origin ++ (c.header ++ d.apdu)) = c.counted ∙ ap length c.whole ∙ omega arith in
     let same : ◌≡◌ {A = Delivery} (delivered_as c.sender c.to_all c.network d.apdu) d = rw (← c.peer, ← c.broadcast) refl in
-    ap (carried from) c.whole ∙ carried_again_at from c.function c.high c.low c.origin c.header d.apdu c.sender c.to_all c.network counted c.sent c.headed c.heeded ∙ ap Some same
+    ap (carried from) c.whole ∙ carried_again_at _ _ _ _ _ _ _ _ _ _ counted c.sent c.headed c.heeded ∙ ap Some same
 
 pub carried_is : (from : Station) (datagram : List ℕ) (d : Delivery) → (carried from datagram ≡ Some d) ↔ Carries from datagram d
 carried_is from datagram d = (carried_takes from datagram d, carried_again from datagram d)
-
-spelled_where : {A : Type 0} (Spells : List ℕ → A → Type 0) (octets : List ℕ) (read found : Option A) → ((x : A) → (read ≡ Some x) ↔ Spells octets x) → found ≡ read → IfSome found (Spells octets)
-spelled_where Spells octets read None is e = tt
-spelled_where Spells octets read (Some x) is e = (is x).0 (sym e)
-
--- what is read is found
-pub found_is : {A : Type 0} (Spells : List ℕ → A → Type 0) (octets : List ℕ) (read found : Option A) → ((x : A) → (read ≡ Some x) ↔ Spells octets x) → found ≡ read → IsFound Spells octets found
-found_is Spells octets read found is e = record { spelled = spelled_where Spells octets read found is e; all = λ x s. e ∙ (is x).1 s }
-
--- what is read of a datagram is what it carries
-pub carried_found : (from : Station) (datagram : List ℕ) (found : Option Delivery) → found ≡ carried from datagram → IsFound (Carries from) datagram found
-carried_found from datagram found e = found_is (Carries from) datagram (carried from datagram) found (carried_is from datagram) e
 
 -- ---- what is written
 
@@ -223,7 +208,7 @@ wrapped_takes to expect apdu routable fits =
     let n : ℕ = 4 + length (plain_header to expect ++ apdu) in
     let short : n < 65536 = omega arith in
     let counted = big_number-reads_back 2 n [] short in
-    let header = header_written to expect routable in
+    let header = header_written _ _ routable in
     record {
       high = n / 256 % 256;
       low = n % 256;
@@ -245,7 +230,7 @@ pub frame_takes : (to : Option NetworkAddress) (expect : Bool) (apdu frame : Lis
 unfolding wrapped
 frame_takes to expect apdu frame routable fits e =
     let short : length (wrapped to expect apdu) < 65536 = omega (arith, length-append (plain_header to expect) apdu) in
-    subst (Takes to expect apdu) (sym e) (wrapped_takes to expect apdu routable short)
+    subst (Takes to expect apdu) (sym e) (wrapped_takes _ _ _ routable short)
 
 -- the front and the APDU are the datagram
 pub front_before : (to : Option NetworkAddress) (expect : Bool) (apdu : List ℕ) → front_octets to expect (length apdu) ++ apdu ≡ wrapped to expect apdu
@@ -289,15 +274,11 @@ header_within to expect size =
 pub front_takes : (to : Option NetworkAddress) (expect : Bool) (apdu : List ℕ) (size : ℕ) (front frame : List ℕ) → IfSome to IsRoutable → size ≡ length apdu → length (front_octets to expect size) + size ≤ 1497 → front ≡ front_octets to expect size → frame ≡ front ++ apdu → Takes to expect apdu frame
 front_takes to expect apdu size front frame routable all fits is e =
     let same : frame ≡ wrapped to expect apdu = e ∙ ap (λ (f : List ℕ). f ++ apdu) (is ∙ ap (front_octets to expect) all) ∙ front_before to expect apdu in
-    frame_takes to expect apdu frame routable (omega (arith, header_within to expect size, fits, all)) same
-
-pub on_ok : {T E : Type 0} (result : Result T E) (P Q : Type 0) → OnOk result P → (P → Q) → OnOk result Q
-on_ok (Ok x) P Q p f = f p
-on_ok (Err e) P Q p f = tt
+    frame_takes _ _ _ _ routable (omega (arith, header_within to expect size, fits, all)) same
 
 -- the same of a call that put the front there
 pub put_front_takes : {T E : Type 0} (result : Result T E) (to : Option NetworkAddress) (expect : Bool) (apdu : List ℕ) (size : ℕ) (front frame : List ℕ) → IfSome to IsRoutable → size ≡ length apdu → front ≡ front_octets to expect size → OnOk result (frame ≡ front ++ apdu) → OnOk result (length front + length apdu ≤ 1497) → OnOk result (Takes to expect apdu frame)
-put_front_takes (Ok x) to expect apdu size front frame routable all is e fits = front_takes to expect apdu size front frame routable all (omega (arith, all, fits, ap length is)) is e
+put_front_takes (Ok x) to expect apdu size front frame routable all is e fits = front_takes _ _ _ _ _ _ routable all (omega (arith, all, fits, ap length is)) is e
 put_front_takes (Err x) to expect apdu size front frame routable all is e fits = tt
 
 -- what takes an APDU to a station of this network is carried to it
@@ -321,4 +302,4 @@ taken_carries from expect apdu datagram t =
       peer = refl;
       broadcast = refl;
     } in
-    carried_again from datagram d c
+    carried_again _ _ _ c

@@ -6,8 +6,7 @@ use Rattle.std.proofs.lemmas.Option.{none-some, some_pair_parts}
 use Rattle.std.specs.Prelude.{IfSome}
 use Rattle.byteorder.specs.Endian.{big_number}
 use Rattle.byteorder.specs.Numbers.{big_number-reads_back}
-use Rattle.bac_wire.specs.TagReading.{◌>>=◌}
-use Rattle.bac_wire.proofs.Readers.{IsReader, found_at, chosen}
+use Rattle.bac_wire.proofs.Readers.{IsReader, reader_of, found_at, chosen}
 use Rattle.bac_wire.proofs.TagLaws.{bind_some}
 use Rattle.bac_pdu.specs.Bits.{bit}
 use Rattle.bac_pdu.specs.Peer.{NetworkAddress, IsRoutable}
@@ -38,7 +37,7 @@ address_takes (high ∷ []) station rest e = absurd (none-some (station, rest) e
 address_takes (high ∷ low ∷ []) station rest e = absurd (none-some (station, rest) e)
 address_takes (high ∷ low ∷ count ∷ octets) station rest e =
     let network : ℕ = big_number 2 (high ∷ low ∷ []) in
-    let a = bind_some (counted_at (count ∷ octets)) (λ address. found_at (record { network = network; address = address.0 }) address.1) (station, rest) e in
+    let a = bind_some _ _ _ e in
     let parts = some_pair_parts (record { network = network; address = a.0.0 }) station a.0.1 rest a.2 in
     let counted = count_takes count octets a.0.0 a.0.1 a.1 in
     let line : high ∷ low ∷ count ∷ octets ≡ (high ∷ low ∷ length a.0.0 ∷ a.0.0) ++ rest =
@@ -52,7 +51,7 @@ unfolding address_at
 address_again_at high low network address rest e = rw (count_again address rest, e) refl
 
 address_again : (front : List ℕ) (station : NetworkAddress) (rest : List ℕ) → SpellsAddress front station → address_at (front ++ rest) ≡ found_at station rest
-address_again front station rest s = ap (λ (w : List ℕ). address_at (w ++ rest)) s.whole ∙ address_again_at s.high s.low station.network station.address rest s.number
+address_again front station rest s = ap (λ (w : List ℕ). address_at (w ++ rest)) s.whole ∙ address_again_at _ _ _ _ _ s.number
 
 -- ---- the network header
 
@@ -60,8 +59,8 @@ announced_takes : (b : Bool) (octets : List ℕ) (station : Option NetworkAddres
 announced_takes false octets None rest e = ([], refl, (some_pair_parts None None octets rest e).1)
 announced_takes false octets (Some station) rest e = let no : ◌≡◌ {A = Option NetworkAddress} None (Some station) = (some_pair_parts None (Some station) octets rest e).0 in absurd (none-some station no)
 announced_takes true octets station rest e =
-    let a = bind_some (address_at octets) (λ x. Some (Some x.0, x.1)) (station, rest) e in
-    let taken = address_takes octets a.0.0 a.0.1 a.1 in
+    let a = bind_some _ _ _ e in
+    let taken = address_takes _ _ _ a.1 in
     let parts = some_pair_parts (Some a.0.0) station a.0.1 rest a.2 in
     let here : SpellsAnnounced true taken.0 (Some a.0.0) = taken.1 in
     (taken.0, subst (SpellsAnnounced true taken.0) parts.0 here, taken.2 ∙ ap (λ (w : List ℕ). taken.0 ++ w) parts.1)
@@ -70,7 +69,7 @@ announced_again : (b : Bool) (front : List ℕ) (station : Option NetworkAddress
 announced_again false front None rest s = rw s refl
 announced_again false front (Some station) rest s = absurd s
 announced_again true front None rest s = absurd s
-announced_again true front (Some station) rest s = rw (address_again front station rest s) refl
+announced_again true front (Some station) rest s = rw (address_again _ _ _ s) refl
 
 hops_take : (b : Bool) (octets rest : List ℕ) → behind_hops b octets ≡ Some rest → (front : List ℕ) × SpellsHops b front × (octets ≡ front ++ rest)
 hops_take false octets rest e = ([], refl, cc)
@@ -83,14 +82,14 @@ hops_again true front rest s = rw s.1 refl
 
 control_takes : (control : ℕ) (octets : List ℕ) (header : NetworkHeader) (rest : List ℕ) → bit 7 control ≡ false → behind_control control octets ≡ found_at header rest → (front : List ℕ) × SpellsHeader front header × (1 ∷ control ∷ octets ≡ front ++ rest)
 control_takes control octets header rest carries e =
-    let a = bind_some (announced_at (bit 5 control) octets) (λ destination. announced_at (bit 3 control) destination.1 >>= λ source. behind_hops (bit 5 control) source.1 >>= λ apdu. found_at (record { destination = destination.0; source = source.0 }) apdu) (header, rest) e in
-    let b = bind_some (announced_at (bit 3 control) a.0.1) (λ source. behind_hops (bit 5 control) source.1 >>= λ apdu. found_at (record { destination = a.0.0; source = source.0 }) apdu) (header, rest) a.2 in
-    let c = bind_some (behind_hops (bit 5 control) b.0.1) (λ apdu. found_at (record { destination = a.0.0; source = b.0.0 }) apdu) (header, rest) b.2 in
+    let a = bind_some _ _ _ e in
+    let b = bind_some _ _ _ a.2 in
+    let c = bind_some _ _ _ b.2 in
     let made : NetworkHeader = record { destination = a.0.0; source = b.0.0 } in
     let parts = some_pair_parts made header c.0 rest c.2 in
-    let destination = announced_takes (bit 5 control) octets a.0.0 a.0.1 a.1 in
-    let source = announced_takes (bit 3 control) a.0.1 b.0.0 b.0.1 b.1 in
-    let hops = hops_take (bit 5 control) b.0.1 c.0 c.1 in
+    let destination = announced_takes _ _ _ _ a.1 in
+    let source = announced_takes _ _ _ _ b.1 in
+    let hops = hops_take _ _ _ c.1 in
     let front : List ℕ = 1 ∷ control ∷ (destination.0 ++ (source.0 ++ hops.0)) in
     let here : SpellsHeader front made = record { control = control; destination = destination.0; source = source.0; hops = hops.0; whole = refl; carries = carries; destined = destination.1; sent = source.1; hopped = hops.1 } in
     let inner : octets ≡ destination.0 ++ (source.0 ++ (hops.0 ++ rest)) = destination.2 ∙ ap (λ (w : List ℕ). destination.0 ++ w) (source.2 ∙ ap (λ (w : List ℕ). source.0 ++ w) (hops.2 ∙ ap (λ (w : List ℕ). hops.0 ++ w) parts.1)) in
@@ -116,16 +115,16 @@ header_again_at : (control : ℕ) (destination source hops rest : List ℕ) (to 
     → header_at (1 ∷ control ∷ (destination ++ (source ++ (hops ++ rest)))) ≡ found_at (record { destination = to; source = from }) rest
 unfolding header_at
 header_again_at control destination source hops rest to from carries destined sent hopped =
-    rw (carries, announced_again (bit 5 control) destination to (source ++ (hops ++ rest)) destined, announced_again (bit 3 control) source from (hops ++ rest) sent, hops_again (bit 5 control) hops rest hopped) refl
+    rw (carries, announced_again _ _ _ _ destined, announced_again _ _ _ _ sent, hops_again _ _ _ hopped) refl
 
 header_again : (front : List ℕ) (header : NetworkHeader) (rest : List ℕ) → SpellsHeader front header → header_at (front ++ rest) ≡ found_at header rest
 header_again front header rest s =
     let outer : (s.destination ++ (s.source ++ s.hops)) ++ rest ≡ s.destination ++ (s.source ++ (s.hops ++ rest)) = append_assoc s.destination (s.source ++ s.hops) rest ∙ ap (λ (w : List ℕ). s.destination ++ w) (append_assoc s.source s.hops rest) in
     ap (λ (w : List ℕ). header_at (w ++ rest)) s.whole ∙ ap (λ (w : List ℕ). header_at (1 ∷ s.control ∷ w)) outer
-    ∙ header_again_at s.control s.destination s.source s.hops rest header.destination header.source s.carries s.destined s.sent s.hopped
+    ∙ header_again_at _ _ _ _ _ _ _ s.carries s.destined s.sent s.hopped
 
 pub header_reader : IsReader SpellsHeader header_at
-header_reader = record { takes = header_takes; again = header_again }
+header_reader = reader_of SpellsHeader header_at header_takes header_again
 
 -- ---- what is written
 

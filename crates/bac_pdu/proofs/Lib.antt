@@ -1,4 +1,6 @@
+pub mod PeerLaws
 pub mod SequenceLaws
+pub mod Steps
 pub mod HeaderLaws
 pub mod DatagramLaws
 pub mod ApduLaws
@@ -8,6 +10,7 @@ pub mod ReadLaws
 pub mod WriteLaws
 pub mod DiscoveryLaws
 pub mod RoundLaws
+pub mod Written
 pub mod ShortestLaws
 pub mod LengthLaws
 pub mod AckLaws

@@ -1,68 +1,65 @@
 -- Reading the body of a ReadProperty finds what it asks for, or the first fault that it has; reading its answer finds the value.
-use Rattle.std.proofs.Common.{◌≡◌, ℕ, List, [], ◌∷◌, Option, Some, None, Result, Ok, Err, refl, sym, ap, subst, ◌∙◌, inl, inr}
+use Rattle.std.proofs.Common.{◌≡◌, ℕ, List, [], ◌∷◌, Some, None, Result, Ok, Err, refl, sym, ap, subst, ◌∙◌, inl, inr}
 use Rattle.std.specs.Result.{result_ok}
 use Rattle.std.specs.Prelude.{◌↔◌, ◌⊎◌}
 use Rattle.std.proofs.lemmas.Option.{none-some}
-use Rattle.bac_wire.specs.Front.{Begins}
+use Rattle.bac_wire.specs.Front.{Begins, SpellsTo}
 use Rattle.bac_wire.specs.Identifier.{Identifier}
-use Rattle.bac_wire.specs.TagReading.{◌>>=◌}
-use Rattle.bac_wire.specs.ParameterReading.{number_at, object_at, enclosed_at}
+use Rattle.bac_wire.specs.ParameterReading.{number_at, object_at}
 use Rattle.bac_wire.proofs.TagLaws.{bind_some}
 use Rattle.bac_wire.proofs.ParameterLaws.{no_number, no_object, enclosed_no_number}
 use Rattle.bac_pdu.specs.declared.reject.RejectReason.{RejectReason}
 use Rattle.bac_pdu.specs.declared.reject.RejectReason.TheVariants.{InvalidTag, MissingParameter, TooMany}
-use Rattle.bac_pdu.specs.Parameter.{object, property, index, value, SpellsParameter, SpellsTo}
+use Rattle.bac_pdu.specs.Parameter.{object, property, index, value, SpellsParameter}
 use Rattle.bac_pdu.specs.Property.{Reference, Answer, reference_parameters, IsReadBody, IsAckBody}
 use Rattle.bac_pdu.specs.Reject.{HasMore, LacksReference, ReadFault, IsRejectReason, IsOutcome}
-use Rattle.bac_pdu.specs.PropertyReading.{optional_at, and_then, needs, reference_at, ended, read_of, whole_of, ack_of}
-use Rattle.bac_pdu.specs.Datagram.{IsFound}
-use Rattle.bac_pdu.proofs.DatagramLaws.{found_is}
+use Rattle.bac_pdu.specs.PropertyReading.{optional_at, unless_missing, reference_at, read_of, ack_of}
 use Rattle.bac_pdu.proofs.SequenceLaws.{then_to, split_to, to_front, from_front, whole_ended}
 use Rattle.bac_pdu.proofs.ParameterLaws.{object_begins, object_read, property_begins, property_read, value_begins, value_read, index_numbered, optional_begins, optional_read}
-use Rattle.bac_pdu.proofs.RejectLaws.{and_then_ok, and_then_err, ok_err, needs_ok, needs_takes, needs_empty, needs_fails, ended_ok, ended_err, IsJudge, outcome_found, outcome_is}
+use Rattle.bac_pdu.proofs.RejectLaws.{and_then_ok, and_then_err, ok_err, needs_ok, needs_takes, needs_empty, needs_fails, ended_ok, ended_err, IsJudge, outcome_is}
 
 -- ---- the reference
 
 pub reference_takes : (body : List ℕ) (x : Reference × List ℕ) → reference_at body ≡ Ok x → SpellsTo SpellsParameter body (reference_parameters x.0) x.1
 unfolding reference_at
 reference_takes body x e =
-    let a = and_then_ok (needs body (object_at 0 body)) (λ o. and_then (needs o.1 (number_at 1 o.1)) (λ p. Ok (record { object = o.0; property = p.0; index = (optional_at 2 p.1).0 }, (optional_at 2 p.1).1))) x e in
-    let b = and_then_ok (needs a.0.1 (number_at 1 a.0.1)) (λ p. Ok (record { object = a.0.0; property = p.0; index = (optional_at 2 p.1).0 }, (optional_at 2 p.1).1)) x a.2 in
+    let a = and_then_ok _ _ _ e in
+    let b = and_then_ok _ _ _ a.2 in
     let made : Reference × List ℕ = (record { object = a.0.0; property = b.0.0; index = (optional_at 2 b.0.1).0 }, (optional_at 2 b.0.1).1) in
     let same : made ≡ x = cc in
     subst (λ (y : Reference × List ℕ). SpellsTo SpellsParameter body (reference_parameters y.0) y.1) same
     (a.0.1, object_begins body a.0.0 a.0.1 (needs_takes body (object_at 0 body) a.0 a.1), (b.0.1, property_begins a.0.1 b.0.0 b.0.1 (needs_takes a.0.1 (number_at 1 a.0.1) b.0 b.1), optional_begins 2 index index_numbered b.0.1))
 
-object_ok : (body : List ℕ) (id : Identifier) (rest : List ℕ) → Begins SpellsParameter body (object id) rest → needs body (object_at 0 body) ≡ Ok (id, rest)
+object_ok : (body : List ℕ) (id : Identifier) (rest : List ℕ) → Begins SpellsParameter body (object id) rest → unless_missing body (object_at 0 body) ≡ Ok (id, rest)
 object_ok body id rest b = needs_ok body (object_at 0 body) (id, rest) (λ e. ap (object_at 0) e ∙ no_object 0) (object_read body id rest b)
 
-property_ok : (body : List ℕ) (n : ℕ) (rest : List ℕ) → Begins SpellsParameter body (property n) rest → needs body (number_at 1 body) ≡ Ok (n, rest)
+property_ok : (body : List ℕ) (n : ℕ) (rest : List ℕ) → Begins SpellsParameter body (property n) rest → unless_missing body (number_at 1 body) ≡ Ok (n, rest)
 property_ok body n rest b = needs_ok body (number_at 1 body) (n, rest) (λ e. ap (number_at 1) e ∙ no_number 1) (property_read body n rest b)
 
 pub reference_again : (body : List ℕ) (r : Reference) (rest : List ℕ) → SpellsTo SpellsParameter body (reference_parameters r) rest → (r.index ≡ None → number_at 2 rest ≡ None) → reference_at body ≡ Ok (r, rest)
 unfolding reference_at
-reference_again body r rest s none = rw (object_ok body r.object s.0 s.1, property_ok s.0 r.property s.2.0 s.2.1, optional_read 2 index index_numbered s.2.0 r.index rest s.2.2 none) refl
+reference_again body r rest s none = rw (object_ok _ _ _ s.1, property_ok _ _ _ s.2.1, optional_read _ _ index_numbered s.2.0 r.index rest s.2.2 none) refl
 
 -- where a reference is spelled one is read
 pub reference_found : (body : List ℕ) (r : Reference) (rest : List ℕ) → SpellsTo SpellsParameter body (reference_parameters r) rest → (x : Reference × List ℕ) × (reference_at body ≡ Ok x)
 unfolding reference_at
 reference_found body r rest s =
     let made : Reference × List ℕ = (record { object = r.object; property = r.property; index = (optional_at 2 s.2.0).0 }, (optional_at 2 s.2.0).1) in
-    (made, rw (object_ok body r.object s.0 s.1, property_ok s.0 r.property s.2.0 s.2.1) refl)
+    (made, rw (object_ok _ _ _ s.1, property_ok _ _ _ s.2.1) refl)
 
 pub reference_lacks : (body : List ℕ) → LacksReference body → reference_at body ≡ Err MissingParameter
 unfolding reference_at
 reference_lacks body lacks = elim lacks [
-  | inl empty ↦ rw (needs_empty body (object_at 0 body) empty) refl
-  | inr alone ↦ rw (object_ok body alone.0 alone.1.0 alone.1.1, needs_empty alone.1.0 (number_at 1 alone.1.0) alone.1.2) refl
+  | inl empty ↦ rw (needs_empty _ _ empty) refl
+  | inr alone ↦ rw (object_ok _ _ _ alone.1.1, needs_empty _ _ alone.1.2) refl
 ]
 
 pub reference_fails : (body : List ℕ) (reason : RejectReason) → reference_at body ≡ Err reason → ((reason ≡ MissingParameter) × LacksReference body) ⊎ (reason ≡ InvalidTag)
 unfolding reference_at
 reference_fails body reason e =
-    elim (and_then_err (needs body (object_at 0 body)) (λ o. and_then (needs o.1 (number_at 1 o.1)) (λ p. Ok (record { object = o.0; property = p.0; index = (optional_at 2 p.1).0 }, (optional_at 2 p.1).1))) reason e) [
+    elim (and_then_err _ _ _ e) [
       | inl first ↦ elim (needs_fails body (object_at 0 body) reason first) [ inl missing ↦ inl (missing.0, inl missing.1) | inr invalid ↦ inr invalid.0 ]
-      | inr a ↦ elim (and_then_err (needs a.0.1 (number_at 1 a.0.1)) (λ p. Ok (record { object = a.0.0; property = p.0; index = (optional_at 2 p.1).0 }, (optional_at 2 p.1).1)) reason a.2) [
+      | inr a ↦ elim (and_then_err _ _ _ a.2) [
         | inl second ↦ elim (needs_fails a.0.1 (number_at 1 a.0.1) reason second) [
           | inl missing ↦ inl (missing.0, inr (a.0.0, (a.0.1, object_begins body a.0.0 a.0.1 (needs_takes body (object_at 0 body) a.0 a.1), missing.1)))
           | inr invalid ↦ inr invalid.0
@@ -76,9 +73,9 @@ reference_fails body reason e =
 read_takes : (body : List ℕ) (r : Reference) → read_of body ≡ Ok r → IsReadBody body r
 unfolding read_of
 read_takes body r e =
-    let a = and_then_ok (reference_at body) (λ r. ended r.0 r.1) r e in
-    let end = ended_ok a.0.0 r a.0.1 a.2 in
-    subst (IsReadBody body) end.1 (subst (λ (w : List ℕ). SpellsTo SpellsParameter body (reference_parameters a.0.0) w) end.0 (reference_takes body a.0 a.1))
+    let a = and_then_ok _ _ _ e in
+    let end = ended_ok _ _ _ a.2 in
+    subst (IsReadBody body) end.1 (subst (λ (w : List ℕ). SpellsTo SpellsParameter body (reference_parameters a.0.0) w) end.0 (reference_takes _ _ a.1))
 
 pub read_again : (body : List ℕ) (r : Reference) → IsReadBody body r → read_of body ≡ Ok r
 unfolding read_of
@@ -93,7 +90,7 @@ read_front body h =
 read_fails : (body : List ℕ) (reason : RejectReason) → read_of body ≡ Err reason → IsRejectReason ReadFault body reason
 unfolding read_of
 read_fails body reason e =
-    elim (and_then_err (reference_at body) (λ r. ended r.0 r.1) reason e) [
+    elim (and_then_err _ _ _ e) [
       | inl first ↦
           let no_more : ReadFault body TooMany → ⊥ = λ h. let f = read_front body h in ok_err (reference_at body) f.0 reason f.1 first in
           elim (reference_fails body reason first) [
@@ -115,10 +112,6 @@ read_judge = record { takes = read_takes; again = read_again; fails = read_fails
 pub read_is : (body : List ℕ) (o : Result Reference RejectReason) → (read_of body ≡ o) ↔ IsOutcome IsReadBody ReadFault body o
 read_is body o = outcome_is IsReadBody ReadFault read_of read_judge body o
 
--- what is read is the outcome
-pub read_found : (body : List ℕ) (o : Result Reference RejectReason) → o ≡ read_of body → IsOutcome IsReadBody ReadFault body o
-read_found body o e = outcome_found IsReadBody ReadFault read_of read_judge body o e
-
 -- ---- ReadProperty-ACK
 
 ok_found : {A : Type 0} (r : Result A RejectReason) (x : A) → result_ok r ≡ Some x → r ≡ Ok x
@@ -128,12 +121,12 @@ ok_found (Err reason) x e = absurd (none-some x e)
 ack_takes : (body : List ℕ) (a : Answer) → ack_of body ≡ Some a → IsAckBody body a
 unfolding ack_of
 ack_takes body answer e =
-    let a = bind_some (result_ok (reference_at body)) (λ r. enclosed_at 3 r.1 >>= λ v. whole_of (record { reference = r.0; value = v.0 }) v.1) answer e in
-    let b = bind_some (enclosed_at 3 a.0.1) (λ v. whole_of (record { reference = a.0.0; value = v.0 }) v.1) answer a.2 in
+    let a = bind_some _ _ _ e in
+    let b = bind_some _ _ _ a.2 in
     let made : Answer = record { reference = a.0.0; value = b.0.0 } in
-    let end = whole_ended made answer b.0.1 b.2 in
-    let named = reference_takes body a.0 (ok_found (reference_at body) a.0 a.1) in
-    let begins = value_begins a.0.1 b.0.0 b.0.1 b.1 in
+    let end = whole_ended _ _ _ b.2 in
+    let named = reference_takes _ _ (ok_found _ _ a.1) in
+    let begins = value_begins _ _ _ b.1 in
     let here : IsAckBody body made = then_to SpellsParameter body a.0.1 [] (reference_parameters a.0.0) (value b.0.0 ∷ []) named (b.0.1, begins, end.0) in
     subst (IsAckBody body) end.1 here
 
@@ -148,7 +141,3 @@ ack_again body a s =
 -- what an answer body is
 pub ack_is : (body : List ℕ) (a : Answer) → (ack_of body ≡ Some a) ↔ IsAckBody body a
 ack_is body a = (ack_takes body a, ack_again body a)
-
--- what is read is found
-pub ack_found : (body : List ℕ) (found : Option Answer) → found ≡ ack_of body → IsFound IsAckBody body found
-ack_found body found e = found_is IsAckBody body (ack_of body) found (ack_is body) e

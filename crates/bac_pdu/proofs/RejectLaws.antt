@@ -5,7 +5,7 @@ use Rattle.std.proofs.lemmas.Option.{none-some}
 use Rattle.bac_pdu.specs.declared.reject.RejectReason.{RejectReason}
 use Rattle.bac_pdu.specs.declared.reject.RejectReason.TheVariants.{InvalidTag, MissingParameter, OutOfRange, TooMany}
 use Rattle.bac_pdu.specs.Reject.{IsFirst, IsRejectReason, IsOutcome}
-use Rattle.bac_pdu.specs.PropertyReading.{and_then, needs, ended}
+use Rattle.bac_pdu.specs.PropertyReading.{and_then, unless_missing, ended}
 
 -- ---- results
 
@@ -20,19 +20,19 @@ and_then_err (Err other) f reason e = let same : other ≡ reason = cc in inl (a
 pub ok_err : {A : Type 0} (r : Result A RejectReason) (x : A) (reason : RejectReason) → r ≡ Ok x → r ≡ Err reason → ⊥
 ok_err r x reason e f = let no : Ok x ≡ Err reason = sym e ∙ f in absurd cc
 
-pub needs_ok : {A : Type 0} (octets : List ℕ) (found : Option A) (x : A) → (octets ≡ [] → found ≡ None) → found ≡ Some x → needs octets found ≡ Ok x
+pub needs_ok : {A : Type 0} (octets : List ℕ) (found : Option A) (x : A) → (octets ≡ [] → found ≡ None) → found ≡ Some x → unless_missing octets found ≡ Ok x
 needs_ok [] found x none e = absurd (none-some x (sym (none refl) ∙ e))
 needs_ok (o ∷ os) found x none e = rw e refl
 
-pub needs_takes : {A : Type 0} (octets : List ℕ) (found : Option A) (x : A) → needs octets found ≡ Ok x → found ≡ Some x
+pub needs_takes : {A : Type 0} (octets : List ℕ) (found : Option A) (x : A) → unless_missing octets found ≡ Ok x → found ≡ Some x
 needs_takes [] found x e = absurd cc
 needs_takes (o ∷ os) None x e = absurd cc
 needs_takes (o ∷ os) (Some y) x e = let same : y ≡ x = cc in ap Some same
 
-pub needs_empty : {A : Type 0} (octets : List ℕ) (found : Option A) → octets ≡ [] → needs octets found ≡ Err MissingParameter
+pub needs_empty : {A : Type 0} (octets : List ℕ) (found : Option A) → octets ≡ [] → unless_missing octets found ≡ Err MissingParameter
 needs_empty octets found e = rw e refl
 
-pub needs_fails : {A : Type 0} (octets : List ℕ) (found : Option A) (reason : RejectReason) → needs octets found ≡ Err reason → ((reason ≡ MissingParameter) × (octets ≡ [])) ⊎ ((reason ≡ InvalidTag) × (found ≡ None) × (octets ≡ [] → ⊥))
+pub needs_fails : {A : Type 0} (octets : List ℕ) (found : Option A) (reason : RejectReason) → unless_missing octets found ≡ Err reason → ((reason ≡ MissingParameter) × (octets ≡ [])) ⊎ ((reason ≡ InvalidTag) × (found ≡ None) × (octets ≡ [] → ⊥))
 needs_fails [] found reason e = let same : reason ≡ MissingParameter = cc in inl (same, refl)
 needs_fails (o ∷ os) None reason e = let same : reason ≡ InvalidTag = cc in inr (same, refl, λ h. absurd cc)
 needs_fails (o ∷ os) (Some y) reason e = absurd cc

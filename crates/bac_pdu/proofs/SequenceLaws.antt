@@ -3,15 +3,15 @@ use Rattle.std.proofs.Common.{◌≡◌, ℕ, List, [], ◌∷◌, ◌++◌, Opt
 use Rattle.std.specs.List.{AllByRecursion}
 use Rattle.std.proofs.lemmas.List.{append-nil}
 use Rattle.std.proofs.lemmas.Option.{none-some}
-use Rattle.bac_wire.specs.Front.{Begins, IsReader}
+use Rattle.bac_wire.specs.Front.{Begins, IsReader, SpellsTo, SpellsAll}
 use Rattle.bac_wire.proofs.Readers.{found_at}
-use Rattle.bac_pdu.specs.Parameter.{SpellsTo, SpellsAll, plain_all}
+use Rattle.bac_pdu.specs.Parameter.{plain_all}
 use Rattle.bac_pdu.specs.PropertyReading.{whole_of}
 
 -- ---- what stands at the front
 
 pub begins : {A : Type 0} (Spells : List ℕ → A → Type 0) (at : List ℕ → Option (A × List ℕ)) → IsReader Spells at → (octets : List ℕ) (x : A) (rest : List ℕ) → at octets ≡ found_at x rest → Begins Spells octets x rest
-begins Spells at reader octets x rest e = let taken = reader.takes octets x rest e in record { front = taken.0; spelled = taken.1; whole = taken.2 }
+begins Spells at reader octets x rest e = reader.takes octets x rest e
 
 pub begins_read : {A : Type 0} (Spells : List ℕ → A → Type 0) (at : List ℕ → Option (A × List ℕ)) → IsReader Spells at → (octets : List ℕ) (x : A) (rest : List ℕ) → Begins Spells octets x rest → at octets ≡ found_at x rest
 begins_read Spells at reader octets x rest b = ap at b.whole ∙ reader.again b.front x rest b.spelled
@@ -51,8 +51,8 @@ whole_ended x y (a ∷ rest) e = absurd (none-some y e)
 pub all_spell : {A : Type 0} (Spells : List ℕ → A → Type 0) (plain : A → List ℕ) (Is : A → Type 0) → ((x : A) → Is x → Spells (plain x) x) → (xs : List A) (rest : List ℕ) → AllByRecursion Is xs → SpellsTo Spells (plain_all plain xs ++ rest) xs rest
 all_spell Spells plain Is spell [] rest h = refl
 all_spell Spells plain Is spell (x ∷ xs) rest h =
-    (plain_all plain xs ++ rest, record { front = plain x; spelled = spell x h.0; whole = append_assoc (plain x) (plain_all plain xs) rest }, all_spell Spells plain Is spell xs rest h.1)
+    (plain_all plain xs ++ rest, record { front = plain x; spelled = spell x h.0; whole = append_assoc (plain x) (plain_all plain xs) rest }, all_spell _ _ _ spell xs rest h.1)
 
 -- what is written of these things spells them
 pub whole_spell : {A : Type 0} (Spells : List ℕ → A → Type 0) (plain : A → List ℕ) (Is : A → Type 0) → ((x : A) → Is x → Spells (plain x) x) → (xs : List A) → AllByRecursion Is xs → SpellsAll Spells (plain_all plain xs) xs
-whole_spell Spells plain Is spell xs h = subst (λ (w : List ℕ). SpellsTo Spells w xs []) (append-nil (plain_all plain xs)) (all_spell Spells plain Is spell xs [] h)
+whole_spell Spells plain Is spell xs h = subst (λ (w : List ℕ). SpellsTo Spells w xs []) (append-nil (plain_all plain xs)) (all_spell _ _ _ spell xs [] h)

@@ -7,7 +7,7 @@ use Rattle.std.proofs.lemmas.List.{length-append}
 use Rattle.byteorder.specs.Endian.{big_bytes}
 use Rattle.byteorder.specs.Numbers.{length-bytes_high_first}
 use Rattle.bac_wire.specs.Identifier.{Identifier, number_of}
-use Rattle.bac_wire.specs.Front.{AreOctets, IsShortest}
+use Rattle.bac_wire.specs.Front.{AreOctets, IsShortest, SpellsTo, SpellsAll}
 use Rattle.bac_wire.specs.Tag.{SpellsTag, plain_number, plain_tag}
 use Rattle.bac_wire.specs.Region.{IsRegion, opening_tag, closing_tag}
 use Rattle.bac_wire.specs.Datum.{Datum, Spells, unsigned, enumerated, octet_count, plain, IsDatum}
@@ -17,13 +17,14 @@ use Rattle.bac_wire.proofs.PlainTag.{behind, tag_least}
 use Rattle.bac_wire.proofs.ShortestDatum.{octet_count_least, number_within, ahead}
 use Rattle.bac_pdu.specs.declared.discovery.WhoIs.{WhoIs}
 use Rattle.bac_pdu.specs.declared.discovery.WhoIs.TheVariants as limits
-use Rattle.bac_pdu.specs.Parameter.{Parameter, object, property, index, value, priority, IsParameter, SpellsParameter, SpellsTo, SpellsAll, optional, plain_parameter, plain_all}
+use Rattle.bac_pdu.specs.Parameter.{Parameter, object, property, index, value, priority, IsParameter, SpellsParameter, optional, plain_parameter, plain_all}
 use Rattle.bac_pdu.specs.Property.{Reference, Answer, Order, reference_parameters, answer_parameters, order_parameters, IsPriority, IsReadBody, IsAckBody, IsWriteBody, read_octets, ack_octets, write_octets}
 use Rattle.bac_pdu.specs.Discovery.{HasLimits, Introduction, introduction_values, IsWhoIsBody, IsIAmBody, who_is_octets, i_am_octets}
 use Rattle.bac_pdu.specs.Failure.{IsErrorBody, error_octets}
 use Rattle.bac_pdu.specs.PropertyReading.{write_of, ack_of}
 use Rattle.bac_pdu.specs.ValueReading.{introduction_of, error_of}
 use Rattle.bac_pdu.proofs.SequenceLaws.{all_spell, whole_spell}
+use Rattle.bac_pdu.proofs.Written.{optional_is}
 use Rattle.bac_pdu.proofs.DiscoveryLaws.{introduction_is, error_is}
 use Rattle.bac_pdu.proofs.RoundLaws.{parameters_spell, range_spells, write_back, ack_back}
 
@@ -154,10 +155,6 @@ pub i_am_is_back : (i : Introduction) → IsShortest IsIAmBody (i_am_octets i) i
 i_am_is_back i written = (introduction_is (i_am_octets i) i).1 written.spelled
 
 -- ---- the parameters of a request
-
-optional_is : (number : ℕ → Parameter) (i : Option ℕ) → ((n : ℕ) → n < 2 ^ 32 → IsParameter (number n)) → IfSome i (λ n. n < 2 ^ 32) → AllByRecursion IsParameter (optional number i)
-optional_is number None is h = tt
-optional_is number (Some n) is h = (is n h, tt)
 
 all_append : {A : Type 0} (Is : A → Type 0) (xs ys : List A) → AllByRecursion Is xs → AllByRecursion Is ys → AllByRecursion Is (xs ++ ys)
 all_append Is [] ys h k = k

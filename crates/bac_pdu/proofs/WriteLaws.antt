@@ -1,29 +1,30 @@
 -- Reading the body of a WriteProperty finds what it orders, or the first fault that it has.
-use Rattle.std.proofs.Common.{◌≡◌, ℕ, Bool, true, false, cond, ltb, ◌&&◌, List, [], ◌∷◌, ◌++◌, Option, Some, None, Result, Ok, Err, refl, sym, ap, subst, ◌∙◌, arith, inl, inr}
+use Rattle.std.proofs.Common.{◌≡◌, ℕ, Bool, true, false, cond, List, [], ◌∷◌, ◌++◌, Option, Some, None, Result, Ok, Err, refl, sym, ap, subst, ◌∙◌, arith, inl, inr}
 use Rattle.std.specs.Prelude.{◌↔◌, IfSome}
 use Rattle.std.proofs.lemmas.Bool.{ltb-true, lt-ltb}
 use Rattle.std.proofs.lemmas.Option.{none-some}
-use Rattle.bac_wire.specs.Front.{Begins}
+use Rattle.bac_wire.specs.Front.{Begins, SpellsTo, SpellsAll}
 use Rattle.bac_wire.specs.ParameterReading.{behind_opening, enclosed_at}
 use Rattle.bac_wire.proofs.Readers.{chosen}
 use Rattle.bac_wire.proofs.RegionReading.{no_octets}
 use Rattle.bac_wire.proofs.ParameterLaws.{no_number, enclosed_no_number}
 use Rattle.bac_pdu.specs.declared.reject.RejectReason.{RejectReason}
 use Rattle.bac_pdu.specs.declared.reject.RejectReason.TheVariants.{InvalidTag, MissingParameter, OutOfRange, TooMany}
-use Rattle.bac_pdu.specs.Parameter.{Parameter, value, priority, SpellsParameter, SpellsTo, SpellsAll, optional}
+use Rattle.bac_pdu.specs.Parameter.{Parameter, value, priority, SpellsParameter, optional}
 use Rattle.bac_pdu.specs.Property.{Reference, Order, reference_parameters, order_parameters, IsReadBody, IsWriteBody, IsPriority}
 use Rattle.bac_pdu.specs.Reject.{HasMore, WriteFault, IsRejectReason, IsOutcome}
-use Rattle.bac_pdu.specs.PropertyReading.{or_none, optional_at, and_then, needs, reference_at, ended, is_priority, write_of}
+use Rattle.bac_pdu.specs.PropertyReading.{or_none, optional_at, and_then, unless_missing, reference_at, ended, is_priority, write_of}
+use Rattle.bac_pdu.proofs.PeerLaws.{both}
 use Rattle.bac_pdu.proofs.SequenceLaws.{then_to, split_to, to_front, from_front}
 use Rattle.bac_pdu.proofs.ParameterLaws.{value_begins, value_read, priority_numbered, optional_begins, optional_read}
-use Rattle.bac_pdu.proofs.RejectLaws.{and_then_ok, and_then_err, ok_err, needs_ok, needs_takes, needs_fails, ended_ok, ended_err, IsJudge, outcome_found, outcome_is}
+use Rattle.bac_pdu.proofs.RejectLaws.{and_then_ok, and_then_err, ok_err, needs_ok, needs_takes, needs_fails, ended_ok, ended_err, IsJudge, outcome_is}
 use Rattle.bac_pdu.proofs.ReadLaws.{reference_takes, reference_again, reference_found, reference_lacks, reference_fails}
 
 no_value : enclosed_at 3 [] ≡ None
 unfolding enclosed_at behind_opening
 no_value = rw no_octets refl
 
-value_ok : (octets region rest : List ℕ) → Begins SpellsParameter octets (value region) rest → needs octets (enclosed_at 3 octets) ≡ Ok (region, rest)
+value_ok : (octets region rest : List ℕ) → Begins SpellsParameter octets (value region) rest → unless_missing octets (enclosed_at 3 octets) ≡ Ok (region, rest)
 value_ok octets region rest b = needs_ok octets (enclosed_at 3 octets) (region, rest) (λ e. ap (enclosed_at 3) e ∙ no_value) (value_read octets region rest b)
 
 -- a reference and a value at the front are read
@@ -44,29 +45,25 @@ write_again_at : (body : List ℕ) (o : Order) → SpellsAll SpellsParameter bod
 unfolding write_of
 write_again_at body o s =
     let t = reads_value body o.reference o.value [] (optional priority o.priority) [] s in
-    rw (t.1.named, value_ok t.1.next o.value t.0 t.1.begins, optional_read 4 priority priority_numbered t.0 o.priority [] t.2 (λ none. no_number 4)) refl
-
-both : (a b : Bool) → (a && b) ≡ true → (a ≡ true) × (b ≡ true)
-both true b e = (refl, e)
-both false b e = absurd cc
+    rw (t.1.named, value_ok _ _ _ t.1.begins, optional_read _ _ priority_numbered t.0 o.priority [] t.2 (λ none. no_number 4)) refl
 
 priority_holds : (p : Option ℕ) → is_priority p ≡ true → IfSome p IsPriority
 priority_holds None e = tt
-priority_holds (Some n) e = let t = both (ltb 0 n) (ltb n 17) e in let low = ltb-true 0 n t.0 in let high = ltb-true n 17 t.1 in (omega arith, omega arith)
+priority_holds (Some n) e = let t = both _ _ e in let low = ltb-true 0 n t.0 in let high = ltb-true n 17 t.1 in (omega arith, omega arith)
 
 priority_tests : (p : Option ℕ) → IfSome p IsPriority → is_priority p ≡ true
 priority_tests None h = refl
 priority_tests (Some n) h = rw (lt-ltb 0 n (omega (arith, h.0)), lt-ltb n 17 (omega (arith, h.1))) refl
 
 pub write_again : (body : List ℕ) (o : Order) → IsWriteBody body o → write_of body ≡ Ok o
-write_again body o s = write_again_at body o s.spelled ∙ rw (priority_tests o.priority s.urgent) refl
+write_again body o s = write_again_at _ _ s.spelled ∙ rw (priority_tests o.priority s.urgent) refl
 
 -- what stands behind a reference and a value that were read
 record ReadsOrder (body : List ℕ) (r : Reference) (region : List ℕ) (p : Option ℕ) (rest : List ℕ) : Type 0 where
   front : SpellsTo SpellsParameter body (reference_parameters r ++ value region ∷ []) rest
   whole : SpellsTo SpellsParameter body (reference_parameters r ++ value region ∷ optional priority p) (optional_at 4 rest).1
 
-reads_order : (body : List ℕ) (x v : List ℕ) (r : Reference) (rest : List ℕ) → reference_at body ≡ Ok (r, x) → needs x (enclosed_at 3 x) ≡ Ok (v, rest) → ReadsOrder body r v (optional_at 4 rest).0 rest
+reads_order : (body : List ℕ) (x v : List ℕ) (r : Reference) (rest : List ℕ) → reference_at body ≡ Ok (r, x) → unless_missing x (enclosed_at 3 x) ≡ Ok (v, rest) → ReadsOrder body r v (optional_at 4 rest).0 rest
 reads_order body x v r rest e f =
     let named = reference_takes body (r, x) e in
     let begins = value_begins x v rest (needs_takes x (enclosed_at 3 x) (v, rest) f) in
@@ -88,8 +85,8 @@ write_behind r v = and_then (ended (optional_at 4 v.1).0 (optional_at 4 v.1).1) 
 write_takes : (body : List ℕ) (o : Order) → write_of body ≡ Ok o → IsWriteBody body o
 unfolding write_of
 write_takes body o e =
-    let a = and_then_ok (reference_at body) (λ r. and_then (needs r.1 (enclosed_at 3 r.1)) (write_behind r.0)) o e in
-    let b = and_then_ok (needs a.0.1 (enclosed_at 3 a.0.1)) (write_behind a.0.0) o a.2 in
+    let a = and_then_ok (reference_at body) (λ r. and_then (unless_missing r.1 (enclosed_at 3 r.1)) (write_behind r.0)) o e in
+    let b = and_then_ok (unless_missing a.0.1 (enclosed_at 3 a.0.1)) (write_behind a.0.0) o a.2 in
     let c = and_then_ok (ended (optional_at 4 b.0.1).0 (optional_at 4 b.0.1).1) (write_end a.0.0 b.0.0) o b.2 in
     let end = ended_ok (optional_at 4 b.0.1).0 c.0 (optional_at 4 b.0.1).1 c.1 in
     let made : Order = record { reference = a.0.0; value = b.0.0; priority = c.0 } in
@@ -98,7 +95,7 @@ write_takes body o e =
       | inl good ↦
           let same : made ≡ o = let f : ◌≡◌ {A = Result Order RejectReason} (Ok made) (Ok o) = good.1 in cc in
           let here : IsWriteBody body made = record { spelled = order_spelled body a.0.0 b.0.0 (optional_at 4 b.0.1).0 c.0 (optional_at 4 b.0.1).1 read.whole end.0 end.1; urgent = priority_holds c.0 good.0 } in
-          subst (IsWriteBody body) same here
+          subst (IsWriteBody body) {x = made} same here
       | inr bad ↦ let no : ◌≡◌ {A = Result Order RejectReason} (Err OutOfRange) (Ok o) = bad.1 in absurd cc
     ]
 
@@ -111,7 +108,7 @@ record ReadsBoth (body : List ℕ) : Type 0 where
 order_read : (body : List ℕ) (o : Order) (rest : List ℕ) → SpellsTo SpellsParameter body (order_parameters o) rest → ReadsBoth body
 order_read body o rest s =
     let t = reads_value body o.reference o.value [] (optional priority o.priority) rest s in
-    record { found = (o.reference, t.1.next); named = t.1.named; valued = λ none. none-some (o.value, t.0) (sym none ∙ value_read t.1.next o.value t.0 t.1.begins) }
+    record { found = (o.reference, t.1.next); named = t.1.named; valued = λ none. none-some (o.value, t.0) (sym none ∙ value_read _ _ _ t.1.begins) }
 
 range_read : (body : List ℕ) → WriteFault body OutOfRange → ReadsBoth body
 range_read body h = order_read body h.0 [] h.1
@@ -130,37 +127,37 @@ no_both body x e none b =
 -- nothing was read but an unreadable reference, or too little of one
 write_fails_early : (body : List ℕ) (reason : RejectReason) → reference_at body ≡ Err reason → IsRejectReason WriteFault body reason
 write_fails_early body reason first =
-    let none_read : ReadsBoth body → ⊥ = λ b. ok_err (reference_at body) b.found reason b.named first in
+    let none_read : ReadsBoth body → ⊥ = λ b. ok_err _ _ _ b.named first in
     let no_range : WriteFault body OutOfRange → ⊥ = λ h. none_read (range_read body h) in
     let no_more : WriteFault body TooMany → ⊥ = λ h. none_read (more_read body h) in
-    elim (reference_fails body reason first) [
+    elim (reference_fails _ _ first) [
       | inl missing ↦ inr (no_range, inr (no_more, inl (inl missing.1, missing.0)))
       | inr invalid ↦
           let no_lack : WriteFault body MissingParameter → ⊥ = λ h. elim h [
             | inl lacks ↦ let two : ◌≡◌ {A = Result (Reference × List ℕ) RejectReason} (Err MissingParameter) (Err InvalidTag) = sym (reference_lacks body lacks) ∙ first ∙ ap Err invalid in absurd cc
-            | inr named ↦ let f = reference_found body named.0 [] named.1 in ok_err (reference_at body) f.0 reason f.1 first
+            | inr named ↦ let f = reference_found body named.0 [] named.1 in ok_err _ _ _ f.1 first
           ] in
           inr (no_range, inr (no_more, inr (no_lack, inl (tt, invalid))))
     ]
 
 -- a reference was read, and no value behind it
-write_fails_value : (body : List ℕ) (reason : RejectReason) (x : Reference × List ℕ) → reference_at body ≡ Ok x → needs x.1 (enclosed_at 3 x.1) ≡ Err reason → IsRejectReason WriteFault body reason
+write_fails_value : (body : List ℕ) (reason : RejectReason) (x : Reference × List ℕ) → reference_at body ≡ Ok x → unless_missing x.1 (enclosed_at 3 x.1) ≡ Err reason → IsRejectReason WriteFault body reason
 write_fails_value body reason x named second =
-    elim (needs_fails x.1 (enclosed_at 3 x.1) reason second) [
+    elim (needs_fails _ _ _ second) [
       | inl missing ↦
           let none : enclosed_at 3 x.1 ≡ None = ap (enclosed_at 3) missing.1 ∙ no_value in
-          let whole : IsReadBody body x.0 = subst (λ (w : List ℕ). SpellsTo SpellsParameter body (reference_parameters x.0) w) missing.1 (reference_takes body x named) in
-          inr (λ h. no_both body x named none (range_read body h), inr (λ h. no_both body x named none (more_read body h), inl (inr (x.0, whole), missing.0)))
+          let whole : IsReadBody body x.0 = subst (λ (w : List ℕ). SpellsTo SpellsParameter body (reference_parameters x.0) w) missing.1 (reference_takes _ _ named) in
+          inr (λ h. no_both _ _ named none (range_read body h), inr (λ h. no_both _ _ named none (more_read body h), inl (inr (x.0, whole), missing.0)))
       | inr invalid ↦
           let no_lack : WriteFault body MissingParameter → ⊥ = λ h. elim h [
-            | inl lacks ↦ ok_err (reference_at body) x MissingParameter named (reference_lacks body lacks)
+            | inl lacks ↦ ok_err _ _ _ named (reference_lacks body lacks)
             | inr whole ↦
                 let again = reference_again body whole.0 [] whole.1 (λ none. no_number 2) in
                 let two : ◌≡◌ {A = Result (Reference × List ℕ) RejectReason} (Ok x) (Ok (whole.0, [])) = sym named ∙ again in
                 let same : x ≡ (whole.0, []) = cc in
                 invalid.2 (ap (λ (y : Reference × List ℕ). y.1) same)
           ] in
-          inr (λ h. no_both body x named invalid.1 (range_read body h), inr (λ h. no_both body x named invalid.1 (more_read body h), inr (no_lack, inl (tt, invalid.0))))
+          inr (λ h. no_both _ _ named invalid.1 (range_read body h), inr (λ h. no_both _ _ named invalid.1 (more_read body h), inr (no_lack, inl (tt, invalid.0))))
     ]
 
 range_or_ok : (b : Bool) (o : Order) → cond b (Ok o) (Err OutOfRange) ≡ Err TooMany → ⊥
@@ -168,7 +165,7 @@ range_or_ok true o e = absurd cc
 range_or_ok false o e = absurd cc
 
 -- something follows
-write_fails_more : (body : List ℕ) (reason : RejectReason) (r : Reference) (x v rest : List ℕ) → reference_at body ≡ Ok (r, x) → needs x (enclosed_at 3 x) ≡ Ok (v, rest) → write_of body ≡ Err reason → ended (optional_at 4 rest).0 (optional_at 4 rest).1 ≡ Err reason
+write_fails_more : (body : List ℕ) (reason : RejectReason) (r : Reference) (x v rest : List ℕ) → reference_at body ≡ Ok (r, x) → unless_missing x (enclosed_at 3 x) ≡ Ok (v, rest) → write_of body ≡ Err reason → ended (optional_at 4 rest).0 (optional_at 4 rest).1 ≡ Err reason
     → IsRejectReason WriteFault body reason
 write_fails_more body reason r x v rest named valued whole third =
     let end = ended_err (optional_at 4 rest).0 (optional_at 4 rest).1 reason third in
@@ -181,7 +178,7 @@ write_fails_more body reason r x v rest named valued whole third =
     inr (no_range, inl (more, end.0))
 
 -- all was read, and the priority is none
-write_fails_range : (body : List ℕ) (reason : RejectReason) (r : Reference) (x v rest : List ℕ) → reference_at body ≡ Ok (r, x) → needs x (enclosed_at 3 x) ≡ Ok (v, rest) → (p : Option ℕ) → ended (optional_at 4 rest).0 (optional_at 4 rest).1 ≡ Ok p → write_end r v p ≡ Err reason
+write_fails_range : (body : List ℕ) (reason : RejectReason) (r : Reference) (x v rest : List ℕ) → reference_at body ≡ Ok (r, x) → unless_missing x (enclosed_at 3 x) ≡ Ok (v, rest) → (p : Option ℕ) → ended (optional_at 4 rest).0 (optional_at 4 rest).1 ≡ Ok p → write_end r v p ≡ Err reason
     → IsRejectReason WriteFault body reason
 write_fails_range body reason r x v rest named valued p third e =
     let o : Order = record { reference = r; value = v; priority = p } in
@@ -199,9 +196,9 @@ write_fails_range body reason r x v rest named valued p third e =
 write_fails : (body : List ℕ) (reason : RejectReason) → write_of body ≡ Err reason → IsRejectReason WriteFault body reason
 unfolding write_of
 write_fails body reason e =
-    elim (and_then_err (reference_at body) (λ r. and_then (needs r.1 (enclosed_at 3 r.1)) (write_behind r.0)) reason e) [
+    elim (and_then_err (reference_at body) (λ r. and_then (unless_missing r.1 (enclosed_at 3 r.1)) (write_behind r.0)) reason e) [
       | inl first ↦ write_fails_early body reason first
-      | inr a ↦ elim (and_then_err (needs a.0.1 (enclosed_at 3 a.0.1)) (write_behind a.0.0) reason a.2) [
+      | inr a ↦ elim (and_then_err (unless_missing a.0.1 (enclosed_at 3 a.0.1)) (write_behind a.0.0) reason a.2) [
         | inl second ↦ write_fails_value body reason a.0 a.1 second
         | inr b ↦ elim (and_then_err (ended (optional_at 4 b.0.1).0 (optional_at 4 b.0.1).1) (write_end a.0.0 b.0.0) reason b.2) [
           | inl third ↦ write_fails_more body reason a.0.0 a.0.1 b.0.0 b.0.1 a.1 b.1 e third
@@ -215,7 +212,3 @@ write_judge = record { takes = write_takes; again = write_again; fails = write_f
 
 pub write_is : (body : List ℕ) (o : Result Order RejectReason) → (write_of body ≡ o) ↔ IsOutcome IsWriteBody WriteFault body o
 write_is body o = outcome_is IsWriteBody WriteFault write_of write_judge body o
-
--- what is read is the outcome
-pub write_found : (body : List ℕ) (o : Result Order RejectReason) → o ≡ write_of body → IsOutcome IsWriteBody WriteFault body o
-write_found body o e = outcome_found IsWriteBody WriteFault write_of write_judge body o e

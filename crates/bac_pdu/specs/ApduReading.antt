@@ -1,6 +1,6 @@
 -- Reading an APDU from left to right.
 use Rattle.std.specs.Prelude.{ℕ, ◌/◌, ◌%◌, ◌==◌, Bool, true, false, if◌then◌else◌, List, [], ◌∷◌, Option, Some, None}
-use Rattle.bac_wire.specs.TagReading.{◌>>=◌}
+use Rattle.bac_wire.specs.Steps.{◌>>=◌}
 use Rattle.bac_pdu.specs.declared.apdu.Part.{Part}
 use Rattle.bac_pdu.specs.Bits.{bit}
 use Rattle.bac_pdu.specs.Apdu.{Message, confirmed, unconfirmed, simple_ack, complex_ack, segment_ack, error, reject, abort}

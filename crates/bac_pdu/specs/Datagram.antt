@@ -47,15 +47,6 @@ pub record Carries (from : Station) (datagram : List ℕ) (delivery : Delivery) 
   pub peer : delivery.peer ≡ record { ip = sender.ip; port = sender.port; route = network.source }
   pub broadcast : delivery.broadcast ≡ (to_all || is_some network.destination)
 
--- what was found is what the octets spell, and whatever they spell was found
-pub record IsFound {A : Type 0} (Spells : List ℕ → A → Type 0) (octets : List ℕ) (found : Option A) : Type 0 where
-  pub spelled : IfSome found (Spells octets)
-  pub all : (x : A) → Spells octets x → found ≡ Some x
-
--- octets spell at most one thing
-abbrev pub IsSingle : {A : Type 0} → (List ℕ → A → Type 0) → Type 0
-IsSingle {A} Spells = (octets : List ℕ) (x y : A) → Spells octets x → Spells octets y → x ≡ y
-
 -- ---- the form that is written
 
 -- The unicast datagram that takes the APDU to a station: its network header names the station behind the router, if any, as

@@ -1,7 +1,8 @@
 -- Reading a datagram from left to right.
 use Rattle.std.specs.Prelude.{ℕ, ◌+◌, nat_lt, ◌==◌, Bool, true, false, ◌&&◌, ◌||◌, is_some, if◌then◌else◌, List, [], ◌∷◌, length, take, drop, Option, Some, None}
 use Rattle.byteorder.specs.Endian.{big_number}
-use Rattle.bac_wire.specs.TagReading.{◌>>=◌, two_at}
+use Rattle.bac_wire.specs.Steps.{◌>>=◌}
+use Rattle.bac_wire.specs.TagReading.{two_at}
 use Rattle.bac_pdu.specs.Bits.{bit}
 use Rattle.bac_pdu.specs.Peer.{NetworkAddress, Station}
 use Rattle.bac_pdu.specs.Header.{NetworkHeader}

@@ -7,7 +7,8 @@ use Rattle.bac_wire.specs.Parameter.{SpellsIn, IsNumber, number_octets}
 use Rattle.bac_pdu.specs.declared.discovery.IAm.{IAm}
 use Rattle.bac_pdu.specs.declared.discovery.WhoIs.{WhoIs}
 use Rattle.bac_pdu.specs.declared.discovery.WhoIs.TheVariants as limits
-use Rattle.bac_pdu.specs.Parameter.{SpellsAll, plain_all}
+use Rattle.bac_wire.specs.Front.{SpellsAll}
+use Rattle.bac_pdu.specs.Parameter.{plain_all}
 
 -- a number under a context tag, named first
 abbrev pub SpellsNumbered : List ℕ → ℕ × ℕ → Type 0

@@ -1,7 +1,8 @@
 -- The body of an Error (clauses 18 and 21).
 use Rattle.std.specs.Prelude.{ℕ, List, [], ◌∷◌}
 use Rattle.bac_wire.specs.Datum.{enumerated, Spells, plain}
-use Rattle.bac_pdu.specs.Parameter.{SpellsTo, plain_all}
+use Rattle.bac_wire.specs.Front.{SpellsTo}
+use Rattle.bac_pdu.specs.Parameter.{plain_all}
 
 -- the class and the code at the front; what follows is not looked at
 abbrev pub IsErrorBody : List ℕ → ℕ × ℕ → Type 0

@@ -1,8 +1,8 @@
--- The parameters of ReadProperty and WriteProperty, and how things are spelled one after the other (clauses 15.5, 15.9 and 21).
-use Rattle.std.specs.Prelude.{◌≡◌, ℕ, ◌^◌, ◌<◌, List, [], ◌∷◌, ◌++◌, Option, Some, None}
+-- The parameters of ReadProperty and WriteProperty (clauses 15.5, 15.9 and 21).
+use Rattle.std.specs.Prelude.{ℕ, ◌^◌, ◌<◌, List, [], ◌∷◌, ◌++◌, Option, Some, None}
 use Rattle.bac_wire.specs.Identifier.{Identifier, IsIdentifier}
+use Rattle.bac_wire.specs.Limits.{deepest}
 use Rattle.bac_wire.specs.Region.{IsRegion}
-use Rattle.bac_wire.specs.Front.{Begins}
 use Rattle.bac_wire.specs.Parameter.{SpellsIn, IsNumber, IsObject, SpellsEnclosed, number_octets, object_octets, enclosed_octets}
 
 pub data Parameter : Type 0 where
@@ -25,24 +25,13 @@ abbrev pub IsParameter : Parameter → Type 0
 IsParameter (object id) = IsIdentifier id
 IsParameter (property n) = n < 2 ^ 32
 IsParameter (index n) = n < 2 ^ 32
-IsParameter (value region) = IsRegion 32 region
+IsParameter (value region) = IsRegion deepest region
 IsParameter (priority n) = n < 2 ^ 32
 
 -- one parameter where there is a value for it, else none
 abbrev pub optional : {A B : Type 0} → (A → B) → Option A → List B
 optional made None = []
 optional made (Some x) = made x ∷ []
-
--- ---- one after the other
-
--- the spellings of these things, one after the other, and then this rest
-abbrev pub SpellsTo : {A : Type 0} → (List ℕ → A → Type 0) → List ℕ → List A → List ℕ → Type 0
-SpellsTo Spells octets [] rest = octets ≡ rest
-SpellsTo Spells octets (x ∷ xs) rest = (next : List ℕ) × Begins Spells octets x next × SpellsTo Spells next xs rest
-
--- the spellings of these things, one after the other, and nothing else
-abbrev pub SpellsAll : {A : Type 0} → (List ℕ → A → Type 0) → List ℕ → List A → Type 0
-SpellsAll Spells octets xs = SpellsTo Spells octets xs []
 
 -- ---- the form that is written
 
@@ -53,6 +42,11 @@ plain_parameter (property n) = number_octets 1 n
 plain_parameter (index n) = number_octets 2 n
 plain_parameter (value region) = enclosed_octets 3 region
 plain_parameter (priority n) = number_octets 4 n
+
+-- a number under this tag, where there is one
+abbrev pub optional_octets : ℕ → Option ℕ → List ℕ
+optional_octets number None = []
+optional_octets number (Some n) = number_octets number n
 
 abbrev pub plain_all : {A : Type 0} → (A → List ℕ) → List A → List ℕ
 plain_all plain [] = []

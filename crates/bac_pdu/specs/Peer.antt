@@ -1,5 +1,5 @@
 -- Who a datagram is from or for.
-use Rattle.std.specs.Prelude.{ℕ, ◌<◌, ◌≤◌, List, length, take, Option}
+use Rattle.std.specs.Prelude.{◌≡◌, ℕ, ◌-◌, ◌<◌, ◌≤◌, List, length, take, drop, replicate, Option}
 use Rattle.std.specs.Option.{option_map}
 use Rattle.bac_pdu.specs.declared.route.Route.{Route}
 use Rattle.bac_pdu.specs.declared.peer.Peer.{Peer}
@@ -21,6 +21,12 @@ pub record IsRoutable (to : NetworkAddress) : Type 0 where
   pub global : to.network < 65535
   pub shortest : 1 ≤ length to.address
   pub longest : length to.address ≤ 7
+
+-- how a route is kept: in eight octets, of which those behind the address are 0
+pub record IsKept (route : Route) : Type 0 where
+  pub room : length route.octets ≡ 8
+  pub longest : route.count ≤ 7
+  pub unused : drop route.count route.octets ≡ replicate (8 - route.count) 0
 
 -- where the route leads
 abbrev pub network_address : Route → NetworkAddress

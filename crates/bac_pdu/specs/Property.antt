@@ -6,7 +6,8 @@ use Rattle.bac_wire.specs.Region.{opening_tag, closing_tag}
 use Rattle.bac_pdu.specs.declared.property.ReadRequest.{ReadRequest}
 use Rattle.bac_pdu.specs.declared.property.WriteRequest.{WriteRequest}
 use Rattle.bac_pdu.specs.declared.property.Ack.{Ack}
-use Rattle.bac_pdu.specs.Parameter.{Parameter, object, property, index, value, priority, SpellsParameter, SpellsAll, optional, plain_parameter, plain_all}
+use Rattle.bac_wire.specs.Front.{SpellsAll}
+use Rattle.bac_pdu.specs.Parameter.{Parameter, object, property, index, value, priority, SpellsParameter, optional, plain_parameter, plain_all}
 
 -- which property of which object, or which element of it
 pub record Reference : Type 0 where

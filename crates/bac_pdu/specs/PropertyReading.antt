@@ -1,7 +1,7 @@
 -- Reading the body of ReadProperty, of its answer or of WriteProperty from left to right.
 use Rattle.std.specs.Prelude.{ℕ, nat_lt, Bool, true, ◌&&◌, if◌then◌else◌, List, [], ◌∷◌, Option, Some, None, Result, Ok, Err}
 use Rattle.std.specs.Result.{result_ok}
-use Rattle.bac_wire.specs.TagReading.{◌>>=◌}
+use Rattle.bac_wire.specs.Steps.{◌>>=◌}
 use Rattle.bac_wire.specs.ParameterReading.{number_at, object_at, enclosed_at}
 use Rattle.bac_pdu.specs.declared.reject.RejectReason.{RejectReason}
 use Rattle.bac_pdu.specs.declared.reject.RejectReason.TheVariants.{InvalidTag, MissingParameter, OutOfRange, TooMany}
@@ -25,14 +25,14 @@ or_invalid None = Err InvalidTag
 or_invalid (Some x) = Ok x
 
 -- what is read where octets are left, which they have to be
-abbrev pub needs : {A : Type 0} → List ℕ → Option A → Result A RejectReason
-needs [] found = Err MissingParameter
-needs (x ∷ xs) found = or_invalid found
+abbrev pub unless_missing : {A : Type 0} → List ℕ → Option A → Result A RejectReason
+unless_missing [] found = Err MissingParameter
+unless_missing (x ∷ xs) found = or_invalid found
 
 unfoldable pub reference_at : List ℕ → Result (Reference × List ℕ) RejectReason
 reference_at body =
-    and_then (needs body (object_at 0 body)) (λ object.
-    and_then (needs object.1 (number_at 1 object.1)) (λ property.
+    and_then (unless_missing body (object_at 0 body)) (λ object.
+    and_then (unless_missing object.1 (number_at 1 object.1)) (λ property.
     Ok (record { object = object.0; property = property.0; index = (optional_at 2 property.1).0 }, (optional_at 2 property.1).1)))
 
 -- the record, where nothing is left
@@ -52,7 +52,7 @@ is_priority (Some n) = nat_lt 0 n && nat_lt n 17
 unfoldable pub write_of : List ℕ → Result Order RejectReason
 write_of body =
     and_then (reference_at body) (λ r.
-    and_then (needs r.1 (enclosed_at 3 r.1)) (λ value.
+    and_then (unless_missing r.1 (enclosed_at 3 r.1)) (λ value.
     and_then (ended (optional_at 4 value.1).0 (optional_at 4 value.1).1) (λ priority.
     if is_priority priority then Ok (record { reference = r.0; value = value.0; priority = priority }) else Err OutOfRange)))
 

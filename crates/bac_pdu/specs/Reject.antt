@@ -3,7 +3,8 @@ use Rattle.std.specs.Prelude.{◌≡◌, ◌≢◌, ℕ, ◌⊎◌, List, [], �
 use Rattle.bac_wire.specs.Identifier.{Identifier}
 use Rattle.bac_pdu.specs.declared.reject.RejectReason.{RejectReason}
 use Rattle.bac_pdu.specs.declared.reject.RejectReason.TheVariants.{InvalidTag, MissingParameter, OutOfRange, TooMany, UnknownService}
-use Rattle.bac_pdu.specs.Parameter.{object, SpellsParameter, SpellsAll}
+use Rattle.bac_wire.specs.Front.{SpellsAll}
+use Rattle.bac_pdu.specs.Parameter.{object, SpellsParameter}
 use Rattle.bac_pdu.specs.Property.{Reference, Order, order_parameters, IsReadBody, IsWriteBody, IsPriority}
 
 abbrev pub reason_number : RejectReason → ℕ

@@ -1,6 +1,6 @@
 -- Reading the bodies of Who-Is, I-Am and Error from left to right.
 use Rattle.std.specs.Prelude.{ℕ, ◌==◌, if◌then◌else◌, List, [], ◌∷◌, Option, Some, None}
-use Rattle.bac_wire.specs.TagReading.{◌>>=◌}
+use Rattle.bac_wire.specs.Steps.{◌>>=◌}
 use Rattle.bac_wire.specs.ParameterReading.{number_at, kind_at, unsigned_in, enumerated_in, object_in}
 use Rattle.bac_pdu.specs.declared.discovery.WhoIs.{WhoIs}
 use Rattle.bac_pdu.specs.declared.discovery.WhoIs.TheVariants as limits

@@ -1,12 +1,13 @@
-ghost use Rattle.std.specs.Prelude.{◌≡◌, ◌<◌, ◌≤◌, ◌+◌, [], ◌++◌, ◌∷◌, length, Some, OnOk, OnErr};
+ghost use Rattle.std.specs.Prelude.{◌≡◌, ◌<◌, [], ◌++◌, ◌∷◌, length, Some, OnOk};
 ghost use Rattle.std.specs.Option.{option_map};
-ghost use Rattle.bac_pdu.specs.Datagram.{IsFound};
-ghost use Rattle.bac_pdu.specs.Apdu.{message, IsLaidOut, laid_out, part_flags, part_octets, IsWritable, announced_size};
+ghost use Rattle.bac_wire.specs.Writing.{Appends};
+ghost use Rattle.bac_pdu.specs.Apdu.{message, laid_out, part_flags, part_octets, IsWritable, announced_size};
 ghost use Rattle.bac_pdu.specs.ApduReading.{confirmed_of, complex_ack_of, parts_at, apdu_of};
 
 use crate::bits::has_bit;
+use crate::writing::whole_or_nothing;
 use arrayvec::ArrayVec;
-use bac_wire::{FRAME_OCTETS, Frame, Full};
+use bac_wire::{Frame, Full};
 
 /// Where an APDU stands among the parts of a longer message (clause 5.2).
 #[derive(Clone, Copy, Debug, PartialEq, Eq)]
@@ -68,7 +69,6 @@ pub enum Apdu<'a> {
 #[tactic(auto, unfolding(crate::specs::ApduReading::apdu_of))]
 pub fn read_apdu(octets: &[u8]) -> Option<Apdu<'_>>
     ensures value { option_map message result ≡ apdu_of octets.now }
-    ensures whole { IsFound IsLaidOut octets.now (option_map message result) }
 {
     let [first, rest @ ..] = octets else {
         return None;
@@ -163,11 +163,8 @@ fn read_parts(first: u8, octets: &[u8]) -> Option<(Option<Part>, u8, &[u8])>
 #[inline(always)]
 pub fn write_apdu(frame: &mut Frame, apdu: &Apdu<'_>) -> Result<(), Full>
     requires { IsWritable (message apdu.now) }
-    ensures ok { OnOk result (frame.new ≡ frame.old ++ laid_out (message apdu.now)) }
-    ensures fits { OnOk result (length frame.old + length (laid_out (message apdu.now)) ≤ FRAME_OCTETS) }
+    ensures appended { Appends frame.old (laid_out (message apdu.now)) frame.new result }
     ensures read_back { OnOk result (apdu_of (laid_out (message apdu.now)) ≡ Some (message apdu.now)) }
-    ensures full { OnErr result (FRAME_OCTETS < length frame.old + length (laid_out (message apdu.now))) }
-    ensures err { OnErr result (frame.new ≡ frame.old) }
 {
     append_apdu(frame, apdu)
 }
@@ -175,10 +172,7 @@ pub fn write_apdu(frame: &mut Frame, apdu: &Apdu<'_>) -> Result<(), Full>
 #[inline(always)]
 fn append_apdu(frame: &mut Frame, apdu: &Apdu<'_>) -> Result<(), Full>
     requires { IsWritable (message apdu.now) }
-    ensures ok { OnOk result (frame.new ≡ frame.old ++ laid_out (message apdu.now)) }
-    ensures fits { OnOk result (length frame.old + length (laid_out (message apdu.now)) ≤ FRAME_OCTETS) }
-    ensures full { OnErr result (FRAME_OCTETS < length frame.old + length (laid_out (message apdu.now))) }
-    ensures err { OnErr result (frame.new ≡ frame.old) }
+    ensures { Appends frame.old (laid_out (message apdu.now)) frame.new result }
 {
     match apdu {
         Apdu::Confirmed {
@@ -243,18 +237,12 @@ fn head_of(begin: &[u8], part: Option<Part>, service: u8) -> ArrayVec<u8, 6>
 
 /// Appends the head and the body, or nothing.
 fn append_both(frame: &mut Frame, head: &[u8], body: &[u8]) -> Result<(), Full>
-    ensures ok { OnOk result (frame.new ≡ frame.old ++ (head.now ++ body.now)) }
-    ensures fits { OnOk result (length frame.old + length (head.now ++ body.now) ≤ FRAME_OCTETS) }
-    ensures full { OnErr result (FRAME_OCTETS < length frame.old + length (head.now ++ body.now)) }
-    ensures err { OnErr result (frame.new ≡ frame.old) }
+    ensures { Appends frame.old (head.now ++ body.now) frame.new result }
 {
     let start = frame.len();
     frame.append(head)?;
     let appended = frame.append(body);
-    if appended.is_err() {
-        frame.truncate(start);
-    }
-    appended
+    whole_or_nothing(frame, start, appended)
 }
 
 /// The octets of the greatest APDU that a code announces (clause 20.1.2.5), by its low four bits. Codes above 5 are taken as 0.

@@ -1,7 +1,8 @@
 ghost use Rattle.std.specs.Prelude.{◌≡◌, ◌<◌, ◌≤◌, ◌+◌, ◌^◌, ◌++◌, length, None, IfOk, IfSome, OnOk, OnErr};
 ghost use Rattle.std.specs.Option.{option_map};
+ghost use Rattle.bac_wire.specs.Limits.{frame_room};
 ghost use Rattle.bac_pdu.specs.Peer.{station, IsRoutable};
-ghost use Rattle.bac_pdu.specs.Datagram.{delivery, Carries, IsFound, Takes, wrapped, front_count, front_octets};
+ghost use Rattle.bac_pdu.specs.Datagram.{delivery, Takes, wrapped, front_count, front_octets};
 ghost use Rattle.bac_pdu.specs.DatagramReading.{link_at, carried};
 
 use crate::header::{HEADER_OCTETS, header_and_rest, local_header, network_header};
@@ -12,7 +13,7 @@ use bac_wire::{FRAME_OCTETS, Frame, Full};
 use byteorder::{BigEndian, ByteOrder};
 
 /// What a datagram carries.
-#[derive(Clone, Copy, Debug, PartialEq, Eq)]
+#[derive(Clone, Copy, Debug)]
 pub struct Carried<'a> {
     /// Who sent it, and whom a reply is for.
     pub peer: Peer,
@@ -45,7 +46,6 @@ const FRONT_OCTETS: usize = 4 + HEADER_OCTETS;
 #[tactic(auto, unfolding(crate::specs::DatagramReading::carried))]
 pub fn open_datagram(from: Peer, datagram: &[u8]) -> Option<Carried<'_>>
     ensures value { option_map delivery result ≡ carried (station from) datagram.now }
-    ensures whole { IsFound (Carries (station from)) datagram.now (option_map delivery result) }
 {
     let (sender, to_all, rest) = origin_and_rest(from, datagram)?;
     let (header, apdu) = header_and_rest(rest)?;
@@ -108,9 +108,9 @@ pub fn wrap(to: Peer, expect: bool, apdu: &[u8], frame: &mut Frame) -> Result<()
     ensures ok { OnOk result (frame.new ≡ wrapped (station to).route expect apdu.now) }
     ensures whole { OnOk result (Takes (station to).route expect apdu.now frame.new) }
     ensures size { OnOk result (length frame.new ≡ front_count (station to).route + length apdu.now) }
-    ensures fits { OnOk result (front_count (station to).route + length apdu.now ≤ FRAME_OCTETS) }
-    ensures cause { OnErr result (FRAME_OCTETS < front_count (station to).route + length apdu.now) }
-    ensures full { OnErr result (FRAME_OCTETS < length (wrapped (station to).route expect apdu.now)) }
+    ensures fits { OnOk result (front_count (station to).route + length apdu.now ≤ frame_room) }
+    ensures cause { OnErr result (frame_room < front_count (station to).route + length apdu.now) }
+    ensures full { OnErr result (frame_room < length (wrapped (station to).route expect apdu.now)) }
     ensures room { OnErr result (1480 < length apdu.now) }
     ensures err { OnErr result (frame.new ≡ frame.old) }
 {
@@ -126,9 +126,9 @@ pub fn wrap_within(to: Peer, expect: bool, frame: &mut Frame) -> Result<(), Full
     ensures ok { OnOk result (frame.new ≡ wrapped (station to).route expect frame.old) }
     ensures whole { OnOk result (Takes (station to).route expect frame.old frame.new) }
     ensures size { OnOk result (length frame.new ≡ front_count (station to).route + length frame.old) }
-    ensures fits { OnOk result (front_count (station to).route + length frame.old ≤ FRAME_OCTETS) }
-    ensures cause { OnErr result (FRAME_OCTETS < front_count (station to).route + length frame.old) }
-    ensures full { OnErr result (FRAME_OCTETS < length (wrapped (station to).route expect frame.old)) }
+    ensures fits { OnOk result (front_count (station to).route + length frame.old ≤ frame_room) }
+    ensures cause { OnErr result (frame_room < front_count (station to).route + length frame.old) }
+    ensures full { OnErr result (frame_room < length (wrapped (station to).route expect frame.old)) }
     ensures room { OnErr result (1480 < length frame.old) }
     ensures err { OnErr result (frame.new ≡ frame.old) }
 {
@@ -142,8 +142,9 @@ pub fn wrap_within(to: Peer, expect: bool, frame: &mut Frame) -> Result<(), Full
 }
 
 /// What stands before an APDU of this size for a station of this network.
+#[tactic(auto, using(crate::proofs::DatagramLaws::local_front))]
 fn local_front(expect: bool, size: usize) -> [u8; 6]
-    requires { size ≤ FRAME_OCTETS }
+    requires { size ≤ frame_room }
     ensures { result ≡ front_octets None expect size }
 {
     let length = 6 + size;
@@ -164,8 +165,8 @@ fn local_front(expect: bool, size: usize) -> [u8; 6]
 fn front_of(to: Peer, expect: bool, size: usize) -> Result<ArrayVec<u8, FRONT_OCTETS>, Full>
     requires { size < 2 ^ 63 }
     ensures ok { IfOk result (λ front. front.items ≡ front_octets (station to).route expect size) }
-    ensures fits { OnOk result (length (front_octets (station to).route expect size) + size ≤ FRAME_OCTETS) }
-    ensures full { OnErr result (FRAME_OCTETS < length (front_octets (station to).route expect size) + size) }
+    ensures fits { OnOk result (length (front_octets (station to).route expect size) + size ≤ frame_room) }
+    ensures full { OnErr result (frame_room < length (front_octets (station to).route expect size) + size) }
     ensures short { length (front_octets (station to).route expect size) ≤ FRONT_OCTETS }
     ensures routable { IfSome (station to).route IsRoutable }
 {

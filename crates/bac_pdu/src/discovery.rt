@@ -1,17 +1,18 @@
-ghost use Rattle.std.specs.Prelude.{◌≡◌, ◌<◌, ◌≤◌, ◌+◌, ◌++◌, length, take, Some, OnOk, OnErr};
+ghost use Rattle.std.specs.Prelude.{◌≡◌, Some, OnOk};
 ghost use Rattle.std.specs.Option.{option_map};
 ghost use Rattle.bac_wire.specs.Front.{IsShortest};
+ghost use Rattle.bac_wire.specs.Writing.{Appends, AppendsFront};
 ghost use Rattle.bac_wire.specs.Identifier.{identifier};
-ghost use Rattle.bac_pdu.specs.Datagram.{IsFound};
 ghost use Rattle.bac_pdu.specs.Discovery.{HasLimits, introduction, IsWhoIsBody, IsIAmBody, who_is_octets, i_am_octets};
 ghost use Rattle.bac_pdu.specs.ValueReading.{who_is_of, introduction_of};
 
 use crate::parameter::{append_number, number_and_rest};
 use crate::value::{enumerated_and_rest, identifier_and_rest, unsigned_and_rest};
-use bac_wire::{FRAME_OCTETS, Frame, Full, ObjectId, Value, write_value};
+use crate::writing::whole_or_nothing;
+use bac_wire::{Frame, Full, ObjectId, Value, write_value};
 
 /// The object type of devices (clause 21).
-const DEVICE: u16 = 8;
+pub const DEVICE: u16 = 8;
 
 // The numbers of the parameters of Who-Is.
 const LOW_LIMIT: u8 = 0;
@@ -44,7 +45,6 @@ pub struct IAm {
 #[tactic(auto, unfolding(crate::specs::ValueReading::who_is_of))]
 pub fn read_whois(body: &[u8]) -> Option<WhoIs>
     ensures value { result ≡ who_is_of body.now }
-    ensures whole { IsFound IsWhoIsBody body.now result }
 {
     if body.is_empty() {
         return Some(WhoIs::All);
@@ -61,7 +61,6 @@ pub fn read_whois(body: &[u8]) -> Option<WhoIs>
 #[tactic(auto, unfolding(crate::specs::ValueReading::introduction_of))]
 pub fn read_iam(body: &[u8]) -> Option<IAm>
     ensures value { option_map introduction result ≡ introduction_of body.now }
-    ensures whole { IsFound IsIAmBody body.now (option_map introduction result) }
 {
     let (device, rest) = identifier_and_rest(body)?;
     let (max_apdu, rest) = unsigned_and_rest(rest)?;
@@ -81,29 +80,19 @@ pub fn read_iam(body: &[u8]) -> Option<IAm>
 /// Appends the body of a Who-Is, each number in its fewest octets. `Full`, with the frame unchanged, only where there is
 /// no room for it.
 pub fn write_whois(frame: &mut Frame, who: &WhoIs) -> Result<(), Full>
-    ensures ok { OnOk result (frame.new ≡ frame.old ++ who_is_octets who.now) }
-    ensures fits { OnOk result (length frame.old + length (who_is_octets who.now) ≤ FRAME_OCTETS) }
+    ensures appended { Appends frame.old (who_is_octets who.now) frame.new result }
     ensures shortest { OnOk result (IsShortest IsWhoIsBody (who_is_octets who.now) who.now) }
     ensures read_back { OnOk result (who_is_of (who_is_octets who.now) ≡ Some who.now) }
-    ensures full { OnErr result (FRAME_OCTETS < length frame.old + length (who_is_octets who.now)) }
-    ensures err { OnErr result (frame.new ≡ frame.old) }
 {
     let start = frame.len();
     let appended = append_limits(frame, who);
-    if appended.is_err() {
-        frame.truncate(start);
-    }
-    appended
+    whole_or_nothing(frame, start, appended)
 }
 
 /// Appends the same, or a front of it.
 fn append_limits(frame: &mut Frame, who: &WhoIs) -> Result<(), Full>
-    ensures ok { OnOk result (frame.new ≡ frame.old ++ who_is_octets who.now) }
-    ensures fits { OnOk result (length frame.new ≤ FRAME_OCTETS) }
-    ensures full { OnErr result (FRAME_OCTETS < length frame.old + length (who_is_octets who.now)) }
+    ensures appended { AppendsFront frame.old (who_is_octets who.now) frame.new result }
     ensures known { OnOk result (HasLimits who.now) }
-    ensures long { length frame.old ≤ length frame.new }
-    ensures front { take (length frame.old) frame.new ≡ frame.old }
 {
     match who {
         WhoIs::All => frame.append(&[]),
@@ -118,36 +107,23 @@ fn append_limits(frame: &mut Frame, who: &WhoIs) -> Result<(), Full>
 /// no room for it.
 pub fn write_iam(frame: &mut Frame, i_am: &IAm) -> Result<(), Full>
     requires { (identifier i_am.now.device).kind ≡ 8 }
-    ensures ok { OnOk result (frame.new ≡ frame.old ++ i_am_octets (introduction i_am.now)) }
-    ensures fits { OnOk result
-        (length frame.old + length (i_am_octets (introduction i_am.now)) ≤ FRAME_OCTETS) }
+    ensures appended { Appends frame.old (i_am_octets (introduction i_am.now)) frame.new result }
     ensures shortest { OnOk result
         (IsShortest IsIAmBody (i_am_octets (introduction i_am.now)) (introduction i_am.now)) }
     ensures read_back { OnOk result
         (introduction_of (i_am_octets (introduction i_am.now)) ≡ Some (introduction i_am.now)) }
-    ensures full { OnErr result
-        (FRAME_OCTETS < length frame.old + length (i_am_octets (introduction i_am.now))) }
-    ensures err { OnErr result (frame.new ≡ frame.old) }
 {
     let start = frame.len();
     let appended = append_introduction(frame, i_am);
-    if appended.is_err() {
-        frame.truncate(start);
-    }
-    appended
+    whole_or_nothing(frame, start, appended)
 }
 
 /// Appends the same, or a front of it.
 fn append_introduction(frame: &mut Frame, i_am: &IAm) -> Result<(), Full>
     requires { (identifier i_am.now.device).kind ≡ 8 }
-    ensures ok { OnOk result (frame.new ≡ frame.old ++ i_am_octets (introduction i_am.now)) }
+    ensures appended { AppendsFront frame.old (i_am_octets (introduction i_am.now)) frame.new result }
     ensures shortest { OnOk result
         (IsShortest IsIAmBody (i_am_octets (introduction i_am.now)) (introduction i_am.now)) }
-    ensures fits { OnOk result (length frame.new ≤ FRAME_OCTETS) }
-    ensures full { OnErr result
-        (FRAME_OCTETS < length frame.old + length (i_am_octets (introduction i_am.now))) }
-    ensures long { length frame.old ≤ length frame.new }
-    ensures front { take (length frame.old) frame.new ≡ frame.old }
 {
     write_value(frame, &Value::Object(i_am.device))?;
     write_value(frame, &Value::Unsigned(i_am.max_apdu))?;

@@ -1,17 +1,17 @@
-ghost use Rattle.std.specs.Prelude.{◌≡◌, ◌<◌, ◌≤◌, ◌+◌, ℕ, List, ◌++◌, length, Some, OnOk, OnErr};
+ghost use Rattle.std.specs.Prelude.{◌≡◌, ℕ, List, ◌++◌, Some, OnOk};
 ghost use Rattle.bac_wire.specs.Front.{IsShortest};
-ghost use Rattle.bac_pdu.specs.Datagram.{IsFound};
+ghost use Rattle.bac_wire.specs.Writing.{Appends};
 ghost use Rattle.bac_pdu.specs.Failure.{IsErrorBody, error_octets};
 ghost use Rattle.bac_pdu.specs.ValueReading.{error_of};
 
 use crate::value::enumerated_and_rest;
-use bac_wire::{FRAME_OCTETS, Frame, Full, Value, write_value};
+use crate::writing::whole_or_nothing;
+use bac_wire::{Frame, Full, Value, write_value};
 
 /// The class and the code that the body of an Error begins with (clause 18). What follows is not looked at.
 #[tactic(auto, unfolding(crate::specs::ValueReading::error_of))]
 pub fn read_error(body: &[u8]) -> Option<(u32, u32)>
     ensures value { result ≡ error_of body.now }
-    ensures whole { IsFound IsErrorBody body.now result }
 {
     let (class, rest) = enumerated_and_rest(body)?;
     let (code, _) = enumerated_and_rest(rest)?;
@@ -21,18 +21,12 @@ pub fn read_error(body: &[u8]) -> Option<(u32, u32)>
 /// Appends the body of an Error, both numbers in their fewest octets. `Full`, with the frame unchanged, only where there
 /// is no room for it.
 pub fn write_error(frame: &mut Frame, class: u32, code: u32) -> Result<(), Full>
-    ensures ok { OnOk result (frame.new ≡ frame.old ++ error_octets class code) }
-    ensures fits { OnOk result (length frame.old + length (error_octets class code) ≤ FRAME_OCTETS) }
+    ensures appended { Appends frame.old (error_octets class code) frame.new result }
     ensures shortest { OnOk result (IsShortest IsErrorBody (error_octets class code) (class, code)) }
     ensures read_back { OnOk result ((rest : List ℕ) → error_of (error_octets class code ++ rest) ≡ Some (class, code)) }
-    ensures full { OnErr result (FRAME_OCTETS < length frame.old + length (error_octets class code)) }
-    ensures err { OnErr result (frame.new ≡ frame.old) }
 {
     let start = frame.len();
     write_value(frame, &Value::Enumerated(class))?;
     let appended = write_value(frame, &Value::Enumerated(code));
-    if appended.is_err() {
-        frame.truncate(start);
-    }
-    appended
+    whole_or_nothing(frame, start, appended)
 }

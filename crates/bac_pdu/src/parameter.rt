@@ -1,16 +1,18 @@
-ghost use Rattle.std.specs.Prelude.{◌≡◌, ◌<◌, ◌≤◌, ◌^◌, ◌+◌, ◌++◌, length, take, OnOk, OnErr};
+ghost use Rattle.std.specs.Prelude.{◌≡◌, ◌<◌, ◌≤◌, ◌^◌, length, IfSome};
 ghost use Rattle.std.specs.Option.{option_map};
+ghost use Rattle.bac_wire.specs.Limits.{value_tag};
 ghost use Rattle.bac_wire.specs.Identifier.{IsIdentifier, identifier};
 ghost use Rattle.bac_wire.specs.Tag.{plain_tag};
 ghost use Rattle.bac_wire.specs.Region.{opening_tag, closing_tag};
 ghost use Rattle.bac_wire.specs.ItemReading.{behind_closing, region_at};
 ghost use Rattle.bac_wire.specs.Parameter.{context_octets, number_octets, object_octets, enclosed_octets};
 ghost use Rattle.bac_wire.specs.ParameterReading.{context_at, number_of_contents, number_at, object_at, behind_opening, enclosed_at};
+ghost use Rattle.bac_wire.specs.Writing.{Appends, AppendsFront};
+ghost use Rattle.bac_pdu.specs.Parameter.{optional_octets};
 ghost use Rattle.bac_pdu.specs.PropertyReading.{optional_at};
 
-use bac_wire::{
-    FRAME_OCTETS, Frame, Full, ObjectId, Shape, Tag, octet_count, region, tag_and_rest, write_tag,
-};
+use arrayvec::ArrayVec;
+use bac_wire::{Frame, Full, ObjectId, Shape, octet_count, region, tag_and_rest};
 use byteorder::{BigEndian, ByteOrder};
 
 // The numbers of the parameters of ReadProperty and WriteProperty.
@@ -20,7 +22,7 @@ pub(crate) const PROPERTY: u8 = 1;
 
 pub(crate) const INDEX: u8 = 2;
 
-pub(crate) const VALUE: u8 = 3;
+const VALUE: u8 = 3;
 
 pub(crate) const PRIORITY: u8 = 4;
 
@@ -84,14 +86,14 @@ pub(crate) fn object_and_rest(number: u8, octets: &[u8]) -> Option<(ObjectId, &[
 /// The whole items between an opening and a closing tag 3.
 #[tactic(auto, unfolding(bac_wire::specs::ParameterReading::enclosed_at))]
 pub(crate) fn enclosed_and_rest(octets: &[u8]) -> Option<(&[u8], &[u8])>
-    ensures { option_map (λ x. (x.0.now, x.1.now)) result ≡ enclosed_at 3 octets.now }
+    ensures { option_map (λ x. (x.0.now, x.1.now)) result ≡ enclosed_at value_tag octets.now }
 {
     region_and_rest(rest_behind_opening(octets)?)
 }
 
 #[tactic(auto, unfolding(bac_wire::specs::ParameterReading::behind_opening))]
 fn rest_behind_opening(octets: &[u8]) -> Option<&[u8]>
-    ensures { option_map (λ x. x.now) result ≡ behind_opening 3 octets.now }
+    ensures { option_map (λ x. x.now) result ≡ behind_opening value_tag octets.now }
 {
     let (tag, rest) = tag_and_rest(octets)?;
     match tag.shape {
@@ -102,7 +104,7 @@ fn rest_behind_opening(octets: &[u8]) -> Option<&[u8]>
 
 /// The whole items up to a closing tag 3.
 fn region_and_rest(octets: &[u8]) -> Option<(&[u8], &[u8])>
-    ensures { option_map (λ x. (x.0.now, x.1.now)) result ≡ region_at 3 octets.now }
+    ensures { option_map (λ x. (x.0.now, x.1.now)) result ≡ region_at value_tag octets.now }
 {
     let (items, rest) = octets.split_at(region(octets)?);
     let rest = rest_behind_closing(rest)?;
@@ -111,7 +113,7 @@ fn region_and_rest(octets: &[u8]) -> Option<(&[u8], &[u8])>
 
 #[tactic(auto, unfolding(bac_wire::specs::ItemReading::behind_closing))]
 fn rest_behind_closing(octets: &[u8]) -> Option<&[u8]>
-    ensures { option_map (λ x. x.now) result ≡ behind_closing 3 octets.now }
+    ensures { option_map (λ x. x.now) result ≡ behind_closing value_tag octets.now }
 {
     let (tag, rest) = tag_and_rest(octets)?;
     match tag.shape {
@@ -120,33 +122,22 @@ fn rest_behind_closing(octets: &[u8]) -> Option<&[u8]>
     }
 }
 
-/// Appends a context tag and the contents that it counts, or nothing.
-fn append_context(body: &mut Frame, number: u8, contents: &[u8]) -> Result<(), Full>
-    requires number { number < 255 }
-    requires short { length contents.now ≤ 8 }
-    ensures ok { OnOk result (body.new ≡ body.old ++ context_octets number contents.now) }
-    ensures fits { OnOk result (length body.new ≤ FRAME_OCTETS) }
-    ensures full { OnErr result
-        (FRAME_OCTETS < length body.old + length (context_octets number contents.now)) }
-    ensures err { OnErr result (body.new ≡ body.old) }
+/// Appends a number in its fewest octets, or nothing; no octet where there is no number.
+pub(crate) fn append_optional(body: &mut Frame, number: u8, n: Option<u32>) -> Result<(), Full>
+    requires { number < 15 }
+    ensures appended { Appends body.old (optional_octets number n) body.new result }
+    ensures known { IfSome n (λ n. n < 2 ^ 32) }
 {
-    let start = body.len();
-    let shape = Shape::Context(contents.len() as u32);
-    write_tag(body, Tag { number, shape })?;
-    let appended = body.append(contents);
-    if appended.is_err() {
-        body.truncate(start);
+    match n {
+        Some(n) => append_number(body, number, n),
+        None => body.append(&[]),
     }
-    appended
 }
 
 /// Appends a number in its fewest octets, or nothing.
 pub(crate) fn append_number(body: &mut Frame, number: u8, n: u32) -> Result<(), Full>
     requires { number < 15 }
-    ensures ok { OnOk result (body.new ≡ body.old ++ number_octets number n) }
-    ensures fits { OnOk result (length body.new ≤ FRAME_OCTETS) }
-    ensures full { OnErr result (FRAME_OCTETS < length body.old + length (number_octets number n)) }
-    ensures err { OnErr result (body.new ≡ body.old) }
+    ensures appended { Appends body.old (number_octets number n) body.new result }
     ensures known { n < 2 ^ 32 }
 {
     if n < 256 {
@@ -159,14 +150,24 @@ pub(crate) fn append_number(body: &mut Frame, number: u8, n: u32) -> Result<(), 
     append_context(body, number, &contents[..count])
 }
 
+/// Appends a tag of one octet, and the contents that it counts, at most four octets, or nothing.
+#[tactic(auto, using(crate::proofs::ShortTags::short_context))]
+fn append_context(body: &mut Frame, number: u8, contents: &[u8]) -> Result<(), Full>
+    requires number { number < 15 }
+    requires short { length contents.now ≤ 4 }
+    ensures { Appends body.old (context_octets number contents.now) body.new result }
+{
+    let mut octets = ArrayVec::<u8, 5>::new();
+    octets.push(16 * number + 8 + contents.len() as u8);
+    let _ = octets.try_extend_from_slice(contents);
+    body.append(octets.as_slice())
+}
+
 /// Appends a number in one octet behind a tag of one octet, or nothing.
 #[tactic(auto, using(crate::proofs::ShortTags::one_number))]
 fn append_octet(body: &mut Frame, number: u8, n: u8) -> Result<(), Full>
     requires { number < 15 }
-    ensures ok { OnOk result (body.new ≡ body.old ++ number_octets number n) }
-    ensures fits { OnOk result (length body.new ≤ FRAME_OCTETS) }
-    ensures full { OnErr result (FRAME_OCTETS < length body.old + length (number_octets number n)) }
-    ensures err { OnErr result (body.new ≡ body.old) }
+    ensures { Appends body.old (number_octets number n) body.new result }
 {
     body.append(&[16 * number + 9, n])
 }
@@ -174,11 +175,7 @@ fn append_octet(body: &mut Frame, number: u8, n: u8) -> Result<(), Full>
 /// Appends an object's identifier, or nothing.
 pub(crate) fn append_object(body: &mut Frame, number: u8, id: ObjectId) -> Result<(), Full>
     requires { number < 15 }
-    ensures ok { OnOk result (body.new ≡ body.old ++ object_octets number (identifier id)) }
-    ensures fits { OnOk result (length body.new ≤ FRAME_OCTETS) }
-    ensures full { OnErr result
-        (FRAME_OCTETS < length body.old + length (object_octets number (identifier id))) }
-    ensures err { OnErr result (body.new ≡ body.old) }
+    ensures appended { Appends body.old (object_octets number (identifier id)) body.new result }
     ensures known { IsIdentifier (identifier id) }
 {
     let mut contents = [0; 4];
@@ -190,52 +187,36 @@ pub(crate) fn append_object(body: &mut Frame, number: u8, id: ObjectId) -> Resul
 }
 
 /// Appends a tag of one octet, and the four octets that it counts, or nothing.
+#[tactic(auto, using(crate::proofs::ShortTags::four_context))]
 fn append_four(body: &mut Frame, number: u8, contents: &[u8; 4]) -> Result<(), Full>
     requires { number < 15 }
-    ensures ok { OnOk result (body.new ≡ body.old ++ context_octets number contents.now) }
-    ensures fits { OnOk result (length body.new ≤ FRAME_OCTETS) }
-    ensures full { OnErr result
-        (FRAME_OCTETS < length body.old + length (context_octets number contents.now)) }
-    ensures err { OnErr result (body.new ≡ body.old) }
+    ensures { Appends body.old (context_octets number contents.now) body.new result }
 {
     let [a, b, c, d] = *contents;
     body.append(&[16 * number + 12, a, b, c, d])
 }
 
-/// Appends whole items between an opening and a closing tag of this number, or a front of that.
-pub(crate) fn append_enclosed(body: &mut Frame, number: u8, items: &[u8]) -> Result<(), Full>
-    requires { number < 15 }
-    ensures ok { OnOk result (body.new ≡ body.old ++ enclosed_octets number items.now) }
-    ensures fits { OnOk result (length body.new ≤ FRAME_OCTETS) }
-    ensures full { OnErr result (FRAME_OCTETS < length body.old + length (enclosed_octets number items.now)) }
-    ensures long { length body.old ≤ length body.new }
-    ensures front { take (length body.old) body.new ≡ body.old }
+/// Appends whole items between an opening and a closing tag 3, or a front of that.
+pub(crate) fn append_enclosed(body: &mut Frame, items: &[u8]) -> Result<(), Full>
+    ensures { AppendsFront body.old (enclosed_octets value_tag items.now) body.new result }
 {
-    append_opening(body, number)?;
+    append_opening(body)?;
     body.append(items)?;
-    append_closing(body, number)
+    append_closing(body)
 }
 
-/// Appends an opening tag of one octet, or nothing.
+/// Appends an opening tag 3, or nothing.
 #[tactic(auto, using(crate::proofs::ShortTags::opening_octet))]
-pub(crate) fn append_opening(body: &mut Frame, number: u8) -> Result<(), Full>
-    requires { number < 15 }
-    ensures ok { OnOk result (body.new ≡ body.old ++ plain_tag (opening_tag number)) }
-    ensures fits { OnOk result (length body.new ≤ FRAME_OCTETS) }
-    ensures full { OnErr result (FRAME_OCTETS < length body.old + length (plain_tag (opening_tag number))) }
-    ensures err { OnErr result (body.new ≡ body.old) }
+pub(crate) fn append_opening(body: &mut Frame) -> Result<(), Full>
+    ensures { Appends body.old (plain_tag (opening_tag value_tag)) body.new result }
 {
-    body.append(&[16 * number + 14])
+    body.append(&[16 * VALUE + 14])
 }
 
-/// Appends a closing tag of one octet, or nothing.
+/// Appends a closing tag 3, or nothing.
 #[tactic(auto, using(crate::proofs::ShortTags::closing_octet))]
-pub(crate) fn append_closing(body: &mut Frame, number: u8) -> Result<(), Full>
-    requires { number < 15 }
-    ensures ok { OnOk result (body.new ≡ body.old ++ plain_tag (closing_tag number)) }
-    ensures fits { OnOk result (length body.new ≤ FRAME_OCTETS) }
-    ensures full { OnErr result (FRAME_OCTETS < length body.old + length (plain_tag (closing_tag number))) }
-    ensures err { OnErr result (body.new ≡ body.old) }
+pub(crate) fn append_closing(body: &mut Frame) -> Result<(), Full>
+    ensures { Appends body.old (plain_tag (closing_tag value_tag)) body.new result }
 {
-    body.append(&[16 * number + 15])
+    body.append(&[16 * VALUE + 15])
 }

@@ -1,21 +1,23 @@
-ghost use Rattle.std.specs.Prelude.{◌≡◌, ◌<◌, ◌≤◌, ◌+◌, ◌++◌, length, take, Some, Ok, OnOk, OnErr, IfSome};
+ghost use Rattle.std.specs.Prelude.{◌≡◌, Some, Ok, OnOk, IfSome};
 ghost use Rattle.std.specs.Option.{option_map};
 ghost use Rattle.std.specs.List.{AllByRecursion};
+ghost use Rattle.bac_wire.specs.Limits.{deepest};
 ghost use Rattle.bac_wire.specs.Front.{IsShortest};
+ghost use Rattle.bac_wire.specs.Writing.{Appends, AppendsFront};
 ghost use Rattle.bac_wire.specs.Region.{IsRegion};
 ghost use Rattle.bac_pdu.specs.Parameter.{IsParameter};
-ghost use Rattle.bac_pdu.specs.Datagram.{IsFound};
-ghost use Rattle.bac_pdu.specs.Reject.{result_seen, IsOutcome, ReadFault, WriteFault};
+ghost use Rattle.bac_pdu.specs.Reject.{result_seen};
 ghost use Rattle.bac_pdu.specs.Property.{reference, order, answer, reference_parameters, IsPriority, IsReadBody, IsWriteBody, IsAckBody, read_octets, write_octets, ack_octets, ack_front, ack_end};
 ghost use Rattle.bac_pdu.specs.PropertyReading.{reference_at, read_of, write_of, ack_of};
 
 use crate::parameter::{
-    INDEX, OBJECT, PRIORITY, PROPERTY, VALUE, append_closing, append_enclosed, append_number,
-    append_object, append_opening, enclosed_and_rest, number_and_rest, object_and_rest,
-    optional_and_rest,
+    INDEX, OBJECT, PRIORITY, PROPERTY, append_closing, append_enclosed, append_number,
+    append_object, append_opening, append_optional, enclosed_and_rest, number_and_rest,
+    object_and_rest, optional_and_rest,
 };
 use crate::reject::RejectReason;
-use bac_wire::{FRAME_OCTETS, Frame, Full, ObjectId};
+use crate::writing::whole_or_nothing;
+use bac_wire::{Frame, Full, ObjectId};
 
 /// Which property of which object is asked for, or which element of it (clause 15.5).
 #[derive(Clone, Copy, Debug, PartialEq, Eq)]
@@ -78,7 +80,6 @@ fn reference_and_rest(body: &[u8]) -> Result<(ReadRequest, &[u8]), RejectReason>
 #[tactic(auto, unfolding(crate::specs::PropertyReading::read_of))]
 pub fn read_read(body: &[u8]) -> Result<ReadRequest, RejectReason>
     ensures value { result_seen reference result ≡ read_of body.now }
-    ensures whole { IsOutcome IsReadBody ReadFault body.now (result_seen reference result) }
 {
     match reference_and_rest(body)? {
         (request, []) => Ok(request),
@@ -92,17 +93,9 @@ pub fn read_read(body: &[u8]) -> Result<ReadRequest, RejectReason>
 ///
 /// `OutOfRange` where it is whole but for a priority that is not 1 to 16, `TooMany` where a front of the body is whole,
 /// `MissingParameter` where it ends before the property or the value, else `InvalidTag`.
+#[tactic(auto, unfolding(crate::specs::PropertyReading::write_of))]
 pub fn read_write(body: &[u8]) -> Result<WriteRequest<'_>, RejectReason>
     ensures value { result_seen order result ≡ write_of body.now }
-    ensures whole { IsOutcome IsWriteBody WriteFault body.now (result_seen order result) }
-{
-    read_order(body)
-}
-
-/// The same, or the reject reason of the first step that fails.
-#[tactic(auto, unfolding(crate::specs::PropertyReading::write_of))]
-fn read_order(body: &[u8]) -> Result<WriteRequest<'_>, RejectReason>
-    ensures { result_seen order result ≡ write_of body.now }
 {
     let (request, rest) = reference_and_rest(body)?;
     if rest.is_empty() {
@@ -131,7 +124,6 @@ fn read_order(body: &[u8]) -> Result<WriteRequest<'_>, RejectReason>
 #[tactic(auto, unfolding(crate::specs::PropertyReading::ack_of))]
 pub fn read_ack(body: &[u8]) -> Option<Ack<'_>>
     ensures value { option_map answer result ≡ ack_of body.now }
-    ensures whole { IsFound IsAckBody body.now (option_map answer result) }
 {
     let (request, rest) = reference_and_rest(body).ok()?;
     let (value, []) = enclosed_and_rest(rest)? else {
@@ -146,73 +138,46 @@ pub fn read_ack(body: &[u8]) -> Option<Ack<'_>>
 }
 
 /// Appends the parameters that name a property, or a front of them.
-#[tactic(auto, unfolding(crate::specs::Parameter::plain_parameter))]
 fn append_reference(frame: &mut Frame, request: &ReadRequest) -> Result<(), Full>
-    ensures ok { OnOk result (frame.new ≡ frame.old ++ read_octets (reference request.now)) }
-    ensures fits { OnOk result (length frame.new ≤ FRAME_OCTETS) }
-    ensures full { OnErr result (FRAME_OCTETS < length frame.old + length (read_octets (reference request.now))) }
+    ensures appended { AppendsFront frame.old (read_octets (reference request.now)) frame.new result }
     ensures known { OnOk result (AllByRecursion IsParameter (reference_parameters (reference request.now))) }
-    ensures long { length frame.old ≤ length frame.new }
-    ensures front { take (length frame.old) frame.new ≡ frame.old }
 {
     append_object(frame, OBJECT, request.object)?;
     append_number(frame, PROPERTY, request.property)?;
-    if let Some(index) = request.index {
-        append_number(frame, INDEX, index)?;
-    }
-    Ok(())
+    append_optional(frame, INDEX, request.index)
 }
 
 /// Appends the body of a ReadProperty, each number in its fewest octets. `Full`, with the frame unchanged, only where
 /// there is no room for it.
 pub fn write_read(frame: &mut Frame, request: &ReadRequest) -> Result<(), Full>
-    ensures ok { OnOk result (frame.new ≡ frame.old ++ read_octets (reference request.now)) }
-    ensures fits { OnOk result
-        (length frame.old + length (read_octets (reference request.now)) ≤ FRAME_OCTETS) }
+    ensures appended { Appends frame.old (read_octets (reference request.now)) frame.new result }
     ensures shortest { OnOk result
         (IsShortest IsReadBody (read_octets (reference request.now)) (reference request.now)) }
     ensures read_back { OnOk result
         (read_of (read_octets (reference request.now)) ≡ Ok (reference request.now)) }
-    ensures full { OnErr result
-        (FRAME_OCTETS < length frame.old + length (read_octets (reference request.now))) }
-    ensures err { OnErr result (frame.new ≡ frame.old) }
 {
     let start = frame.len();
     let appended = append_reference(frame, request);
-    if appended.is_err() {
-        frame.truncate(start);
-    }
-    appended
+    whole_or_nothing(frame, start, appended)
 }
 
 /// Appends the body of a ReadProperty-ACK, each number in its fewest octets. `Full`, with the frame unchanged, only
 /// where there is no room for it.
 pub fn write_ack(frame: &mut Frame, ack: &Ack<'_>) -> Result<(), Full>
-    requires { IsRegion 32 ack.now.value.now }
-    ensures ok { OnOk result (frame.new ≡ frame.old ++ ack_octets (answer ack.now)) }
-    ensures fits { OnOk result (length frame.old + length (ack_octets (answer ack.now)) ≤ FRAME_OCTETS) }
+    requires { IsRegion deepest ack.now.value.now }
+    ensures appended { Appends frame.old (ack_octets (answer ack.now)) frame.new result }
     ensures shortest { OnOk result (IsShortest IsAckBody (ack_octets (answer ack.now)) (answer ack.now)) }
     ensures read_back { OnOk result (ack_of (ack_octets (answer ack.now)) ≡ Some (answer ack.now)) }
-    ensures full { OnErr result (FRAME_OCTETS < length frame.old + length (ack_octets (answer ack.now))) }
-    ensures err { OnErr result (frame.new ≡ frame.old) }
 {
     let start = frame.len();
     let appended = append_ack(frame, ack);
-    if appended.is_err() {
-        frame.truncate(start);
-    }
-    appended
+    whole_or_nothing(frame, start, appended)
 }
 
 /// Appends the same, or a front of it.
-#[tactic(auto, unfolding(crate::specs::Parameter::plain_parameter))]
 fn append_ack(frame: &mut Frame, ack: &Ack<'_>) -> Result<(), Full>
-    ensures ok { OnOk result (frame.new ≡ frame.old ++ ack_octets (answer ack.now)) }
-    ensures fits { OnOk result (length frame.new ≤ FRAME_OCTETS) }
-    ensures full { OnErr result (FRAME_OCTETS < length frame.old + length (ack_octets (answer ack.now))) }
+    ensures appended { AppendsFront frame.old (ack_octets (answer ack.now)) frame.new result }
     ensures known { OnOk result (AllByRecursion IsParameter (reference_parameters (answer ack.now).reference)) }
-    ensures long { length frame.old ≤ length frame.new }
-    ensures front { take (length frame.old) frame.new ≡ frame.old }
 {
     let request = ReadRequest {
         object: ack.object,
@@ -220,42 +185,28 @@ fn append_ack(frame: &mut Frame, ack: &Ack<'_>) -> Result<(), Full>
         index: ack.index,
     };
     append_reference(frame, &request)?;
-    append_enclosed(frame, VALUE, ack.value)
+    append_enclosed(frame, ack.value)
 }
 
 /// Appends the body of a WriteProperty, each number in its fewest octets. `Full`, with the frame unchanged, only where
 /// there is no room for it.
 pub fn write_write(frame: &mut Frame, request: &WriteRequest<'_>) -> Result<(), Full>
-    requires region { IsRegion 32 request.now.value.now }
+    requires region { IsRegion deepest request.now.value.now }
     requires priority { IfSome request.now.priority IsPriority }
-    ensures ok { OnOk result (frame.new ≡ frame.old ++ write_octets (order request.now)) }
-    ensures fits { OnOk result
-        (length frame.old + length (write_octets (order request.now)) ≤ FRAME_OCTETS) }
+    ensures appended { Appends frame.old (write_octets (order request.now)) frame.new result }
     ensures shortest { OnOk result
         (IsShortest IsWriteBody (write_octets (order request.now)) (order request.now)) }
     ensures read_back { OnOk result (write_of (write_octets (order request.now)) ≡ Ok (order request.now)) }
-    ensures full { OnErr result
-        (FRAME_OCTETS < length frame.old + length (write_octets (order request.now))) }
-    ensures err { OnErr result (frame.new ≡ frame.old) }
 {
     let start = frame.len();
     let appended = append_order(frame, request);
-    if appended.is_err() {
-        frame.truncate(start);
-    }
-    appended
+    whole_or_nothing(frame, start, appended)
 }
 
 /// Appends the same, or a front of it.
-#[tactic(auto, unfolding(crate::specs::Parameter::plain_parameter))]
 fn append_order(frame: &mut Frame, request: &WriteRequest<'_>) -> Result<(), Full>
-    ensures ok { OnOk result (frame.new ≡ frame.old ++ write_octets (order request.now)) }
-    ensures fits { OnOk result (length frame.new ≤ FRAME_OCTETS) }
-    ensures full { OnErr result
-        (FRAME_OCTETS < length frame.old + length (write_octets (order request.now))) }
+    ensures appended { AppendsFront frame.old (write_octets (order request.now)) frame.new result }
     ensures known { OnOk result (AllByRecursion IsParameter (reference_parameters (order request.now).reference)) }
-    ensures long { length frame.old ≤ length frame.new }
-    ensures front { take (length frame.old) frame.new ≡ frame.old }
 {
     let reference = ReadRequest {
         object: request.object,
@@ -263,45 +214,32 @@ fn append_order(frame: &mut Frame, request: &WriteRequest<'_>) -> Result<(), Ful
         index: request.index,
     };
     append_reference(frame, &reference)?;
-    append_enclosed(frame, VALUE, request.value)?;
-    if let Some(priority) = request.priority {
-        append_number(frame, PRIORITY, u32::from(priority))?;
-    }
-    Ok(())
+    append_enclosed(frame, request.value)?;
+    append_optional(frame, PRIORITY, request.priority.map(u32::from))
 }
 
 /// Appends what stands before the value in the body of a ReadProperty-ACK, each number in its fewest octets. `Full`, with
 /// the frame unchanged, only where there is no room for it.
 pub fn begin_ack(frame: &mut Frame, request: &ReadRequest) -> Result<(), Full>
-    ensures ok { OnOk result (frame.new ≡ frame.old ++ ack_front (reference request.now)) }
-    ensures full { OnErr result (FRAME_OCTETS < length frame.old + length (ack_front (reference request.now))) }
-    ensures err { OnErr result (frame.new ≡ frame.old) }
+    ensures { Appends frame.old (ack_front (reference request.now)) frame.new result }
 {
     let start = frame.len();
     let appended = append_ack_front(frame, request);
-    if appended.is_err() {
-        frame.truncate(start);
-    }
-    appended
+    whole_or_nothing(frame, start, appended)
 }
 
 /// Appends the same, or a front of it.
 fn append_ack_front(frame: &mut Frame, request: &ReadRequest) -> Result<(), Full>
-    ensures ok { OnOk result (frame.new ≡ frame.old ++ ack_front (reference request.now)) }
-    ensures full { OnErr result (FRAME_OCTETS < length frame.old + length (ack_front (reference request.now))) }
-    ensures long { length frame.old ≤ length frame.new }
-    ensures front { take (length frame.old) frame.new ≡ frame.old }
+    ensures { AppendsFront frame.old (ack_front (reference request.now)) frame.new result }
 {
     append_reference(frame, request)?;
-    append_opening(frame, VALUE)
+    append_opening(frame)
 }
 
 /// Appends what stands behind the value in the body of a ReadProperty-ACK. `Full`, with the frame unchanged, only where
 /// there is no room for it.
 pub fn end_ack(frame: &mut Frame) -> Result<(), Full>
-    ensures ok { OnOk result (frame.new ≡ frame.old ++ ack_end) }
-    ensures full { OnErr result (FRAME_OCTETS < length frame.old + length ack_end) }
-    ensures err { OnErr result (frame.new ≡ frame.old) }
+    ensures { Appends frame.old ack_end frame.new result }
 {
-    append_closing(frame, VALUE)
+    append_closing(frame)
 }

@@ -1,4 +1,4 @@
-ghost use Rattle.std.specs.Prelude.{◌≡◌, ◌<◌, ◌≤◌, ◌↔◌, IsSome, IfSome};
+ghost use Rattle.std.specs.Prelude.{◌≡◌, ◌<◌, ◌≤◌, ◌-◌, ◌↔◌, drop, replicate, IsSome, IfSome};
 
 /// The octets that the address of a routed station has at most.
 pub const ADDRESS_OCTETS: usize = 7;
@@ -8,7 +8,7 @@ const ROOM: usize = ADDRESS_OCTETS + 1;
 
 /// The way from a router to a station of another network: the number of the network, and the station's address in it (clause 6.2.2).
 ///
-/// Whether two peers have the same route, and are the same station, says [`Peer::is_same`](crate::Peer::is_same).
+/// The octets that an address leaves over are 0, so that routes are equal where they lead to the same station.
 #[derive(Clone, Copy, Debug, PartialEq, Eq)]
 pub struct Route {
     network: u16,
@@ -18,6 +18,7 @@ pub struct Route {
     ghost global: { network < 65535 },
     ghost shortest: { 1 ≤ count },
     ghost longest: { count ≤ 7 },
+    ghost unused: { drop count octets ≡ replicate (8 - count) 0 },
 }
 
 impl Route {

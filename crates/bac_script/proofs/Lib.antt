@@ -1,4 +1,5 @@
 pub mod Taken
+pub mod Chunks
 pub mod NoteTexts
 pub mod Pieces
 pub mod Machine

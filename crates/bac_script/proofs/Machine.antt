@@ -4,7 +4,7 @@ use Rattle.bac_tsm.specs.Events.{Event, Note}
 use Rattle.bac_pdu.specs.Peer.{Station}
 use Rattle.bac_tsm.specs.Lookahead.{output}
 use Rattle.bac_tsm.specs.Machine.{State, Stepped}
-use Rattle.bac_tsm.specs.declared.limits.TheConstants.{PLACES}
+use Rattle.bac_tsm.specs.Limits.{table_size}
 use Rattle.bac_tsm.specs.Laws.{state_at, NumbersComeBackLate}
 use Rattle.bac_tsm.specs.Client.{client_rules, keeping}
 use Rattle.bac_tsm.proofs.Laws.{by_number, few_places, begins, one_step, back_late}
@@ -119,7 +119,7 @@ text_is (Happens event ∷ later) h = sym (prints_all 3000 3 0 (events_in (Happe
 text_is (Asks arrival ∷ later) h = sym (prints_all 3000 3 0 (events_in later) (Asks arrival ∷ later) h refl)
 
 -- Between two requests of a script with the same number many others are accepted.
-pub requests_late : (all : List Said) → NumbersComeBackLate PLACES (requests_in all)
+pub requests_late : (all : List Said) → NumbersComeBackLate table_size (requests_in all)
 requests_late all =
     let settings = settings_in all in
     back_late (client_rules settings.timeout settings.retries) settings.first_ticket (events_in all) few_places (length (events_in all))

@@ -9,7 +9,7 @@ use Rattle.std.proofs.Math.Seq.{get_or-append_seam}
 use Rattle.bac_script.specs.declared.input.Reading.{Reading}
 use Rattle.bac_script.specs.declared.input.Reading.TheVariants.{Open, AtEnd, Failed}
 use Rattle.bac_script.specs.declared.line.LineFault.TheVariants.{TooLong}
-use Rattle.bac_script.specs.Input.{HasNoFeed}
+use Rattle.bac_script.specs.Feeds.{HasNoFeed}
 use Rattle.bac_script.specs.Line.{ends_with_feed, without_feed, said}
 use Rattle.bac_script.specs.Script.{pieces, lines, is_line}
 

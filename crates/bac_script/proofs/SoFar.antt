@@ -15,8 +15,9 @@ use Rattle.bac_script.specs.declared.line.LineFault.{LineFault}
 use Rattle.bac_script.specs.declared.tracing.TraceEnd.{TraceEnd}
 use Rattle.bac_script.specs.declared.tracing.TraceFault.{TraceFault}
 use Rattle.bac_script.specs.declared.tracing.TraceFault.TheVariants.{BadLine, LineTooLong, ReadFailed, WriteFailed}
-use Rattle.bac_text.specs.Checked.{inner_of, has_failed, has_ended, reads_of}
-use Rattle.bac_script.specs.Input.{Takes, HasNotEnded, StandsAs, over, HasNoFeed, IsCutAs, IsNext}
+use Rattle.bac_text.specs.Checked.{inner_of, has_failed, ends_with, reads_of}
+use Rattle.bac_script.specs.Feeds.{HasNoFeed}
+use Rattle.bac_script.specs.Input.{Takes, HasNotEnded, IsSpared, StandsAs, over, IsCutAs, IsNext}
 use Rattle.bac_script.specs.Line.{Said, said}
 use Rattle.bac_script.specs.Running.{Stage, Stands, new_client, device_with, ran}
 use Rattle.bac_script.specs.Script.{lines, is_nothing, is_silent, and_then, said_from, all_said, text_of, fault_at, fault_after, first_fault, EndsAs, RunsWhole, Runs}
@@ -45,6 +46,7 @@ pub record SoFar {R W : Type 0} (remaining : R → Option (List ℕ)) (contents 
   pub taken : Takes remaining reader reader' [] held octets
   pub asked : reads_of reader' ≤ reads_of reader + length taken.given
   pub unended : HasNotEnded reader reader'
+  pub spared : IsSpared reader reader'
   pub begins : Begins octets before all
   pub counted : count ≡ length before
   pub quiet : is_first ≡ list_all is_nothing all
@@ -180,16 +182,18 @@ front_runs octets reading printed taken rest (Err (BadLine n)) runs e = (rest, s
 front_runs octets reading printed taken rest (Err (LineTooLong n)) runs e = (rest, sym runs.wrote ∙ e)
 front_runs octets reading printed taken rest (Ok end) runs e = (rest, sym runs.wrote ∙ e)
 
-HasNotEnded-more : {R : Type 0} {first second third : Checked R} → HasNotEnded first second → HasNotEnded second third → HasNotEnded first third
-HasNotEnded-more p (inl e) = inl e
-HasNotEnded-more (inl e) (inr same) = inl (ap has_ended same ∙ e)
-HasNotEnded-more (inr first) (inr same) = inr (same ∙ first)
+HasNotEnded-more : {R : Type 0} (first second third : Checked R) → HasNotEnded first second → HasNotEnded second third → HasNotEnded first third
+HasNotEnded-more first second third p q = q ∙ p
+
+IsSpared-more : {R : Type 0} (first second third : Checked R) → IsSpared first second → IsSpared second third → IsSpared first third
+IsSpared-more first second third p q = omega (arith, p, q)
 
 stands_more : {R : Type 0} (remaining : R → Option (List ℕ)) (reading : Reading) (first second third : Checked R) (held : List ℕ) → HasNotEnded first second →
     StandsAs remaining reading second third held → StandsAs remaining reading first third []
-stands_more remaining Open first second third held p h = (h.0, HasNotEnded-more p h.1)
-stands_more remaining AtEnd first second third held p h = (refl, h.1, h.2, h.3)
-stands_more remaining Failed first second third held p h = (refl, h.1, HasNotEnded-more p h.2)
+stands_more remaining Open first second third held p h = (h.0, HasNotEnded-more first second third p h.1)
+stands_more remaining AtEnd first second third held p h =
+    (refl, h.1, record { last = h.2.last; once = h.2.once ∙ ap (λ (n : ℕ). ends_with n true) p }, h.3)
+stands_more remaining Failed first second third held p h = (refl, h.1, HasNotEnded-more first second third p h.2)
 
 over_one : (reading : Reading) → over reading ≤ 1
 over_one Open = omega arith
@@ -211,10 +215,10 @@ module _ {R W : Type 0} {remaining : R → Option (List ℕ)} {contents : W → 
   -- What is left to say where the run stops at a line.
   pub stops : {printed : List ℕ} (reading : Reading) (n : ℕ) (answer : Result TraceEnd TraceFault) →
       (s : SoFar remaining contents reader middle held page between count is_first client device) → Takes remaining middle reader' held now [] →
-      IsNext remaining middle reader' now reading n → reads_of reader' + length held ≤ reads_of middle + length now + over reading →
+      IsNext remaining middle reader' now reading n → reads_of reader' + length held ≤ reads_of middle + length now + over reading → IsSpared middle reader' →
       Prints contents page page' printed → Runs ((s.octets ++ take n now) ++ drop n now) reading printed answer →
       RunsOn remaining contents reader reader' page page' answer
-  stops {printed} reading n answer s q next asked prints runs =
+  stops {printed} reading n answer s q next asked spared prints runs =
       let t = Takes-more s.taken (Takes-front n q) in
       let few = over_one reading in
       let reads = reads_more (reads_of reader) (reads_of middle) (reads_of reader') s.octets held now s.taken.given t.given (over reading) s.asked s.taken.order (t.order ∙ cut_again s.octets now n) asked in
@@ -222,9 +226,12 @@ module _ {R W : Type 0} {remaining : R → Option (List ℕ)} {contents : W → 
         given = t.given;
         reading = reading;
         printed = printed;
-        gave = t.gave;
-        stopped = stands_more remaining reading reader middle reader' (drop n now) s.unended next.stands;
-        asked = omega (arith, few, reads);
+        read = record {
+          gave = t.gave;
+          stopped = stands_more remaining reading reader middle reader' (drop n now) s.unended next.stands;
+          asked = omega (arith, few, reads);
+          spared = IsSpared-more reader middle reader' s.spared spared;
+        };
         prints = prints;
         runs = subst (λ os. Runs os reading printed answer) (sym t.order) runs;
       }
@@ -232,9 +239,10 @@ module _ {R W : Type 0} {remaining : R → Option (List ℕ)} {contents : W → 
   -- Where the writer has failed.
   pub stops_unwritten : (answer : Result TraceEnd TraceFault) → answer ≡ Err WriteFailed →
       (s : SoFar remaining contents reader middle held page between count is_first client device) → Takes remaining middle reader' held now [] →
-      StandsAs remaining Open middle reader' now → reads_of reader' + length held ≤ reads_of middle + length now → Prints contents between page' [] →
+      StandsAs remaining Open middle reader' now → reads_of reader' + length held ≤ reads_of middle + length now → IsSpared middle reader' →
+      Prints contents between page' [] →
       RunsOn remaining contents reader reader' page page' answer
-  stops_unwritten answer is s q stands asked handed =
+  stops_unwritten answer is s q stands asked spared handed =
       let t = Takes-more s.taken q in
       let whole : t.given ≡ s.octets ++ now = t.order ∙ ap (λ (os : List ℕ). os ++ now) (append-nil s.octets) in
       let reads = reads_more (reads_of reader) (reads_of middle) (reads_of reader') s.octets held now s.taken.given t.given 0 s.asked s.taken.order whole (omega (arith, asked)) in
@@ -242,9 +250,12 @@ module _ {R W : Type 0} {remaining : R → Option (List ℕ)} {contents : W → 
         given = t.given;
         reading = Open;
         printed = machine_text s.all;
-        gave = t.gave;
-        stopped = stands_more remaining Open reader middle reader' now s.unended stands;
-        asked = omega (arith, reads);
+        read = record {
+          gave = t.gave;
+          stopped = stands_more remaining Open reader middle reader' now s.unended stands;
+          asked = omega (arith, reads);
+          spared = IsSpared-more reader middle reader' s.spared spared;
+        };
         prints = printed_as (s.printed ⨾ handed) (append-nil (machine_text s.all));
         runs =
             subst (λ (a : Result TraceEnd TraceFault). Runs t.given Open (machine_text s.all) a) (sym is)
@@ -339,10 +350,10 @@ pub SoFar-next : {R W : Type 0} {remaining : R → Option (List ℕ)} {contents 
     {page between kept page' : Page W} {count : ℕ} {is_first is_first' : Bool} {client client' : Client} {device device' : DeviceState}
     (reading : Reading) (n : ℕ) (one : Said) → (s : SoFar remaining contents reader middle held page between count is_first client device) →
     Takes remaining middle reader' held now [] → IsNext remaining middle reader' now reading n → reads_of reader' + length held ≤ reads_of middle + length now + over reading →
-    Prints contents between kept [] → reading ≢ Failed → reading ≢ AtEnd → said is_first (take n now) ≡ Ok one →
+    IsSpared middle reader' → Prints contents between kept [] → reading ≢ Failed → reading ≢ AtEnd → said is_first (take n now) ≡ Ok one →
     is_first' ≡ (is_first && is_nothing one) → Stands (ran (stage_after s.all) one).after client' device' → Prints contents kept page' (ran (stage_after s.all) one).text →
     SoFar remaining contents reader reader' (drop n now) page page' (count + 1) is_first' client' device'
-SoFar-next {remaining = remaining} {contents = contents} {reader = reader} {middle = middle} {reader' = reader'} {held = held} {now = now} {page = page} {page' = page'} {client' = client'} {device' = device'} reading n one s q next asked handed going more ok first kept_on printed =
+SoFar-next {remaining = remaining} {contents = contents} {reader = reader} {middle = middle} {reader' = reader'} {held = held} {now = now} {page = page} {page' = page'} {client' = client'} {device' = device'} reading n one s q next asked spared handed going more ok first kept_on printed =
     let is_open = open_from reading going more in
     let line = take n now in
     let t = Takes-more s.taken (Takes-front n q) in
@@ -353,7 +364,8 @@ SoFar-next {remaining = remaining} {contents = contents} {reader = reader} {midd
       all = s.all ++ one ∷ [];
       taken = t;
       asked = let none = ap over is_open in omega (arith, none, reads);
-      unended = HasNotEnded-more s.unended (unended_open remaining reading middle reader' (drop n now) next.stands is_open);
+      unended = HasNotEnded-more reader middle reader' s.unended (unended_open remaining reading middle reader' (drop n now) next.stands is_open);
+      spared = IsSpared-more reader middle reader' s.spared spared;
       begins =
           Begins-next s.octets line s.before s.all one s.begins (subst (λ r. IsCutAs r line) is_open next.cut)
           (ap (λ (b : Bool). said b line) (sym s.quiet) ∙ ok);
@@ -374,7 +386,8 @@ SoFar-none remaining contents reader held page client device none fresh unwritte
   all = [];
   taken = record { given = []; gave = Consumes-none (remaining (inner_of reader)); order = sym none };
   asked = omega arith;
-  unended = inr refl;
+  unended = refl;
+  spared = omega arith;
   begins = Begins-none;
   counted = refl;
   quiet = refl;
@@ -393,9 +406,7 @@ module _ {R W : Type 0} {remaining : R → Option (List ℕ)} {contents : W → 
         given = s.given;
         reading = s.reading;
         written = s.printed;
-        gave = s.gave;
-        stopped = s.stopped;
-        asked = s.asked;
+        read = s.read;
         took = all_written (finished same empty s.prints gone) good;
         runs = s.runs;
       })
@@ -410,9 +421,7 @@ module _ {R W : Type 0} {remaining : R → Option (List ℕ)} {contents : W → 
         given = s.given;
         reading = s.reading;
         written = w.taken;
-        gave = s.gave;
-        stopped = s.stopped;
-        asked = s.asked;
+        read = s.read;
         took = w.took;
         runs = subst (λ (a : Result TraceEnd TraceFault). Runs s.given s.reading w.taken a) (sym failed) (front_runs s.given s.reading s.printed w.taken w.rest answer s.runs w.whole);
       })

@@ -1,11 +1,11 @@
 -- What is taken from a reader through a chunk of octets that were read and not yet taken.
-use Rattle.std.specs.Prelude.{◌≡◌, ◌≢◌, ℕ, ◌+◌, ◌-◌, ◌*◌, ◌^◌, ◌<◌, ◌≤◌, take, drop, false, true, List, [], ◌∷◌, ◌++◌, length, Option, ◌⊎◌}
+use Rattle.std.specs.Prelude.{◌≡◌, ℕ, ◌+◌, ◌-◌, ◌*◌, ◌^◌, ◌<◌, ◌≤◌, max, take, drop, false, true, List, [], ◌∷◌, ◌++◌, length, Option, ◌⊎◌}
 use Rattle.std.specs.Io.KnownBytes.{Consumes, IsAtEnd}
-use Rattle.std.specs.List.{AllByRecursion}
 use Rattle.bac_text.specs.declared.checked.Checked.{Checked}
 use Rattle.bac_script.specs.declared.input.Reading.{Reading}
 use Rattle.bac_script.specs.declared.input.Reading.TheVariants.{Open, AtEnd, Failed}
-use Rattle.bac_text.specs.Checked.{inner_of, has_failed, has_ended, reads_of}
+use Rattle.bac_script.specs.Feeds.{HasNoFeed}
+use Rattle.bac_text.specs.Checked.{inner_of, has_failed, has_ended, ends_of, ends_with, reads_of}
 
 -- the reads of a script
 abbrev pub most_reads : ℕ
@@ -17,7 +17,7 @@ may_read reader = most_reads - reads_of reader
 
 -- no more octets than this are still to come
 abbrev pub may_come : {R : Type 0} → Checked R → List ℕ → ℕ
-may_come reader held = 8192 * may_read reader + length held
+may_come reader held = 32768 * may_read reader + length held
 
 -- the octets held and then those that the reader gave are those taken and then those kept
 pub record Takes {R : Type 0} (remaining : R → Option (List ℕ)) (before after : Checked R) (held kept taken : List ℕ) : Type 0 where
@@ -25,26 +25,36 @@ pub record Takes {R : Type 0} (remaining : R → Option (List ℕ)) (before afte
   pub gave : Consumes (remaining (inner_of before)) (remaining (inner_of after)) given
   pub order : held ++ given ≡ taken ++ kept
 
--- no read since then found the end
+-- no read since then gave nothing
 abbrev pub HasNotEnded : {R : Type 0} → Checked R → Checked R → Type 0
-HasNotEnded before after = (has_ended after ≡ false) ⊎ (after ≡ before)
+HasNotEnded before after = ends_of after ≡ ends_of before
+
+-- one read since then gave nothing, and it was the last
+pub record HasEnded {R : Type 0} (before after : Checked R) : Type 0 where
+  pub last : has_ended after ≡ true
+  pub once : ends_of after ≡ ends_with (ends_of before) true
+
+-- the reads are spent
+abbrev pub AreSpent : {R : Type 0} → Checked R → Type 0
+AreSpent reader = most_reads ≤ reads_of reader
+
+-- no read was made since then once they were spent
+abbrev pub IsSpared : {R : Type 0} → Checked R → Checked R → Type 0
+IsSpared before after = reads_of after ≤ max (reads_of before) most_reads
 
 -- the reader is as it is said to stand, and where reading is over nothing is held
 abbrev pub StandsAs : {R : Type 0} → (R → Option (List ℕ)) → Reading → Checked R → Checked R → List ℕ → Type 0
 StandsAs remaining Open before after held = (has_failed after ≡ false) × HasNotEnded before after
 StandsAs remaining AtEnd before after held =
-    (held ≡ []) × (has_failed after ≡ false) × (has_ended after ≡ true) × IsAtEnd (remaining (inner_of after))
+    (held ≡ []) × (has_failed after ≡ false) × HasEnded before after × IsAtEnd (remaining (inner_of after))
 StandsAs remaining Failed before after held =
-    (held ≡ []) × ((has_failed after ≡ true) ⊎ (reads_of after ≡ most_reads)) × HasNotEnded before after
+    (held ≡ []) × ((has_failed after ≡ true) ⊎ AreSpent after) × HasNotEnded before after
 
 -- the reads that gave nothing: none, or the last
 abbrev pub over : Reading → ℕ
 over Open = 0
 over AtEnd = 1
 over Failed = 1
-
-abbrev pub HasNoFeed : List ℕ → Type 0
-HasNoFeed = AllByRecursion (λ octet. octet ≢ 10)
 
 -- a line feed ends the line, or it is too long without one, or it is what was there where reading was over
 abbrev pub IsCutAs : Reading → List ℕ → Type 0

@@ -1,3 +1,4 @@
+pub mod Feeds
 pub mod Input
 pub mod Line
 pub mod LongBody
@@ -6,3 +7,4 @@ pub mod Text
 pub mod Running
 pub mod Script
 pub mod Tracing
+pub mod Fits

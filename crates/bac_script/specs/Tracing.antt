@@ -8,18 +8,24 @@ use Rattle.bac_script.specs.declared.tracing.TraceFault.{TraceFault}
 use Rattle.bac_script.specs.declared.tracing.TraceFault.TheVariants.{BadLine, LineTooLong, ReadFailed, WriteFailed}
 use Rattle.bac_text.specs.declared.page.Page.{Page}
 use Rattle.bac_text.specs.Checked.{inner_of, reads_of}
-use Rattle.bac_script.specs.Input.{StandsAs}
+use Rattle.bac_script.specs.Input.{StandsAs, IsSpared}
 use Rattle.bac_text.specs.Page.{Prints}
 use Rattle.bac_script.specs.Script.{Runs}
+
+-- The reader gave these octets, and reading stopped so. It was asked once for each octet at most, and once more where that gave
+-- nothing.
+pub record HasRead {R : Type 0} (remaining : R → Option (List ℕ)) (reader reader' : Checked R) (given : List ℕ) (reading : Reading) : Type 0 where
+  pub gave : Consumes (remaining (inner_of reader)) (remaining (inner_of reader')) given
+  pub stopped : StandsAs remaining reading reader reader' []
+  pub asked : reads_of reader' ≤ reads_of reader + length given + 1
+  pub spared : IsSpared reader reader'
 
 -- What was written and answered is that of the script of the octets that the reader gave, and of how reading stopped
 pub record Traces {R W : Type 0} (remaining : R → Option (List ℕ)) (contents : W → Option (List ℕ)) (reader reader' : Checked R) (writer writer' : Checked W) (answer : Result TraceEnd TraceFault) : Type 0 where
   pub given : List ℕ
   pub reading : Reading
   pub written : List ℕ
-  pub gave : Consumes (remaining (inner_of reader)) (remaining (inner_of reader')) given
-  pub stopped : StandsAs remaining reading reader reader' []
-  pub asked : reads_of reader' ≤ reads_of reader + length given + 1
+  pub read : HasRead remaining reader reader' given reading
   pub took : Appends (contents (inner_of writer)) (contents (inner_of writer')) written
   pub runs : Runs given reading written answer
 
@@ -29,9 +35,7 @@ pub record RunsOn {R W : Type 0} (remaining : R → Option (List ℕ)) (contents
   pub given : List ℕ
   pub reading : Reading
   pub printed : List ℕ
-  pub gave : Consumes (remaining (inner_of reader)) (remaining (inner_of reader')) given
-  pub stopped : StandsAs remaining reading reader reader' []
-  pub asked : reads_of reader' ≤ reads_of reader + length given + 1
+  pub read : HasRead remaining reader reader' given reading
   pub prints : Prints contents page page' printed
   pub runs : Runs given reading printed answer
 

@@ -2,14 +2,15 @@
 ghost use Rattle.std.specs.Prelude.{◌≡◌, ◌≢◌, ◌==◌, ◌+◌, ◌<◌, ◌≤◌, [], length, take, drop, position, true, false, MatchOption, MatchResult};
 ghost use Rattle.bac_text.specs.Checked.{has_failed, reads_of};
 ghost use Rattle.bac_text.specs.Page.{held, writer_of, Prints};
-ghost use Rattle.bac_script.specs.Input.{may_come, may_read, over, Takes, StandsAs, HasNotEnded, HasNoFeed, IsCutAs, IsNext};
+ghost use Rattle.bac_script.specs.Feeds.{HasNoFeed};
+ghost use Rattle.bac_script.specs.Input.{may_come, may_read, over, Takes, StandsAs, IsSpared, IsCutAs, IsNext};
 
-use bac_text::{Checked, Page, WriteFailed};
+use bac_text::{Checked, End, Page, WriteFailed, place_of_end};
 use std::io::{Read, Write};
 use std::marker::Model;
 
 /// Room for what is held: a line that isn't whole yet, and what a read gives behind it.
-const CHUNK: usize = 8_192;
+const CHUNK: usize = 32_768;
 
 /// The octets of the longest line with its line feed. So many without a line feed among them are a line that is too long.
 const LINE_ROOM: usize = 4_097;
@@ -37,17 +38,21 @@ pub struct Next {
 pub struct Chunk {
     octets: [u8; CHUNK],
     start: usize,
+    /// No line feed is held before this place.
+    searched: usize,
     end: usize,
 }
 
 impl Model for Chunk {
-    ghost use Rattle.std.specs.Prelude.{ℕ, ◌≤◌, List, slice_range};
+    ghost use Rattle.std.specs.Prelude.{ℕ, ◌+◌, ◌≤◌, List, slice_range};
+    ghost use Rattle.bac_script.specs.Feeds.{HasNoFeed};
 
     ghost Value = { List ℕ };
 
     ghost view = { λ chunk. slice_range chunk.octets chunk.start chunk.end };
 
-    ghost invariant = { λ chunk. (chunk.start ≤ chunk.end) × (chunk.end ≤ 8192) };
+    ghost invariant = { λ chunk. (chunk.start ≤ chunk.searched) × (chunk.searched ≤ chunk.end) × (chunk.end ≤ 32768)
+        × (chunk.searched ≤ chunk.start + 4097) × HasNoFeed (slice_range chunk.octets chunk.start chunk.searched) };
 }
 
 impl Chunk {
@@ -57,6 +62,7 @@ impl Chunk {
         Chunk {
             octets: [0; CHUNK],
             start: 0,
+            searched: 0,
             end: 0,
         }
     }
@@ -82,6 +88,7 @@ impl Chunk {
         ensures { self.new ≡ drop count self.old }
     {
         self.start += count;
+        self.searched = self.start;
     }
 
     /// Finds the next line, and reads until it is held. Before each read the page is turned in, so that nobody waits for text
@@ -105,6 +112,7 @@ impl Chunk {
         ensures asked { MatchResult result
             (λ next. reads_of reader.new + length self.old ≤ reads_of reader.old + length self.new + over next.reading)
             (λ _. reads_of reader.new + length self.old ≤ reads_of reader.old + length self.new) }
+        ensures spared { IsSpared reader.old reader.new }
         ensures room { may_come reader.new self.new ≤ may_come reader.old self.old }
     {
         loop {
@@ -124,23 +132,28 @@ impl Chunk {
         }
     }
 
-    // How many octets the next line has, where it is whole among those that are held.
-    fn line_length(&self) -> Option<usize>
-        ensures { MatchOption result (HasNoFeed self.now × (length self.now < LINE_ROOM))
-            (λ count. (count ≤ length self.now) × IsCutAs Reading.Open (take count self.now)) }
+    // How many octets the next line has, where it is whole among those that are held. What was searched isn't searched again.
+    fn line_length(&mut self) -> Option<usize>
+        ensures held { self.new ≡ self.old }
+        ensures line { MatchOption result (HasNoFeed self.old × (length self.old < LINE_ROOM))
+            (λ count. (count ≤ length self.old) × IsCutAs Reading.Open (take count self.old)) }
     {
-        let held = &self.octets[self.start..self.end];
-        if held.len() < LINE_ROOM {
-            return Some(feed_place(held)? + 1);
+        let limit = self.end.min(self.start + LINE_ROOM);
+        if let Some(place) = feed_place(&self.octets[self.searched..limit]) {
+            return Some(self.searched - self.start + place + 1);
         }
-        match feed_place(&held[..LINE_ROOM]) {
-            Some(place) => Some(place + 1),
-            None => Some(LINE_ROOM),
+        self.searched = limit;
+        let length = limit - self.start;
+        if length < LINE_ROOM {
+            None
+        } else {
+            Some(length)
         }
     }
 
     // Reads once more behind what is held. The page is empty and its writer has not failed, so that nobody waits for text that
-    // was printed, and nothing is read for a text that can't be written.
+    // was printed, and nothing is read for a text that can't be written. No clause of `trace` says so: it stands on these
+    // conditions, and on this being the one place that reads.
     fn read_more<R: Read, W>(&mut self, reader: &mut Checked<R>, _page: &Page<'_, W>) -> Reading
         requires reader { has_failed reader.old ≡ false }
         requires short { length self.old < LINE_ROOM }
@@ -149,6 +162,7 @@ impl Chunk {
         ensures given { Takes R.remaining reader.old reader.new self.old self.new [] }
         ensures stands { StandsAs R.remaining result reader.old reader.new [] }
         ensures asked { reads_of reader.new + length self.old ≤ reads_of reader.old + length self.new + over result }
+        ensures spared { IsSpared reader.old reader.new }
         ensures room { may_come reader.new self.new ≤ may_come reader.old self.old }
         ensures more { result ≡ Reading.Open → may_read reader.new < may_read reader.old }
         ensures same { result ≢ Reading.Open → self.new ≡ self.old }
@@ -156,9 +170,12 @@ impl Chunk {
         if reader.reads() == u32::MAX {
             return Reading::Failed;
         }
-        self.octets.copy_within(self.start..self.end, 0);
-        self.end -= self.start;
-        self.start = 0;
+        if self.end > CHUNK - LINE_ROOM {
+            self.octets.copy_within(self.start..self.end, 0);
+            self.searched -= self.start;
+            self.end -= self.start;
+            self.start = 0;
+        }
         let Ok(count) = reader.read(&mut self.octets[self.end..]) else {
             return Reading::Failed;
         };
@@ -174,5 +191,5 @@ impl Chunk {
 fn feed_place(octets: &[u8]) -> Option<usize>
     ensures { result ≡ position (λ octet. octet == 10) octets.now }
 {
-    octets.iter().position(|octet| *octet == b'\n')
+    place_of_end(octets, End::At(b'\n'))
 }

@@ -2,6 +2,7 @@
 #![tactic(auto)]
 
 mod input;
+pub mod laws;
 mod line;
 mod long_write;
 mod notes;

@@ -1,5 +1,6 @@
 //! The lines of a script.
 ghost use Rattle.std.specs.Prelude.{◌≡◌, ◌==◌, ◌≤◌, ◌^◌, ◌<◌, [], ◌∷◌, true, length, option_map, ⊤, None, Some, IfSome, MatchOption, MatchResult, Ok, Err};
+ghost use Rattle.std.specs.Str.{is_utf8};
 ghost use Rattle.bac_pdu.specs.Peer.{station};
 ghost use Rattle.bac_pdu.specs.Property.{IsPriority};
 ghost use Rattle.bac_text.specs.Words.{number_up_to, octets_of, next_as, at_end};
@@ -12,8 +13,8 @@ ghost use Rattle.bac_script.specs.LineSeen.{arrival_seen, line_seen, result_seen
 use crate::long_write::LongWrite;
 use bac_pdu::{Peer, READ_PROPERTY, ReadRequest, WRITE_PROPERTY};
 use bac_text::{
-    BodyRoom, LONGEST_DATAGRAM, LONGEST_LINE, PairFault, WordSource, Words, peer_in, plain_peer_in,
-    priority_from, read_datagram, read_number, read_write_index,
+    BodyRoom, End, LONGEST_DATAGRAM, LONGEST_LINE, PairFault, WordSource, Words, peer_in,
+    place_of_end, plain_peer_in, priority_from, read_datagram, read_number, read_write_index,
 };
 use bac_tsm::Config;
 use bac_wire::ObjectId;
@@ -88,10 +89,17 @@ pub(crate) fn read_line<'a>(
     ensures { result_seen result ≡ said is_first line.now }
 {
     let text = line_text(line)?;
-    if str::from_utf8(text).is_err() {
+    if !is_text(text) {
         return Err(LineFault::Bad);
     }
     read_words(Words::new(text), is_first, room).ok_or(LineFault::Bad)
+}
+
+// Whether the octets are UTF-8. Of most lines all are ASCII, which is seen sooner.
+fn is_text(octets: &[u8]) -> bool
+    ensures { result ≡ is_utf8 octets.now }
+{
+    place_of_end(octets, End::PastAscii).is_none() || str::from_utf8(octets).is_ok()
 }
 
 // The octets of a line without its line feed and a carriage return before that.
@@ -144,9 +152,9 @@ fn read_words<'a>(mut words: Words<'a>, is_first: bool, room: &'a mut LineRoom) 
 fn read_settings(mut words: Words<'_>) -> Option<Line<'_>>
     ensures { option_map line_seen result ≡ settings_of words.entry }
 {
-    let timeout = next_number(&mut words, u32::MAX.into())?;
-    let retries = next_number(&mut words, u8::MAX.into())?;
-    let ticket = next_number(&mut words, u64::MAX)?;
+    let timeout = words.next_number(u32::MAX.into())?;
+    let retries = words.next_number(u8::MAX.into())?;
+    let ticket = words.next_number(u64::MAX)?;
     let config = Config::new(timeout as u32, retries as u8)?;
     ended(words, Line::Client(config, ticket))
 }
@@ -155,9 +163,9 @@ fn read_reading<'a>(mut words: Words<'_>, room: &'a mut BodyRoom) -> Option<Line
     ensures { option_map line_seen result ≡ option_map Happens (reading_of words.entry) }
 {
     let peer = next_peer(&mut words)?;
-    let kind = next_number(&mut words, 1_023)?;
-    let instance = next_number(&mut words, 4_194_303)?;
-    let property = next_number(&mut words, 4_194_303)?;
+    let kind = words.next_number(1_023)?;
+    let instance = words.next_number(4_194_303)?;
+    let property = words.next_number(4_194_303)?;
     let index = next_index(&mut words)?;
     let request = ReadRequest {
         object: ObjectId::new(kind as u16, instance as u32)?,
@@ -172,9 +180,9 @@ fn read_writing<'a>(mut words: Words<'a>, room: &'a mut BodyRoom) -> Option<Line
     ensures { option_map line_seen result ≡ option_map Happens (writing_of words.entry) }
 {
     let peer = next_peer(&mut words)?;
-    let kind = next_number(&mut words, 1_023)?;
-    let instance = next_number(&mut words, 4_194_303)?;
-    let property = next_number(&mut words, 4_194_303)? as u32;
+    let kind = words.next_number(1_023)?;
+    let instance = words.next_number(4_194_303)?;
+    let property = words.next_number(4_194_303)? as u32;
     let priority = next_priority(&mut words)?;
     let index = next_write_index(&mut words)?;
     let object = ObjectId::new(kind as u16, instance as u32)?;
@@ -210,7 +218,7 @@ fn read_arrival<'a>(
 fn read_tick(mut words: Words<'_>) -> Option<Line<'_>>
     ensures { option_map line_seen result ≡ option_map Happens (tick_of words.entry) }
 {
-    let now = next_number(&mut words, u64::MAX)?;
+    let now = words.next_number(u64::MAX)?;
     ended(words, Line::Tick(now))
 }
 
@@ -222,14 +230,6 @@ fn ended<'a>(mut words: Words<'_>, line: Line<'a>) -> Option<Line<'a>>
         Some(_) => None,
         None => Some(line),
     }
-}
-
-fn next_number(words: &mut Words<'_>, most: u64) -> Option<u64>
-    ensures value { MatchOption result (next_as (number_up_to most) words.old ≡ None) (λ number. next_as (number_up_to most) words.old ≡ Some (number, words.new)) }
-    ensures most { MatchOption result ⊤ (λ number. number ≤ most) }
-{
-    let word = words.next_word()?;
-    read_number(word, most)
 }
 
 // The number of an element, where a word is left.
@@ -248,7 +248,7 @@ fn next_priority(words: &mut Words<'_>) -> Option<Option<u8>>
     ensures value { MatchOption result (next_as priority_of words.old ≡ None) (λ priority. next_as priority_of words.old ≡ Some (priority, words.new)) }
     ensures priority { IfSome result (λ priority. IfSome priority IsPriority) }
 {
-    let number = next_number(words, 16)?;
+    let number = words.next_number(16)?;
     Some(priority_from(number as u8))
 }
 

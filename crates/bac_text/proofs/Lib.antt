@@ -13,3 +13,7 @@ pub mod WriteBodies
 pub mod WordRanges
 pub mod BodiesInWords
 pub mod Shown
+pub mod Lanes
+pub mod LeadingDigits
+pub mod HexLanes
+pub mod FirstNumbers

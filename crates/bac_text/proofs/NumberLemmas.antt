@@ -18,11 +18,11 @@ and_right : (a b : Bool) → (a && b) ≡ true → b ≡ true
 and_right true b h = h
 and_right false b h = absurd (cc)
 
-and_false : (a : Bool) → (a && false) ≡ false
+pub and_false : (a : Bool) → (a && false) ≡ false
 and_false true = refl
 and_false false = refl
 
-digit_at : (word : List ℕ) (i : ℕ) → i < length word → all_ascii_digits word ≡ true → is_ascii_digit (get_or word i 0) ≡ true
+pub digit_at : (word : List ℕ) (i : ℕ) → i < length word → all_ascii_digits word ≡ true → is_ascii_digit (get_or word i 0) ≡ true
 digit_at [] i h all = absurd (omega arith)
 digit_at (x ∷ xs) zero h all = and_left (is_ascii_digit x) (all_ascii_digits xs) all
 digit_at (x ∷ xs) (suc i) h all = digit_at xs i (omega arith) (and_right (is_ascii_digit x) (all_ascii_digits xs) all)

@@ -38,19 +38,6 @@ pub record Progress (all left : List (List ℕ)) (number : ℕ) (region : List �
   pub some : 1 ≤ number
   pub stands : Stands is_too_long region values
 
-pub progress-none : (all : List (List ℕ)) (region : List ℕ) → region ≡ [] → Progress all all 1 region false
-progress-none all region e = record {
-  values = [];
-  said = go (pairs_from 1 all);
-  counted = omega arith;
-  some = omega arith;
-  stands = (e, (let none = ap length e in omega arith));
-}
-  where
-    go : (found : Result (List Datum) ℕ) → found ≡ then_values [] found
-    go (Err bad) = refl
-    go (Ok values) = refl
-
 first_pair : (n : ℕ) (tag word : List ℕ) (left : List (List ℕ)) (value : Datum) → value_in tag word ≡ Some value →
     pairs_from n (tag ∷ word ∷ left) ≡ then_values (value ∷ []) (pairs_from (n + 1) left)
 first_pair n tag word left value e = ap (λ (found : Option Datum). value_before n found (pairs_from (n + 1) left)) e ∙ go (pairs_from (n + 1) left)

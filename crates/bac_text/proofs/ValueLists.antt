@@ -6,7 +6,7 @@ use Rattle.bac_wire.specs.Datum.{Datum, Spells}
 use Rattle.bac_wire.specs.DatumReading.{value_at}
 use Rattle.bac_wire.proofs.DatumLaws.{value_reader}
 use Rattle.bac_wire.proofs.RegionReading.{tag_shorter}
-use Rattle.bac_pdu.specs.Parameter.{SpellsAll}
+use Rattle.bac_wire.specs.Front.{SpellsAll}
 use Rattle.bac_pdu.proofs.SequenceLaws.{begins, begins_read}
 use Rattle.bac_text.specs.Words.{◌>>=◌}
 use Rattle.bac_text.specs.Values.{values_within, values_of}

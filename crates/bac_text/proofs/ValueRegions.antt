@@ -1,11 +1,11 @@
 -- Values one after another are a region.
 use Rattle.std.proofs.Common.{ℕ, List, [], ◌∷◌, length, refl, sym, ap, subst, inl}
 use Rattle.bac_wire.specs.Datum as values
-use Rattle.bac_wire.specs.Datum.{Datum, Spells, Holds, kind, tag_before}
+use Rattle.bac_wire.specs.Datum.{Datum, Spells, StandsFor, tag_number, tag_before}
 use Rattle.bac_wire.specs.Region.{Counts, IsSequence, none, more, IsItem, IsRegion}
-use Rattle.bac_pdu.specs.Parameter.{SpellsAll}
+use Rattle.bac_wire.specs.Front.{SpellsAll}
 
-contents_counted : (contents : List ℕ) (value : Datum) → Holds contents value → Counts (kind value) (tag_before value (length contents)).shape (length contents)
+contents_counted : (contents : List ℕ) (value : Datum) → StandsFor contents value → Counts (tag_number value) (tag_before value (length contents)).shape (length contents)
 contents_counted contents values.null held = refl
 contents_counted contents (values.boolean b) held = ap length held
 contents_counted contents (values.unsigned n) held = refl

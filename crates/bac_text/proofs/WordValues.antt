@@ -23,10 +23,6 @@ at_most-ok fault most octets h = let fits : nat_le (length octets) most ≡ true
 pub at_most-long : {E : Type 0} (fault : E) (most : ℕ) (octets : List ℕ) → most < length octets → at_most fault most octets ≡ Err fault
 at_most-long fault most octets h = let past : nat_le (length octets) most ≡ false = grind (arith, nat_tests) in rw past refl
 
-pub appended-ok : (old new : List ℕ) (value : Datum) → new ≡ old ++ plain value → length old + length (plain value) ≤ 1497 → appended old (Some value) ≡ Ok new
-appended-ok old new value e h =
-    at_most-ok TooLong 1497 (old ++ plain value) (omega (arith, length-append old (plain value))) ∙ ap (λ (octets : List ℕ). Ok octets) (sym e)
-
 pub appended-full : (old : List ℕ) (value : Datum) → 1497 < length old + length (plain value) → appended old (Some value) ≡ Err TooLong
 appended-full old value h = at_most-long TooLong 1497 (old ++ plain value) (omega (arith, length-append old (plain value)))
 

@@ -11,12 +11,18 @@ cut_at octet text = option_map (λ i. (take i text, drop (i + 1) text)) (positio
 abbrev pub short_number : ℕ → ℕ → List ℕ → Option ℕ
 short_number digits limit text = if nat_le (length text) digits then number_up_to limit text else None
 
--- A number up to 255, a dot (46) and the rest of an address, after the numbers before it.
-abbrev pub number_then : (ℕ → List ℕ → Option ℕ) → ℕ → List ℕ → Option ℕ
-number_then rest high text = do
+-- A number up to 255 before a dot (46), and what stands behind that.
+abbrev pub number_before_dot : List ℕ → Option (ℕ × List ℕ)
+number_before_dot text = do
   parts ← cut_at 46 text
   n ← short_number 3 255 parts.0
-  rest (high * 256 + n) parts.1
+  Some (n, parts.1)
+
+-- A number, a dot and the rest of an address, after the numbers before it.
+abbrev pub number_then : (ℕ → List ℕ → Option ℕ) → ℕ → List ℕ → Option ℕ
+number_then rest high text = do
+  found ← number_before_dot text
+  rest (high * 256 + found.0) found.1
 
 -- The last number of an address, after the numbers before it.
 abbrev pub last_number : ℕ → List ℕ → Option ℕ

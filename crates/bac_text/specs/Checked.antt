@@ -1,5 +1,5 @@
 -- What contracts see of a checked reader or writer.
-use Rattle.std.specs.Prelude.{◌≡◌, ℕ, Bool, false, true, ◌&&◌, ◌==◌, nat_lt, List, ◌++◌, length, Option, Result, Ok, Err}
+use Rattle.std.specs.Prelude.{◌≡◌, ℕ, ◌+◌, ◌-◌, ◌^◌, min, Bool, false, true, ◌&&◌, ◌==◌, nat_lt, if◌then◌else◌, List, ◌++◌, length, Option, Result, Ok, Err}
 use Rattle.std.specs.Io.KnownBytes.{Appends}
 use Rattle.bac_text.specs.declared.checked.Checked.{Checked}
 
@@ -13,17 +13,25 @@ has_failed checked = checked.failed
 abbrev pub has_ended : {T : Type 0} → Checked T → Bool
 has_ended checked = checked.ended
 
+-- so many reads gave nothing, though there was room
+abbrev pub ends_of : {T : Type 0} → Checked T → ℕ
+ends_of checked = checked.ends
+
 abbrev pub reads_of : {T : Type 0} → Checked T → ℕ
 reads_of checked = checked.reads
 
 -- as it is made
 abbrev pub fresh : {T : Type 0} → T → Checked T
-fresh inner = record { inner = inner; failed = false; ended = false; reads = 0 }
+fresh inner = record { inner = inner; failed = false; ended = false; ends = 0; reads = 0 }
 
 -- a read that gave nothing into room for at least one octet
 abbrev pub is_end : {E : Type 0} → Result ℕ E → List ℕ → Bool
 is_end (Ok given) room = given == 0 && nat_lt 0 (length room)
 is_end (Err e) room = false
+
+-- one more of them, where it is one; the count stays at 2^64 - 1
+abbrev pub ends_with : ℕ → Bool → ℕ
+ends_with ends is = if is then min (ends + 1) (2 ^ 64 - 1) else ends
 
 -- a write that failed, or took nothing of at least one octet
 abbrev pub is_failed_write : {E : Type 0} → Result ℕ E → List ℕ → Bool

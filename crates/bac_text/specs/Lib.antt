@@ -1,6 +1,10 @@
+pub mod Limits
 pub mod Checked
 pub mod Page
 pub mod Words
+pub mod Search
+pub mod Leading
+pub mod HexLanes
 pub mod Address
 pub mod PeerTexts
 pub mod Values

@@ -6,6 +6,8 @@ use Rattle.bac_pdu.specs.Parameter.{plain_all}
 use Rattle.bac_pdu.specs.Property.{Order, write_octets}
 use Rattle.bac_text.specs.declared.pairs.PairFault.{PairFault}
 use Rattle.bac_text.specs.declared.pairs.PairFault.TheVariants.{Bad, TooLong}
+use Rattle.bac_wire.specs.Limits.{frame_room}
+use Rattle.bac_text.specs.Limits.{longest_body}
 use Rattle.bac_text.specs.ValueWords.{value_in, at_most}
 
 -- The value of a pair and those of the pairs behind it, or the number of the first pair that has none.
@@ -28,7 +30,7 @@ values_in (tag ∷ others) = pairs_from 1 (tag ∷ others)
 
 -- Their shortest spellings one after another, where a frame has room for them.
 abbrev pub region_with : Result (List Datum) ℕ → Result (List ℕ) PairFault
-region_with (Ok values) = at_most TooLong 1497 (plain_all plain values)
+region_with (Ok values) = at_most TooLong frame_room (plain_all plain values)
 region_with (Err n) = Err (Bad n)
 
 abbrev pub region_of : List (List ℕ) → Result (List ℕ) PairFault
@@ -49,9 +51,9 @@ whole_body_with object property index priority (Err n) = Err n
 abbrev pub whole_body_of : Identifier → ℕ → Option ℕ → Option ℕ → List (List ℕ) → Result (List ℕ) ℕ
 whole_body_of object property index priority words = whole_body_with object property index priority (values_in words)
 
--- A body that a client sends has at most 476 octets.
+-- A body that a client sends is no longer than the longest.
 abbrev pub sendable : Result (List ℕ) ℕ → Result (List ℕ) PairFault
-sendable (Ok body) = at_most TooLong 476 body
+sendable (Ok body) = at_most TooLong longest_body body
 sendable (Err n) = Err (Bad n)
 
 abbrev pub body_with : Identifier → ℕ → Option ℕ → Option ℕ → Result (List Datum) ℕ → Result (List ℕ) PairFault

@@ -1,9 +1,8 @@
 -- What the words of a property's value order, in the standard's words.
 use Rattle.std.specs.Prelude.{◌≡◌, ℕ, ◌^◌, ◌<◌, List, Option, Some, Ok, IfSome}
 use Rattle.bac_wire.specs.Datum.{Datum, Spells}
-use Rattle.bac_wire.specs.Front.{IsShortest}
+use Rattle.bac_wire.specs.Front.{IsShortest, SpellsAll}
 use Rattle.bac_wire.specs.Identifier.{Identifier, IsIdentifier}
-use Rattle.bac_pdu.specs.Parameter.{SpellsAll}
 use Rattle.bac_pdu.specs.Property.{IsPriority, IsWriteBody}
 use Rattle.bac_text.specs.Values.{values_of}
 use Rattle.bac_text.specs.Pairs.{values_in, order_of, body_of}

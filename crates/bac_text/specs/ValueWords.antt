@@ -6,6 +6,7 @@ use Rattle.std.specs.Result.{result_ok}
 use Rattle.hex.specs.Hex.{decode_of}
 use Rattle.bac_wire.specs.Datum.{Datum, null, boolean, unsigned, signed, real, double, octet_string, char_string, bit_string, enumerated, date, time, object, plain}
 use Rattle.bac_wire.specs.Identifier.{Identifier}
+use Rattle.bac_wire.specs.Limits.{frame_room}
 use Rattle.bac_text.specs.declared.value_words.ValueFault.{ValueFault}
 use Rattle.bac_text.specs.declared.value_words.ValueFault.TheVariants.{Bad, TooLong}
 use Rattle.bac_text.specs.Words.{◌>>=◌, number_up_to}
@@ -97,5 +98,5 @@ at_most fault most octets = if nat_le (length octets) most then Ok octets else E
 
 -- Octets and, behind them, the shortest spelling of the value that a pair writes, where a frame has room for both.
 abbrev pub appended : List ℕ → Option Datum → Result (List ℕ) ValueFault
-appended octets (Some value) = at_most TooLong 1497 (octets ++ plain value)
+appended octets (Some value) = at_most TooLong frame_room (octets ++ plain value)
 appended octets None = Err Bad

@@ -1,10 +1,11 @@
 -- The words of a line, and what they write: numbers and octets.
-use Rattle.std.specs.Prelude.{ℕ, Bool, ◌&&◌, ◌||◌, ◌==◌, nat_lt, nat_le, List, [], ◌∷◌, length, filter, Option, Some, None, option_map, if◌then◌else◌}
+use Rattle.std.specs.Prelude.{◌≡◌, ℕ, Bool, ◌&&◌, ◌||◌, ◌==◌, nat_lt, nat_le, List, [], ◌∷◌, length, filter, Option, Some, None, option_map, if◌then◌else◌}
 use Rattle.std.specs.Str.{all_ascii_digits}
 use Rattle.std.specs.Str.Parse.{digits_value}
 use Rattle.std.specs.List.{slice_split}
 use Rattle.std.specs.Result.{result_ok, result_unwrap_or}
 use Rattle.hex.specs.Hex.{decode_of}
+use Rattle.bac_text.specs.Limits.{longest_line}
 
 -- One reading after another.
 infixl 10 ◌>>=◌
@@ -29,14 +30,24 @@ number_up_to most word =
     if is_not_empty word && (all_ascii_digits word && nat_le (digits_value 10 word) most)
     then Some (digits_value 10 word) else None
 
+-- A number, where it is at most this.
+abbrev pub up_to : ℕ → ℕ → Option ℕ
+up_to most number = if nat_le number most then Some number else None
+
+-- The first word writes the number, and the others follow it.
+pub record IsFirstNumber (text : List ℕ) (number : ℕ) (rest : List ℕ) : Type 0 where
+  pub word : List ℕ
+  pub first : words_of text ≡ word ∷ words_of rest
+  pub value : (most : ℕ) → number_up_to most word ≡ up_to most number
+
 -- The octets that hexadecimal digits write.
 abbrev pub octets_in : List ℕ → List ℕ
 octets_in digits = result_unwrap_or (decode_of digits) []
 
--- The octets that a word writes, as a positive even number of hexadecimal digits of either case. A line has at most
--- 4,096 octets, so no word of a line is longer.
+-- The octets that a word writes, as a positive even number of hexadecimal digits of either case. No word of
+-- a line is longer than the longest line.
 abbrev pub octets_of : List ℕ → Option (List ℕ)
-octets_of word = if is_not_empty word && nat_le (length word) 4096 then result_ok (decode_of word) else None
+octets_of word = if is_not_empty word && nat_le (length word) longest_line then result_ok (decode_of word) else None
 
 -- The first word, read so, and the words after it.
 abbrev pub next_as : {A : Type 0} → (List ℕ → Option A) → List (List ℕ) → Option (A × List (List ℕ))

@@ -2,6 +2,7 @@
 ghost use Rattle.std.specs.Prelude.{◌≡◌, ◌≤◌, length, IfSome, IfOk, MatchResult, Ok, Err};
 ghost use Rattle.bac_wire.specs.Identifier.{identifier};
 ghost use Rattle.bac_pdu.specs.Property.{IsPriority, reference, read_octets};
+ghost use Rattle.bac_text.specs.Limits.{longest_body};
 ghost use Rattle.bac_text.specs.Pairs.{body_of};
 
 use crate::pairs::{PairFault, read_pairs};
@@ -32,7 +33,7 @@ impl BodyRoom {
     /// The body of the ReadProperty request (clause 15.5). There is always room for it.
     pub fn read_body(&mut self, request: &ReadRequest) -> &[u8]
         ensures body { result.now ≡ read_octets (reference request.now) }
-        ensures short { length result.now ≤ LONGEST_BODY }
+        ensures short { length result.now ≤ longest_body }
     {
         self.body.clear();
         let _ = write_read(&mut self.body, request);
@@ -57,7 +58,7 @@ impl BodyRoom {
         ensures body { MatchResult result
             (λ body. body_of (identifier object) property index priority (S.left words.old) ≡ Ok body.now)
             (λ fault. body_of (identifier object) property index priority (S.left words.old) ≡ Err fault) }
-        ensures short { IfOk result (λ body. length body.now ≤ LONGEST_BODY) }
+        ensures short { IfOk result (λ body. length body.now ≤ longest_body) }
     {
         read_pairs(words, &mut self.values)?;
         let request = WriteRequest {

@@ -2,17 +2,19 @@
 ghost use Rattle.std.specs.Prelude.{◌≡◌, ◌+◌, ◌-◌, ◌^◌, ◌||◌, min, false, is_err};
 ghost use Rattle.std.specs.Io.{ReadsAtMost, WritesAtMost};
 ghost use Rattle.std.specs.Io.KnownBytes.{ReadConsumes, WriteAppends, Keeps};
-ghost use Rattle.bac_text.specs.Checked.{inner_of, has_failed, has_ended, reads_of, fresh, is_end, is_failed_write, Puts};
+ghost use Rattle.bac_text.specs.Checked.{inner_of, has_failed, has_ended, ends_of, reads_of, fresh, is_end, ends_with, is_failed_write, Puts};
 
 use std::io::{self, Read, Write};
 
-/// A reader or a writer that remembers whether it failed and whether its end was read, and counts its reads.
+/// A reader or a writer that remembers whether it failed and whether its end was read, and counts its reads and those of them
+/// that gave nothing.
 #[derive(Drop)]
 pub struct Checked<T> {
     inner: T,
     failed: bool,
     ended: bool,
-    reads: u32,
+    ends: u64,
+    reads: u64,
 }
 
 /// The writer failed, or took no octet.
@@ -28,6 +30,7 @@ impl<T> Checked<T> {
             inner,
             failed: false,
             ended: false,
+            ends: 0,
             reads: 0,
         }
     }
@@ -46,11 +49,18 @@ impl<T> Checked<T> {
         self.ended
     }
 
-    /// The reads so far. At `u32::MAX` they are spent.
-    pub fn reads(&self) -> u32
-        ensures { result ≡ reads_of self.now }
+    /// How many reads gave nothing, though there was room.
+    pub fn ends(&self) -> u64
+        ensures { result ≡ ends_of self.now }
     {
-        self.reads
+        self.ends
+    }
+
+    /// The reads so far, but no more than `u32::MAX`, where they are spent.
+    pub fn reads(&self) -> u32
+        ensures { result ≡ min (reads_of self.now) (2 ^ 32 - 1) }
+    {
+        self.reads.min(u64::from(u32::MAX)) as u32
     }
 }
 
@@ -62,16 +72,17 @@ impl<R: Read> Read for Checked<R> {
         ensures bytes { ReadConsumes (R.remaining (inner_of self.old)) (R.remaining (inner_of self.new)) result buf.new }
         ensures failed { has_failed self.new ≡ (has_failed self.old || is_err result) }
         ensures ended { has_ended self.new ≡ is_end result buf.new }
-        ensures reads { reads_of self.new ≡ min (reads_of self.old + 1) (2 ^ 32 - 1) }
+        ensures ends { ends_of self.new ≡ ends_with (ends_of self.old) (is_end result buf.new) }
+        ensures reads { reads_of self.new ≡ min (reads_of self.old + 1) (2 ^ 64 - 1) }
     {
         self.reads = self.reads.saturating_add(1);
         let outcome = self.inner.read(buf);
-        match outcome {
-            Ok(given) => self.ended = given == 0 && !buf.is_empty(),
-            Err(_) => {
-                self.ended = false;
-                self.failed = true;
-            }
+        self.ended = matches!(outcome, Ok(0)) && !buf.is_empty();
+        if self.ended {
+            self.ends = self.ends.saturating_add(1);
+        }
+        if outcome.is_err() {
+            self.failed = true;
         }
         outcome
     }

@@ -5,6 +5,8 @@ ghost use Rattle.std.specs.Char.{is_ascii_hexdigit};
 ghost use Rattle.hex.specs.Hex.{decode_of};
 ghost use Rattle.bac_text.specs.Words.{octets_of, octets_in};
 
+use crate::hex_lanes::octets_from;
+
 /// The octets of the longest line of a script, without its line feed.
 pub const LONGEST_LINE: usize = 4096;
 
@@ -27,8 +29,11 @@ pub fn read_datagram<'r>(word: &[u8], room: &'r mut [u8; LONGEST_DATAGRAM]) -> O
     if word.is_empty() || word.len() > LONGEST_LINE {
         return None;
     }
+    if word.len() % 2 == 1 {
+        return None;
+    }
     let octets = &mut room[..word.len() / 2];
-    hex::decode_to_slice(word, octets).ok()?;
+    octets_from(word, octets)?;
     Some(octets)
 }
 

@@ -1,6 +1,7 @@
 //! Numbers in decimal digits.
 ghost use Rattle.std.specs.Prelude.{◌≡◌, ◌-◌, ◌^◌, ◌≤◌, IfSome};
 ghost use Rattle.bac_text.specs.Words.{number_up_to};
+ghost use Rattle.bac_text.specs.Leading.{IsLeading};
 
 /// The number that a word of one or more decimal digits writes, if it is at most `most`.
 pub fn read_number(word: &[u8], most: u64) -> Option<u64>
@@ -30,4 +31,19 @@ fn plain_number(word: &[u8]) -> Option<u64>
             .checked_add(u64::from(*digit - b'0'))?;
     }
     Some(number)
+}
+
+// The number that the first digits write, but no more than so many of them, and how many these are.
+#[inline(always)]
+pub(crate) fn leading_number(text: &[u8], most: usize) -> (u32, usize)
+    requires { most ≤ 5 }
+    ensures { IsLeading text.now most result.0 result.1 }
+{
+    let mut number = 0;
+    let mut count = 0;
+    while count < most && count < text.len() && text[count].is_ascii_digit() {
+        number = number * 10 + u32::from(text[count] - b'0');
+        count += 1;
+    }
+    (number, count)
 }

@@ -1,18 +1,19 @@
 //! Text on its way to a writer.
-ghost use Rattle.std.specs.Prelude.{◌≡◌, ◌<◌, ◌≤◌, [], drop, length, decimal, is_err};
+ghost use Rattle.std.specs.Prelude.{◌≡◌, ◌+◌, ◌≤◌, [], ◌++◌, drop, length, decimal, is_err};
 ghost use Rattle.hex.specs.Hex.{encode_lower};
 ghost use Rattle.bac_text.specs.Checked.{has_failed};
 ghost use Rattle.bac_text.specs.Page.{held, writer_of, Writes, Prints};
 
 use crate::checked::{Checked, WriteFailed};
+use crate::hex_lanes::write_hex;
 use arrayvec::ArrayVec;
 use std::io::Write;
 
 /// The octets that a page holds before they go to the writer.
-const PAGE_ROOM: usize = 4_096;
+const PAGE_ROOM: usize = 16_384;
 
 /// The octets that are turned into hexadecimal at a time.
-const HEX_PART: usize = 64;
+const HEX_PART: usize = 32;
 
 /// The digits of the longest number.
 const LONGEST_NUMBER: usize = 20;
@@ -25,12 +26,15 @@ pub struct Page<'w, W> {
     held: ArrayVec<u8, PAGE_ROOM>,
 }
 
-// Writes the decimal digits of a number at the end of the room, and says where they begin.
-fn write_digits(number: u64, room: &mut [u8; LONGEST_NUMBER]) -> usize
-    ensures digits { drop result room.new ≡ decimal number }
-    ensures start { result < LONGEST_NUMBER }
+// Writes the decimal digits of a number before a place of the room, and says where they begin.
+pub(crate) fn write_digits(number: u64, room: &mut [u8], end: usize) -> usize
+    requires within { end ≤ length room.old }
+    requires fits { length (decimal number) ≤ end }
+    ensures digits { drop result room.new ≡ decimal number ++ drop end room.old }
+    ensures start { result + length (decimal number) ≡ end }
+    ensures size { length room.new ≡ length room.old }
 {
-    let mut start = LONGEST_NUMBER;
+    let mut start = end;
     let mut rest = number;
     while rest >= 10 {
         start -= 1;
@@ -113,6 +117,23 @@ impl<'w, W: Write> Page<'w, W> {
         ensures { Prints W.contents self.old self.new text.now }
     {
         self.turn_in();
+        self.hold_or_write(text);
+    }
+
+    // Holds the text, or writes it where no page has room for it.
+    fn hold_or_write(&mut self, text: &[u8])
+        ensures { Prints W.contents self.old self.new text.now }
+    {
+        if self.held.try_extend_from_slice(text).is_err() {
+            self.write_past(text);
+        }
+    }
+
+    // Writes the text behind what the page holds.
+    fn write_past(&mut self, text: &[u8])
+        ensures { Prints W.contents self.old self.new text.now }
+    {
+        self.turn_in();
         write_on(self.writer, text);
     }
 }
@@ -123,7 +144,7 @@ impl<W: Write> Page<'_, W> {
         ensures { Prints W.contents self.old self.new (decimal number) }
     {
         let mut room = [0; LONGEST_NUMBER];
-        let start = write_digits(number, &mut room);
+        let start = write_digits(number, &mut room, LONGEST_NUMBER);
         self.print(&room[start..]);
     }
 
@@ -145,7 +166,7 @@ impl<W: Write> Page<'_, W> {
     {
         let mut digits = [0; 2 * HEX_PART];
         let digits = &mut digits[..2 * octets.len()];
-        let _ = hex::encode_to_slice(octets, digits);
+        write_hex(octets, digits);
         self.print(digits);
     }
 }

@@ -1,11 +1,12 @@
 //! A peer as it is written.
-ghost use Rattle.std.specs.Prelude.{◌≡◌, ◌==◌, ◌≤◌, IfSome, option_map, position};
+ghost use Rattle.std.specs.Prelude.{◌≡◌, ◌≤◌, IfSome, option_map};
 ghost use Rattle.bac_pdu.specs.Peer.{station, network_address};
 ghost use Rattle.bac_text.specs.Words.{octets_in};
-ghost use Rattle.bac_text.specs.Address.{cut_at, short_number, address_of, routable, plain_peer_of, route_of, peer_of};
+ghost use Rattle.bac_text.specs.Address.{cut_at, short_number, number_before_dot, address_of, routable, plain_peer_of, route_of, peer_of};
 
 use crate::hex_digits::{HexDigits, read_hex};
-use crate::numbers::read_number;
+use crate::numbers::{leading_number, read_number};
+use crate::search::{End, place_of_end};
 use bac_pdu::{ADDRESS_OCTETS, Peer, Route};
 
 /// The port of BACnet/IP where none is written (Annex J.1.2).
@@ -59,13 +60,28 @@ pub fn plain_peer_in(text: &[u8]) -> Option<Peer>
 fn read_address(text: &[u8]) -> Option<u32>
     ensures { result ≡ address_of text.now }
 {
-    let (first, rest) = cut(text, b'.')?;
-    let high = short_number(first, 3, 255)?;
-    let (second, rest) = cut(rest, b'.')?;
-    let high = high * 256 + short_number(second, 3, 255)?;
-    let (third, fourth) = cut(rest, b'.')?;
-    let high = high * 256 + short_number(third, 3, 255)?;
+    let (first, rest) = number_before_dot(text)?;
+    let (second, rest) = number_before_dot(rest)?;
+    let high = first * 256 + second;
+    let (third, fourth) = number_before_dot(rest)?;
+    let high = high * 256 + third;
     Some(high * 256 + short_number(fourth, 3, 255)?)
+}
+
+// A number up to 255 before a dot, and what stands behind that.
+#[inline(always)]
+fn number_before_dot(text: &[u8]) -> Option<(u32, &[u8])>
+    ensures value { option_map (λ found. (found.0, found.1.now)) result ≡ number_before_dot text.now }
+    ensures limit { IfSome result (λ found. found.0 ≤ 255) }
+{
+    let (number, count) = leading_number(text, 3);
+    if count == 0 || number > 255 {
+        return None;
+    }
+    if count == text.len() || text[count] != b'.' {
+        return None;
+    }
+    Some((number, &text[count + 1..]))
 }
 
 fn read_route(text: &[u8]) -> Option<Route>
@@ -91,26 +107,21 @@ fn route_to(network: u16, address: HexDigits<'_>) -> Option<Route>
 
 // A number of at most so many digits, up to a limit.
 fn short_number(text: &[u8], digits: usize, limit: u32) -> Option<u32>
+    requires { digits ≤ 5 }
     ensures value { result ≡ short_number digits limit text.now }
     ensures limit { IfSome result (λ n. n ≤ limit) }
 {
-    if text.len() > digits {
+    let (number, count) = leading_number(text, digits);
+    if count == 0 || count < text.len() || number > limit {
         return None;
     }
-    let number = read_number(text, limit.into())?;
-    Some(number as u32)
+    Some(number)
 }
 
 /// What stands before and after the first such octet.
 pub(crate) fn cut(text: &[u8], octet: u8) -> Option<(&[u8], &[u8])>
     ensures { option_map (λ parts. (parts.0.now, parts.1.now)) result ≡ cut_at octet text.now }
 {
-    let place = place_of(text, octet)?;
+    let place = place_of_end(text, End::At(octet))?;
     Some((&text[..place], &text[place + 1..]))
-}
-
-fn place_of(text: &[u8], octet: u8) -> Option<usize>
-    ensures { result ≡ position (λ other. other == octet) text.now }
-{
-    text.iter().position(|other| *other == octet)
 }

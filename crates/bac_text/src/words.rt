@@ -1,7 +1,9 @@
 //! Words that are taken one after another.
-ghost use Rattle.std.specs.Prelude.{◌≡◌, ◌<◌, ◌^◌, ℕ, List, [], ◌∷◌, length, not, position, MatchOption};
-ghost use Rattle.bac_text.specs.Words.{is_blank, words_of};
+ghost use Rattle.std.specs.Prelude.{◌≡◌, ◌<◌, ◌≤◌, ◌^◌, ℕ, List, [], ◌∷◌, length, not, position, None, Some, IfSome, MatchOption};
+ghost use Rattle.bac_text.specs.Words.{is_blank, words_of, number_up_to, next_as, IsFirstNumber};
 
+use crate::numbers::{leading_number, read_number};
+use crate::search::{End, place_of_end};
 use std::marker::Model;
 
 /// Words that are taken one after another.
@@ -41,6 +43,24 @@ impl<'a> Words<'a> {
         Words { rest: text }
     }
 
+    /// Takes the next word and reads it as a number, if it is one of decimal digits and at most `most`.
+    pub fn next_number(&mut self, most: u64) -> Option<u64>
+        ensures value { MatchOption result (next_as (number_up_to most) self.old ≡ None)
+            (λ number. next_as (number_up_to most) self.old ≡ Some (number, self.new)) }
+        ensures most { IfSome result (λ number. number ≤ most) }
+    {
+        if let Some((number, rest)) = first_number(self.rest) {
+            self.rest = rest;
+            return if u64::from(number) > most {
+                None
+            } else {
+                Some(u64::from(number))
+            };
+        }
+        let word = self.next_word()?;
+        read_number(word, most)
+    }
+
     /// The same words, to be taken a second time.
     pub fn again(&self) -> Self
         ensures { result ≡ self.now }
@@ -78,8 +98,22 @@ fn first_word(text: &[u8]) -> Option<(&[u8], &[u8])>
 {
     let start = word_start(text)?;
     let text = &text[start..];
-    let end = word_end(text).unwrap_or(text.len());
+    let end = place_of_end(text, End::Blank).unwrap_or(text.len());
     Some(text.split_at(end))
+}
+
+// The number that the first word writes, where it has at most five digits, and what follows it.
+#[inline(always)]
+fn first_number(text: &[u8]) -> Option<(u32, &[u8])>
+    ensures { IfSome result (λ found. IsFirstNumber text.now found.0 found.1.now) }
+{
+    let start = word_start(text)?;
+    let text = &text[start..];
+    let (number, count) = leading_number(text, 5);
+    if count == 0 || count < text.len() && !is_blank(text[count]) {
+        return None;
+    }
+    Some((number, &text[count..]))
 }
 
 fn word_start(text: &[u8]) -> Option<usize>
@@ -88,13 +122,7 @@ fn word_start(text: &[u8]) -> Option<usize>
     text.iter().position(|octet| !is_blank(*octet))
 }
 
-fn word_end(text: &[u8]) -> Option<usize>
-    ensures { result ≡ position is_blank text.now }
-{
-    text.iter().position(|octet| is_blank(*octet))
-}
-
-fn is_blank(octet: u8) -> bool
+pub(crate) fn is_blank(octet: u8) -> bool
     ensures { result ≡ is_blank octet }
 {
     octet == b' ' || octet == b'\t'

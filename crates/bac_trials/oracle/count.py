@@ -90,24 +90,15 @@ def region(octets):
 
 
 def tally(parts):
-    counts = dict.fromkeys(["parts", "tags", "numbers", "counts", "tag_octets", "values", "value_octets", "regions", "region_octets"], 0)
+    """How many parts there are; their tags, with the sums of numbers, counts and octets; their values and regions, with their octets."""
+    sums = [0] * 9
     for part in parts:
-        counts["parts"] += 1
-        found = tag(part)
-        if found:
-            counts["tags"] += 1
-            counts["numbers"] += found[0]
-            counts["counts"] += found[2]
-            counts["tag_octets"] += found[3]
-        size = value(part)
-        if size is not None:
-            counts["values"] += 1
-            counts["value_octets"] += size
-        size = region(part)
-        if size is not None:
-            counts["regions"] += 1
-            counts["region_octets"] += size
-    return counts
+        found, size, end = tag(part), value(part), region(part)
+        tags = (1, found[0], found[2], found[3]) if found else (0, 0, 0, 0)
+        values = (0, 0) if size is None else (1, size)
+        regions = (0, 0) if end is None else (1, end)
+        sums = [have + more for have, more in zip(sums, (1, *tags, *values, *regions))]
+    return sums
 
 
 def prefixes(datagrams):
@@ -128,9 +119,7 @@ def changes(datagrams):
 
 def main():
     text = pathlib.Path("src/tests/datagrams.rt").read_text()
-    # a datagram of a list by itself, one beside what it does, and one of a row with names
-    found = re.findall(r'^    "([0-9a-f]+)",$|\(\s*"([0-9a-f]+)",\s*"|datagram: "([0-9a-f]+)"', text, re.MULTILINE)
-    datagrams = [bytes.fromhex("".join(one)) for one in found]
+    datagrams = [bytes.fromhex(found) for found in re.findall(r"\b81[0-9a-f]+", text)]
     print(len(datagrams), "datagrams")
     print("prefixes", tally(prefixes(datagrams)))
     print("changes", tally(changes(datagrams)))

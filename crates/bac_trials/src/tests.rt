@@ -1,4 +1,5 @@
-//! Worked rows of each crate, and hostile octets through the reader of datagrams, the client and the device.
+//! Worked rows of each crate that only a call can say, and hostile octets through the reader of datagrams, the client and the device.
+//! What scripts can say stands in tests/rows.
 
 mod client;
 mod damage;
@@ -6,7 +7,6 @@ mod datagrams;
 mod device;
 mod pdu;
 mod reading;
-mod whole;
 mod wire;
 
 use bac_device::{Device, DeviceInfo, demo};

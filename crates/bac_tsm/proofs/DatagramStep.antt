@@ -1,18 +1,15 @@
 -- What a datagram answers and leaves.
-use Rattle.std.proofs.Common.{◌≡◌, ℕ, suc, ◌≤◌, List, [], ◌∷◌, length, map, Option, Some, None, Bool, not, if◌then◌else◌, refl, subst, sym, ap, ◌∙◌, inl, inr, arith}
+use Rattle.std.proofs.Common.{◌≡◌, ℕ, ◌≤◌, List, [], ◌∷◌, length, map, Option, Some, None, Bool, not, if◌then◌else◌, refl, subst, sym, ap, ◌∙◌, arith}
 use Rattle.std.specs.List.{filter, slice_get}
 use Rattle.std.specs.Option.{option_map, option_to_list}
-use Rattle.std.proofs.lemmas.Bool.{cases_Bool}
 use Rattle.std.proofs.lemmas.List.{nil_from_length}
 use Rattle.bac_tsm.specs.Events.{Request, Outcome}
 use Rattle.bac_pdu.specs.Peer.{Station}
 use Rattle.bac_tsm.specs.Machine.{Waiting, Delivered, deliver, datagram}
-use Rattle.bac_tsm.specs.Answers.{Answer, answer_in, outcome_of, is_answer_to}
+use Rattle.bac_tsm.specs.Answers.{Answer, answer_in_datagram, outcome_of, is_answer_to}
 use Rattle.bac_tsm.specs.Client.{Client, rules_of, keeping}
-use Rattle.bac_tsm.specs.ByKey.{by_key}
-use Rattle.bac_tsm.specs.Table.{ticket_in, IsOrderly}
-use Rattle.bac_tsm.proofs.ByKey.{AllBelow, below-filter, head_below, by_key-nil, by_key_one, filter-by_key}
-use Rattle.bac_tsm.proofs.ClientSeen.{seen_as}
+use Rattle.bac_tsm.specs.Waiting.{ticket_in}
+use Rattle.bac_tsm.proofs.TickStep.{seen_as}
 
 -- The ticket of a request, with an outcome.
 abbrev ended_with : Outcome → Waiting → ℕ × Outcome
@@ -22,14 +19,7 @@ module _ (p : Request → Bool) (o : Outcome) (f : Request → Option Outcome) (
   delivers_none : (ws : List Waiting) → filter (λ w. p w.request) ws ≡ [] →
       (deliver f ws ≡ record { answer = None; waiting = ws }) × (filter (λ w. not (p w.request)) ws ≡ ws)
   delivers_none [] h = (refl, refl)
-  delivers_none (w ∷ ws) h = elim (cases_Bool (p w.request)) [
-    | inl t ↦ absurd (let some : w ∷ filter (λ w. p w.request) ws ≡ [] = rw t at h in cc)
-    | inr e ↦
-        let rest = delivers_none ws (rw e at h) in
-        let none : f w.request ≡ None = same w.request ∙ rw e refl in
-        rw (none, e)
-        (ap (λ (later : Delivered). record { answer = later.answer; waiting = w ∷ later.waiting }) rest.0, ap (◌∷◌ w) rest.1)
-  ]
+  delivers_none (w ∷ ws) h = grind (arith, delivers_none ws, same w.request, h)
 
   -- Where at most one open request passes, it is done and the others stay.
   delivers_one : (ws : List Waiting) → length (filter (λ w. p w.request) ws) ≤ 1 →
@@ -38,16 +28,7 @@ module _ (p : Request → Bool) (o : Outcome) (f : Request → Option Outcome) (
         waiting = filter (λ w. not (p w.request)) ws;
       }
   delivers_one [] h = refl
-  delivers_one (w ∷ ws) h = elim (cases_Bool (p w.request)) [
-    | inl t ↦
-        let few : suc (length (filter (λ w. p w.request) ws)) ≤ 1 = rw t at h in
-        let rest = delivers_none ws (nil_from_length _ (omega arith)) in
-        let some : f w.request ≡ Some o = same w.request ∙ rw t refl in
-        rw (some, t) (ap (λ (left : List Waiting). record { answer = Some (w.request.ticket, o); waiting = left }) (sym rest.1))
-    | inr e ↦
-        let none : f w.request ≡ None = same w.request ∙ rw e refl in
-        rw (none, e) (ap (λ (later : Delivered). record { answer = later.answer; waiting = w ∷ later.waiting }) (delivers_one ws (rw e at h)))
-  ]
+  delivers_one (w ∷ ws) h = grind (arith, delivers_one ws, delivers_none ws, same w.request, nil_from_length (filter (λ w. p w.request) ws), h)
 
 -- A datagram that carries no answer changes nothing.
 delivers_nothing : (f : Request → Option Outcome) → ((r : Request) → f r ≡ None) → (ws : List Waiting) →
@@ -78,40 +59,33 @@ delivers_by : (client : Client) (peer : Station) (bytes : List ℕ) (answer : Op
 delivers_by client peer bytes answer waiting e =
     (sym (ap (λ (d : Delivered). d.answer) e), ap (with_waiting client) (sym (ap (λ (d : Delivered). d.waiting) e)))
 
-pub no_answer : (client : Client) (peer : Station) (bytes : List ℕ) → answer_in peer bytes ≡ None → Delivers client peer bytes None client
+pub no_answer : (client : Client) (peer : Station) (bytes : List ℕ) → answer_in_datagram peer bytes ≡ None → Delivers client peer bytes None client
 no_answer client peer bytes e =
     delivers_by client peer bytes None client.state.waiting (delivers_nothing _ (λ r. rw e refl) client.state.waiting)
 
--- At most one request, by ticket.
-by_ticket_of_few : (next : ℕ) (ws : List Waiting) → AllBelow ticket_in next ws → (ended : Option ℕ) →
-    option_to_list ended ≡ map ticket_in ws → (outcome : Outcome) →
-    (length (by_key ticket_in next ws) ≤ 1)
-    × (option_map (ended_with outcome) (slice_get (by_key ticket_in next ws) 0) ≡ option_map (λ t. (t, outcome)) ended)
-by_ticket_of_few next [] below None told outcome = rw by_key-nil (omega arith, refl)
-by_ticket_of_few next [] below (Some t) told outcome = absurd (let e : t ∷ [] ≡ [] = told in cc)
-by_ticket_of_few next (w ∷ ws) below None told outcome = absurd (let e : [] ≡ w.request.ticket ∷ map ticket_in ws = told in cc)
-by_ticket_of_few next (w ∷ v ∷ ws) below (Some t) told outcome =
+-- At most one request, by its ticket.
+few_of_one : (ws : List Waiting) → (ended : Option ℕ) → option_to_list ended ≡ map ticket_in ws → (outcome : Outcome) →
+    (length ws ≤ 1) × (option_map (ended_with outcome) (slice_get ws 0) ≡ option_map (λ t. (t, outcome)) ended)
+few_of_one [] None told outcome = (omega arith, refl)
+few_of_one [] (Some t) told outcome = absurd (let e : t ∷ [] ≡ [] = told in cc)
+few_of_one (w ∷ ws) None told outcome = absurd (let e : [] ≡ w.request.ticket ∷ map ticket_in ws = told in cc)
+few_of_one (w ∷ v ∷ ws) (Some t) told outcome =
     absurd (let e : t ∷ [] ≡ w.request.ticket ∷ v.request.ticket ∷ map ticket_in ws = told in let f = ap length e in omega arith)
-by_ticket_of_few next (w ∷ []) below (Some t) told outcome =
+few_of_one (w ∷ []) (Some t) told outcome =
     let e : t ∷ [] ≡ w.request.ticket ∷ [] = told in
     let is : t ≡ w.request.ticket = cc in
-    rw (by_key_one ticket_in next w (head_below ticket_in next w [] below)) (omega arith, ap (λ (k : ℕ). Some (k, outcome)) (sym is))
+    (omega arith, ap (λ (k : ℕ). Some (k, outcome)) (sym is))
 
-module _ (timeout retries clock last next : ℕ) (ws : List Waiting) (o : IsOrderly clock next ws) (peer : Station) (bytes : List ℕ)
-    (answer : Answer) (carried : answer_in peer bytes ≡ Some answer) where
+module _ (timeout retries clock last next : ℕ) (ws : List Waiting) (peer : Station) (bytes : List ℕ)
+    (answer : Answer) (carried : answer_in_datagram peer bytes ≡ Some answer) where
   pub closed : (client : Client) → seen_as timeout retries clock last next ws ≡ client → (ended : Option ℕ) (after : List Waiting) →
       option_to_list ended ≡ map ticket_in (filter (λ w. is_answer_to w.request answer) ws) →
       after ≡ filter (λ w. not (is_answer_to w.request answer)) ws →
       Delivers client peer bytes (option_map (λ t. (t, answer.outcome)) ended) (seen_as timeout retries clock last next after)
   closed client same ended after told left =
       let p = λ (w : Waiting). is_answer_to w.request answer in
-      let passed = filter-by_key ticket_in p next ws in
-      let few =
-      by_ticket_of_few next (filter p ws) (below-filter ticket_in next p ws o.below) ended told answer.outcome in
+      let few = few_of_one (filter p ws) ended told answer.outcome in
       subst (λ (old : Client). Delivers old peer bytes (option_map (λ t. (t, answer.outcome)) ended) (seen_as timeout retries clock last next after)) same
       (delivers_by (seen_as timeout retries clock last next ws) peer bytes _ _
-      (delivers_one (λ r. is_answer_to r answer) answer.outcome _ (λ r. rw carried refl) (by_key ticket_in next ws) (rw passed few.0)
-      ∙ (λ i. record {
-        answer = (ap (λ (vs : List Waiting). option_map (ended_with answer.outcome) (slice_get vs 0)) passed ∙ few.1) i;
-        waiting = (filter-by_key ticket_in (λ w. not (p w)) next ws ∙ ap (by_key ticket_in next) (sym left)) i;
-      })))
+      (delivers_one (λ r. is_answer_to r answer) answer.outcome _ (λ r. rw carried refl) ws few.0
+      ∙ (λ i. record { answer = few.1 i; waiting = sym left i })))

@@ -1,31 +1,31 @@
 mod AnswersByNumber
 mod AnswersInWords
-mod ByKey
 mod CallNotes
-mod ClientSeen
 mod DatagramStep
 mod FirstAfter
 mod Followed
 mod FreeNumber
 mod Held
-mod InTurn
 pub mod Laws
 mod LookaheadSteps
 mod LookingBack
 mod NumberCycle
 mod NumberReuse
 mod OpenRequests
-mod Orderly
+mod PassDue
 mod Placed
+pub mod Progress
 mod RequestLife
-mod RequestRoom
 mod Runs
 mod SameStation
-mod SortedByKey
+mod SendQueue
+mod SortedEntries
 mod SubmitStep
 mod TableEdits
 mod TableReads
 mod TickStep
+mod TableTick
+mod Times
 mod Turns
 mod Watches
 mod WholeRun

@@ -1,31 +1,27 @@
 -- The table of open requests through each edit.
-use Rattle.std.proofs.Common.{◌≡◌, ℕ, ◌+◌, ◌<◌, ◌≤◌, List, [], ◌∷◌, ◌++◌, length, take, drop, set, get_or, replicate, Option, Some, None, nat_eq, refl, ap, ap₂, sym, subst, ◌∙◌, inl, inr, arith}
+use Rattle.std.proofs.Common.{◌≡◌, ℕ, zero, suc, ◌+◌, ◌<◌, ◌≤◌, List, [], ◌∷◌, ◌++◌, length, map, take, set, get_or, replicate, Option, Some, None, All, refl, ap, sym, subst, ◌∙◌, inl, inr, arith}
 use Rattle.std.specs.Prelude.{remove}
-use Rattle.std.proofs.lemmas.Bool.{cases_Bool, cases_eq}
+use Rattle.std.proofs.lemmas.Bool.{cases_eq}
 use Rattle.std.proofs.lemmas.List.{length-append, length-replicate, get_or-replicate, length-map, length-set, map-append, get_or-set_same, get_or-set_other, get_or_default}
 use Rattle.std.proofs.lemmas.List.Edits.{length-remove}
-use Rattle.bac_tsm.specs.declared.limits.TheConstants.{PLACES}
+use Rattle.std.proofs.lemmas.List.Quantifiers.{all_pairs_push, all_pairs_remove}
+use Rattle.std.proofs.lemmas.Grind.{take_at_read}
+use Rattle.std.proofs.lemmas.Bool.Decides.{nat_tests}
+use Rattle.bac_tsm.specs.Limits.{table_size}
+use Rattle.bac_tsm.specs.declared.request.Asked.{Asked}
 use Rattle.bac_tsm.specs.Events.{Request}
 use Rattle.bac_tsm.specs.Machine.{Waiting}
-use Rattle.bac_tsm.specs.ByKey.{times}
-use Rattle.bac_tsm.specs.Table.{number_in, nothing, held_at, number_at, times_at, IsSplit, Names, AreNamed, IsTable}
-use Rattle.bac_tsm.proofs.ByKey.{times-append, times_one, times_other, times_of_one, times-remove, times-set}
-use Rattle.bac_tsm.proofs.Held.{itself, held_elsewhere, held-set, held-remove, held-rotate, held_got, order_turn, same_turn, length-rotate, times-rotate}
-use Rattle.bac_tsm.proofs.TableReads.{place_within, read_listed, read_held}
-
--- Where no place comes or goes, each is open or free as before.
-split_as : {order free opened freed : List ℕ} → IsSplit order free → length opened + length freed ≡ length order + length free →
-    ((place : ℕ) → times_at place opened + times_at place freed ≡ times_at place order + times_at place free) → IsSplit opened freed
-split_as s long same = record {
-  whole = long ∙ s.whole;
-  within = λ place le. same place ∙ s.within place le;
-  once = λ place. let e = same place in let f = s.once place in omega arith;
-}
+use Rattle.bac_tsm.specs.Table.{times, held_at, number_at, times_of_place, open_places, waiting_in, Names, AreNamed, IsTable, AreBySend, IsTakenOut}
+use Rattle.bac_tsm.specs.Waiting.{ticket_in, number_in, nothing, begun}
+use Rattle.bac_tsm.proofs.SendQueue.{all_sent, queue-push, queue-remove}
+use Rattle.bac_tsm.proofs.Times.{times-append, times_one, times_other, times_of_one, times-remove, times-set, times_got}
+use Rattle.bac_tsm.proofs.Held.{itself, held-set, held-push, map-remove, held_got, same_turn}
+use Rattle.bac_tsm.proofs.TableReads.{times_split, few, read_listed, read_held, count, turn_opened, here, ticket_got}
 
 -- An entry says what it said where as many requests have the number, and the place that it names still holds one.
 names_as : (places : List Waiting) (order : List ℕ) (changed : List Waiting) (after : List ℕ) (number : ℕ) (entry : Option ℕ) →
     times number_in number (held_at changed after) ≡ times number_in number (held_at places order) →
-    ((place : ℕ) → 0 < times_at place order → number_at places place ≡ number → (0 < times_at place after) × (number_at changed place ≡ number)) →
+    ((place : ℕ) → 0 < times_of_place place order → number_at places place ≡ number → (0 < times_of_place place after) × (number_at changed place ≡ number)) →
     Names places order number entry → Names changed after number entry
 names_as places order changed after number None same still none = same ∙ none
 names_as places order changed after number (Some place) same still some = still place some.0 some.1
@@ -34,8 +30,8 @@ names_as places order changed after number (Some place) same still some = still 
 named_set : (places : List Waiting) (numbers : List (Option ℕ)) (order : List ℕ) (changed : List Waiting) (after : List ℕ) (index : ℕ) (entry : Option ℕ) →
     AreNamed places numbers order → Names changed after index entry → times number_in index (held_at changed after) ≤ 1 →
     ((number : ℕ) → (number ≡ index → ⊥) → times number_in number (held_at changed after) ≡ times number_in number (held_at places order)) →
-    ((number place : ℕ) → (number ≡ index → ⊥) → 0 < times_at place order → number_at places place ≡ number →
-    (0 < times_at place after) × (number_at changed place ≡ number)) →
+    ((number place : ℕ) → (number ≡ index → ⊥) → 0 < times_of_place place order → number_at places place ≡ number →
+    (0 < times_of_place place after) × (number_at changed place ≡ number)) →
     AreNamed changed (set numbers index entry) after
 named_set places numbers order changed after index entry a here few same still = record {
   all_numbers = length-set numbers index entry ∙ a.all_numbers;
@@ -55,218 +51,283 @@ named_set places numbers order changed after index entry a here few same still =
 }
 
 times_alike : (number : ℕ) (v w : Waiting) → v.request.number ≡ w.request.number → times number_in number (v ∷ []) ≡ times number_in number (w ∷ [])
-times_alike number v w e = elim (cases_Bool (nat_eq w.request.number number)) [
-  | inl y ↦ rw (e, y) refl
-  | inr n ↦ rw (e, n) refl
-]
+times_alike number v w e = grind (arith, nat_tests, e)
 
-module _ {places : List Waiting} {numbers : List (Option ℕ)} {order free : List ℕ} (t : IsTable places numbers order free) where
-  rotated : (k : ℕ) → IsTable places numbers (drop k order ++ take k order) free
-  rotated k = record {
-    all_places = t.all_places;
-    split = split_as t.split (ap (λ (n : ℕ). n + length free) (length-rotate k order)) (λ place. ap (λ (n : ℕ). n + times_at place free) (times-rotate itself place k order));
-    numbered = record {
-      all_numbers = t.numbered.all_numbers;
-      apart = λ number. let e = held number in let f = t.numbered.apart number in omega arith;
-      named = λ number below.
-          names_as places order places (drop k order ++ take k order) number (get_or numbers number None) (held number)
-          (λ place some is. (let e = times-rotate itself place k order in omega arith, is)) (t.numbered.named number below);
-    };
-  }
-    where
-      held : (number : ℕ) → times number_in number (held_at places (drop k order ++ take k order)) ≡ times number_in number (held_at places order)
-      held number = ap (times number_in number) (held-rotate places order k) ∙ times-rotate number_in number k (held_at places order)
+-- A change that keeps what is read of an element keeps it of all.
+map-set : {A B : Type 0} (f : A → B) (xs : List A) (i : ℕ) (y d : A) → f y ≡ f (get_or xs i d) → map f (set xs i y) ≡ map f xs
+map-set f [] i y d e = refl
+map-set f (x ∷ xs) zero y d e = ap (λ b. b ∷ map f xs) e
+map-set f (x ∷ xs) (suc i) y d e = ap (◌∷◌ (f x)) (map-set f xs i y d e)
 
-  -- The request at an open place changes, and not its number.
-  module _ (i place : ℕ) (lt : i < length order) (is : get_or order i 0 ≡ place) (there : place < length places) (w : Waiting)
-      (same : w.request.number ≡ number_at places place) where
-    changed_view : held_at (set places place w) order ≡ set (held_at places order) i w
-    changed_view = held-set places place w order i there lt is (let e = t.split.once place in omega arith)
+-- One is taken out among the first ones, and another put behind all.
+take_removed : (xs ys : List ℕ) (i n : ℕ) → i ≤ n → suc n ≤ length xs → take n (remove xs i ++ ys) ≡ remove (take (suc n) xs) i
+take_removed [] ys i n le lt = absurd (omega arith)
+take_removed (x ∷ xs) ys zero n le lt = take_front n xs ys (omega arith)
+  where
+    take_front : (n : ℕ) (xs ys : List ℕ) → n ≤ length xs → take n (xs ++ ys) ≡ take n xs
+    take_front zero xs ys le = refl
+    take_front (suc n) [] ys le = absurd (omega arith)
+    take_front (suc n) (x ∷ xs) ys le = ap (◌∷◌ x) (take_front n xs ys (omega arith))
+take_removed (x ∷ xs) ys (suc i) zero le lt = absurd (omega arith)
+take_removed (x ∷ xs) ys (suc i) (suc n) le lt = ap (◌∷◌ x) (take_removed xs ys i n (omega arith) (omega arith))
 
-    changed : IsTable (set places place w) numbers order free
-    changed = record {
+module _ {places : List Waiting} {numbers : List (Option ℕ)} {order tickets : List ℕ} (t : IsTable places numbers order tickets)
+    (ws : List Waiting) (view : waiting_in places order tickets ≡ ws) where
+  abbrev opens : List ℕ
+  opens = open_places order tickets
+
+  -- The request at this turn changes, and not what it asks.
+  pub changed_by : (i : ℕ) → i < length ws → (items : List ℕ) (place : ℕ) → items ≡ order → place ≡ get_or items i 0 → (v w : Waiting) →
+      w.request ≡ (get_or places place v).request →
+      (waiting_in (set places place w) order tickets ≡ set ws i w) × (get_or places place v ≡ get_or ws i nothing) × IsTable (set places place w) numbers order tickets
+  changed_by i lt items place are is v w same = (
+    changed_view ∙ ap (λ (vs : List Waiting). set vs i w) view,
+    read,
+    record {
       all_places = length-set places place w ∙ t.all_places;
-      split = t.split;
+      all_turns = t.all_turns;
+      within = t.within;
+      once = t.once;
       numbered = record {
         all_numbers = t.numbered.all_numbers;
         apart = λ number. let e = still number in let f = t.numbered.apart number in omega arith;
         named = λ number below.
-            names_as places order (set places place w) order number (get_or numbers number None) (still number)
+            names_as places opens (set places place w) opens number (get_or numbers number None) (still number)
             (λ other some has. (some, number_still other ∙ has)) (t.numbered.named number below);
       };
-    }
-      where
-        still : (number : ℕ) → times number_in number (held_at (set places place w) order) ≡ times number_in number (held_at places order)
-        still number =
-            let e = ap (times number_in number) changed_view in
-            let f = times-set number_in number (held_at places order) i w nothing (rw length-map lt) in
-            let g = times_alike number (get_or (held_at places order) i nothing) w (ap number_in (held_got places order i place lt is) ∙ sym same) in
-            omega arith
-
-        number_still : (other : ℕ) → number_at (set places place w) other ≡ number_at places other
-        number_still other = elim (cases_eq other place) [
-          | inl e ↦
-              subst (λ (k : ℕ). number_at (set places place w) k ≡ number_at places k) (sym e)
-              (ap number_in (get_or-set_same places place w nothing there) ∙ same)
-          | inr e ↦ ap number_in (get_or-set_other places place other w nothing e)
-        ]
-
-  -- A free place is opened, under a number that no open request has.
-  module _ (rest : List ℕ) (place : ℕ) (w : Waiting) (is : free ≡ rest ++ place ∷ [])
-      (unused : times number_in w.request.number (held_at places order) ≡ 0) where
-    sum : (q : ℕ) → times_at q free ≡ times_at q rest + times_at q (place ∷ [])
-    sum q = ap (times_at q) is ∙ times-append itself q rest (place ∷ [])
-
-    closed : times_at place order ≡ 0
-    closed = let e = sum place in let one = times_one itself place place refl in let once = t.split.once place in omega arith
-
-    there : place < length places
-    there =
-        let e = sum place in
-        let one = times_one itself place place refl in
-        let lt = place_within t place (omega arith) in
-        let all = t.all_places in
-        omega arith
-
-    opened_view : held_at (set places place w) (order ++ place ∷ []) ≡ held_at places order ++ w ∷ []
-    opened_view =
-        map-append (λ q. get_or (set places place w) q nothing) order (place ∷ [])
-        ∙ ap₂ ◌++◌ (held_elsewhere places place w order closed) (ap (λ (v : Waiting). v ∷ []) (get_or-set_same places place w nothing there))
-
-    opened : IsTable (set places place w) (set numbers w.request.number (Some place)) (order ++ place ∷ []) rest
-    opened = record {
-      all_places = length-set places place w ∙ t.all_places;
-      split =
-          split_as t.split
-          (let e = length-append order (place ∷ []) in let f = ap length is ∙ length-append rest (place ∷ []) in omega arith)
-          (λ q. let e = times-append itself q order (place ∷ []) in let f = sum q in omega arith);
-      numbered =
-          named_set places numbers order (set places place w) (order ++ place ∷ []) w.request.number (Some place) t.numbered
-          (more place (let one = times_one itself place place refl in omega arith), ap number_in (get_or-set_same places place w nothing there))
-          (let e = held w.request.number in let f = times_of_one number_in w.request.number w in omega arith)
-          (λ number other. let e = held number in let f = times_other number_in number w (λ q. other (sym q)) in omega arith)
-          (λ number q other some has. (more q (omega arith), ap number_in (get_or-set_other places place q w nothing (elsewhere q some)) ∙ has));
-    }
-      where
-        held : (number : ℕ) → times number_in number (held_at (set places place w) (order ++ place ∷ []))
-            ≡ times number_in number (held_at places order) + times number_in number (w ∷ [])
-        held number = ap (times number_in number) opened_view ∙ times-append number_in number (held_at places order) (w ∷ [])
-
-        more : (q : ℕ) → 0 < times_at q order + times_at q (place ∷ []) → 0 < times_at q (order ++ place ∷ [])
-        more q some = let e = times-append itself q order (place ∷ []) in omega arith
-
-        elsewhere : (q : ℕ) → 0 < times_at q order → q ≡ place → ⊥
-        elsewhere q some e = let none : times_at q order ≡ 0 = subst (λ (k : ℕ). times_at k order ≡ 0) (sym e) closed in absurd (omega arith)
-
-  -- The request at a turn ends.
-  ended : (i place number : ℕ) → i < length order → get_or order i 0 ≡ place → number ≡ number_at places place →
-      IsTable places (set numbers number None) (remove order i) (free ++ place ∷ [])
-  ended i place number lt is has = record {
-    all_places = t.all_places;
-    split =
-        split_as t.split (let e = length-append free (place ∷ []) in let f = length-remove order i lt in omega arith)
-        (λ q. let e = times-append itself q free (place ∷ []) in let f = moved q in omega arith);
-    numbered =
-        named_set places numbers order places (remove order i) number None t.numbered
-        (let e = left number in let one = times_one number_in number (get_or places place nothing) (sym has) in let few = t.numbered.apart number in omega arith)
-        (let e = left number in let few = t.numbered.apart number in omega arith)
-        (λ n other. let e = left n in let none = times_other number_in n (get_or places place nothing) (λ q. other (sym q ∙ sym has)) in omega arith)
-        (λ n q other some its.
-        (let e = moved q in let none = times_other itself q place (λ k. other (sym its ∙ ap (number_at places) (sym k) ∙ sym has)) in omega arith, its));
-  }
+      ticketed = ap (map ticket_in) changed_view ∙ map-set ticket_in (held_at places opens) i w nothing (ap (λ (r : Request). r.ticket) (same ∙ ap (λ (u : Waiting). u.request) was)) ∙ t.ticketed;
+      rise = t.rise;
+    },
+  )
     where
-      moved : (q : ℕ) → times_at q (remove order i) + times_at q (place ∷ []) ≡ times_at q order
-      moved q = let e = times-remove itself q order i 0 lt in let f = ap (λ (k : ℕ). times_at q (k ∷ [])) is in omega arith
+      at_turn : get_or opens i 0 ≡ place
+      at_turn = here t ws view i place lt (ap (λ (xs : List ℕ). get_or xs i 0) (sym are) ∙ sym is)
 
-      left : (n : ℕ) → times number_in n (held_at places (remove order i)) + times number_in n (get_or places place nothing ∷ []) ≡ times number_in n (held_at places order)
-      left n =
-          let e = times-remove number_in n (held_at places order) i nothing (rw length-map lt) in
-          let f = ap (times number_in n) (held-remove places order i) in
-          let g = ap (λ (v : Waiting). times number_in n (v ∷ [])) (held_got places order i place lt is) in
+      turn : i < length opens
+      turn = turn_opened t ws view i lt
+
+      read : get_or places place v ≡ get_or ws i nothing
+      read = read_held t ws view items are i place lt is v
+
+      was : get_or places place v ≡ get_or (held_at places opens) i nothing
+      was = read ∙ ap (λ (vs : List Waiting). get_or vs i nothing) (sym view)
+
+      listed : place < length places
+      listed = read_listed t items are i place (let e = ap length are in let f = count t ws view in let g = few t in omega arith) is
+
+      changed_view : held_at (set places place w) opens ≡ set (held_at places opens) i w
+      changed_view = held-set places place w opens i listed turn at_turn (let e = t.once place in let f = times_split t place (length tickets) in omega arith)
+
+      number_is : w.request.number ≡ number_at places place
+      number_is = ap (λ (r : Request). r.number) same ∙ ap number_in (get_or_default places place v nothing listed)
+
+      still : (number : ℕ) → times number_in number (held_at (set places place w) opens) ≡ times number_in number (held_at places opens)
+      still number =
+          let e = ap (times number_in number) changed_view in
+          let f = times-set number_in number (held_at places opens) i w nothing (rw length-map turn) in
+          let g = times_alike number (get_or (held_at places opens) i nothing) w (ap number_in (held_got places opens i place turn at_turn) ∙ sym number_is) in
           omega arith
 
-  -- The edits as the code makes them.
-  module _ (ws : List Waiting) (view : held_at places order ≡ ws) where
-    pub opened_by : (rest after : List ℕ) (place at index : ℕ) (w : Waiting) → free ≡ rest ++ place ∷ [] → after ≡ order ++ place ∷ [] →
-        at ≡ place → index ≡ w.request.number → times number_in w.request.number ws ≡ 0 →
-        (held_at (set places at w) after ≡ ws ++ w ∷ []) × IsTable (set places at w) (set numbers index (Some place)) after rest
-    opened_by rest after place at index w from to is has unused =
-        let none = subst (λ (vs : List Waiting). times number_in w.request.number vs ≡ 0) (sym view) unused in
-        rw (to, is, has)
-        (opened_view rest place w from none ∙ ap (λ (vs : List Waiting). vs ++ w ∷ []) view, opened rest place w from none)
+      number_still : (other : ℕ) → number_at (set places place w) other ≡ number_at places other
+      number_still other = elim (cases_eq other place) [
+        | inl e ↦
+            subst (λ (k : ℕ). number_at (set places place w) k ≡ number_at places k) (sym e)
+            (ap number_in (get_or-set_same places place w nothing listed) ∙ number_is)
+        | inr e ↦ ap number_in (get_or-set_other places place other w nothing e)
+      ]
 
-    pub ended_by : (i : ℕ) → i < length ws → (place at index number : ℕ) (after rest : List ℕ) (w : Waiting) →
-        place ≡ get_or order i place → at ≡ place → number ≡ (get_or places at w).request.number → index ≡ number →
-        after ≡ remove order i → rest ≡ free ++ place ∷ [] →
-        (held_at places after ≡ remove ws i) × IsTable places (set numbers index None) after rest
-    ended_by i lt place at index number after rest w got is has same to from =
-        let turn = order_turn places order ws view i lt in
-        let here = same_turn order i place turn got in
-        let its : index ≡ number_at places place =
-        same ∙ has ∙ ap (λ (k : ℕ). (get_or places k w).request.number) is
-        ∙ ap number_in (get_or_default places place w nothing (read_listed t order refl i place turn here)) in
-        rw (to, from)
-        (held-remove places order i ∙ ap (λ (vs : List Waiting). remove vs i) view, ended i place index turn (sym here) its)
+  -- The first free place is opened, under a number that no open request has, and the greatest ticket.
+  module _ (place : ℕ) (w : Waiting) (is : place ≡ get_or order (length tickets) 0) (room : length tickets < length order)
+      (unused : times number_in w.request.number ws ≡ 0) (latest : All (λ v. v.request.ticket < w.request.ticket) ws) where
+    grown : open_places order (tickets ++ w.request.ticket ∷ []) ≡ opens ++ place ∷ []
+    grown =
+        ap (λ (n : ℕ). take n order) (length-append tickets (w.request.ticket ∷ []))
+        ∙ (take_at_read order (length tickets) 0 room).1 ∙ ap (λ (q : ℕ). opens ++ q ∷ []) (sym is)
 
-    pub changed_by : (i : ℕ) → i < length ws → (items : List ℕ) (place : ℕ) → items ≡ order → place ≡ get_or items i 0 → (v w : Waiting) →
-        w.request ≡ (get_or places place v).request →
-        (held_at (set places place w) order ≡ set ws i w) × (get_or places place v ≡ get_or ws i nothing) × IsTable (set places place w) numbers order free
-    changed_by i lt items place are is v w same =
-        let turn = order_turn places order ws view i lt in
-        let turn_too = subst (λ (xs : List ℕ). i < length xs) (sym are) turn in
-        let here : get_or order i 0 ≡ place = ap (λ (xs : List ℕ). get_or xs i 0) (sym are) ∙ sym is in
-        let listed = read_listed t items are i place turn_too is in
-        let number_is = ap (λ (r : Request). r.number) same ∙ ap number_in (get_or_default places place v nothing listed) in (
-          changed_view i place turn here listed w number_is ∙ ap (λ (vs : List Waiting). set vs i w) view,
-          read_held t items are i place turn_too is v ∙ ap (λ (vs : List Waiting). get_or vs i nothing) view,
-          changed i place turn here listed w number_is,
-        )
+    closed : times_of_place place opens ≡ 0
+    closed =
+        let e = times_split t place (length tickets + 1) in
+        let f = ap (times_of_place place) ((take_at_read order (length tickets) 0 room).1 ∙ ap (λ (q : ℕ). opens ++ q ∷ []) (sym is)) in
+        let g = times-append itself place opens (place ∷ []) in
+        let one = times_one itself place place refl in
+        let once = t.once place in
+        omega arith
 
-    pub rotated_by : (k : ℕ) (after : List ℕ) → after ≡ drop k order ++ take k order →
-        (held_at places after ≡ drop k ws ++ take k ws) × IsTable places numbers after free
-    rotated_by k after to = rw to (held-rotate places order k ∙ ap (λ (vs : List Waiting). drop k vs ++ take k vs) view, rotated k)
+    there : place < length places
+    there = read_listed t order refl (length tickets) place room is
+
+    opened_view : held_at (set places place w) (opens ++ place ∷ []) ≡ held_at places opens ++ w ∷ []
+    opened_view = held-push places place w opens there closed
+
+    opened : IsTable (set places place w) (set numbers w.request.number (Some place)) order (tickets ++ w.request.ticket ∷ [])
+    opened = record {
+      all_places = length-set places place w ∙ t.all_places;
+      all_turns = t.all_turns;
+      within = t.within;
+      once = t.once;
+      numbered =
+          subst (AreNamed (set places place w) (set numbers w.request.number (Some place))) (sym grown)
+          (named_set places numbers opens (set places place w) (opens ++ place ∷ []) w.request.number (Some place) t.numbered
+          (more place (let one = times_one itself place place refl in omega arith), ap number_in (get_or-set_same places place w nothing there))
+          (let e = held w.request.number in let f = times_of_one number_in w.request.number w in let g = ap (times number_in w.request.number) view in omega arith)
+          (λ number other. let e = held number in let f = times_other number_in number w (λ q. other (sym q)) in omega arith)
+          (λ number q other some has. (more q (omega arith), ap number_in (get_or-set_other places place q w nothing (elsewhere q some)) ∙ has)));
+      ticketed =
+          ap (map ticket_in) (ap (held_at (set places place w)) grown ∙ opened_view)
+          ∙ map-append ticket_in (held_at places opens) (w ∷ []) ∙ ap (λ (ts : List ℕ). ts ++ w.request.ticket ∷ []) t.ticketed;
+      rise = all_pairs_push (λ early late. early < late) tickets w.request.ticket t.rise
+          (λ k d lt. let turn : k < length ws = let e = count t ws view in omega arith in
+          let e = ticket_got t ws view k turn nothing d in
+          let less = latest k nothing turn in
+          omega arith);
+    }
+      where
+        held : (number : ℕ) → times number_in number (held_at (set places place w) (opens ++ place ∷ []))
+            ≡ times number_in number (held_at places opens) + times number_in number (w ∷ [])
+        held number = ap (times number_in number) opened_view ∙ times-append number_in number (held_at places opens) (w ∷ [])
+
+        more : (q : ℕ) → 0 < times_of_place q opens + times_of_place q (place ∷ []) → 0 < times_of_place q (opens ++ place ∷ [])
+        more q some = let e = times-append itself q opens (place ∷ []) in omega arith
+
+        elsewhere : (q : ℕ) → 0 < times_of_place q opens → q ≡ place → ⊥
+        elsewhere q some e = let none : times_of_place q opens ≡ 0 = subst (λ (k : ℕ). times_of_place k opens ≡ 0) (sym e) closed in absurd (omega arith)
+
+    queued : (sends : List ℕ) → AreBySend places opens sends → All (λ v. v.base ≤ w.base) ws →
+        AreBySend (set places place w) (open_places order (tickets ++ w.request.ticket ∷ [])) (sends ++ place ∷ [])
+    queued sends q late =
+        rw grown
+        (queue-push places sends (opens ++ place ∷ []) place w there (let e = length-append opens (place ∷ []) in let f = q.all in omega arith)
+        (λ p. let e = times-append itself p opens (place ∷ []) in let f = q.same p in omega arith)
+        (let e = times-append itself place opens (place ∷ []) in let one = times_one itself place place refl in let none = closed in omega arith)
+        q.by_send (all_sent q (λ v. v.base ≤ w.base) (rw view late)))
+
+  -- As the code makes it.
+  pub opened_by : (sends : List ℕ) → AreBySend places opens sends → length ws < table_size → (items : List ℕ) → items ≡ order → (n : ℕ) → n ≡ length tickets →
+      (asked : Asked) (body : List ℕ) (w : Waiting) → w ≡ begun asked body → times number_in asked.number ws ≡ 0 → All (λ v. v.request.ticket < asked.ticket) ws → All (λ v. v.base ≤ asked.clock) ws →
+      (at index : ℕ) (after sent : List ℕ) → at ≡ get_or items n 0 → index ≡ asked.number → after ≡ tickets ++ asked.ticket ∷ [] → sent ≡ sends ++ get_or items n 0 ∷ [] →
+      (waiting_in (set places at w) order after ≡ ws ++ begun asked body ∷ []) × IsTable (set places at w) (set numbers index (Some (get_or items n 0))) order after
+      × AreBySend (set places at w) (open_places order after) sent
+  opened_by sends q room items are n is asked body w made unused latest past at index after sent from has to too =
+      let new = begun asked body in
+      let place = get_or items n 0 in
+      let here : place ≡ get_or order (length tickets) 0 = rw (are, is) refl in
+      let fits : length tickets < length order = let e = count t ws view in let g = t.all_turns in omega arith in
+      rw (from, has, to, too, made) (
+        ap (held_at (set places place new)) (grown place new here fits unused latest) ∙ opened_view place new here fits unused latest
+            ∙ ap (λ (vs : List Waiting). vs ++ new ∷ []) view,
+        opened place new here fits unused latest,
+        queued place new here fits unused latest sends q past,
+      )
+
+  -- The request at a turn ends: its place goes behind all others.
+  module _ (i place number : ℕ) (lt : i < length ws) (is : place ≡ get_or order i 0) (has : number ≡ number_at places place) where
+    within_tickets : i < length tickets
+    within_tickets = let e = count t ws view in omega arith
+
+    shrunk : open_places (remove order i ++ place ∷ []) (remove tickets i) ≡ remove opens i
+    shrunk =
+        let e = length-remove tickets i within_tickets in
+        let n : length tickets ≡ suc (length (remove tickets i)) = omega arith in
+        take_removed order (place ∷ []) i (length (remove tickets i)) (let f = within_tickets in omega arith) (let f = few t in omega arith)
+        ∙ ap (λ (k : ℕ). remove (take k order) i) (sym n)
+
+    turn : i < length opens
+    turn = turn_opened t ws view i lt
+
+    at_turn : get_or opens i 0 ≡ place
+    at_turn = here t ws view i place lt (sym is)
+
+    within_order : i < length order
+    within_order = let e = within_tickets in let f = few t in omega arith
+
+    moved : (q : ℕ) → times_of_place q (remove order i ++ place ∷ []) ≡ times_of_place q order
+    moved q =
+        let e = times-append itself q (remove order i) (place ∷ []) in
+        let f = times-remove itself q order i 0 within_order in
+        let g = ap (λ (k : ℕ). times_of_place q (k ∷ [])) is in
+        omega arith
+
+    gone : (q : ℕ) → times_of_place q (remove opens i) + times_of_place q (place ∷ []) ≡ times_of_place q opens
+    gone q = let e = times-remove itself q opens i 0 turn in let f = ap (λ (k : ℕ). times_of_place q (k ∷ [])) at_turn in omega arith
+
+    left : (n : ℕ) → times number_in n (held_at places (remove opens i)) + times number_in n (get_or places place nothing ∷ []) ≡ times number_in n (held_at places opens)
+    left n =
+        let e = times-remove number_in n (held_at places opens) i nothing (rw length-map turn) in
+        let f = ap (times number_in n) (map-remove (λ q. get_or places q nothing) opens i) in
+        let g = ap (λ (v : Waiting). times number_in n (v ∷ [])) (held_got places opens i place turn at_turn) in
+        omega arith
+
+    ended : IsTable places (set numbers number None) (remove order i ++ place ∷ []) (remove tickets i)
+    ended = record {
+      all_places = t.all_places;
+      all_turns = let e = length-append (remove order i) (place ∷ []) in let f = length-remove order i within_order in let g = t.all_turns in omega arith;
+      within = λ q le. moved q ∙ t.within q le;
+      once = λ q. let e = moved q in let f = t.once q in omega arith;
+      numbered =
+          subst (AreNamed places (set numbers number None)) (sym shrunk)
+          (named_set places numbers opens places (remove opens i) number None t.numbered
+          (let e = left number in let one = times_one number_in number (get_or places place nothing) (sym has) in let few = t.numbered.apart number in omega arith)
+          (let e = left number in let few = t.numbered.apart number in omega arith)
+          (λ n other. let e = left n in let none = times_other number_in n (get_or places place nothing) (λ q. other (sym q ∙ sym has)) in omega arith)
+          (λ n q other some its.
+          (let e = gone q in let none = times_other itself q place (λ k. other (sym its ∙ ap (number_at places) (sym k) ∙ sym has)) in omega arith, its)));
+      ticketed =
+          ap (λ (xs : List ℕ). map ticket_in (held_at places xs)) shrunk
+          ∙ ap (map ticket_in) (map-remove (λ q. get_or places q nothing) opens i) ∙ map-remove ticket_in (held_at places opens) i
+          ∙ ap (λ (ts : List ℕ). remove ts i) t.ticketed;
+      rise = all_pairs_remove (λ early late. early < late) tickets i within_tickets t.rise;
+    }
+
+    ended_view : waiting_in places (remove order i ++ place ∷ []) (remove tickets i) ≡ remove ws i
+    ended_view =
+        ap (held_at places) shrunk ∙ map-remove (λ q. get_or places q nothing) opens i ∙ ap (λ (vs : List Waiting). remove vs i) view
+
+    unqueued : (sends left : List ℕ) → AreBySend places opens sends → IsTakenOut place sends left →
+        AreBySend places (open_places (remove order i ++ place ∷ []) (remove tickets i)) left
+    unqueued sends left q out = rw shrunk (queue-remove q place left out (remove opens i) (let e = length-remove opens i turn in omega arith) gone)
+
+    sent : (sends : List ℕ) → AreBySend places opens sends → 0 < times_of_place place sends
+    sent sends q = let some = subst (λ (p : ℕ). 0 < times_of_place p opens) at_turn (times_got itself opens i 0 turn) in let e = q.same place in omega arith
+
+  -- As the code makes it.
+  pub sent_place : (i : ℕ) → i < length ws → (place : ℕ) → place ≡ get_or order i place → (sends : List ℕ) → AreBySend places opens sends → 0 < times_of_place place sends
+  sent_place i lt place got sends q =
+      let within : i < length order = let e = count t ws view in let f = few t in omega arith in
+      sent i place (number_at places place) lt (same_turn order i place within got) refl sends q
+
+  pub ended_by : (i : ℕ) → i < length ws → (place at index number : ℕ) (removed after rest : List ℕ) (w : Waiting) →
+      place ≡ get_or order i place → at ≡ place → number ≡ (get_or places at w).request.number → index ≡ number →
+      removed ≡ remove order i → after ≡ removed ++ place ∷ [] → rest ≡ remove tickets i →
+      (sends left : List ℕ) → AreBySend places opens sends → IsTakenOut place sends left →
+      (waiting_in places after rest ≡ remove ws i) × IsTable places (set numbers index None) after rest × AreBySend places (open_places after rest) left
+  ended_by i lt place at index number removed after rest w got is has same gone to from sends left q out =
+      let within : i < length order = let e = count t ws view in let f = few t in omega arith in
+      let first = same_turn order i place within got in
+      let its : index ≡ number_at places place =
+      same ∙ has ∙ ap (λ (k : ℕ). (get_or places k w).request.number) is
+      ∙ ap number_in (get_or_default places place w nothing (read_listed t order refl i place within first)) in
+      rw (from, to, gone) (ended_view i place index lt first its, ended i place index lt first its, unqueued i place index lt first its sends left q out)
 
 -- The places below one, each once.
 pub record IsUpTo (n : ℕ) (places : List ℕ) : Type 0 where
   pub count : length places ≡ n
-  pub within : (place : ℕ) → n ≤ place → times_at place places ≡ 0
-  pub once : (place : ℕ) → times_at place places ≤ 1
-
-pub up_to_none : (places : List ℕ) → places ≡ [] → IsUpTo 0 places
-up_to_none places e = rw e (record { count = refl; within = λ place le. refl; once = λ place. omega arith })
-
-pub up_to_more : (n : ℕ) (before after : List ℕ) → IsUpTo n before → after ≡ before ++ n ∷ [] → IsUpTo (n + 1) after
-up_to_more n before after h e = rw e (record {
-  count = length-append before (n ∷ []) ∙ ap (λ (k : ℕ). k + 1) h.count;
-  within = λ place le.
-      let f = times-append itself place before (n ∷ []) in
-      let g = h.within place (omega arith) in
-      let other = times_other itself place n (λ k. omega arith) in
-      omega arith;
-  once = λ place.
-      let f = times-append itself place before (n ∷ []) in
-      let g = h.once place in
-      let few = times_of_one itself place n in
-      elim (cases_eq n place) [
-        | inl same ↦ let none = h.within place (omega arith) in omega arith
-        | inr apart ↦ let other = times_other itself place n apart in omega arith
-      ];
-})
+  pub within : (place : ℕ) → n ≤ place → times_of_place place places ≡ 0
+  pub once : (place : ℕ) → times_of_place place places ≤ 1
 
 -- No place is open at first.
-pub empty_table : (places : List Waiting) (numbers : List (Option ℕ)) (order free : List ℕ) → order ≡ [] → length places ≡ PLACES →
-    numbers ≡ replicate 256 None → length free ≡ PLACES → ((place : ℕ) → PLACES ≤ place → times_at place free ≡ 0) → ((place : ℕ) → times_at place free ≤ 1) →
-    IsTable places numbers order free
-empty_table places numbers order free none all_places blank whole within once = rw none (record {
+pub empty_table : (places : List Waiting) (numbers : List (Option ℕ)) (order tickets : List ℕ) → tickets ≡ [] → length places ≡ table_size →
+    numbers ≡ replicate 256 None → length order ≡ table_size → ((place : ℕ) → table_size ≤ place → times_of_place place order ≡ 0) → ((place : ℕ) → times_of_place place order ≤ 1) →
+    IsTable places numbers order tickets
+empty_table places numbers order tickets none all_places blank whole within once = rw none (record {
   all_places = all_places;
-  split = record {
-    whole = omega arith;
-    within = λ place le. let e = within place le in omega arith;
-    once = λ place. let e = once place in omega arith;
-  };
+  all_turns = whole;
+  within = within;
+  once = once;
   numbered = record {
     all_numbers = ap length blank ∙ length-replicate {A = Option ℕ} 256 None;
     apart = λ number. omega arith;
     named = λ number lt. rw (ap (λ (xs : List (Option ℕ)). get_or xs number None) blank ∙ get_or-replicate {A = Option ℕ} 256 number None None lt) refl;
   };
+  ticketed = refl;
+  rise = λ i j d less lt. absurd (omega arith);
 })

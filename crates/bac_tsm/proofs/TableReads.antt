@@ -1,56 +1,47 @@
 -- What is read of the table of open requests.
-use Rattle.std.proofs.Common.{◌≡◌, ℕ, ◌+◌, ◌<◌, List, [], ◌∷◌, ◌++◌, length, map, get_or, Option, Some, None, Bool, true, false, not, nat_eq, if◌then◌else◌, refl, ap, sym, subst, ◌∙◌, one-add, inl, inr, arith}
-use Rattle.std.specs.Prelude.{remove, position}
-use Rattle.std.specs.List.{filter, list_any, position_or_len}
+use Rattle.std.proofs.Common.{◌≡◌, ℕ, zero, suc, nat_lt, ◌+◌, ◌<◌, ◌≤◌, List, [], ◌∷◌, length, map, take, drop, get_or, Option, Some, None, Result, Ok, Err, Bool, true, false, not, nat_eq, if◌then◌else◌, refl, ap, sym, subst, ◌∙◌, one-add, inl, inr, arith}
+use Rattle.std.specs.Prelude.{remove, position, MatchResult}
+use Rattle.std.specs.List.{filter, find, list_any, slice_get, position_or_len}
+use Rattle.std.proofs.lemmas.Option.{slice_get_within, get_or_from_slice_get}
 use Rattle.std.specs.Option.{is_some}
-use Rattle.std.proofs.lemmas.Option.{none-some, same_Some}
+use Rattle.std.specs.Result.{result_ok}
+use Rattle.std.specs.Ordering.{nat_cmp}
+use Rattle.std.specs.List.Sorted.{IsBinarySearchResult}
 use Rattle.std.proofs.lemmas.Bool.{and_parts, cases_Bool, cases_eq, cases_lt, eqb-true, eqb-false, eq-eqb, ne_eqb, lt-ltb}
-use Rattle.std.proofs.lemmas.List.{length-map, get_or_default}
-use Rattle.bac_tsm.specs.declared.limits.TheConstants.{PLACES}
+use Rattle.std.proofs.lemmas.List.{length-map, length-take, take-append-drop, get_or-take, get_or-map, get_or_default}
+use Rattle.std.proofs.lemmas.List.Sorted.{searched}
+use Rattle.std.proofs.lemmas.Bool.Decides.{nat_tests}
+use Rattle.bac_tsm.specs.Limits.{table_size}
 use Rattle.bac_tsm.specs.Machine.{Waiting}
 use Rattle.bac_tsm.specs.Answers.{Answer, is_answer_to}
-use Rattle.bac_tsm.specs.ByKey.{times}
-use Rattle.bac_tsm.specs.Table.{ticket_in, number_in, nothing, held_at, number_at, times_at, Names, IsTable}
-use Rattle.bac_tsm.proofs.ByKey.{times-append, times_one, times_other, times-cons, times_at as times_got, none_passes, one_passes}
+use Rattle.bac_tsm.specs.Table.{times, held_at, times_of_place, open_places, waiting_in, Names, IsTable, IsTurnOf}
+use Rattle.bac_tsm.specs.Waiting.{ticket_in, number_in, nothing}
+use Rattle.bac_tsm.proofs.Times.{times-append, times_other, times-cons, times_got, none_passes, one_passes}
+use Rattle.bac_tsm.proofs.CallNotes.{TicketsRise, by_ticket, pairs_tail}
 use Rattle.bac_tsm.proofs.Held.{itself, held_got}
 
-none_any : (number : ℕ) (ws : List Waiting) → times number_in number ws ≡ 0 → list_any (λ w. nat_eq number w.request.number) ws ≡ false
-none_any number [] none = refl
-none_any number (w ∷ ws) none =
-    let e = times-cons number_in number w ws in
-    elim (cases_eq number w.request.number) [
-      | inl same ↦ let one = times_one number_in number w (sym same) in absurd (omega arith)
-      | inr other ↦ rw (ne_eqb number w.request.number other) (none_any number ws (omega arith))
-    ]
-
-some_any : (number : ℕ) (ws : List Waiting) → 0 < times number_in number ws → list_any (λ w. nat_eq number w.request.number) ws ≡ true
-some_any number [] some = absurd (omega arith)
-some_any number (w ∷ ws) some =
-    let e = times-cons number_in number w ws in
-    elim (cases_eq number w.request.number) [
-      | inl same ↦ rw (eq-eqb number w.request.number same) refl
-      | inr other ↦
-          let none = times_other number_in number w (λ k. other (sym k)) in
-          rw (ne_eqb number w.request.number other) (some_any number ws (omega arith))
-    ]
+-- A number is found among these where one of them has it.
+pub any_number : (number : ℕ) (ws : List Waiting) → list_any (λ w. nat_eq number w.request.number) ws ≡ nat_lt 0 (times number_in number ws)
+any_number number [] = refl
+any_number number (w ∷ ws) = grind (arith, nat_tests, any_number number ws)
 
 -- An answer is only to a request with its number.
 only_to : (answer : Answer) (w : Waiting) → is_answer_to w.request answer ≡ true → w.request.number ≡ answer.number
 unfolding is_answer_to
 only_to answer w e = eqb-true _ _ (and_parts _ _ (and_parts _ _ e).1).0
 
--- Where a place is among these, its first turn is found.
-pub record IsTurnOf (place : ℕ) (order : List ℕ) (i : ℕ) : Type 0 where
+-- Where a place is among these, it stands at a turn, and the first such turn is found.
+pub record StandsAt (place : ℕ) (order : List ℕ) (i : ℕ) : Type 0 where
   pub found : position (λ other. nat_eq other place) order ≡ Some i
   pub within : i < length order
   pub there : get_or order i 0 ≡ place
 
-pub found_at : (place : ℕ) (order : List ℕ) → 0 < times_at place order → (i : ℕ) × IsTurnOf place order i
+pub found_at : (place : ℕ) (order : List ℕ) → 0 < times_of_place place order → (i : ℕ) × StandsAt place order i
 found_at place order some =
     let there = first place order some in
     (position_or_len (λ other. nat_eq other place) order, record { found = rw (lt-ltb _ _ there.0) refl; within = there.0; there = there.1 })
   where
-    first : (place : ℕ) (order : List ℕ) → 0 < times_at place order →
+    first : (place : ℕ) (order : List ℕ) → 0 < times_of_place place order →
         (position_or_len (λ other. nat_eq other place) order < length order) × (get_or order (position_or_len (λ other. nat_eq other place) order) 0 ≡ place)
     first place [] some = absurd (omega arith)
     first place (q ∷ qs) some =
@@ -63,124 +54,225 @@ found_at place order some =
               rw (n, one-add) (let lt = rest.0 in omega arith, rest.1)
         ]
 
-module _ {places : List Waiting} {numbers : List (Option ℕ)} {order free : List ℕ} (t : IsTable places numbers order free) where
-  -- An open or free place is within the table.
-  pub place_within : (place : ℕ) → 0 < times_at place order + times_at place free → place < PLACES
-  place_within place some = elim (cases_lt place PLACES) [
-    | inl lt ↦ lt
-    | inr le ↦ let none = t.split.within place le in absurd (omega arith)
-  ]
+-- Where tickets rise, the one request with a ticket is the first with it.
+find_turn : (t : ℕ) (ws : List Waiting) (i : ℕ) → TicketsRise ws → i < length ws → (get_or ws i nothing).request.ticket ≡ t →
+    find (by_ticket t) ws ≡ Some (get_or ws i nothing)
+find_turn t [] i rise lt is = absurd (omega arith)
+find_turn t (w ∷ ws) zero rise lt is = rw (eq-eqb w.request.ticket t is) refl
+find_turn t (w ∷ ws) (suc i) rise lt is =
+    let less : w.request.ticket < (get_or ws i nothing).request.ticket = rise 0 (suc i) nothing (omega arith) (omega arith) in
+    rw (ne_eqb w.request.ticket t (λ q. omega arith)) (find_turn t ws i (pairs_tail (λ v w. v.request.ticket < w.request.ticket) w ws rise) (omega arith) is)
 
-  -- What is popped off the free places.
-  pub popped_within : (rest : List ℕ) (place at : ℕ) → free ≡ rest ++ place ∷ [] → at ≡ place → at < PLACES
-  popped_within rest place at from is =
-      let e : times_at place free ≡ times_at place rest + times_at place (place ∷ []) =
-      ap (times_at place) from ∙ times-append itself place rest (place ∷ []) in
-      let one = times_one itself place place refl in
-      let within = place_within place (omega arith) in
-      omega arith
+module _ {places : List Waiting} {numbers : List (Option ℕ)} {order tickets : List ℕ} (t : IsTable places numbers order tickets) where
+  abbrev pub opened : List ℕ
+  opened = open_places order tickets
 
-  -- What is read at a turn.
+  pub as_many : length opened ≡ length tickets
+  as_many =
+      sym (length-map opened (λ place. get_or places place nothing)) ∙ sym (length-map (waiting_in places order tickets) ticket_in) ∙ ap length t.ticketed
+
+  -- Those before and those after a turn of the order are the order.
+  pub times_split : (place n : ℕ) → times_of_place place order ≡ times_of_place place (take n order) + times_of_place place (drop n order)
+  times_split place n = ap (times_of_place place) (sym (take-append-drop n order)) ∙ times-append itself place (take n order) (drop n order)
+
+  pub few : length tickets ≤ length order
+  few = let e = length-take (length tickets) order in let f = as_many in omega arith
+
+  -- What is read at a turn of the order.
   module _ (items : List ℕ) (are : items ≡ order) (i place : ℕ) (lt : i < length items) (is : place ≡ get_or items i 0) where
-    turn : i < length order
-    turn = let e = ap length are in omega arith
-
     there : get_or order i 0 ≡ place
     there = ap (λ (xs : List ℕ). get_or xs i 0) (sym are) ∙ sym is
 
-    pub read_within : place < PLACES
-    read_within = place_within place (let some = subst (λ (k : ℕ). 0 < times_at k order) there (times_got itself order i 0 turn) in omega arith)
+    pub read_within : place < table_size
+    read_within = elim (cases_lt place table_size) [
+      | inl below ↦ below
+      | inr above ↦
+          let turn : i < length order = let e = ap length are in omega arith in
+          let some = subst (λ (k : ℕ). 0 < times_of_place k order) there (times_got itself order i 0 turn) in
+          let none = t.within place above in
+          absurd (omega arith)
+    ]
 
     pub read_listed : place < length places
-    read_listed = let all = t.all_places in let lt = read_within in omega arith
+    read_listed = let all = t.all_places in let below = read_within in omega arith
 
-    pub read_held : (d : Waiting) → get_or places place d ≡ get_or (held_at places order) i nothing
-    read_held d = get_or_default places place d nothing read_listed ∙ sym (held_got places order i place turn there)
+  -- A turn of the open requests.
+  module _ (ws : List Waiting) (view : waiting_in places order tickets ≡ ws) where
+    pub count : length tickets ≡ length ws
+    count = sym as_many ∙ sym (length-map opened (λ place. get_or places place nothing)) ∙ ap length view
+
+    pub turn_within : (items : List ℕ) → items ≡ order → (i : ℕ) → i < length ws → i < length items
+    turn_within items are i lt = let e = count in let f = ap length are in let g = few in omega arith
+
+    pub turn_opened : (i : ℕ) → i < length ws → i < length opened
+    turn_opened i lt = let e = count in let f = as_many in omega arith
+
+    pub here : (i place : ℕ) → i < length ws → get_or order i 0 ≡ place → get_or opened i 0 ≡ place
+    here i place lt is = get_or-take (length tickets) order i 0 (let e = count in omega arith) ∙ is
+
+    pub read_held : (items : List ℕ) → items ≡ order → (i place : ℕ) → i < length ws → place ≡ get_or items i 0 → (d : Waiting) →
+        get_or places place d ≡ get_or ws i nothing
+    read_held items are i place lt is d =
+        get_or_default places place d nothing (read_listed items are i place (turn_within items are i lt) is)
+        ∙ sym (held_got places opened i place (turn_opened i lt) (here i place lt (ap (λ (xs : List ℕ). get_or xs i 0) (sym are) ∙ sym is)))
+        ∙ ap (λ (vs : List Waiting). get_or vs i nothing) view
+
+    -- The first free place, where there is one.
+    pub next_free : length ws < table_size → (items : List ℕ) → items ≡ order → (n : ℕ) → n ≡ length tickets → (at : ℕ) → at ≡ get_or items n 0 →
+        (at < table_size) × (at < length places)
+    next_free room items are n is at has =
+        let lt : n < length items = let e = count in let f = ap length are in let g = t.all_turns in omega arith in
+        (read_within items are n at lt has, read_listed items are n at lt has)
+
+    -- The tickets are those of the requests.
+    pub ticket_got : (i : ℕ) → i < length ws → (d : Waiting) (e : ℕ) → get_or tickets i e ≡ (get_or ws i d).request.ticket
+    ticket_got i lt d e =
+        ap (λ (ts : List ℕ). get_or ts i e) (sym t.ticketed ∙ ap (map ticket_in) view) ∙ get_or-map ticket_in ws i d e lt
+
+    pub rising : TicketsRise ws
+    rising i j d early late =
+        let less = t.rise i j 0 early (let e = count in omega arith) in
+        let e = ticket_got i (omega arith) d 0 in
+        let f = ticket_got j late d 0 in
+        omega arith
+
+    -- A ticket stands at one turn.
+    pub one_turn : (i j : ℕ) → i < length ws → j < length ws → (get_or ws i nothing).request.ticket ≡ (get_or ws j nothing).request.ticket → i ≡ j
+    one_turn i j lt most same = elim (cases_eq i j) [
+      | inl q ↦ q
+      | inr q ↦ elim (cases_lt i j) [
+        | inl below ↦ let less : (get_or ws i nothing).request.ticket < (get_or ws j nothing).request.ticket = rising i j nothing below most in absurd (omega arith)
+        | inr above ↦ let more : (get_or ws j nothing).request.ticket < (get_or ws i nothing).request.ticket = rising j i nothing (omega arith) lt in absurd (omega arith)
+      ]
+    ]
+
+    -- A turn at which the ticket stands.
+    pub likely_turn : (ticket : ℕ) (items : List ℕ) → items ≡ tickets → (i : ℕ) → slice_get items i ≡ Some ticket → IsTurnOf ticket ws (Some i)
+    likely_turn ticket items are i there =
+        let got = ap (λ (ts : List ℕ). slice_get ts i) (sym are) ∙ there in
+        let e = count in
+        let within = slice_get_within tickets i ticket got in
+        let lt : i < length ws = omega arith in
+        let has = sym (ticket_got i lt nothing 0) ∙ get_or_from_slice_get tickets i ticket 0 got in
+        (lt, has, find_turn ticket ws i rising lt has)
+
+    -- What a search among the tickets answers.
+    pub searched_turn : (ticket : ℕ) (items : List ℕ) → items ≡ tickets → (r : Result ℕ ℕ) →
+        IsBinarySearchResult (λ y. nat_cmp y ticket) items r → IsTurnOf ticket ws (result_ok r)
+    searched_turn ticket items are r found =
+        by r (searched tickets ticket r (subst (λ (xs : List ℕ). IsBinarySearchResult (λ y. nat_cmp y ticket) xs r) are found) up)
+      where
+        up : (i j : ℕ) → i ≤ j → j < length tickets → get_or tickets i 0 ≤ get_or tickets j 0
+        up i j le lt = elim (cases_eq i j) [
+          | inl same ↦ let e = ap (λ (k : ℕ). get_or tickets k 0) same in omega arith
+          | inr other ↦ let less : get_or tickets i 0 < get_or tickets j 0 = t.rise i j 0 (omega arith) lt in omega arith
+        ]
+
+        by : (r : Result ℕ ℕ) → MatchResult r (λ i. (i < length tickets) × (get_or tickets i 0 ≡ ticket))
+            (λ i. (i ≤ length tickets) × ((k : ℕ) → k < i → get_or tickets k 0 < ticket) × ((k : ℕ) → i ≤ k → k < length tickets → ticket < get_or tickets k 0)) →
+            IsTurnOf ticket ws (result_ok r)
+        by (Ok i) h =
+            let e = count in
+            let lt : i < length ws = let f = h.0 in omega arith in
+            let has = sym (ticket_got i lt nothing 0) ∙ h.1 in
+            (lt, has, find_turn ticket ws i rising lt has)
+        by (Err i) h = λ k d lt same.
+            let e = count in
+            let f = ticket_got k lt d 0 in
+            elim (cases_lt k i) [
+              | inl below ↦ let less = h.1 k below in absurd (omega arith)
+              | inr above ↦ let more = h.2 k above (omega arith) in absurd (omega arith)
+            ]
+
+  -- An open place, and the turn of the request there.
+  module _ (ws : List Waiting) (view : waiting_in places order tickets ≡ ws) (place : ℕ) (some : 0 < times_of_place place opened) where
+    pub turn : (i : ℕ) × StandsAt place opened i
+    turn = found_at place opened some
+
+    pub turn_lt : turn.0 < length ws
+    turn_lt = let e = count ws view in let f = as_many in let lt = turn.1.within in omega arith
+
+    pub stands : place ≡ get_or order turn.0 0
+    stands = sym turn.1.there ∙ get_or-take (length tickets) order turn.0 0 (let lt = turn_lt in let e = count ws view in omega arith)
+
+    pub open_below : (at : ℕ) → at ≡ place → at < table_size
+    open_below at same = rw same (read_within order refl turn.0 place (turn_within ws view order refl turn.0 turn_lt) stands)
+
+    pub open_listed : (at : ℕ) → at ≡ place → at < length places
+    open_listed at same = let lt = open_below at same in let all = t.all_places in omega arith
+
+    pub open_read : (at : ℕ) → at ≡ place → (d : Waiting) → get_or places at d ≡ get_or ws turn.0 nothing
+    open_read at same d = ap (λ (k : ℕ). get_or places k d) same ∙ read_held ws view order refl turn.0 place turn_lt stands d
 
   -- The entry of a number.
   module _ (number : ℕ) (fits : number < 256) where
-    -- The turn of the place that the entry names.
-    named_turn : (place : ℕ) → get_or numbers number None ≡ Some place → ((i : ℕ) × IsTurnOf place order i) × (number_at places place ≡ number)
-    named_turn place is =
-        let some : Names places order number (Some place) = subst (Names places order number) is (t.numbered.named number fits) in
-        (found_at place order some.0, some.1)
+    -- The place that the entry names is open, and the request there has the number.
+    pub named : (place : ℕ) → get_or numbers number None ≡ Some place → Names places opened number (Some place)
+    named place is = subst (Names places opened number) is (t.numbered.named number fits)
 
-    pub taken : is_some (get_or numbers number None) ≡ list_any (λ w. nat_eq number w.request.number) (held_at places order)
+    pub taken : is_some (get_or numbers number None) ≡ list_any (λ w. nat_eq number w.request.number) (waiting_in places order tickets)
     taken = by (get_or numbers number None) refl
       where
-        by : (entry : Option ℕ) → get_or numbers number None ≡ entry → is_some entry ≡ list_any (λ w. nat_eq number w.request.number) (held_at places order)
-        by None is = sym (none_any number (held_at places order) (subst (Names places order number) is (t.numbered.named number fits)))
+        by : (entry : Option ℕ) → get_or numbers number None ≡ entry → is_some entry ≡ list_any (λ w. nat_eq number w.request.number) (waiting_in places order tickets)
+        by None is = sym (any_number number (held_at places opened) ∙ ap (nat_lt 0) (subst (Names places opened number) is (t.numbered.named number fits)))
         by (Some place) is =
-            let turn = (named_turn place is).0 in
-            let has = ap number_in (held_got places order turn.0 place turn.1.within turn.1.there) ∙ (named_turn place is).1 in
-            sym (some_any number (held_at places order)
-            (subst (λ (k : ℕ). 0 < times number_in k (held_at places order)) has
-            (times_got number_in (held_at places order) turn.0 nothing (rw length-map turn.1.within))))
+            let turn = found_at place opened (named place is).0 in
+            let has = ap number_in (held_got places opened turn.0 place turn.1.within turn.1.there) ∙ (named place is).1 in
+            sym (any_number number (held_at places opened) ∙ lt-ltb 0 _
+            (subst (λ (k : ℕ). 0 < times number_in k (held_at places opened)) has
+            (times_got number_in (held_at places opened) turn.0 nothing (rw length-map turn.1.within))))
 
   -- What an answer ends.
-  module _ (answer : Answer) (number : ℕ) (its : number ≡ answer.number) (fits : number < 256) (ws : List Waiting) (view : held_at places order ≡ ws) where
+  module _ (answer : Answer) (number : ℕ) (its : number ≡ answer.number) (fits : number < 256) (ws : List Waiting) (view : waiting_in places order tickets ≡ ws) where
     abbrev ends : Waiting → Bool
     ends w = is_answer_to w.request answer
 
     -- Of these requests those that it is to end, under these tickets.
-    abbrev Ends : List ℕ → List Waiting → List Waiting → Type 0
-    Ends tickets before after = (tickets ≡ map ticket_in (filter ends before)) × (after ≡ filter (λ w. not (ends w)) before)
+    abbrev Ends : List ℕ → List Waiting → Type 0
+    Ends tickets after = (tickets ≡ map ticket_in (filter ends ws)) × (after ≡ filter (λ w. not (ends w)) ws)
 
     says : (w : Waiting) → ends w ≡ true → w.request.number ≡ number
     says w e = only_to answer w e ∙ sym its
 
-    pub closed_none : get_or numbers number None ≡ None → Ends [] ws ws
+    pub closed_none : get_or numbers number None ≡ None → Ends [] ws
     closed_none is =
-        let none = none_passes number_in ends number says (held_at places order) (subst (Names places order number) is (t.numbered.named number fits)) in
-        subst (λ (vs : List Waiting). Ends [] vs vs) view (sym (ap (map ticket_in) none.0), sym none.1)
+        let none = none_passes number_in ends number says ws
+        (subst (λ (vs : List Waiting). times number_in number vs ≡ 0) view (subst (Names places opened number) is (t.numbered.named number fits))) in
+        (sym (ap (map ticket_in) none.0), sym none.1)
 
     module _ (place : ℕ) (is : get_or numbers number None ≡ Some place) where
-      pub named_below : place < PLACES
-      named_below =
-          let some : Names places order number (Some place) = subst (Names places order number) is (t.numbered.named number fits) in
-          let there = some.0 in
-          place_within place (omega arith)
+      some : 0 < times_of_place place opened
+      some = (named number fits place is).0
 
-      pub named_listed : place < length places
-      named_listed = let all = t.all_places in let lt = named_below in omega arith
+      abbrev i : ℕ
+      i = (turn ws view place some).0
+
+      pub named_below : (at : ℕ) → at ≡ place → at < table_size
+      named_below = open_below ws view place some
+
+      pub named_listed : (at : ℕ) → at ≡ place → at < length places
+      named_listed = open_listed ws view place some
 
       module _ (at : ℕ) (same : at ≡ place) (d : Waiting) where
-        read : get_or places at d ≡ get_or places place nothing
-        read = ap (λ (k : ℕ). get_or places k d) same ∙ get_or_default places place d nothing named_listed
+        read : get_or places at d ≡ get_or ws i nothing
+        read = open_read ws view place some at same d
 
-        found : (i : ℕ) → IsTurnOf place order i →
-            (filter ends (held_at places order) ≡ (if ends (get_or places place nothing) then get_or places place nothing ∷ [] else []))
-            × (filter (λ w. not (ends w)) (held_at places order) ≡ (if ends (get_or places place nothing) then remove (held_at places order) i else held_at places order))
-        found i turn =
-            let got = held_got places order i place turn.within turn.there in
-            rw (← got)
-            (one_passes number_in ends number says (held_at places order) i nothing (rw length-map turn.within)
-            (ap number_in got ∙ (named_turn number fits place is).1) (t.numbered.apart number))
+        found : (filter ends ws ≡ (if ends (get_or places at d) then get_or places at d ∷ [] else []))
+            × (filter (λ w. not (ends w)) ws ≡ (if ends (get_or places at d) then remove ws i else ws))
+        found =
+            rw read
+            (one_passes number_in ends number says ws i nothing (turn_lt ws view place some)
+            (ap number_in (sym (open_read ws view place some place refl nothing)) ∙ (named number fits place is).1)
+            (subst (λ (vs : List Waiting). times number_in number vs ≤ 1) view (t.numbered.apart number)))
 
-        pub closed_not : ends (get_or places at d) ≡ false → Ends [] ws ws
-        closed_not fails =
-            let turn = (named_turn number fits place is).0 in
-            let both = rw (ap ends (sym read) ∙ fails) at (found turn.0 turn.1) in
-            subst (λ (vs : List Waiting). Ends [] vs vs) view (sym (ap (map ticket_in) both.0), sym both.1)
+        pub closed_not : ends (get_or places at d) ≡ false → Ends [] ws
+        closed_not fails = let both = rw fails at found in (sym (ap (map ticket_in) both.0), sym both.1)
 
-        module _ (items : List ℕ) (are : items ≡ order) where
-          pub closed_some_turn : position (λ other. nat_eq other place) items ≡ None → ⊥
-          closed_some_turn none =
-              none-some _ (sym none ∙ ap (position (λ other. nat_eq other place)) are ∙ (named_turn number fits place is).0.1.found)
+        module _ (ticket : ℕ) (named : ticket ≡ (get_or places at d).request.ticket) where
+          pub closed_some_turn : IsTurnOf ticket ws None → ⊥
+          closed_some_turn none = none i nothing (turn_lt ws view place some) (sym (named ∙ ap ticket_in read))
 
-          turn_of : (i : ℕ) → position (λ other. nat_eq other place) items ≡ Some i → IsTurnOf place order i
-          turn_of i e =
-              let turn = (named_turn number fits place is).0 in
-              let found = ap (position (λ other. nat_eq other place)) (sym are) ∙ e in
-              subst (IsTurnOf place order) (same_Some _ _ (sym turn.1.found ∙ found)) turn.1
-
-          pub closed_turn : (i : ℕ) → position (λ other. nat_eq other place) items ≡ Some i → i < length ws
-          closed_turn i e = subst (λ (vs : List Waiting). i < length vs) view (rw length-map (turn_of i e).within)
-
-          pub closed_that : ends (get_or places at d) ≡ true → (i ticket : ℕ) → position (λ other. nat_eq other place) items ≡ Some i →
-              ticket ≡ (get_or places at d).request.ticket → (after : List Waiting) → after ≡ remove ws i → Ends (ticket ∷ []) ws after
-          closed_that passes i ticket e named after to =
-              let both = rw (ap ends (sym read) ∙ passes) at (found i (turn_of i e)) in
-              rw (named, read, to)
-              (subst (λ (vs : List Waiting). Ends ((get_or places place nothing).request.ticket ∷ []) vs (remove vs i)) view
-              (sym (ap (map ticket_in) both.0), sym both.1))
+          pub closed_that : ends (get_or places at d) ≡ true → (j : ℕ) → IsTurnOf ticket ws (Some j) → (after : List Waiting) → after ≡ remove ws j → Ends (ticket ∷ []) after
+          closed_that passes j its after to =
+              let both = rw passes at found in
+              rw (named, to, one_turn ws view j i its.0 (turn_lt ws view place some) (its.1 ∙ named ∙ ap ticket_in read)) (sym (ap (map ticket_in) both.0), sym both.1)

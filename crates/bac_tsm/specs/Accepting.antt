@@ -1,7 +1,7 @@
 -- What a new request gets, or why it is refused.
 use Rattle.std.specs.Prelude.{ℕ, ◌+◌, ◌-◌, ◌%◌, ◌^◌, List, length, Option, Some, None, not, nat_lt, nat_le, nat_eq, if◌then◌else◌, unwrap_or, Result, Ok, Err}
 use Rattle.std.specs.List.{list_any}
-use Rattle.bac_tsm.specs.declared.limits.TheConstants.{LONGEST_BODY}
+use Rattle.bac_tsm.specs.Limits.{longest_body}
 use Rattle.bac_tsm.specs.declared.client.SubmitFault.{SubmitFault}
 use Rattle.bac_tsm.specs.declared.client.SubmitFault.TheVariants.{TooLong, TableFull, TicketsSpent}
 use Rattle.bac_tsm.specs.Positions.{first_within}
@@ -15,7 +15,7 @@ next_number last taken =
 -- The first reason against a request with this body, with so many places, so many open and this ticket the next.
 unfoldable pub refusal_of : ℕ → List ℕ → ℕ → ℕ → Option SubmitFault
 refusal_of places body open_count ticket =
-    if nat_lt LONGEST_BODY (length body) then Some TooLong
+    if nat_lt longest_body (length body) then Some TooLong
     else if nat_le places open_count then Some TableFull
     else if nat_lt ticket (2 ^ 64 - 1) then None else Some TicketsSpent
 

@@ -1,3 +1,4 @@
+pub mod Limits
 pub mod Events
 pub mod Positions
 pub mod Accepting
@@ -12,5 +13,6 @@ pub mod Seen
 pub mod Watching
 pub mod Rule
 pub mod Examples
-pub mod ByKey
+pub mod Waiting
 pub mod Table
+pub mod Progress

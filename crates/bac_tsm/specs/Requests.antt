@@ -15,10 +15,10 @@ pub record End : Type 0 where
   pub outcome : Option Outcome
 
 -- The earlier of two ends.
-abbrev pub earlier : Option End → Option End → Option End
-earlier None late = late
-earlier (Some early) None = Some early
-earlier (Some early) (Some late) = if nat_lt early.position late.position then Some early else Some late
+abbrev pub earlier_end : Option End → Option End → Option End
+earlier_end None late = late
+earlier_end (Some early) None = Some early
+earlier_end (Some early) (Some late) = if nat_lt early.position late.position then Some early else Some late
 
 -- There is an end, and it lies before position i.
 abbrev pub is_over : ℕ → Option End → Bool
@@ -26,9 +26,9 @@ is_over i None = false
 is_over i (Some e) = nat_lt e.position i
 
 -- The outcome that the event gives to a request, if it is an answer to it.
-abbrev pub outcome_in : Rules → Request → Option Event → Option Outcome
-outcome_in rules request (Some (Data peer bytes)) = rules.outcome_of request peer bytes
-outcome_in rules request _ = None
+abbrev pub outcome_of_event : Rules → Request → Option Event → Option Outcome
+outcome_of_event rules request (Some (Data peer bytes)) = rules.outcome_of request peer bytes
+outcome_of_event rules request _ = None
 
 -- The numbers of these requests.
 abbrev pub numbers_of : List Accepted → List ℕ

@@ -6,15 +6,19 @@ use Rattle.bac_tsm.specs.Lookahead.{Accepted, accepted, open_at, sends, send_not
 use Rattle.bac_tsm.specs.Laws.{NumbersComeBackLate}
 use Rattle.bac_tsm.specs.Watching.{is_send_of, is_end_of}
 
--- At each position few requests are open, under different numbers. Each is placed to be sent at most once more than the
--- retries. The notes that send a request stand exactly where it is placed to be sent, each with its peer and octets, and the
--- one that ends it exactly where its end is, with the outcome. Numbers come back late.
+-- What holds of the look-ahead, for every list of events.
 pub record FollowsTheRule (rules : Rules) (first_ticket : ℕ) (events : List Event) : Type 0 where
+  -- At each position at most as many requests are open as there are places.
   pub few : (n : ℕ) → length (open_at rules first_ticket events n) ≤ rules.places
+  -- No two of them have one number.
   pub apart : (n : ℕ) → AllPairs (λ a b. a.request.number ≢ b.request.number) (open_at rules first_ticket events n)
+  -- A request is placed to be sent at most once more than the retries.
   pub few_sends : (a : Accepted) → length (sends rules events a) ≤ 1 + rules.retries
+  -- The notes that send a request stand exactly where it is placed to be sent, with its peer and octets.
   pub sent_where_placed : (i : ℕ) → All (λ a. filter (is_send_of a.request.ticket) (output rules first_ticket events i) ≡ send_notes rules events i a)
       (accepted rules first_ticket events (length events))
+  -- The note that ends it stands exactly where its end is, with the outcome.
   pub ended_where_placed : (i : ℕ) → All (λ a. filter (is_end_of a.request.ticket) (output rules first_ticket events i) ≡ end_notes i a.request (end rules events a))
       (accepted rules first_ticket events (length events))
+  -- Between two accepted requests with one number stand at least 256 less the places others.
   pub reuse : NumbersComeBackLate rules.places (accepted rules first_ticket events (length events))

@@ -1,42 +1,11 @@
 -- The table of open requests, and what is true of it.
-use Rattle.std.specs.Prelude.{◌≡◌, ℕ, ◌+◌, ◌<◌, ◌≤◌, List, [], ◌∷◌, length, map, get_or, set, Option, Some, None, Bool, if◌then◌else◌}
-use Rattle.bac_pdu.specs.Peer.{station}
-use Rattle.bac_tsm.specs.declared.request.Asked.{Asked}
-use Rattle.bac_tsm.specs.declared.limits.TheConstants.{PLACES}
-use Rattle.bac_tsm.specs.declared.due.Entry.{Entry}
-use Rattle.bac_tsm.specs.declared.due.Entry.TheVariants.{Resend, TimedOut as Expired}
+use Rattle.std.specs.Prelude.{◌≡◌, ◌≢◌, ℕ, suc, ◌<◌, ◌≤◌, List, ◌++◌, length, map, take, drop, remove, get_or, Option, Some, None, true, false, nat_eq}
+use Rattle.std.specs.List.{All, AllPairs, filter, find}
+use Rattle.bac_tsm.specs.Limits.{table_size}
 use Rattle.bac_tsm.specs.Events.{Rules}
+use Rattle.bac_tsm.specs.declared.due.Entry.{Entry}
 use Rattle.bac_tsm.specs.Machine.{Waiting, is_due, due_entry, kept}
-use Rattle.bac_tsm.specs.Answers.{octets_of}
-use Rattle.bac_tsm.specs.ByKey.{times}
-
-abbrev pub ticket_in : Waiting → ℕ
-ticket_in w = w.request.ticket
-
-abbrev pub number_in : Waiting → ℕ
-number_in w = w.request.number
-
--- A new request with this body, as it waits for an answer.
-abbrev pub begun : Asked → List ℕ → Waiting
-begun asked body = record {
-  request = record {
-    ticket = asked.ticket;
-    peer = station asked.peer;
-    service = asked.service;
-    number = asked.number;
-    octets = octets_of (station asked.peer) asked.service body asked.number;
-  };
-  base = asked.clock;
-  count = 0;
-}
-
--- What is read at a place that is not there.
-abbrev pub nothing : Waiting
-nothing = record {
-  request = record { ticket = 0; peer = record { ip = 0; port = 0; route = None }; service = 0; number = 0; octets = [] };
-  base = 0;
-  count = 0;
-}
+use Rattle.bac_tsm.specs.Waiting.{ticket_in, number_in, nothing}
 
 -- The request at each of these places.
 abbrev pub held_at : List Waiting → List ℕ → List Waiting
@@ -46,20 +15,26 @@ held_at places order = map (λ place. get_or places place nothing) order
 abbrev pub number_at : List Waiting → ℕ → ℕ
 number_at places place = (get_or places place nothing).request.number
 
--- How often this place is among these.
-abbrev pub times_at : ℕ → List ℕ → ℕ
-times_at = times (λ place. place)
+-- How many of these have this key.
+abbrev pub times : {A : Type 0} → (A → ℕ) → ℕ → List A → ℕ
+times key n xs = length (filter (λ x. nat_eq (key x) n) xs)
 
--- Each place is open or free, once.
-pub record IsSplit (order free : List ℕ) : Type 0 where
-  pub whole : length order + length free ≡ PLACES
-  pub within : (place : ℕ) → PLACES ≤ place → times_at place order + times_at place free ≡ 0
-  pub once : (place : ℕ) → times_at place order + times_at place free ≤ 1
+-- How often this place is among these.
+abbrev pub times_of_place : ℕ → List ℕ → ℕ
+times_of_place = times (λ place. place)
+
+-- The places of the open requests: the first of the order, as many as there are tickets.
+abbrev pub open_places : List ℕ → List ℕ → List ℕ
+open_places order tickets = take (length tickets) order
+
+-- The open requests.
+abbrev pub waiting_in : List Waiting → List ℕ → List ℕ → List Waiting
+waiting_in places order tickets = held_at places (open_places order tickets)
 
 -- What the entry of a number says: none that no open request has it, and a place that the request there does.
 abbrev pub Names : List Waiting → List ℕ → ℕ → Option ℕ → Type 0
 Names places order number None = times number_in number (held_at places order) ≡ 0
-Names places order number (Some place) = (0 < times_at place order) × (number_at places place ≡ number)
+Names places order number (Some place) = (0 < times_of_place place order) × (number_at places place ≡ number)
 
 -- No two open requests have one number, and each number has an entry that says so.
 pub record AreNamed (places : List Waiting) (numbers : List (Option ℕ)) (order : List ℕ) : Type 0 where
@@ -67,34 +42,38 @@ pub record AreNamed (places : List Waiting) (numbers : List (Option ℕ)) (order
   pub apart : (number : ℕ) → times number_in number (held_at places order) ≤ 1
   pub named : (number : ℕ) → number < 256 → Names places order number (get_or numbers number None)
 
--- The parts of the table fit each other.
-pub record IsTable (places : List Waiting) (numbers : List (Option ℕ)) (order free : List ℕ) : Type 0 where
-  pub all_places : length places ≡ PLACES
-  pub split : IsSplit order free
-  pub numbered : AreNamed places numbers order
+-- The parts of the table fit each other: each place stands in the order once, and the tickets are those of the open requests
+-- and rise.
+pub record IsTable (places : List Waiting) (numbers : List (Option ℕ)) (order tickets : List ℕ) : Type 0 where
+  pub all_places : length places ≡ table_size
+  pub all_turns : length order ≡ table_size
+  pub within : (place : ℕ) → table_size ≤ place → times_of_place place order ≡ 0
+  pub once : (place : ℕ) → times_of_place place order ≤ 1
+  pub numbered : AreNamed places numbers (open_places order tickets)
+  pub ticketed : map ticket_in (waiting_in places order tickets) ≡ tickets
+  pub rise : AllPairs (λ early late. early < late) tickets
 
--- These were last sent in this order, from the one time on and up to the other.
-abbrev pub IsBySend : ℕ → ℕ → List Waiting → Type 0
-IsBySend from clock [] = from ≤ clock
-IsBySend from clock (w ∷ ws) = (from ≤ w.base) × IsBySend w.base clock ws
+-- The turn at which the request with this ticket stands, if one has it.
+abbrev pub IsTurnOf : ℕ → List Waiting → Option ℕ → Type 0
+IsTurnOf ticket ws None = All (λ w. w.request.ticket ≢ ticket) ws
+IsTurnOf ticket ws (Some turn) =
+    (turn < length ws) × ((get_or ws turn nothing).request.ticket ≡ ticket)
+    × (find (λ w. nat_eq w.request.ticket ticket) ws ≡ Some (get_or ws turn nothing))
 
--- The open requests in the order of their last sends: each has a ticket of its own, below the next one.
-pub record IsOrderly (clock next_ticket : ℕ) (ws : List Waiting) : Type 0 where
-  pub below : (ticket : ℕ) → next_ticket ≤ ticket → times ticket_in ticket ws ≡ 0
-  pub once : (ticket : ℕ) → times ticket_in ticket ws ≤ 1
-  pub by_send : IsBySend 0 clock ws
+-- The places of the open requests stand in the order of their last sends, each once.
+pub record AreBySend (places : List Waiting) (opened sends : List ℕ) : Type 0 where
+  pub all : length sends ≡ length opened
+  pub same : (place : ℕ) → times_of_place place sends ≡ times_of_place place opened
+  pub by_send : AllPairs (λ early late. early.base ≤ late.base) (held_at places sends)
 
--- What becomes of these at this clock, from the first one on and up to the first that is not due.
-abbrev pub due_front : Rules → ℕ → List Waiting → List Entry
-due_front rules clock [] = []
-due_front rules clock (w ∷ ws) = if is_due rules clock w then due_entry rules w ∷ due_front rules clock ws else []
+-- One of the turns at which this place stood is taken out.
+abbrev pub IsTakenOut : ℕ → List ℕ → List ℕ → Type 0
+IsTakenOut place before after = (turn : ℕ) × (turn < length before) × (get_or before turn 0 ≡ place) × (after ≡ remove before turn)
 
--- The request at this turn is brought to this clock, where it stays open; where it doesn't, it is whatever it is.
-abbrev pub GoesOnAt : Rules → ℕ → ℕ → List Waiting → Bool → List Waiting → Type 0
-GoesOnAt rules clock turn before stays after =
-    (w : Waiting) × (after ≡ set before turn w) × (kept rules clock (get_or before turn nothing) ≡ (if stays then w ∷ [] else []))
-
--- The ticket that an entry of a tick names.
-abbrev pub ticket_of : Entry → ℕ
-ticket_of (Resend ticket) = ticket
-ticket_of (Expired ticket) = ticket
+-- One request that is due at this clock goes on to it, with this entry. Without an entry none is due, and nothing changes.
+abbrev pub IsPassed : Rules → ℕ → List Waiting → Option Entry → List Waiting → Type 0
+IsPassed rules clock before None after = All (λ w. is_due rules clock w ≡ false) before × (after ≡ before)
+IsPassed rules clock before (Some entry) after =
+    (turn : ℕ) × (turn < length before) × (is_due rules clock (get_or before turn nothing) ≡ true)
+    × (entry ≡ due_entry rules (get_or before turn nothing))
+    × (after ≡ take turn before ++ (kept rules clock (get_or before turn nothing) ++ drop (suc turn) before))

@@ -2,6 +2,7 @@
 
 ghost use Rattle.std.specs.Prelude.{◌≡◌, ◌<◌, ◌≤◌, IfNone, length};
 ghost use Rattle.std.specs.Option.{option_map, option_copied};
+ghost use Rattle.bac_tsm.specs.Limits.{longest_body, table_size};
 ghost use Rattle.bac_tsm.specs.Lookahead.{refusal_of};
 ghost use Rattle.bac_tsm.specs.Machine.{submit, datagram, tick, to_send, number_of, open_under, initial};
 ghost use Rattle.bac_pdu.specs.Peer.{station};
@@ -9,7 +10,7 @@ ghost use Rattle.bac_tsm.specs.Client.{rules_of, keeping, end_seen, send_seen};
 
 use crate::answer::read_answer;
 use crate::config::Config;
-use crate::due::Due;
+use crate::due::{Due, Entries};
 use crate::limits::{LONGEST_BODY, PLACES};
 use crate::outcome::Ended;
 use crate::request::{Asked, OpenRequest};
@@ -43,8 +44,7 @@ pub struct Client {
 
 impl Model for Client {
     ghost use Rattle.bac_tsm.specs.Client.{Client as Held};
-    ghost use Rattle.bac_tsm.specs.ByKey.{by_key};
-    ghost use Rattle.bac_tsm.specs.Table.{ticket_in, IsOrderly};
+    ghost use Rattle.bac_tsm.specs.Client.{IsTimely};
 
     ghost Value = { Held };
 
@@ -55,11 +55,11 @@ impl Model for Client {
         clock = c.clock;
         last_number = c.last_number;
         next_ticket = c.next_ticket;
-        waiting = by_key ticket_in c.next_ticket c.table;
+        waiting = c.table;
       };
     } };
 
-    ghost invariant = { λ c. IsOrderly c.clock c.next_ticket c.table };
+    ghost invariant = { λ c. IsTimely c.clock c.next_ticket c.table };
 }
 
 impl Client {
@@ -123,18 +123,21 @@ impl Client {
 
     /// Moves the clock on to `now`, in milliseconds; it never goes back. Each request whose timeout has passed since it
     /// was last sent is to be sent again, or ends where it was sent again as often as the settings allow.
+    #[inline]
     pub fn tick(&mut self, now: u64) -> Due
         ensures { let step = tick (rules_of self.old) self.old.state now in
             (result ≡ step.answer) × (self.new ≡ keeping self.old step.after) }
     {
         let clock = now.max(self.clock);
         self.clock = clock;
-        let due = self.table.due_front(clock, self.config);
-        if due.is_empty() {
-            return due;
+        if !self.table.is_due(clock, self.config) {
+            return Due { entries: None };
         }
-        self.table.go_on(due.len(), clock, self.config);
-        due.sorted()
+        let mut entries = Entries::new();
+        self.table.pass_all(clock, self.config, &mut entries);
+        Due {
+            entries: Some(entries),
+        }
     }
 
     /// Where the request with this ticket goes, and its datagram. None where no open request has the ticket.
@@ -148,7 +151,7 @@ impl Client {
     /// How many requests are open.
     pub fn open_count(&self) -> usize
         ensures count { result ≡ length self.now.state.waiting }
-        ensures few { result ≤ PLACES }
+        ensures few { result ≤ table_size }
     {
         self.table.len()
     }
@@ -171,9 +174,9 @@ impl Client {
     // The first reason against a request with this body.
     #[tactic(auto, unfolding(crate::specs::Lookahead::refusal_of))]
     fn refusal(&self, body: &[u8]) -> Option<SubmitFault>
-        ensures reason { result ≡ refusal_of PLACES body.now (length self.now.state.waiting) self.now.state.next_ticket }
-        ensures short { IfNone result (length body.now ≤ LONGEST_BODY) }
-        ensures room { IfNone result (length self.now.state.waiting < PLACES) }
+        ensures reason { result ≡ refusal_of table_size body.now (length self.now.state.waiting) self.now.state.next_ticket }
+        ensures short { IfNone result (length body.now ≤ longest_body) }
+        ensures room { IfNone result (length self.now.state.waiting < table_size) }
         ensures ticket { IfNone result (self.now.state.next_ticket < u64.MAX) }
     {
         if body.len() > LONGEST_BODY {

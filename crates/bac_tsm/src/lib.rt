@@ -7,6 +7,7 @@
 
 mod answer;
 mod client;
+mod comparing;
 mod config;
 mod datagram;
 mod due;
@@ -20,6 +21,7 @@ mod table;
 mod theorems;
 
 pub use client::{Client, SubmitFault};
+pub use comparing::{same_end, same_entry, same_fault, same_outcome};
 pub use config::Config;
 pub use due::{Due, Entry};
 pub use event::{Event, Note};

@@ -1,13 +1,14 @@
 //! An open request.
 
-ghost use Rattle.std.specs.Prelude.{◌≡◌, ◌≤◌, length, [], ◌∷◌, nat_eq, nat_lt, if◌then◌else◌, true};
-ghost use Rattle.bac_tsm.specs.Machine.{is_due, due_entry, kept};
+ghost use Rattle.std.specs.Prelude.{◌≡◌, ◌<◌, ◌≤◌, suc, length, nat_eq, true};
+ghost use Rattle.bac_tsm.specs.Limits.{longest_body};
+ghost use Rattle.bac_tsm.specs.Machine.{is_due, due_entry};
 ghost use Rattle.bac_pdu.specs.Peer.{station};
 ghost use Rattle.std.specs.Option.{option_map_or};
 ghost use Rattle.bac_tsm.specs.Answers.{same_station, is_answer_to};
 ghost use Rattle.bac_tsm.specs.Seen.{answer_seen};
 ghost use Rattle.bac_tsm.specs.Client.{client_rules};
-ghost use Rattle.bac_tsm.specs.Table.{begun};
+ghost use Rattle.bac_tsm.specs.Waiting.{begun};
 
 use crate::answer::Answer;
 use crate::config::Config;
@@ -82,7 +83,7 @@ impl Default for OpenRequest {
 impl OpenRequest {
     // Makes it a new request with this body.
     pub(crate) fn begin(&mut self, asked: Asked, body: &[u8])
-        requires { length body.now ≤ LONGEST_BODY }
+        requires { length body.now ≤ longest_body }
         ensures { self.new ≡ begun asked body.now }
     {
         self.ticket = asked.ticket;
@@ -112,12 +113,6 @@ impl OpenRequest {
         self.number
     }
 
-    pub(crate) fn has_ticket(&self, ticket: u64) -> bool
-        ensures { result ≡ nat_eq self.now.request.ticket ticket }
-    {
-        self.ticket == ticket
-    }
-
     // The timeout has passed since the request was last sent.
     pub(crate) fn is_due(&self, clock: u64, config: Config) -> bool
         ensures { result ≡ is_due (client_rules config.timeout config.retries) clock self.now }
@@ -136,20 +131,13 @@ impl OpenRequest {
         }
     }
 
-    // Brings the request to this clock, and says whether it stays open.
-    pub(crate) fn go_on(&mut self, clock: u64, config: Config) -> bool
-        ensures kept { kept (client_rules config.timeout config.retries) clock self.old ≡ (if result then self.new ∷ [] else []) }
-        ensures request { self.new.request ≡ self.old.request }
+    // Makes it one that is sent again now.
+    pub(crate) fn send_again(&mut self, clock: u64, config: Config)
+        requires { self.old.count < config.retries }
+        ensures { self.new ≡ record { request = self.old.request; base = clock; count = suc self.old.count } }
     {
-        if !self.is_due(clock, config) {
-            return true;
-        }
-        if self.count >= config.retries {
-            return false;
-        }
         self.base = clock;
         self.count += 1;
-        true
     }
 
     #[tactic(auto, unfolding(crate::specs::Answers::is_answer_to))]

@@ -1,46 +1,52 @@
 //! The open requests.
 
-ghost use Rattle.std.specs.Prelude.{◌≡◌, None, replicate, ◌<◌, ◌≤◌, ◌++◌, [], ◌∷◌, ℕ, ◌+◌, not, length, map, nat_eq, take, drop, remove, position};
-ghost use Rattle.std.specs.List.{filter, find, flat_map, list_any};
+ghost use Rattle.std.specs.Prelude.{◌≡◌, None, replicate, ◌<◌, ◌≤◌, ◌++◌, [], ◌∷◌, ℕ, false, not, length, map, nat_eq, position, get_or, remove};
+ghost use Rattle.std.specs.List.{All, AllPairs, filter, find, flat_map, list_any};
 ghost use Rattle.std.specs.Option.{option_copied, option_to_list};
+ghost use Rattle.bac_tsm.specs.Limits.{longest_body, table_size};
 ghost use Rattle.bac_tsm.specs.Lookahead.{next_number};
-ghost use Rattle.bac_tsm.specs.Machine.{kept};
+ghost use Rattle.std.specs.List.Sorted.{IsPermutation, IsNonDecreasingBy};
+ghost use Rattle.bac_tsm.specs.Machine.{is_due, due_answer, kept, ticket_of};
 ghost use Rattle.bac_tsm.specs.Answers.{is_answer_to};
 ghost use Rattle.bac_tsm.specs.Seen.{answer_seen};
 ghost use Rattle.bac_tsm.specs.Client.{client_rules};
-ghost use Rattle.bac_tsm.specs.ByKey.{times};
-ghost use Rattle.bac_tsm.specs.Table.{begun, ticket_in, number_in, times_at, due_front, GoesOnAt};
+ghost use Rattle.bac_tsm.specs.Table.{times, times_of_place, IsTurnOf, IsPassed, IsTakenOut};
+ghost use Rattle.bac_tsm.specs.Waiting.{begun, nothing, ticket_in, number_in};
 
 use crate::answer::Answer;
 use crate::config::Config;
-use crate::due::Due;
+use crate::due::{Entries, Entry, sort_by_ticket};
 use crate::limits::{LONGEST_BODY, PLACES};
 use crate::request::{Asked, OpenRequest};
 use arrayvec::ArrayVec;
 use std::marker::Model;
 
-/// The open requests, in the order of their last sends.
+/// The open requests, in the order of their tickets.
 ///
-/// A request stays at its place until it ends. The place of each number stands in a table, and the open places stand in
-/// the order of their last sends.
+/// A request stays at its place until it ends. All places stand in one order, first those of the open requests, by ticket,
+/// and then the free ones. The tickets stand beside it, so that one is found without a look at the places, and the place of
+/// each number in a table. The places of the open requests stand once more in the order of their last sends, so that a tick
+/// looks at those that are due, and at the first that isn't.
 #[derive(Drop)]
 pub(crate) struct Table {
     places: [OpenRequest; PLACES],
     numbers: [Option<u8>; 256],
     order: ArrayVec<u8, PLACES>,
-    free: ArrayVec<u8, PLACES>,
+    tickets: ArrayVec<u64, PLACES>,
+    sends: ArrayVec<u8, PLACES>,
 }
 
 impl Model for Table {
     ghost use Rattle.std.specs.Prelude.{List};
     ghost use Rattle.bac_tsm.specs.Machine.{Waiting};
-    ghost use Rattle.bac_tsm.specs.Table.{held_at, IsTable};
+    ghost use Rattle.bac_tsm.specs.Table.{waiting_in, open_places, IsTable, AreBySend};
 
     ghost Value = { List Waiting };
 
-    ghost view = { λ t. held_at t.places t.order.items };
+    ghost view = { λ t. waiting_in t.places t.order.items t.tickets.items };
 
-    ghost invariant = { λ t. IsTable t.places t.numbers t.order.items t.free.items };
+    ghost invariant = { λ t. IsTable t.places t.numbers t.order.items t.tickets.items
+        × AreBySend t.places (open_places t.order.items t.tickets.items) t.sends.items };
 }
 
 impl Table {
@@ -50,29 +56,45 @@ impl Table {
         Table {
             places: Default::default(),
             numbers: no_numbers(),
-            order: ArrayVec::new(),
-            free: every_place(),
+            order: every_place(),
+            tickets: ArrayVec::new(),
+            sends: ArrayVec::new(),
         }
     }
 
     pub(crate) fn len(&self) -> usize
         ensures count { result ≡ length self.now }
-        ensures few { result ≤ PLACES }
+        ensures few { result ≤ table_size }
     {
-        self.order.len()
+        self.tickets.len()
     }
 
     // The request with this ticket.
     pub(crate) fn find(&self, ticket: u64) -> Option<&OpenRequest>
         ensures { option_copied result ≡ find (λ w. nat_eq w.request.ticket ticket) self.now }
     {
-        for place in self.order.as_slice() {
-            let request = &self.places[usize::from(*place)];
-            if request.has_ticket(ticket) {
-                return Some(request);
-            }
+        let turn = self.turn_of(ticket)?;
+        Some(self.at(turn))
+    }
+
+    // The turn of the request with this ticket. Where none between it and the first has ended, it is looked at first.
+    fn turn_of(&self, ticket: u64) -> Option<usize>
+        ensures { IsTurnOf ticket self.now result }
+    {
+        let first = *self.tickets.first()?;
+        let likely = ticket.wrapping_sub(first) as usize;
+        if self.tickets.get(likely).copied() == Some(ticket) {
+            return Some(likely);
         }
-        None
+        self.tickets.as_slice().binary_search(&ticket).ok()
+    }
+
+    // The request at this turn.
+    fn at(&self, turn: usize) -> &OpenRequest
+        requires { turn < length self.now }
+        ensures { result.now ≡ get_or self.now turn nothing }
+    {
+        &self.places[usize::from(self.order[turn])]
     }
 
     // The first number of the cycle after the last one that no open request has.
@@ -96,17 +118,18 @@ impl Table {
 
     // Opens a request with this body, at a place that is free.
     pub(crate) fn open(&mut self, asked: Asked, body: &[u8])
-        requires room { length self.old < PLACES }
+        requires room { length self.old < table_size }
         requires number { times number_in asked.number self.old ≡ 0 }
-        requires short { length body.now ≤ LONGEST_BODY }
+        requires latest { All (λ w. w.request.ticket < asked.ticket) self.old }
+        requires past { All (λ w. w.base ≤ asked.clock) self.old }
+        requires short { length body.now ≤ longest_body }
         ensures { self.new ≡ self.old ++ begun asked body.now ∷ [] }
     {
-        let Some(place) = self.free.pop() else {
-            return;
-        };
+        let place = self.order[self.tickets.len()];
         self.numbers[usize::from(asked.number)] = Some(place);
         self.places[usize::from(place)].begin(asked, body);
-        self.order.push(place);
+        self.tickets.push(asked.ticket);
+        self.sends.push(place);
     }
 
     // Ends the request that the answer is to, and answers its ticket. Only the request with the answer's number is looked
@@ -121,60 +144,68 @@ impl Table {
             return None;
         }
         let ticket = request.ticket();
-        let turn = turn_of(&self.order, place)?;
+        let turn = self.turn_of(ticket)?;
         self.end(turn);
         Some(ticket)
     }
 
-    // What becomes of the requests from the first one on, up to the first that is not due.
-    pub(crate) fn due_front(&self, clock: u64, config: Config) -> Due
-        ensures { result ≡ due_front (client_rules config.timeout config.retries) clock self.now }
+    // Some request is due at this clock, and then the one that was sent longest ago is.
+    pub(crate) fn is_due(&self, clock: u64, config: Config) -> bool
+        ensures none { result ≡ false → All (λ w. is_due (client_rules config.timeout config.retries) clock w ≡ false) self.now }
+        ensures few { length self.now ≤ table_size }
+        ensures rising { AllPairs (λ v w. v.request.ticket < w.request.ticket) self.now }
     {
-        let mut entries = ArrayVec::new();
-        for place in self.order.as_slice() {
-            let request = &self.places[usize::from(*place)];
-            if !request.is_due(clock, config) {
-                return Due { entries };
-            }
-            entries.push(request.due_entry(config));
-        }
-        Due { entries }
-    }
-
-    // Brings so many requests, from the first one on, to this clock: each goes to the back, or ends.
-    pub(crate) fn go_on(&mut self, count: usize, clock: u64, config: Config)
-        requires { count ≤ length self.old }
-        ensures { self.new ≡ drop count self.old
-            ++ flat_map (kept (client_rules config.timeout config.retries) clock) (take count self.old) }
-    {
-        self.rotate(count);
-        let mut last = self.order.len();
-        for _ in 0..count {
-            last -= 1;
-            if !self.go_on_at(last, clock, config) {
-                self.end(last);
-            }
+        match self.sends.first() {
+            Some(place) => self.places[usize::from(*place)].is_due(clock, config),
+            None => false,
         }
     }
 
-    // Takes so many requests, from the first one on, to the back.
-    fn rotate(&mut self, count: usize)
-        requires { count ≤ length self.old }
-        ensures { self.new ≡ drop count self.old ++ take count self.old }
+    // Brings each request that is due to this clock, and takes down what becomes of it, in the order of tickets. It stands
+    // alone, so that a tick at which nothing is due is a comparison at its caller.
+    #[inline(never)]
+    pub(crate) fn pass_all(&mut self, clock: u64, config: Config, entries: &mut Entries)
+        requires past { All (λ w. w.base ≤ clock) self.old }
+        requires empty { entries.old.items ≡ [] }
+        requires few { length self.old ≤ table_size }
+        ensures told { IsPermutation (flat_map (due_answer (client_rules config.timeout config.retries) clock) self.old) entries.new.items }
+        ensures by_ticket { IsNonDecreasingBy ticket_of entries.new.items }
+        ensures kept { self.new ≡ flat_map (kept (client_rules config.timeout config.retries) clock) self.old }
     {
-        to_back(&mut self.order, count);
+        while let Some(entry) = self.pass_due(clock, config) {
+            entries.push(entry);
+        }
+        sort_by_ticket(entries.as_mut_slice());
     }
 
-    // Brings the request at this turn to this clock, and says whether it stays open.
-    fn go_on_at(&mut self, turn: usize, clock: u64, config: Config) -> bool
-        requires { turn < length self.old }
-        ensures { GoesOnAt (client_rules config.timeout config.retries) clock turn self.old result self.new }
+    // Brings the request that was sent longest ago to this clock, if it is due, and answers what becomes of it. None where
+    // none is due.
+    fn pass_due(&mut self, clock: u64, config: Config) -> Option<Entry>
+        requires { All (λ w. w.base ≤ clock) self.old }
+        ensures { IsPassed (client_rules config.timeout config.retries) clock self.old result self.new }
     {
-        let place = usize::from(self.order[turn]);
-        self.places[place].go_on(clock, config)
+        let place = *self.sends.first()?;
+        let request = &self.places[usize::from(place)];
+        if !request.is_due(clock, config) {
+            return None;
+        }
+        let entry = request.due_entry(config);
+        match entry {
+            Entry::Resend(_) => {
+                self.places[usize::from(place)].send_again(clock, config);
+                self.sends.remove(0);
+                self.sends.push(place);
+            }
+            Entry::TimedOut(ticket) => {
+                if let Some(turn) = self.turn_of(ticket) {
+                    self.end(turn);
+                }
+            }
+        }
+        Some(entry)
     }
 
-    // Ends the request at this turn.
+    // Ends the request at this turn: its place is the last of the free ones.
     fn end(&mut self, turn: usize)
         requires { turn < length self.old }
         ensures { self.new ≡ remove self.old turn }
@@ -182,23 +213,26 @@ impl Table {
         let place = self.order.remove(turn);
         let number = self.places[usize::from(place)].number();
         self.numbers[usize::from(number)] = None;
-        self.free.push(place);
+        self.order.push(place);
+        self.tickets.remove(turn);
+        take_out(&mut self.sends, place);
     }
 }
 
-// Takes so many, from the first one on, to the back.
-fn to_back(order: &mut ArrayVec<u8, PLACES>, count: usize)
-    requires { count ≤ length order.old.items }
-    ensures { order.new.items ≡ drop count order.old.items ++ take count order.old.items }
+// Takes a place out.
+fn take_out(places: &mut ArrayVec<u8, PLACES>, place: u8)
+    requires { 0 < times_of_place place places.old.items }
+    ensures { IsTakenOut place places.old.items places.new.items }
 {
-    order.as_mut_slice().rotate_left(count);
+    if let Some(turn) = turn_of_place(places, place) {
+        places.remove(turn);
+    }
 }
 
-// The turn of this place.
-fn turn_of(order: &[u8], place: u8) -> Option<usize>
-    ensures { result ≡ position (λ other. nat_eq other place) order.now }
+fn turn_of_place(places: &[u8], place: u8) -> Option<usize>
+    ensures { result ≡ position (λ other. nat_eq other place) places.now }
 {
-    order.iter().position(|other| *other == place)
+    places.iter().position(|other| *other == place)
 }
 
 fn no_numbers() -> [Option<u8>; 256]
@@ -209,9 +243,9 @@ fn no_numbers() -> [Option<u8>; 256]
 
 // Every place.
 fn every_place() -> ArrayVec<u8, PLACES>
-    ensures whole { length result.items ≡ PLACES }
-    ensures within { (place : ℕ) → PLACES ≤ place → times_at place result.items ≡ 0 }
-    ensures once { (place : ℕ) → times_at place result.items ≤ 1 }
+    ensures whole { length result.items ≡ table_size }
+    ensures within { (place : ℕ) → table_size ≤ place → times_of_place place result.items ≡ 0 }
+    ensures once { (place : ℕ) → times_of_place place result.items ≤ 1 }
 {
     let mut places = ArrayVec::new();
     for place in 0..PLACES as u8 {

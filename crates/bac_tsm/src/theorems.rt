@@ -1,13 +1,14 @@
 //! The laws of the client: what its machine does is what the look-ahead says.
 
-ghost use Rattle.std.specs.Prelude.{◌≡◌, ◌≢◌, ◌↔◌, ℕ, suc, ◌+◌, ◌<◌, ◌≤◌, List, ◌∷◌, ◌++◌, length, Some, take, true};
+ghost use Rattle.std.specs.Prelude.{◌≡◌, ◌≢◌, ◌↔◌, ℕ, suc, ◌+◌, ◌<◌, ◌≤◌, List, ◌∷◌, ◌++◌, length, Some, IsSomeAnd, take, true};
 ghost use Rattle.std.specs.List.{AllPairs};
 ghost use Rattle.bac_pdu.specs.Peer.{Station};
 ghost use Rattle.bac_tsm.specs.Answers.{same_station, outcome_of};
 ghost use Rattle.bac_tsm.specs.AnswersInWords.{IsAnsweredBy};
 ghost use Rattle.bac_tsm.specs.Client.{client_rules};
 ghost use Rattle.bac_tsm.specs.Events.{Event, Outcome, Request, Rules};
-ghost use Rattle.bac_tsm.specs.Lookahead.{Accepted, accepted, still_open, open_at, output, sends};
+ghost use Rattle.bac_tsm.specs.Lookahead.{Accepted, accepted, due, end, open_among, open_at, output, sends};
+ghost use Rattle.bac_tsm.specs.Progress.{TimeoutsPass, last_of};
 ghost use Rattle.bac_tsm.specs.Machine.{folded, initial};
 ghost use Rattle.bac_tsm.specs.Laws.{AnswersByNumber, NumbersComeBackLate, PassedAreHeld, outputs, state_at};
 
@@ -75,5 +76,14 @@ pub fn numbers_come_back_late()
 pub fn passed_numbers_are_held()
     ensures { (rules : Rules) (first_ticket : ℕ) (events : List Event) (n : ℕ) → rules.places ≤ 255 →
         (before since : List Accepted) (a : Accepted) → accepted rules first_ticket events n ≡ before ++ a ∷ since →
-        PassedAreHeld a (still_open rules events a.position before) since }
+        PassedAreHeld a (open_among rules events a.position before) since }
+{}
+
+/// No request waits for ever: as often as the timeout passed, by ticks, it has been due, and once that is more often than it is sent
+/// again, it has ended (clause 5.4.4).
+pub fn no_request_waits_for_ever()
+    ensures due { (rules : Rules) (events : List Event) (i : ℕ) (ticks : List ℕ) → TimeoutsPass rules events i ticks →
+        IsSomeAnd (due rules events i (length ticks)) (λ j. j ≤ last_of i ticks) }
+    ensures ended { (rules : Rules) (events : List Event) (a : Accepted) (ticks : List ℕ) → TimeoutsPass rules events a.position ticks →
+        length ticks ≡ suc rules.retries → IsSomeAnd (end rules events a) (λ e. e.position ≤ last_of a.position ticks) }
 {}

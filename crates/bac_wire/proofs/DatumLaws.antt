@@ -9,10 +9,11 @@ use Rattle.bac_wire.specs.declared.tag.Shape.{Shape}
 use Rattle.bac_wire.specs.declared.tag.Shape.TheVariants.{App, Context, Opening, Closing}
 use Rattle.bac_wire.specs.Identifier.{Identifier, number_of, identifier_of}
 use Rattle.bac_wire.specs.Tag.{SpellsTag}
-use Rattle.bac_wire.specs.TagReading.{◌>>=◌, tag_at}
-use Rattle.bac_wire.specs.Datum.{Datum, null, boolean, unsigned, signed, real, double, octet_string, char_string, bit_string, enumerated, date, time, object, kind, Holds, shape_number, tag_before, Spells, IsSound}
+use Rattle.bac_wire.specs.Steps.{◌>>=◌}
+use Rattle.bac_wire.specs.TagReading.{tag_at}
+use Rattle.bac_wire.specs.Datum.{Datum, null, boolean, unsigned, signed, real, double, octet_string, char_string, bit_string, enumerated, date, time, object, tag_number, StandsFor, shape_number, tag_before, Spells, IsSound}
 use Rattle.bac_wire.specs.DatumReading.{exactly, number_within, chars_of, bits_of, contents_of, boolean_of, behind_at, with_shape, value_at}
-use Rattle.bac_wire.proofs.Readers.{IsReader, Took, found_at, chosen, one_front}
+use Rattle.bac_wire.proofs.Readers.{IsReader, Took, reader_of, found_at, chosen, one_front}
 use Rattle.bac_wire.proofs.TagLaws.{bind_some, tag_reader}
 
 -- ---- the contents of a value are read again
@@ -29,11 +30,11 @@ same_identifier n id low e =
     let low_is : n % 2 ^ 22 ≡ id.instance = omega arith in
     rw (high_is, low_is) refl
 
-bits_again : (contents : List ℕ) (unused : ℕ) (x : List ℕ) → Holds contents (bit_string unused x) → bits_of contents ≡ Some (bit_string unused x)
+bits_again : (contents : List ℕ) (unused : ℕ) (x : List ℕ) → StandsFor contents (bit_string unused x) → bits_of contents ≡ Some (bit_string unused x)
 bits_again contents unused [] h = let none = h.1.empty refl in rw (h.0, eq-eqb unused 0 none) refl
 bits_again contents unused (b ∷ x) h = rw (h.0, le-ltb 7 unused h.1.most) refl
 
-contents_again : (contents : List ℕ) (value : Datum) → (kind value ≡ 1 → ⊥) → Holds contents value → contents_of (kind value) contents ≡ Some value
+contents_again : (contents : List ℕ) (value : Datum) → (tag_number value ≡ 1 → ⊥) → StandsFor contents value → contents_of (tag_number value) contents ≡ Some value
 unfolding contents_of
 contents_again contents null other h = rw h refl
 contents_again contents (boolean b) other h = absurd (other refl)
@@ -53,7 +54,7 @@ contents_again contents (object id) other h = rw (exactly_again 4 contents h.0, 
 
 -- contents and the value of this kind that they hold
 abbrev Holding : ℕ → List ℕ → Datum → Type 0
-Holding number contents value = (kind value ≡ number) × Holds contents value
+Holding number contents value = (tag_number value ≡ number) × StandsFor contents value
 
 exactly_takes : (n : ℕ) (contents : List ℕ) (x : List ℕ) → exactly n contents ≡ Some x → (length contents ≡ n) × (contents ≡ x)
 exactly_takes n contents x e =
@@ -158,13 +159,13 @@ boolean_again true = refl
 boolean_again false = refl
 
 -- what stands behind the tag of a value that is no boolean
-behind_again : (value : Datum) (contents rest : List ℕ) → (kind value ≡ 1 → ⊥) → shape_number value (length contents) ≡ length contents → Holds contents value
-    → behind_at (kind value) (length contents) (contents ++ rest) ≡ found_at value rest
+behind_again : (value : Datum) (contents rest : List ℕ) → (tag_number value ≡ 1 → ⊥) → shape_number value (length contents) ≡ length contents → StandsFor contents value
+    → behind_at (tag_number value) (length contents) (contents ++ rest) ≡ found_at value rest
 behind_again value contents rest other same h =
     let long : ltb (length (contents ++ rest)) (length contents) ≡ false = le-ltb _ _ (omega (arith, length-append contents rest)) in
-    rw (ne_eqb (kind value) 1 other, long, take_at contents rest (length contents) refl, drop_at contents rest (length contents) refl, contents_again contents value other h) refl
+    rw (ne_eqb (tag_number value) 1 other, long, take_at contents rest (length contents) refl, drop_at contents rest (length contents) refl, contents_again contents value other h) refl
 
-shaped_again : (value : Datum) (contents rest : List ℕ) → Holds contents value → behind_at (kind value) (shape_number value (length contents)) (contents ++ rest) ≡ found_at value rest
+shaped_again : (value : Datum) (contents rest : List ℕ) → StandsFor contents value → behind_at (tag_number value) (shape_number value (length contents)) (contents ++ rest) ≡ found_at value rest
 shaped_again null contents rest h = behind_again null contents rest (λ e. cc) refl h
 shaped_again (boolean b) contents rest h = rw (boolean_again b, h) refl
 shaped_again (unsigned n) contents rest h = behind_again (unsigned n) contents rest (λ e. cc) refl h
@@ -197,7 +198,7 @@ boolean_takes n value e =
     ]
 
 -- the number in the tag of contents that hold a value of another kind
-shape_number_is : (value : Datum) (n : ℕ) → (kind value ≡ 1 → ⊥) → shape_number value n ≡ n
+shape_number_is : (value : Datum) (n : ℕ) → (tag_number value ≡ 1 → ⊥) → shape_number value n ≡ n
 shape_number_is null n other = refl
 shape_number_is (boolean b) n other = absurd (other refl)
 shape_number_is (unsigned _) n other = refl
@@ -214,7 +215,7 @@ shape_number_is (object _) n other = refl
 
 -- contents behind a tag, and the value that they hold with it
 abbrev Behind : ℕ → ℕ → List ℕ → Datum → List ℕ → Type 0
-Behind number n after value rest = (contents : List ℕ) × (kind value ≡ number) × (shape_number value (length contents) ≡ n) × Holds contents value × (after ≡ contents ++ rest)
+Behind number n after value rest = (contents : List ℕ) × (tag_number value ≡ number) × (shape_number value (length contents) ≡ n) × StandsFor contents value × (after ≡ contents ++ rest)
 
 behind_takes : (number n : ℕ) (after : List ℕ) (value : Datum) (rest : List ℕ) → behind_at number n after ≡ found_at value rest → Behind number n after value rest
 behind_takes number n after value rest e =
@@ -256,18 +257,18 @@ unfolding value_at
 value_takes spelling value rest e =
     let bound = bind_some (tag_at spelling) (λ tag. with_shape tag.0 tag.0.shape tag.1) (value, rest) e in
     let first = tag_reader.takes spelling bound.0.0 bound.0.1 bound.1 in
-    let taken = shape_takes bound.0.0.number bound.0.0.shape first.0 bound.0.1 value rest first.1 bound.2 in
-    subst (λ (w : List ℕ). Took Spells w value rest) (sym first.2) taken
+    let taken = shape_takes bound.0.0.number bound.0.0.shape first.front bound.0.1 value rest first.spelled bound.2 in
+    subst (λ (w : List ℕ). Took Spells w value rest) (sym first.whole) taken
 
 pub value_reader : IsReader Spells value_at
-value_reader = record { takes = value_takes; again = value_again }
+value_reader = reader_of Spells value_at value_takes value_again
 
 -- no spelling of a value begins another
 pub one_value : (a b u v : List ℕ) (x y : Datum) → Spells a x → Spells b y → a ++ u ≡ b ++ v → (a ≡ b) × (x ≡ y)
 one_value = one_front Spells value_at value_reader
 
 -- what contents stand for is sound
-pub held_sound : (contents : List ℕ) (value : Datum) → Holds contents value → IsSound value
+pub held_sound : (contents : List ℕ) (value : Datum) → StandsFor contents value → IsSound value
 held_sound contents null h = tt
 held_sound contents (boolean b) h = tt
 held_sound contents (unsigned n) h = tt

@@ -8,9 +8,10 @@ use Rattle.bac_wire.specs.declared.tag.Shape.TheVariants.{App, Context, Opening,
 use Rattle.bac_wire.specs.declared.tag.Tag.{Tag}
 use Rattle.bac_wire.specs.Front.{Finds}
 use Rattle.bac_wire.specs.Tag.{SpellsTag}
-use Rattle.bac_wire.specs.TagReading.{◌>>=◌, tag_at}
+use Rattle.bac_wire.specs.Steps.{◌>>=◌}
+use Rattle.bac_wire.specs.TagReading.{tag_at}
 use Rattle.bac_wire.specs.Region.{closing_tag, CountsBehind, IsRegion, IsClosedBy, HasEnded, LeavesRest, LeavesBehind, IsClosedRegion, SpellsClosed}
-use Rattle.bac_wire.proofs.Readers.{IsReader, found_at}
+use Rattle.bac_wire.proofs.Readers.{IsReader, reader_of, found_at}
 use Rattle.bac_wire.proofs.TagLaws.{tag_reader, bind_some}
 use Rattle.bac_wire.proofs.RegionReading.{closed_again, closed_since, closed_is, no_closed, ended_since, ended_is, ended_empty, ended_nothing, counted_since, none_counted, opening_since, opening_none, opening_deep, closing_none, no_tag_all, ended_leaves, leaves_more, item_all, stuck_all, behind_shorter, one_left, whole_region, region_whole}
 use Rattle.bac_wire.proofs.Reading.{nothing_read}
@@ -95,7 +96,7 @@ tag_finds items most depth octets tag (Context n) after reads short less e is =
 tag_shorter : (octets : List ℕ) (tag : Tag) (after : List ℕ) → found_at tag after ≡ tag_at octets → length after < length octets
 tag_shorter octets tag after e =
     let taken = tag_reader.takes octets tag after (sym e) in
-    omega (arith, ap length taken.2, length-append taken.0 after, ap length taken.1.whole)
+    omega (arith, ap length taken.whole, length-append taken.front after, ap length taken.spelled.whole)
 
 read_finds : (items : ℕ → List ℕ → Option (List ℕ)) (most depth : ℕ) (octets : List ℕ) (read : Option (Tag × List ℕ)) → ReadsItems items most → length octets < suc most → read ≡ tag_at octets
     → Finds (LeavesRest depth octets) (behind_tag_found items depth octets read)
@@ -162,10 +163,9 @@ region_again_at number octets region closing rest items closed line =
     rw (items_again 32 octets (closing ++ rest) l, closing_again number (closing ++ rest) rest c, region_is) refl
 
 pub region_reader : (number : ℕ) → IsReader (SpellsClosed number) (region_at number)
-region_reader number = record {
-  takes = region_takes number;
-  again = λ front region rest s. region_again_at number (front ++ rest) region s.closing rest s.items s.closed (ap (λ (w : List ℕ). w ++ rest) s.whole ∙ append_assoc region s.closing rest);
-}
+region_reader number =
+    reader_of (SpellsClosed number) (region_at number) (region_takes number)
+    (λ front region rest s. region_again_at number (front ++ rest) region s.closing rest s.items s.closed (ap (λ (w : List ℕ). w ++ rest) s.whole ∙ append_assoc region s.closing rest))
 
 -- ---- what the code finds
 

@@ -1,5 +1,6 @@
 pub mod Readers
 pub mod Reading
+pub mod Writing
 pub mod TagLaws
 pub mod PlainTag
 pub mod DatumLaws

@@ -11,7 +11,8 @@ use Rattle.bac_wire.specs.declared.tag.Tag.{Tag}
 use Rattle.bac_wire.specs.Front.{IsReader, Begins, Finds}
 use Rattle.bac_wire.specs.Identifier.{Identifier, IsIdentifier, identifier_of, number_of}
 use Rattle.bac_wire.specs.Tag.{SpellsTag, plain_tag}
-use Rattle.bac_wire.specs.TagReading.{◌>>=◌, tag_at}
+use Rattle.bac_wire.specs.Steps.{◌>>=◌}
+use Rattle.bac_wire.specs.TagReading.{tag_at}
 use Rattle.bac_wire.specs.Region.{IsRegion, opening_tag, closing_tag}
 use Rattle.bac_wire.specs.Datum.{Datum, Spells, unsigned, enumerated, octet_count}
 use Rattle.bac_wire.specs.Datum as values
@@ -19,7 +20,7 @@ use Rattle.bac_wire.specs.DatumReading.{value_at}
 use Rattle.bac_wire.specs.ItemReading.{region_at}
 use Rattle.bac_wire.specs.Parameter.{context_tag, SpellsContext, IsNumber, IsObject, SpellsIn, SpellsEnclosed, context_octets, number_octets, object_octets, enclosed_octets}
 use Rattle.bac_wire.specs.ParameterReading.{counted_of, context_at, number_of_contents, object_of_contents, number_at, object_at, opening_of, behind_opening, enclosed_at, unsigned_in, enumerated_in, object_in, kind_at}
-use Rattle.bac_wire.proofs.Readers.{found_at, chosen}
+use Rattle.bac_wire.proofs.Readers.{reader_of, found_at, chosen}
 use Rattle.bac_wire.proofs.TagLaws.{tag_reader, bind_some}
 use Rattle.bac_wire.proofs.PlainTag.{plain_tag_spells}
 use Rattle.bac_wire.proofs.DatumLaws.{value_reader}
@@ -47,8 +48,8 @@ counted_takes number octets tag (Context n) after contents rest e is f =
             let tag_here : tag ≡ record { number = number; shape = Context (length contents) } = tag_is tag number (Context (length contents)) (is ∙ ap Context long) (eqb-true tag.number number same.0) in
             let taken = tag_reader.takes octets tag after e in
             let after_is : after ≡ contents ++ rest = sym (take-append-drop n after) ∙ ap (λ (w : List ℕ). w ++ drop n after) parts.0 ∙ ap (λ (w : List ℕ). contents ++ w) parts.1 in
-            let here : SpellsContext number (taken.0 ++ contents) contents = record { tag = taken.0; whole = refl; tagged = subst (SpellsTag taken.0) tag_here taken.1 } in
-            (taken.0 ++ contents, here, taken.2 ∙ ap (λ (w : List ℕ). taken.0 ++ w) after_is ∙ sym (append_assoc taken.0 contents rest))
+            let here : SpellsContext number (taken.front ++ contents) contents = record { tag = taken.front; whole = refl; tagged = subst (SpellsTag taken.front) tag_here taken.spelled } in
+            (taken.front ++ contents, here, taken.whole ∙ ap (λ (w : List ℕ). taken.front ++ w) after_is ∙ sym (append_assoc taken.front contents rest))
       ]
       | inr other ↦ absurd (none-some (contents, rest) other.1)
     ]
@@ -129,14 +130,14 @@ in_again Stands of decides number front x rest s = rw (context_again number fron
 
 pub number_reader : (number : ℕ) → IsReader (SpellsIn IsNumber number) (number_at number)
 unfolding number_at
-number_reader number = record { takes = in_takes IsNumber number_of_contents (record { takes = number_takes; again = number_again }) number; again = in_again IsNumber number_of_contents (record { takes = number_takes; again = number_again }) number }
+number_reader number = reader_of (SpellsIn IsNumber number) (number_at number) (in_takes IsNumber number_of_contents (record { takes = number_takes; again = number_again }) number) (in_again IsNumber number_of_contents (record { takes = number_takes; again = number_again }) number)
 
 pub object_reader : (number : ℕ) → IsReader (SpellsIn IsObject number) (object_at number)
 unfolding object_at
-object_reader number = record { takes = in_takes IsObject object_of_contents (record { takes = object_takes; again = object_again }) number; again = in_again IsObject object_of_contents (record { takes = object_takes; again = object_again }) number }
+object_reader number = reader_of (SpellsIn IsObject number) (object_at number) (in_takes IsObject object_of_contents (record { takes = object_takes; again = object_again }) number) (in_again IsObject object_of_contents (record { takes = object_takes; again = object_again }) number)
 
 pub context_reader : (number : ℕ) → IsReader (SpellsContext number) (context_at number)
-context_reader number = record { takes = context_takes number; again = context_again number }
+context_reader number = reader_of (SpellsContext number) (context_at number) (context_takes number) (context_again number)
 
 -- where there are no octets nothing is read
 pub no_number : (number : ℕ) → number_at number [] ≡ None
@@ -161,7 +162,7 @@ opened_again number octets rest o = ap tag_at o.whole ∙ tag_reader.again o.ope
 opened_since : (number : ℕ) (octets rest : List ℕ) (tag : Tag) → found_at tag rest ≡ tag_at octets → tag.shape ≡ Opening → tag.number ≡ number → OpensTo number octets rest
 opened_since number octets rest tag e is same =
     let taken = tag_reader.takes octets (opening_tag number) rest (tag_since tag octets rest Opening e is ∙ ap (λ (k : ℕ). found_at (opening_tag k) rest) same) in
-    record { opening = taken.0; opened = taken.1; whole = taken.2 }
+    record { opening = taken.front; opened = taken.spelled; whole = taken.whole }
 
 opened_is : (number : ℕ) (octets rest after : List ℕ) (tag : Tag) → found_at tag after ≡ tag_at octets → OpensTo number octets rest → (tag ≡ opening_tag number) × (after ≡ rest)
 opened_is number octets rest after tag e o = some_pair_parts tag (opening_tag number) after rest (e ∙ opened_again number octets rest o)
@@ -193,7 +194,7 @@ enclosed_takes number octets region rest e =
     let a = bind_some (behind_opening number octets) (region_at number) (region, rest) e in
     let o : OpensTo number octets a.0 = subst (Finds (OpensTo number octets)) a.1 (opening_finds number octets) in
     let b = (region_reader number).takes a.0 region rest a.2 in
-    (o.opening ++ b.0, record { opening = o.opening; behind = b.0; whole = refl; opened = o.opened; closed = b.1 }, o.whole ∙ ap (λ (w : List ℕ). o.opening ++ w) b.2 ∙ sym (append_assoc o.opening b.0 rest))
+    (o.opening ++ b.front, record { opening = o.opening; behind = b.front; whole = refl; opened = o.opened; closed = b.spelled }, o.whole ∙ ap (λ (w : List ℕ). o.opening ++ w) b.whole ∙ sym (append_assoc o.opening b.front rest))
 
 enclosed_again : (number : ℕ) (front region rest : List ℕ) → SpellsEnclosed number front region → enclosed_at number (front ++ rest) ≡ found_at region rest
 unfolding enclosed_at
@@ -202,7 +203,7 @@ enclosed_again number front region rest s =
     rw (opening_again number (front ++ rest) (s.behind ++ rest) o) ((region_reader number).again s.behind region rest s.closed)
 
 pub enclosed_reader : (number : ℕ) → IsReader (SpellsEnclosed number) (enclosed_at number)
-enclosed_reader number = record { takes = enclosed_takes number; again = enclosed_again number }
+enclosed_reader number = reader_of (SpellsEnclosed number) (enclosed_at number) (enclosed_takes number) (enclosed_again number)
 
 -- a items between tags are no number
 pub enclosed_no_number : (number other : ℕ) (octets front region rest : List ℕ) → SpellsEnclosed other front region → octets ≡ front ++ rest → number_at number octets ≡ None
@@ -225,7 +226,7 @@ kind_takes made in_kind kind octets x rest e =
     let parts = some_pair_parts b.0 x a.0.1 rest b.2 in
     let taken = value_reader.takes octets a.0.0 a.0.1 a.1 in
     let value_is : a.0.0 ≡ made x = kind.takes a.0.0 b.0 b.1 ∙ ap made parts.0 in
-    record { front = taken.0; spelled = subst (Spells taken.0) value_is taken.1; whole = taken.2 ∙ ap (λ (w : List ℕ). taken.0 ++ w) parts.1 }
+    record { front = taken.front; spelled = subst (Spells taken.front) value_is taken.spelled; whole = taken.whole ∙ ap (λ (w : List ℕ). taken.front ++ w) parts.1 }
 
 pub kind_again : {A : Type 0} (made : A → Datum) (in_kind : Datum → Option A) → IsKind made in_kind → (octets : List ℕ) (x : A) (rest : List ℕ) → Begins Spells octets (made x) rest → kind_at in_kind octets ≡ found_at x rest
 unfolding kind_at

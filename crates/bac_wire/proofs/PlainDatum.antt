@@ -9,7 +9,7 @@ use Rattle.byteorder.specs.Endian.{big_number, big_bytes, twos_complement, low_b
 use Rattle.byteorder.specs.Numbers.{big_number-reads_back, length-bytes_high_first}
 use Rattle.bac_wire.specs.Identifier.{number_of}
 use Rattle.bac_wire.specs.Tag.{IsTag, plain_tag}
-use Rattle.bac_wire.specs.Datum.{Datum, null, boolean, unsigned, signed, real, double, octet_string, char_string, bit_string, enumerated, date, time, object, Holds, tag_before, Spells, octet_count, signed_count, plain_contents, tagged, plain, InRange, IsDatum}
+use Rattle.bac_wire.specs.Datum.{Datum, null, boolean, unsigned, signed, real, double, octet_string, char_string, bit_string, enumerated, date, time, object, StandsFor, tag_before, Spells, octet_count, signed_count, plain_contents, tagged, plain, InRange, IsDatum}
 use Rattle.bac_wire.proofs.PlainTag.{plain_tag_spells}
 
 -- what holds of the count of octets in each of its cases
@@ -104,18 +104,18 @@ signed_back (negsuc n) fits = sym (octet_count_cases (λ k. twos_complement k (l
 low_bytes_fit : (k : ℕ) (z : ℤ) (n : ℕ) → k ≡ octet_count n → low_bytes w64 k z < 256 ^ k
 low_bytes_fit k z n e = rw e (octet_count_cases (λ j. low_bytes w64 j z < 256 ^ j) n (λ h. omega arith) (λ l h. omega arith) (λ l h. omega arith) (λ l h. omega arith) (λ l h. omega arith) (λ l h. omega arith) (λ l h. omega arith) (λ l. omega arith))
 
-signed_parts : (k x : ℕ) (z : ℤ) → 1 ≤ k → k ≤ 8 → x < 256 ^ k → z ≡ twos_complement k x → Holds (big_bytes k x) (signed z)
+signed_parts : (k x : ℕ) (z : ℤ) → 1 ≤ k → k ≤ 8 → x < 256 ^ k → z ≡ twos_complement k x → StandsFor (big_bytes k x) (signed z)
 signed_parts k x z low high fits e =
     let long = length-bytes_high_first k x in
     (rw long low, rw long high, e ∙ ap (twos_complement k) (number_back k x fits) ∙ ap (λ (j : ℕ). twos_complement j (big_number (length (big_bytes k x)) (big_bytes k x))) (sym long))
 
-signed_holds : (z : ℤ) → FitsSigned w64 z → Holds (plain_contents (signed z)) (signed z)
+signed_holds : (z : ℤ) → FitsSigned w64 z → StandsFor (plain_contents (signed z)) (signed z)
 signed_holds (pos n) h = signed_parts (octet_count (2 * n)) (low_bytes w64 (octet_count (2 * n)) (pos n)) (pos n) (count_low (2 * n)) (count_high (2 * n)) (low_bytes_fit (octet_count (2 * n)) (pos n) (2 * n) refl) (signed_back (pos n) h)
 signed_holds (negsuc n) h = signed_parts (octet_count (2 * n)) (low_bytes w64 (octet_count (2 * n)) (negsuc n)) (negsuc n) (count_low (2 * n)) (count_high (2 * n)) (low_bytes_fit (octet_count (2 * n)) (negsuc n) (2 * n) refl) (signed_back (negsuc n) h)
 
 -- ---- the contents
 
-plain_holds : (value : Datum) → InRange value → Holds (plain_contents value) value
+plain_holds : (value : Datum) → InRange value → StandsFor (plain_contents value) value
 plain_holds null h = refl
 plain_holds (boolean b) h = refl
 plain_holds (unsigned n) h = (rw (length-bytes_high_first (octet_count n) n) (count_low n), rw (length-bytes_high_first (octet_count n) n) (count_high n), number_back (octet_count n) n (count_fits n h))

@@ -4,7 +4,18 @@ use Rattle.std.specs.Prelude.{◌⊎◌}
 use Rattle.std.proofs.lemmas.List.{take_at, append_cancel_right}
 use Rattle.std.proofs.lemmas.Option.{some_pair_parts}
 use Rattle.bac_wire.specs.Front.{FindsFront, IsReadBack}
-pub use Rattle.bac_wire.specs.Front.{IsReader, Took}
+pub use Rattle.bac_wire.specs.Front.{IsReader, Begins}
+
+-- what stands at the front, as the steps of a reader find it
+abbrev pub Took : {A : Type 0} → (List ℕ → A → Type 0) → List ℕ → A → List ℕ → Type 0
+Took Spells octets x rest = (front : List ℕ) × Spells front x × (octets ≡ front ++ rest)
+
+pub reader_of : {A : Type 0} (Spells : List ℕ → A → Type 0) (at : List ℕ → Option (A × List ℕ)) → ((octets : List ℕ) (x : A) (rest : List ℕ) → at octets ≡ Some (x, rest) → Took Spells octets x rest)
+    → ((front : List ℕ) (x : A) (rest : List ℕ) → Spells front x → at (front ++ rest) ≡ Some (x, rest)) → IsReader Spells at
+reader_of Spells at takes again = record {
+  takes = λ octets x rest e. let t = takes octets x rest e in record { front = t.0; spelled = t.1; whole = t.2 };
+  again = again;
+}
 
 abbrev pub found_at : {A : Type 0} → A → List ℕ → Option (A × List ℕ)
 found_at x rest = Some (x, rest)
@@ -33,8 +44,8 @@ pub found_front : {A : Type 0} (Spells : List ℕ → A → Type 0) (at : List �
     → (length rest ≤ length octets) × FindsFront Spells octets (Some (x, length octets - length rest))
 found_front {A} Spells at reader octets x rest e =
     let taken = reader.takes octets x rest (sym e) in
-    let here = take_front octets taken.0 rest taken.2 in
-    let spelled : Spells (take (length octets - length rest) octets) x = subst (λ (w : List ℕ). Spells w x) (sym (ap (λ (k : ℕ). take k octets) here.1 ∙ here.2)) taken.1 in
+    let here = take_front octets taken.front rest taken.whole in
+    let spelled : Spells (take (length octets - length rest) octets) x = subst (λ (w : List ℕ). Spells w x) (sym (ap (λ (k : ℕ). take k octets) here.1 ∙ here.2)) taken.spelled in
     let all : (other after : List ℕ) (y : A) → Spells other y → octets ≡ other ++ after → ◌≡◌ {A = Option (A × ℕ)} (Some (x, length octets - length rest)) (Some (y, length other)) = λ other after y t parts.
     let both = some_pair_parts x y rest after (e ∙ ap at parts ∙ reader.again other y after t) in
     let there = take_front octets other after parts in

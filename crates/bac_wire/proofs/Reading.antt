@@ -9,7 +9,7 @@ none_is : {A : Type 0} (Spells : List ℕ → A → Type 0) (at : List ℕ → O
 none_is Spells at reader octets None e finds = refl
 none_is Spells at reader octets (Some y) e finds =
     let taken = reader.takes octets y.0 y.1 e in
-    absurd (none-some (y.0, length taken.0) (finds.all taken.0 y.1 y.0 taken.1 taken.2))
+    absurd (none-some (y.0, length taken.front) (finds.all taken.front y.1 y.0 taken.spelled taken.whole))
 
 -- where nothing was found nothing is read
 pub none_read : {A : Type 0} (Spells : List ℕ → A → Type 0) (at : List ℕ → Option (A × List ℕ)) → IsReader Spells at → (octets : List ℕ) → FindsFront Spells octets None → None ≡ at octets
@@ -26,7 +26,7 @@ to_end octets size = take_all (length octets - size) (drop size octets) (omega (
 
 none_where : {A : Type 0} (Spells : List ℕ → A → Type 0) (at : List ℕ → Option (A × List ℕ)) → IsReader Spells at → (octets : List ℕ) (read : Option (A × List ℕ)) → at octets ≡ read → ((front rest : List ℕ) (x : A) → Spells front x → octets ≡ front ++ rest → ⊥) → None ≡ read
 none_where Spells at reader octets None e nothing = refl
-none_where Spells at reader octets (Some y) e nothing = let taken = reader.takes octets y.0 y.1 e in absurd (nothing taken.0 y.1 y.0 taken.1 taken.2)
+none_where Spells at reader octets (Some y) e nothing = let taken = reader.takes octets y.0 y.1 e in absurd (nothing taken.front y.1 y.0 taken.spelled taken.whole)
 
 -- where nothing stands at the front nothing is read
 pub nothing_read : {A : Type 0} (Spells : List ℕ → A → Type 0) (at : List ℕ → Option (A × List ℕ)) → IsReader Spells at → (octets : List ℕ) → ((front rest : List ℕ) (x : A) → Spells front x → octets ≡ front ++ rest → ⊥) → None ≡ at octets

@@ -25,7 +25,7 @@ tag_parts tag number shape e f = rw (← e, ← f) refl
 pub closed_found : (number : ℕ) (octets rest : List ℕ) → tag_at octets ≡ found_at (closing_tag number) rest → IsClosedBy number octets rest
 closed_found number octets rest e =
     let taken = tag_reader.takes octets (closing_tag number) rest e in
-    record { closing = taken.0; closed = taken.1; whole = taken.2 }
+    record { closing = taken.front; closed = taken.spelled; whole = taken.whole }
 
 pub closed_again : (number : ℕ) (octets rest : List ℕ) → IsClosedBy number octets rest → tag_at octets ≡ found_at (closing_tag number) rest
 closed_again number octets rest c = ap tag_at c.whole ∙ tag_reader.again c.closing (closing_tag number) rest c.closed
@@ -68,8 +68,8 @@ pub primitive_found : (depth : ℕ) (octets : List ℕ) (tag : Tag) (contents re
     → Counts tag.number tag.shape (length contents) → LeavesBehind depth octets rest
 primitive_found depth octets tag contents rest e counted =
     let taken = tag_reader.takes octets tag (contents ++ rest) e in
-    let primitive : IsPrimitive (taken.0 ++ contents) = record { tag = tag; spelling = taken.0; contents = contents; whole = refl; tagged = taken.1; counted = counted } in
-    record { front = taken.0 ++ contents; item = primitive_item depth (taken.0 ++ contents) primitive; whole = taken.2 ∙ sym (append_assoc taken.0 contents rest) }
+    let primitive : IsPrimitive (taken.front ++ contents) = record { tag = tag; spelling = taken.front; contents = contents; whole = refl; tagged = taken.spelled; counted = counted } in
+    record { front = taken.front ++ contents; item = primitive_item depth (taken.front ++ contents) primitive; whole = taken.whole ∙ sym (append_assoc taken.front contents rest) }
 
 -- what stands behind a tag that begins with an item's
 primitive_parts : (octets : List ℕ) (tag : Tag) (after front rest : List ℕ) → tag_at octets ≡ found_at tag after → (p : IsPrimitive front) → octets ≡ front ++ rest
@@ -117,9 +117,9 @@ primitive_all depth octets tag after rest count e counted l = item_counts depth 
 pub bracket_found : (depth number : ℕ) (octets after mid rest : List ℕ) → tag_at octets ≡ found_at (opening_tag number) after → LeavesRest depth after mid → IsClosedBy number mid rest → LeavesBehind (suc depth) octets rest
 bracket_found depth number octets after mid rest e l c =
     let taken = tag_reader.takes octets (opening_tag number) after e in
-    let bracketed : IsBracketed (IsItem depth) (taken.0 ++ (l.front ++ c.closing)) = record { number = number; opening = taken.0; inside = l.front; closing = c.closing; whole = refl; opened = taken.1; parts = l.region; closed = c.closed } in
+    let bracketed : IsBracketed (IsItem depth) (taken.front ++ (l.front ++ c.closing)) = record { number = number; opening = taken.front; inside = l.front; closing = c.closing; whole = refl; opened = taken.spelled; parts = l.region; closed = c.closed } in
     let inner : after ≡ (l.front ++ c.closing) ++ rest = l.whole ∙ ap (λ (w : List ℕ). l.front ++ w) c.whole ∙ sym (append_assoc l.front c.closing rest) in
-    record { front = taken.0 ++ (l.front ++ c.closing); item = inr bracketed; whole = taken.2 ∙ ap (λ (w : List ℕ). taken.0 ++ w) inner ∙ sym (append_assoc taken.0 (l.front ++ c.closing) rest) }
+    record { front = taken.front ++ (l.front ++ c.closing); item = inr bracketed; whole = taken.whole ∙ ap (λ (w : List ℕ). taken.front ++ w) inner ∙ sym (append_assoc taken.front (l.front ++ c.closing) rest) }
 
 -- what stands behind an opening tag that begins an item
 pub record BracketBehind (depth number : ℕ) (after rest : List ℕ) : Type 0 where
@@ -254,19 +254,11 @@ pub record SameRests (depth : ℕ) (octets rest : List ℕ) : Type 0 where
   pub onward : (left : List ℕ) → LeavesRest depth octets left → LeavesRest depth rest left
   pub back : (left : List ℕ) → LeavesRest depth rest left → LeavesRest depth octets left
 
-pub same_rests : (depth : ℕ) (octets : List ℕ) → SameRests depth octets octets
-same_rests depth octets = record { onward = λ left l. l; back = λ left l. l }
-
 pub same_rests_more : (depth : ℕ) (octets rest next : List ℕ) → SameRests depth octets rest → LeavesBehind depth rest next → SameRests depth octets next
 same_rests_more depth octets rest next same i = record {
   onward = λ left l. item_all depth rest next left i (same.onward left l);
   back = λ left l. same.back left (leaves_more depth rest next left i l);
 }
-
-one_rest : (depth : ℕ) (octets rest other : List ℕ) → LeavesBehind depth octets rest → LeavesBehind depth octets other → rest ≡ other
-one_rest depth octets rest other i j =
-    let fronts = one_item depth depth i.front j.front rest other i.item j.item (sym i.whole ∙ j.whole) in
-    append_cancel_left i.front rest other (sym i.whole ∙ j.whole ∙ ap (λ (w : List ℕ). w ++ other) (sym fronts))
 
 cons_front : (front rest : List ℕ) (first : ℕ) (others : List ℕ) → front ≡ first ∷ others → length rest < length (front ++ rest)
 cons_front front rest first others e = omega (arith, ap length e, length-append front rest)

@@ -12,7 +12,7 @@ use Rattle.std.specs.Int.{w64}
 use Rattle.bac_wire.specs.declared.tag.Shape.TheVariants.{App}
 use Rattle.bac_wire.specs.Front.{AreOctets, IsShortest}
 use Rattle.bac_wire.specs.Tag.{plain_number, plain_length, plain_tag}
-use Rattle.bac_wire.specs.Datum.{Datum, null, boolean, unsigned, signed, real, double, octet_string, char_string, bit_string, enumerated, date, time, object, kind, Holds, shape_number, tag_before, Spells, octet_count, signed_count, plain_contents, plain, InRange, IsDatum}
+use Rattle.bac_wire.specs.Datum.{Datum, null, boolean, unsigned, signed, real, double, octet_string, char_string, bit_string, enumerated, date, time, object, tag_number, StandsFor, shape_number, tag_before, Spells, octet_count, signed_count, plain_contents, plain, InRange, IsDatum}
 use Rattle.bac_wire.proofs.PlainTag.{plain_length_most, plain_length_below, tag_least, behind}
 use Rattle.bac_wire.proofs.PlainDatum.{octet_count_cases, plain_spells}
 
@@ -75,7 +75,7 @@ signed_least contents z fit low e =
 same_least : (contents x : List ℕ) → contents ≡ x → length x ≤ length contents
 same_least contents x e = rw e (omega arith)
 
-contents_least : (contents : List ℕ) (value : Datum) → AreOctets contents → Holds contents value → length (plain_contents value) ≤ length contents
+contents_least : (contents : List ℕ) (value : Datum) → AreOctets contents → StandsFor contents value → length (plain_contents value) ≤ length contents
 contents_least contents null fit h = omega arith
 contents_least contents (boolean b) fit h = omega arith
 contents_least contents (unsigned n) fit h = unsigned_least contents n fit h.0 h.2
@@ -144,7 +144,7 @@ value_least other value fit s =
     let contents = contents_least s.contents value (behind s.tag s.contents fits) s.held in
     let tag = tag_least s.tag (tag_before value (length s.contents)) (ahead s.tag s.contents fits) s.tagged in
     let count = shape_number_grows value (length (plain_contents value)) (length s.contents) contents in
-    let grows = tag_grows (kind value) (shape_number value (length (plain_contents value))) (shape_number value (length s.contents)) count in
+    let grows = tag_grows (tag_number value) (shape_number value (length (plain_contents value))) (shape_number value (length s.contents)) count in
     omega (arith, ap length s.whole, length-append s.tag s.contents, length-append (plain_tag (tag_before value (length (plain_contents value)))) (plain_contents value))
 
 pub plain_shortest : (value : Datum) → IsDatum value → IsShortest Spells (plain value) value

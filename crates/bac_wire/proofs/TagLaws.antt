@@ -7,9 +7,10 @@ use Rattle.bac_wire.specs.declared.tag.Shape.TheVariants.{App, Context, Opening,
 use Rattle.bac_wire.specs.declared.tag.Tag.{Tag}
 use Rattle.std.proofs.lemmas.Bool.{ltb-true, ltb-false, eqb-true}
 use Rattle.std.proofs.lemmas.Option.{some_pair_parts}
-use Rattle.bac_wire.proofs.Readers.{IsReader, Took, found_at, chosen, one_front}
+use Rattle.bac_wire.proofs.Readers.{IsReader, Took, reader_of, found_at, chosen, one_front}
 use Rattle.bac_wire.specs.Tag.{SpellsNumber, SpellsLength, SpellsShape, SpellsTag}
-use Rattle.bac_wire.specs.TagReading.{◌>>=◌, next_number, tag_number_at, two_at, four_at, long_length_at, length_at, shape_at, tag_at}
+use Rattle.bac_wire.specs.Steps.{◌>>=◌}
+use Rattle.bac_wire.specs.TagReading.{next_number, tag_number_at, two_at, four_at, long_length_at, length_at, shape_at, tag_at}
 
 -- ---- what is spelled is read again
 
@@ -164,7 +165,7 @@ tag_takes (initial ∷ octets) tag rest e =
     (initial ∷ (number.0 ++ shape.0), subst (SpellsTag (initial ∷ (number.0 ++ shape.0))) same.0 spelled, initial_before initial octets (number.0 ++ shape.0) rest parts)
 
 pub tag_reader : IsReader SpellsTag tag_at
-tag_reader = record { takes = tag_takes; again = tag_again }
+tag_reader = reader_of SpellsTag tag_at tag_takes tag_again
 
 -- no spelling of a tag begins another
 pub one_tag : (a b u v : List ℕ) (x y : Tag) → SpellsTag a x → SpellsTag b y → a ++ u ≡ b ++ v → (a ≡ b) × (x ≡ y)

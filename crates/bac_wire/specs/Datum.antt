@@ -42,20 +42,20 @@ datum (values.Time t) = time t
 datum (values.Object id) = object (identifier id)
 
 -- the number of the application tag before a value (20.2.1.4)
-abbrev pub kind : Datum → ℕ
-kind null = 0
-kind (boolean _) = 1
-kind (unsigned _) = 2
-kind (signed _) = 3
-kind (real _) = 4
-kind (double _) = 5
-kind (octet_string _) = 6
-kind (char_string _ _) = 7
-kind (bit_string _ _) = 8
-kind (enumerated _) = 9
-kind (date _) = 10
-kind (time _) = 11
-kind (object _) = 12
+abbrev pub tag_number : Datum → ℕ
+tag_number null = 0
+tag_number (boolean _) = 1
+tag_number (unsigned _) = 2
+tag_number (signed _) = 3
+tag_number (real _) = 4
+tag_number (double _) = 5
+tag_number (octet_string _) = 6
+tag_number (char_string _ _) = 7
+tag_number (bit_string _ _) = 8
+tag_number (enumerated _) = 9
+tag_number (date _) = 10
+tag_number (time _) = 11
+tag_number (object _) = 12
 
 -- at most 7 bits of the last octet are unused, and none where there is no octet (20.2.10)
 pub record AreBits (unused : ℕ) (x : List ℕ) : Type 0 where
@@ -63,20 +63,20 @@ pub record AreBits (unused : ℕ) (x : List ℕ) : Type 0 where
   pub empty : x ≡ [] → unused ≡ 0
 
 -- The contents that stand for a value. Numbers may have more octets than they need.
-abbrev pub Holds : List ℕ → Datum → Type 0
-Holds contents null = contents ≡ []
-Holds contents (boolean _) = contents ≡ []
-Holds contents (unsigned n) = (1 ≤ length contents) × (length contents ≤ 8) × (n ≡ big_number (length contents) contents)
-Holds contents (signed z) = (1 ≤ length contents) × (length contents ≤ 8) × (z ≡ twos_complement (length contents) (big_number (length contents) contents))
-Holds contents (real r) = (length contents ≡ 4) × (contents ≡ r)
-Holds contents (double d) = (length contents ≡ 8) × (contents ≡ d)
-Holds contents (octet_string x) = contents ≡ x
-Holds contents (char_string set x) = contents ≡ set ∷ x
-Holds contents (bit_string unused x) = (contents ≡ unused ∷ x) × AreBits unused x
-Holds contents (enumerated n) = (1 ≤ length contents) × (length contents ≤ 4) × (n ≡ big_number (length contents) contents)
-Holds contents (date d) = (length contents ≡ 4) × (contents ≡ d)
-Holds contents (time t) = (length contents ≡ 4) × (contents ≡ t)
-Holds contents (object id) = (length contents ≡ 4) × (id.instance < 2 ^ 22) × (big_number 4 contents ≡ number_of id)
+abbrev pub StandsFor : List ℕ → Datum → Type 0
+StandsFor contents null = contents ≡ []
+StandsFor contents (boolean _) = contents ≡ []
+StandsFor contents (unsigned n) = (1 ≤ length contents) × (length contents ≤ 8) × (n ≡ big_number (length contents) contents)
+StandsFor contents (signed z) = (1 ≤ length contents) × (length contents ≤ 8) × (z ≡ twos_complement (length contents) (big_number (length contents) contents))
+StandsFor contents (real r) = (length contents ≡ 4) × (contents ≡ r)
+StandsFor contents (double d) = (length contents ≡ 8) × (contents ≡ d)
+StandsFor contents (octet_string x) = contents ≡ x
+StandsFor contents (char_string set x) = contents ≡ set ∷ x
+StandsFor contents (bit_string unused x) = (contents ≡ unused ∷ x) × AreBits unused x
+StandsFor contents (enumerated n) = (1 ≤ length contents) × (length contents ≤ 4) × (n ≡ big_number (length contents) contents)
+StandsFor contents (date d) = (length contents ≡ 4) × (contents ≡ d)
+StandsFor contents (time t) = (length contents ≡ 4) × (contents ≡ t)
+StandsFor contents (object id) = (length contents ≡ 4) × (id.instance < 2 ^ 22) × (big_number 4 contents ≡ number_of id)
 
 -- The number in the tag: the length of the contents, for a boolean its value (20.2.3).
 abbrev pub shape_number : Datum → ℕ → ℕ
@@ -85,7 +85,7 @@ shape_number _ n = n
 
 -- the tag before a value with contents of this length
 abbrev pub tag_before : Datum → ℕ → Tag
-tag_before value n = record { number = kind value; shape = App (shape_number value n) }
+tag_before value n = record { number = tag_number value; shape = App (shape_number value n) }
 
 -- a spelling of the application tag, and the contents
 pub record Spells (spelling : List ℕ) (value : Datum) : Type 0 where
@@ -93,7 +93,7 @@ pub record Spells (spelling : List ℕ) (value : Datum) : Type 0 where
   pub contents : List ℕ
   pub whole : spelling ≡ tag ++ contents
   pub tagged : SpellsTag tag (tag_before value (length contents))
-  pub held : Holds contents value
+  pub held : StandsFor contents value
 
 -- ---- the shortest spelling
 

@@ -7,7 +7,8 @@ use Rattle.bac_wire.specs.declared.tag.Shape.TheVariants.{App, Context, Opening,
 use Rattle.bac_wire.specs.declared.tag.Tag.{Tag}
 use Rattle.bac_wire.specs.Identifier.{identifier_of}
 use Rattle.bac_wire.specs.Datum.{Datum, null, boolean, unsigned, signed, real, double, octet_string, char_string, bit_string, enumerated, date, time, object}
-use Rattle.bac_wire.specs.TagReading.{◌>>=◌, tag_at}
+use Rattle.bac_wire.specs.Steps.{◌>>=◌}
+use Rattle.bac_wire.specs.TagReading.{tag_at}
 
 -- contents of this length
 abbrev pub exactly : ℕ → List ℕ → Option (List ℕ)

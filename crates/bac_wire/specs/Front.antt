@@ -1,5 +1,5 @@
 -- What stands at the front of a list of octets.
-use Rattle.std.specs.Prelude.{◌≡◌, ℕ, ◌≤◌, ◌<◌, slice_index, List, ◌++◌, length, take, Option, Some, None, IfSome}
+use Rattle.std.specs.Prelude.{◌≡◌, ℕ, ◌≤◌, ◌<◌, slice_index, List, [], ◌∷◌, ◌++◌, length, take, Option, Some, None, IfSome}
 
 -- What a reader found at the front is spelled there, and whatever is spelled at the front is found.
 pub record FindsFront {A : Type 0} (Spells : List ℕ → A → Type 0) (octets : List ℕ) (found : Option (A × ℕ)) : Type 0 where
@@ -12,13 +12,22 @@ pub record Begins {A : Type 0} (Spells : List ℕ → A → Type 0) (octets : Li
   pub spelled : Spells front x
   pub whole : octets ≡ front ++ rest
 
--- the same, as a triple
-abbrev pub Took : {A : Type 0} → (List ℕ → A → Type 0) → List ℕ → A → List ℕ → Type 0
-Took Spells octets x rest = (front : List ℕ) × Spells front x × (octets ≡ front ++ rest)
+-- the spellings of these things, one after the other, and then this rest
+abbrev pub SpellsTo : {A : Type 0} → (List ℕ → A → Type 0) → List ℕ → List A → List ℕ → Type 0
+SpellsTo Spells octets [] rest = octets ≡ rest
+SpellsTo Spells octets (x ∷ xs) rest = (next : List ℕ) × Begins Spells octets x next × SpellsTo Spells next xs rest
+
+-- the spellings of these things, one after the other, and nothing else
+abbrev pub SpellsAll : {A : Type 0} → (List ℕ → A → Type 0) → List ℕ → List A → Type 0
+SpellsAll Spells octets xs = SpellsTo Spells octets xs []
+
+-- octets spell at most one thing
+abbrev pub IsSingle : {A : Type 0} → (List ℕ → A → Type 0) → Type 0
+IsSingle {A} Spells = (octets : List ℕ) (x y : A) → Spells octets x → Spells octets y → x ≡ y
 
 -- A function that reads from left to right: what it takes is spelled at the front, and what is spelled it takes, whatever follows.
 pub record IsReader {A : Type 0} (Spells : List ℕ → A → Type 0) (at : List ℕ → Option (A × List ℕ)) : Type 0 where
-  pub takes : (octets : List ℕ) (x : A) (rest : List ℕ) → at octets ≡ Some (x, rest) → Took Spells octets x rest
+  pub takes : (octets : List ℕ) (x : A) (rest : List ℕ) → at octets ≡ Some (x, rest) → Begins Spells octets x rest
   pub again : (front : List ℕ) (x : A) (rest : List ℕ) → Spells front x → at (front ++ rest) ≡ Some (x, rest)
 
 -- each number of the list is an octet

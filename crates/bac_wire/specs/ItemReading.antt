@@ -3,7 +3,9 @@ use Rattle.std.specs.Prelude.{ℕ, zero, suc, ◌-◌, nat_lt, ◌==◌, if◌th
 use Rattle.bac_wire.specs.declared.tag.Shape.{Shape}
 use Rattle.bac_wire.specs.declared.tag.Shape.TheVariants.{App, Context, Opening, Closing}
 use Rattle.bac_wire.specs.declared.tag.Tag.{Tag}
-use Rattle.bac_wire.specs.TagReading.{◌>>=◌, tag_at}
+use Rattle.bac_wire.specs.Steps.{◌>>=◌}
+use Rattle.bac_wire.specs.Limits.{deepest}
+use Rattle.bac_wire.specs.TagReading.{tag_at}
 
 -- the octets behind this many
 abbrev pub behind_count : ℕ → List ℕ → Option (List ℕ)
@@ -49,6 +51,6 @@ behind_items (suc count) depth octets = behind_tag_found (behind_items count) de
 -- the items up to a closing tag of this number
 unfoldable pub region_at : ℕ → List ℕ → Option (List ℕ × List ℕ)
 region_at number octets = do
-  closing ← behind_items (suc (length octets)) 32 octets
+  closing ← behind_items (suc (length octets)) deepest octets
   rest ← behind_closing number closing
   Some (take (length octets - length closing) octets, rest)

@@ -1,3 +1,6 @@
+pub mod Limits
+pub mod Steps
+pub mod Writing
 pub mod Front
 pub mod Tag
 pub mod TagReading

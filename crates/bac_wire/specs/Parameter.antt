@@ -6,7 +6,7 @@ use Rattle.bac_wire.specs.declared.tag.Tag.{Tag}
 use Rattle.bac_wire.specs.Identifier.{Identifier, number_of}
 use Rattle.bac_wire.specs.Tag.{SpellsTag, plain_tag}
 use Rattle.bac_wire.specs.Region.{opening_tag, closing_tag, SpellsClosed}
-use Rattle.bac_wire.specs.Datum.{Holds, enumerated, object, octet_count}
+use Rattle.bac_wire.specs.Datum.{StandsFor, enumerated, object, octet_count}
 
 -- the context tag of this number before so many octets
 abbrev pub context_tag : ℕ → ℕ → Tag
@@ -20,11 +20,11 @@ pub record SpellsContext (number : ℕ) (octets contents : List ℕ) : Type 0 wh
 
 -- a number in one to four octets, the high octet first (20.2.4)
 abbrev pub IsNumber : List ℕ → ℕ → Type 0
-IsNumber contents n = Holds contents (enumerated n)
+IsNumber contents n = StandsFor contents (enumerated n)
 
 -- an object's identifier in four octets (20.2.14)
 abbrev pub IsObject : List ℕ → Identifier → Type 0
-IsObject contents id = Holds contents (object id)
+IsObject contents id = StandsFor contents (object id)
 
 -- a context tag of this number, and contents that stand for the thing
 pub record SpellsIn {A : Type 0} (Stands : List ℕ → A → Type 0) (number : ℕ) (octets : List ℕ) (x : A) : Type 0 where

@@ -5,7 +5,8 @@ use Rattle.bac_wire.specs.declared.tag.Shape.{Shape}
 use Rattle.bac_wire.specs.declared.tag.Shape.TheVariants.{App, Context, Opening, Closing}
 use Rattle.bac_wire.specs.declared.tag.Tag.{Tag}
 use Rattle.bac_wire.specs.Identifier.{Identifier, identifier_of}
-use Rattle.bac_wire.specs.TagReading.{◌>>=◌, tag_at}
+use Rattle.bac_wire.specs.Steps.{◌>>=◌}
+use Rattle.bac_wire.specs.TagReading.{tag_at}
 use Rattle.bac_wire.specs.ItemReading.{region_at}
 use Rattle.bac_wire.specs.Datum.{Datum, unsigned, enumerated, object}
 use Rattle.bac_wire.specs.DatumReading.{number_within, value_at}

@@ -3,6 +3,7 @@ use Rattle.std.specs.Prelude.{◌≡◌, ℕ, zero, suc, ◌≤◌, ◌⊎◌, �
 use Rattle.bac_wire.specs.declared.tag.Shape.{Shape}
 use Rattle.bac_wire.specs.declared.tag.Shape.TheVariants.{App, Context, Opening, Closing}
 use Rattle.bac_wire.specs.declared.tag.Tag.{Tag}
+use Rattle.bac_wire.specs.Limits.{deepest}
 use Rattle.bac_wire.specs.Tag.{SpellsTag}
 
 -- the tag that begins a construction
@@ -102,7 +103,7 @@ pub record FindsRegion (depth number : ℕ) (octets : List ℕ) (size : Option �
 pub record SpellsClosed (number : ℕ) (octets region : List ℕ) : Type 0 where
   pub closing : List ℕ
   pub whole : octets ≡ region ++ closing
-  pub items : IsRegion 32 region
+  pub items : IsRegion deepest region
   pub closed : SpellsTag closing (closing_tag number)
 
 -- a front in which this many opening tags are open: whole items, and opening tags whose closing tags are still to come

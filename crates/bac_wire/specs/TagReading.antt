@@ -4,12 +4,7 @@ use Rattle.byteorder.specs.Endian.{big_number}
 use Rattle.bac_wire.specs.declared.tag.Shape.{Shape}
 use Rattle.bac_wire.specs.declared.tag.Shape.TheVariants.{App, Context, Opening, Closing}
 use Rattle.bac_wire.specs.declared.tag.Tag.{Tag}
-
--- then, where something was read
-infixl 10 ◌>>=◌
-abbrev pub ◌>>=◌ : {A B : Type 0} → Option A → (A → Option B) → Option B
-None >>= f = None
-(Some x) >>= f = f x
+use Rattle.bac_wire.specs.Steps.{◌>>=◌}
 
 -- the octet behind the initial one as the number
 abbrev pub next_number : List ℕ → Option (ℕ × List ℕ)

@@ -1,4 +1,6 @@
 ghost use Rattle.std.specs.Prelude.{◌≡◌, ◌+◌, ◌<◌, ◌≤◌, ◌↔◌, [], ◌++◌, length, take, IsTrue, OnOk, OnErr};
+ghost use Rattle.bac_wire.specs.Limits.{frame_room};
+ghost use Rattle.bac_wire.specs.Writing.{Appends};
 
 use arrayvec::ArrayVec;
 use std::marker::Model;
@@ -37,7 +39,7 @@ impl Frame {
     /// The octets.
     pub fn as_slice(&self) -> &[u8]
         ensures value { result.now ≡ self.now }
-        ensures fits { length self.now ≤ FRAME_OCTETS }
+        ensures fits { length self.now ≤ frame_room }
     {
         self.octets.as_slice()
     }
@@ -45,7 +47,7 @@ impl Frame {
     /// How many octets there are.
     pub fn len(&self) -> usize
         ensures value { result ≡ length self.now }
-        ensures fits { length self.now ≤ FRAME_OCTETS }
+        ensures fits { length self.now ≤ frame_room }
     {
         self.as_slice().len()
     }
@@ -66,10 +68,7 @@ impl Frame {
 
     /// Puts the octets behind those that are there. Where they don't all fit it is `Full`, and none is appended.
     pub fn append(&mut self, octets: &[u8]) -> Result<(), Full>
-        ensures ok { OnOk result (self.new ≡ self.old ++ octets.now) }
-        ensures fits { OnOk result (length self.old + length octets.now ≤ FRAME_OCTETS) }
-        ensures full { OnErr result (FRAME_OCTETS < length self.old + length octets.now) }
-        ensures err { OnErr result (self.new ≡ self.old) }
+        ensures { Appends self.old octets.now self.new result }
     {
         self.octets.try_extend_from_slice(octets).map_err(|_| Full)
     }
@@ -77,8 +76,8 @@ impl Frame {
     /// Puts the octets before those that are there. Where they don't all fit it is `Full`, and the frame is as it was.
     pub fn prepend(&mut self, octets: &[u8]) -> Result<(), Full>
         ensures ok { OnOk result (self.new ≡ octets.now ++ self.old) }
-        ensures fits { OnOk result (length octets.now + length self.old ≤ FRAME_OCTETS) }
-        ensures full { OnErr result (FRAME_OCTETS < length octets.now + length self.old) }
+        ensures fits { OnOk result (length octets.now + length self.old ≤ frame_room) }
+        ensures full { OnErr result (frame_room < length octets.now + length self.old) }
         ensures err { OnErr result (self.new ≡ self.old) }
     {
         let count = self.len();

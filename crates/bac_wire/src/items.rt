@@ -1,5 +1,6 @@
 ghost use Rattle.std.specs.Prelude.{◌≡◌, ◌<◌, ◌≤◌, ◌↔◌, ◌++◌, List, ℕ, Some, IsTrue, IfSome, length, take};
 ghost use Rattle.std.specs.Option.{option_map};
+ghost use Rattle.bac_wire.specs.Limits.{deepest, value_tag};
 ghost use Rattle.bac_wire.specs.Front.{Finds};
 ghost use Rattle.bac_wire.specs.TagReading.{tag_at};
 ghost use Rattle.bac_wire.specs.Region.{CountsBehind, IsRegion, FindsRegion, IsClosedBy, LeavesRest, LeavesBehind};
@@ -15,7 +16,7 @@ const REGION_END: u8 = 3;
 /// How many octets at the front are whole items, up to a closing tag 3; `None` where no such tag ends them. Contents are
 /// passed over by their length, so an octet in them ends nothing (ANSI/ASHRAE 135, 20.2.1.3).
 pub fn region(octets: &[u8]) -> Option<usize>
-    ensures { FindsRegion NESTING REGION_END octets.now result }
+    ensures { FindsRegion deepest value_tag octets.now result }
 {
     let rest = behind_items(octets, NESTING)?;
     behind_closing(rest, REGION_END)?;
@@ -24,7 +25,7 @@ pub fn region(octets: &[u8]) -> Option<usize>
 
 /// Whether the whole input is whole items, none included.
 pub fn is_region(octets: &[u8]) -> bool
-    ensures { IsTrue result ↔ IsRegion NESTING octets.now }
+    ensures { IsTrue result ↔ IsRegion deepest octets.now }
 {
     match behind_items(octets, NESTING) {
         Some(rest) => rest.is_empty(),

@@ -3,6 +3,7 @@ ghost use Rattle.std.specs.Option.{option_map};
 ghost use Rattle.bac_wire.specs.Front.{FindsFront, IsShortest, IsReadBack};
 ghost use Rattle.bac_wire.specs.Tag.{SpellsTag, IsTag, plain_tag, plain_length};
 ghost use Rattle.bac_wire.specs.TagReading.{tag_number_at, long_length_at, length_at, shape_at, tag_at};
+ghost use Rattle.bac_wire.specs.Writing.{Appends};
 
 use crate::frame::{FRAME_OCTETS, Frame, Full};
 use arrayvec::ArrayVec;
@@ -118,12 +119,9 @@ fn long_length_and_rest(octets: &[u8]) -> Option<(u32, &[u8])>
 /// `Full`, and the frame is as it was.
 pub fn write_tag(frame: &mut Frame, tag: Tag) -> Result<(), Full>
     requires { tag.number < 255 }
-    ensures ok { OnOk result (frame.new ≡ frame.old ++ plain_tag tag) }
-    ensures fits { OnOk result (length frame.old + length (plain_tag tag) ≤ FRAME_OCTETS) }
+    ensures appended { Appends frame.old (plain_tag tag) frame.new result }
     ensures shortest { OnOk result (IsShortest SpellsTag (plain_tag tag) tag) }
     ensures read_back { OnOk result (IsReadBack SpellsTag (plain_tag tag) tag) }
-    ensures full { OnErr result (FRAME_OCTETS < length frame.old + length (plain_tag tag)) }
-    ensures err { OnErr result (frame.new ≡ frame.old) }
 {
     frame.append(shortest(tag).as_slice())
 }

@@ -9,6 +9,7 @@ ghost use Rattle.bac_wire.specs.Datum.{Spells, Datum, datum, IsSound, InRange, p
 ghost use Rattle.bac_wire.specs.Datum.{boolean, null};
 ghost use Rattle.bac_wire.specs.Identifier.{identifier, number_of};
 ghost use Rattle.bac_wire.specs.DatumReading.{exactly, number_within, bits_of as bits_at, contents_of, value_at};
+ghost use Rattle.bac_wire.specs.Writing.{Appends};
 
 use crate::frame::{FRAME_OCTETS, Frame, Full};
 use crate::object_id::ObjectId;
@@ -161,12 +162,9 @@ fn bits_of(contents: &[u8]) -> Option<Value<'_>>
 #[inline(always)]
 pub fn write_value(frame: &mut Frame, value: &Value<'_>) -> Result<(), Full>
     requires { IsSound (datum value.now) }
-    ensures ok { OnOk result (frame.new ≡ frame.old ++ plain (datum value.now)) }
-    ensures fits { OnOk result (length frame.old + length (plain (datum value.now)) ≤ FRAME_OCTETS) }
+    ensures appended { Appends frame.old (plain (datum value.now)) frame.new result }
     ensures shortest { OnOk result (IsShortest Spells (plain (datum value.now)) (datum value.now)) }
     ensures read_back { OnOk result (IsReadBack Spells (plain (datum value.now)) (datum value.now)) }
-    ensures full { OnErr result (FRAME_OCTETS < length frame.old + length (plain (datum value.now))) }
-    ensures err { OnErr result (frame.new ≡ frame.old) }
 {
     append_value(frame, value)
 }
@@ -177,10 +175,7 @@ fn append_value(frame: &mut Frame, value: &Value<'_>) -> Result<(), Full>
     requires { IsSound (datum value.now) }
     // what the types of the fields say, for the caller's proof
     ensures range { InRange (datum value.now) }
-    ensures ok { OnOk result (frame.new ≡ frame.old ++ plain (datum value.now)) }
-    ensures fits { OnOk result (length frame.old + length (plain (datum value.now)) ≤ FRAME_OCTETS) }
-    ensures full { OnErr result (FRAME_OCTETS < length frame.old + length (plain (datum value.now))) }
-    ensures err { OnErr result (frame.new ≡ frame.old) }
+    ensures appended { Appends frame.old (plain (datum value.now)) frame.new result }
 {
     match value {
         Value::Null => append_null(frame),
@@ -201,34 +196,26 @@ fn append_value(frame: &mut Frame, value: &Value<'_>) -> Result<(), Full>
 
 #[tactic(auto, unfolding(crate::specs::Datum::plain, crate::specs::Tag::plain_tag))]
 fn append_null(frame: &mut Frame) -> Result<(), Full>
-    ensures ok { OnOk result (frame.new ≡ frame.old ++ plain null) }
-    ensures fits { OnOk result (length frame.old + length (plain null) ≤ FRAME_OCTETS) }
-    ensures full { OnErr result (FRAME_OCTETS < length frame.old + length (plain null)) }
-    ensures err { OnErr result (frame.new ≡ frame.old) }
+    ensures { Appends frame.old (plain null) frame.new result }
 {
     frame.append(&[0])
 }
 
 #[tactic(auto, unfolding(crate::specs::Datum::plain, crate::specs::Tag::plain_tag))]
 fn append_boolean(frame: &mut Frame, value: bool) -> Result<(), Full>
-    ensures ok { OnOk result (frame.new ≡ frame.old ++ plain (boolean value)) }
-    ensures fits { OnOk result (length frame.old + length (plain (boolean value)) ≤ FRAME_OCTETS) }
-    ensures full { OnErr result (FRAME_OCTETS < length frame.old + length (plain (boolean value))) }
-    ensures err { OnErr result (frame.new ≡ frame.old) }
+    ensures { Appends frame.old (plain (boolean value)) frame.new result }
 {
     frame.append(&[0x10 + u8::from(value)])
 }
 
 /// Appends a tag of one octet, and the four octets that it counts.
+#[tactic(auto, using(crate::proofs::PlainDatum::four_tagged))]
 #[inline(always)]
 fn append_four(frame: &mut Frame, number: u8, contents: &[u8; 4]) -> Result<(), Full>
     requires { number < 15 }
     // what the type of the contents says, for the caller's proof
     ensures four { length contents.now ≡ 4 }
-    ensures ok { OnOk result (frame.new ≡ frame.old ++ tagged_octets number contents.now) }
-    ensures fits { OnOk result (length frame.old + length (tagged_octets number contents.now) ≤ FRAME_OCTETS) }
-    ensures full { OnErr result (FRAME_OCTETS < length frame.old + length (tagged_octets number contents.now)) }
-    ensures err { OnErr result (frame.new ≡ frame.old) }
+    ensures appended { Appends frame.old (tagged_octets number contents.now) frame.new result }
 {
     let [a, b, c, d] = *contents;
     frame.append(&[16 * number + 4, a, b, c, d])
@@ -239,10 +226,7 @@ fn append_four(frame: &mut Frame, number: u8, contents: &[u8; 4]) -> Result<(), 
 fn append_tagged(frame: &mut Frame, number: u8, first: &[u8], rest: &[u8]) -> Result<(), Full>
     requires number { number < 255 }
     requires first { length first.now ≤ 8 }
-    ensures ok { OnOk result (frame.new ≡ frame.old ++ tagged_octets number (first.now ++ rest.now)) }
-    ensures fits { OnOk result (length frame.old + length (tagged_octets number (first.now ++ rest.now)) ≤ FRAME_OCTETS) }
-    ensures full { OnErr result (FRAME_OCTETS < length frame.old + length (tagged_octets number (first.now ++ rest.now))) }
-    ensures err { OnErr result (frame.new ≡ frame.old) }
+    ensures { Appends frame.old (tagged_octets number (first.now ++ rest.now)) frame.new result }
 {
     if FRAME_OCTETS < rest.len() {
         return Err(Full);
@@ -259,10 +243,7 @@ fn append_tagged(frame: &mut Frame, number: u8, first: &[u8], rest: &[u8]) -> Re
 
 fn append_number(frame: &mut Frame, number: u8, n: u64) -> Result<(), Full>
     requires { number < 15 }
-    ensures ok { OnOk result (frame.new ≡ frame.old ++ tagged_octets number (big_bytes (count_octets n) n)) }
-    ensures fits { OnOk result (length frame.old + length (tagged_octets number (big_bytes (count_octets n) n)) ≤ FRAME_OCTETS) }
-    ensures full { OnErr result (FRAME_OCTETS < length frame.old + length (tagged_octets number (big_bytes (count_octets n) n))) }
-    ensures err { OnErr result (frame.new ≡ frame.old) }
+    ensures { Appends frame.old (tagged_octets number (big_bytes (count_octets n) n)) frame.new result }
 {
     if n < 256 {
         return append_octet(frame, number, n as u8);
@@ -277,19 +258,13 @@ fn append_number(frame: &mut Frame, number: u8, n: u64) -> Result<(), Full>
 #[tactic(auto, using(crate::proofs::PlainDatum::one_tagged))]
 fn append_octet(frame: &mut Frame, number: u8, n: u8) -> Result<(), Full>
     requires { number < 15 }
-    ensures ok { OnOk result (frame.new ≡ frame.old ++ tagged_octets number (big_bytes (count_octets n) n)) }
-    ensures fits { OnOk result (length frame.old + length (tagged_octets number (big_bytes (count_octets n) n)) ≤ FRAME_OCTETS) }
-    ensures full { OnErr result (FRAME_OCTETS < length frame.old + length (tagged_octets number (big_bytes (count_octets n) n))) }
-    ensures err { OnErr result (frame.new ≡ frame.old) }
+    ensures { Appends frame.old (tagged_octets number (big_bytes (count_octets n) n)) frame.new result }
 {
     frame.append(&[16 * number + 1, n])
 }
 
 fn append_signed(frame: &mut Frame, n: i64) -> Result<(), Full>
-    ensures ok { OnOk result (frame.new ≡ frame.old ++ tagged_octets 3 (big_bytes (count_signed n) (low_bytes w64 (count_signed n) n))) }
-    ensures fits { OnOk result (length frame.old + length (tagged_octets 3 (big_bytes (count_signed n) (low_bytes w64 (count_signed n) n))) ≤ FRAME_OCTETS) }
-    ensures full { OnErr result (FRAME_OCTETS < length frame.old + length (tagged_octets 3 (big_bytes (count_signed n) (low_bytes w64 (count_signed n) n)))) }
-    ensures err { OnErr result (frame.new ≡ frame.old) }
+    ensures { Appends frame.old (tagged_octets 3 (big_bytes (count_signed n) (low_bytes w64 (count_signed n) n))) frame.new result }
 {
     let mut contents = [0; 8];
     let count = signed_octet_count(n);
@@ -298,10 +273,7 @@ fn append_signed(frame: &mut Frame, n: i64) -> Result<(), Full>
 }
 
 fn append_object(frame: &mut Frame, id: ObjectId) -> Result<(), Full>
-    ensures ok { OnOk result (frame.new ≡ frame.old ++ tagged_octets 12 (big_bytes 4 (number_of (identifier id)))) }
-    ensures fits { OnOk result (length frame.old + length (tagged_octets 12 (big_bytes 4 (number_of (identifier id)))) ≤ FRAME_OCTETS) }
-    ensures full { OnErr result (FRAME_OCTETS < length frame.old + length (tagged_octets 12 (big_bytes 4 (number_of (identifier id))))) }
-    ensures err { OnErr result (frame.new ≡ frame.old) }
+    ensures { Appends frame.old (tagged_octets 12 (big_bytes 4 (number_of (identifier id)))) frame.new result }
 {
     let mut contents = [0; 4];
     BigEndian::write_u32(&mut contents, id.number());

@@ -1,2 +1,3 @@
 pub mod Tools
 pub mod WordsLeft
+pub mod Given

@@ -22,6 +22,7 @@ use Rattle.bac_words.specs.Marks.{marked_words}
 use Rattle.clap_laws.specs.Entering.{asks_for_help}
 use Rattle.bac_words.specs.declared.jobs.Job.{Job}
 use Rattle.clap_laws.proofs.Enters.{enters}
+use Rattle.clap_laws.proofs.Found.{when_found}
 use Rattle.clap_laws.proofs.Rows.{level_taken}
 
 abbrev AllOf : (Shape → Type 0) → List Shape → Type 0
@@ -29,15 +30,8 @@ AllOf P [] = Unit {0}
 AllOf P (s ∷ rest) = P s × AllOf P rest
 
 one_found : (P : Shape → Type 0) (p : Shape → Bool) (xs : List Shape) (t : Shape) → AllOf P xs → find p xs ≡ Some t → P t × (p t ≡ true)
-one_found P p [] t all found = cc
-one_found P p (x ∷ xs) t all found = go (p x) refl (λ rest. one_found P p xs t all.1 rest) found
-  where
-    go : (b : Bool) → p x ≡ b → (find p xs ≡ Some t → P t × (p t ≡ true)) → find p (x ∷ xs) ≡ Some t → P t × (p t ≡ true)
-    go true e later f =
-        let same : Some x ≡ Some t = rw e at f in
-        let is : x ≡ t = cc in
-        (subst P is all.0, subst (λ s. p s ≡ true) is e)
-    go false e later f = later (rw e at f)
+one_found P p xs t all is =
+    when_found p (λ xs. AllOf P xs → P t × (p t ≡ true)) t (λ xs passes all. (all.0, passes)) (λ x xs fails is rest all. rest all.1) xs is all
 
 -- A tool that the name answers to takes the words, where the name asks for no help.
 abbrev Passed : Shape → Type 0

@@ -108,6 +108,13 @@ order_of matches = if bytes_eq matches.0 (codes "bacrp") then read_order matches
     else (if bytes_eq matches.0 (codes "bacdev") then serve_order matches.1
     else Ok Traces)))
 
+-- Matches that passed the rules of a tool that makes a request, and of one that is a client.
+abbrev pub IsRequest : List Row → Type 0
+IsRequest rows = IsTaken (rules_of bacrp) rows ⊎ IsTaken (rules_of bacwp) rows
+
+abbrev pub IsClient : List Row → Type 0
+IsClient rows = IsRequest rows ⊎ IsTaken (rules_of bacwi) rows
+
 -- A tool, with matches that passed its rules.
 abbrev pub IsTool : Text × List Row → Type 0
 IsTool matches = ((matches.0 ≡ codes "bacrp") × IsTaken (rules_of bacrp) matches.1)

@@ -1,7 +1,8 @@
 //! What help says of the tools and of their words.
 
+/// The program and its version, which nothing else says.
 pub(crate) const ABOUT: &str =
-    "Reads and writes properties of BACnet/IP controllers, finds devices, and plays a small device";
+    "bactool 0.2.0: reads and writes properties of BACnet/IP controllers, finds devices, and plays a small device";
 
 pub(crate) const READS: &str = "Reads a property of an object, and prints its value";
 
@@ -36,8 +37,12 @@ pub(crate) const READ_LINES: &str = "Example:
 
 Prints one line. Status 0: the value, spelled as bacwp takes it, but for
   \"text\"  X'01ff'  B'1010'  D'7c0a1f04'  T'0c1e0000'  {1,2}  null
-that is a string, octets, bits, a date, a time, several values, and Null.
-Status 1: timeout, error CLASS CODE, reject REASON, abort REASON, segmented, bad-error or bad-ack.";
+that is a string, octets, bits, a date, a time, several values, and Null. Its type is not printed.
+Status 1: timeout, segmented, bad-error, bad-ack, or
+  error CLASS CODE  1 31 unknown object, 2 32 unknown property, 2 42 no such element, 2 50 no array
+  reject REASON     4 to 7 the device could not read the request, 9 unknown service
+  abort REASON      4 the value does not fit into one datagram
+An answer from another address than that of --mac is not taken, so it is a timeout.";
 
 pub(crate) const WRITE_LINES: &str = "Tags, and how the value is written:
    0  Null          any word; it relinquishes the priority
@@ -61,8 +66,13 @@ Examples:
   bactool bacwp 1234 1 1 85 8 -1 0 null --mac 192.0.2.7
       relinquishes priority 8
 
-Prints one line. Status 0: ok. Status 1: timeout, error CLASS CODE, reject REASON, abort REASON,
-segmented, bad-error or bad-ack.";
+Prints one line. Status 0: ok. Status 1: timeout, segmented, bad-error, bad-ack, or
+  error CLASS CODE  1 31 unknown object, 2 32 unknown property, 2 9 wrong type, 2 37 out of range,
+                    2 40 not writable, 2 42 no such element, 2 50 no array
+  reject REASON     4 to 7 the device could not read the request, 9 unknown service
+  abort REASON      the device gave up
+A timeout does not say that nothing was written: read the property. An answer from another address
+than that of --mac is not taken, so it is a timeout too.";
 
 pub(crate) const SEARCH_LINES: &str = "Examples:
   bactool bacwi --mac 192.0.2.7
@@ -78,7 +88,10 @@ pub(crate) const SERVE_LINES: &str = "Example:
   bactool bacdev 1234
       answers Who-Is, ReadProperty and WriteProperty as the device 1234
 
-Prints nothing. Status 0: it has taken --count datagrams.";
+Prints nothing, and ends after --count datagrams, or after 65536 turns. A turn is a datagram, or a
+second without one: some 18 hours of silence.
+Status: 0 it has taken --count datagrams, or help; 2 wrong words; 3 no such port to be had, a receive
+that failed, or turns spent; 4 out of memory";
 
 pub(crate) const TRACE_LINES: &str = "Example:
   bactool bactrace < session.trace
@@ -92,19 +105,23 @@ pub(crate) const OWN_INSTANCE: &str = "Instance of the device, 0 to 4194302, as 
 
 pub(crate) const OBJECT_TYPE: &str = "Type of the object, 0 to 1023, as 0:
 0 analog input, 1 analog output, 2 analog value, 3 binary input, 4 binary output,
-5 binary value, 8 device, 13 multi-state input, 14 output, 19 value";
+5 binary value, 8 device, 13 multi-state input, 14 multi-state output,
+19 multi-state value";
 
-pub(crate) const OBJECT_INSTANCE: &str = "Instance of the object, 0 to 4194303, as 5";
+pub(crate) const OBJECT_INSTANCE: &str = "Instance of the object, 0 to 4194303, as 5;
+of type 8, 4194303 is the device that is asked";
 
 pub(crate) const PROPERTY: &str = "Number of the property, 0 to 4194303, as 85:
-85 present value, 77 object name, 117 units, 87 priority array, 76 object list";
+85 present value, 77 object name, 76 object list, 87 priority array,
+104 relinquish default, 111 status flags, 117 units";
 
 pub(crate) const ELEMENT: &str =
     "Element of an array, 0 to 4294967295, as 3; 0 is how many there are
 [default: the whole property]";
 
 pub(crate) const PRIORITY: &str =
-    "Priority, 1 (most urgent) to 16, as 8; 0 leaves it out, which means 16";
+    "Priority, 1 (most urgent) to 16, as 8; 0 leaves it out, which means 16;
+6 is kept for the device itself";
 
 pub(crate) const WRITTEN_ELEMENT: &str =
     "Element of an array, 0 to 4294967295, as 3; -1 is the whole property";
@@ -128,10 +145,15 @@ as 500 [default: 3000]";
 pub(crate) const RETRIES: &str = "How often it is sent again, 0 to 9, as 1 [default: 3]";
 
 pub(crate) const PORT: &str = "UDP port to send from, 0 to 65535, as 47809; 0 is any free one
-[default: 0]";
+[default: 0]; at a fixed port the late answer to an earlier
+call may be taken for the answer to this one: leave it out,
+or wait out the earlier call";
 
 pub(crate) const SEARCH_PORT: &str = "UDP port to send from and to listen at, 0 to 65535,
-as 47808; 0 is any free one [default: 0]";
+as 47808; 0 is any free one [default: 0];
+a device that answers by broadcast is heard only at the port
+that it broadcasts to; at a fixed port a late answer to an
+earlier search is heard too";
 
 pub(crate) const SERVE_PORT: &str = "UDP port to listen at, 0 to 65535, as 47809; 0 is any free one
 [default: 47808]";

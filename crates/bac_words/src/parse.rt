@@ -1,19 +1,19 @@
 //! From the words to the job.
-ghost use Rattle.std.specs.Prelude.{◌≡◌, ◌⊎◌, IfOk, IfSome, IsSomeAnd, MatchResult, Ok, Err, Some, option_map, unwrap_or};
+ghost use Rattle.std.specs.Prelude.{◌≡◌, ◌≤◌, ◌<◌, ◌⊎◌, IfOk, IfSome, IsSomeAnd, MatchResult, Ok, Err, Some, codes, option_map};
 ghost use Rattle.clap.specs.Words.{found_of, rows_of, subcommand_rows_of};
 ghost use Rattle.clap.specs.Walk.{texts};
-ghost use Rattle.bac_wire.specs.Identifier.{Identifier, identifier};
+ghost use Rattle.bac_wire.specs.Identifier.{identifier};
 ghost use Rattle.bac_pdu.specs.Peer.{station};
 ghost use Rattle.bac_pdu.specs.Property.{IsPriority};
 ghost use Rattle.clap_laws.specs.Commands.{rules_of};
 ghost use Rattle.clap_laws.specs.Passes.{IsTaken};
 ghost use Rattle.bac_text.specs.Address.{plain_peer_of};
-ghost use Rattle.bac_text.specs.Pairs.{body_of};
+ghost use Rattle.bac_text.specs.Parameters.{priority_from};
 ghost use Rattle.bac_words.specs.Command.{bacdev, bacrp, bacwi, bacwp};
 ghost use Rattle.bac_words.specs.Fault.{usage_of};
-ghost use Rattle.bac_words.specs.Job.{peer_given, index_given, pairs_given, limits, read_order, write_order, search_order, serve_order, order_of, IsTool, IsReady};
+ghost use Rattle.bac_words.specs.Job.{peer_given, index_given, object_given, needed_number, timeout_given, retries_given, port_given, request_given, body_given, limits, read_order, write_order, search_order, serve_order, order_of, IsTool, IsRequest, IsClient, IsReady};
 ghost use Rattle.bac_words.specs.Line.{Answers, IsRefused};
-ghost use Rattle.bac_words.specs.Orders.{seen};
+ghost use Rattle.bac_words.specs.Orders.{request_seen, seen};
 
 use crate::command::bactool;
 use crate::faults::UsageFault;
@@ -70,29 +70,15 @@ fn read_job(matches: &ArgMatches<'_>) -> Result<Job, UsageFault>
     ensures job { seen result ≡ read_order (rows_of (found_of matches.now)) }
     ensures ready { IfOk result IsReady }
 {
-    let kind = matches.get_one::<u16>("object-type").unwrap();
-    let instance = matches.get_one::<u32>("object-instance").unwrap();
-    let property = matches.get_one::<u32>("property").unwrap();
-    let index = matches.get_one::<u32>("index");
-    let timeout = timeout_of(matches.get_one::<u32>("apdu-timeout"));
-    let retries = retries_of(matches.get_one::<u8>("apdu-retries"));
-    let port = port_of(matches.get_one::<u16>("port"));
-    let object = ObjectId::new(kind, instance).unwrap();
+    let request = ReadRequest {
+        object: object(matches),
+        property: property(matches),
+        index: matches.get_one::<u32>("index"),
+    };
     let Some(to) = peer(matches) else {
         return Err(UsageFault::BadMac);
     };
-    let request = ReadRequest {
-        object,
-        property,
-        index,
-    };
-    Ok(Job::Read(Call {
-        to,
-        timeout,
-        retries,
-        port,
-        body: read_body(&request),
-    }))
+    Ok(Job::Read(call(matches, to, read_body(&request))))
 }
 
 fn write_job(matches: &ArgMatches<'_>) -> Result<Job, UsageFault>
@@ -100,28 +86,14 @@ fn write_job(matches: &ArgMatches<'_>) -> Result<Job, UsageFault>
     ensures job { seen result ≡ write_order (rows_of (found_of matches.now)) }
     ensures ready { IfOk result IsReady }
 {
-    let kind = matches.get_one::<u16>("object-type").unwrap();
-    let instance = matches.get_one::<u32>("object-instance").unwrap();
-    let property = matches.get_one::<u32>("property").unwrap();
-    let priority = matches.get_one::<u8>("priority").unwrap();
-    let timeout = timeout_of(matches.get_one::<u32>("apdu-timeout"));
-    let retries = retries_of(matches.get_one::<u8>("apdu-retries"));
-    let port = port_of(matches.get_one::<u16>("port"));
-    let object = ObjectId::new(kind, instance).unwrap();
     let Some(to) = peer(matches) else {
         return Err(UsageFault::BadMac);
     };
     let Some(index) = index(matches) else {
         return Err(UsageFault::BadIndex);
     };
-    let body = write_body(matches, object, property, index, priority_from(priority))?;
-    Ok(Job::Write(Call {
-        to,
-        timeout,
-        retries,
-        port,
-        body,
-    }))
+    let body = write_body(matches, index)?;
+    Ok(Job::Write(call(matches, to, body)))
 }
 
 fn search_job(matches: &ArgMatches<'_>) -> Result<Job, UsageFault>
@@ -131,15 +103,13 @@ fn search_job(matches: &ArgMatches<'_>) -> Result<Job, UsageFault>
 {
     let least = matches.get_one::<u32>("min");
     let most = matches.get_one::<u32>("max");
-    let timeout = timeout_of(matches.get_one::<u32>("apdu-timeout"));
-    let port = port_of(matches.get_one::<u16>("port"));
     let Some(to) = peer(matches) else {
         return Err(UsageFault::BadMac);
     };
     Ok(Job::WhoIs(Search {
         to,
-        timeout,
-        port,
+        timeout: timeout(matches),
+        port: port(matches),
         who: limits(least, most),
     }))
 }
@@ -156,25 +126,84 @@ fn serve_job(matches: &ArgMatches<'_>) -> Result<Job, UsageFault>
     Ok(Job::Device(Serve { info, port, count }))
 }
 
-// The milliseconds of a timeout, 3 seconds where none is given.
-fn timeout_of(given: Option<u32>) -> u32
-    ensures { result ≡ unwrap_or given 3000 }
+// The request to this peer with this body.
+fn call(matches: &ArgMatches<'_>, to: Peer, body: ArrayVec<u8, LONGEST_BODY>) -> Call
+    requires { IsRequest (rows_of (found_of matches.now)) }
+    ensures request { request_seen result ≡ request_given (station to) (rows_of (found_of matches.now)) body.items }
+    ensures ready { 0 < result.timeout }
 {
-    given.unwrap_or(3_000)
+    Call {
+        to,
+        timeout: timeout(matches),
+        retries: retries(matches),
+        port: port(matches),
+        body,
+    }
+}
+
+// The object of a request.
+fn object(matches: &ArgMatches<'_>) -> ObjectId
+    requires { IsRequest (rows_of (found_of matches.now)) }
+    ensures { identifier result ≡ object_given (rows_of (found_of matches.now)) }
+{
+    ObjectId::new(object_type(matches), object_instance(matches)).unwrap()
+}
+
+fn object_type(matches: &ArgMatches<'_>) -> u16
+    requires { IsRequest (rows_of (found_of matches.now)) }
+    ensures value { result ≡ needed_number (codes "object-type") (rows_of (found_of matches.now)) }
+    ensures within { result ≤ 1023 }
+{
+    matches.get_one::<u16>("object-type").unwrap()
+}
+
+fn object_instance(matches: &ArgMatches<'_>) -> u32
+    requires { IsRequest (rows_of (found_of matches.now)) }
+    ensures value { result ≡ needed_number (codes "object-instance") (rows_of (found_of matches.now)) }
+    ensures within { result ≤ 4194303 }
+{
+    matches.get_one::<u32>("object-instance").unwrap()
+}
+
+fn property(matches: &ArgMatches<'_>) -> u32
+    requires { IsRequest (rows_of (found_of matches.now)) }
+    ensures { result ≡ needed_number (codes "property") (rows_of (found_of matches.now)) }
+{
+    matches.get_one::<u32>("property").unwrap()
+}
+
+// The milliseconds of a timeout, 3 seconds where none is given.
+fn timeout(matches: &ArgMatches<'_>) -> u32
+    requires { IsClient (rows_of (found_of matches.now)) }
+    ensures value { result ≡ timeout_given (rows_of (found_of matches.now)) }
+    ensures some { 0 < result }
+{
+    matches.get_one::<u32>("apdu-timeout").unwrap_or(3_000)
 }
 
 // How often a request is sent again, three times where it isn't said.
-fn retries_of(given: Option<u8>) -> u8
-    ensures { result ≡ unwrap_or given 3 }
+fn retries(matches: &ArgMatches<'_>) -> u8
+    requires { IsRequest (rows_of (found_of matches.now)) }
+    ensures { result ≡ retries_given (rows_of (found_of matches.now)) }
 {
-    given.unwrap_or(3)
+    matches.get_one::<u8>("apdu-retries").unwrap_or(3)
 }
 
 // The port to send from, any where none is given.
-fn port_of(given: Option<u16>) -> u16
-    ensures { result ≡ unwrap_or given 0 }
+fn port(matches: &ArgMatches<'_>) -> u16
+    requires { IsClient (rows_of (found_of matches.now)) }
+    ensures { result ≡ port_given (rows_of (found_of matches.now)) }
 {
-    given.unwrap_or(0)
+    matches.get_one::<u16>("port").unwrap_or(0)
+}
+
+// The priority of a write.
+fn priority(matches: &ArgMatches<'_>) -> Option<u8>
+    requires { IsTaken (rules_of bacwp) (rows_of (found_of matches.now)) }
+    ensures value { result ≡ priority_from (needed_number (codes "priority") (rows_of (found_of matches.now))) }
+    ensures sound { IfSome result IsPriority }
+{
+    priority_from(matches.get_one::<u8>("priority").unwrap())
 }
 
 // The peer of `--mac`, which has no route.
@@ -201,26 +230,22 @@ fn index(matches: &ArgMatches<'_>) -> Option<Option<u32>>
 // The body of a write, whose values are the pairs as they were typed.
 fn write_body(
     matches: &ArgMatches<'_>,
-    object: ObjectId,
-    property: u32,
     index: Option<u32>,
-    priority: Option<u8>,
 ) -> Result<ArrayVec<u8, LONGEST_BODY>, PairFault>
-    requires { IfSome priority IsPriority }
+    requires { IsTaken (rules_of bacwp) (rows_of (found_of matches.now)) }
     ensures { MatchResult result
-        (λ body. body_of (identifier object) property index priority (pairs_given (rows_of (found_of matches.now))) ≡ Ok body.items)
-        (λ fault. body_of (identifier object) property index priority (pairs_given (rows_of (found_of matches.now))) ≡ Err fault) }
+        (λ body. body_given (rows_of (found_of matches.now)) index ≡ Ok body.items)
+        (λ fault. body_given (rows_of (found_of matches.now)) index ≡ Err fault) }
 {
-    match matches.get_strs("tag value") {
-        Some(pairs) => {
-            let mut words = TypedWords::new(pairs);
-            read_write_body(object, property, index, priority, &mut words)
-        }
-        None => {
-            let mut words = TypedWords::new(&[]);
-            read_write_body(object, property, index, priority, &mut words)
-        }
-    }
+    let pairs = matches.get_strs("tag value").unwrap_or(&[]);
+    let mut words = TypedWords::new(pairs);
+    read_write_body(
+        object(matches),
+        property(matches),
+        index,
+        priority(matches),
+        &mut words,
+    )
 }
 
 // One number is both limits, and none is no limit.

@@ -1,47 +1,76 @@
-//! The program: its words name a tool, which it runs over a UDP socket, or over standard input and output.
+//! The program: its words, UDP sockets, standard input and output.
 #![tactic(auto)]
 
-mod called;
-mod tools;
+ghost use Rattle.std.specs.Prelude.{◌≡◌, ◌⊎◌, Err, ⊤};
+ghost use Rattle.bac_links.specs.declared.fault.ToolFault.TheVariants.{WriteFailed};
+ghost use Rattle.bac_tools.specs.Report.{tool_report};
 
-use bac_tools::{ToolFault, UsageFault, parse_words, usage_status};
-use std::io::ErrorKind;
+mod called;
+
+use bac_tools::{
+    Binding, Checked, Fault, LinkFault, Network, Report, ToolFault, UdpLink, UsageFault, run_words,
+};
+use std::fmt::Display;
 use std::process::ExitCode;
 
-/// The status where the words can't be read at all.
-const BAD_WORDS: u8 = 2;
-
 fn main(rt: HostRuntime) -> ExitCode {
-    ExitCode::from(match called::typed_words(&rt) {
-        Ok(typed) => run_words(&rt, &typed),
-        Err(error) if error.kind() == ErrorKind::OutOfMemory => refuse(&rt, UsageFault::Memory),
-        Err(_) => {
-            let _ = eprintln!(rt; "bactool: words that are not UTF-8");
-            BAD_WORDS
+    let report = match called::typed_words(&rt) {
+        Ok(typed) => run(&rt, &typed),
+        Err(error) => Report::from(error),
+    };
+    ExitCode::from(told(&rt, report).status)
+}
+
+// Runs what the words ask for.
+fn run(rt: &HostRuntime, typed: &[String]) -> Report {
+    let words = match called::words_of(rt.alloc(), typed) {
+        Ok(words) => words,
+        Err(error) => return Report::from(UsageFault::from(error)),
+    };
+    let mut reader = Checked::new(rt.stdin());
+    let mut writer = Checked::new(rt.stdout());
+    let sockets = Sockets { rt };
+    run_words(rt.alloc(), &words, sockets, &mut reader, &mut writer)
+}
+
+/// The sockets of this machine.
+#[derive(Drop)]
+struct Sockets<'r> {
+    rt: &'r HostRuntime,
+}
+
+impl Network for Sockets<'_> {
+    type Socket = UdpLink<HostRuntime>;
+
+    ghost gives = { λ _ _ _. ⊤ };
+
+    fn bind(self, binding: Binding) -> Result<UdpLink<HostRuntime>, LinkFault> {
+        UdpLink::bind_with(self.rt, self.rt.alloc(), binding.at, binding.refused)
+    }
+}
+
+// Prints help, or the line of a fault, and hands the report on. Where help can't be printed, that is what is reported.
+fn told(rt: &HostRuntime, report: Report) -> Report
+    ensures { (result ≡ report) ⊎ (result ≡ tool_report (Err WriteFailed)) }
+{
+    match &report.fault {
+        None => {}
+        Some(Fault::Usage(UsageFault::Help(text))) => {
+            if print!(rt; "{text}").is_err() {
+                let fault = ToolFault::WriteFailed;
+                show(rt, &fault);
+                return Report::from(Err(fault));
+            }
         }
-    })
+        Some(Fault::Usage(UsageFault::Words(text))) => {
+            let _ = eprint!(rt; "{text}");
+        }
+        Some(fault) => show(rt, fault),
+    }
+    report
 }
 
-// Runs the tool that the words name, and answers the status of the program.
-fn run_words(rt: &HostRuntime, typed: &[String]) -> u8 {
-    let Ok(words) = called::words_of(rt.alloc(), typed) else {
-        return refuse(rt, UsageFault::Memory);
-    };
-    match parse_words(rt.alloc(), &words) {
-        Ok(job) => tools::run_job(rt, job),
-        Err(fault) => refuse(rt, fault),
-    }
-}
-
-// Prints help, or what is wrong with the words, and answers the status.
-fn refuse(rt: &HostRuntime, fault: UsageFault) -> u8 {
-    let shown = match &fault {
-        UsageFault::Help(text) => print!(rt; "{text}"),
-        UsageFault::Words(text) => eprint!(rt; "{text}"),
-        _ => eprintln!(rt; "bactool: {fault}"),
-    };
-    match (shown, &fault) {
-        (Err(_), UsageFault::Help(_)) => tools::told(rt, &Err(ToolFault::WriteFailed)),
-        _ => usage_status(&fault),
-    }
+// Prints the line of a fault. Where standard error fails there is nobody left to tell.
+fn show(rt: &HostRuntime, fault: &impl Display) {
+    let _ = eprintln!(rt; "bactool: {fault}");
 }

@@ -1,17 +1,16 @@
 -- Where `clap` takes the words of a program that wants a tool, the words name one other than `help`, and it takes the
 -- words after it.
-use Rattle.std.proofs.Common.{◌≡◌, ◌∙◌, ◌&&◌, ◌++◌, ◌∷◌, ℕ, Bool, true, false, not, refl, sym, ap, cond, codes, List, [], Option, Some, None, is_some, IfSome}
+use Rattle.std.proofs.Common.{◌≡◌, ◌&&◌, ◌∷◌, ℕ, Bool, true, false, not, refl, cond, codes, List, [], Option, Some, None, is_some, IfSome}
 use Rattle.std.specs.List.{find, fold}
-use Rattle.std.specs.Option.{option_map_or}
 use Rattle.std.specs.Str.{bytes_eq}
 use Rattle.clap.specs.Lexer.{long_of, short_of}
 use Rattle.clap.specs.Walk.{finished, settled, Text, answers_to, nothing_held, walk, walk_from, stop_after, Held, Names, Outcome, Rule, Step, Waiting, Walk, after_flag, after_step, arg_by_index, arg_by_long, bundle, long_met, long_or_other, plain_word, short_or_plain, subcommand_met, subcommand_or_other, to_positional, walked, walked_from, word_met}
 use Rattle.clap.specs.Walk as w
 use Rattle.clap.specs.Simple.{App, Shape, argument_words, built, entered, label_of, names_of, rows_at}
-use Rattle.clap.specs.Kinds.{Kinds, check_kinds, or_else}
-use Rattle.clap.specs.Faults.{check_fault, defaults_fault, entered_fault, fault_of, flag_word_fault, level_fault, other_fault, step_fault, turn_fault, walk_fault, word_fault}
+use Rattle.clap.specs.Kinds.{check_kinds, or_else}
+use Rattle.clap.specs.Faults.{check_fault, defaults_fault, entered_fault, level_fault, other_fault, step_fault, turn_fault, walk_fault, word_fault}
 use Rattle.clap.specs.declared.error.kind.ErrorKind.TheVariants as kind
-use Rattle.clap_laws.specs.Entering.{asks_for_help, Enters, WordsEnter}
+use Rattle.clap_laws.specs.Entering.{WordsEnter}
 use Rattle.clap_laws.proofs.Rows.{none_fails}
 
 -- ---- the subcommand that the walk meets is not `help`

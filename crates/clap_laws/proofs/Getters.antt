@@ -13,6 +13,7 @@ use Rattle.clap.specs.declared.parser.matches.Found.{Found}
 use Rattle.clap.proofs.WalkLemmas.{one_text-rows}
 use Rattle.std.specs.Str.Parse.{ExplainsUnsignedError, HasUnsignedDigitsIfOk}
 use Rattle.std.specs.declared.num.ParseIntError.{ParseIntError}
+use Rattle.clap_laws.proofs.Found.{when_found}
 use Rattle.clap_laws.proofs.Rows.{any_not}
 use Rattle.clap.specs.ValueTests.{accepts}
 use Rattle.clap.specs.Walk.{Row, Rule, Text, arg_by_id, one_of, reading_by, row_text}
@@ -28,16 +29,9 @@ use Rattle.clap_laws.specs.Numbers.{decimal, number_of}
 -- the entry of an id passed
 pub entry : (c : List Rule) (id : Text) (rows : List Row) (r : Row) → RowsPass c rows → find (λ r. bytes_eq r.id id) rows ≡ Some r
     → (r.id ≡ id) × RowPasses c r
-entry c id [] r h found = cc
-entry c id (x ∷ xs) r h found = go (bytes_eq x.id id) refl (λ rest. entry c id xs r h.1 rest) found
-  where
-    go : (b : Bool) → bytes_eq x.id id ≡ b → (find (λ r. bytes_eq r.id id) xs ≡ Some r → (r.id ≡ id) × RowPasses c r)
-        → find (λ r. bytes_eq r.id id) (x ∷ xs) ≡ Some r → (r.id ≡ id) × RowPasses c r
-    go true e later f =
-        let same : Some x ≡ Some r = rw e at f in
-        let is : x ≡ r = cc in
-        (rw (← is) ((bytes_eq-Decides x.id id).0 e), rw (← is) h.0)
-    go false e later f = later (rw e at f)
+entry c id rows r h is =
+    when_found (λ r. bytes_eq r.id id) (λ rows. RowsPass c rows → (r.id ≡ id) × RowPasses c r) r (λ xs passes h. ((bytes_eq-Decides r.id id).0 passes, h.0))
+    (λ x xs fails is rest h. rest h.1) rows is h
 
 -- the text of an argument, if it has one, is that of a value that passed
 pub record IsText (a : Rule) (text : Text) : Type 0 where

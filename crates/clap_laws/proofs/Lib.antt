@@ -1,3 +1,4 @@
+pub mod Found
 pub mod Rows
 pub mod Enters
 pub mod Getters

@@ -6,6 +6,7 @@ use Rattle.std.specs.Str.{bytes_eq, chars}
 use Rattle.std.specs.Prelude.{nat_lt}
 use Rattle.std.proofs.lemmas.Slice.Eq.{bytes_eq-Decides}
 use Rattle.std.proofs.lemmas.Bool.{eqb-true}
+use Rattle.std.proofs.lemmas.List.Folds.{list_all-append}
 use Rattle.clap.specs.Lexer.{long_of, short_of}
 use Rattle.clap.specs.Facts.{parser_of_value, unwrap_or_range}
 use Rattle.clap.specs.Values.{is_request}
@@ -22,7 +23,8 @@ use Rattle.clap.specs.declared.builder.action.ArgAction.{ArgAction}
 use Rattle.clap.specs.declared.builder.action.ArgAction.TheVariants as action
 use Rattle.clap.specs.declared.parser.matches.ValueSource.TheVariants.{CommandLine}
 use Rattle.clap.proofs.WalkLemmas.{both}
-use Rattle.clap_laws.specs.Passes.{IsTaken, RowPasses, RowsPass}
+use Rattle.clap_laws.proofs.Found.{when_found}
+use Rattle.clap_laws.specs.Passes.{RowPasses, RowsPass}
 use Rattle.clap_laws.specs.Entering.{keeps_values, is_plain_rule, has_distinct_ids, IsPlainLevel, LevelsPass}
 
 -- ---- a list of kinds that is empty
@@ -34,72 +36,34 @@ none_fails (k ∷ ks) b e = cc
 -- ---- the rules of a level
 
 found_passes : (p q : Rule → Bool) (c : List Rule) (a : Rule) → list_all q c ≡ true → find p c ≡ Some a → q a ≡ true
-found_passes p q [] a all found = cc
-found_passes p q (x ∷ xs) a all found = go (p x) refl (both (q x) (list_all q xs) all) (λ all rest. found_passes p q xs a all rest) found
-  where
-    go : (b : Bool) → p x ≡ b → (q x ≡ true) × (list_all q xs ≡ true) → (list_all q xs ≡ true → find p xs ≡ Some a → q a ≡ true)
-        → find p (x ∷ xs) ≡ Some a → q a ≡ true
-    go true e parts later f =
-        let same : Some x ≡ Some a = rw e at f in
-        let is : x ≡ a = cc in
-        rw (← is) parts.0
-    go false e parts later f = later parts.1 (rw e at f)
+found_passes p q c a all is =
+    when_found p (λ c. list_all q c ≡ true → q a ≡ true) a (λ xs passes all. (both (q a) (list_all q xs) all).0)
+    (λ x xs fails is rest all. rest (both (q x) (list_all q xs) all).1) c is all
 
-found_fits : (p : Rule → Bool) (c : List Rule) (a : Rule) → find p c ≡ Some a → p a ≡ true
-found_fits p [] a found = cc
-found_fits p (x ∷ xs) a found = go (p x) refl (λ rest. found_fits p xs a rest) found
-  where
-    go : (b : Bool) → p x ≡ b → (find p xs ≡ Some a → p a ≡ true) → find p (x ∷ xs) ≡ Some a → p a ≡ true
-    go true e later f =
-        let same : Some x ≡ Some a = rw e at f in
-        let is : x ≡ a = cc in
-        rw (← is) e
-    go false e later f = later (rw e at f)
-
-not_any : (q : Rule → Bool) (p : Rule → Bool) (c : List Rule) (a : Rule) → not (list_any q c) ≡ true → find p c ≡ Some a → q a ≡ false
-not_any q p [] a none found = cc
-not_any q p (x ∷ xs) a none found = go (q x) refl (p x) refl (λ none rest. not_any q p xs a none rest) none found
-  where
-    go : (b : Bool) → q x ≡ b → (d : Bool) → p x ≡ d → (not (list_any q xs) ≡ true → find p xs ≡ Some a → q a ≡ false)
-        → not (list_any q (x ∷ xs)) ≡ true → find p (x ∷ xs) ≡ Some a → q a ≡ false
-    go true e d f later none found =
-        let bad : false ≡ true = rw e at none in
-        cc
-    go false e true f later none found =
-        let same : Some x ≡ Some a = rw f at found in
-        let is : x ≡ a = cc in
-        rw (← is) e
-    go false e false f later none found = later (rw e at none) (rw f at found)
+neither : (a b : Bool) → (a || b) ≡ false → (a ≡ false) × (b ≡ false)
+neither true b e = cc
+neither false b e = (refl, e)
 
 pub any_not : (q p : Rule → Bool) (c : List Rule) (a : Rule) → list_any q c ≡ false → find p c ≡ Some a → q a ≡ false
-any_not q p c a none found = not_any q p c a (rw none refl) found
+any_not q p c a none is =
+    when_found p (λ c. list_any q c ≡ false → q a ≡ false) a (λ xs passes none. (neither (q a) (list_any q xs) none).0)
+    (λ x xs fails is rest none. rest (neither (q x) (list_any q xs) none).1) c is none
+
+not_true : (b : Bool) → not b ≡ true → b ≡ false
+not_true true e = cc
+not_true false e = refl
 
 -- a rule that a search finds is the one of its id
 pub own : (p : Rule → Bool) (c : List Rule) (a : Rule) → has_distinct_ids c ≡ true → find p c ≡ Some a → arg_by_id c a.id ≡ Some a
-own p [] a distinct found = cc
-own p (x ∷ xs) a distinct found =
-    go (p x) refl (both (not (list_any (λ b. bytes_eq x.id b.id) xs)) (has_distinct_ids xs) distinct) (λ distinct rest. own p xs a distinct rest) found
-  where
-    go : (b : Bool) → p x ≡ b → (not (list_any (λ b. bytes_eq x.id b.id) xs) ≡ true) × (has_distinct_ids xs ≡ true)
-        → (has_distinct_ids xs ≡ true → find p xs ≡ Some a → arg_by_id xs a.id ≡ Some a)
-        → find p (x ∷ xs) ≡ Some a → arg_by_id (x ∷ xs) a.id ≡ Some a
-    go true e parts later f =
-        let same : Some x ≡ Some a = rw e at f in
-        let is : x ≡ a = cc in
-        let self : bytes_eq x.id a.id ≡ true = (bytes_eq-Decides x.id a.id).1 (ap (λ (r : Rule). r.id) is) in
-        rw self same
-    go false e parts later f =
-        let rest : find p xs ≡ Some a = rw e at f in
-        let other : bytes_eq x.id a.id ≡ false = not_any (λ b. bytes_eq x.id b.id) p xs a parts.0 rest in
-        rw other (later parts.1 rest)
+own p c a distinct is =
+    when_found p (λ c. has_distinct_ids c ≡ true → arg_by_id c a.id ≡ Some a) a
+    (λ xs passes distinct. let self : bytes_eq a.id a.id ≡ true = (bytes_eq-Decides a.id a.id).1 refl in rw self refl)
+    (λ x xs fails is rest distinct.
+    let parts = both (not (list_any (λ b. bytes_eq x.id b.id) xs)) (has_distinct_ids xs) distinct in
+    let other = any_not (λ b. bytes_eq x.id b.id) p xs a (not_true _ parts.0) is in
+    rw other (rest parts.1)) c is distinct
 
 -- ---- rows
-
-all_append : (q : Text → Bool) (xs ys : List Text) → list_all q xs ≡ true → list_all q ys ≡ true → list_all q (xs ++ ys) ≡ true
-all_append q [] ys hx hy = hy
-all_append q (x ∷ xs) ys hx hy =
-    let parts = both (q x) (list_all q xs) hx in
-    rw parts.0 (all_append q xs ys parts.1 hy)
 
 without_pass : (c : List Rule) (id : Text) (rows : List Row) → RowsPass c rows → RowsPass c (without id rows)
 without_pass c id [] h = tt
@@ -121,7 +85,7 @@ more_pass c a vs r is passed same h =
         own = ap (arg_by_id c) id ∙ is;
         reading = h.reading ∙ ap reading_by rule;
         filled = omega (arith, length-append r.values vs, h.filled);
-        passed = all_append (value_passes a) r.values vs before passed;
+        passed = list_all-append (value_passes a) r.values vs ∙ rw (before, passed) refl;
       },
       tt,
     )

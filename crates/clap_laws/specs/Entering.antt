@@ -1,10 +1,10 @@
 -- What holds of the words that `clap` takes.
-use Rattle.std.specs.Prelude.{◌≡◌, ◌&&◌, ◌||◌, Bool, true, false, not, nat_lt, List, [], ◌∷◌, Option, Some, codes}
+use Rattle.std.specs.Prelude.{◌≡◌, ◌&&◌, ◌||◌, Bool, true, false, not, nat_lt, List, [], ◌∷◌, Some, codes}
 use Rattle.std.specs.List.{find, list_all, list_any}
 use Rattle.std.specs.Str.{bytes_eq}
 use Rattle.clap.specs.Facts.{unwrap_or_range}
 use Rattle.clap.specs.Values.{is_request}
-use Rattle.clap.specs.Walk.{Row, Rule, Text, action_of, answers_to, is_empty, nothing_held, rows_after}
+use Rattle.clap.specs.Walk.{Rule, Text, action_of, answers_to, is_empty, nothing_held, rows_after}
 use Rattle.clap.specs.Simple.{App, Shape, built, label_of, rows_at, subcommand_of}
 use Rattle.clap.specs.Faults.{fault_of, level_fault}
 use Rattle.clap.specs.declared.builder.action.ArgAction.{ArgAction}

@@ -1,10 +1,10 @@
 //! Worked rows of each crate, and readers, writers, links and memory that fail.
 
 mod links;
-mod outcomes;
 mod script;
 mod streams;
 mod text;
+mod tools;
 mod words;
 
 use bac_pdu::Peer;

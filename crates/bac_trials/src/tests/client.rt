@@ -1,14 +1,10 @@
-//! Calls of the client with octets from outside: a ReadProperty request for the present value of analog-input 5, and a
-//! device's answers to it.
+//! Calls of the client, and whole runs: a ReadProperty request for the present value of analog-input 5, and a device's answers to it.
 
-mod answers;
 mod calls;
-mod hostile;
 mod notebook;
 mod runs;
 
 use crate::tests::{BODY, CONTROLLER, READ_PROPERTY};
-use bac_pdu::{Peer, Route};
 use bac_tsm::{Client, Config, SubmitFault};
 
 const VALUE: [u8; 14] = [
@@ -21,29 +17,12 @@ const USUAL: Config = Config {
     retries: 3,
 };
 
-/// A client whose first request is to this peer, for this service.
-fn asking(peer: Peer, service: u8) -> Client {
-    let mut client = Client::new(USUAL, 0);
-    let _ = client.submit(peer, service, &BODY);
-    client
-}
-
-/// The device at this address of network 5.
-fn routed(address: u8) -> Peer {
-    Peer {
-        route: Route::new(5, &[address]),
-        ..CONTROLLER
-    }
-}
-
 fn read(client: &mut Client) -> Result<u64, SubmitFault> {
     client.submit(CONTROLLER, READ_PROPERTY, &BODY)
 }
 
-/// The answer to the read under this number.
-fn answer(number: u8) -> [u8; 23] {
-    [
-        0x81, 0x0a, 0x00, 0x17, 0x01, 0x00, 0x30, number, 0x0c, 0x0c, 0x00, 0x00, 0x00, 0x05, 0x19,
-        0x55, 0x3e, 0x44, 0x42, 0x90, 0x99, 0x9a, 0x3f,
-    ]
-}
+/// The answer to the first read.
+const ANSWER: [u8; 23] = [
+    0x81, 0x0a, 0x00, 0x17, 0x01, 0x00, 0x30, 0x01, 0x0c, 0x0c, 0x00, 0x00, 0x00, 0x05, 0x19, 0x55,
+    0x3e, 0x44, 0x42, 0x90, 0x99, 0x9a, 0x3f,
+];

@@ -1,6 +1,5 @@
-//! Worked octets, and requests that are cut, nested or too long for their datagram.
+//! Worked octets.
 
 mod apdus;
 mod bodies;
 mod datagrams;
-mod limits;

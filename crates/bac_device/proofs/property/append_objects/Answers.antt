@@ -11,11 +11,11 @@ returns-in_err-write_value-clause-full c =
     let points = c.args.points.now in
     let f : Standing → Datum = λ standing. object standing.point.object in
     let at : slice_get points c.loop-point.point-index ≡ Some c.point-item.result = slice_get_read points (length points) c.loop-point.point-index c.point-item.result refl (omega arith) c.point-item.is in
-    on_err c.from_residual.result (made_full f points c.loop-point.point-index c.point-item.result (object (identifier c.id.result)) c.args.frame.now c.loop-point.frame _ at (ap object c.id.ensures) c.loop-point.invariant c.in_err-write_value.ensures.full)
+    on_err c.from_residual.result (made_full f points c.loop-point.point-index c.point-item.result (object (identifier c.id.result)) c.args.frame.now c.loop-point.frame _ at (ap object c.id.ensures) c.loop-point.invariant c.in_err-write_value.ensures.appended.full)
 
 pub loop-point-preserved : goal.loop-point-preserved
 loop-point-preserved c =
     let points = c.args.points.now in
     let f : Standing → Datum = λ standing. object standing.point.object in
     let at : slice_get points c.loop-point.point-index ≡ Some c.point-item.result = slice_get_read points (length points) c.loop-point.point-index c.point-item.result refl (omega arith) c.point-item.is in
-    made_more f points c.loop-point.point-index c.point-item.result (object (identifier c.id.result)) c.args.frame.now c.loop-point.frame c.write_value.new.frame at (ap object c.id.ensures) c.loop-point.invariant c.in_ok-write_value.ensures.ok
+    made_more f points c.loop-point.point-index c.point-item.result (object (identifier c.id.result)) c.args.frame.now c.loop-point.frame c.write_value.new.frame at (ap object c.id.ensures) c.loop-point.invariant c.in_ok-write_value.ensures.appended.ok

@@ -8,10 +8,10 @@ pub returns-in_err-write_value-clause-full : goal.returns-in_err-write_value-cla
 returns-in_err-write_value-clause-full c =
     let places = c.args.places.now in
     let at = element_there places c.loop-place.place-index None (omega arith) in
-    on_err c.from_residual.result (made_full (place_value c.args.family) places c.loop-place.place-index (get_or places c.loop-place.place-index None) (datum c.place_value.result) c.args.frame.now c.loop-place.frame _ at c.place_value.ensures.value c.loop-place.invariant c.in_err-write_value.ensures.full)
+    on_err c.from_residual.result (made_full (place_value c.args.family) places c.loop-place.place-index (get_or places c.loop-place.place-index None) (datum c.place_value.result) c.args.frame.now c.loop-place.frame _ at c.place_value.ensures.value c.loop-place.invariant c.in_err-write_value.ensures.appended.full)
 
 pub loop-place-preserved : goal.loop-place-preserved
 loop-place-preserved c =
     let places = c.args.places.now in
     let at = element_there places c.loop-place.place-index None (omega arith) in
-    made_more (place_value c.args.family) places c.loop-place.place-index (get_or places c.loop-place.place-index None) (datum c.place_value.result) c.args.frame.now c.loop-place.frame c.write_value.new.frame at c.place_value.ensures.value c.loop-place.invariant c.in_ok-write_value.ensures.ok
+    made_more (place_value c.args.family) places c.loop-place.place-index (get_or places c.loop-place.place-index None) (datum c.place_value.result) c.args.frame.now c.loop-place.frame c.write_value.new.frame at c.place_value.ensures.value c.loop-place.invariant c.in_ok-write_value.ensures.appended.ok

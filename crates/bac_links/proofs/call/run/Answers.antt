@@ -1,7 +1,7 @@
 use Rattle.std.proofs.Common.{add-one, arith}
 use Rattle.std.proofs.lemmas.Result.{err_from_is_err_and}
 use Rattle.bac_links.specs.Ending.{ending_seen}
-use Rattle.bac_links.proofs.CallEnds.{is_open, ends_in, fails_so, shown_so}
+use Rattle.bac_links.proofs.CallEnds.{is_open, fails_so, shown_so}
 use Rattle.bac_links.proofs.call.run.Goals as goal
 
 pub returns-in_err-client-clause-told : goal.returns-in_err-client-clause-told
@@ -28,7 +28,7 @@ returns-in-Some-clause-told g c =
     (shown_so c.args.tool c.args.call.now _ _ _ _ (ending_seen c.in-Some.ending) c.show_ending.result c.show_ending.ensures.text c.show_ending.ensures.exit c.show_ending.ensures.fault (λ t e.
     let far = c.loop-turn.invariant.so_far t e in
     let ended = rw c.in-Some.is at (c.in_ok-ending.ensures.ok c.args.tool c.args.call.now t _ c.turn_wait-wait_ms.ensures far) in
-    (c.loop-turn._turn, ends_in c.args.tool c.args.call.now t _ _ _ c.loop-turn-test.true (is_open c.args.tool c.args.call.now t _ _ _ far) ended)))
+    (c.loop-turn._turn, ended c.loop-turn-test.true)))
 
 pub loop-turn-preserved : goal.loop-turn-preserved
 loop-turn-preserved g c = record {

@@ -3,8 +3,8 @@ use Rattle.bac_pdu.proofs.RoundLaws.{limits_back}
 use Rattle.bac_pdu.proofs.ShortestLaws.{who_is_shortest}
 use Rattle.bac_pdu.proofs.discovery.write_whois.Goals as goal
 
-pub returns-else-is_err-clause-shortest : goal.returns-else-is_err-clause-shortest
-returns-else-is_err-clause-shortest c = on_ok_weaker c.append_limits-appended.result (λ known. who_is_shortest c.args.who.now known) c.append_limits-appended.ensures.known
+pub returns-clause-shortest : goal.returns-clause-shortest
+returns-clause-shortest c = rw c.whole_or_nothing.ensures.same (on_ok_weaker c.append_limits-appended.result (λ known. who_is_shortest c.args.who.now known) c.append_limits-appended.ensures.known)
 
-pub returns-else-is_err-clause-read_back : goal.returns-else-is_err-clause-read_back
-returns-else-is_err-clause-read_back c = on_ok_weaker c.append_limits-appended.result (λ known. limits_back c.args.who.now known) c.append_limits-appended.ensures.known
+pub returns-clause-read_back : goal.returns-clause-read_back
+returns-clause-read_back c = rw c.whole_or_nothing.ensures.same (on_ok_weaker c.append_limits-appended.result (λ known. limits_back c.args.who.now known) c.append_limits-appended.ensures.known)

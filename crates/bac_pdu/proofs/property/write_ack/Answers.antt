@@ -3,8 +3,8 @@ use Rattle.bac_pdu.specs.Property.{answer}
 use Rattle.bac_pdu.proofs.ShortestLaws.{ack_is_written, ack_is_back}
 use Rattle.bac_pdu.proofs.property.write_ack.Goals as goal
 
-pub returns-else-is_err-clause-shortest : goal.returns-else-is_err-clause-shortest
-returns-else-is_err-clause-shortest c = on_ok_weaker c.append_ack-appended.result (λ known. ack_is_written (answer c.args.ack.now) known c.requires) c.append_ack-appended.ensures.known
+pub returns-clause-shortest : goal.returns-clause-shortest
+returns-clause-shortest c = rw c.whole_or_nothing.ensures.same (on_ok_weaker c.append_ack-appended.result (λ known. ack_is_written (answer c.args.ack.now) known c.requires) c.append_ack-appended.ensures.known)
 
-pub returns-else-is_err-clause-read_back : goal.returns-else-is_err-clause-read_back
-returns-else-is_err-clause-read_back c = on_ok_weaker c.append_ack-appended.result (λ known. ack_is_back (answer c.args.ack.now) known c.requires) c.append_ack-appended.ensures.known
+pub returns-clause-read_back : goal.returns-clause-read_back
+returns-clause-read_back c = rw c.whole_or_nothing.ensures.same (on_ok_weaker c.append_ack-appended.result (λ known. ack_is_back (answer c.args.ack.now) known c.requires) c.append_ack-appended.ensures.known)

@@ -4,8 +4,8 @@ use Rattle.bac_pdu.proofs.RoundLaws.{read_back}
 use Rattle.bac_pdu.proofs.ShortestLaws.{read_shortest}
 use Rattle.bac_pdu.proofs.property.write_read.Goals as goal
 
-pub returns-else-is_err-clause-shortest : goal.returns-else-is_err-clause-shortest
-returns-else-is_err-clause-shortest c = on_ok_weaker c.append_reference-appended.result (λ known. read_shortest (reference c.args.request.now) known) c.append_reference-appended.ensures.known
+pub returns-clause-shortest : goal.returns-clause-shortest
+returns-clause-shortest c = rw c.whole_or_nothing.ensures.same (on_ok_weaker c.append_reference-appended.result (λ known. read_shortest (reference c.args.request.now) known) c.append_reference-appended.ensures.known)
 
-pub returns-else-is_err-clause-read_back : goal.returns-else-is_err-clause-read_back
-returns-else-is_err-clause-read_back c = on_ok_weaker c.append_reference-appended.result (λ known. read_back (reference c.args.request.now) known) c.append_reference-appended.ensures.known
+pub returns-clause-read_back : goal.returns-clause-read_back
+returns-clause-read_back c = rw c.whole_or_nothing.ensures.same (on_ok_weaker c.append_reference-appended.result (λ known. read_back (reference c.args.request.now) known) c.append_reference-appended.ensures.known)

@@ -3,8 +3,8 @@ use Rattle.bac_pdu.specs.Property.{order}
 use Rattle.bac_pdu.proofs.ShortestLaws.{order_is_written, order_is_back}
 use Rattle.bac_pdu.proofs.property.write_write.Goals as goal
 
-pub returns-else-is_err-clause-shortest : goal.returns-else-is_err-clause-shortest
-returns-else-is_err-clause-shortest c = on_ok_weaker c.append_order-appended.result (λ known. order_is_written (order c.args.request.now) known c.requires.region c.requires.priority) c.append_order-appended.ensures.known
+pub returns-clause-shortest : goal.returns-clause-shortest
+returns-clause-shortest c = rw c.whole_or_nothing.ensures.same (on_ok_weaker c.append_order-appended.result (λ known. order_is_written (order c.args.request.now) known c.requires.region c.requires.priority) c.append_order-appended.ensures.known)
 
-pub returns-else-is_err-clause-read_back : goal.returns-else-is_err-clause-read_back
-returns-else-is_err-clause-read_back c = on_ok_weaker c.append_order-appended.result (λ known. order_is_back (order c.args.request.now) known c.requires.region c.requires.priority) c.append_order-appended.ensures.known
+pub returns-clause-read_back : goal.returns-clause-read_back
+returns-clause-read_back c = rw c.whole_or_nothing.ensures.same (on_ok_weaker c.append_order-appended.result (λ known. order_is_back (order c.args.request.now) known c.requires.region c.requires.priority) c.append_order-appended.ensures.known)

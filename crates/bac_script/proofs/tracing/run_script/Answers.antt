@@ -22,21 +22,21 @@ loop-next-init g c = record {
 
 pub returns-in_err-next-clause-script : goal.returns-in_err-next-clause-script
 returns-in_err-next-clause-script g c =
-    stops_unwritten _ (search rules) c.loop-next.invariant.so_far c.next_line.ensures.given c.in_err-next.ensures.next c.in_err-next.ensures.asked c.next_line.ensures.printed
+    stops_unwritten _ (search rules) c.loop-next.invariant.so_far c.next_line.ensures.given c.in_err-next.ensures.next c.in_err-next.ensures.asked c.next_line.ensures.spared c.next_line.ensures.printed
 
 pub returns-then-eq-clause-script : goal.returns-then-eq-clause-script
 returns-then-eq-clause-script g c =
     let s = c.loop-next.invariant.so_far in
     let n = c.in_ok-next.ensures.next in
     let failed = same_true the_type (search rules) _ _ (sym c.if-eq.ensures) in
-    stops _ _ _ s c.next_line.ensures.given n c.in_ok-next.ensures.asked (printed_as (s.printed ⨾ c.next_line.ensures.printed) (append-nil (machine_text s.all)))
+    stops _ _ _ s c.next_line.ensures.given n c.in_ok-next.ensures.asked c.next_line.ensures.spared (printed_as (s.printed ⨾ c.next_line.ensures.printed) (append-nil (machine_text s.all)))
     (runs_read_failed g.R.Read.remaining _ _ _ _ _ _ _ _ failed s.begins n.cut n.stands)
 
 pub returns-then-next-eq0-clause-script : goal.returns-then-next-eq0-clause-script
 returns-then-next-eq0-clause-script g c =
     let s = c.loop-next.invariant.so_far in
     let n = c.in_ok-next.ensures.next in
-    stops _ _ _ s c.next_line.ensures.given n c.in_ok-next.ensures.asked (printed_as (s.printed ⨾ c.next_line.ensures.printed) (append-nil (machine_text s.all)))
+    stops _ _ _ s c.next_line.ensures.given n c.in_ok-next.ensures.asked c.next_line.ensures.spared (printed_as (s.printed ⨾ c.next_line.ensures.printed) (append-nil (machine_text s.all)))
     (runs_to_end g.R.Read.remaining _ _ _ _ _ _ _ _ _ (λ e. absurd (let bad = rw e at c.if-eq.ensures in cc))
     (ap (λ k. length (take k c.next_line.new.self)) c.if-next-eq0.true) s.begins n.cut n.stands s.counted)
 
@@ -47,7 +47,7 @@ returns-in-Err-Bad-clause-script g c =
     let bad : said c.loop-next.is_first (take c.in_ok-next.next.length c.next_line.new.self) ≡ Err Bad =
     ap (said c.loop-next.is_first) (sym c.front.ensures) ∙ sym c.read_line.ensures ∙ ap result_seen (c.in-Err-Bad.is ∙ ap (λ f. Err f) c.in-Err-Bad.field-0-is) in
     let some : 0 < length (take c.in_ok-next.next.length c.next_line.new.self) = omega (arith, length-take-le c.in_ok-next.next.length c.next_line.new.self n.within, c.if-next-eq0.false) in
-    stops _ _ _ s c.next_line.ensures.given n c.in_ok-next.ensures.asked (printed_as (s.printed ⨾ c.next_line.ensures.printed) (append-nil (machine_text s.all)))
+    stops _ _ _ s c.next_line.ensures.given n c.in_ok-next.ensures.asked c.next_line.ensures.spared (printed_as (s.printed ⨾ c.next_line.ensures.printed) (append-nil (machine_text s.all)))
     (runs_fault_after _ _ _ _ _ _ _ _ s.counted s.begins
     (NextLine-from g.R.Read.remaining _ _ _ _ _ n.cut n.stands (λ e. absurd (let bad = rw e at c.if-eq.ensures in cc)) some)
     (ap (λ (b : Bool). said b (take c.in_ok-next.next.length c.next_line.new.self)) (sym s.quiet) ∙ bad))
@@ -59,7 +59,7 @@ returns-in-Err-TooLong-clause-script g c =
     let long : said c.loop-next.is_first (take c.in_ok-next.next.length c.next_line.new.self) ≡ Err TooLong =
     ap (said c.loop-next.is_first) (sym c.front.ensures) ∙ sym c.read_line.ensures ∙ ap result_seen (c.in-Err-TooLong.is ∙ ap (λ f. Err f) c.in-Err-TooLong.field-0-is) in
     let some : 0 < length (take c.in_ok-next.next.length c.next_line.new.self) = omega (arith, length-take-le c.in_ok-next.next.length c.next_line.new.self n.within, c.if-next-eq0.false) in
-    stops _ _ _ s c.next_line.ensures.given n c.in_ok-next.ensures.asked (printed_as (s.printed ⨾ c.next_line.ensures.printed) (append-nil (machine_text s.all)))
+    stops _ _ _ s c.next_line.ensures.given n c.in_ok-next.ensures.asked c.next_line.ensures.spared (printed_as (s.printed ⨾ c.next_line.ensures.printed) (append-nil (machine_text s.all)))
     (runs_fault_after _ _ _ _ _ _ _ _ s.counted s.begins
     (NextLine-from g.R.Read.remaining _ _ _ _ _ n.cut n.stands (λ e. absurd (let bad = rw e at c.if-eq.ensures in cc)) some)
     (ap (λ (b : Bool). said b (take c.in_ok-next.next.length c.next_line.new.self)) (sym s.quiet) ∙ long))
@@ -72,7 +72,7 @@ returns-then-eq-2-clause-script g c =
     ap (said c.loop-next.is_first) (sym c.front.ensures) ∙ sym c.read_line.ensures ∙ ap result_seen c.in-Ok.is in
     let some : 0 < length (take c.in_ok-next.next.length c.next_line.new.self) = omega (arith, length-take-le c.in_ok-next.next.length c.next_line.new.self n.within, c.if-next-eq0.false) in
     let ended = same_true the_type (search rules) _ _ (sym c.if-eq-2.ensures) in
-    stops _ _ _ s c.next_line.ensures.given n c.in_ok-next.ensures.asked
+    stops _ _ _ s c.next_line.ensures.given n c.in_ok-next.ensures.asked c.next_line.ensures.spared
     (printed_as (printed_as (s.printed ⨾ c.next_line.ensures.printed) (append-nil (machine_text s.all)) ⨾ c.run_line.ensures.text (stage_after s.all) s.kept)
     (sym (text_next s.all (line_seen c.in-Ok.line))))
     (runs_to_last g.R.Read.remaining _ _ _ _ _ _ _ _ _ _ ended some
@@ -92,7 +92,7 @@ loop-next-preserved g c =
     rw c.skip.ensures
     (record {
       so_far =
-          SoFar-next _ _ _ s c.next_line.ensures.given n c.in_ok-next.ensures.asked c.next_line.ensures.printed (λ e. absurd (let bad = rw e at c.if-eq.ensures in cc))
+          SoFar-next _ _ _ s c.next_line.ensures.given n c.in_ok-next.ensures.asked c.next_line.ensures.spared c.next_line.ensures.printed (λ e. absurd (let bad = rw e at c.if-eq.ensures in cc))
           (λ e. absurd (let bad = rw e at c.if-eq-2.ensures in cc)) ok first (c.run_line.ensures.stage (stage_after s.all) s.kept)
           (c.run_line.ensures.text (stage_after s.all) s.kept);
       sound_reader = sound_from_stands g.R.Read.remaining _ _ _ _ n.stands (λ e. absurd (let bad = rw e at c.if-eq.ensures in cc));

@@ -8,7 +8,7 @@ abbrev pub invariant-loop-next : goal.invariant-loop-next
 invariant-loop-next g l = record {
   so_far : SoFar g.R.Read.remaining g.W.Write.contents l.fn.reader l.reader l.chunk l.fn.page l.page l.lines l.is_first l.client l.device;
   sound_reader : has_failed l.reader ≡ false;
-  room : l.lines + may_come l.reader l.chunk ≤ 8192 * most_reads;
+  room : l.lines + may_come l.reader l.chunk ≤ 32768 * most_reads;
 }
 
 abbrev pub decreases-loop-next : goal.decreases-loop-next

@@ -1,21 +1,11 @@
-use Rattle.std.proofs.Common.{◌≡◌, ℕ, ◌+◌, ◌-◌, ◌<◌, ◌≤◌, ◌^◌, ◌/◌, ◌%◌, List, [], ◌∷◌, ◌++◌, length, drop, decimal, sym, ◌∙◌, ap, arith, append_assoc, append-nil, length-append, lit<}
-use Rattle.std.proofs.Math.ListN.{drop_of_length-le}
-use Rattle.std.proofs.lemmas.Fmt.{decimal_step, decimal_digit, decimal_nonempty, length-decimal-le}
-use Rattle.std.proofs.lemmas.List.{drop-set}
+use Rattle.std.proofs.Common.{◌≡◌, ℕ, ◌+◌, ◌-◌, ◌<◌, ◌≤◌, ◌^◌, ◌/◌, ◌%◌, List, [], ◌∷◌, ◌++◌, length, drop, decimal, sym, ◌∙◌, ap, arith, append_assoc, length-append}
+use Rattle.std.proofs.lemmas.Fmt.{decimal_step, decimal_digit, decimal_nonempty}
+use Rattle.std.proofs.lemmas.List.{drop-set, length-set}
 use Rattle.bac_text.proofs.page.write_digits.Goals as goal
 
 -- All but the last digit are those of a tenth of the number.
 shorter : (n : ℕ) → 10 ≤ n → n < 2 ^ 64 → length (decimal (n / 10)) + 1 ≡ length (decimal n)
 shorter n large fits = sym (ap length (decimal_step n large fits) ∙ length-append (decimal (n / 10)) ((48 + n % 10) ∷ []))
-
-pub loop-rest-init : goal.loop-rest-init
-loop-rest-init c =
-    let fits : c.args.number < 2 ^ 64 = omega arith in
-    record {
-      digits = sym (ap (λ (xs : List ℕ). decimal c.args.number ++ xs) (drop_of_length-le c.args.room.now {i = 20} (omega (arith, c.told-room))) ∙ append-nil (decimal c.args.number));
-      fits = length-decimal-le 20 c.args.number (lit< tt) (omega arith) fits;
-      room = omega arith;
-    }
 
 pub overflow_sub-start : goal.overflow_sub-start
 overflow_sub-start c = omega (arith, decimal_nonempty c.loop-rest.rest (omega arith), c.loop-rest.invariant.fits)
@@ -34,7 +24,9 @@ loop-rest-preserved c =
           (sym (drop-set c.loop-rest.room (c.loop-rest.start - 1) (48 + c.loop-rest.rest % 10) (omega arith)
           ∙ ap (λ (i : ℕ). (48 + c.loop-rest.rest % 10) ∷ drop i c.loop-rest.room) next));
       fits = omega (arith, shorter c.loop-rest.rest large fits, c.loop-rest.invariant.fits);
-      room = omega arith;
+      place = omega (arith, shorter c.loop-rest.rest large fits, c.loop-rest.invariant.place);
+      size = length-set c.loop-rest.room (c.loop-rest.start - 1) (48 + c.loop-rest.rest % 10) ∙ c.loop-rest.invariant.size;
+      within = omega (arith, c.loop-rest.invariant.within);
     }
 
 pub overflow_sub-start-2 : goal.overflow_sub-start-2
@@ -48,3 +40,15 @@ returns-clause-digits c =
     drop-set c.loop-rest.room (c.loop-rest.start - 1) (48 + c.loop-rest.rest) (omega arith)
     ∙ ap (λ (i : ℕ). (48 + c.loop-rest.rest) ∷ drop i c.loop-rest.room) next
     ∙ sym (c.loop-rest.invariant.digits ∙ ap (λ (xs : List ℕ). xs ++ drop c.loop-rest.start c.loop-rest.room) (decimal_digit c.loop-rest.rest small))
+
+pub bounds-room-start : goal.bounds-room-start
+bounds-room-start c = omega (arith, c.loop-rest.invariant.size, c.loop-rest.invariant.within, c.requires.within, decimal_nonempty c.loop-rest.rest (omega arith), c.loop-rest.invariant.fits)
+
+pub bounds-room-start-2 : goal.bounds-room-start-2
+bounds-room-start-2 c = omega (arith, c.loop-rest.invariant.size, c.loop-rest.invariant.within, c.requires.within, decimal_nonempty c.loop-rest.rest (omega arith), c.loop-rest.invariant.fits)
+
+pub returns-clause-start : goal.returns-clause-start
+returns-clause-start c =
+    let small : c.loop-rest.rest < 10 = omega (arith, c.loop-rest-test.false) in
+    let one = ap length (decimal_digit c.loop-rest.rest small) in
+    omega (arith, one, c.loop-rest.invariant.place, c.loop-rest.invariant.fits)

@@ -50,33 +50,36 @@ fn expect_search<H: Abort + AllocGlobal>(
     Ok(())
 }
 
+/// The I-Am of the station 07 of network 5, behind a router.
+const FAR: &[u8] =
+    b"\x81\x0a\x00\x19\x01\x08\x00\x05\x01\x07\x10\x00\xc4\x02\x00\x04\xd2\x22\x05\xc4\x91\x03\x22\x01\x04";
+
+// What comes when the time is up is still heard; what comes later is not. The time may go back, and stays spent.
 #[test]
 fn devices_are_found(rt: HostRuntime) -> Result<(), Fail> {
     let heard = Step::Packet(5, P, I_AM);
-    let good = Ok(Exit::Good);
-    let bad = Ok(Exit::Bad);
-    expect_search(&rt, SOME, &[heard], None, good, LINE)?;
-    expect_search(&rt, SOME, &[heard, heard], None, good, TWICE)?;
-    expect_search(&rt, OTHER, &[heard], None, bad, "")?;
-    expect_search(&rt, ALL, &[], None, bad, "")?;
-    // What comes when the time is up is still heard; what comes later is not.
     let late = Step::Packet(3_000, P, I_AM);
-    expect_search(&rt, ALL, &[late, heard], None, good, LINE)?;
-    // The time may go back, and stays spent.
+    let twice = [heard, heard];
+    let in_time = [late, heard];
     let back = [Step::Quiet(2_999), Step::Quiet(0), heard, late];
-    expect_search(&rt, ALL, &back, None, good, TWICE)?;
-    // A station behind a router.
-    let far =
-        b"\x81\x0a\x00\x19\x01\x08\x00\x05\x01\x07\x10\x00\xc4\x02\x00\x04\xd2\x22\x05\xc4\x91\x03\x22\x01\x04";
-    let routed = [Step::Packet(1, P, far)];
-    expect_search(
-        &rt,
-        SOME,
-        &routed,
-        None,
-        good,
-        "1234 127.0.0.1:47808/5/07 1476 3 260\n",
-    )
+    let far = [Step::Packet(1, P, FAR)];
+    for (asked, steps, exit, text) in [
+        (SOME, &twice[..1], Exit::Good, LINE),
+        (SOME, &twice, Exit::Good, TWICE),
+        (OTHER, &twice[..1], Exit::Bad, ""),
+        (ALL, &twice[..0], Exit::Bad, ""),
+        (ALL, &in_time, Exit::Good, LINE),
+        (ALL, &back, Exit::Good, TWICE),
+        (
+            SOME,
+            &far,
+            Exit::Good,
+            "1234 127.0.0.1:47808/5/07 1476 3 260\n",
+        ),
+    ] {
+        expect_search(&rt, asked, steps, None, Ok(exit), text)?;
+    }
+    Ok(())
 }
 
 #[test]

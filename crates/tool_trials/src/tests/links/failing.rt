@@ -1,7 +1,8 @@
 //! Writers that fail, and want of memory.
-ghost use Rattle.std.specs.Prelude.{◌<◌, [], map, IfOk};
+ghost use Rattle.std.specs.Prelude.{◌<◌, [], Option, Some, None, Ok, map, IfOk};
+ghost use Rattle.bac_links.specs.Call.{ReadTells};
 ghost use Rattle.bac_links.specs.Memory.{told_by, scene_of_step};
-ghost use Rattle.bac_links.specs.Rehearsal.{ReadsSo};
+ghost use Rattle.bac_links.specs.Told.{Told};
 
 use super::*;
 use crate::tests::streams::Room;
@@ -63,7 +64,8 @@ fn read_within<A: Allocator + Copy>(
     printed: &mut Vec<u8>,
 ) -> Result<Result<Exit, ToolFault>, LinkFault>
     requires { 0 < call.now.timeout }
-    ensures { IfOk result (λ end. IfOk end (λ exit. ReadsSo call.now (told_by (map scene_of_step steps.now) 0 []) exit)) }
+    ensures { IfOk result (λ end. IfOk end (λ exit. (left : Option Told)
+        × ReadTells call.now None None (Some (told_by (map scene_of_step steps.now) 0 [])) left (Ok exit))) }
 {
     let mut link = MemoryLink::new(alloc, steps, None)?;
     let mut writer = Checked::new(printed);

@@ -3,34 +3,34 @@ use super::*;
 use bac_links::status;
 use bac_wire::Frame;
 
-/// An answer to a read, how the call ends with it, and the line that is printed of it.
+/// An answer to a read, whether the call ends well with it, and the line that is printed of it.
 static ANSWERS: [(&str, Exit, &str); 10] = [
     (
         "810a0017010030010c0c0000000519553e444290999a3f",
         Exit::Good,
-        "4290999a\n",
+        "4290999a",
     ),
     (
         "810a0015010030010c0c00000005194d3e72003f3f",
         Exit::Good,
-        "\"?\"\n",
+        "\"?\"",
     ),
     (
         "810a0016010030010c0c0000000519553e0e21050f3f",
         Exit::Good,
-        "hex 0e21050f\n",
+        "hex 0e21050f",
     ),
     (
         "810a0016010030010c0c0000000519553e444290999a",
         Exit::Bad,
-        "bad-ack\n",
+        "bad-ack",
     ),
-    ("810a0009010020010c", Exit::Bad, "bad-ack\n"),
-    ("810a000b0100380100010c", Exit::Bad, "segmented\n"),
-    ("810a0009010050010c", Exit::Bad, "bad-error\n"),
-    ("810a000d010050010c91029120", Exit::Bad, "error 2 32\n"),
-    ("810a00090100600109", Exit::Bad, "reject 9\n"),
-    ("810a00090100710104", Exit::Bad, "abort 4\n"),
+    ("810a0009010020010c", Exit::Bad, "bad-ack"),
+    ("810a000b0100380100010c", Exit::Bad, "segmented"),
+    ("810a0009010050010c", Exit::Bad, "bad-error"),
+    ("810a000d010050010c91029120", Exit::Bad, "error 2 32"),
+    ("810a00090100600109", Exit::Bad, "reject 9"),
+    ("810a00090100710104", Exit::Bad, "abort 4"),
 ];
 
 #[test]
@@ -39,8 +39,18 @@ fn answers_are_printed(rt: HostRuntime) -> Result<(), Fail> {
     for (digits, exit, text) in &ANSWERS {
         let answer = hex::decode(rt.alloc(), digits).map_err(|_| "no digits")?;
         let steps = [Step::Packet(5, P, answer.as_slice())];
-        let sent = [(0, ASK)];
-        expect_call(&rt, Kind::Read, &call, &steps, None, Ok(*exit), text, &sent)?;
+        let line = format!(in rt.alloc(); "{text}\n")?;
+        let got = Ok(*exit);
+        expect_call(
+            &rt,
+            Kind::Read,
+            &call,
+            &steps,
+            None,
+            got,
+            line.as_str(),
+            &[(0, ASK)],
+        )?;
     }
     assert_eq!(rt; status(&Ok(Exit::Good)), 0);
     assert_eq!(rt; status(&Ok(Exit::Bad)), 1);

@@ -81,15 +81,36 @@ fn two_sockets(rt: HostRuntime) -> Result<(), Fail> {
     Ok(())
 }
 
-/// Sends a datagram from one socket to the other: whether it comes whole.
-fn carries<L: Link>(from: &mut L, to: &mut L, at: Peer, octets: &[u8]) -> Result<bool, LinkFault>
+/// Sends a datagram from one socket to the other, and says from whom it comes there, if it does. What comes is the whole.
+fn carries<L: Link>(
+    rt: &impl Abort,
+    from: &mut L,
+    to: &mut L,
+    at: Peer,
+    octets: &[u8],
+) -> Result<Option<Peer>, LinkFault>
     requires { (L.has_failed from.old ≡ false) × (L.has_failed to.old ≡ false) }
     ensures { OnOk result ((L.has_failed from.new ≡ false) × (L.has_failed to.new ≡ false)) }
 {
     let mut datagram = Datagram::new();
     from.send(at, octets)?;
     let came = to.receive(1_000, &mut datagram)?;
-    Ok(came.is_some() && datagram.as_slice() == octets)
+    let wanted = if came.is_some() { octets } else { &[] };
+    assert!(rt; datagram.as_slice() == wanted);
+    Ok(came)
+}
+
+/// How long a receive with this wait takes that hears nothing, by the link's own time.
+fn silence<L: Link>(rt: &impl Abort, link: &mut L, wait_ms: u32) -> Result<u64, LinkFault>
+    requires { L.has_failed link.old ≡ false }
+    ensures { OnOk result (L.has_failed link.new ≡ false) }
+{
+    let mut datagram = Datagram::new();
+    let before = link.now();
+    assert_eq!(rt; link.receive(wait_ms, &mut datagram)?, None);
+    let passed = link.now().checked_sub(before);
+    assert!(rt; passed.is_some());
+    Ok(passed.unwrap_or(0))
 }
 
 /// One octet more than a datagram may have, each its place.
@@ -101,11 +122,13 @@ fn counted_octets() -> [u8; 2_048] {
     octets
 }
 
-/// The longest datagram comes whole, and a longer one does not; then nothing is left, and time has passed.
+/// The longest datagram comes whole and from where it was sent, and a longer one does not come; then nothing is left. A wait
+/// that hears nothing takes as long as it was asked for, and one of 0 is one of 1.
 fn carries_up_to_the_longest<L: Link>(
     rt: &impl Abort,
     near: &mut L,
     far: &mut L,
+    here: Peer,
     there: Peer,
 ) -> Result<(), LinkFault>
     requires { (L.has_failed near.old ≡ false) × (L.has_failed far.old ≡ false) }
@@ -115,14 +138,12 @@ fn carries_up_to_the_longest<L: Link>(
     let Some(most) = octets.get(..2_047) else {
         panic!(rt; "too short");
     };
-    assert!(rt; carries(near, far, there, &[0])?);
-    assert!(rt; carries(near, far, there, most)?);
-    assert!(rt; !carries(near, far, there, &octets)?);
-    let mut datagram = Datagram::new();
-    assert_eq!(rt; far.receive(0, &mut datagram)?, None);
-    let before = near.now();
-    assert_eq!(rt; near.receive(30, &mut datagram)?, None);
-    assert!(rt; near.now() > before);
+    assert_eq!(rt; carries(rt, near, far, there, &[0])?, Some(here));
+    assert_eq!(rt; carries(rt, near, far, there, most)?, Some(here));
+    assert_eq!(rt; carries(rt, near, far, there, &octets)?, None);
+    assert!(rt; silence(rt, far, 0)? < 2_000);
+    let waited = silence(rt, near, 200)?;
+    assert!(rt; (150..2_000).contains(&waited), "waited {waited} ms");
     Ok(())
 }
 
@@ -132,8 +153,8 @@ fn long_datagrams(rt: HostRuntime) -> Result<(), Fail> {
     let there = Peer { port: 47_811, ..P };
     let mut near = UdpLink::bind(&rt, rt.alloc(), here)?;
     let mut far = UdpLink::bind(&rt, rt.alloc(), there)?;
-    carries_up_to_the_longest(&rt, &mut near, &mut far, there)?;
-    carries_up_to_the_longest(&rt, &mut far, &mut near, here)?;
+    carries_up_to_the_longest(&rt, &mut near, &mut far, here, there)?;
+    carries_up_to_the_longest(&rt, &mut far, &mut near, there, here)?;
     Ok(())
 }
 

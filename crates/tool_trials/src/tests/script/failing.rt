@@ -9,6 +9,11 @@ use std::test::Fail;
 const SCRIPT: &str =
     "read 127.0.0.1:47808 0 5 85\ntick 2999\ntick 3000\ntick 6000\ntick 9000\ntick 12000\n";
 
+const READ: &str = "read 127.0.0.1:47808 0 5 85\n";
+
+/// The answer to the first read.
+const VALUE: &str = "data 127.0.0.1:47808 810a0017010030010c0c0000000519553e444290999a3f\n";
+
 /// What the script prints.
 const PRINTED: &str = "send 0 127.0.0.1:47808 810a001101040005010c0c000000051955\n\
     send 0 127.0.0.1:47808 810a001101040005010c0c000000051955\n\
@@ -48,31 +53,114 @@ fn writes_fail_in_turn(rt: HostRuntime) {
     }
 }
 
-/// How many octets of the text are printed once so many octets of the script were read.
-fn printed_after(octets: usize) -> usize {
-    match octets {
-        0..=27 => 0,
-        28..=47 => 58,
-        48..=57 => 116,
-        58..=67 => 174,
-        68..=78 => 232,
-        _ => PRINTED.len(),
+/// How many octets of the script there are up to the end of each line that prints, and how many of the text.
+const ENDS: [(usize, usize); 5] = [(28, 58), (48, 116), (58, 174), (68, 232), (79, 242)];
+
+/// How many octets of a text are printed once so many of its script were read.
+fn printed_after(ends: &[(usize, usize)], octets: usize) -> usize {
+    let mut printed = 0;
+    for (read, written) in ends {
+        if *read <= octets {
+            printed = *written;
+        }
+    }
+    printed
+}
+
+/// Sees that a reader that gives one octet at a time, and fails at whichever read, leaves the text of the whole lines before.
+fn expect_reads_fail<H: Abort + AllocGlobal>(
+    rt: &H,
+    script: &str,
+    text: &str,
+    ends: &[(usize, usize)],
+) {
+    for reads in 0..=script.len() {
+        let mut written = Vec::new(rt.alloc());
+        let got = {
+            let mut reader = Checked::new(octet_by_octet(script, reads));
+            trace(&mut reader, &mut Checked::new(&mut written))
+        };
+        assert_eq!(rt; got, Err(TraceFault::ReadFailed), "after {reads}");
+        let printed = text.as_bytes().get(..printed_after(ends, reads));
+        assert_eq!(rt; Some(written.as_slice()), printed, "after {reads}");
     }
 }
 
+// Sixty-four requests are sent, and the sixty-fifth finds no place until the first is answered.
 #[test]
-fn reads_fail_in_turn(rt: HostRuntime) {
-    let text = PRINTED.as_bytes();
-    for reads in 0..SCRIPT.len() + 1 {
-        let mut written = Vec::new(rt.alloc());
-        let got = {
-            let mut reader = Checked::new(octet_by_octet(SCRIPT, reads));
-            let mut writer = Checked::new(&mut written);
-            trace(&mut reader, &mut writer)
-        };
-        assert_eq!(rt; got, Err(TraceFault::ReadFailed), "after {reads}");
-        let printed = text.len().min(printed_after(reads));
-        assert_eq!(rt; written.as_slice(), &text[..printed], "after {reads}");
+fn reads_fail_in_turn(rt: HostRuntime) -> Result<(), Fail> {
+    expect_reads_fail(&rt, SCRIPT, PRINTED, &ENDS);
+    let mut script = String::new(rt.alloc());
+    let mut text = String::new(rt.alloc());
+    let mut ends = Vec::new(rt.alloc());
+    for ticket in 0..64_u8 {
+        let number = hex::encode(rt.alloc(), &[ticket + 1])?;
+        script.push_str(READ)?;
+        let sent = format!(in rt.alloc();
+            "send {ticket} 127.0.0.1:47808 810a001101040005{number}0c0c000000051955\n"
+        )?;
+        text.push_str(sent.as_str())?;
+        ends.push((script.len(), text.len()))?;
+    }
+    for (line, printed) in [
+        (READ, "full\n"),
+        (VALUE, "done 0 value 4290999a\n"),
+        (
+            READ,
+            "send 64 127.0.0.1:47808 810a001101040005410c0c000000051955\n",
+        ),
+    ] {
+        script.push_str(line)?;
+        text.push_str(printed)?;
+        ends.push((script.len(), text.len()))?;
+    }
+    expect_reads_fail(&rt, script.as_str(), text.as_str(), ends.as_slice());
+    Ok(())
+}
+
+/// Gives a script at once and then nothing, once. Whoever asks again has a failure or the script once more.
+#[derive(Drop)]
+struct EndedOnce<'a> {
+    script: &'a [u8],
+    asked: usize,
+    fails: bool,
+}
+
+impl Read for EndedOnce<'_> {
+    fn read(&mut self, buf: &mut [u8]) -> io::Result<usize> {
+        let asked = self.asked;
+        self.asked = asked.saturating_add(1);
+        if asked == 1 {
+            return Ok(0);
+        }
+        if asked > 1 && self.fails {
+            return Err(io::Error::from(ErrorKind::Other));
+        }
+        let count = self.script.len().min(buf.len());
+        buf[..count].copy_from_slice(&self.script[..count]);
+        Ok(count)
+    }
+}
+
+// A read that gave nothing is the last, whether or not a line feed stands before it.
+#[test]
+fn what_has_ended_is_not_asked_again(rt: HostRuntime) {
+    for left_out in 0..2 {
+        for fails in [true, false] {
+            let script = SCRIPT.as_bytes();
+            let mut reader = Checked::new(EndedOnce {
+                script: &script[..script.len() - left_out],
+                asked: 0,
+                fails,
+            });
+            let mut written = Vec::new(rt.alloc());
+            let got = trace(&mut reader, &mut Checked::new(&mut written));
+            assert_eq!(rt; got, Ok(TraceEnd { lines: 6 }), "without {left_out}");
+            assert_eq!(rt; written.as_slice(), PRINTED.as_bytes());
+            assert_eq!(rt; reader.reads(), 2);
+            assert_eq!(rt; reader.ends(), 1);
+            assert!(rt; reader.ended() && !reader.failed());
+        }
     }
 }
 
@@ -86,7 +174,9 @@ struct Asked<'a> {
 impl Read for Asked<'_> {
     fn read(&mut self, buf: &mut [u8]) -> io::Result<usize> {
         let read = self.progress.read.get();
-        if self.progress.is_broken.get() || self.progress.written.get() < printed_after(read) {
+        if self.progress.is_broken.get()
+            || self.progress.written.get() < printed_after(&ENDS, read)
+        {
             self.progress.is_early.set(true);
         }
         let reads = self.progress.reads.get();

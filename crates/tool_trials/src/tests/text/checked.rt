@@ -1,5 +1,5 @@
 //! Readers and writers that fail.
-use crate::tests::streams::{Room, octet_by_octet};
+use crate::tests::streams::{Progress, Room, Told, octet_by_octet};
 use bac_text::{Checked, WriteFailed, show_value};
 use std::io::{Read, Write};
 
@@ -31,4 +31,18 @@ fn a_full_writer_has_failed_and_a_flush_has_not(rt: HostRuntime) {
         assert_eq!(rt; show_value(b"\x00", &mut writer), Err(WriteFailed));
         assert!(rt; writer.failed());
     }
+}
+
+// A write that takes none is not made again, though the writer would take it then.
+#[test]
+fn a_write_is_made_once(rt: HostRuntime) {
+    let progress = Progress::new();
+    let mut writer = Checked::new(Told {
+        progress: &progress,
+        fails_at: 0,
+        takes_none: true,
+    });
+    assert_eq!(rt; writer.write(b"x").ok(), Some(0));
+    assert!(rt; writer.failed());
+    assert_eq!(rt; progress.writes.get(), 1);
 }

@@ -2,84 +2,38 @@
 use super::*;
 use crate::tests::repeated;
 
-/// Words of `bacrp`, and the body of the request.
+/// Words behind `bacrp`, and the body of the request.
 static READS: [(&str, &str); 5] = [
+    ("1234 0 5 85 --mac 127.0.0.1:47808", "0c000000051955"),
+    ("1234 0 5 85 --mac 127.0.0.1", "0c000000051955"),
+    ("1234 1 1 87 0 --mac=127.0.0.1", "0c0040000119572900"),
+    ("--mac 127.0.0.1 -- 1234 0 5 85", "0c000000051955"),
     (
-        "bactool bacrp 1234 0 5 85 --mac 127.0.0.1:47808",
-        "0c000000051955",
-    ),
-    (
-        "bactool bacrp 1234 0 5 85 --mac 127.0.0.1",
-        "0c000000051955",
-    ),
-    (
-        "bactool bacrp 1234 1 1 87 0 --mac=127.0.0.1",
-        "0c0040000119572900",
-    ),
-    (
-        "bactool bacrp --mac 127.0.0.1 -- 1234 0 5 85",
-        "0c000000051955",
-    ),
-    (
-        "bactool bacrp --mac 127.0.0.1 4194303 1023 4194303 4194303 4294967295",
+        "--mac 127.0.0.1 4194303 1023 4194303 4194303 4294967295",
         "0cffffffff1b3fffff2cffffffff",
     ),
 ];
 
-/// Words of `bacwp`, and the body of the request.
-static WRITES: [(&str, &str); 13] = [
+/// Words behind `bacwp` and its peer, and the body of the request. Two spaces enclose an empty word.
+static WRITES: [(&str, &str); 15] = [
+    ("1234 2 2 85 16 -1 3 -5", "0c0080000219553e31fb3f4910"),
     (
-        "bactool bacwp 1234 2 2 85 16 -1 3 -5 --mac 127.0.0.1",
-        "0c0080000219553e31fb3f4910",
-    ),
-    (
-        "bactool bacwp 1234 1 1 85 16 -1 4 41a00000 --mac 127.0.0.1",
+        "1234 1 1 85 16 -1 4 41a00000",
         "0c0040000119553e4441a000003f4910",
     ),
-    (
-        "bactool bacwp 1234 2 2 85 0 -1 7 ~x --mac 127.0.0.1",
-        "0c0080000219553e73007e783f",
-    ),
-    (
-        "bactool bacwp 1234 2 2 85 0 -1 7 ~~x --mac 127.0.0.1",
-        "0c0080000219553e74007e7e783f",
-    ),
-    (
-        "bactool bacwp 1234 2 2 85 0 -1 12 8:1234 --mac 127.0.0.1",
-        "0c0080000219553ec4020004d23f",
-    ),
-    (
-        "bactool bacwp 1234 1 1 87 1 3 0 null --mac 127.0.0.1",
-        "0c00400001195729033e003f4901",
-    ),
-    (
-        "bactool bacwp 1234 2 2 85 0 -1 3 -1 3 1 --mac 127.0.0.1",
-        "0c0080000219553e31ff31013f",
-    ),
-    (
-        "bactool bacwp 1234 2 2 85 0 -1 --mac 127.0.0.1 -- 7 --x",
-        "0c0080000219553e74002d2d783f",
-    ),
-    (
-        "bactool bacwp 1234 2 2 85 0 -1 --mac 127.0.0.1 -- 7 --",
-        "0c0080000219553e73002d2d3f",
-    ),
-    (
-        "bactool bacwp 1234 2 2 85 0 -1 7 -5 --mac 127.0.0.1",
-        "0c0080000219553e73002d353f",
-    ),
-    (
-        "bactool bacwp 1234 2 2 85 0 -1 7 ~-5 --mac 127.0.0.1",
-        "0c0080000219553e74007e2d353f",
-    ),
-    (
-        "bactool bacwp 1234 2 2 85 0 -1 7  --mac 127.0.0.1",
-        "0c0080000219553e71003f",
-    ),
-    (
-        "bactool bacwp 1234 2 2 85 0 -1 7  7 x --mac 127.0.0.1",
-        "0c0080000219553e71007200783f",
-    ),
+    ("1234 2 2 85 0 -1 7 ~x", "0c0080000219553e73007e783f"),
+    ("1234 2 2 85 0 -1 7 ~~x", "0c0080000219553e74007e7e783f"),
+    ("1234 2 2 85 0 -1 12 8:1234", "0c0080000219553ec4020004d23f"),
+    ("1234 1 1 87 1 3 0 null", "0c00400001195729033e003f4901"),
+    ("1234 2 2 85 0 -1 3 -1 3 1", "0c0080000219553e31ff31013f"),
+    ("1234 2 2 85 0 -1 -- 7 --x", "0c0080000219553e74002d2d783f"),
+    ("1234 2 2 85 0 -1 -- 7 --", "0c0080000219553e73002d2d3f"),
+    ("1234 2 2 85 0 -1 7 -5", "0c0080000219553e73002d353f"),
+    ("1234 2 2 85 0 -1 7 ~-5", "0c0080000219553e74007e2d353f"),
+    ("1234 2 2 85 0 -1 6 ", "0c0080000219553e603f"),
+    ("1234 2 2 85 0 -1 7 ", "0c0080000219553e71003f"),
+    ("1234 2 2 85 0 -1 8 ", "0c0080000219553e81003f"),
+    ("1234 2 2 85 0 -1 7  7 x", "0c0080000219553e71007200783f"),
 ];
 
 /// Sees that a request is for 127.0.0.1 at the port 47808, has the usual settings, and this body.
@@ -100,17 +54,19 @@ fn expect_call<H: Abort + AllocGlobal>(
 
 #[test]
 fn reads_and_writes(rt: HostRuntime) -> Result<(), Fail> {
-    for (line, body) in &READS {
-        let Job::Read(call) = parse(&rt, line)? else {
-            panic!(rt; "another job for {line:?}");
+    for (words, body) in &READS {
+        let line = format!(in rt.alloc(); "bactool bacrp {words}")?;
+        let Job::Read(call) = parse(&rt, line.as_str())? else {
+            panic!(rt; "another job for {words:?}");
         };
-        expect_call(&rt, &call, body, line)?;
+        expect_call(&rt, &call, body, words)?;
     }
-    for (line, body) in &WRITES {
-        let Job::Write(call) = parse(&rt, line)? else {
-            panic!(rt; "another job for {line:?}");
+    for (words, body) in &WRITES {
+        let line = format!(in rt.alloc(); "bactool bacwp --mac 127.0.0.1 {words}")?;
+        let Job::Write(call) = parse(&rt, line.as_str())? else {
+            panic!(rt; "another job for {words:?}");
         };
-        expect_call(&rt, &call, body, line)?;
+        expect_call(&rt, &call, body, words)?;
     }
     // 93 reals make a body of exactly 476 octets.
     let reals = repeated(&rt, " 4 41a00000", 93)?;

@@ -4,32 +4,24 @@ use bac_device::demo;
 use bac_pdu::WhoIs;
 use bac_wire::Frame;
 
-/// Words of `bacwi`, and which devices are asked.
-const SEARCHES: [(&str, WhoIs); 4] = [
+/// Words of `bacwi`, and the limits of the devices that are asked, if there are any.
+const SEARCHES: [(&str, Option<(u32, u32)>); 4] = [
     (
         "bactool bacwi 1000 1234 --mac 127.0.0.1",
-        WhoIs::Range {
-            low: 1000,
-            high: 1234,
-        },
+        Some((1000, 1234)),
     ),
-    (
-        "bactool bacwi 1235 --mac 127.0.0.1",
-        WhoIs::Range {
-            low: 1235,
-            high: 1235,
-        },
-    ),
-    ("bactool bacwi --mac 127.0.0.1", WhoIs::All),
-    (
-        "bactool bacwi --mac 127.0.0.1 5 3",
-        WhoIs::Range { low: 5, high: 3 },
-    ),
+    ("bactool bacwi 1235 --mac 127.0.0.1", Some((1235, 1235))),
+    ("bactool bacwi --mac 127.0.0.1", None),
+    ("bactool bacwi --mac 127.0.0.1 5 3", Some((5, 3))),
 ];
 
 #[test]
 fn searches(rt: HostRuntime) -> Result<(), Fail> {
-    for (line, who) in SEARCHES {
+    for (line, limits) in SEARCHES {
+        let who = match limits {
+            Some((low, high)) => WhoIs::Range { low, high },
+            None => WhoIs::All,
+        };
         let Job::WhoIs(search) = parse(&rt, line)? else {
             panic!(rt; "another job for {line:?}");
         };

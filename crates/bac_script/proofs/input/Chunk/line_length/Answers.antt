@@ -1,21 +1,48 @@
-use Rattle.std.proofs.Common.{sym, ◌∙◌, ap, subst, length, arith}
-use Rattle.bac_script.specs.Input.{HasNoFeed}
-use Rattle.bac_script.proofs.Taken.{no_feed, cut_found, cut_within, cut_long, place_short}
+use Rattle.std.proofs.Common.{◌≡◌, ◌≤◌, ◌-◌, sym, ◌∙◌, arith}
+use Rattle.bac_script.proofs.Chunks.{range_size, none_there, cut_behind, none_up_to, none_held, cut_as_long}
 use Rattle.bac_script.proofs.input.Chunk.line_length.Goals as goal
+use Rattle.bac_script.proofs.input.Chunk.line_length.Goals.{then-length-lt-LINE_ROOM, else-length-lt-LINE_ROOM}
 
-pub returns-in_err-feed_place : goal.returns-in_err-feed_place
-returns-in_err-feed_place c =
-    rw c.from_residual.ensures
-    (subst HasNoFeed c.self.view_is (no_feed _ (sym c.feed_place.ensures ∙ c.in_err-feed_place.was)), omega (arith, c.if-held-lt-LINE_ROOM.true, ap length c.self.view_is))
+pub returns-in-Some-clause-line : goal.returns-in-Some-clause-line
+returns-in-Some-clause-line c =
+    let i = c.self.inside in
+    let s = c.self.invariant in
+    let limit = c.min-limit.ensures in
+    cut_behind i.octets c.args.self.now i.start i.searched c.min-limit.result i.end c.self.view_is s.0 (omega (arith, limit, s.1, s.3)) (omega (arith, limit)) (omega arith) s.4
+    c.in-Some.place (sym c.feed_place.ensures ∙ c.in-Some.is)
 
-pub returns-then-held-lt-LINE_ROOM : goal.returns-then-held-lt-LINE_ROOM
-returns-then-held-lt-LINE_ROOM c = cut_found _ _ _ c.self.view_is (sym c.feed_place.ensures ∙ c.in_ok-feed_place.was)
+pub invariant_of-self : goal.invariant_of-self
+invariant_of-self c =
+    let i = c.self.inside in
+    let s = c.self.invariant in
+    let limit = c.min-limit.ensures in (
+      omega (arith, limit, s.0, s.1),
+      omega (arith, limit),
+      s.2,
+      omega (arith, limit),
+      none_up_to i.octets c.args.self.now i.start i.searched c.min-limit.result i.end c.self.view_is s.0 (omega (arith, limit, s.1, s.3)) (omega (arith, limit)) (omega arith) s.4 (sym c.feed_place.ensures ∙ none_there _ c.in_default.not-Some),
+    )
 
-pub overflow_add-result-in-Some : goal.overflow_add-result-in-Some
-overflow_add-result-in-Some c = omega (arith, place_short _ _ c.if-held-lt-LINE_ROOM.false (sym c.feed_place-2.ensures ∙ c.in-Some.is))
-
-pub returns-in-Some : goal.returns-in-Some
-returns-in-Some c = cut_within _ _ _ c.self.view_is c.if-held-lt-LINE_ROOM.false (sym c.feed_place-2.ensures ∙ c.in-Some.is)
-
-pub returns-in-None : goal.returns-in-None
-returns-in-None c = cut_long _ _ c.self.view_is c.if-held-lt-LINE_ROOM.false (sym c.feed_place-2.ensures ∙ c.in-None.is)
+pub returns-clause-line : goal.returns-clause-line
+returns-clause-line c =
+    let i = c.self.inside in
+    let s = c.self.invariant in
+    let limit = c.min-limit.ensures in
+    let from = s.0 in
+    let to : i.searched ≤ c.min-limit.result = omega (arith, limit, s.1, s.3) in
+    let below : c.min-limit.result ≤ i.end = omega (arith, limit) in
+    let none =
+    none_up_to i.octets c.args.self.now i.start i.searched c.min-limit.result i.end c.self.view_is from to below (omega arith) s.4
+    (sym c.feed_place.ensures ∙ none_there _ c.in_default.not-Some) in
+    elim c.if-length-lt-LINE_ROOM.branch [
+      | then-length-lt-LINE_ROOM w ↦
+          let short = w.if-length-lt-LINE_ROOM.true in
+          let whole : c.min-limit.result ≡ i.end = omega (arith, limit, short) in
+          rw w.result-is (
+            none_held i.octets c.args.self.now i.start i.searched c.min-limit.result i.end c.self.view_is from to below (omega arith) s.4 none whole,
+            omega (arith, range_size i.octets c.args.self.now i.start i.end c.self.view_is (omega arith), whole, short),
+          )
+      | else-length-lt-LINE_ROOM w ↦
+          let long : c.min-limit.result - i.start ≡ 4097 = omega (arith, limit, w.if-length-lt-LINE_ROOM.false) in
+          rw w.result-is (cut_as_long i.octets c.args.self.now i.start i.searched c.min-limit.result i.end c.self.view_is from to below (omega arith) s.4 none long)
+    ]

@@ -1,9 +1,5 @@
-use Rattle.std.proofs.Common.{refl}
-use Rattle.bac_text.proofs.Printed.{written_past}
+use Rattle.bac_text.proofs.Printed.{◌⨾◌}
 use Rattle.bac_text.proofs.page.Page.print_past.Goals as goal
 
 pub returns : goal.returns
-returns g c = record {
-  same = c.turn_in.ensures.printed.same;
-  wrote = written_past refl c.turn_in.ensures.empty c.turn_in.ensures.printed.wrote c.write_on.ensures;
-}
+returns g c = c.turn_in.ensures.printed ⨾ c.hold_or_write.ensures

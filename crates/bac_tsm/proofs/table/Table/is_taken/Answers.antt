@@ -9,5 +9,5 @@ pub returns : goal.returns
 returns c =
     c.is_some.ensures
     ∙ ap (λ k. is_some (get_or c.self.inside.numbers k None)) c.from.ensures
-    ∙ taken c.self.invariant c.args.number c.ranges.number.fits
+    ∙ taken c.self.invariant.0 c.args.number c.ranges.number.fits
     ∙ ap (list_any (λ (w : Waiting). nat_eq c.args.number w.request.number)) c.self.view_is

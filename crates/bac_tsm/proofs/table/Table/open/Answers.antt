@@ -1,29 +1,30 @@
-use Rattle.std.proofs.Common.{◌≡◌, [], ◌∷◌, ◌++◌, sym, ap, subst, ◌∙◌, arith}
-use Rattle.bac_tsm.specs.Machine.{Waiting}
-use Rattle.bac_tsm.specs.ByKey.{times}
-use Rattle.bac_tsm.specs.Table.{number_in}
+use Rattle.std.proofs.Common.{arith}
+use Rattle.bac_tsm.proofs.TableReads.{as_many, count, next_free}
 use Rattle.bac_tsm.proofs.TableEdits.{opened_by}
-use Rattle.bac_tsm.proofs.TableReads.{popped_within}
 use Rattle.bac_tsm.proofs.table.Table.open.Goals as goal
 
 pub listed : goal.listed
-listed c =
-    let lt = popped_within c.self.invariant _ _ _ c.in-Some.ensures.items c.from-2.ensures in
-    let all = c.self.invariant.all_places in
-    omega arith
+listed c = (next_free c.self.invariant.0 _ c.self.view_is c.requires.room _ c.deref.ensures.0 c.len.result c.len.ensures.value _ c.from-2.ensures).1
 
 pub bounds-self-inside-from-2 : goal.bounds-self-inside-from-2
-bounds-self-inside-from-2 c = popped_within c.self.invariant _ _ _ c.in-Some.ensures.items c.from-2.ensures
+bounds-self-inside-from-2 c = (next_free c.self.invariant.0 _ c.self.view_is c.requires.room _ c.deref.ensures.0 c.len.result c.len.ensures.value _ c.from-2.ensures).0
 
-pub invariant_of-self-2 : goal.invariant_of-self-2
-invariant_of-self-2 c =
-    (opened_by c.self.invariant _ c.self.view_is _ _ _ _ _ _ c.in-Some.ensures.items c.push.ensures.items c.from-2.ensures
-    (c.from.ensures ∙ ap number_in (sym c.begin.ensures))
-    (subst (λ (w : Waiting). times number_in w.request.number c.args.self.now ≡ 0) (sym c.begin.ensures) c.requires.number)).1
+pub push-requires-2 : goal.push-requires-2
+push-requires-2 c =
+    let all = c.self.invariant.1.all in
+    let same = as_many c.self.invariant.0 in
+    let e = count c.self.invariant.0 _ c.self.view_is in
+    let room = c.requires.room in
+    omega arith
+
+pub invariant_of-self : goal.invariant_of-self
+invariant_of-self c =
+    let all =
+    opened_by c.self.invariant.0 _ c.self.view_is _ c.self.invariant.1 c.requires.room _ c.deref.ensures.0 c.len.result c.len.ensures.value c.args.asked c.args.body.now _ c.begin.ensures
+    c.requires.number c.requires.latest c.requires.past c.from-2.result c.from.result _ _ c.from-2.ensures c.from.ensures c.push.ensures.items c.push-2.ensures.items in
+    (all.1, all.2)
 
 pub returns : goal.returns
 returns c =
-    (opened_by c.self.invariant _ c.self.view_is _ _ _ _ _ _ c.in-Some.ensures.items c.push.ensures.items c.from-2.ensures
-    (c.from.ensures ∙ ap number_in (sym c.begin.ensures))
-    (subst (λ (w : Waiting). times number_in w.request.number c.args.self.now ≡ 0) (sym c.begin.ensures) c.requires.number)).0
-    ∙ ap (λ (w : Waiting). c.args.self.now ++ w ∷ []) c.begin.ensures
+    (opened_by c.self.invariant.0 _ c.self.view_is _ c.self.invariant.1 c.requires.room _ c.deref.ensures.0 c.len.result c.len.ensures.value c.args.asked c.args.body.now _ c.begin.ensures
+    c.requires.number c.requires.latest c.requires.past c.from-2.result c.from.result _ _ c.from-2.ensures c.from.ensures c.push.ensures.items c.push-2.ensures.items).0

@@ -1,0 +1,22 @@
+-- The limits of links and tools. The code has constants of the same numbers.
+use Rattle.std.specs.Prelude.{ℕ}
+
+-- The octets of the longest datagram that a link receives.
+abbrev pub longest_datagram : ℕ
+longest_datagram = 2047
+
+-- The octets of the longest service body that a client sends.
+abbrev pub longest_body : ℕ
+longest_body = 476
+
+-- The longest wait of a turn, in milliseconds.
+abbrev pub longest_wait : ℕ
+longest_wait = 50
+
+-- How long a server waits for a datagram, in milliseconds.
+abbrev pub serve_wait : ℕ
+serve_wait = 1000
+
+-- The turns after which a tool gives up.
+abbrev pub most_turns : ℕ
+most_turns = 65536

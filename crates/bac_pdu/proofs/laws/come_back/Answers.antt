@@ -1,0 +1,16 @@
+use Rattle.bac_pdu.proofs.DatagramLaws.{taken_carries}
+use Rattle.bac_pdu.proofs.ApduLaws.{apdu_back}
+use Rattle.bac_pdu.proofs.RoundLaws.{read_back, write_back, ack_back, who_is_back, introduction_back, error_back}
+use Rattle.bac_pdu.proofs.laws.come_back.Goals as goal
+
+pub returns : goal.returns
+returns c = record {
+  taken = taken_carries;
+  apdu = apdu_back;
+  read = read_back;
+  write = write_back;
+  ack = ack_back;
+  limits = who_is_back;
+  i_am = introduction_back;
+  error = error_back;
+}

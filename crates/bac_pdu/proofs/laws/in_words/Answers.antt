@@ -1,0 +1,18 @@
+use Rattle.bac_pdu.proofs.DatagramLaws.{carried_is}
+use Rattle.bac_pdu.proofs.ApduLaws.{apdu_is}
+use Rattle.bac_pdu.proofs.ReadLaws.{read_is, ack_is}
+use Rattle.bac_pdu.proofs.WriteLaws.{write_is}
+use Rattle.bac_pdu.proofs.DiscoveryLaws.{who_is_is, introduction_is, error_is}
+use Rattle.bac_pdu.proofs.laws.in_words.Goals as goal
+
+pub returns : goal.returns
+returns c = record {
+  carried = carried_is;
+  apdu = apdu_is;
+  read = read_is;
+  write = write_is;
+  ack = ack_is;
+  who_is = who_is_is;
+  i_am = introduction_is;
+  error = error_is;
+}

@@ -1,0 +1,21 @@
+ghost use Rattle.std.specs.Prelude.{◌≡◌, ◌≤◌, ℕ, List, length};
+ghost use Rattle.bac_wire.specs.Writing.{Appends, AppendsFront};
+
+use bac_wire::{Frame, Full};
+
+/// What a writer appended behind the first `start` octets stays where it is whole. Else what there is of it is taken away.
+pub(crate) fn whole_or_nothing(
+    frame: &mut Frame,
+    start: usize,
+    appended: Result<(), Full>,
+) -> Result<(), Full>
+    requires { start ≤ length frame.old }
+    ensures same { result ≡ appended }
+    ensures whole { (old octets : List ℕ) → start ≡ length old
+        → AppendsFront old octets frame.old appended → Appends old octets frame.new result }
+{
+    if appended.is_err() {
+        frame.truncate(start);
+    }
+    appended
+}

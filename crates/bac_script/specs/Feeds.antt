@@ -1,0 +1,7 @@
+-- Line feeds.
+use Rattle.std.specs.Prelude.{◌≢◌, ℕ, List}
+use Rattle.std.specs.List.{AllByRecursion}
+
+-- none of these is a line feed
+abbrev pub HasNoFeed : List ℕ → Type 0
+HasNoFeed = AllByRecursion (λ octet. octet ≢ 10)

@@ -1,0 +1,12 @@
+use Rattle.bac_text.proofs.LeadingDigits.{short_long, short_empty, short_big}
+use Rattle.bac_text.proofs.peers.short_number.Goals as goal
+use Rattle.bac_text.proofs.peers.short_number.Goals.{then-count-eq0-via-then-count-eq0, then-count-eq0-via-else-count-eq0+then-count-text, then-count-eq0-via-else-count-eq0+else-count-text+then-number-limit}
+
+pub returns-then-count-eq0-clause-value : goal.returns-then-count-eq0-clause-value
+returns-then-count-eq0-clause-value c =
+    let l = c.leading_number-number.ensures in
+    elim c.then-count-eq0.branch [
+      | then-count-eq0-via-then-count-eq0 w ↦ short_empty _ _ _ _ _ l w.if-count-eq0.true
+      | then-count-eq0-via-else-count-eq0+then-count-text w ↦ short_long _ _ _ _ _ l w.if-count-text.true
+      | then-count-eq0-via-else-count-eq0+else-count-text+then-number-limit w ↦ short_big _ _ _ _ _ l w.if-number-limit.true
+    ]

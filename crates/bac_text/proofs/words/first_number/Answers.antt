@@ -1,0 +1,21 @@
+use Rattle.std.proofs.Common.{◌≡◌, ℕ, ◌-◌, ◌<◌, true, List, length, take, drop, get_or, sym, ◌∙◌, subst, arith}
+use Rattle.std.proofs.lemmas.Bool.{not-false}
+use Rattle.std.proofs.lemmas.List.{take_rest}
+use Rattle.bac_text.specs.Words.{is_blank, IsFirstNumber}
+use Rattle.bac_text.proofs.FirstNumbers.{first_number_is}
+use Rattle.bac_text.proofs.words.first_number.Goals as goal
+use Rattle.bac_text.proofs.words.first_number.Goals.{then-count-text, else-count-text}
+
+pub returns : goal.returns
+returns c =
+    let text = c.args.text.now in
+    let start = c.in_ok-start.start in
+    let rest = take (length text - start) (drop start text) in
+    let count = c.leading_number-number.result.1 in
+    let blank : count < length rest → is_blank (get_or rest count 0) ≡ true =
+    λ more. elim c.if-count-text.branch [
+      | then-count-text w ↦ sym w.is_blank.ensures ∙ not-false _ (sym w.value-is ∙ c.if-not-is_blank.false)
+      | else-count-text w ↦ absurd (omega (arith, more, w.if-count-text.false))
+    ] in
+    subst (λ (later : List ℕ). IsFirstNumber text c.leading_number-number.result.0 later) (sym (take_rest rest count))
+    (first_number_is rest _ count c.leading_number-number.ensures text start c.in_ok-start.ensures (take_rest text start) (omega (arith, c.if-count-eq0.false)) blank)

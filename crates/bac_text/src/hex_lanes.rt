@@ -1,0 +1,97 @@
+//! Octets as hexadecimal digits and digits as octets, several at a time.
+ghost use Rattle.std.specs.Prelude.{◌≡◌, ◌+◌, ◌*◌, ◌≤◌, not, length, MatchOption, Some, None};
+ghost use Rattle.std.specs.Simd.Lanes.{chunk};
+ghost use Rattle.std.specs.Result.{result_ok};
+ghost use Rattle.hex.specs.Hex.{encode_lower, decode_of, is_hex_digit};
+ghost use Rattle.bac_text.specs.Search.{IsRunIn};
+ghost use Rattle.bac_text.specs.HexLanes.{octets_by_lanes};
+
+use crate::search::first_set;
+use std::simd::prelude::*;
+
+/// The octets that are taken at a time.
+const OCTETS: usize = 8;
+
+/// Their digits.
+const DIGITS: usize = 16;
+
+/// Writes the digits of the octets, in lower case, into room for just these.
+pub(crate) fn write_hex(octets: &[u8], digits: &mut [u8])
+    requires { length digits.old ≡ 2 * length octets.now }
+    ensures { digits.new ≡ encode_lower octets.now }
+{
+    if octets.len() < OCTETS {
+        let _ = hex::encode_to_slice(octets, digits);
+        return;
+    }
+    let mut start = 0;
+    while start < octets.len() {
+        // The last load goes back over some that were written.
+        let at = start.min(octets.len() - OCTETS);
+        sixteen_digits(octets, at).copy_to_slice(&mut digits[2 * at..]);
+        start = at + OCTETS;
+    }
+}
+
+/// Puts the octets that the digits write into room for just these, where they are digits.
+pub(crate) fn octets_from(digits: &[u8], octets: &mut [u8]) -> Option<()>
+    requires { length digits.now ≡ 2 * length octets.old }
+    ensures { MatchOption result (result_ok (decode_of digits.now) ≡ None)
+        (λ _. result_ok (decode_of digits.now) ≡ Some octets.new) }
+{
+    if octets.len() < OCTETS {
+        return hex::decode_to_slice(digits, octets).ok();
+    }
+    let mut start = 0;
+    while start < octets.len() {
+        // The last load goes back over some that were read.
+        let at = start.min(octets.len() - OCTETS);
+        if run_of_digits(digits, 2 * at) < DIGITS {
+            return None;
+        }
+        eight_octets(digits, 2 * at).copy_to_slice(&mut octets[at..]);
+        start = at + OCTETS;
+    }
+    Some(())
+}
+
+// The digits of the octets that one load takes.
+#[inline(always)]
+fn sixteen_digits(octets: &[u8], at: usize) -> u8x16
+    requires { at + OCTETS ≤ length octets.now }
+    ensures { result ≡ encode_lower (chunk at OCTETS octets.now) }
+{
+    let loaded = u8x8::from_slice(&octets[at..]);
+    let high = loaded >> 4;
+    let low = loaded & u8x8::splat(15);
+    let numbers = high.shuffle(low, [0, 8, 1, 9, 2, 10, 3, 11, 4, 12, 5, 13, 6, 14, 7, 15]);
+    let is_letter = numbers.simd_gt(u8x16::splat(9));
+    numbers + is_letter.select(u8x16::splat(b'a' - 10), u8x16::splat(b'0'))
+}
+
+// How many of the octets that one load takes come before the first that is no digit.
+#[inline(always)]
+fn run_of_digits(digits: &[u8], at: usize) -> usize
+    requires { at + DIGITS ≤ length digits.now }
+    ensures { IsRunIn (λ digit. not (is_hex_digit digit)) digits.now at DIGITS result }
+{
+    let loaded = u8x16::from_slice(&digits[at..]);
+    let numbers = loaded - u8x16::splat(b'0');
+    let letters = (loaded | u8x16::splat(0x20)) - u8x16::splat(b'a');
+    let others = numbers.simd_gt(u8x16::splat(9)) & letters.simd_gt(u8x16::splat(5));
+    first_set(others.to_bitmask(), DIGITS)
+}
+
+// The octets that the digits of one load write.
+#[inline(always)]
+fn eight_octets(digits: &[u8], at: usize) -> u8x8
+    requires { at + DIGITS ≤ length digits.now }
+    ensures { result ≡ octets_by_lanes (chunk at DIGITS digits.now) }
+{
+    let loaded = u8x16::from_slice(&digits[at..]);
+    let is_letter = loaded.simd_gt(u8x16::splat(63));
+    let numbers = (loaded & u8x16::splat(15)) + is_letter.select(u8x16::splat(9), u8x16::splat(0));
+    let high = numbers.swizzle([0, 2, 4, 6, 8, 10, 12, 14]);
+    let low = numbers.swizzle([1, 3, 5, 7, 9, 11, 13, 15]);
+    (high << 4) + low
+}

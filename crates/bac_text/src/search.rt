@@ -1,0 +1,118 @@
+//! The first octet that ends a piece of text, searched for several octets at a time.
+ghost use Rattle.std.specs.Prelude.{◌≡◌, ◌==◌, ◌+◌, ◌≤◌, length, position};
+ghost use Rattle.bac_text.specs.Search.{ends_at, first_set, IsRunIn};
+
+use crate::words::is_blank;
+use std::simd::prelude::*;
+
+/// The octets that are compared at a time, and fewer for a short text.
+const LANES: usize = 16;
+
+const FEW_LANES: usize = 8;
+
+/// What ends a piece of text.
+#[derive(Clone, Copy)]
+pub enum End {
+    /// A space or a tab.
+    Blank,
+    /// This octet.
+    At(u8),
+    /// An octet past 127, which is no ASCII.
+    PastAscii,
+}
+
+/// Where the first octet stands that ends a piece.
+pub fn place_of_end(octets: &[u8], end: End) -> Option<usize>
+    ensures { result ≡ position (ends_at end) octets.now }
+{
+    if octets.len() < FEW_LANES {
+        return octets.iter().position(|octet| ends_at(*octet, end));
+    }
+    if octets.len() < LANES {
+        return place_in_few(octets, end);
+    }
+    let mut start = 0;
+    while start < octets.len() {
+        // The last load goes back over some that were seen.
+        let at = start.min(octets.len() - LANES);
+        let run = run_before(octets, at, end);
+        if run < LANES {
+            return Some(at + run);
+        }
+        start = at + LANES;
+    }
+    None
+}
+
+// The same of a text that one or two small loads take.
+fn place_in_few(octets: &[u8], end: End) -> Option<usize>
+    requires least { FEW_LANES ≤ length octets.now }
+    requires most { length octets.now ≤ LANES }
+    ensures { result ≡ position (ends_at end) octets.now }
+{
+    let run = run_before_few(octets, 0, end);
+    if run < FEW_LANES {
+        return Some(run);
+    }
+    let at = octets.len() - FEW_LANES;
+    let run = run_before_few(octets, at, end);
+    if run < FEW_LANES {
+        return Some(at + run);
+    }
+    None
+}
+
+fn ends_at(octet: u8, end: End) -> bool
+    ensures { result ≡ ends_at end octet }
+{
+    match end {
+        End::Blank => is_blank(octet),
+        End::At(other) => octet == other,
+        End::PastAscii => octet > 127,
+    }
+}
+
+// How many of the octets that one load takes come before the first that ends a piece.
+#[inline(always)]
+fn run_before(octets: &[u8], at: usize, end: End) -> usize
+    requires { at + LANES ≤ length octets.now }
+    ensures { IsRunIn (ends_at end) octets.now at LANES result }
+{
+    let loaded = u8x16::from_slice(&octets[at..]);
+    let ends = match end {
+        End::Blank => {
+            (loaded.simd_eq(u8x16::splat(b' ')) | loaded.simd_eq(u8x16::splat(b'\t'))).to_bitmask()
+        }
+        End::At(other) => loaded.simd_eq(u8x16::splat(other)).to_bitmask(),
+        End::PastAscii => loaded.simd_gt(u8x16::splat(127)).to_bitmask(),
+    };
+    first_set(ends, LANES)
+}
+
+#[inline(always)]
+fn run_before_few(octets: &[u8], at: usize, end: End) -> usize
+    requires { at + FEW_LANES ≤ length octets.now }
+    ensures { IsRunIn (ends_at end) octets.now at FEW_LANES result }
+{
+    let loaded = u8x8::from_slice(&octets[at..]);
+    let ends = match end {
+        End::Blank => {
+            (loaded.simd_eq(u8x8::splat(b' ')) | loaded.simd_eq(u8x8::splat(b'\t'))).to_bitmask()
+        }
+        End::At(other) => loaded.simd_eq(u8x8::splat(other)).to_bitmask(),
+        End::PastAscii => loaded.simd_gt(u8x8::splat(127)).to_bitmask(),
+    };
+    first_set(ends, FEW_LANES)
+}
+
+// The place of the lowest bit that is set, or the lanes.
+#[inline(always)]
+pub(crate) fn first_set(mask: u64, lanes: usize) -> usize
+    ensures { result ≡ first_set mask lanes }
+{
+    if mask == 0 {
+        lanes
+    } else {
+        mask.trailing_zeros() as usize
+    }
+}

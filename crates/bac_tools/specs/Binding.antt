@@ -1,0 +1,33 @@
+-- The socket that a job asks for.
+use Rattle.std.specs.Prelude.{◌≡◌, ℕ, Bool, false, Option, Some, None, Result, Ok, Err, ⊤}
+use Rattle.bac_links.specs.declared.link.LinkFault.{LinkFault}
+use Rattle.bac_links.specs.declared.udp.Refused.TheVariants.{Fails, IsLost}
+use Rattle.bac_words.specs.declared.jobs.Job.{Job}
+use Rattle.bac_words.specs.declared.jobs.Job.TheVariants.{Read, Write, WhoIs, Device, Trace}
+use Rattle.bac_tools.specs.declared.binding.Binding.{Binding}
+
+-- A client's socket has every address of the machine, and fails where the system refuses what it sends.
+abbrev pub client_at : ℕ → Binding
+client_at port = record { at = record { ip = 0; port = port; route = None }; refused = Fails }
+
+-- A server's goes on then.
+abbrev pub server_at : ℕ → Binding
+server_at port = record { at = record { ip = 0; port = port; route = None }; refused = IsLost }
+
+abbrev pub binding_of : Job → Option Binding
+binding_of (Read call) = Some (client_at call.port)
+binding_of (Write call) = Some (client_at call.port)
+binding_of (WhoIs search) = Some (client_at search.port)
+binding_of (Device serve) = Some (server_at serve.port)
+binding_of Trace = None
+
+-- A link that has not failed, or a socket that could not be had.
+abbrev pub IsSound : {L : Type 0} → (L → Bool) → Option (Result L LinkFault) → Type 0
+IsSound failed None = ⊥
+IsSound failed (Some (Ok link)) = failed link ≡ false
+IsSound failed (Some (Err fault)) = ⊤
+
+-- Where the job asks for a socket, this is what was to be had.
+abbrev pub IsOpened : {L : Type 0} → (L → Bool) → Option Binding → Option (Result L LinkFault) → Type 0
+IsOpened failed None opened = ⊤
+IsOpened failed (Some binding) opened = IsSound failed opened

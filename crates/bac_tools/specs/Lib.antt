@@ -1,0 +1,4 @@
+pub mod Binding
+pub mod Report
+pub mod Runs
+pub mod Program

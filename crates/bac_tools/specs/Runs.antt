@@ -1,0 +1,90 @@
+-- What a job prints, sends and leaves, and how the program ends: for each job by the definition of its tool.
+use Rattle.std.specs.Prelude.{◌≡◌, ◌≢◌, ◌↔◌, ◌⊎◌, ℕ, Bool, true, [], List, Option, Some, None, Result, Ok, Err, IfErr}
+use Rattle.bac_device.specs.Demo.{demo_points}
+use Rattle.bac_device.specs.Device.{DeviceState, device_after}
+use Rattle.bac_text.specs.Checked.{inner_of, has_failed}
+use Rattle.bac_text.specs.declared.checked.Checked.{Checked}
+use Rattle.bac_links.specs.Told.{Told}
+use Rattle.bac_links.specs.Call.{ReadTells, WriteTells}
+use Rattle.bac_links.specs.Search.{Searched}
+use Rattle.bac_links.specs.Serve.{Serves}
+use Rattle.bac_links.specs.Fault.{is_link_fault, is_write_fault}
+use Rattle.bac_links.specs.declared.ending.Exit.{Exit}
+use Rattle.bac_links.specs.declared.fault.ToolFault.{ToolFault}
+use Rattle.bac_links.specs.declared.fault.ToolFault.TheVariants.{WriteFailed}
+use Rattle.bac_links.specs.declared.link.LinkFault.{LinkFault}
+use Rattle.bac_script.specs.Input.{AreSpent}
+use Rattle.bac_script.specs.Tracing.{Traces}
+use Rattle.bac_script.specs.declared.tracing.TraceEnd.{TraceEnd}
+use Rattle.bac_script.specs.declared.tracing.TraceFault.{TraceFault}
+use Rattle.bac_script.specs.declared.tracing.TraceFault.TheVariants as stops
+use Rattle.bac_words.specs.declared.jobs.Job.{Job}
+use Rattle.bac_words.specs.declared.jobs.Job.TheVariants.{Read, Write, WhoIs, Device, Trace}
+use Rattle.bac_words.specs.declared.jobs.Serve.{Serve}
+use Rattle.bac_tools.specs.Report.{as_exit, tool_report, trace_report, unbound_report}
+use Rattle.bac_tools.specs.declared.report.Report.{Report}
+
+-- A demonstration device: its replies to the datagrams that come.
+pub record DevicePlays (serve : Serve) (told left : Option Told) (answer : Result Exit ToolFault) : Type 0 where
+  pub device : DeviceState
+  pub served : Result ℕ ToolFault
+  pub serves : Serves serve.count (device_after serve.info demo_points []) device told left served
+  pub answers : answer ≡ as_exit served
+
+-- ---- the tools over a link: what each does to its writer and its link, and its answer
+
+module _ {W : Type 0} (contents : W → Option (List ℕ)) (writer writer' : Checked W) (told left : Option Told) (answer : Result Exit ToolFault) where
+  -- Only where the writer is at fault was anything printed of a call that met a fault.
+  abbrev pub Unprinted : Type 0
+  Unprinted = IfErr answer (λ fault. fault ≢ WriteFailed → writer' ≡ writer)
+
+  -- A request tells its events, its sends, its end and the line of that, by the look-ahead; a search the devices that it finds,
+  -- and their lines; a device its replies, and it prints nothing.
+  abbrev pub ToolRuns : Job → Type 0
+  ToolRuns (Read call) = ReadTells call (contents (inner_of writer)) (contents (inner_of writer')) told left answer × Unprinted
+  ToolRuns (Write call) = WriteTells call (contents (inner_of writer)) (contents (inner_of writer')) told left answer × Unprinted
+  ToolRuns (WhoIs search) = Searched search (contents (inner_of writer)) (contents (inner_of writer')) told left answer
+  ToolRuns (Device serve) = DevicePlays serve told left answer × (writer' ≡ writer)
+  ToolRuns Trace = ⊥
+
+-- ---- the whole
+
+module _ {L R W : Type 0} (tells : L → Option Told) (failed : L → Bool) (remaining : R → Option (List ℕ)) (contents : W → Option (List ℕ)) (reader reader' : Checked R) (writer writer' : Checked W) (report : Report) where
+  -- Over a link: the tool's answer is the report. Link and writer have failed exactly where it is their fault.
+  pub record RunsOver (job : Job) (link link' : L) : Type 0 where
+    pub answer : Result Exit ToolFault
+    pub tool : ToolRuns contents writer writer' (tells link) (tells link') answer job
+    pub link_fault : failed link' ≡ is_link_fault answer
+    pub write_fault : has_failed writer' ≡ is_write_fault answer
+    pub unread : reader' ≡ reader
+    pub reported : report ≡ tool_report answer
+
+  -- Where no socket was to be had, nothing is read and nothing printed.
+  pub record RunsUnbound (fault : LinkFault) : Type 0 where
+    pub unread : reader' ≡ reader
+    pub unprinted : writer' ≡ writer
+    pub reported : report ≡ unbound_report fault
+
+  -- A script: its text, and how it ends.
+  pub record RunsScript : Type 0 where
+    pub answer : Result TraceEnd TraceFault
+    pub script : Traces remaining contents reader reader' writer writer' answer
+    pub read_fault : answer ≡ Err stops.ReadFailed → (has_failed reader' ≡ true) ⊎ AreSpent reader'
+    pub write_fault : (has_failed writer' ≡ true) ↔ (answer ≡ Err stops.WriteFailed)
+    pub reported : report ≡ trace_report answer
+
+  -- With the socket that was to be had, which is there afterwards.
+  abbrev pub RunsOpened : Job → Option (Result L LinkFault) → Option (Result L LinkFault) → Type 0
+  RunsOpened job None opened' = ⊥
+  RunsOpened job (Some (Err fault)) opened' = RunsUnbound fault
+  RunsOpened job (Some (Ok link)) (Some (Ok link')) = RunsOver job link link'
+  RunsOpened job (Some (Ok link)) (Some (Err fault)) = ⊥
+  RunsOpened job (Some (Ok link)) None = ⊥
+
+  -- What a job does with what was opened for it, its reader and its writer, and the report.
+  abbrev pub Runs : Job → Option (Result L LinkFault) → Option (Result L LinkFault) → Type 0
+  Runs (Read call) = RunsOpened (Read call)
+  Runs (Write call) = RunsOpened (Write call)
+  Runs (WhoIs search) = RunsOpened (WhoIs search)
+  Runs (Device serve) = RunsOpened (Device serve)
+  Runs Trace = λ opened opened'. RunsScript × (opened' ≡ opened)

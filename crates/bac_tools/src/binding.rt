@@ -1,0 +1,43 @@
+//! The socket that a job asks for.
+ghost use Rattle.std.specs.Prelude.{◌≡◌};
+ghost use Rattle.bac_tools.specs.Binding.{binding_of, client_at};
+
+use bac_links::Refused;
+use bac_pdu::Peer;
+use bac_words::Job;
+
+/// Where a socket is to be, and what becomes of a datagram that the system refuses to send from it.
+#[derive(Clone, Copy, Debug)]
+pub struct Binding {
+    pub at: Peer,
+    pub refused: Refused,
+}
+
+/// The socket that a job asks for. A script asks for none.
+pub fn binding_for(job: &Job) -> Option<Binding>
+    ensures { result ≡ binding_of job.now }
+{
+    match job {
+        Job::Read(call) | Job::Write(call) => Some(client_at(call.port)),
+        Job::WhoIs(search) => Some(client_at(search.port)),
+        Job::Device(device) => Some(Binding {
+            refused: Refused::IsLost,
+            ..client_at(device.port)
+        }),
+        Job::Trace => None,
+    }
+}
+
+// A client's socket: every address of this machine; the port 0 is any free one.
+fn client_at(port: u16) -> Binding
+    ensures { result ≡ client_at port }
+{
+    Binding {
+        at: Peer {
+            ip: 0,
+            port,
+            route: None,
+        },
+        refused: Refused::Fails,
+    }
+}

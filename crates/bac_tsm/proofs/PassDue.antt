@@ -1,0 +1,119 @@
+-- A request that is due goes on, and where the first to have been sent is not due, none is.
+use Rattle.std.proofs.Common.{◌≡◌, ℕ, zero, suc, ◌-◌, ◌<◌, ◌≤◌, List, [], ◌∷◌, ◌++◌, take, drop, length, set, get_or, Option, Some, None, true, false, nat_le, nat_lt, All, refl, ap, sym, subst, ◌∙◌, arith}
+use Rattle.std.specs.Prelude.{remove}
+use Rattle.std.specs.List.{slice_get}
+use Rattle.std.proofs.lemmas.Bool.{leb-false, ltb-true}
+use Rattle.std.proofs.lemmas.Option.{none-some, same_Some}
+use Rattle.std.proofs.lemmas.List.{length-map, get_or_default}
+use Rattle.std.proofs.lemmas.Bool.Decides.{nat_tests}
+use Rattle.bac_tsm.specs.Limits.{table_size}
+use Rattle.bac_tsm.specs.declared.due.Entry.TheVariants.{Resend, TimedOut as Expired}
+use Rattle.bac_tsm.specs.Events.{Rules}
+use Rattle.bac_tsm.specs.Machine.{Waiting, is_due, due_entry, kept}
+use Rattle.bac_tsm.specs.Table.{held_at, times_of_place, open_places, waiting_in, IsTable, IsTurnOf, IsPassed, AreBySend}
+use Rattle.bac_tsm.specs.Waiting.{nothing}
+use Rattle.bac_tsm.proofs.Times.{times_got}
+use Rattle.bac_tsm.proofs.Held.{itself, held_got}
+use Rattle.bac_tsm.proofs.SendQueue.{all_opened, queue-again}
+use Rattle.bac_tsm.proofs.TableReads.{times_split, turn, turn_lt, stands, open_below, open_listed, open_read, one_turn}
+use Rattle.bac_tsm.proofs.TableEdits.{changed_by}
+
+first_of : (place : ℕ) (xs : List ℕ) → Some place ≡ slice_get xs 0 → (0 < length xs) × (get_or xs 0 0 ≡ place)
+first_of place [] is = absurd (none-some _ (sym is))
+first_of place (x ∷ xs) is = (omega arith, sym (same_Some _ _ is))
+
+younger : (timeout clock early late : ℕ) → nat_le timeout (clock - early) ≡ false → early ≤ late → nat_le timeout (clock - late) ≡ false
+younger timeout clock early late young le = let less = leb-false timeout (clock - early) young in grind (arith, nat_tests)
+
+set_at : (xs : List Waiting) (i : ℕ) (y : Waiting) → i < length xs → set xs i y ≡ take i xs ++ (y ∷ [] ++ drop (suc i) xs)
+set_at [] i y lt = absurd (omega arith)
+set_at (x ∷ xs) zero y lt = refl
+set_at (x ∷ xs) (suc i) y lt = ap (◌∷◌ x) (set_at xs i y (omega arith))
+
+module _ (rules : Rules) (clock : ℕ) (w : Waiting) where
+  pub is_again : (ticket : ℕ) → due_entry rules w ≡ Resend ticket → nat_lt w.count rules.retries ≡ true
+  is_again ticket is = grind (arith, nat_tests, is)
+
+  is_over : (ticket : ℕ) → due_entry rules w ≡ Expired ticket → (nat_lt w.count rules.retries ≡ false) × (w.request.ticket ≡ ticket)
+  is_over ticket is = grind (arith, nat_tests, is)
+
+module _ {places : List Waiting} {numbers : List (Option ℕ)} {order tickets sends : List ℕ} (t : IsTable places numbers order tickets)
+    (q : AreBySend places (open_places order tickets) sends) (ws : List Waiting) (view : waiting_in places order tickets ≡ ws)
+    (items : List ℕ) (are : items ≡ sends) (place : ℕ) (front : Some place ≡ slice_get items 0) where
+  first : (0 < length sends) × (get_or sends 0 0 ≡ place)
+  first = first_of place sends (front ∙ ap (λ (xs : List ℕ). slice_get xs 0) are)
+
+  some : 0 < times_of_place place (open_places order tickets)
+  some =
+      let there = subst (λ (k : ℕ). 0 < times_of_place k sends) first.1 (times_got itself sends 0 0 first.0) in
+      let e = q.same place in
+      omega arith
+
+  pub front_below : (at : ℕ) → at ≡ place → at < table_size
+  front_below = open_below t ws view place some
+
+  pub front_listed : (at : ℕ) → at ≡ place → at < length places
+  front_listed = open_listed t ws view place some
+
+  abbrev i : ℕ
+  i = (turn t ws view place some).0
+
+  module _ (rules : Rules) (clock at : ℕ) (same : at ≡ place) (d : Waiting) where
+    read : get_or places at d ≡ get_or ws i nothing
+    read = open_read t ws view place some at same d
+
+    pub none_due : is_due rules clock (get_or places at d) ≡ false → All (λ w. is_due rules clock w ≡ false) ws
+    none_due young =
+        subst (All (λ w. is_due rules clock w ≡ false)) view
+        (all_opened q (λ w. is_due rules clock w ≡ false) (λ k e lt.
+        younger rules.timeout clock (get_or (held_at places sends) 0 e).base (get_or (held_at places sends) k e).base (rw (here e) young) (later k e lt)))
+      where
+        here : (e : Waiting) → get_or (held_at places sends) 0 e ≡ get_or places at d
+        here e = get_or_default (held_at places sends) 0 e nothing (rw length-map first.0) ∙ held_got places sends 0 place first.0 first.1 ∙ open_read t ws view place some place refl nothing ∙ sym read
+
+        later : (k : ℕ) (e : Waiting) → k < length (held_at places sends) → (get_or (held_at places sends) 0 e).base ≤ (get_or (held_at places sends) k e).base
+        later zero e lt = omega arith
+        later (suc k) e lt = q.by_send 0 (suc k) e (omega arith) lt
+
+    module _ (past : All (λ v. v.base ≤ clock) ws) (due : is_due rules clock (get_or places at d) ≡ true) where
+      due_there : is_due rules clock (get_or ws i nothing) ≡ true
+      due_there = ap (is_due rules clock) (sym read) ∙ due
+
+      pub sent_again : (ticket : ℕ) → due_entry rules (get_or places at d) ≡ Resend ticket → (to : ℕ) → to ≡ place → (e v : Waiting) →
+          v ≡ record { request = (get_or places to e).request; base = clock; count = suc (get_or places to e).count } → (rest after : List ℕ) → rest ≡ remove sends 0 → after ≡ rest ++ place ∷ [] →
+          IsPassed rules clock ws (Some (due_entry rules (get_or places at d))) (waiting_in (set places to v) order tickets)
+          × IsTable (set places to v) numbers order tickets × AreBySend (set places to v) (open_places order tickets) after
+      sent_again ticket again to its e v is rest after out back = (
+        (i, turn_lt t ws view place some, due_there, ap (due_entry rules) read, rw its (changed.0 ∙ set_at ws i v (turn_lt t ws view place some) ∙ ap (λ (xs : List Waiting). take i ws ++ (xs ++ drop (suc i) ws)) kept_now)),
+        rw its changed.2,
+        rw (its, back)
+            (queue-again q place rest (0, first.0, first.1, out) v (front_listed place refl)
+            (let e = t.once place in let f = times_split t place (length tickets) in omega arith)
+            (subst (All (λ u. u.base ≤ v.base)) (sym view) (rw (ap (λ (u : Waiting). u.base) is) past))),
+      )
+        where
+          changed : (waiting_in (set places place v) order tickets ≡ set ws i v) × (get_or places place e ≡ get_or ws i nothing) × IsTable (set places place v) numbers order tickets
+          changed =
+              changed_by t ws view i (turn_lt t ws view place some) order place refl (stands t ws view place some) e v
+              (ap (λ (u : Waiting). u.request) is ∙ ap (λ (k : ℕ). (get_or places k e).request) its)
+
+          kept_now : v ∷ [] ≡ kept rules clock (get_or ws i nothing)
+          kept_now = rw (due_there, ap (λ (u : Waiting). nat_lt u.count rules.retries) (sym read) ∙ is_again rules clock (get_or places at d) ticket again)
+              (ap (λ (u : Waiting). u ∷ []) (is ∙ ap (λ (u : Waiting). record { request = u.request; base = clock; count = suc u.count }) (open_read t ws view place some to its e)))
+
+      pub count_left : (ticket : ℕ) → due_entry rules (get_or places at d) ≡ Resend ticket → (to : ℕ) → to ≡ place → (e : Waiting) → (get_or places to e).count < rules.retries
+      count_left ticket again to its e =
+          let less = ltb-true _ _ (is_again rules clock (get_or places at d) ticket again) in
+          let f = ap (λ (u : Waiting). u.count) (open_read t ws view place some to its e ∙ sym read) in
+          omega arith
+
+      pub not_found : (ticket : ℕ) → due_entry rules (get_or places at d) ≡ Expired ticket → IsTurnOf ticket ws None → ⊥
+      not_found ticket over none = none i nothing (turn_lt t ws view place some) (ap (λ (u : Waiting). u.request.ticket) (sym read) ∙ (is_over rules clock (get_or places at d) ticket over).1)
+
+      pub ended : (ticket j : ℕ) → due_entry rules (get_or places at d) ≡ Expired ticket → IsTurnOf ticket ws (Some j) → (after : List Waiting) → after ≡ remove ws j →
+          IsPassed rules clock ws (Some (Expired ticket)) after
+      ended ticket j over its after to =
+          let gone = is_over rules clock (get_or places at d) ticket over in
+          let same_turn : j ≡ i = one_turn t ws view j i its.0 (turn_lt t ws view place some) (its.1 ∙ sym gone.1 ∙ ap (λ (u : Waiting). u.request.ticket) read) in
+          let none : kept rules clock (get_or ws i nothing) ≡ [] = rw (due_there, ap (λ (u : Waiting). nat_lt u.count rules.retries) (sym read) ∙ gone.0) refl in
+          (i, turn_lt t ws view place some, due_there, sym over ∙ ap (due_entry rules) read, to ∙ ap (remove ws) same_turn ∙ ap (λ (xs : List Waiting). take i ws ++ (xs ++ drop (suc i) ws)) (sym none))

@@ -1,0 +1,177 @@
+-- A request that waits is due, and ends, as timeouts pass; and how far the clock comes meanwhile.
+use Rattle.std.proofs.Common.{◌≡◌, ℕ, zero, suc, ◌+◌, ◌-◌, ◌*◌, ◌<◌, ◌≤◌, Bool, true, false, List, [], ◌∷◌, length, Option, Some, None, option_map, slice_get, IsSomeAnd, subst, arith, refl, ap, ◌∙◌, sym, inl, inr}
+use Rattle.std.proofs.Math.Nat.{mul-le-mul_right}
+use Rattle.std.proofs.lemmas.Bool.{cases_Bool, cases_lt, false≢true}
+use Rattle.std.proofs.lemmas.Bool.Decides.{nat_tests}
+use Rattle.std.proofs.lemmas.Option.{none-some, same_Some}
+use Rattle.bac_tsm.specs.Events.{Event, Ask, Data, Tick, Rules}
+use Rattle.bac_tsm.specs.Lookahead.{first_within, first_after, clock, is_tick, has_waited, due, Accepted, End, earlier_end, outcome_at, answered_at, end}
+use Rattle.bac_tsm.specs.Progress.{last_of, TimeoutsPass}
+use Rattle.bac_tsm.proofs.FirstAfter.{first_after_from}
+use Rattle.bac_tsm.proofs.RequestLife.{step_back, due_next}
+use Rattle.bac_tsm.proofs.Turns.{clock_quiet}
+
+pub clock_rises : (events : List Event) (i j : ℕ) → i ≤ j → clock events i ≤ clock events j
+clock_rises [] zero j le = omega arith
+clock_rises [] (suc i) j le = omega arith
+clock_rises (e ∷ events) zero j le = omega arith
+clock_rises (e ∷ events) (suc i) zero le = absurd (omega arith)
+clock_rises (Ask peer service body ∷ events) (suc i) (suc j) le = clock_rises events i j (omega arith)
+clock_rises (Data peer bytes ∷ events) (suc i) (suc j) le = clock_rises events i j (omega arith)
+clock_rises (Tick now ∷ events) (suc i) (suc j) le =
+    let h : clock events i ≤ clock events j = clock_rises events i j (omega arith) in omega arith
+
+-- No position before the first that passes a test passes it, and where there is none, none at all does.
+pub none_before : (test : ℕ → Bool) (i n j m : ℕ) → first_within test i n ≡ Some j → i ≤ m → m < j → test m ≡ false
+none_before test i zero j m e low high = absurd (none-some j e)
+none_before test i (suc n) j m e low high = grind (arith, none_before test (suc i) n j m, e)
+
+pub none_at_all : (test : ℕ → Bool) (i n m : ℕ) → first_within test i n ≡ None → i ≤ m → m < i + n → test m ≡ false
+none_at_all test i zero m e low high = absurd (omega arith)
+none_at_all test i (suc n) m e low high = grind (arith, none_at_all test (suc i) n m, e)
+
+-- The first that passes a test is no later than one that passes it.
+pub found_by : (test : ℕ → Bool) (i n m : ℕ) → i ≤ m → m < i + n → test m ≡ true → IsSomeAnd (first_within test i n) (λ j. j ≤ m)
+found_by test i zero m low high t = absurd (omega arith)
+found_by test i (suc n) m low high t = elim (cases_Bool (test i)) [
+  | inl passes ↦ rw passes low
+  | inr fails ↦
+      let apart : i ≡ m → ⊥ = λ same. false≢true (sym fails ∙ ap test same ∙ t) in
+      rw fails (found_by test (suc i) n m (omega arith) (omega arith) t)
+]
+
+-- A tick is one of the events.
+pub tick_within : (events : List Event) (j : ℕ) → is_tick (slice_get events j) ≡ true → j < length events
+tick_within [] zero e = absurd (false≢true e)
+tick_within [] (suc j) e = absurd (false≢true e)
+tick_within (event ∷ events) zero e = omega arith
+tick_within (event ∷ events) (suc j) e = let h : j < length events = tick_within events j e in omega arith
+
+some_with : {A : Type 0} (P : A → Type 0) (o : Option A) → IsSomeAnd o P → (x : A) × (o ≡ Some x) × P x
+some_with P None h = absurd h
+some_with P (Some x) h = (x, refl, h)
+
+module _ (rules : Rules) (events : List Event) where
+  waited_enough : (i j : ℕ) → has_waited rules events i j ≡ true →
+      (is_tick (slice_get events j) ≡ true) × (rules.timeout ≤ clock events (suc j) - clock events (suc i))
+  waited_enough i j e = (grind (arith, nat_tests, e), grind (arith, nat_tests, e))
+
+  has_waited_since : (d i j : ℕ) → d ≤ i → has_waited rules events i j ≡ true → has_waited rules events d j ≡ true
+  has_waited_since d i j le e =
+      let w = waited_enough i j e in
+      let rises : clock events (suc d) ≤ clock events (suc i) = clock_rises events (suc d) (suc i) (omega arith) in
+      let enough : rules.timeout ≤ clock events (suc j) - clock events (suc d) = omega (arith, w.1) in
+      let tick : is_tick (slice_get events j) ≡ true = w.0 in
+      grind (arith, nat_tests, tick, enough)
+
+  -- What is due by position i is due again by the next tick that comes a timeout later.
+  due_again : (a k d i j : ℕ) → due rules events a k ≡ Some d → d ≤ i → i < j → has_waited rules events i j ≡ true →
+      IsSomeAnd (due rules events a (suc k)) (λ e. e ≤ j)
+  due_again a k d i j is le lt waited =
+      let within : j < length events = tick_within events j (waited_enough i j waited).0 in
+      subst (λ (o : Option ℕ). IsSomeAnd o (λ e. e ≤ j)) (sym (due_next rules events a k d is))
+      (found_by (has_waited rules events d) (suc d) (length events - suc d) j (omega arith) (omega arith) (has_waited_since d i j le waited))
+
+  pub due_in_turn : (a k n d i : ℕ) (ticks : List ℕ) → n ≡ k + length ticks → due rules events a k ≡ Some d → d ≤ i →
+      TimeoutsPass rules events i ticks → IsSomeAnd (due rules events a n) (λ e. e ≤ last_of i ticks)
+  due_in_turn a k n d i [] same is le pass = let e : n ≡ k = omega arith in rw e (rw is le)
+  due_in_turn a k n d i (j ∷ later) same is le pass =
+      let next = some_with (λ e. e ≤ j) (due rules events a (suc k)) (due_again a k d i j is le pass.0 pass.1) in
+      due_in_turn a (suc k) n next.0 j later (omega arith) next.1 next.2 pass.2
+
+  ends_by : (x y : Option End) (m : ℕ) → IsSomeAnd y (λ e. e.position ≤ m) → IsSomeAnd (earlier_end x y) (λ e. e.position ≤ m)
+  ends_by None y m h = h
+  ends_by (Some x) None m h = absurd h
+  ends_by (Some x) (Some y) m h = grind (arith, nat_tests, h)
+
+  abbrev timed_out : ℕ → End
+  timed_out j = record { position = j; outcome = None }
+
+  times_out_by : (o : Option ℕ) (m : ℕ) → IsSomeAnd o (λ j. j ≤ m) → IsSomeAnd (option_map timed_out o) (λ e. e.position ≤ m)
+  times_out_by None m h = absurd h
+  times_out_by (Some j) m h = h
+
+  pub ends_in_turn : (a : Accepted) (m : ℕ) → IsSomeAnd (due rules events a.position (suc rules.retries)) (λ j. j ≤ m) →
+      IsSomeAnd (end rules events a) (λ e. e.position ≤ m)
+  ends_in_turn a m h =
+      ends_by (option_map (λ j. record { position = j; outcome = outcome_at rules events a j }) (answered_at rules events a))
+      (option_map timed_out (due rules events a.position (suc rules.retries))) m
+      (times_out_by (due rules events a.position (suc rules.retries)) m h)
+
+  -- As long as no tick has come a timeout after position p, the clock is within a timeout of it.
+  quiet_until : (p n : ℕ) → p < n → ((j : ℕ) → p < j → j < n → has_waited rules events p j ≡ false) →
+      clock events n ≤ clock events (suc p) + rules.timeout
+  quiet_until p zero lt none = absurd (omega arith)
+  quiet_until p (suc n) lt none = elim (cases_lt p n) [
+    | inl below ↦
+        let before : clock events n ≤ clock events (suc p) + rules.timeout = quiet_until p n below (λ j low high. none j low (omega arith)) in
+        let not_yet : has_waited rules events p n ≡ false = none n below (omega arith) in
+        elim (cases_Bool (is_tick (slice_get events n))) [
+          | inl tick ↦ grind (arith, nat_tests, not_yet, tick)
+          | inr quiet ↦ rw (clock_quiet events n quiet) before
+        ]
+    | inr above ↦ let same : n ≡ p = omega arith in rw same (omega arith)
+  ]
+
+  -- While every event behind position a moves the clock by at most d, each time due comes so soon.
+  due_soon : (a d : ℕ) → ((j : ℕ) → a < j → clock events (suc j) ≤ clock events j + d) → (k j : ℕ) → due rules events a k ≡ Some j →
+      (a ≤ j) × (clock events (suc j) ≤ clock events (suc a) + k * (rules.timeout + d))
+  due_soon a d steady zero j is = let same : a ≡ j = same_Some a j is in (omega arith, rw same (omega arith))
+  due_soon a d steady (suc k) j is =
+      let back = step_back (λ i. first_after events (has_waited rules events i) i) (due rules events a k) j is in
+      let before = due_soon a d steady k back.0 back.1 in
+      let behind : back.0 < j = (first_after_from events (has_waited rules events back.0) back.0 j back.2).0 in
+      let until : clock events j ≤ clock events (suc back.0) + rules.timeout =
+      quiet_until back.0 j behind
+      (λ m low high. none_before (has_waited rules events back.0) (suc back.0) (length events - suc back.0) j m back.2 (omega arith) high) in
+      let step : clock events (suc j) ≤ clock events j + d = steady j (omega (arith, before.0)) in
+      (omega (arith, before.0), omega (arith, before.1))
+
+  -- The last time due, where a later one is missing.
+  abbrev LastDue : ℕ → ℕ → Type 0
+  LastDue a k = (c : ℕ) × (j : ℕ) × (c < k) × (due rules events a c ≡ Some j) × (due rules events a (suc c) ≡ None)
+
+  last_due : (a k : ℕ) → due rules events a k ≡ None → LastDue a k
+  last_due a zero none = absurd (none-some a (sym none))
+  last_due a (suc k) none = from (due rules events a k) refl (last_due a k) where
+    from : (o : Option ℕ) → due rules events a k ≡ o → (due rules events a k ≡ None → LastDue a k) → LastDue a (suc k)
+    from None is earlier = let l = earlier is in (l.0, l.1, omega (arith, l.2), l.3, l.4)
+    from (Some j) is earlier = (k, j, omega arith, is, none)
+
+  -- A request that is not due once more than r times has waited no longer than this.
+  pub open_soon : (a d r n : ℕ) → ((j : ℕ) → a < j → clock events (suc j) ≤ clock events j + d) → due rules events a (suc r) ≡ None →
+      clock events n ≤ clock events (suc a) + r * (rules.timeout + d) + rules.timeout
+  open_soon a d r n steady none =
+      let last = last_due a (suc r) none in
+      let soon = due_soon a d steady last.0 last.1 last.3 in
+      let over : first_after events (has_waited rules events last.1) last.1 ≡ None = sym (due_next rules events a last.0 last.1 last.3) ∙ last.4 in
+      let few : last.0 * (rules.timeout + d) ≤ r * (rules.timeout + d) = mul-le-mul_right (rules.timeout + d) (omega (arith, last.2)) in
+      elim (cases_lt last.1 n) [
+        | inl behind ↦
+            let until : clock events n ≤ clock events (suc last.1) + rules.timeout =
+            quiet_until last.1 n behind (λ m low high. elim (cases_Bool (has_waited rules events last.1 m)) [
+              | inr not_yet ↦ not_yet
+              | inl enough ↦
+                  let within : m < length events = tick_within events m (waited_enough last.1 m enough).0 in
+                  none_at_all (has_waited rules events last.1) (suc last.1) (length events - suc last.1) m over (omega arith) (omega arith)
+            ]) in
+            omega (arith, soon.1, few)
+        | inr before ↦
+            let rises : clock events n ≤ clock events (suc last.1) = clock_rises events n (suc last.1) (omega arith) in
+            omega (arith, soon.1, few)
+      ]
+
+  none_mapped : (o : Option ℕ) → option_map timed_out o ≡ None → o ≡ None
+  none_mapped None e = refl
+  none_mapped (Some j) e = absurd (none-some (timed_out j) (sym e))
+
+  none_later : (x y : Option End) → earlier_end x y ≡ None → y ≡ None
+  none_later None y e = e
+  none_later (Some x) None e = refl
+  none_later (Some x) (Some y) e = grind (arith, nat_tests, e, none-some)
+
+  -- A request without an end is not due once more than the retries.
+  pub never_due : (a : Accepted) → end rules events a ≡ None → due rules events a.position (suc rules.retries) ≡ None
+  never_due a unended =
+      none_mapped (due rules events a.position (suc rules.retries))
+      (none_later (option_map (λ j. record { position = j; outcome = outcome_at rules events a j }) (answered_at rules events a)) _ unended)

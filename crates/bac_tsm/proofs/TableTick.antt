@@ -1,0 +1,131 @@
+-- The loop over the open requests that are due at a tick.
+use Rattle.std.proofs.Common.{◌≡◌, ℕ, suc, ◌<◌, ◌≤◌, List, [], ◌∷◌, ◌++◌, length, take, drop, get_or, Some, None, true, false, All, refl, ap, sym, ◌∙◌, add-one, inl, inr, arith}
+use Rattle.std.specs.List.{flat_map, refill}
+use Rattle.std.specs.List.Sorted.{IsPermutation}
+use Rattle.std.proofs.lemmas.Bool.{cases_Bool, false≢true}
+use Rattle.std.proofs.lemmas.List.{length-append, append-nil, append_assoc, take_all, drop_all, take-append-drop, drop_more}
+use Rattle.std.proofs.lemmas.List.Elements.{All-nil, All-cons, All-append, All-head, All-tail, All-take, All-drop}
+use Rattle.std.proofs.lemmas.List.Sorted.{length_permutation, IsPermutation-refl, IsPermutation-trans, IsPermutation-append_right, IsPermutation-middle}
+use Rattle.std.proofs.lemmas.Grind.{flat_map-append}
+use Rattle.std.proofs.lemmas.List.Kept.{AllPairs-cons}
+use Rattle.std.proofs.lemmas.Bool.Decides.{nat_tests}
+use Rattle.bac_tsm.specs.declared.due.Entry.{Entry}
+use Rattle.bac_tsm.specs.Events.{Rules}
+use Rattle.bac_tsm.specs.Machine.{Waiting, is_due, due_entry, due_answer, kept, ticket_of}
+use Rattle.bac_tsm.specs.Table.{IsPassed}
+use Rattle.bac_tsm.specs.Waiting.{nothing}
+use Rattle.bac_tsm.proofs.CallNotes.{TicketsRise, kept_of_one, pairs_head, pairs_tail}
+use Rattle.bac_tsm.proofs.SortedEntries.{Rise}
+
+-- A sort in place leaves what it sorts to.
+pub refilled : (xs ys : List Entry) → length ys ≡ length xs → refill (length xs) xs ys ≡ ys
+refilled xs ys long =
+    ap (λ (zs : List Entry). take (length xs) (ys ++ zs)) (drop_all (length ys) xs (omega arith)) ∙ ap (take (length xs)) (append-nil ys)
+    ∙ take_all (length xs) ys (omega arith)
+
+module _ (rules : Rules) (clock : ℕ) where
+  abbrev pub due_of : List Waiting → List Entry
+  due_of = flat_map (due_answer rules clock)
+
+  abbrev pub kept_of : List Waiting → List Waiting
+  kept_of = flat_map (kept rules clock)
+
+  -- Some of the requests that were due have gone on to the clock: these are all the entries, those so far, and what is kept.
+  pub record HasTicked (all : List Entry) (kept_in_all : List Waiting) (entries : List Entry) (ws : List Waiting) : Type 0 where
+    pub told : IsPermutation all (entries ++ due_of ws)
+    pub stay : kept_of ws ≡ kept_in_all
+    pub past : All (λ w. w.base ≤ clock) ws
+
+  pub not_yet : (entries : List Entry) → entries ≡ [] → (ws : List Waiting) → All (λ w. w.base ≤ clock) ws → HasTicked (due_of ws) (kept_of ws) entries ws
+  not_yet entries none ws past = rw none (record { told = IsPermutation-refl _; stay = refl; past = past })
+
+  pub nothing_due : (ws : List Waiting) → All (λ w. is_due rules clock w ≡ false) ws → (due_of ws ≡ []) × (kept_of ws ≡ ws)
+  nothing_due [] young = (refl, refl)
+  nothing_due (w ∷ ws) young =
+      let here = All-head (λ w. is_due rules clock w ≡ false) w ws young in
+      let rest = nothing_due ws (All-tail (λ w. is_due rules clock w ≡ false) w ws young) in
+      rw here (rest.0, ap (◌∷◌ w) rest.1)
+
+  -- What was sent now is not due.
+  again : 0 < rules.timeout → (w : Waiting) → is_due rules clock w ≡ true →
+      (due_of (kept rules clock w) ≡ []) × (kept_of (kept rules clock w) ≡ kept rules clock w)
+  again some w due = nothing_due (kept rules clock w)
+      (kept_of_one rules (λ v. is_due rules clock v ≡ false) clock w (λ young. young) (grind (arith, nat_tests)))
+
+  pub few_due : (ws : List Waiting) → length (due_of ws) ≤ length ws
+  few_due [] = omega arith
+  few_due (w ∷ ws) = grind (arith, nat_tests, few_due ws)
+
+  ticket_due : (w : Waiting) → ticket_of (due_entry rules w) ≡ w.request.ticket
+  ticket_due w = grind arith
+
+  above_due : (m : ℕ) (ws : List Waiting) → All (λ w. m < w.request.ticket) ws → All (λ e. m < ticket_of e) (due_of ws)
+  above_due m [] above = All-nil (λ e. m < ticket_of e)
+  above_due m (w ∷ ws) above =
+      let P = λ (e : Entry). m < ticket_of e in
+      let more = above_due m ws (All-tail (λ w. m < w.request.ticket) w ws above) in
+      let first : P (due_entry rules w) = let lt : m < w.request.ticket = All-head (λ w. m < w.request.ticket) w ws above in let e = ticket_due w in omega arith in
+      elim (cases_Bool (is_due rules clock w)) [
+        | inl due ↦ rw due (All-cons P (due_entry rules w) (due_of ws) first more)
+        | inr young ↦ rw young more
+      ]
+
+  pub rise_due : (ws : List Waiting) → TicketsRise ws → Rise ticket_of (due_of ws)
+  rise_due [] rise = λ i j d less lt. absurd (omega arith)
+  rise_due (w ∷ ws) rise =
+      let R = λ (v u : Waiting). v.request.ticket < u.request.ticket in
+      let rest = rise_due ws (pairs_tail R w ws rise) in
+      let above = above_due w.request.ticket ws (pairs_head R w ws rise) in
+      elim (cases_Bool (is_due rules clock w)) [
+        | inl due ↦ rw due (AllPairs-cons (λ a b. ticket_of a < ticket_of b) (due_entry rules w) (due_of ws) (rw ticket_due above) rest)
+        | inr young ↦ rw young rest
+      ]
+
+  module _ (some : 0 < rules.timeout) {all : List Entry} {kept_in_all : List Waiting} {entries : List Entry} {ws : List Waiting} (h : HasTicked all kept_in_all entries ws) where
+    -- One more has gone on.
+    one_more : (entry : Entry) (after : List Waiting) (turn : ℕ) (w : Waiting) → turn < length ws → get_or ws turn nothing ≡ w → is_due rules clock w ≡ true → entry ≡ due_entry rules w →
+        after ≡ take turn ws ++ (kept rules clock w ++ drop (suc turn) ws) → HasTicked all kept_in_all (entries ++ entry ∷ []) after
+    one_more entry after turn w lt here due is to = record {
+      told =
+          IsPermutation-trans _ _ _ (rw told_before at h.told)
+          (rw (told_after, append_assoc) (IsPermutation-append_right entries _ _ (rw is (IsPermutation-middle (due_of (take turn ws)) (due_entry rules w) (due_of (drop (suc turn) ws))))));
+      stay =
+          ap kept_of to ∙ flat_map-append (kept rules clock) (take turn ws) (kept rules clock w ++ drop (suc turn) ws)
+          ∙ ap (λ (xs : List Waiting). kept_of (take turn ws) ++ xs)
+          (flat_map-append (kept rules clock) (kept rules clock w) (drop (suc turn) ws) ∙ ap (λ (xs : List Waiting). xs ++ kept_of (drop (suc turn) ws)) (again some w due).1)
+          ∙ sym (flat_map-append (kept rules clock) (take turn ws) (w ∷ drop (suc turn) ws)) ∙ ap kept_of (sym split) ∙ h.stay;
+      past =
+          rw to
+          (All-append (λ v. v.base ≤ clock) (take turn ws) (kept rules clock w ++ drop (suc turn) ws) (All-take (λ v. v.base ≤ clock) turn ws h.past)
+          (All-append (λ v. v.base ≤ clock) (kept rules clock w) (drop (suc turn) ws)
+          (kept_of_one rules (λ v. v.base ≤ clock) clock w (λ young. absurd (false≢true (sym young ∙ due))) (omega arith))
+          (All-drop (λ v. v.base ≤ clock) (suc turn) ws h.past)));
+    }
+      where
+        split : ws ≡ take turn ws ++ (w ∷ drop (suc turn) ws)
+        split = sym (take-append-drop turn ws) ∙ ap (λ (xs : List Waiting). take turn ws ++ xs) (rw (add-one, here) at (drop_more ws turn nothing lt))
+
+        told_before : due_of ws ≡ due_of (take turn ws) ++ (due_entry rules w ∷ due_of (drop (suc turn) ws))
+        told_before =
+            ap due_of split ∙ flat_map-append (due_answer rules clock) (take turn ws) (w ∷ drop (suc turn) ws)
+            ∙ ap (λ (xs : List Entry). due_of (take turn ws) ++ xs) (rw due refl)
+
+        told_after : due_of after ≡ due_of (take turn ws) ++ due_of (drop (suc turn) ws)
+        told_after =
+            ap due_of to ∙ flat_map-append (due_answer rules clock) (take turn ws) (kept rules clock w ++ drop (suc turn) ws)
+            ∙ ap (λ (xs : List Entry). due_of (take turn ws) ++ xs)
+            (flat_map-append (due_answer rules clock) (kept rules clock w) (drop (suc turn) ws) ∙ ap (λ (xs : List Entry). xs ++ due_of (drop (suc turn) ws)) (again some w due).0)
+
+    pub passed : (entry : Entry) (after : List Waiting) → IsPassed rules clock ws (Some entry) after → HasTicked all kept_in_all (entries ++ entry ∷ []) after
+    passed entry after (turn, lt, due, is, to) = one_more entry after turn (get_or ws turn nothing) lt refl due is to
+
+    pub fewer : (entry : Entry) (after : List Waiting) → IsPassed rules clock ws (Some entry) after →
+        (length entries < length all) × (length (due_of after) < length (due_of ws))
+    fewer entry after is =
+        let now = sym (length-append entries (due_of ws)) ∙ length_permutation _ _ h.told in
+        let next = sym (length-append (entries ++ entry ∷ []) (due_of after)) ∙ length_permutation _ _ (passed entry after is).told in
+        let one = length-append entries (entry ∷ []) in
+        (omega arith, omega arith)
+
+    pub all_passed : (after : List Waiting) → IsPassed rules clock ws None after → IsPermutation all entries × (after ≡ kept_in_all)
+    all_passed after (young, to) = let none = nothing_due ws young in (rw (none.0, append-nil) at h.told, to ∙ sym none.1 ∙ h.stay)

@@ -1,0 +1,13 @@
+use Rattle.bac_wire.proofs.ParameterLaws.{context_reader, number_reader, object_reader, enclosed_reader, number_spells, object_spells, enclosed_spells}
+use Rattle.bac_wire.proofs.laws.parameters.Goals as goal
+
+pub returns : goal.returns
+returns c = record {
+  context = context_reader;
+  number = number_reader;
+  object = object_reader;
+  enclosed = enclosed_reader;
+  of_number = number_spells;
+  of_object = object_spells;
+  of_region = enclosed_spells;
+}

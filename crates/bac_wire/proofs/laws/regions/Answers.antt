@@ -1,0 +1,11 @@
+use Rattle.bac_wire.proofs.NestingLaws.{one_region}
+use Rattle.bac_wire.proofs.ItemLaws.{items_is, region_reader, whole_is}
+use Rattle.bac_wire.proofs.laws.regions.Goals as goal
+
+pub returns : goal.returns
+returns c = record {
+  one = one_region;
+  rest = items_is;
+  whole = whole_is;
+  reading = region_reader;
+}

@@ -1,0 +1,21 @@
+-- The words that the program runs, by those that it was called with.
+use Rattle.std.specs.Prelude.{ℕ, Bool, ◌||◌, List, [], ◌∷◌, ◌++◌, Option, Some, None, option_and_then, codes, if◌then◌else◌}
+use Rattle.std.specs.Path.{path_file_name}
+use Rattle.std.specs.Str.{bytes_eq}
+
+abbrev pub is_tool : List ℕ → Bool
+is_tool name = bytes_eq name (codes "bacrp") || bytes_eq name (codes "bacwp") || bytes_eq name (codes "bacwi")
+    || bytes_eq name (codes "bacdev") || bytes_eq name (codes "bactrace")
+
+-- The tool that the last part of the program's own name names, if it names one.
+abbrev pub tool_named : List ℕ → Option (List ℕ)
+tool_named program = option_and_then (λ name. if is_tool name then Some name else None) (path_file_name program)
+
+-- The program's name; or the tool behind a name without a letter, so that help and usage begin with the tool.
+abbrev pub names_of : List ℕ → Option (List ℕ) → List (List ℕ)
+names_of program None = program ∷ []
+names_of program (Some tool) = [] ∷ tool ∷ []
+
+abbrev pub words_called : List (List ℕ) → List (List ℕ)
+words_called [] = []
+words_called (program ∷ rest) = names_of program (tool_named program) ++ rest

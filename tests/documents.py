@@ -1,0 +1,165 @@
+#!/usr/bin/env python3
+"""Compares the documents with the tree and with one another. Usage: tests/documents.py; it ends with 1 where they differ, and says in what.
+
+- docs/CODE.md: each crate of crates.txt has a row and a heading, and stands in the drawing below the crates that it rests on. The
+  tables below a heading name each file of src/ (column Code), specs/ (Definitions) and proofs/ (Proofs), and none that isn't there; lists
+  of modules (lib.rt, Lib.antt) and the answers to single functions are left out. `Beside the crates` names each other folder and file at
+  the top, and each file of docs/, tests/ and bench/.
+- docs/PROOFS.md: each name in backquotes stands in the code or is a file of it, and each law is a function; the headline's parts are the
+  README's sentence.
+- README.md: what it shows of a script and of the demonstration is what examples/ has.
+- docs/PROTOCOL.md: the texts of faults are those of the code.
+- Links within the repository lead somewhere, and lines have at most 140 columns, but for tables and what is printed.
+"""
+import glob
+import os
+import re
+import sys
+
+TOP = os.path.dirname(os.path.dirname(os.path.abspath(__file__)))
+COLUMNS = {"Code": ("src", ".rt"), "Definitions": ("specs", ".antt"), "Proofs": ("proofs", ".antt")}
+WHOLE = ["docs/", "tests/", "bench/"]  # folders whose row names each file
+WELL_KNOWN = {"README.md", "CONTRIBUTING.md", "SECURITY.md", "CHANGELOG.md", "LICENSE", ".gitignore", ".git", "crates", "out"}
+WIDTH = 140
+DIFFERENCES = []
+
+
+def text_of(file):
+    with open(file, encoding="utf-8") as it:
+        return it.read()
+
+
+def compare(what, said, there):
+    """Both are sets of names; `what` says of what."""
+    DIFFERENCES.extend(f"{what}: {name} is not in docs/CODE.md" for name in sorted(there - said))
+    DIFFERENCES.extend(f"{what}: docs/CODE.md names {name}, which is not there" for name in sorted(said - there))
+
+
+def sections(text):
+    """The text below each heading, by the heading's words."""
+    parts = re.split(r"^#+ (.*)$", text, flags=re.M)
+    return dict(zip(parts[1::2], parts[2::2]))
+
+
+def rows(section):
+    """The rows of the tables of a section, each as a dictionary from the head of a column to the cell."""
+    head = None
+    for line in section.splitlines():
+        if not line.startswith("|"):
+            head = None
+            continue
+        cells = [cell.strip() for cell in re.split(r"(?<!\\)\|", line)[1:-1]]
+        if head is None:
+            head = cells
+        elif not set(line) <= set("|-"):
+            yield dict(zip(head, cells))
+
+
+def names(text):
+    return re.findall(r"`([^`]+)`", text)
+
+
+def files(folder, ending):
+    """The files below a crate's folder, without their ending. Folders of proofs/ hold the answers to single functions."""
+    found = set()
+    for place, folders, there in os.walk(folder):
+        inside = os.path.relpath(place, folder)
+        found |= {os.path.normpath(os.path.join(inside, name[: -len(ending)])) for name in there if name.endswith(ending)}
+        if folder.endswith("proofs"):
+            folders.clear()
+    return found - {"lib", "Lib"}
+
+
+def map_of_crates(parts):
+    below = dict(line.split(":") for line in text_of("crates.txt").splitlines() if line.strip())
+    crates = set(below)
+    compare("the table of crates", {names(row["Crate"])[0] for row in rows(parts["The crates"])}, crates)
+    compare("the headings", {name for name in parts if re.fullmatch(r"[a-z_]+", name)}, crates)
+    drawn = re.search(r"```\n(.*?)```", parts["The crates"], re.S)[1].splitlines()
+    line_of = {name: number for number, line in enumerate(drawn) for name in line.split()}
+    compare("the drawing", set(line_of), crates)
+    for crate in sorted(crates & set(line_of)):
+        for lower in sorted(set(below[crate].split()) & set(line_of)):
+            if line_of[lower] >= line_of[crate]:
+                DIFFERENCES.append(f"the drawing: {crate} rests on {lower}, which is not on a line above it")
+    for crate in sorted(crates & set(parts)):
+        for column, (folder, ending) in COLUMNS.items():
+            said = [name for row in rows(parts[crate]) for name in names(row.get(column, ""))]
+            compare(f"{crate}/{folder}", set(said), files(f"crates/{crate}/{folder}", ending))
+            DIFFERENCES.extend(f"{crate}/{folder}: {name} stands twice" for name in sorted(set(said)) if said.count(name) > 1)
+
+
+def map_beside_the_crates(section):
+    named = {name for row in rows(section) for name in names(row["Folder or file"])}
+    tops = {name + "/" if os.path.isdir(name) else name for name in os.listdir(".") if name not in WELL_KNOWN}
+    compare("beside the crates", {name for name in named if "/" not in name.rstrip("/")}, tops)
+    for row in rows(section):
+        for folder in sorted(set(names(row["Folder or file"])) & set(WHOLE)):
+            said = {name for name in names(row["What it has"]) if re.fullmatch(r"[\w-]+\.\w+", name)}
+            compare(folder, said, {name for name in os.listdir(folder) if os.path.isfile(folder + name)})
+
+
+def names_of_proofs(text):
+    known = set()
+    for file in glob.glob("crates/*/**/*.*", recursive=True):
+        if file.endswith((".rt", ".antt", ".edit")) and "/out/" not in file:
+            known |= {os.path.splitext(os.path.basename(file))[0], *re.findall(r"\w+", text_of(file))}
+    known |= set(os.listdir("crates"))
+    functions = {name for file in glob.glob("crates/*/src/*.rt") for name in re.findall(r"\bfn (\w+)", text_of(file))}
+    for name in sorted(name for laws in re.findall(r"laws? ((?:`\w+`(?:, | and )?)+)", text) for name in names(laws)):
+        if name not in functions:
+            DIFFERENCES.append(f"docs/PROOFS.md: no law {name} stands in the code")
+    for name in sorted(set(re.findall(r"`((?:\w+::)*[A-Za-z_]\w*)`", text))):
+        if name.split("::")[-1] not in known:
+            DIFFERENCES.append(f"docs/PROOFS.md: no {name} stands in the code")
+
+
+def what_stands_twice(readme, proofs):
+    headline = " ".join(row["Part"] for row in rows(proofs["The headline, part by part"]))
+    if headline not in " ".join(readme.split()):
+        DIFFERENCES.append("README.md: the headline is not that of docs/PROOFS.md, part by part")
+    shown = re.findall(r"```\n(.*?)```", readme, re.S)
+    for block, file in zip(shown, ["examples/first.out", "examples/demo.out"]):
+        if block not in text_of(file):
+            DIFFERENCES.append(f"README.md: what it shows is not in {file}")
+
+
+def texts_of_faults(section):
+    texts = set()
+    for file in glob.glob("crates/*/src/*.rt"):
+        texts |= {text.replace("{0}", "N") for text in re.findall(r'#\[error\("(.*?)"\)\]', text_of(file))}
+    told = set(names(section[section.index("A fault is") :].split(". ")[0])) - {"bactool: "}
+    DIFFERENCES.extend(f"docs/PROTOCOL.md: the fault {text} is told in one place alone" for text in sorted(told ^ (texts - {"N"})))
+
+
+def links_and_lines():
+    anchors = {}
+    documents = glob.glob("*.md") + glob.glob("docs/*.md")
+    for file in documents:
+        heads = re.findall(r"^#+ (.*)$", text_of(file), re.M)
+        anchors[file] = {re.sub(r"[^\w\- ]", "", head.lower()).replace(" ", "-") for head in heads}
+    for file in sorted(documents):
+        text = re.sub(r"^```.*?^```$", "", text_of(file), flags=re.M | re.S)
+        for link in re.findall(r"\]\(([^)\s]+)\)", text):
+            path, _, anchor = link.partition("#")
+            target = os.path.normpath(os.path.join(os.path.dirname(file), path)) if path else file
+            if "://" not in link and (not os.path.exists(target) or anchor and anchor not in anchors.get(target, ())):
+                DIFFERENCES.append(f"{file}: {link} leads nowhere")
+        wide = [line for line in text.splitlines() if len(line) > WIDTH and not line.startswith("|")]
+        DIFFERENCES.extend(f"{file}: past {WIDTH} columns: {line[:60]}.." for line in wide)
+
+
+def main():
+    os.chdir(TOP)
+    parts = sections(text_of("docs/CODE.md"))
+    map_of_crates(parts)
+    map_beside_the_crates(parts["Beside the crates"])
+    names_of_proofs(text_of("docs/PROOFS.md"))
+    what_stands_twice(text_of("README.md"), sections(text_of("docs/PROOFS.md")))
+    texts_of_faults(sections(text_of("docs/PROTOCOL.md"))["Statuses and faults"])
+    links_and_lines()
+    print("\n".join(DIFFERENCES) or "the documents agree with the tree")
+    return 1 if DIFFERENCES else 0
+
+
+sys.exit(main())

@@ -1,0 +1,56 @@
+#!/bin/sh
+# Tries packaging/install.sh in a folder of its own: what it puts, replaces, refuses to replace, and takes away. Usage: tests/install.sh PROGRAM
+set -eu
+program=$(realpath "$1")
+cd "$(dirname "$0")/.."
+room=$(mktemp -d)
+trap 'rm -r "$room"' EXIT
+unset FORCE ZSH_COMPLETIONS
+export DESTDIR="$room" PREFIX=/opt/tools
+bin=$room$PREFIX/bin
+
+# expect STATUS TEXT COMMAND..: how the command ends, and a text that stands in what it writes.
+expect() {
+    wanted=$1 text=$2
+    shift 2
+    status=0
+    "$@" >"$room/told" 2>&1 || status=$?
+    case $status.$(cat "$room/told") in
+        "$wanted".*"$text"*) ;;
+        *)
+            echo "tests/install.sh: $*: status $status, not $wanted with '$text':" >&2
+            cat "$room/told" >&2
+            exit 1
+            ;;
+    esac
+}
+same() {
+    expect 0 '' cmp "$1" "$2"
+}
+files() {
+    find "$room" ! -type d ! -name told | wc -l
+}
+
+expect 1 'make install put nothing' packaging/install.sh --remove
+expect 0 'files and links' packaging/install.sh "$program"
+same "$program" "$bin/bacrp"
+same completions/_bactool "$room$PREFIX/share/zsh/site-functions/_bactool"
+expect 0 ".Os bactool $(packaging/version.sh "$program")" cat "$room$PREFIX/share/man/man7/bactool-numbers.7"
+put=$(files)
+
+# Its own files are replaced without a word; another's are not, and nothing else is put then.
+expect 0 'files and links' packaging/install.sh "$program"
+rm "$bin/bacrp" "$bin/bacwi"
+echo foreign >"$bin/bacrp"
+expect 1 "  $PREFIX/bin/bacrp" packaging/install.sh "$program"
+expect 0 foreign cat "$bin/bacrp"
+expect 1 '' test -e "$bin/bacwi"
+expect 0 "replaced: $PREFIX/bin/bacrp" env FORCE=1 packaging/install.sh "$program"
+same "$program" "$bin/bacrp"
+[ "$(files)" = "$put" ]
+
+# What has changed since is left there.
+echo changed >>"$room$PREFIX/share/man/man1/bacwp.1"
+expect 0 "left there, since it is not as it was put: $PREFIX/share/man/man1/bacwp.1" packaging/install.sh --remove
+[ "$(files)" = 1 ]
+echo "tests/install.sh: put, replaced, refused and taken away as they are to be"

@@ -1,0 +1,356 @@
+#!/usr/bin/env python3
+"""Tries wrong bodies of functions, many in one check, and says of each by what the prover refuses it.
+
+A wrong body is a file NAME.edit in crates/CRATE/must-fail or crates/CRATE/wrong, with lines as `rt must-fail` reads them, and three of its own:
+
+    file: src/FILE.rt
+    old: TEXT       stands once in that file, in the body of a function
+    new: TEXT       what stands there in the wrong body
+    twin: TEXT      what stands there in a right body of the same shape, which must be proved: so the wrong one is not refused for its shape
+    answer: TEXT    only an answer refuses this body, and TEXT says why it is kept all the same
+    hole: TEXT      no contract can refuse this body: TEXT says why, and names the file of the test that does. It must be proved
+
+The bodies of a crate stand together in one copy of it, over the proofs that its last check or build kept: a caller is proved from the contracts of
+what it calls, which no edit changes. Bodies of one function, and of functions that call one another, go into different rounds. What is refused for
+nothing but a callee is tried again. A function that no edit touches must stay proved, but for its callees, and so must one with a twin. An edit of a
+constant or a type may stand in must-fail alone, and is left to `rt must-fail`, since each would need a check of the whole crate. A body is refused
+by a
+
+    clause  of the function, or its type's invariant; false: there are values at which it does not hold; open: no proof is found; limit: none in time
+    safety  a callee's `requires`, an index, a sum, a cast
+    step    only a loop's invariant that is not kept, or an answer in a proof file that no longer proves its goal
+    name    only an answer that names what the edit took away: a right body may be refused so as well, and a twin tells
+
+or it is PROVED, which is a hole in the contract. The status is 0 where each body is refused by a clause or for safety (or by an answer alone, where
+its twin is proved or a line says why), and each twin and each known hole is proved. Bodies that no longer fit the code are all named before any check.
+"""
+import argparse
+import collections
+import concurrent.futures
+import functools
+import glob
+import os
+import re
+import shutil
+import subprocess
+import sys
+import tempfile
+
+ROOT = os.path.dirname(os.path.dirname(os.path.abspath(__file__)))
+KINDS = ["clause", "safety", "step", "name", "PROVED", "bad"]
+STRENGTHS = ["false", "open", "limit"]
+# What a check takes of the machine's memory, in MB.
+CHECK_MEMORY = 3000
+# The layout is rt fmt's: a function ends at the first line that is its indent and a bracket.
+HEAD = re.compile(r"( *)(?:pub(?:\([^)]*\))? )?(?:const |unsafe )*fn (\w+)")
+IMPL = re.compile(r"impl(?:<.*?>)? (?:(\w+)(<.*>)? for )?(?:\w+::)*(\w+)")
+CYCLE = re.compile(r" *#\[cycle\((\w+)\)\]")
+# What a check prints of a goal, of an answer, of a function, and of a text that it does not take as a program.
+NOTE = re.compile(r"note: src/\S+ .*not proved.*?\(`(\S+)`\)(.*)")
+ANSWER = re.compile(r"(?:\./)?proofs/(\S+)/\w+\.antt:\d+:\d+: error: (?:`(\S+)`: )?(.*)")
+VERDICT = re.compile(r"fn (\S+): (proved|not proved|no proof|could not tell)(.*)")
+REFUSED = re.compile(r"(?m)^(?:\./)?(src/\S+?):(\d+):\d+: error.*")
+NAMES = re.compile(r"has no field|is not in scope|has no `|was not admitted")
+# The lines of a function, from 0 on, where its body begins, the names that a check has for it, its own, and what it is proved with.
+Function = collections.namedtuple("Function", "first body last symbols shown key")
+
+
+@functools.cache
+def text_of(file):
+    with open(file, encoding="utf-8") as it:
+        return it.read()
+
+
+@functools.cache
+def functions_of(crate, path, text):
+    module = "".join(f"{part}::" for part in path[len("src/") : -len(".rt")].split("/") if part not in ("lib", "main"))
+    lines, found, owner, cycle = text.split("\n"), [], None, None
+    for first, line in enumerate(lines):
+        owner = IMPL.match(line) if re.match(r"\S", line) else owner
+        cycle, head = CYCLE.match(line) or cycle, HEAD.match(line)
+        if not head:
+            continue
+        indent, name = head.groups()
+        last = first if line.endswith("}") else next((at for at in range(first, len(lines)) if lines[at] == indent + "}"), first)
+        body = next((at for at in range(first, last + 1) if re.match(rf"{indent}(\S.*)?{{(.*}})?$", lines[at])), last)
+        place, shown = f"{module}(fn::)?", name
+        if owner:
+            trait, given, kind = owner.groups()
+            words = "".join(it[0].upper() + it[1:] for it in re.findall(r"(?<!')\b\w+", given or ""))
+            place, shown = rf"(\w+::)*(fn::)?{kind}{trait or ''}({words})?::", f"{kind}::{name}"
+        whole = rf"(\w+::)*\+{cycle[1]}|" if cycle else ""
+        found.append(Function(first, body, last, rf"{crate}::({whole}{place}{name}(::.+)?)$", shown, (path, cycle[1] if cycle else first)))
+        cycle = None
+    # Functions that call one another have one proof, and a check may tell of one by the name of another.
+    all_of = {key: re.compile("|".join(it.symbols for it in found if it.key == key)) for key in {it.key for it in found}}
+    return [it._replace(symbols=all_of[it.key]) for it in found]
+
+
+class Edit:
+    """A wrong body, or the right one that is its twin."""
+
+    def __init__(self, crate, file, is_twin=False):
+        self.crate, self.file, self.is_twin, self.is_wide = crate, file, is_twin, False
+        self.name = f"{crate}/{os.path.basename(file)[: -len('.edit')]}{' (twin)' * is_twin}"
+        self.pairs, self.functions, self.keys, self.kind, self.why, self.tries, said = [], [], set(), "", [], 0, {}
+        for line in text_of(file).split("\n"):
+            word, _, text = line.partition(":")
+            said[word] = text[1:] if text.startswith(" ") else text
+            if word == ("twin" if is_twin else "new"):
+                self.pairs.append((said["file"], said["old"], said[word]))
+        self.has_twin, self.twin, self.hole, self.answer = "twin" in said, None, said.get("hole", ""), said.get("answer", "")
+        self.is_unfit = self.unfit()
+        self.shown = ", ".join(dict.fromkeys(it.shown for _, it in self.functions))
+
+    def unfit(self):
+        """Why this edit can't be tried on the code as it stands, or "". Notes the functions that it touches."""
+        texts = {}
+        for path, old, new in self.pairs:
+            if not os.path.isfile(f"{ROOT}/crates/{self.crate}/{path}"):
+                return f"{path} is not there"
+            text = texts.get(path) or text_of(f"{ROOT}/crates/{self.crate}/{path}")
+            if text.count(old) != 1:
+                return f"old text stands {text.count(old)} times in {path}"
+            line = text[: text.find(old)].count("\n")
+            within = [it for it in functions_of(self.crate, path, text) if it.first <= line <= it.last]
+            if old == new or "ghost " in old + new or (within and line < within[-1].body):
+                return f"it changes nothing, or a contract, in {path}"
+            if within and within[-1].first not in [it.first for other, it in self.functions if other == path]:
+                self.functions.append((path, within[-1]))
+                self.keys.add(within[-1].key)
+            self.is_wide = self.is_wide or not within
+            texts[path] = text.replace(old, new)
+        if self.is_wide and not self.file.split("/")[-2] == "must-fail":
+            return "it is outside a function, and only must-fail may hold such an edit"
+        if self.hole and not any(os.path.isfile(f"{ROOT}/{it.strip('`,.')}") for it in self.hole.split()):
+            return "its `hole:` names no file of the test that refuses it"
+        return "" if self.pairs else "it has no `new:`"
+
+    def applied(self, texts):
+        """These texts with the edit in them, or None where another edit stands in the way."""
+        for path, old, new in self.pairs:
+            text = texts.get(path) or text_of(f"{ROOT}/crates/{self.crate}/{path}")
+            if text.count(old) != 1:
+                return None
+            texts = {**texts, path: text.replace(old, new)}
+        return texts
+
+    def touches(self, symbol):
+        return any(it.symbols.match(symbol) for _, it in self.functions)
+
+    def judge(self, rows):
+        """Says by what the functions of this edit are refused. Where it is for a callee alone, the edit stays without a kind."""
+        mine = [row for symbol, row in rows.items() if self.touches(symbol)]
+        found = [it for row in mine for it in row["found"]]
+        self.why, self.tries = sorted({told for _, told in found}), self.tries + 1
+        if found:
+            self.kind = min((kind for kind, _ in found), key=KINDS.index)
+        elif mine and all(row["verdict"] == "proved" or (self.is_twin and row["calls"]) for row in mine):
+            self.kind = "PROVED"
+        elif self.tries > 2 or not any(row["calls"] for row in mine):
+            self.kind, self.why = "bad", ["no contract was tried: " + "; ".join(row["verdict"] for row in mine)]
+
+    def is_well(self):
+        if self.is_twin or self.hole:
+            return self.kind == "PROVED"
+        is_told = bool(self.answer) or (self.twin.kind == "PROVED" if self.twin else self.has_twin)
+        return self.kind in ("clause", "safety") or (self.kind in ("step", "name") and is_told)
+
+    def strength(self):
+        """Of a body that a clause refuses: whether one is shown false, or left open, or only not decided in time."""
+        told = {it.split(" ")[-1] for it in self.why if kind_of(it) == "clause"}
+        return next((it for it in STRENGTHS if it in told), "")
+
+
+def kind_of(goal):
+    # In a group of functions that call one another a goal begins with the function's name.
+    return "step" if re.match(r"(\w+-)?loop", goal) else "clause" if re.match(r"(\w+-)?(returns|invariant_of)", goal) else "safety"
+
+
+def rows_of(said, crate):
+    """What the check says of each function: its verdict, by what it is refused, and whether a callee is not proved."""
+    rows, found, answers = {}, [], []
+    for line in said.split("\n"):
+        note, answer, verdict = NOTE.match(line), ANSWER.match(line), VERDICT.match(line)
+        if note:
+            how = "false" if "goal is false" in note[2] else "limit" if "gave up" in note[2] else "open"
+            found.append((kind_of(note[1]), f"{note[1]} {how}"))
+        elif answer:
+            answers.append((f"{crate}::" + answer[1].replace("/", "::"), answer[2] or "", answer[3]))
+        elif verdict:
+            # Where there are many goals, some stand here alone.
+            named = re.search(r"did not prove ((?:`\S+`(?:, )?)+)", verdict[3])
+            told = {it.split(" ")[0] for _, it in found}
+            found += [(kind_of(it), f"{it} open") for it in re.findall(r"`(\S+?)`", named[1] if named else "") if it not in told]
+            rows[verdict[1]] = {"verdict": verdict[2] + verdict[3], "found": found, "calls": bool(re.search("it (calls|passes)", verdict[3]))}
+            found = []
+    for symbol, goal, text in answers if rows else []:
+        row = rows.setdefault(symbol, {"verdict": "not proved", "found": [], "calls": False})
+        is_searched = goal and re.match(r"`(search|grind|omega)`", text)
+        kind = kind_of(goal) if is_searched else "name" if NAMES.search(text) else "step"
+        row["found"].append((kind, f"{goal} open" if is_searched else f"{goal}: {text[:80]}"))
+    return rows
+
+
+def crates_below():
+    """Each crate of the repository with those that it stands on, itself among them."""
+    below = {}
+    for name, parts in re.findall(r"(?m)^(\w+)[^:\n]*:(.*)", text_of(f"{ROOT}/crates.txt")):
+        below[name] = {name}.union(*(below.get(it, set()) for it in parts.split()))
+    return below
+
+
+class Room:
+    """A copy of a crate and of those below it, with what checks kept of them, in which the crate is edited."""
+
+    def __init__(self, crate, folder):
+        self.crate, self.folder, self.here, self.seconds, self.edited = crate, folder, f"{folder}/crates/{crate}", 0.0, {}
+        for name in ("crates.txt", "HANDLES"):
+            shutil.copy(f"{ROOT}/{name}", folder)
+        for part in ("src", "specs", "proofs"):
+            for it in crates_below():
+                self.copy(f"{it}/{part}")
+        for it in crates_below()[crate]:
+            self.copy(f"{it}/out/rlib")
+
+    def copy(self, part):
+        if os.path.isdir(f"{ROOT}/crates/{part}"):
+            shutil.copytree(f"{ROOT}/crates/{part}", f"{self.folder}/crates/{part}")
+
+    def check(self, texts):
+        for path in {**self.edited, **texts}:
+            with open(f"{self.here}/{path}", "w", encoding="utf-8") as it:
+                it.write(texts.get(path) or text_of(f"{ROOT}/crates/{self.crate}/{path}"))
+        self.edited = texts
+        # A check keeps what it found of each function in place of what was kept, so that the next would prove again what is right.
+        shutil.rmtree(f"{self.here}/out/incremental", ignore_errors=True)
+        self.copy(f"{self.crate}/out/incremental")
+        with open(f"{self.folder}/said", "w+", encoding="utf-8", errors="replace") as said:
+            ran = subprocess.Popen(["rt", "check", "--jobs", "1"], cwd=self.here, stdin=subprocess.DEVNULL, stdout=said, stderr=subprocess.STDOUT)
+            _, ran.returncode, used = os.wait4(ran.pid, 0)
+            self.seconds += used.ru_utime + used.ru_stime
+            said.seek(0)
+            return said.read()
+
+
+def rounds_of(edits, are_alone):
+    """The edits in rounds, each with its texts. No two of a round touch one function."""
+    rounds = []
+    for edit in edits:
+        for at, (texts, keys, group) in enumerate([] if are_alone else rounds):
+            more = None if keys & edit.keys else edit.applied(texts)
+            if more:
+                rounds[at] = (more, keys | edit.keys, [*group, edit])
+                break
+        else:
+            rounds.append((edit.applied({}), edit.keys, [edit]))
+    return [(texts, group) for texts, _, group in rounds]
+
+
+def judge_round(said, crate, group):
+    """Judges the edits of a round. Returns what is refused with no edit in it."""
+    rows = rows_of(said, crate)
+    for it in group if rows else []:
+        it.judge(rows)
+    # Where the check does not take a text as a program, no function of the round is tried, and the others are tried again.
+    errors = [] if rows else [(it[1], int(it[2]) - 1, it[0]) for it in REFUSED.finditer(said)]
+    hit = [it for it in group for path, f in it.functions if any(file == path and f.first <= at <= f.last for file, at, _ in errors)]
+    for it in [] if rows else hit or group:
+        it.kind, it.why = "bad", [f"no contract was tried: {errors[0][2] if errors else said[-300:]}"]
+    untouched = {symbol: row for symbol, row in rows.items() if row["found"] and not any(it.touches(symbol) for it in group)}
+    return [f"{symbol}: no edit touches it, and it is refused: {row['found']}" for symbol, row in untouched.items()]
+
+
+def counted(edits):
+    """How many bodies there are, by what they are refused, and how many twins are proved."""
+    bodies, twins = [it for it in edits if not it.is_twin], [it for it in edits if it.is_twin]
+    kinds = collections.Counter(it.kind for it in bodies)
+    strengths = collections.Counter(it.strength() for it in bodies if it.kind == "clause")
+    told = [f"{kinds[it]} {it}" for it in KINDS if kinds[it]]
+    by = ", ".join(f"{strengths[it]} {it}" for it in STRENGTHS if strengths[it])
+    told = [f"{it} ({by})" if it.endswith("clause") else it for it in told]
+    return f"{len(bodies)} wrong bodies: {', '.join(told)}; {sum(it.kind == 'PROVED' for it in twins)} of {len(twins)} twins proved"
+
+
+def try_crate(crate, edits, options):
+    """Tries the edits of a crate, and tells of them. Returns what was refused with no edit in it, and the processor seconds."""
+    strange, count, left, are_alone = [], 0, edits, options.alone
+    with tempfile.TemporaryDirectory(prefix="wrong-bodies-") as folder:
+        room = Room(crate, folder)
+        while left:
+            for texts, group in rounds_of(left, are_alone):
+                said, count = room.check(texts), count + 1
+                strange += judge_round(said, crate, group)
+                if options.said:
+                    shutil.copy(f"{folder}/said", f"{options.said}/{crate}-{count}")
+            left = [it for it in left if not it.kind]
+            are_alone = are_alone or any(it.tries > 1 for it in left)
+    lines = [f"{crate}: {counted(edits)}; {count} rounds, {room.seconds:.0f} processor seconds"]
+    for it in edits:
+        if it.is_well() and (options.goals or it.kind in ("step", "name")):
+            reason = f" ({it.answer or 'its twin is proved'})" if it.kind in ("step", "name") else ""
+            lines.append(f"    {it.name}: {it.kind}{reason}: {'; '.join(it.why)}")
+    print("\n".join(lines), flush=True)
+    return strange, room.seconds
+
+
+def edits_of(crate, options):
+    files = sorted(it for part in ("must-fail", "wrong") for it in glob.glob(f"{ROOT}/crates/{crate}/{part}/*.edit"))
+    edits = [it for it in (Edit(crate, file) for file in files) if re.search(options.only, it.name)]
+    edits = [it for it in edits if it.is_unfit or not it.is_wide]
+    for it in [] if options.no_twins else edits:
+        it.twin = Edit(crate, it.file, is_twin=True) if it.has_twin else None
+    return edits + [it.twin for it in edits if it.twin]
+
+
+def strays():
+    """What stands in a folder of edits, and is none of a crate."""
+    files = (it for part in ("must-fail", "wrong") for it in glob.glob(f"{ROOT}/crates/*/{part}/*"))
+    return sorted(it for it in files if it.split("/")[-3] not in crates_below() or not it.endswith((".edit", ".md")))
+
+
+def usual_jobs():
+    """As many checks at a time as there are processors, and memory for."""
+    memory = re.search(r"MemAvailable: +(\d+)", text_of("/proc/meminfo")) if os.path.isfile("/proc/meminfo") else None
+    return max(1, min(os.cpu_count() or 1, int(memory[1]) // 1000 // CHECK_MEMORY if memory else 1))
+
+
+def main():
+    parser = argparse.ArgumentParser(description=__doc__, formatter_class=argparse.RawDescriptionHelpFormatter)
+    parser.add_argument("--list", action="store_true", help="try nothing: name the bodies that don't fit the code, and print the rounds")
+    parser.add_argument("--goals", action="store_true", help="print each refusal")
+    parser.add_argument("--alone", action="store_true", help="give each body its own check")
+    parser.add_argument("--no-twins", action="store_true", help="leave the twins out")
+    parser.add_argument("--only", default="", metavar="PATTERN", help="take the bodies whose CRATE/NAME the pattern is found in")
+    parser.add_argument("--jobs", type=int, default=usual_jobs(), metavar="N", help="the checks at a time (%(default)s here)")
+    parser.add_argument("--said", metavar="FOLDER", help="keep there what each check says")
+    parser.add_argument("crates", nargs="*", help="take these crates alone")
+    options = parser.parse_args()
+    tried = {crate: edits_of(crate, options) for crate in crates_below() if not options.crates or crate in options.crates}
+    edits = [it for group in tried.values() for it in group]
+    unfit = dict.fromkeys(f"{os.path.relpath(it.file, ROOT)}: {it.is_unfit}" for it in edits if it.is_unfit)
+    unfit.update(dict.fromkeys(f"{os.path.relpath(it, ROOT)}: no edit of a crate of crates.txt" for it in strays()))
+    print("".join(f"{it}\n" for it in unfit), end="")
+    if options.list:
+        for crate, group in tried.items():
+            for number, (_, some) in enumerate(rounds_of([it for it in group if not it.is_unfit], options.alone), 1):
+                print("\n".join(f"{crate} round {number}: {it.name.partition('/')[2]}: {it.shown}" for it in some))
+    if options.list or unfit or not edits:
+        print(f"{len(edits)} bodies, of which {len(unfit)} don't fit the code")
+        return 1 if unfit or not edits else 0
+    unkept = [crate for crate, group in tried.items() if group and not os.path.isdir(f"{ROOT}/crates/{crate}/out/incremental")]
+    if unkept:
+        print(f"no kept proofs of {', '.join(unkept)}: run `make program` first, or each check proves them from nothing")
+        return 2
+    # Crates with the most bodies come first, so that the last ones to end are short.
+    order = sorted((crate for crate in tried if tried[crate]), key=lambda crate: -len(tried[crate]))
+    with concurrent.futures.ThreadPoolExecutor(options.jobs) as pool:
+        came = list(pool.map(lambda crate: try_crate(crate, tried[crate], options), order))
+    failed = [line for strange, _ in came for line in strange]
+    failed += [f"{it.name}: {it.kind}: {'; '.join(it.why)}{' (a known hole)' * bool(it.hole)}" for it in edits if not it.is_well()]
+    print("".join(f"FAILED {it}\n" for it in failed) + f"{counted(edits)}; {sum(it for _, it in came):.0f} processor seconds; {len(failed)} failed")
+    return 1 if failed else 0
+
+
+if __name__ == "__main__":
+    sys.exit(main())
