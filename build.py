@@ -4,7 +4,12 @@
 Crates that don't rest on one another are proved side by side, as many as there are processors and memory for; RT_JOBS is another number
 of processors to use. On a terminal one line moves; elsewhere there is a line for each crate, and one each minute. What the prover says of
 a crate goes to out/build/CRATE.log; where it refuses a crate, the end of that file is shown.
+
+`rt` lets nobody else into a crate that it works in, nor into the crates below. So each crate is proved in a room of its own, out/build/CRATE: a copy
+of the sources, with links to what is built of the crates below. What is kept of the crate goes there and comes back.
 """
+import fcntl
+import glob
 import os
 import re
 import shutil
@@ -14,11 +19,10 @@ import sys
 import time
 
 PROGRAM = "bactool"
-LOGS = "out/build"
+ROOMS = "out/build"
 CRATE_MEMORY = 2 << 30  # what a crate takes while it is proved, in octets
-COST = """From nothing this takes some 33 minutes of processor time. On a quiet machine that should be 10 minutes with four processors and 20
-with two (estimates; crate after crate it was 16 with four). Memory: some 2 GB for each crate at work. Disk: 3.2 GB, which are
-kept, so that the next build proves only what has changed."""
+COST = """From nothing this takes 28 minutes of processor time: 12 minutes on a quiet machine with four processors, and some 17 with two (an
+estimate). Memory: some 2 GB for each crate at work. Disk: 3.2 GB, which are kept, so that the next build proves only what has changed."""
 
 
 def needed():
@@ -31,6 +35,10 @@ def needed():
         found[crate] = {name for name in below[crate].split() if name in below}
         more += found[crate] - found.keys()
     return found
+
+
+def all_below(crate, crates):
+    return crates[crate].union(*(all_below(it, crates) for it in crates[crate]))
 
 
 def size(crate):
@@ -56,16 +64,38 @@ def room():
 
 
 class Work:
-    """A crate at work."""
+    """A crate at work in its room."""
 
-    def __init__(self, crate, jobs):
-        self.crate, self.jobs, self.log = crate, jobs, f"{LOGS}/{crate}.log"
+    def __init__(self, crate, below, jobs):
+        self.crate, self.jobs, self.seconds, self.status = crate, jobs, 0, None
+        self.home, self.room, self.log = f"crates/{crate}", f"{ROOMS}/{crate}", f"{ROOMS}/{crate}.log"
+        self.held = os.open(self.home, os.O_RDONLY)
+        fcntl.flock(self.held, fcntl.LOCK_EX)  # as rt does, so that it waits
+        self.enter(below)
         command = ["rt", "run" if crate == PROGRAM else "lib", "--jobs", str(jobs)]
         command += ["--", "--help"] if crate == PROGRAM else []
         with open(self.log, "w", encoding="utf-8") as log:
             self.process = subprocess.Popen(
-                command, cwd=f"crates/{crate}", stdin=subprocess.DEVNULL, stdout=log, stderr=log, start_new_session=True
+                command, cwd=f"{self.room}/{self.home}", stdin=subprocess.DEVNULL, stdout=log, stderr=log, start_new_session=True
             )
+
+    def enter(self, below):
+        self.leave()  # a build that was killed may have left the room as it was
+        os.makedirs(self.room)
+        for name in ("crates.txt", "HANDLES"):
+            shutil.copy(name, self.room)
+        for part in glob.glob("crates/*/src") + glob.glob("crates/*/specs") + glob.glob("crates/*/proofs"):
+            shutil.copytree(part, f"{self.room}/{part}")
+        for it in below:
+            shutil.copytree(f"crates/{it}/out/rlib", f"{self.room}/crates/{it}/out/rlib", copy_function=os.link)
+        if os.path.isdir(f"{self.home}/out"):
+            os.rename(f"{self.home}/out", f"{self.room}/{self.home}/out")
+
+    def leave(self):
+        if os.path.isdir(f"{self.room}/{self.home}/out"):
+            shutil.rmtree(f"{self.home}/out", ignore_errors=True)
+            os.rename(f"{self.room}/{self.home}/out", f"{self.home}/out")
+        shutil.rmtree(self.room, ignore_errors=True)
 
     def said(self):
         with open(self.log, encoding="utf-8", errors="replace") as log:
@@ -75,10 +105,18 @@ class Work:
         counts = re.findall(r"(?:^so far: |, )(\d+) of (\d+)(?: functions|$)", self.said(), re.M)
         return f"{self.crate} {counts[-1][0]} of {counts[-1][1]} functions" if counts else self.crate
 
+    def has_ended(self):
+        if self.status is None:
+            ended, self.status, used = os.wait4(self.process.pid, os.WNOHANG)
+            self.status, self.seconds = (self.status if ended else None), used.ru_utime + used.ru_stime
+        return self.status is not None
+
     def stop(self):
-        if self.process.poll() is None:
+        if not self.has_ended():
             os.killpg(self.process.pid, signal.SIGTERM)
-            self.process.wait()
+            os.wait4(self.process.pid, 0)
+        self.leave()
+        os.close(self.held)
 
 
 class Screen:
@@ -103,28 +141,40 @@ class Screen:
             print(text, flush=True)
 
 
+def chains(crates):
+    """How long the longest chain from each crate up to the program takes, as their sizes tell."""
+    found = {}
+    while len(found) < len(crates):
+        for crate in crates:
+            above = [it for it in crates if crate in crates[it]]
+            if all(it in found for it in above):
+                found[crate] = size(crate) + max((found[it] for it in above), default=0)
+    return found
+
+
 def build(crates, screen):
     """Answers whether each crate was proved."""
-    left, done, working = dict(crates), set(), []
+    left, done, working, long = dict(crates), set(), [], chains(crates)
     places = min(processors(), room())
     try:
         while left or working:
-            ready = sorted((crate for crate in left if left[crate] <= done), key=size, reverse=True)
-            idle = processors() - sum(work.jobs for work in working)
-            for crate in ready:
-                if len(working) < places:
-                    share = round(idle * size(crate) / sum(map(size, ready)))
-                    working.append(Work(crate, max(share, 1)))
-                    del left[crate]
+            ready = sorted((crate for crate in left if left[crate] <= done), key=long.get, reverse=True)
+            idle, among = processors() - sum(work.jobs for work in working), sum(map(long.get, ready))
+            for crate in ready[: places - len(working)]:
+                share = round(idle * long[crate] / among)
+                working.append(Work(crate, all_below(crate, crates), max(share, 1)))
+                del left[crate]
             time.sleep(0.5)
-            for work in [work for work in working if work.process.poll() is not None]:
+            for work in [work for work in working if work.has_ended()]:
                 working.remove(work)
-                if work.process.returncode != 0:
+                work.stop()
+                if work.status != 0:
                     screen.line(f"{work.crate} is not proved ({screen.passed()}); the end of {work.log}:")
                     print("\n".join(work.said().splitlines()[-20:]))
                     return False
                 done.add(work.crate)
-                screen.line(f"{len(done):2} of {screen.crates}  {work.crate:12} proved  {screen.passed()}")
+                took = f"{work.seconds:.0f} s of processor time"
+                screen.line(f"{len(done):2} of {screen.crates}  {work.crate:12} proved  {screen.passed()}  {took}")
             if working:
                 screen.go_on(len(done), working)
         return True
@@ -135,7 +185,7 @@ def build(crates, screen):
 
 def main():
     os.chdir(os.path.dirname(os.path.abspath(__file__)))
-    os.makedirs(LOGS, exist_ok=True)
+    os.makedirs(ROOMS, exist_ok=True)
     crates = needed()
     print(f"Proving {len(crates)} crates, the last of which is the program.")
     if not all(os.path.isdir(f"crates/{crate}/out") for crate in crates):

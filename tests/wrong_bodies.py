@@ -247,6 +247,27 @@ def rounds_of(edits, are_alone):
     return [(texts, group) for texts, _, group in rounds]
 
 
+def clauses_of(crate):
+    """The named clauses of the public functions of a crate, each with the function's file and own name. A law, whose body is empty, has none."""
+    found = {}
+    for file in sorted(glob.glob(f"{ROOT}/crates/{crate}/src/**/*.rt", recursive=True)):
+        path, text = os.path.relpath(file, f"{ROOT}/crates/{crate}"), text_of(file)
+        lines = text.split("\n")
+        for it in functions_of(crate, path, text):
+            head = "\n".join(lines[it.first : it.body + 1])
+            if re.match(r" *pub (const |unsafe )?fn", head) and not re.search(r"\{ ?\}$", head):
+                for clause in re.findall(r"(?m)^ *ensures\*?(?: (\w+))? \{", head):
+                    found[path, it.shown, clause] = it.symbols
+    return found
+
+
+def opened_by(rows, clauses):
+    """Those of these clauses that a check left open. A goal that names no clause is the whole return, with each of them."""
+    told = [(symbol, goal) for symbol, row in rows.items() for kind, goal in row["found"] if kind == "clause"]
+    is_of = lambda goal, clause: (re.search(r"-clause-(\w+)", goal) or [None, clause])[1] == clause
+    return {it for it, symbols in clauses.items() if any(symbols.match(symbol) and is_of(goal, it[2]) for symbol, goal in told)}
+
+
 def judge_round(said, crate, group):
     """Judges the edits of a round. Returns what is refused with no edit in it."""
     rows = rows_of(said, crate)
@@ -275,17 +296,22 @@ def counted(edits):
 def try_crate(crate, edits, options):
     """Tries the edits of a crate, and tells of them. Returns what was refused with no edit in it, and the processor seconds."""
     strange, count, left, are_alone = [], 0, edits, options.alone
+    bare = clauses_of(crate)
     with tempfile.TemporaryDirectory(prefix="wrong-bodies-") as folder:
         room = Room(crate, folder)
         while left:
             for texts, group in rounds_of(left, are_alone):
                 said, count = room.check(texts), count + 1
                 strange += judge_round(said, crate, group)
+                bare = {it: symbols for it, symbols in bare.items() if it not in opened_by(rows_of(said, crate), bare)}
                 if options.said:
                     shutil.copy(f"{folder}/said", f"{options.said}/{crate}-{count}")
             left = [it for it in left if not it.kind]
             are_alone = are_alone or any(it.tries > 1 for it in left)
     lines = [f"{crate}: {counted(edits)}; {count} rounds, {room.seconds:.0f} processor seconds"]
+    if options.clauses:
+        lines.append(f"    {len(bare)} of {len(clauses_of(crate))} clauses of public functions are left open by no body")
+        lines += [f"    no body leaves open {path}: {name}: {clause or 'its clause'}" for path, name, clause in bare]
     for it in edits:
         if it.is_well() and (options.goals or it.kind in ("step", "name")):
             reason = f" ({it.answer or 'its twin is proved'})" if it.kind in ("step", "name") else ""
@@ -319,6 +345,7 @@ def main():
     parser = argparse.ArgumentParser(description=__doc__, formatter_class=argparse.RawDescriptionHelpFormatter)
     parser.add_argument("--list", action="store_true", help="try nothing: name the bodies that don't fit the code, and print the rounds")
     parser.add_argument("--goals", action="store_true", help="print each refusal")
+    parser.add_argument("--clauses", action="store_true", help="print the clauses of public functions that no body leaves open")
     parser.add_argument("--alone", action="store_true", help="give each body its own check")
     parser.add_argument("--no-twins", action="store_true", help="leave the twins out")
     parser.add_argument("--only", default="", metavar="PATTERN", help="take the bodies whose CRATE/NAME the pattern is found in")

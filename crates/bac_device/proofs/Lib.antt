@@ -1,7 +1,6 @@
 pub mod ListLaws
 pub mod PlaceLaws
 pub mod StateLaws
-pub mod RegionLaws
 pub mod ReplyLaws
 pub mod SizeLaws
 pub mod OrderLaws

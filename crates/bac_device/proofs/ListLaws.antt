@@ -1,5 +1,5 @@
--- Elements of lists.
-use Rattle.std.proofs.Common.{◌≡◌, ℕ, zero, suc, ◌-◌, List, [], ◌∷◌, ◌++◌, length, take, drop, slice_get, refl, ap, ◌∙◌, append-nil, arith}
+-- Elements of lists, and results.
+use Rattle.std.proofs.Common.{◌≡◌, ℕ, zero, suc, ◌-◌, List, [], ◌∷◌, ◌++◌, length, take, drop, slice_get, Result, Ok, Err, OnErr, refl, ap, ◌∙◌, append-nil, arith}
 use Rattle.std.specs.List.{refill}
 use Rattle.std.proofs.lemmas.List.{take_all, drop_all}
 
@@ -13,3 +13,7 @@ pub refill_same : {A : Type 0} (xs ws : List A) → length ws ≡ length xs → 
 refill_same xs ws same =
     let rest : drop (length ws) xs ≡ [] = drop_all (length ws) xs (omega arith) in
     ap (λ r. take (length xs) (ws ++ r)) rest ∙ ap (take (length xs)) (append-nil ws) ∙ take_all (length xs) ws (omega arith)
+
+pub on_err : {A E : Type 0} {P : Type 0} (r : Result A E) → P → OnErr r P
+on_err (Ok x) holds = tt
+on_err (Err e) holds = holds

@@ -1,9 +1,9 @@
 -- A write of a present value, found at its point.
-use Rattle.std.proofs.Common.{◌≡◌, ◌==◌, ℕ, false, Option, Some, None, Result, Ok, Err, refl, is_some, inl, inr}
+use Rattle.std.proofs.Common.{◌≡◌, ◌==◌, ℕ, false, Option, Some, None, Result, Ok, Err, refl, ap, ◌∙◌, is_some, inl, inr}
 use Rattle.std.specs.Prelude.{if◌then◌else◌}
 use Rattle.std.specs.Option.{option_and_then}
 use Rattle.std.proofs.lemmas.Bool.{eqb-true}
-use Rattle.std.proofs.lemmas.Option.{none-some}
+use Rattle.std.proofs.lemmas.Option.{none-some, cond_some, option_and_then_some}
 use Rattle.bac_wire.proofs.Readers.{chosen}
 use Rattle.bac_pdu.specs.Property.{Order, Reference}
 use Rattle.bac_device.specs.declared.failure.Failure.{Failure}
@@ -21,12 +21,7 @@ abbrev commandable : Standing → Option Standing
 commandable standing = if is_commandable standing.point.kind.role then Some standing else None
 
 kept : (found : Option Standing) (standing : Standing) → option_and_then commandable found ≡ Some standing → found ≡ Some standing
-kept None standing e = absurd (none-some standing e)
-kept (Some other) standing e =
-    elim (chosen (is_commandable other.point.kind.role) (Some other) None (Some standing) e) [
-      | inl here ↦ here.1
-      | inr not ↦ absurd (none-some standing not.1)
-    ]
+kept found standing e = option_and_then_some commandable found standing e (λ other at is. at ∙ ap Some (cond_some (is_commandable other.point.kind.role) other standing is).1)
 
 -- what is known of a reference that names the present value of a point
 commanded_is : (device : DeviceState) (r : Reference) (standing : Standing) → commanded device r ≡ Some standing → (is_device device.info r.object ≡ false) × (r.property ≡ 85) × (standing_at device r.object ≡ Some standing)

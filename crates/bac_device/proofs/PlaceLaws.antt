@@ -1,9 +1,10 @@
 -- The places of a point after writes, and after one more.
-use Rattle.std.proofs.Common.{◌≡◌, ℕ, zero, suc, ◌-◌, ◌≤◌, ◌==◌, ◌&&◌, Bool, true, false, cond, nat_lt, nat_le, if◌then◌else◌, List, [], ◌∷◌, ◌++◌, map, filter, slice_get, slice_set, Option, Some, None, refl, sym, ap, ◌∙◌, append-nil, arith}
+use Rattle.std.proofs.Common.{◌≡◌, ℕ, zero, suc, ◌-◌, ◌<◌, ◌≤◌, inl, inr, ◌==◌, ◌&&◌, Bool, true, false, cond, nat_lt, nat_le, if◌then◌else◌, List, [], ◌∷◌, ◌++◌, map, filter, slice_get, slice_set, Option, Some, None, refl, sym, ap, ◌∙◌, append-nil, arith}
 use Rattle.std.specs.List.{last_or}
 use Rattle.std.specs.Option.{option_and_then}
 use Rattle.std.proofs.lemmas.List.Elements.{filter-append}
-use Rattle.std.proofs.lemmas.Bool.{and_right, lt-leb}
+use Rattle.std.proofs.lemmas.Bool.{and_right, lt-leb, cases_lt}
+use Rattle.std.proofs.lemmas.Option.{slice_get_past}
 use Rattle.bac_wire.specs.Identifier.{Identifier}
 use Rattle.bac_device.specs.Kind.{is_commandable}
 use Rattle.bac_device.specs.Point.{Description, same_object}
@@ -16,8 +17,15 @@ map_same f g same (x ∷ xs) = let head = same x in let rest = map_same f g same
 
 -- ---- reading a place
 
-past : (f : ℕ → Option ℕ) (i : ℕ) → slice_get (map f priorities) (suc (suc (suc (suc (suc (suc (suc (suc (suc (suc (suc (suc (suc (suc (suc (suc i)))))))))))))))) ≡ None
-past f i = refl
+-- what holds at each number below a count
+abbrev Each : (ℕ → Type 0) → ℕ → Type 0
+Each P zero = Unit {0}
+Each P (suc count) = P 0 × Each (λ n. P (suc n)) count
+
+at_each : (P : ℕ → Type 0) (count n : ℕ) → Each P count → n < count → P n
+at_each P zero n all below = absurd (omega arith)
+at_each P (suc count) zero all below = all.0
+at_each P (suc count) (suc n) all below = at_each (λ n. P (suc n)) count n all.1 (omega arith)
 
 none_either : {A : Type 0} (b : Bool) (o : Option A) → o ≡ None → cond b None o ≡ None
 none_either true o e = refl
@@ -27,28 +35,12 @@ abbrev chosen : (ℕ → Option ℕ) → ℕ → Option (Option ℕ)
 chosen f priority = if priority == 0 then None else slice_get (map f priorities) (priority - 1)
 
 chosen_at : (f : ℕ → Option ℕ) (priority : ℕ) → chosen f priority ≡ (if nat_lt 0 priority && nat_le priority 16 then Some (f priority) else None)
-chosen_at f zero = refl
-chosen_at f (suc zero) = refl
-chosen_at f (suc (suc zero)) = refl
-chosen_at f (suc (suc (suc zero))) = refl
-chosen_at f (suc (suc (suc (suc zero)))) = refl
-chosen_at f (suc (suc (suc (suc (suc zero))))) = refl
-chosen_at f (suc (suc (suc (suc (suc (suc zero)))))) = refl
-chosen_at f (suc (suc (suc (suc (suc (suc (suc zero))))))) = refl
-chosen_at f (suc (suc (suc (suc (suc (suc (suc (suc zero)))))))) = refl
-chosen_at f (suc (suc (suc (suc (suc (suc (suc (suc (suc zero))))))))) = refl
-chosen_at f (suc (suc (suc (suc (suc (suc (suc (suc (suc (suc zero)))))))))) = refl
-chosen_at f (suc (suc (suc (suc (suc (suc (suc (suc (suc (suc (suc zero))))))))))) = refl
-chosen_at f (suc (suc (suc (suc (suc (suc (suc (suc (suc (suc (suc (suc zero)))))))))))) = refl
-chosen_at f (suc (suc (suc (suc (suc (suc (suc (suc (suc (suc (suc (suc (suc zero))))))))))))) = refl
-chosen_at f (suc (suc (suc (suc (suc (suc (suc (suc (suc (suc (suc (suc (suc (suc zero)))))))))))))) = refl
-chosen_at f (suc (suc (suc (suc (suc (suc (suc (suc (suc (suc (suc (suc (suc (suc (suc zero))))))))))))))) = refl
-chosen_at f (suc (suc (suc (suc (suc (suc (suc (suc (suc (suc (suc (suc (suc (suc (suc (suc zero)))))))))))))))) = refl
-chosen_at f (suc (suc (suc (suc (suc (suc (suc (suc (suc (suc (suc (suc (suc (suc (suc (suc (suc i))))))))))))))))) =
-    let behind : (suc (suc (suc (suc (suc (suc (suc (suc (suc (suc (suc (suc (suc (suc (suc (suc (suc i))))))))))))))))) - 1 ≡ (suc (suc (suc (suc (suc (suc (suc (suc (suc (suc (suc (suc (suc (suc (suc (suc i)))))))))))))))) = omega arith in
-    let none : slice_get (map f priorities) ((suc (suc (suc (suc (suc (suc (suc (suc (suc (suc (suc (suc (suc (suc (suc (suc (suc i))))))))))))))))) - 1) ≡ None = ap (slice_get (map f priorities)) behind ∙ past f i in
-    let outside = and_right (nat_lt 0 (suc (suc (suc (suc (suc (suc (suc (suc (suc (suc (suc (suc (suc (suc (suc (suc (suc i)))))))))))))))))) (nat_le (suc (suc (suc (suc (suc (suc (suc (suc (suc (suc (suc (suc (suc (suc (suc (suc (suc i))))))))))))))))) 16) (lt-leb (suc (suc (suc (suc (suc (suc (suc (suc (suc (suc (suc (suc (suc (suc (suc (suc (suc i))))))))))))))))) 16 (omega arith)) in
-    none_either ((suc (suc (suc (suc (suc (suc (suc (suc (suc (suc (suc (suc (suc (suc (suc (suc (suc i))))))))))))))))) == 0) _ none ∙ sym (ap (λ b. cond b (Some (f (suc (suc (suc (suc (suc (suc (suc (suc (suc (suc (suc (suc (suc (suc (suc (suc (suc i))))))))))))))))))) None) outside)
+chosen_at f priority = elim (cases_lt priority 17) [
+  | inl there ↦ at_each (λ n. chosen f n ≡ (if nat_lt 0 n && nat_le n 16 then Some (f n) else None)) 17 priority (refl, (refl, (refl, (refl, (refl, (refl, (refl, (refl, (refl, (refl, (refl, (refl, (refl, (refl, (refl, (refl, (refl, tt))))))))))))))))) there
+  | inr past ↦
+      let outside = and_right (nat_lt 0 priority) (nat_le priority 16) (lt-leb priority 16 (omega arith)) in
+      none_either (priority == 0) _ (slice_get_past (map f priorities) (priority - 1) (omega arith)) ∙ sym (ap (λ b. cond b (Some (f priority)) None) outside)
+]
 
 -- what stands at a priority
 pub place_chosen : (writes : List Write) (priority : ℕ) (point : Description) → place_at (standing_after writes point) priority ≡ place_if writes priority point
@@ -78,23 +70,8 @@ place_more writes write object priority =
 
 set_place : (f : ℕ → Option ℕ) (priority : ℕ) (value : Option ℕ) → 1 ≤ priority → priority ≤ 16 → slice_set (map f priorities) (priority - 1) value ≡ map (λ q. if q == priority then value else f q) priorities
 set_place f zero value most least = absurd (omega arith)
-set_place f (suc zero) value most least = refl
-set_place f (suc (suc zero)) value most least = refl
-set_place f (suc (suc (suc zero))) value most least = refl
-set_place f (suc (suc (suc (suc zero)))) value most least = refl
-set_place f (suc (suc (suc (suc (suc zero))))) value most least = refl
-set_place f (suc (suc (suc (suc (suc (suc zero)))))) value most least = refl
-set_place f (suc (suc (suc (suc (suc (suc (suc zero))))))) value most least = refl
-set_place f (suc (suc (suc (suc (suc (suc (suc (suc zero)))))))) value most least = refl
-set_place f (suc (suc (suc (suc (suc (suc (suc (suc (suc zero))))))))) value most least = refl
-set_place f (suc (suc (suc (suc (suc (suc (suc (suc (suc (suc zero)))))))))) value most least = refl
-set_place f (suc (suc (suc (suc (suc (suc (suc (suc (suc (suc (suc zero))))))))))) value most least = refl
-set_place f (suc (suc (suc (suc (suc (suc (suc (suc (suc (suc (suc (suc zero)))))))))))) value most least = refl
-set_place f (suc (suc (suc (suc (suc (suc (suc (suc (suc (suc (suc (suc (suc zero))))))))))))) value most least = refl
-set_place f (suc (suc (suc (suc (suc (suc (suc (suc (suc (suc (suc (suc (suc (suc zero)))))))))))))) value most least = refl
-set_place f (suc (suc (suc (suc (suc (suc (suc (suc (suc (suc (suc (suc (suc (suc (suc zero))))))))))))))) value most least = refl
-set_place f (suc (suc (suc (suc (suc (suc (suc (suc (suc (suc (suc (suc (suc (suc (suc (suc zero)))))))))))))))) value most least = refl
-set_place f (suc (suc (suc (suc (suc (suc (suc (suc (suc (suc (suc (suc (suc (suc (suc (suc (suc i))))))))))))))))) value most least = absurd (omega arith)
+set_place f (suc i) value most least =
+    at_each (λ n. slice_set (map f priorities) (suc n - 1) value ≡ map (λ q. if q == suc n then value else f q) priorities) 16 i (refl, (refl, (refl, (refl, (refl, (refl, (refl, (refl, (refl, (refl, (refl, (refl, (refl, (refl, (refl, (refl, tt)))))))))))))))) (omega arith)
 
 -- a write to an object leaves a point as it is, or puts its value at its priority
 pub put_after : (writes : List Write) (write : Write) (point : Description) → 1 ≤ write.priority → write.priority ≤ 16 → put write (standing_after writes point) ≡ standing_after (writes ++ write ∷ []) point

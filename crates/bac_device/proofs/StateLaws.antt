@@ -1,8 +1,9 @@
 -- A device whose places are those after some writes.
-use Rattle.std.proofs.Common.{◌≡◌, ℕ, ◌≤◌, ◌==◌, Bool, true, false, cond, List, [], ◌∷◌, ◌++◌, map, find, length, Option, Some, None, Result, Ok, Err, refl, IfSome, sym, ap, subst, inl, inr, ◌∙◌, append-nil}
+use Rattle.std.proofs.Common.{◌≡◌, ℕ, ◌≤◌, Bool, true, false, cond, List, [], ◌∷◌, ◌++◌, map, find, Option, Some, None, Result, Ok, Err, refl, IfSome, sym, ap, subst, ◌∙◌, append-nil}
 use Rattle.std.specs.Prelude.{if◌then◌else◌}
-use Rattle.std.proofs.lemmas.Option.{none-some}
-use Rattle.bac_wire.proofs.Readers.{chosen}
+use Rattle.std.proofs.lemmas.List.{map_push}
+use Rattle.std.proofs.lemmas.Option.{cond_some}
+use Rattle.std.proofs.lemmas.Simd.{map-map}
 use Rattle.bac_wire.proofs.TagLaws.{bind_some}
 use Rattle.bac_device.specs.declared.device.AddFault.{AddFault}
 use Rattle.bac_device.specs.declared.device.AddFault.TheVariants.{TooMany, Twice, NameTwice, BadPoint}
@@ -14,7 +15,7 @@ use Rattle.bac_wire.specs.Steps.{◌>>=◌}
 use Rattle.bac_device.specs.Info.{Info}
 use Rattle.bac_device.specs.Point.{Given, Description, same_object, is_described, described, description_of}
 use Rattle.bac_device.specs.Places.{Write, Standing, IsUrgent, NoneTo, priorities, standing_after, present, place_at, put}
-use Rattle.bac_device.specs.Device.{DeviceState, points_of, device_after, Holds, has_object, has_name, with_point, add_point, standing_at, point_at, present_after, place_after, place_if}
+use Rattle.bac_device.specs.Device.{DeviceState, points_of, device_after, Holds, with_point, add_point, standing_at, point_at, present_after, place_after, place_if}
 use Rattle.bac_device.specs.Reply.{with_write}
 use Rattle.bac_device.proofs.PlaceLaws.{map_same, place_chosen, place_none, put_after}
 
@@ -23,10 +24,6 @@ find_map f test [] = refl
 find_map f test (x ∷ xs) =
     let rest = find_map f test xs in
     elim (test (f x)) as (λ b. cond b (Some (f x)) (find test (map f xs)) ≡ option_map f (cond b (Some x) (find (λ x. test (f x)) xs))) [ true ↦ refl | false ↦ rest ]
-
-map_map : {A B C : Type 0} (f : A → B) (g : B → C) (xs : List A) → map g (map f xs) ≡ map (λ x. g (f x)) xs
-map_map f g [] = refl
-map_map f g (x ∷ xs) = ap (λ rest. g (f x) ∷ rest) (map_map f g xs)
 
 -- the point that is an object stands as the writes say
 pub at_after : (device : DeviceState) (writes : List Write) (object : Identifier) → Holds device writes → standing_at device object ≡ option_map (standing_after writes) (point_at (points_of device) object)
@@ -58,7 +55,7 @@ points_after info (point ∷ points) writes = ap (λ (rest : List Description). 
 -- after one more write
 pub standings_put : (points : List Description) (writes : List Write) (write : Write) → 1 ≤ write.priority → write.priority ≤ 16 → map (put write) (map (standing_after writes) points) ≡ map (standing_after (writes ++ write ∷ [])) points
 standings_put points writes write most least =
-    map_map (standing_after writes) (put write) points ∙ map_same _ _ (λ point. put_after writes write point most least) points
+    map-map (put write) (standing_after writes) points ∙ map_same _ _ (λ point. put_after writes write point most least) points
 
 -- a device once a write is made, if there is one
 pub write_held : (device : DeviceState) (writes : List Write) (write : Option Write) → Holds device writes → IfSome write IsUrgent → with_write device write ≡ device_after device.info (points_of device) (writes ++ option_to_list write)
@@ -68,10 +65,6 @@ write_held device writes (Some write) holds urgent =
     ap (λ (s : List Standing). record { info = device.info; standings = s }) (ap (map (put write)) before ∙ standings_put (points_of device) writes write urgent.0 urgent.1)
 
 -- ---- one more point
-
-map_more : {A B : Type 0} (f : A → B) (xs : List A) (x : A) → map f (xs ++ x ∷ []) ≡ map f xs ++ f x ∷ []
-map_more f [] x = refl
-map_more f (y ∷ ys) x = ap (λ (rest : List _). f y ∷ rest) (map_more f ys x)
 
 point_stays : (point : Description) → (standing_after [] point).point ≡ point
 unfolding standing_after
@@ -86,9 +79,9 @@ untouched writes point none = ap (λ (places : List (Option ℕ)). record { poin
 more_held : (device : DeviceState) (point : Description) (writes : List Write) → Holds device writes → NoneTo point.object writes → Holds (with_point device point) writes
 more_held device point writes holds none =
     let before : device.standings ≡ map (standing_after writes) (points_of device) = ap (λ (d : DeviceState). d.standings) holds in
-    let points : points_of (with_point device point) ≡ points_of device ++ point ∷ [] = map_more (λ (standing : Standing). standing.point) device.standings (standing_after [] point) ∙ ap (λ (p : Description). points_of device ++ p ∷ []) (point_stays point) in
+    let points : points_of (with_point device point) ≡ points_of device ++ point ∷ [] = map_push (λ (standing : Standing). standing.point) device.standings (standing_after [] point) ∙ ap (λ (p : Description). points_of device ++ p ∷ []) (point_stays point) in
     let all : map (standing_after writes) (points_of device ++ point ∷ []) ≡ device.standings ++ standing_after [] point ∷ [] =
-    map_more (standing_after writes) (points_of device) point ∙ ap (λ (s : List Standing). s ++ standing_after writes point ∷ []) (sym before) ∙ ap (λ (s : Standing). device.standings ++ s ∷ []) (untouched writes point none) in
+    map_push (standing_after writes) (points_of device) point ∙ ap (λ (s : List Standing). s ++ standing_after writes point ∷ []) (sym before) ∙ ap (λ (s : Standing). device.standings ++ s ∷ []) (untouched writes point none) in
     ap (λ (s : List Standing). record { info = device.info; standings = s }) (sym (ap (map (standing_after writes)) points ∙ all))
 
 added_held : (device new : DeviceState) (point : Given) (writes : List Write) (found : Option Description) → ((d : Description) → found ≡ Some d → d.object ≡ point.object) → needs BadPoint (option_map (with_point device) found) ≡ Ok new → Holds device writes → NoneTo point.object writes → Holds new writes
@@ -101,28 +94,15 @@ described_object : (point : Given) (d : Description) → description_of point �
 unfolding description_of
 described_object point d e =
     let a = bind_some (kind_of point.object.kind) (λ kind. if is_described kind point then Some (described kind point) else None) d e in
-    elim (chosen (is_described a.0 point) (Some (described a.0 point)) None (Some d) a.2) [
-      | inl here ↦ let same : described a.0 point ≡ d = cc in ap (λ (x : Description). x.object) (sym same)
-      | inr other ↦ absurd (none-some d other.1)
-    ]
+    ap (λ (x : Description). x.object) (sym (cond_some (is_described a.0 point) (described a.0 point) d a.2).1)
+
+else_ok : (b : Bool) (fault : AddFault) (rest : Result DeviceState AddFault) (new : DeviceState) → (if b then Err fault else rest) ≡ Ok new → rest ≡ Ok new
+else_ok true fault rest new e = absurd cc
+else_ok false fault rest new e = e
 
 -- a device to which a point was added holds the writes that it held, where none of them is to the point
 pub add_held : (device new : DeviceState) (point : Given) (writes : List Write) → add_point device point ≡ Ok new → Holds device writes → NoneTo point.object writes → Holds new writes
 unfolding add_point
 add_held device new point writes e holds none =
-    let made : Result DeviceState AddFault = needs BadPoint (option_map (with_point device) (description_of point)) in
-    let named : Result DeviceState AddFault = cond (has_name device point.name) (Err NameTwice) made in
-    let twice : Result DeviceState AddFault = cond (has_object device point.object) (Err Twice) named in
-    elim (chosen (length device.standings == 32) (Err TooMany) twice (Ok new) e) [
-      | inl full ↦ absurd (err_ok full.1)
-      | inr a ↦ elim (chosen (has_object device point.object) (Err Twice) named (Ok new) a.1) [
-        | inl object ↦ absurd (err_ok object.1)
-        | inr b ↦ elim (chosen (has_name device point.name) (Err NameTwice) made (Ok new) b.1) [
-          | inl name ↦ absurd (err_ok name.1)
-          | inr c ↦ added_held device new point writes (description_of point) (described_object point) c.1 holds none
-        ]
-      ]
-    ]
-  where
-    err_ok : {fault : AddFault} {d : DeviceState} → ◌≡◌ {A = Result DeviceState AddFault} (Err fault) (Ok d) → ⊥
-    err_ok e = cc
+    let made = else_ok _ NameTwice _ new (else_ok _ Twice _ new (else_ok _ TooMany _ new e)) in
+    added_held device new point writes (description_of point) (described_object point) made holds none

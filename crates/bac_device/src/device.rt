@@ -110,6 +110,7 @@ impl Device {
 
     /// The number of the present value of a point (clause 19.2), as in [`Point::start`]: what the most urgent place that is
     /// not NULL holds, or `start`. None where the object is no point.
+    #[tactic(auto, using(crate::proofs::StateLaws::present_held))]
     pub fn present(&self, object: ObjectId) -> Option<u32>
         ensures { (writes : List Write) → Holds self.now writes → result ≡ present_after (points_of self.now) writes (identifier object) }
     {
@@ -118,6 +119,7 @@ impl Device {
 
     /// What a commandable point has at a priority; `Some(None)` is NULL. None where the object is no commandable point, or
     /// the priority is not 1 to 16.
+    #[tactic(auto, using(crate::proofs::StateLaws::place_held))]
     pub fn place(&self, object: ObjectId, priority: u8) -> Option<Option<u32>>
         ensures { (writes : List Write) → Holds self.now writes → result ≡ place_after (points_of self.now) writes (identifier object) priority }
     {

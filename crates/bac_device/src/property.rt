@@ -1,8 +1,7 @@
 ghost use Rattle.std.specs.Prelude.{◌≡◌, ◌<◌, ◌+◌, ◌∷◌, ◌++◌, length, slice_get, map, IfSome, IfOk, OnOk, OnErr};
 ghost use Rattle.std.specs.Option.{option_map};
-ghost use Rattle.std.specs.List.{flat_map};
 ghost use Rattle.bac_wire.specs.Limits.{frame_room};
-ghost use Rattle.bac_wire.specs.Datum.{datum, plain, IsSound, object};
+ghost use Rattle.bac_wire.specs.Datum.{datum, IsSound, object};
 ghost use Rattle.bac_wire.specs.Identifier.{identifier};
 ghost use Rattle.bac_device.specs.Kind.{place_value};
 ghost use Rattle.bac_device.specs.Steps.{result_seen};
@@ -110,35 +109,12 @@ pub(crate) fn append_region(frame: &mut Frame, property: &Property<'_>) -> Resul
     ensures ok { OnOk result (frame.new ≡ frame.old ++ region_octets (property_seen property.now)) }
     ensures full { OnErr result (frame_room < length frame.old + length (region_octets (property_seen property.now))) }
 {
-    match property {
-        Property::Single(value) => write_value(frame, value),
-        Property::EmptyList => Ok(()),
-        Property::ObjectList(device, points) => {
-            write_value(frame, &Value::Object(*device))?;
-            append_objects(frame, points)
+    for place in 0..property.count() {
+        match property.value_at(place) {
+            Some(value) => write_value(frame, &value)?,
+            // Each place below the count has a value.
+            None => unreachable!(),
         }
-        Property::PriorityArray(family, places) => append_places(frame, *family, places),
-    }
-}
-
-/// Appends the identifiers of the points. `Full` only where there is no room for them.
-fn append_objects(frame: &mut Frame, points: &[StandingPoint]) -> Result<(), Full>
-    ensures ok { OnOk result (frame.new ≡ frame.old ++ flat_map plain (point_objects points.now)) }
-    ensures full { OnErr result (frame_room < length frame.old + length (flat_map plain (point_objects points.now))) }
-{
-    for point in points {
-        write_value(frame, &Value::Object(point.id()))?;
-    }
-    Ok(())
-}
-
-/// Appends the values of the places of a priority array. `Full` only where there is no room for them.
-fn append_places(frame: &mut Frame, family: Family, places: &[Option<u32>]) -> Result<(), Full>
-    ensures ok { OnOk result (frame.new ≡ frame.old ++ flat_map plain (map (place_value family) places.now)) }
-    ensures full { OnErr result (frame_room < length frame.old + length (flat_map plain (map (place_value family) places.now))) }
-{
-    for place in places {
-        write_value(frame, &family.place_value(*place))?;
     }
     Ok(())
 }

@@ -1,36 +1,37 @@
 -- What the look-ahead says of the events of a call, one event after another.
-use Rattle.std.proofs.Common.{◌≡◌, ℕ, zero, suc, ◌+◌, ◌<◌, ◌≤◌, List, [], ◌∷◌, ◌++◌, length, Option, Some, None, Result, Ok, slice_get, Bool, true, false, not, ◌⊎◌, nat_eq, nat_lt, refl, sym, ap, ◌∙◌, arith, append_assoc, inl, inr, subst, if◌then◌else◌, eq-eqb}
-use Rattle.std.proofs.lemmas.List.{append-nil, length-map, length_push, map-append, take-append-le}
-use Rattle.std.proofs.lemmas.Bool.{cases_Bool, cases_eq, cases_lt}
+use Rattle.std.proofs.Common.{◌≡◌, ℕ, zero, suc, ◌+◌, ◌<◌, ◌≤◌, List, [], ◌∷◌, ◌++◌, length, Option, Some, None, Result, Ok, slice_get, true, false, nat_lt, refl, sym, ap, ◌∙◌, arith, append_assoc, inl, inr, subst, eq-eqb}
+use Rattle.std.proofs.lemmas.List.{append-nil, length_push, take-append-le}
+use Rattle.std.proofs.lemmas.List.Concat.{flat_map-append}
+use Rattle.std.proofs.lemmas.List.Elements.{All-nil, All-cons, All-append}
+use Rattle.std.proofs.lemmas.Option.{slice_get_within, get_or_from_slice_get}
+use Rattle.std.proofs.lemmas.Bool.{cases_eq, cases_lt, ne_eqb}
 use Rattle.std.proofs.lemmas.Bool.Decides.{nat_tests}
 use Rattle.std.proofs.Math.Seq.{take-append_seam}
-use Rattle.std.specs.List.{list_any}
+use Rattle.std.specs.List.{All}
 use Rattle.bac_pdu.specs.Peer.{Station, station}
-use Rattle.bac_links.specs.Limits.{longest_body}
-use Rattle.bac_tsm.specs.Events.{Outcome, Event, Ask, Data, Tick, Note, Sent, Refused, Done, Dropped, TimedOut, Rules, Request}
-use Rattle.bac_tsm.specs.Lookahead.{Accepted, End, accepted, accepted_at, end, end_notes, end_note, or_dropped, send_notes, is_open_at, next_number, refusal_of, output, notes_on, is_tick, sends}
+use Rattle.bac_tsm.specs.Limits.{longest_body}
+use Rattle.bac_tsm.specs.Events.{Outcome, Event, Ask, Data, Tick, Note, Rules, Request}
+use Rattle.bac_tsm.specs.Lookahead.{Accepted, End, accepted, accepted_at, end, end_notes, end_note, or_dropped, send_notes, next_number, refusal_of, output, notes_on, is_tick}
 use Rattle.bac_tsm.specs.Machine.{State, Stepped, Answered, Run, step, initial, folded, submit, tick, sent}
 use Rattle.bac_tsm.specs.declared.client.SubmitFault.{SubmitFault}
 use Rattle.bac_tsm.specs.Laws.{AnswersByNumber, state_at, waiting_at}
 use Rattle.bac_tsm.specs.Client.{Client, keeping}
 use Rattle.bac_tsm.proofs.Laws.{drop_head, one_step, run_first, run_whole, both_are, looks_back, past_unended, early_unended, early_unsent, quiet_unsent, sent_first, by_number, few_places}
-use Rattle.bac_links.proofs.SendsInOrder.{sends_in_order}
 use Rattle.bac_links.specs.Told.{Sending}
-use Rattle.bac_links.specs.Moments.{Moment, events_of}
-use Rattle.bac_links.specs.Call.{sendings, sent_in, rules_for, service_of, asked, begun_at, IsOpenIn, EndsAfter}
-use Rattle.bac_links.specs.CallSteps.{sent_from, endings, NoAsk, IsAlone, Carries}
+use Rattle.bac_links.specs.Call.{send_in, sendings, time_then, sent_from, rules_for, service_of, asked, begun_at, end_in, sent_in, IsAccepted}
+use Rattle.bac_links.specs.CallSteps.{ending_in, endings, IsNews, IsAlone, Carries}
 use Rattle.bac_links.specs.declared.ending.Tool.{Tool}
 use Rattle.bac_text.specs.declared.jobs.Call.{Call}
 
 -- ---- one more event at the end of any list
 
-pub slice_get-last : (events : List Event) (event : Event) → slice_get (events ++ event ∷ []) (length events) ≡ Some event
+slice_get-last : (events : List Event) (event : Event) → slice_get (events ++ event ∷ []) (length events) ≡ Some event
 slice_get-last [] event = refl
 slice_get-last (x ∷ events) event = slice_get-last events event
 
 module _ (rules : Rules) (by_number : AnswersByNumber rules) (small : rules.places ≤ 255) (events : List Event) (event : Event) where
   -- What is kept before the last event does not rest on it.
-  pub state_before : state_at rules 0 (events ++ event ∷ []) (length events) ≡ state_at rules 0 events (length events)
+  state_before : state_at rules 0 (events ++ event ∷ []) (length events) ≡ state_at rules 0 events (length events)
   state_before =
       let first = run_first rules 0 (events ++ event ∷ []) by_number small (length events) (let e = length_push events event in omega arith) in
       let whole = run_whole rules 0 events by_number small in
@@ -38,7 +39,7 @@ module _ (rules : Rules) (by_number : AnswersByNumber rules) (small : rules.plac
       ∙ ap (λ r. r.after) whole
 
   -- The step of the last event tells what the look-ahead says of it, and leaves what that says is kept.
-  pub last_step : step rules (state_at rules 0 events (length events)) event
+  last_step : step rules (state_at rules 0 events (length events)) event
       ≡ record {
         notes = output rules 0 (events ++ event ∷ []) (length events);
         after = state_at rules 0 (events ++ event ∷ []) (suc (length events));
@@ -49,59 +50,45 @@ module _ (rules : Rules) (by_number : AnswersByNumber rules) (small : rules.plac
 
 -- ---- the events of a call
 
-none_at : (rules : Rules) (events : List Event) (i : ℕ) (before : List Accepted) (rest : List Event) (j : ℕ) → NoAsk rest →
-    accepted_at rules 0 events i before (slice_get rest j) ≡ []
-none_at rules events i before [] j quiet = refl
-none_at rules events i before (Ask peer service body ∷ rest) j quiet = absurd quiet
-none_at rules events i before (Data peer bytes ∷ rest) zero quiet = refl
-none_at rules events i before (Data peer bytes ∷ rest) (suc j) quiet = none_at rules events i before rest j quiet
-none_at rules events i before (Tick now ∷ rest) zero quiet = refl
-none_at rules events i before (Tick now ∷ rest) (suc j) quiet = none_at rules events i before rest j quiet
+pub one_news : (event : Event) → IsNews event → All IsNews (event ∷ [])
+one_news event news = All-cons IsNews event [] news (All-nil IsNews)
 
-pub NoAsk-append : (xs ys : List Event) → NoAsk xs → NoAsk ys → NoAsk (xs ++ ys)
-NoAsk-append [] ys p q = q
-NoAsk-append (Ask peer service body ∷ xs) ys p q = absurd p
-NoAsk-append (Data peer bytes ∷ xs) ys p q = NoAsk-append xs ys p q
-NoAsk-append (Tick now ∷ xs) ys p q = NoAsk-append xs ys p q
+news_at : (rest : List Event) (j : ℕ) (event : Event) → All IsNews rest → slice_get rest j ≡ Some event → IsNews event
+news_at rest j event quiet e = subst IsNews (get_or_from_slice_get rest j event event e) (quiet j event (slice_get_within rest j event e))
+
+none_at : (rules : Rules) (events : List Event) (i : ℕ) (before : List Accepted) (rest : List Event) (j : ℕ) → All IsNews rest →
+    accepted_at rules 0 events i before (slice_get rest j) ≡ []
+none_at rules events i before rest j quiet = go (slice_get rest j) (λ event e. news_at rest j event quiet e)
+  where
+    go : (here : Option Event) → ((event : Event) → here ≡ Some event → IsNews event) → accepted_at rules 0 events i before here ≡ []
+    go None news = refl
+    go (Some (Ask peer service body)) news = absurd (news (Ask peer service body) refl)
+    go (Some (Data peer bytes)) news = refl
+    go (Some (Tick now)) news = refl
 
 module _ (tool : Tool) (call : Call) (time : ℕ) where
-  -- The time and the request, and then these.
-  abbrev pub with_rest : List Event → List Event
-  with_rest rest = Tick time ∷ Ask (station call.to) (service_of tool) call.body.items ∷ rest
-
   fitting : length call.body.items ≤ longest_body → nat_lt longest_body (length call.body.items) ≡ false
   fitting short = grind (arith, nat_tests)
 
-  accepted_first : (rest : List Event) → length call.body.items ≤ longest_body → accepted (rules_for call) 0 (with_rest rest) 2 ≡ asked tool call ∷ []
+  accepted_first : (later : List Event) → length call.body.items ≤ longest_body → accepted (rules_for call) 0 (begun_at tool call time later) 2 ≡ asked tool call ∷ []
   unfolding refusal_of next_number
-  accepted_first rest short = rw (fitting short) refl
+  accepted_first later short = rw (fitting short) refl
 
   -- The request is accepted, and no other is asked for.
-  pub accepted_is : (rest : List Event) → length call.body.items ≤ longest_body → NoAsk rest → (j : ℕ) →
-      accepted (rules_for call) 0 (with_rest rest) (suc (suc j)) ≡ asked tool call ∷ []
-  accepted_is rest short quiet zero = accepted_first rest short
-  accepted_is rest short quiet (suc j) =
-      let before = accepted_is rest short quiet j in
-      rw (none_at (rules_for call) (with_rest rest) (suc (suc j)) (accepted (rules_for call) 0 (with_rest rest) (suc (suc j))) rest j quiet, before) refl
+  accepted_is : (later : List Event) → length call.body.items ≤ longest_body → All IsNews later → (j : ℕ) →
+      accepted (rules_for call) 0 (begun_at tool call time later) (suc (suc j)) ≡ asked tool call ∷ []
+  accepted_is later short quiet zero = accepted_first later short
+  accepted_is later short quiet (suc j) =
+      let before = accepted_is later short quiet j in
+      rw (none_at (rules_for call) (begun_at tool call time later) (suc (suc j)) (accepted (rules_for call) 0 (begun_at tool call time later) (suc (suc j))) later j quiet, before) refl
 
 -- ---- the ends and the sends among notes
 
-pub endings-append : (xs ys : List Note) → endings (xs ++ ys) ≡ endings xs ++ endings ys
-endings-append [] ys = refl
-endings-append (Sent ticket peer octets ∷ xs) ys = endings-append xs ys
-endings-append (Refused why ∷ xs) ys = endings-append xs ys
-endings-append (Done ticket outcome ∷ xs) ys = ap (◌∷◌ (Some outcome)) (endings-append xs ys)
-endings-append (Dropped ∷ xs) ys = endings-append xs ys
-endings-append (TimedOut ticket ∷ xs) ys = ap (◌∷◌ None) (endings-append xs ys)
+endings-append : (xs ys : List Note) → endings (xs ++ ys) ≡ endings xs ++ endings ys
+endings-append xs ys = flat_map-append ending_in xs ys
 
-pub sendings-append : (time : ℕ) (xs ys : List Note) → sendings time (xs ++ ys) ≡ sendings time xs ++ sendings time ys
-sendings-append time [] ys = refl
-sendings-append time (Sent ticket peer octets ∷ xs) ys =
-    ap (λ (zs : List Sending). record { time = time; to = peer; octets = octets } ∷ zs) (sendings-append time xs ys)
-sendings-append time (Refused why ∷ xs) ys = sendings-append time xs ys
-sendings-append time (Done ticket outcome ∷ xs) ys = sendings-append time xs ys
-sendings-append time (Dropped ∷ xs) ys = sendings-append time xs ys
-sendings-append time (TimedOut ticket ∷ xs) ys = sendings-append time xs ys
+sendings-append : (time : ℕ) (xs ys : List Note) → sendings time (xs ++ ys) ≡ sendings time xs ++ sendings time ys
+sendings-append time xs ys = flat_map-append (send_in time) xs ys
 
 endings_dropped : (xs : List Note) → endings (or_dropped xs) ≡ endings xs
 endings_dropped [] = refl
@@ -112,11 +99,7 @@ sendings_dropped time [] = refl
 sendings_dropped time (x ∷ xs) = refl
 
 endings_sent : (rules : Rules) (events : List Event) (i : ℕ) (a : Accepted) → endings (send_notes rules events i a) ≡ []
-endings_sent rules events i a = go (list_any (nat_eq i) (sends rules events a))
-  where
-    go : (b : Bool) → endings (if b then Sent a.request.ticket a.request.peer a.request.octets ∷ [] else []) ≡ []
-    go true = refl
-    go false = refl
+endings_sent rules events i a = grind arith
 
 sendings_note : (time : ℕ) (request : Request) (o : Option Outcome) → sendings time (end_note request o ∷ []) ≡ []
 sendings_note time request None = refl
@@ -124,329 +107,285 @@ sendings_note time request (Some outcome) = refl
 
 sendings_ended : (time i : ℕ) (request : Request) (e : Option End) → sendings time (end_notes i request e) ≡ []
 sendings_ended time i request None = refl
-sendings_ended time i request (Some e) = elim (cases_Bool (nat_eq e.position i)) [
-  | inl y ↦ rw y (sendings_note time request e.outcome)
-  | inr n ↦ rw n refl
-]
+sendings_ended time i request (Some e) = grind (arith, sendings_note)
 
 endings_note : (request : Request) (o : Option Outcome) → endings (end_note request o ∷ []) ≡ o ∷ []
 endings_note request None = refl
 endings_note request (Some outcome) = refl
 
 -- An end at this position is told there.
-pub endings_at : (i : ℕ) (request : Request) (o : Option Outcome) → endings (end_notes i request (Some (record { position = i; outcome = o }))) ≡ o ∷ []
+endings_at : (i : ℕ) (request : Request) (o : Option Outcome) → endings (end_notes i request (Some (record { position = i; outcome = o }))) ≡ o ∷ []
 endings_at i request o = rw (eq-eqb i i refl) (endings_note request o)
 
--- ---- the last event of a call
+told_there : (request : Request) (x : Option End) (y : End) → x ≡ Some y → endings (end_notes y.position request x) ≡ y.outcome ∷ []
+told_there request x y e = ap (λ e. endings (end_notes y.position request e)) e ∙ endings_at y.position request y.outcome
 
--- What a call is handed after its request.
-abbrev pub IsNews : Event → Type 0
-IsNews (Ask peer service body) = ⊥
-IsNews (Data peer bytes) = Unit {0}
-IsNews (Tick now) = Unit {0}
+not_silent : (request : Request) (x : Option End) (y : End) → x ≡ Some y → endings (end_notes y.position request x) ≡ [] → ⊥
+not_silent request x y e none = let bad : y.outcome ∷ [] ≡ [] = sym (told_there request x y e) ∙ none in cc
 
-news_quiet : (event : Event) → IsNews event → NoAsk (event ∷ [])
-news_quiet (Ask peer service body) n = absurd n
-news_quiet (Data peer bytes) n = tt
-news_quiet (Tick now) n = tt
+-- And an end that is told at this position is there.
+ended_there : (i : ℕ) (request : Request) (x : Option End) (o : Option Outcome) → endings (end_notes i request x) ≡ o ∷ [] →
+    x ≡ Some (record { position = i; outcome = o })
+ended_there i request None o e = cc
+ended_there i request (Some x) o e = elim (cases_eq x.position i) [
+  | inl same ↦
+      let told : endings (end_note request x.outcome ∷ []) ≡ o ∷ [] = rw (eq-eqb x.position i same) at e in
+      let both : x.outcome ∷ [] ≡ o ∷ [] = sym (endings_note request x.outcome) ∙ told in
+      let outcome : x.outcome ≡ o = cc in
+      λ k. Some (record { position = same k; outcome = outcome k })
+  | inr other ↦
+      let none : [] ≡ o ∷ [] = rw (ne_eqb x.position i other) at e in
+      cc
+]
 
-pub news_at : (rest : List Event) (j : ℕ) (event : Event) → NoAsk rest → slice_get rest j ≡ Some event → IsNews event
-news_at [] j event quiet e = cc
-news_at (Ask peer service body ∷ rest) j event quiet e = absurd quiet
-news_at (Data peer bytes ∷ rest) zero event quiet e = let same : Data peer bytes ≡ event = cc in subst IsNews same tt
-news_at (Data peer bytes ∷ rest) (suc j) event quiet e = news_at rest j event quiet e
-news_at (Tick now ∷ rest) zero event quiet e = let same : Tick now ≡ event = cc in subst IsNews same tt
-news_at (Tick now ∷ rest) (suc j) event quiet e = news_at rest j event quiet e
+-- ---- what is told at a position
 
--- Where one request was accepted, a later event tells what is placed there.
-module _ (rules : Rules) (events : List Event) (i : ℕ) (a : Accepted) (only : accepted rules 0 events i ≡ a ∷ []) where
-  tick_output : (now : ℕ) → slice_get events i ≡ Some (Tick now) →
-      output rules 0 events i ≡ send_notes rules events i a ++ end_notes i a.request (end rules events a)
+-- The sends and the ends that are told at position i are those that the look-ahead places there.
+record TellsPlaced (rules : Rules) (events : List Event) (a : Accepted) (i : ℕ) : Type 0 where
+  sends : (time : ℕ) → sendings time (output rules 0 events i) ≡ sendings time (send_notes rules events i a)
+  ends : endings (output rules 0 events i) ≡ endings (end_notes i a.request (end rules events a))
+
+-- Where one request was accepted before, a later event tells so.
+module _ (rules : Rules) (events : List Event) (i : ℕ) (a : Accepted) (only : accepted rules 0 events i ≡ a ∷ []) (other : a.position ≡ i → ⊥) where
+  abbrev end_here : List Note
+  end_here = end_notes i a.request (end rules events a)
+
+  tick_output : (now : ℕ) → slice_get events i ≡ Some (Tick now) → output rules 0 events i ≡ send_notes rules events i a ++ end_here
   tick_output now e =
       ap (λ xs. notes_on rules 0 events i xs (slice_get events i)) only
       ∙ ap (notes_on rules 0 events i (a ∷ [])) e
-      ∙ append-nil (send_notes rules events i a ++ end_notes i a.request (end rules events a))
+      ∙ append-nil (send_notes rules events i a ++ end_here)
 
-  data_output : (peer : Station) (bytes : List ℕ) → slice_get events i ≡ Some (Data peer bytes) →
-      output rules 0 events i ≡ or_dropped (end_notes i a.request (end rules events a))
+  data_output : (peer : Station) (bytes : List ℕ) → slice_get events i ≡ Some (Data peer bytes) → output rules 0 events i ≡ or_dropped end_here
   data_output peer bytes e =
       ap (λ xs. notes_on rules 0 events i xs (slice_get events i)) only
       ∙ ap (notes_on rules 0 events i (a ∷ [])) e
-      ∙ ap or_dropped (append-nil (end_notes i a.request (end rules events a)))
+      ∙ ap or_dropped (append-nil end_here)
 
-  pub news_ends : (event : Event) → IsNews event → slice_get events i ≡ Some event →
-      endings (output rules 0 events i) ≡ endings (end_notes i a.request (end rules events a))
-  news_ends (Ask peer service body) news e = absurd news
-  news_ends (Data peer bytes) news e = ap endings (data_output peer bytes e) ∙ endings_dropped (end_notes i a.request (end rules events a))
-  news_ends (Tick now) news e =
-      ap endings (tick_output now e) ∙ endings-append (send_notes rules events i a) (end_notes i a.request (end rules events a))
-      ∙ ap (λ (xs : List (Option Outcome)). xs ++ endings (end_notes i a.request (end rules events a))) (endings_sent rules events i a)
+  news_told : (event : Event) → IsNews event → slice_get events i ≡ Some event → TellsPlaced rules events a i
+  news_told (Ask peer service body) news e = absurd news
+  news_told (Data peer bytes) news e = record {
+    sends = λ time.
+        ap (sendings time) (data_output peer bytes e) ∙ sendings_dropped time end_here ∙ sendings_ended time i a.request (end rules events a)
+        ∙ sym (ap (sendings time) (quiet_unsent rules events a i other (ap is_tick e)));
+    ends = ap endings (data_output peer bytes e) ∙ endings_dropped end_here;
+  }
+  news_told (Tick now) news e = record {
+    sends = λ time.
+        ap (sendings time) (tick_output now e) ∙ sendings-append time (send_notes rules events i a) end_here
+        ∙ ap (λ (xs : List Sending). sendings time (send_notes rules events i a) ++ xs) (sendings_ended time i a.request (end rules events a))
+        ∙ append-nil (sendings time (send_notes rules events i a));
+    ends =
+        ap endings (tick_output now e) ∙ endings-append (send_notes rules events i a) end_here
+        ∙ ap (λ (xs : List (Option Outcome)). xs ++ endings end_here) (endings_sent rules events i a);
+  }
 
-  news_sends : (at : ℕ) (event : Event) → IsNews event → slice_get events i ≡ Some event → (a.position ≡ i → ⊥) →
-      sendings at (output rules 0 events i) ≡ sendings at (send_notes rules events i a)
-  news_sends at (Ask peer service body) news e other = absurd news
-  news_sends at (Data peer bytes) news e other =
-      ap (sendings at) (data_output peer bytes e) ∙ sendings_dropped at (end_notes i a.request (end rules events a))
-      ∙ sendings_ended at i a.request (end rules events a)
-      ∙ sym (ap (sendings at) (quiet_unsent rules events a i other (ap is_tick e)))
-  news_sends at (Tick now) news e other =
-      ap (sendings at) (tick_output now e) ∙ sendings-append at (send_notes rules events i a) (end_notes i a.request (end rules events a))
-      ∙ ap (λ (xs : List Sending). sendings at (send_notes rules events i a) ++ xs) (sendings_ended at i a.request (end rules events a))
-      ∙ append-nil (sendings at (send_notes rules events i a))
+-- What is sent does not rest on what comes later, if what is told doesn't.
+sent_before : (rules : Rules) (events more : List Event) (a : Accepted) →
+    ((time i : ℕ) → i < length events → sendings time (send_notes rules more i a) ≡ sendings time (send_notes rules events i a)) →
+    (time i : ℕ) (xs : List Event) → i + length xs ≤ length events → sent_from rules more a time i xs ≡ sent_from rules events a time i xs
+sent_before rules events more a same time i [] within = refl
+sent_before rules events more a same time i (x ∷ xs) within =
+    ap (λ (ys : List Sending). ys ++ sent_from rules more a (time_then time x) (suc i) xs) (same (time_then time x) i (omega arith))
+    ∙ ap (λ (ys : List Sending). sendings (time_then time x) (send_notes rules events i a) ++ ys)
+    (sent_before rules events more a same (time_then time x) (suc i) xs (omega arith))
 
-module _ (tool : Tool) (call : Call) (time : ℕ) (rest : List Event) (short : length call.body.items ≤ longest_body) (quiet : NoAsk rest) where
-  abbrev all : List Event
-  all = with_rest tool call time rest
+-- The time once all of these were handed to a client.
+abbrev time_after : ℕ → List Event → ℕ
+time_after time [] = time
+time_after time (x ∷ xs) = time_after (time_then time x) xs
 
-  -- Each event tells the sends that the rule places there, and no others.
-  same_sends_at : (at : ℕ) (i : ℕ) (event : Event) → slice_get all i ≡ Some event →
-      sendings at (output (rules_for call) 0 all i) ≡ sendings at (send_notes (rules_for call) all i (asked tool call))
-  unfolding refusal_of next_number
-  same_sends_at at zero event e = rw (early_unsent (rules_for call) all (asked tool call) 0 (omega arith)) refl
-  same_sends_at at (suc zero) event e =
-      rw (sent_first (rules_for call) all (asked tool call), fitting tool call time short) refl
-  same_sends_at at (suc (suc j)) event e =
-      news_sends (rules_for call) all (suc (suc j)) (asked tool call) (accepted_is tool call time rest short quiet j) at event
-      (news_at rest j event quiet e) e (λ q. omega arith)
+sent-push : (rules : Rules) (events : List Event) (a : Accepted) (time i : ℕ) (xs : List Event) (event : Event) (n : ℕ) → n ≡ i + length xs →
+    sent_from rules events a time i (xs ++ event ∷ [])
+    ≡ sent_from rules events a time i xs ++ sendings (time_then (time_after time xs) event) (send_notes rules events n a)
+sent-push rules events a time i [] event n e =
+    append-nil _ ∙ ap (λ k. sendings (time_then time event) (send_notes rules events k a)) (let q : i ≡ n = omega arith in q)
+sent-push rules events a time i (x ∷ xs) event n e =
+    ap (λ (ys : List Sending). sendings (time_then time x) (send_notes rules events i a) ++ ys)
+    (sent-push rules events a (time_then time x) (suc i) xs event n (omega arith))
+    ∙ sym (append_assoc (sendings (time_then time x) (send_notes rules events i a)) _ _)
 
-  same_sends : (at i : ℕ) → i < length all →
-      sendings at (output (rules_for call) 0 all i) ≡ sendings at (send_notes (rules_for call) all i (asked tool call))
-  same_sends at i within = let here = drop_head all i within in same_sends_at at i here.0 here.1
-
-  -- The client of a call whose request has not ended has one request open.
-  pub alone : end (rules_for call) all (asked tool call) ≡ None → IsAlone (state_at (rules_for call) 0 all (length all))
-  alone unended = (
-    waiting_at (rules_for call) all (length all) (asked tool call),
-    rw (accepted_is tool call time rest short quiet (length rest), unended) refl,
-  )
-
-module _ (tool : Tool) (call : Call) (time : ℕ) (rest : List Event) (short : length call.body.items ≤ longest_body) (quiet : NoAsk rest) (event : Event) (news : IsNews event) (unended : end (rules_for call) (with_rest tool call time rest) (asked tool call) ≡ None) where
-  abbrev before : List Event
-  before = with_rest tool call time rest
-
-  abbrev after : List Event
-  after = with_rest tool call time (rest ++ event ∷ [])
-
-  quiet_after : NoAsk (rest ++ event ∷ [])
-  quiet_after = NoAsk-append rest (event ∷ []) quiet (news_quiet event news)
-
-  -- The client's step makes of the last event what the look-ahead says of it.
-  pub step_is : step (rules_for call) (state_at (rules_for call) 0 before (length before)) event
-      ≡ record { notes = output (rules_for call) 0 after (length before); after = state_at (rules_for call) 0 after (length after) }
-  step_is =
-      last_step (rules_for call) (by_number call.timeout call.retries) few_places before event
-      ∙ both_are _ _ _ _ refl (ap (state_at (rules_for call) 0 after) (let l = length_push before event in let e : suc (length before) ≡ length after = omega arith in e))
-
-  still_here : is_open_at (rules_for call) after (length before) (asked tool call) ≡ true
-  still_here = elim (cases_Bool (is_open_at (rules_for call) after (length before) (asked tool call))) [
-    | inl y ↦ y
-    | inr n ↦
-        let one = alone tool call time rest short quiet unended in
-        let same = state_before (rules_for call) (by_number call.timeout call.retries) few_places before event in
-        let none : (state_at (rules_for call) 0 after (length before)).waiting ≡ [] =
-        rw (accepted_is tool call time (rest ++ event ∷ []) short quiet_after (length rest), n) refl in
-        let bad : one.0 ∷ [] ≡ [] = sym one.1 ∙ sym (ap (λ s. s.waiting) same) ∙ none in
-        cc
-  ]
-
-  -- The request ends at the last event, or not at all.
-  ends_or_not : (e : Option End) → end (rules_for call) after (asked tool call) ≡ e →
-      (e ≡ None) ⊎ ((o : Option Outcome) × (e ≡ Some (record { position = length before; outcome = o })))
-  ends_or_not None e = inl refl
-  ends_or_not (Some x) e =
-      let here : not (nat_lt x.position (length before)) ≡ true = rw e at still_here in
-      let from : length before ≤ x.position = grind (arith, nat_tests) in
-      elim (cases_eq (length before) x.position) [
-        | inl same ↦ inr (x.outcome, λ i. Some (record { position = sym same i; outcome = x.outcome }))
-        | inr other ↦
-            let past : length after ≤ x.position = let l = length_push before event in omega arith in
-            let none = rw e at (past_unended (rules_for call) after (asked tool call) x.position past (omega arith)) in
-            let bad : x.outcome ∷ [] ≡ [] = sym (endings_at x.position (asked tool call).request x.outcome) ∙ ap endings none in
-            cc
-      ]
-
-  -- What the client's step tells of ends.
-  abbrev told : List (Option Outcome)
-  told = endings (step (rules_for call) (state_at (rules_for call) 0 before (length before)) event).notes
-
-  told_is : told ≡ endings (end_notes (length before) (asked tool call).request (end (rules_for call) after (asked tool call)))
-  told_is =
-      ap (λ s. endings s.notes) step_is
-      ∙ news_ends (rules_for call) after (length before) (asked tool call) (accepted_is tool call time (rest ++ event ∷ []) short quiet_after (length rest))
-      event news (slice_get-last before event)
-
-  -- Where it tells of none, the request has not ended.
-  pub goes_on : told ≡ [] → end (rules_for call) after (asked tool call) ≡ None
-  goes_on none = elim (ends_or_not (end (rules_for call) after (asked tool call)) refl) [
-    | inl unended ↦ unended
-    | inr ended ↦
-        let bad : [] ≡ ended.0 ∷ [] =
-        sym none ∙ told_is ∙ ap (λ e. endings (end_notes (length before) (asked tool call).request e)) ended.1
-        ∙ endings_at (length before) (asked tool call).request ended.0 in
-        cc
-  ]
-
-  -- Where it tells of one, the request ends so.
-  pub stops : (o : Option Outcome) → told ≡ o ∷ [] →
-      end (rules_for call) after (asked tool call) ≡ Some (record { position = length before; outcome = o })
-  stops o one = elim (ends_or_not (end (rules_for call) after (asked tool call)) refl) [
-    | inl none ↦
-        let bad : o ∷ [] ≡ [] =
-        sym one ∙ told_is ∙ ap (λ e. endings (end_notes (length before) (asked tool call).request e)) none in
-        cc
-    | inr ended ↦
-        let both : o ∷ [] ≡ ended.0 ∷ [] =
-        sym one ∙ told_is ∙ ap (λ e. endings (end_notes (length before) (asked tool call).request e)) ended.1
-        ∙ endings_at (length before) (asked tool call).request ended.0 in
-        let same : ended.0 ≡ o = cc in
-        ended.1 ∙ ap (λ (o : Option Outcome). Some (record { position = length before; outcome = o })) same
-  ]
-
--- ---- what is sent
-
--- The sends that are told at these moments.
-abbrev told_from : Rules → List Event → ℕ → List Moment → List Sending
-told_from rules events i [] = []
-told_from rules events i (m ∷ later) = sendings m.time (output rules 0 events i) ++ told_from rules events (suc i) later
-
-told-push : (rules : Rules) (events : List Event) (i : ℕ) (all : List Moment) (m : Moment) →
-    told_from rules events i (all ++ m ∷ []) ≡ told_from rules events i all ++ sendings m.time (output rules 0 events (i + length all))
-told-push rules events i [] m =
-    append-nil (sendings m.time (output rules 0 events i))
-    ∙ ap (λ n. sendings m.time (output rules 0 events n)) (let e : i ≡ i + 0 = omega arith in e)
-told-push rules events i (x ∷ all) m =
-    ap (λ (xs : List Sending). sendings x.time (output rules 0 events i) ++ xs) (told-push rules events (suc i) all m)
-    ∙ sym (append_assoc (sendings x.time (output rules 0 events i)) (told_from rules events (suc i) all) _)
-    ∙ ap (λ n. (sendings x.time (output rules 0 events i) ++ told_from rules events (suc i) all) ++ sendings m.time (output rules 0 events n))
-    (let e : suc i + length all ≡ i + suc (length all) = omega arith in e)
-
--- They do not rest on what comes later.
-told-before : (rules : Rules) (events : List Event) (event : Event) (i : ℕ) (all : List Moment) → i + length all ≤ length events →
-    told_from rules (events ++ event ∷ []) i all ≡ told_from rules events i all
-told-before rules events event i [] within = refl
-told-before rules events event i (x ∷ all) within =
-    let l = length_push events event in
-    let same = take-append-le (suc i) events (event ∷ []) (omega arith) in
-    let here = looks_back rules 0 (events ++ event ∷ []) events i (omega arith) (omega arith) same in
-    ap (λ (ns : List Note). sendings x.time ns ++ told_from rules (events ++ event ∷ []) (suc i) all) here
-    ∙ ap (λ (xs : List Sending). sendings x.time (output rules 0 events i) ++ xs) (told-before rules events event (suc i) all (omega arith))
-
-module _ (tool : Tool) (call : Call) (time : ℕ) (rest : List Event) (short : length call.body.items ≤ longest_body) (quiet : NoAsk rest) where
-  sent_told : (i : ℕ) (moments : List Moment) → i + length moments ≤ length (with_rest tool call time rest) →
-      sent_from (rules_for call) (with_rest tool call time rest) (asked tool call) i moments ≡ told_from (rules_for call) (with_rest tool call time rest) i moments
-  sent_told i [] within = refl
-  sent_told i (x ∷ moments) within =
-      ap (λ (xs : List Sending). xs ++ sent_from (rules_for call) (with_rest tool call time rest) (asked tool call) (suc i) moments)
-      (sym (same_sends tool call time rest short quiet x.time i (omega arith)))
-      ∙ ap (λ (xs : List Sending). sendings x.time (output (rules_for call) 0 (with_rest tool call time rest) i) ++ xs) (sent_told (suc i) moments (omega arith))
-
--- ---- a call, moment by moment
+-- ---- a call, event by event
 
 abbrev Client_of : Call → State → Client
 Client_of call state = record { timeout = call.timeout; retries = call.retries; state = state }
 
-sent_in_told : (tool : Tool) (call : Call) (time : ℕ) (later : List Moment) → length call.body.items ≤ longest_body → NoAsk (events_of later) →
-    sent_in tool call (begun_at tool call time later) ≡ told_from (rules_for call) (with_rest tool call time (events_of later)) 0 (begun_at tool call time later)
-sent_in_told tool call time later short quiet =
-    let l = length-map later (λ m. m.event) in
-    sends_in_order (rules_for call) (with_rest tool call time (events_of later)) (asked tool call) (begun_at tool call time later) (omega arith) (omega arith)
-    ∙ sent_told tool call time (events_of later) short quiet 0 (begun_at tool call time later) (omega arith)
+module _ (tool : Tool) (call : Call) (time : ℕ) (later : List Event) (short : length call.body.items ≤ longest_body) (quiet : All IsNews later) where
+  abbrev all : List Event
+  all = begun_at tool call time later
 
-pub NoAsk-push : (moments : List Moment) (m : Moment) → NoAsk (events_of moments) → IsNews m.event → NoAsk (events_of (moments ++ m ∷ []))
-NoAsk-push moments m quiet news = rw (map-append (λ (m : Moment). m.event) moments (m ∷ [])) (NoAsk-append (events_of moments) (m.event ∷ []) quiet (news_quiet m.event news))
+  pub is_accepted : IsAccepted tool call all
+  is_accepted = accepted_is tool call time later short quiet (length later)
 
-module _ (tool : Tool) (call : Call) (time : ℕ) (later : List Moment) (client : Client) (far : Carries tool call time later client) (m : Moment) (news : IsNews m.event) where
-  abbrev handed : Stepped
-  handed = step (rules_for call) client.state m.event
-
-  abbrev next : List Moment
-  next = later ++ m ∷ []
-
-  abbrev rest : List Event
-  rest = events_of later
-
-  state_is : client.state ≡ state_at (rules_for call) 0 (with_rest tool call time rest) (length (with_rest tool call time rest))
-  state_is =
-      ap (λ c. c.state) far.client_is
-      ∙ ap (λ n. state_at (rules_for call) 0 (with_rest tool call time rest) (suc (suc n))) (sym (length-map later (λ m. m.event)))
-
-  same_events : with_rest tool call time (rest ++ m.event ∷ []) ≡ with_rest tool call time (events_of next)
-  same_events = ap (with_rest tool call time) (sym (map-append (λ m. m.event) later (m ∷ [])))
-
-  quiet_next : NoAsk (events_of next)
-  quiet_next = NoAsk-push later m far.quiet news
-
-  handed_is : handed ≡ record {
-    notes = output (rules_for call) 0 (with_rest tool call time (events_of next)) (length (begun_at tool call time later));
-    after = state_at (rules_for call) 0 (with_rest tool call time (events_of next)) (length (begun_at tool call time next));
+  told_at : (i : ℕ) (event : Event) → slice_get all i ≡ Some event → TellsPlaced (rules_for call) all (asked tool call) i
+  unfolding refusal_of next_number
+  told_at zero event e = record {
+    sends = λ at. rw (early_unsent (rules_for call) all (asked tool call) 0 (omega arith)) refl;
+    ends = rw (early_unended (rules_for call) all (asked tool call) 0 (omega arith)) refl;
   }
-  handed_is =
-      let q : length (with_rest tool call time rest) ≡ length (begun_at tool call time later) = ap (λ n. suc (suc n)) (length-map later (λ m. m.event)) in
-      let r : length (with_rest tool call time (rest ++ m.event ∷ [])) ≡ length (begun_at tool call time next) =
-      ap (λ (xs : List Event). suc (suc (length xs))) (sym (map-append (λ m. m.event) later (m ∷ []))) ∙ ap (λ n. suc (suc n)) (length-map next (λ m. m.event)) in
-      ap (λ s. step (rules_for call) s m.event) state_is
-      ∙ step_is tool call time rest far.short far.quiet m.event news far.still_open.unended
-      ∙ both_are _ _ _ _ (λ i. output (rules_for call) 0 (same_events i) (q i)) (λ i. state_at (rules_for call) 0 (same_events i) (r i))
+  told_at (suc zero) event e = record {
+    sends = λ at. rw (sent_first (rules_for call) all (asked tool call), fitting tool call time short) refl;
+    ends = rw (early_unended (rules_for call) all (asked tool call) 1 (omega arith), fitting tool call time short) refl;
+  }
+  told_at (suc (suc j)) event e =
+      news_told (rules_for call) all (suc (suc j)) (asked tool call) (accepted_is tool call time later short quiet j) (λ q. omega arith) event
+      (news_at later j event quiet e) e
 
-  -- What the client's step sends is what is sent at the moment.
-  pub sends_next : sent_in tool call (begun_at tool call time next) ≡ sent_in tool call (begun_at tool call time later) ++ sendings m.time handed.notes
+  told : (i : ℕ) → i < length all → TellsPlaced (rules_for call) all (asked tool call) i
+  told i within = let here = drop_head all i within in told_at i here.0 here.1
+
+  -- The request ends among the events.
+  end_within : (x : End) → end_in tool call all ≡ Some x → x.position < length all
+  end_within x e = elim (cases_lt x.position (length all)) [
+    | inl within ↦ within
+    | inr past ↦
+        let none = past_unended (rules_for call) all (asked tool call) x.position past (omega arith) in
+        absurd (not_silent (asked tool call).request (end_in tool call all) x e (ap endings none))
+  ]
+
+-- One more event.
+module _ (tool : Tool) (call : Call) (time : ℕ) (later : List Event) (short : length call.body.items ≤ longest_body) (quiet : All IsNews later) (event : Event) (news : IsNews event) where
+  abbrev before : List Event
+  before = begun_at tool call time later
+
+  abbrev after : List Event
+  after = begun_at tool call time (later ++ event ∷ [])
+
+  quiet_after : All IsNews (later ++ event ∷ [])
+  quiet_after = All-append IsNews later (event ∷ []) quiet (one_news event news)
+
+  longer : length after ≡ suc (length before)
+  longer = let l = length_push before event in omega arith
+
+  same_output : (i : ℕ) → i < length before → output (rules_for call) 0 after i ≡ output (rules_for call) 0 before i
+  same_output i within =
+      looks_back (rules_for call) 0 after before i (omega (arith, longer)) within (take-append-le (suc i) before (event ∷ []) (omega arith))
+
+  same_sends : (at i : ℕ) → i < length before →
+      sendings at (send_notes (rules_for call) after i (asked tool call)) ≡ sendings at (send_notes (rules_for call) before i (asked tool call))
+  same_sends at i within =
+      sym ((told tool call time (later ++ event ∷ []) short quiet_after i (omega (arith, longer))).sends at)
+      ∙ ap (sendings at) (same_output i within) ∙ (told tool call time later short quiet i within).sends at
+
+  same_ends : (i : ℕ) → i < length before →
+      endings (end_notes i (asked tool call).request (end_in tool call after)) ≡ endings (end_notes i (asked tool call).request (end_in tool call before))
+  same_ends i within =
+      sym (told tool call time (later ++ event ∷ []) short quiet_after i (omega (arith, longer))).ends
+      ∙ ap endings (same_output i within) ∙ (told tool call time later short quiet i within).ends
+
+  -- What is sent at the event comes behind what was sent.
+  sends_more : sent_in tool call after
+      ≡ sent_in tool call before ++ sendings (time_then (time_after 0 before) event) (send_notes (rules_for call) after (length before) (asked tool call))
+  sends_more =
+      sent-push (rules_for call) after (asked tool call) 0 0 before event (length before) (omega arith)
+      ∙ ap (λ (xs : List Sending). xs ++ sendings (time_then (time_after 0 before) event) (send_notes (rules_for call) after (length before) (asked tool call)))
+      (sent_before (rules_for call) before after (asked tool call) same_sends 0 0 before (omega arith))
+
+  -- The client's step makes of the event what the look-ahead says of it.
+  step_is : step (rules_for call) (state_at (rules_for call) 0 before (length before)) event
+      ≡ record { notes = output (rules_for call) 0 after (length before); after = state_at (rules_for call) 0 after (length after) }
+  step_is =
+      last_step (rules_for call) (by_number call.timeout call.retries) few_places before event
+      ∙ both_are _ _ _ _ refl (ap (state_at (rules_for call) 0 after) (sym longer))
+
+  told_last : TellsPlaced (rules_for call) after (asked tool call) (length before)
+  told_last = told tool call time (later ++ event ∷ []) short quiet_after (length before) (omega (arith, longer))
+
+  -- A request that has ended is sent no more.
+  pub sends_no_more : (x : End) → end_in tool call before ≡ Some x → sent_in tool call after ≡ sent_in tool call before
+  sends_no_more x e =
+      let within = end_within tool call time later short quiet x e in
+      let over : nat_lt x.position (suc (suc (length later))) ≡ true = grind (arith, nat_tests) in
+      let closed : (state_at (rules_for call) 0 before (length before)).waiting ≡ [] = rw (accepted_is tool call time later short quiet (length later), e, over) refl in
+      let silent = go event news (time_then (time_after 0 before) event) (state_at (rules_for call) 0 before (length before)) closed in
+      sends_more
+      ∙ ap (λ (xs : List Sending). sent_in tool call before ++ xs) (sym (told_last.sends _) ∙ ap (λ s. sendings (time_then (time_after 0 before) event) s.notes) (sym step_is) ∙ silent)
+      ∙ append-nil (sent_in tool call before)
+    where
+      go : (event : Event) → IsNews event → (at : ℕ) (state : State) → state.waiting ≡ [] → sendings at (step (rules_for call) state event).notes ≡ []
+      go (Ask peer service body) news at state none = absurd news
+      go (Data peer bytes) news at state none = rw none refl
+      go (Tick now) news at state none = rw none refl
+
+  -- An end stands.
+  pub stands : (x : End) → end_in tool call before ≡ Some x → end_in tool call after ≡ Some x
+  stands x e =
+      ended_there x.position (asked tool call).request (end_in tool call after) x.outcome
+      (same_ends x.position (end_within tool call time later short quiet x e) ∙ told_there (asked tool call).request (end_in tool call before) x e)
+
+  -- An end that comes with the event is placed there.
+  end_is_last : end_in tool call before ≡ None → (x : End) → end_in tool call after ≡ Some x → x.position ≡ length before
+  end_is_last unended x e = elim (cases_eq x.position (length before)) [
+    | inl same ↦ same
+    | inr other ↦
+        let within = end_within tool call time (later ++ event ∷ []) short quiet_after x e in
+        let none = same_ends x.position (omega (arith, longer)) ∙ ap (λ e. endings (end_notes x.position (asked tool call).request e)) unended in
+        absurd (not_silent (asked tool call).request (end_in tool call after) x e none)
+  ]
+
+module _ (tool : Tool) (call : Call) (time : ℕ) (later : List Event) (client : Client) (far : Carries tool call time later client) (event : Event) (news : IsNews event) where
+  abbrev handed : Stepped
+  handed = step (rules_for call) client.state event
+
+  abbrev begun : List Event
+  begun = begun_at tool call time later
+
+  abbrev next : List Event
+  next = begun_at tool call time (later ++ event ∷ [])
+
+  quiet_next : All IsNews (later ++ event ∷ [])
+  quiet_next = quiet_after tool call time later far.short far.quiet event news
+
+  handed_is : handed ≡ record { notes = output (rules_for call) 0 next (length begun); after = state_at (rules_for call) 0 next (length next) }
+  handed_is = ap (λ c. step (rules_for call) c.state event) far.client_is ∙ step_is tool call time later far.short far.quiet event news
+
+  told_next : TellsPlaced (rules_for call) next (asked tool call) (length begun)
+  told_next = told_last tool call time later far.short far.quiet event news
+
+  -- What it sends is what is sent at the event.
+  pub sends_next : sent_in tool call next ≡ sent_in tool call begun ++ sendings (time_then (time_after 0 begun) event) handed.notes
   sends_next =
-      let all = begun_at tool call time later in
-      let l = length-map later (λ m. m.event) in
-      let k = length-map next (λ m. m.event) in
-      let z : 0 + length all ≡ length all = omega arith in
-      sent_in_told tool call time next far.short quiet_next
-      ∙ told-push (rules_for call) (with_rest tool call time (events_of next)) 0 all m
-      ∙ ap (λ (events : List Event). told_from (rules_for call) events 0 all ++ sendings m.time (output (rules_for call) 0 (with_rest tool call time (events_of next)) (0 + length all))) (sym same_events)
-      ∙ ap (λ (xs : List Sending). xs ++ sendings m.time (output (rules_for call) 0 (with_rest tool call time (events_of next)) (0 + length all)))
-      (told-before (rules_for call) (with_rest tool call time rest) m.event 0 all (omega arith) ∙ sym (sent_in_told tool call time later far.short far.quiet))
-      ∙ ap (λ n. sent_in tool call all ++ sendings m.time (output (rules_for call) 0 (with_rest tool call time (events_of next)) n)) z
-      ∙ ap (λ (ns : List Note). sent_in tool call all ++ sendings m.time ns) (sym (ap (λ s. s.notes) handed_is))
+      sends_more tool call time later far.short far.quiet event news
+      ∙ ap (λ (xs : List Sending). sent_in tool call begun ++ xs)
+      (sym (ap (λ s. sendings (time_then (time_after 0 begun) event) s.notes) handed_is ∙ told_next.sends _))
 
-  request_is : accepted (rules_for call) 0 (events_of (begun_at tool call time next)) (length (begun_at tool call time next)) ≡ asked tool call ∷ []
-  request_is = accepted_is tool call time (events_of next) far.short quiet_next (length next)
+  ends_told : endings handed.notes ≡ endings (end_notes (length begun) (asked tool call).request (end_in tool call next))
+  ends_told = ap (λ s. endings s.notes) handed_is ∙ told_next.ends
 
   -- Without an end the call goes on.
-  pub carries_on : endings handed.notes ≡ [] → (left : Client) → left ≡ keeping client handed.after → Carries tool call time next left
+  pub carries_on : endings handed.notes ≡ [] → (left : Client) → left ≡ keeping client handed.after → Carries tool call time (later ++ event ∷ []) left
   carries_on none left e = record {
     short = far.short;
     quiet = quiet_next;
-    still_open = record {
-      request = request_is;
-      unended =
-          subst (λ (events : List Event). end (rules_for call) events (asked tool call) ≡ None) same_events
-          (goes_on tool call time rest far.short far.quiet m.event news far.still_open.unended
-          (ap (λ s. endings (step (rules_for call) s m.event).notes) (sym state_is) ∙ none));
-    };
+    unended = go (end_in tool call next) refl;
     client_is =
         e ∙ ap (λ (c : Client). keeping c handed.after) far.client_is
         ∙ ap (λ (s : Stepped). Client_of call s.after) handed_is;
   }
+    where
+      go : (x : Option End) → end_in tool call next ≡ x → x ≡ None
+      go None e = refl
+      go (Some x) e =
+          let there = end_is_last tool call time later far.short far.quiet event news far.unended x e in
+          let silent = ap (λ (i : ℕ). endings (end_notes i (asked tool call).request (end_in tool call next))) there ∙ sym ends_told ∙ none in
+          absurd (not_silent (asked tool call).request (end_in tool call next) x e silent)
 
   -- An end is the request's.
-  pub ends_next : (o : Option Outcome) → endings handed.notes ≡ o ∷ [] → EndsAfter tool call (begun_at tool call time next) o
-  ends_next o one = record {
-    request = request_is;
-    position = length (with_rest tool call time rest);
-    last = let l = length-map later (λ m. m.event) in let k = length_push later m in omega arith;
-    ended =
-        subst (λ (events : List Event). end (rules_for call) events (asked tool call) ≡ Some (record { position = length (with_rest tool call time rest); outcome = o })) same_events
-        (stops tool call time rest far.short far.quiet m.event news far.still_open.unended o
-        (ap (λ s. endings (step (rules_for call) s m.event).notes) (sym state_is) ∙ one));
-  }
+  pub ends_next : (o : Option Outcome) → endings handed.notes ≡ o ∷ [] → end_in tool call next ≡ Some (record { position = length begun; outcome = o })
+  ends_next o one = ended_there (length begun) (asked tool call).request (end_in tool call next) o (sym ends_told ∙ one)
 
 -- One request is open in a call.
-pub carried_alone : (tool : Tool) (call : Call) (time : ℕ) (later : List Moment) (client : Client) → Carries tool call time later client → IsAlone client.state
-carried_alone tool call time later client far =
-    let one = alone tool call time (events_of later) far.short far.quiet far.still_open.unended in
-    let e = ap (λ c. c.state) far.client_is ∙ ap (λ n. state_at (rules_for call) 0 (with_rest tool call time (events_of later)) (suc (suc n))) (sym (length-map later (λ m. m.event))) in
-    (one.0, ap (λ s. s.waiting) e ∙ one.1)
+pub carried_alone : (tool : Tool) (call : Call) (time : ℕ) (later : List Event) (client : Client) → Carries tool call time later client → IsAlone client.state
+carried_alone tool call time later client far = (
+  waiting_at (rules_for call) (begun_at tool call time later) (length (begun_at tool call time later)) (asked tool call),
+  ap (λ c. c.state.waiting) far.client_is ∙ rw (accepted_is tool call time later far.short far.quiet (length later), far.unended) refl,
+)
 
 -- ---- the beginning
 
 module _ (tool : Tool) (call : Call) (time : ℕ) (short : length call.body.items ≤ longest_body) where
   abbrev first : List Event
-  first = with_rest tool call time []
+  first = begun_at tool call time []
 
   abbrev pub submitted : Answered (Result ℕ SubmitFault)
   submitted = submit (rules_for call) (tick (rules_for call) (initial 0) time).after (station call.to) (service_of tool) call.body.items
@@ -456,37 +395,24 @@ module _ (tool : Tool) (call : Call) (time : ℕ) (short : length call.body.item
   unfolding refusal_of
   submitted_is = rw (fitting tool call time short) refl
 
-  unended_at : (n : ℕ) → end_notes n (asked tool call).request (end (rules_for call) first (asked tool call)) ≡ []
-  unended_at n = elim (cases_lt n 2) [
-    | inl early ↦ early_unended (rules_for call) first (asked tool call) n (omega arith)
-    | inr late ↦ past_unended (rules_for call) first (asked tool call) n late (omega arith)
-  ]
-
-  unended : (e : Option End) → end (rules_for call) first (asked tool call) ≡ e → e ≡ None
+  unended : (x : Option End) → end_in tool call first ≡ x → x ≡ None
   unended None e = refl
   unended (Some x) e =
-      let bad : x.outcome ∷ [] ≡ [] =
-      sym (endings_at x.position (asked tool call).request x.outcome) ∙ ap endings (rw e at (unended_at x.position)) in
-      cc
-
-  pub begins_open : IsOpenIn tool call (begun_at tool call time [])
-  begins_open = record {
-    request = accepted_is tool call time [] short tt 0;
-    unended = unended (end (rules_for call) first (asked tool call)) refl;
-  }
+      let within = end_within tool call time [] short (All-nil IsNews) x e in
+      let none = early_unended (rules_for call) first (asked tool call) x.position (omega arith) in
+      absurd (not_silent (asked tool call).request (end_in tool call first) x e (ap endings none))
 
   pub begins : Carries tool call time [] (Client_of call submitted.after)
   begins = record {
     short = short;
-    quiet = tt;
-    still_open = begins_open;
+    quiet = All-nil IsNews;
+    unended = unended (end_in tool call first) refl;
     client_is =
         ap (λ (r : Run). Client_of call r.after)
         (run_whole (rules_for call) 0 first (by_number call.timeout call.retries) few_places);
   }
 
-  pub begins_sent : sent_in tool call (begun_at tool call time []) ≡ sendings time (sent submitted.after 0)
+  pub begins_sent : sent_in tool call first ≡ sendings time (sent submitted.after 0)
   unfolding refusal_of next_number
   begins_sent =
-      sends_in_order (rules_for call) first (asked tool call) (begun_at tool call time []) (omega arith) (omega arith)
-      ∙ rw (early_unsent (rules_for call) first (asked tool call) 0 (omega arith), sent_first (rules_for call) first (asked tool call), fitting tool call time short) refl
+      rw (early_unsent (rules_for call) first (asked tool call) 0 (omega arith), sent_first (rules_for call) first (asked tool call), fitting tool call time short) refl

@@ -1,12 +1,10 @@
-mod Faults
 mod Requests
 mod Sendings
-mod SendsInOrder
+mod Courses
 mod CallEvents
 mod CallEnds
 mod CallTurns
 mod Room
 mod Searches
 mod Servings
-mod OneWay
 mod Progress

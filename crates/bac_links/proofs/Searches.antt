@@ -1,7 +1,8 @@
 -- A search, turn by turn.
-use Rattle.std.proofs.Common.{◌≡◌, ◌≢◌, ℕ, suc, ◌-◌, ◌<◌, ◌≤◌, max, List, [], ◌∷◌, ◌++◌, Option, Some, None, Ok, Err, Bool, true, false, ◌||◌, refl, sym, ◌∙◌, arith, subst, add-one, below_more}
+use Rattle.std.proofs.Common.{◌≡◌, ◌≢◌, ℕ, suc, ◌-◌, ◌<◌, ◌≤◌, max, List, [], ◌∷◌, ◌++◌, Option, Some, None, Ok, Err, Bool, true, false, ◌||◌, nat_le, refl, sym, ◌∙◌, arith, subst}
 use Rattle.std.specs.Option.{ForSome}
 use Rattle.std.proofs.lemmas.List.{append-nil}
+use Rattle.std.proofs.lemmas.Bool.Decides.{nat_tests}
 use Rattle.std.proofs.lemmas.List.Concat.{flat_map-append}
 use Rattle.std.specs.Io.KnownBytes.{Appends}
 use Rattle.bac_pdu.specs.declared.discovery.WhoIs.{WhoIs}
@@ -9,9 +10,10 @@ use Rattle.bac_pdu.specs.Peer.{Station}
 use Rattle.bac_text.proofs.Known.{Appends-none, Appends-more}
 use Rattle.bac_links.specs.Limits.{most_turns}
 use Rattle.bac_links.specs.Told.{Told, Heard, Arrival, Failure, after_wait, waited, having_sent}
-use Rattle.bac_links.specs.Search.{Found, found_of, found_by, found_line, found_lines, found_after, passed, who_is_sending, search_exit, search_wait, search_hears, SearchEnds, Searched}
-use Rattle.bac_links.specs.SearchSteps.{has_found, Listens, SearchesSo, SearchGoes}
-use Rattle.bac_links.specs.declared.ending.Exit.TheVariants.{Good, Bad}
+use Rattle.bac_links.specs.Search.{Found, has_found, found_of, found_by, found_line, found_lines, found_after, passed, who_is_sending, search_wait, search_hears, is_late, SearchEnds, Searched}
+use Rattle.bac_links.specs.Courses.{first_below, stops_at}
+use Rattle.bac_links.proofs.Courses.{none_yet, one_more, ends_now, fails_now}
+use Rattle.bac_links.specs.SearchSteps.{Listens, SearchesSo, SearchGoes}
 use Rattle.bac_text.specs.declared.jobs.Search.{Search}
 use Rattle.bac_links.specs.declared.fault.ToolFault.{ToolFault}
 use Rattle.bac_links.specs.declared.fault.ToolFault.TheVariants.{SendFailed, ReceiveFailed, TurnsSpent, WriteFailed}
@@ -32,15 +34,13 @@ has_found-append : (xs ys : List Found) → has_found (xs ++ ys) ≡ (has_found 
 has_found-append [] ys = refl
 has_found-append (x ∷ xs) ys = refl
 
-pub good_exit : (found : List Found) → true ≡ has_found found → Good ≡ search_exit found
-good_exit [] e = cc
-good_exit (x ∷ found) e = refl
-
-pub bad_exit : (found : List Found) → false ≡ has_found found → Bad ≡ search_exit found
-bad_exit [] e = refl
-bad_exit (x ∷ found) e = cc
-
 -- ---- a turn, over what the link told
+
+in_time_is : (timeout passed : ℕ) → passed < timeout → nat_le timeout passed ≡ false
+in_time_is timeout passed less = grind (arith, nat_tests)
+
+late_is : (timeout passed : ℕ) → timeout ≤ passed → nat_le timeout passed ≡ true
+late_is timeout passed late = grind (arith, nat_tests)
 
 module _ (search : Search) (t : Told) (link : Option Told) (first greatest : ℕ) (found : List Found) (n : ℕ) (far : SearchesSo search t link first greatest found n) where
   abbrev here : Told
@@ -49,9 +49,6 @@ module _ (search : Search) (t : Told) (link : Option Told) (first greatest : ℕ
   abbrev heard : Heard
   heard = search_hears search t n
 
-  all_received : heard ≢ Failure → (k : ℕ) → k < suc n → search_hears search t k ≢ Failure
-  all_received received k h = below_more (λ i. search_hears search t i ≢ Failure) n far.before.received received k (rw add-one h)
-
   module _ (left : Option Told) (more : List Found) (now : ℕ) (received : heard ≢ Failure) (finds : more ≡ found_by search.who heard) (left_is : left ≡ Some (after_wait (search_wait search) here)) (now_is : now ≡ (after_wait (search_wait search) here).time []) where
     found_next : found ++ more ≡ found_after search t (suc n)
     found_next = rw (far.finds, finds) refl
@@ -59,24 +56,21 @@ module _ (search : Search) (t : Told) (link : Option Told) (first greatest : ℕ
     passed_next : max greatest now - first ≡ passed search t (suc n)
     passed_next = rw (far.time, far.began, now_is) refl
 
+    turns_next : first_below (stops_at (search_hears search t) (is_late search t)) (suc n) ≡ None
+    turns_next = one_more (search_hears search t) (is_late search t) n far.before received
+
     pub so_on : max greatest now - first < search.timeout → SearchesSo search t left first (max greatest now) (found ++ more) (suc n)
     so_on in_time = record {
       began = far.began;
       time = rw (far.time, now_is) refl;
-      before = record {
-        received = all_received received;
-        in_time = λ k h. below_more (λ i. passed search t i < search.timeout) (suc n) far.before.in_time (rw (← passed_next) in_time) k (rw add-one h);
-      };
+      before = record { passed = turns_next; unended = in_time_is search.timeout (passed search t (suc n)) (rw (← passed_next) in_time) };
       finds = found_next;
       link_left = left_is;
     }
 
-    pub so_ended : n < most_turns → search.timeout ≤ max greatest now - first → SearchEnds search t left (found ++ more) n
+    pub so_ended : n < most_turns → search.timeout ≤ max greatest now - first → SearchEnds search t left (found ++ more) (suc n)
     so_ended within over = record {
-      within = within;
-      before = far.before;
-      received = received;
-      over = rw (← passed_next) over;
+      stops = ends_now (search_hears search t) (is_late search t) (suc n) turns_next (late_is search.timeout (passed search t (suc n)) (rw (← passed_next) over)) (omega arith);
       finds = found_next;
       link_left = left_is;
     }
@@ -114,7 +108,7 @@ module _ (search : Search) (before middle after : Option (List ℕ)) (told mid l
       λ t e.
           let far = goes.so_far t e in
           let heard = listens.3 _ far.link_left in
-          (n, so_ended search t mid first greatest goes.found n far last listens.0 now heard.0 heard.1 (same ∙ heard.2) (now_is _ heard.2) within over),
+          (suc n, so_ended search t mid first greatest goes.found n far last listens.0 now heard.0 heard.1 (same ∙ heard.2) (now_is _ heard.2) within over),
     )
 
   -- A wait that fails.
@@ -127,7 +121,7 @@ module _ (search : Search) (before middle after : Option (List ℕ)) (told mid l
     λ t e.
         let far = goes.so_far t e in
         let heard = listens.1 _ far.link_left in
-        (n, record { within = within; before = far.before; failed = heard.0; finds = far.finds; link_left = heard.1 }),
+        (n, record { stops = fails_now (search_hears search t) (is_late search t) n far.before heard.0 within; finds = far.finds; link_left = heard.1 }),
   )
   failed TurnsSpent within listens = absurd listens
   failed WriteFailed within listens = (
@@ -161,16 +155,13 @@ begun search before told link first positive sent = record {
         began = s.0;
         time = s.0;
         before = record {
-          received = λ k h. absurd (omega arith);
-          in_time = λ k h. at_first t k (omega arith);
+          passed = none_yet (stops_at (search_hears search t) (is_late search t));
+          unended = in_time_is search.timeout (passed search t 0) (omega arith);
         };
         finds = refl;
         link_left = s.1;
       };
 }
-  where
-    at_first : (t : Told) (k : ℕ) → k ≡ 0 → passed search t k < search.timeout
-    at_first t k e = rw e (omega arith)
 
 pub spent : (search : Search) (before after : Option (List ℕ)) (told link : Option Told) (first greatest : ℕ) (any : Bool) (n : ℕ) → n ≡ most_turns →
     SearchGoes search before after told link first greatest any n → Searched search before after told link (Err TurnsSpent)

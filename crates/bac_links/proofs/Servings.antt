@@ -1,8 +1,9 @@
 -- A device that serves, wait by wait.
-use Rattle.std.proofs.Common.{◌≡◌, ◌≢◌, ℕ, suc, ◌+◌, ◌<◌, List, [], ◌∷◌, ◌++◌, flat_map, length, length-append, Option, Some, None, Result, Ok, Err, refl, sym, ap, ◌∙◌, arith, append_assoc, subst, add-one, below_more}
-use Rattle.std.specs.Option.{ForSome, option_to_list}
+use Rattle.std.proofs.Common.{◌≡◌, ◌≢◌, ℕ, suc, ◌+◌, ◌<◌, ◌≤◌, List, [], ◌∷◌, ◌++◌, flat_map, length, length-append, Option, Some, Ok, Err, refl, sym, ap, ◌∙◌, arith, append_assoc, subst, true, false, nat_le}
+use Rattle.std.specs.Option.{option_to_list}
 use Rattle.std.proofs.lemmas.List.{append-nil, length-map, map-append}
 use Rattle.std.proofs.lemmas.List.Concat.{flat_map-append}
+use Rattle.std.proofs.lemmas.Bool.Decides.{nat_tests}
 use Rattle.bac_pdu.specs.Peer.{Station}
 use Rattle.bac_device.specs.Device.{DeviceState, device_after, points_of}
 use Rattle.bac_device.specs.Info.{Info}
@@ -14,8 +15,10 @@ use Rattle.bac_device.proofs.SizeLaws.{introduction_fits, request_fits}
 use Rattle.bac_device.proofs.TurnLaws.{in_turn}
 use Rattle.bac_links.specs.Limits.{most_turns, serve_wait}
 use Rattle.bac_links.specs.Told.{Told, Heard, Silence, Arrival, Failure, Sending, after_wait, waited, having_sent}
-use Rattle.bac_links.specs.Serve.{Delivery, arrivals_of, delivery_at, brought, deliveries, reply_sendings, sent_for, reply_count, AnswersAll, RepliesFit, ReplyFits, Waits, ServesSo, ServeUnsent, ServeDeaf, Serves}
-use Rattle.bac_links.specs.ServeSteps.{came_in, replied_in, Responds, ServesOne, ServeGoes}
+use Rattle.bac_links.specs.Serve.{Delivery, arrivals_of, delivery_at, brought, deliveries, reply_sendings, sent_for, reply_count, AnswersAll, RepliesFit, ReplyFits, serve_hears, all_came, ServeDone, ServeUnsent, ServeDeaf, Serves}
+use Rattle.bac_links.specs.Courses.{stops_at, GoesOn}
+use Rattle.bac_links.proofs.Courses.{none_yet, one_more, ends_now, fails_now}
+use Rattle.bac_links.specs.ServeSteps.{came_in, replied_in, ServesOne, ServesOver, ServeGoes}
 use Rattle.bac_links.proofs.Sendings.{having_nothing, having_sent-both}
 use Rattle.bac_links.specs.declared.serving.Brought.{Brought}
 use Rattle.bac_links.specs.declared.fault.ToolFault.{ToolFault}
@@ -30,9 +33,6 @@ one_came t from octets e = rw e ((λ q. cc), refl, λ reply. sym (append-nil (re
 
 pub none_came : (t : Told) → t.heard [] serve_wait ≡ Silence → (t.heard [] serve_wait ≢ Failure) × ([] ≡ arrivals_of (brought t)) × ([] ≡ sent_for (brought t) [])
 none_came t e = rw e ((λ q. cc), refl, refl)
-
-count_one : (reply : Option (Station × List ℕ)) → length (option_to_list reply) ≡ reply_count (reply ∷ [])
-count_one reply = ap length (sym (append-nil (option_to_list reply)))
 
 pub left_as_it_is : (left : Option Told) (t : Told) (none : List Sending) → [] ≡ none → left ≡ Some t → left ≡ Some (having_sent none t)
 left_as_it_is left t none e same = same ∙ ap Some (having_nothing t) ∙ ap (λ (xs : List Sending). Some (having_sent xs t)) e
@@ -61,14 +61,10 @@ reply_fits info points writes x to reply e = record {
 
 replies_fit : (info : Info) (points : List Description) (writes : List Write) (xs : List Came) → RepliesFit xs (replies_to info points writes xs)
 replies_fit info points writes [] = refl
-replies_fit info points writes (x ∷ xs) =
-    go (reply_to info points writes x.from x.datagram) refl (replies_fit info points (writes_after info points writes x.from x.datagram) xs)
-  where
-    go : (reply : Option (Station × List ℕ)) → reply_to info points writes x.from x.datagram ≡ reply
-        → RepliesFit xs (replies_to info points (writes_after info points writes x.from x.datagram) xs)
-        → RepliesFit (x ∷ xs) (reply ∷ replies_to info points (writes_after info points writes x.from x.datagram) xs)
-    go None e rest = rest
-    go (Some reply) e rest = (reply_fits info points writes x reply.0 reply.1 e, rest)
+replies_fit info points writes (x ∷ xs) = (
+  λ r e. reply_fits info points writes x r.0 r.1 e,
+  replies_fit info points (writes_after info points writes x.from x.datagram) xs,
+)
 
 pub defined : (before after : DeviceState) (xs : List Came) (rs : List (Option (Station × List ℕ))) → AnswersInTurn before xs rs after → AnswersAll before xs rs after
 defined before after xs rs turns = λ writes holds.
@@ -90,47 +86,54 @@ count-append rs ss =
 
 -- ---- a wait, over what the link told
 
-module _ (t : Told) (link : Option Told) (arrivals more : List Came) (replies answers : List (Option (Station × List ℕ))) (count n : ℕ) (far : ServesSo t link arrivals replies count n) (same : length arrivals ≡ length replies) (fewer : length arrivals < count) where
+all_is : (count n : ℕ) → count ≤ n → nat_le count n ≡ true
+all_is count n le = grind (arith, nat_tests)
+
+fewer_is : (count n : ℕ) → n < count → nat_le count n ≡ false
+fewer_is count n less = grind (arith, nat_tests)
+
+module _ (t : Told) (link : Option Told) (arrivals more : List Came) (replies answers : List (Option (Station × List ℕ))) (count n : ℕ) (far : ServesOver t link arrivals replies count n) (same : length arrivals ≡ length replies) where
   abbrev here : Told
   here = having_sent (sent_for (deliveries t n) replies) (waited serve_wait n t)
 
-  fewer_here : length (deliveries t n) < count
-  fewer_here = rw (← length-map (deliveries t n) (λ d. d.arrival), ← far.came) fewer
+  came_is : length (deliveries t n) ≡ length arrivals
+  came_is = sym (ap length far.so.came ∙ length-map (deliveries t n) (λ d. d.arrival))
 
-  fewer_all : (k : ℕ) → k < suc n → length (deliveries t k) < count
-  fewer_all k h = below_more (λ i. length (deliveries t i) < count) n far.waits.fewer fewer_here k (rw add-one h)
+  -- The server is done, or waits on.
+  pub done_so : length arrivals ≡ count → n ≤ most_turns → ServeDone t link arrivals replies count n
+  done_so all within = record {
+    stops = ends_now (serve_hears t) (all_came count t) n far.passed (all_is count (length (deliveries t n)) (omega (arith, all, came_is))) within;
+    so = far.so;
+  }
 
-  module _ (received : here.heard [] serve_wait ≢ Failure) (brings : more ≡ arrivals_of (brought here)) where
-    waits_next : Waits t count (suc n)
-    waits_next = record {
-      received = λ k h. below_more (λ i. (waited serve_wait i t).heard [] serve_wait ≢ Failure) n far.waits.received received k (rw add-one h);
-      fewer = fewer_all;
-    }
+  pub waits_on : length arrivals < count → GoesOn (serve_hears t) (all_came count t) n
+  waits_on fewer = record { passed = far.passed; unended = fewer_is count (length (deliveries t n)) (omega (arith, fewer, came_is)) }
 
+  module _ (fewer : length arrivals < count) (received : here.heard [] serve_wait ≢ Failure) (brings : more ≡ arrivals_of (brought here)) where
     came_next : arrivals ++ more ≡ arrivals_of (deliveries t (suc n))
-    came_next = rw (far.came, brings) (sym (map-append (λ d. d.arrival) (deliveries t n) (brought (waited serve_wait n t))))
+    came_next = rw (far.so.came, brings) (sym (map-append (λ d. d.arrival) (deliveries t n) (brought (waited serve_wait n t))))
 
     sent_next : (answers : List (Option (Station × List ℕ))) → sent_for (deliveries t (suc n)) (replies ++ answers) ≡ sent_for (deliveries t n) replies ++ sent_for (brought (waited serve_wait n t)) answers
-    sent_next answers =
-        sent_for-append (deliveries t n) (brought (waited serve_wait n t)) replies answers
-        (sym (length-map (deliveries t n) (λ d. d.arrival)) ∙ ap length (sym far.came) ∙ same)
+    sent_next answers = sent_for-append (deliveries t n) (brought (waited serve_wait n t)) replies answers (came_is ∙ same)
 
-    pub serves_on : n < most_turns → (left : Option Told) → left ≡ Some (having_sent (sent_for (brought here) answers) (after_wait serve_wait here)) →
-        ServesSo t left (arrivals ++ more) (replies ++ answers) count (suc n)
-    serves_on within left e = record {
-      within = omega arith;
-      waits = waits_next;
-      came = came_next;
-      link_left =
-          e ∙ ap Some (having_sent-both (waited serve_wait (suc n) t) (sent_for (deliveries t n) replies) (sent_for (brought here) answers))
-          ∙ ap (λ (xs : List Sending). Some (having_sent xs (waited serve_wait (suc n) t))) (sym (sent_next answers));
+    pub serves_on : (left : Option Told) → left ≡ Some (having_sent (sent_for (brought here) answers) (after_wait serve_wait here)) →
+        ServesOver t left (arrivals ++ more) (replies ++ answers) count (suc n)
+    serves_on left e = record {
+      passed = one_more (serve_hears t) (all_came count t) n (waits_on fewer) received;
+      so = record {
+        came = came_next;
+        link_left =
+            e ∙ ap Some (having_sent-both (waited serve_wait (suc n) t) (sent_for (deliveries t n) replies) (sent_for (brought here) answers))
+            ∙ ap (λ (xs : List Sending). Some (having_sent xs (waited serve_wait (suc n) t))) (sym (sent_next answers));
+      };
     }
 
     pub unsent_so : n < most_turns → (left : Option Told) (reply : Option (Station × List ℕ)) (lost : Sending) → sent_for (brought here) (reply ∷ []) ≡ lost ∷ [] →
         left ≡ Some (after_wait serve_wait here) → ServeUnsent t left (arrivals ++ more) (replies ++ reply ∷ []) count n
     unsent_so within left reply lost one e = record {
       within = within;
-      waits = waits_next;
+      before = waits_on fewer;
+      received = received;
       came = came_next;
       made = sent_for (deliveries t n) replies;
       lost = lost;
@@ -138,14 +141,11 @@ module _ (t : Told) (link : Option Told) (arrivals more : List Came) (replies an
       link_left = e;
     }
 
-  pub deaf_so : n < most_turns → (left : Option Told) → here.heard [] serve_wait ≡ Failure → left ≡ Some (after_wait serve_wait here) →
+  pub deaf_so : n < most_turns → length arrivals < count → (left : Option Told) → here.heard [] serve_wait ≡ Failure → left ≡ Some (after_wait serve_wait here) →
       ServeDeaf t left arrivals replies count n
-  deaf_so within left failure e = record {
-    within = within;
-    waits = far.waits;
-    fewer = fewer_here;
-    failed = failure;
-    came = far.came;
+  deaf_so within fewer left failure e = record {
+    stops = fails_now (serve_hears t) (all_came count t) n (waits_on fewer) failure within;
+    came = far.so.came;
     link_left = e;
   }
 
@@ -158,31 +158,6 @@ one_lost time Silence reply e = absurd (omega (arith, e))
 one_lost time (Arrival from octets) reply e = (record { time = time; to = reply.0; octets = reply.1 }, refl)
 one_lost time Failure reply e = absurd (omega (arith, e))
 
--- A datagram that came, and its answer.
-pub responded : (before after : DeviceState) (arrival : Came) (told mid left : Option Told) (result : Result Brought ToolFault) → Responds before after arrival mid left result →
-    ForSome told (λ t. (t.heard [] serve_wait ≢ Failure) × (arrival ∷ [] ≡ arrivals_of (brought t))
-    × ((reply : Option (Station × List ℕ)) → reply_sendings (t.time (serve_wait ∷ [])) reply ≡ sent_for (brought t) (reply ∷ []))
-    × (mid ≡ Some (after_wait serve_wait t))) → ServesOne before after told left result
-responded before after arrival told mid left (Ok brings) r came = (
-  arrival ∷ [],
-  r.0 ∷ [],
-  r.1,
-  r.2,
-  r.3 ∙ count_one r.0,
-  λ t e.
-      let h = came t e in
-      (h.0, h.1, r.4 _ h.3 ∙ ap (λ (xs : List Sending). Some (having_sent xs (after_wait serve_wait t))) (h.2 r.0)),
-)
-responded before after arrival told mid left (Err SendFailed) r came = (
-  arrival ∷ [],
-  r.0,
-  r.1,
-  λ t e. let h = came t e in (h.0, h.1, r.2 ∙ h.3),
-)
-responded before after arrival told mid left (Err ReceiveFailed) r came = absurd r
-responded before after arrival told mid left (Err TurnsSpent) r came = absurd r
-responded before after arrival told mid left (Err WriteFailed) r came = absurd r
-
 pub serves_none : (device : DeviceState) (told : Option Told) (count : ℕ) → ServeGoes device device told told count 0 0 0
 serves_none device told count = record {
   arrivals = [];
@@ -191,39 +166,43 @@ serves_none device told count = record {
   came_is = refl;
   replied_is = refl;
   so_far = λ t e. record {
-    within = omega arith;
-    waits = record { received = λ k h. absurd (omega arith); fewer = λ k h. absurd (omega arith) };
-    came = refl;
-    link_left = e ∙ ap Some (having_nothing t);
+    passed = none_yet (stops_at (serve_hears t) (all_came count t));
+    so = record { came = refl; link_left = e ∙ ap Some (having_nothing t) };
   };
 }
 
 module _ (before device : DeviceState) (told mid : Option Told) (count came replied n : ℕ) (goes : ServeGoes before device told mid count came replied n) where
-  pub serve_done : came ≡ count → Serves count before device told mid (Ok replied)
-  serve_done all = (
-    goes.arrivals,
-    goes.replies,
-    defined before device goes.arrivals goes.replies goes.in_turn,
-    (sym goes.came_is ∙ all, goes.replied_is, λ t e. (n, goes.so_far t e)),
-  )
-
-  pub serve_spent : n ≡ most_turns → came < count → Serves count before device told mid (Err TurnsSpent)
-  serve_spent all fewer = (
-    goes.arrivals,
-    goes.replies,
-    defined before device goes.arrivals goes.replies goes.in_turn,
-    (rw (← goes.came_is) fewer, λ t e. (n, all, goes.so_far t e)),
-  )
-
   same : length goes.arrivals ≡ length goes.replies
   same = same_length before device goes.arrivals goes.replies goes.in_turn
 
   fewer_came : came < count → length goes.arrivals < count
   fewer_came fewer = rw (← goes.came_is) fewer
 
-  pub serve_on : (after : DeviceState) (left : Option Told) → n < most_turns → came < count → (brings : Brought) → ServesOne device after mid left (Ok brings) →
+  pub serve_done : came ≡ count → n ≤ most_turns → Serves count before device told mid (Ok replied)
+  serve_done all within =
+      let all = sym goes.came_is ∙ all in (
+        goes.arrivals,
+        goes.replies,
+        defined before device goes.arrivals goes.replies goes.in_turn,
+        (all, goes.replied_is, λ t e. (n, done_so t mid goes.arrivals [] goes.replies [] count n (goes.so_far t e) same all within)),
+      )
+
+  pub serve_spent : n ≡ most_turns → came < count → Serves count before device told mid (Err TurnsSpent)
+  serve_spent all fewer = (
+    goes.arrivals,
+    goes.replies,
+    defined before device goes.arrivals goes.replies goes.in_turn,
+    (
+      fewer_came fewer,
+      λ t e.
+          let far = goes.so_far t e in
+          (n, record { all = all; before = waits_on t mid goes.arrivals [] goes.replies [] count n far same (fewer_came fewer); so = far.so }),
+    ),
+  )
+
+  pub serve_on : (after : DeviceState) (left : Option Told) → came < count → (brings : Brought) → ServesOne device after mid left (Ok brings) →
       ServeGoes before after told left count (came + came_in brings) (replied + replied_in brings) (suc n)
-  serve_on after left within fewer brings one = record {
+  serve_on after left fewer brings one = record {
     arrivals = goes.arrivals ++ one.0;
     replies = goes.replies ++ one.1;
     in_turn = turns-append before device after goes.arrivals one.0 goes.replies one.1 goes.in_turn one.2;
@@ -231,8 +210,8 @@ module _ (before device : DeviceState) (told mid : Option Told) (count came repl
     replied_is = rw (goes.replied_is, one.4) (sym (count-append goes.replies one.1));
     so_far = λ t e.
         let far = goes.so_far t e in
-        let heard = one.5 _ far.link_left in
-        serves_on t mid goes.arrivals one.0 goes.replies one.1 count n far same (fewer_came fewer) heard.0 heard.1 within left heard.2;
+        let heard = one.5 _ far.so.link_left in
+        serves_on t mid goes.arrivals one.0 goes.replies one.1 count n far same (fewer_came fewer) heard.0 heard.1 left heard.2;
   }
 
   pub serve_fails : (after : DeviceState) (left : Option Told) → n < most_turns → came < count → (fault : ToolFault) → ServesOne device after mid left (Err fault) → Serves count before after told left (Err fault)
@@ -243,7 +222,7 @@ module _ (before device : DeviceState) (told mid : Option Told) (count came repl
         (turns-append before device after goes.arrivals one.0 goes.replies (Some one.1 ∷ []) goes.in_turn one.2),
     λ t e.
         let far = goes.so_far t e in
-        let heard = one.3 _ far.link_left in
+        let heard = one.3 _ far.so.link_left in
         let single = ap length (sym heard.1) ∙ same_length device after one.0 (Some one.1 ∷ []) one.2 in
         let lost = one_lost ((waited serve_wait n t).time (serve_wait ∷ [])) ((waited serve_wait n t).heard [] serve_wait) one.1 single in
         (n, unsent_so t mid goes.arrivals one.0 goes.replies [] count n far same (fewer_came fewer) heard.0 heard.1 within left (Some one.1) lost.0 lost.1 heard.2),
@@ -254,8 +233,8 @@ module _ (before device : DeviceState) (told mid : Option Told) (count came repl
     defined before after goes.arrivals goes.replies (subst (AnswersInTurn before goes.arrivals goes.replies) (sym one.0) goes.in_turn),
     λ t e.
         let far = goes.so_far t e in
-        let heard = one.1 _ far.link_left in
-        (n, deaf_so t mid goes.arrivals [] goes.replies [] count n far same (fewer_came fewer) within left heard.0 heard.1),
+        let heard = one.1 _ far.so.link_left in
+        (n, deaf_so t mid goes.arrivals [] goes.replies [] count n far same within (fewer_came fewer) left heard.0 heard.1),
   )
   serve_fails after left within fewer TurnsSpent one = absurd one
   serve_fails after left within fewer WriteFailed one = absurd one

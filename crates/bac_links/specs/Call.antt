@@ -1,14 +1,16 @@
 -- A call over what its link tells: one request, what it sends, and how it ends.
-use Rattle.std.specs.Prelude.{◌≡◌, ◌≢◌, ℕ, zero, suc, ◌<◌, ◌≤◌, min, List, [], ◌∷◌, ◌++◌, length, map, Option, Some, None, Result, Ok, Err}
+use Rattle.std.specs.Prelude.{◌≡◌, ℕ, suc, ◌≤◌, min, List, [], ◌∷◌, ◌++◌, length, Bool, is_some, Option, Some, Result, Ok, Err}
+use Rattle.std.specs.List.{flat_map}
 use Rattle.std.specs.Option.{ForSome}
 use Rattle.std.specs.Io.KnownBytes.{Appends}
 use Rattle.bac_pdu.specs.Peer.{station}
-use Rattle.bac_tsm.specs.Events.{Outcome, Ask, Tick, Note, Sent, Refused, Done, Dropped, TimedOut, Rules, request_of}
-use Rattle.bac_tsm.specs.Lookahead.{Accepted, accepted, end, sends}
+use Rattle.bac_tsm.specs.Events.{Outcome, Event, Ask, Data, Tick, Note, Sent, Refused, Done, Dropped, TimedOut, Rules, request_of}
+use Rattle.bac_tsm.specs.Lookahead.{Accepted, End, accepted, end, send_notes}
 use Rattle.bac_tsm.specs.Client.{client_rules}
 use Rattle.bac_links.specs.Limits.{longest_wait, most_turns}
-use Rattle.bac_links.specs.Told.{Told, Heard, Failure, Sending, waited, having_sent}
-use Rattle.bac_links.specs.Moments.{Moment, events_of, turns, last_turn}
+use Rattle.bac_links.specs.Told.{Told, Heard, Sending, waited, having_sent}
+use Rattle.bac_links.specs.Handed.{turns}
+use Rattle.bac_links.specs.Courses.{GoesOn, EndsAfter, FailsAfter}
 use Rattle.bac_links.specs.declared.ending.Tool.{Tool}
 use Rattle.bac_links.specs.declared.ending.Tool.TheVariants.{Reading, Writing}
 use Rattle.bac_text.specs.declared.jobs.Call.{Call}
@@ -29,28 +31,40 @@ service_of Writing = 15
 abbrev pub rules_for : Call → Rules
 rules_for call = client_rules call.timeout call.retries
 
--- The sends among these notes, at this time.
+-- The sends in a note, at this time.
+abbrev pub send_in : ℕ → Note → List Sending
+send_in time (Sent ticket peer octets) = record { time = time; to = peer; octets = octets } ∷ []
+send_in time (Refused why) = []
+send_in time (Done ticket outcome) = []
+send_in time Dropped = []
+send_in time (TimedOut ticket) = []
+
 abbrev pub sendings : ℕ → List Note → List Sending
-sendings time [] = []
-sendings time (Sent ticket peer octets ∷ later) = record { time = time; to = peer; octets = octets } ∷ sendings time later
-sendings time (Refused why ∷ later) = sendings time later
-sendings time (Done ticket outcome ∷ later) = sendings time later
-sendings time (Dropped ∷ later) = sendings time later
-sendings time (TimedOut ticket ∷ later) = sendings time later
+sendings time = flat_map (send_in time)
 
--- The time of the link at position i.
-abbrev pub time_of : List Moment → ℕ → ℕ
-time_of [] i = 0
-time_of (m ∷ later) zero = m.time
-time_of (m ∷ later) (suc i) = time_of later i
+-- The time once this was handed to a client.
+abbrev pub time_then : ℕ → Event → ℕ
+time_then time (Ask peer service body) = time
+time_then time (Data peer bytes) = time
+time_then time (Tick now) = now
 
--- The request, sent at position i.
-abbrev pub sending_at : Accepted → List Moment → ℕ → Sending
-sending_at a all i = record { time = time_of all i; to = a.request.peer; octets = a.request.octets }
+-- What is sent of a request from position i on, where this is the time: at each position at which the look-ahead places a send.
+abbrev pub sent_from : Rules → List Event → Accepted → ℕ → ℕ → List Event → List Sending
+sent_from rules events a time i [] = []
+sent_from rules events a time i (event ∷ later) =
+    sendings (time_then time event) (send_notes rules events i a) ++ sent_from rules events a (time_then time event) (suc i) later
 
 -- How long a turn waits.
 abbrev pub wait_of : Call → ℕ
 wait_of call = min call.timeout longest_wait
+
+-- What turn n hears.
+abbrev pub heard_in : Call → Told → ℕ → Heard
+heard_in call t n = (waited (wait_of call) n t).heard [] (wait_of call)
+
+-- The link after n turns, once these were sent.
+abbrev pub left_by : Call → Told → ℕ → List Sending → Option Told
+left_by call t n sent = Some (having_sent sent (waited (wait_of call) n t))
 
 module _ (tool : Tool) (call : Call) where
   -- The request: it is asked for after one event, by a client that has none open, so it has the first ticket and the number 1.
@@ -61,76 +75,63 @@ module _ (tool : Tool) (call : Call) where
   }
 
   -- A call begins with the time and its request, and goes on so.
-  abbrev pub begun_at : ℕ → List Moment → List Moment
-  begun_at time later =
-      record { time = time; event = Tick time } ∷ record { time = time; event = Ask (station call.to) (service_of tool) call.body.items } ∷ later
+  abbrev pub begun_at : ℕ → List Event → List Event
+  begun_at time later = Tick time ∷ Ask (station call.to) (service_of tool) call.body.items ∷ later
 
-  -- A call of n turns.
-  abbrev pub moments : Told → ℕ → List Moment
-  moments t n = begun_at (t.time []) (turns (wait_of call) t n)
+  -- It is the one request that is accepted.
+  abbrev pub IsAccepted : List Event → Type 0
+  IsAccepted events = accepted (rules_for call) 0 events (length events) ≡ asked ∷ []
 
-  -- A call of n turns, and one in which the request ends so.
-  abbrev pub moments_to : Told → ℕ → Option Outcome → List Moment
-  moments_to t n ending = begun_at (t.time []) (turns (wait_of call) t n ++ last_turn ending (wait_of call) (waited (wait_of call) n t))
+  -- Its end.
+  abbrev pub end_in : List Event → Option End
+  end_in events = end (rules_for call) events asked
 
-  -- The request is sent where the look-ahead places its sends, and nothing else is.
-  abbrev pub sent_in : List Moment → List Sending
-  sent_in all = map (sending_at asked all) (sends (rules_for call) (events_of all) asked)
+  -- It is sent where the look-ahead places its sends, and nothing else is.
+  abbrev pub sent_in : List Event → List Sending
+  sent_in events = sent_from (rules_for call) events asked 0 0 events
 
-  -- It is the one request that was accepted, and has not ended.
-  pub record IsOpenIn (all : List Moment) : Type 0 where
-    pub request : accepted (rules_for call) 0 (events_of all) (length all) ≡ asked ∷ []
-    pub unended : end (rules_for call) (events_of all) asked ≡ None
+  module _ (t : Told) where
+    -- What the client is handed in n turns.
+    abbrev pub events_of : ℕ → List Event
+    events_of n = begun_at (t.time []) (turns (wait_of call) t n)
 
-  -- It ends so at the last moment.
-  pub record EndsAfter (all : List Moment) (ending : Option Outcome) : Type 0 where
-    pub request : accepted (rules_for call) 0 (events_of all) (length all) ≡ asked ∷ []
-    pub position : ℕ
-    pub last : suc position ≡ length all
-    pub ended : end (rules_for call) (events_of all) asked ≡ Some (record { position = position; outcome = ending })
+    -- The request has ended in n turns.
+    abbrev pub has_ended : ℕ → Bool
+    has_ended n = is_some (end_in (events_of n))
 
--- What turn n hears.
-abbrev pub heard_in : Call → Told → ℕ → Heard
-heard_in call t n = (waited (wait_of call) n t).heard [] (wait_of call)
+    -- It is open after n turns, and a further one is due.
+    pub record IsOpenAfter (n : ℕ) : Type 0 where
+      pub request : IsAccepted (events_of n)
+      pub goes_on : GoesOn (heard_in call t) has_ended n
 
--- The link after n turns, once these were sent.
-abbrev pub left_by : Call → Told → ℕ → List Sending → Option Told
-left_by call t n sent = Some (having_sent sent (waited (wait_of call) n t))
+    -- In turn n the request ends so.
+    pub record EndsIn (left : Option Told) (ending : Option Outcome) (n : ℕ) : Type 0 where
+      pub request : IsAccepted (events_of (suc n))
+      pub stops : EndsAfter (heard_in call t) has_ended (suc n)
+      pub position : ℕ
+      pub ended : end_in (events_of (suc n)) ≡ Some (record { position = position; outcome = ending })
+      pub link_left : left ≡ left_by call t (suc n) (sent_in (events_of (suc n)))
 
--- The request is open after n turns, none of which failed to receive.
-pub record IsOpenAfter (tool : Tool) (call : Call) (t : Told) (n : ℕ) : Type 0 where
-  pub received : (k : ℕ) → k < n → heard_in call t k ≢ Failure
-  pub still_open : IsOpenIn tool call (moments tool call t n)
+    -- The last datagram of n turns, or of the beginning, could not be sent.
+    pub record FailsToSend (left : Option Told) (n : ℕ) : Type 0 where
+      pub within : n ≤ most_turns
+      pub before : IsOpenAfter n
+      pub made : List Sending
+      pub lost : Sending
+      pub owed : sent_in (events_of n) ≡ made ++ lost ∷ []
+      pub link_left : left ≡ left_by call t n made
 
--- In turn n the request ends so.
-pub record EndsIn (tool : Tool) (call : Call) (t : Told) (left : Option Told) (ending : Option Outcome) (n : ℕ) : Type 0 where
-  pub within : n < most_turns
-  pub before : IsOpenAfter tool call t n
-  pub received : heard_in call t n ≢ Failure
-  pub ended : EndsAfter tool call (moments_to tool call t n ending) ending
-  pub link_left : left ≡ left_by call t (suc n) (sent_in tool call (moments_to tool call t n ending))
+    -- Turn n failed to receive.
+    pub record FailsToReceive (left : Option Told) (n : ℕ) : Type 0 where
+      pub request : IsAccepted (events_of n)
+      pub stops : FailsAfter (heard_in call t) has_ended n
+      pub link_left : left ≡ left_by call t (suc n) (sent_in (events_of n))
 
--- The last datagram of n turns, or of the beginning, could not be sent.
-pub record FailsToSend (tool : Tool) (call : Call) (t : Told) (left : Option Told) (n : ℕ) : Type 0 where
-  pub within : n ≤ most_turns
-  pub before : IsOpenAfter tool call t n
-  pub made : List Sending
-  pub lost : Sending
-  pub owed : sent_in tool call (moments tool call t n) ≡ made ++ lost ∷ []
-  pub link_left : left ≡ left_by call t n made
-
--- Turn n failed to receive.
-pub record FailsToReceive (tool : Tool) (call : Call) (t : Told) (left : Option Told) (n : ℕ) : Type 0 where
-  pub within : n < most_turns
-  pub before : IsOpenAfter tool call t n
-  pub received : heard_in call t n ≡ Failure
-  pub link_left : left ≡ left_by call t (suc n) (sent_in tool call (moments tool call t n))
-
--- All turns went by, and the request is still open.
-pub record RunsOut (tool : Tool) (call : Call) (t : Told) (left : Option Told) (n : ℕ) : Type 0 where
-  pub all : n ≡ most_turns
-  pub before : IsOpenAfter tool call t n
-  pub link_left : left ≡ left_by call t n (sent_in tool call (moments tool call t n))
+    -- All turns went by, and the request is still open.
+    pub record RunsOut (left : Option Told) (n : ℕ) : Type 0 where
+      pub all : n ≡ most_turns
+      pub before : IsOpenAfter n
+      pub link_left : left ≡ left_by call t n (sent_in (events_of n))
 
 -- What a call prints, answers, sends and leaves of its link, where the link tells what it will hear: the line of how the request
 -- ended, or a front of it where the writer failed; or nothing, where something else did.

@@ -3,7 +3,8 @@ pub mod Told
 pub mod Memory
 pub mod Socket
 pub mod Fault
-pub mod Moments
+pub mod Courses
+pub mod Handed
 pub mod Ending
 pub mod Call
 pub mod CallSteps
@@ -11,5 +12,4 @@ pub mod Search
 pub mod SearchSteps
 pub mod Serve
 pub mod ServeSteps
-pub mod Courses
 pub mod Progress

@@ -5,10 +5,6 @@ use Rattle.std.specs.Prelude.{ℕ}
 abbrev pub longest_datagram : ℕ
 longest_datagram = 2047
 
--- The octets of the longest service body that a client sends.
-abbrev pub longest_body : ℕ
-longest_body = 476
-
 -- The longest wait of a turn, in milliseconds.
 abbrev pub longest_wait : ℕ
 longest_wait = 50

@@ -1,5 +1,5 @@
 -- A search for devices over what its link tells: what it sends, which devices it finds, what it prints, and when it ends.
-use Rattle.std.specs.Prelude.{◌≡◌, ◌≢◌, ℕ, zero, suc, ◌-◌, ◌<◌, ◌≤◌, min, max, ◌==◌, false, List, [], ◌∷◌, ◌++◌, decimal, if◌then◌else◌, Option, Some, None, Result, Ok, Err}
+use Rattle.std.specs.Prelude.{◌≡◌, ℕ, zero, suc, ◌-◌, ◌<◌, nat_le, min, max, ◌==◌, Bool, true, false, List, [], ◌∷◌, ◌++◌, decimal, if◌then◌else◌, Option, Some, None, Result, Ok, Err}
 use Rattle.std.specs.Option.{ForSome, option_to_list, option_and_then}
 use Rattle.std.specs.List.{flat_map}
 use Rattle.std.specs.Io.KnownBytes.{Appends}
@@ -15,6 +15,7 @@ use Rattle.bac_device.specs.Reply.{asks}
 use Rattle.bac_text.specs.PeerTexts.{peer_text}
 use Rattle.bac_links.specs.Limits.{longest_wait, most_turns}
 use Rattle.bac_links.specs.Told.{Told, Heard, Silence, Arrival, Failure, Sending, waited, having_sent}
+use Rattle.bac_links.specs.Courses.{GoesOn, EndsAfter, FailsAfter}
 use Rattle.bac_links.specs.declared.ending.Exit.{Exit}
 use Rattle.bac_links.specs.declared.ending.Exit.TheVariants.{Good, Bad}
 use Rattle.bac_links.specs.declared.fault.ToolFault.{ToolFault}
@@ -73,10 +74,13 @@ found_line found =
 abbrev pub found_lines : List Found → List ℕ
 found_lines = flat_map found_line
 
+abbrev pub has_found : List Found → Bool
+has_found [] = false
+has_found (found ∷ later) = true
+
 -- It is good to have found a device.
 abbrev pub search_exit : List Found → Exit
-search_exit [] = Bad
-search_exit (found ∷ later) = Good
+search_exit found = if has_found found then Good else Bad
 
 abbrev pub search_wait : Search → ℕ
 search_wait search = min search.timeout longest_wait
@@ -107,39 +111,33 @@ who_is_sending search t = record { time = t.time []; to = station search.to; oct
 abbrev pub searched : Search → Told → ℕ → Option Told
 searched search t n = Some (having_sent (who_is_sending search t ∷ []) (waited (search_wait search) n t))
 
--- After n turns, none of which failed to receive, there is still time.
-pub record Searches (search : Search) (t : Told) (n : ℕ) : Type 0 where
-  pub received : (k : ℕ) → k < n → search_hears search t k ≢ Failure
-  pub in_time : (k : ℕ) → k < suc n → passed search t k < search.timeout
+-- The time is up after n turns.
+abbrev pub is_late : Search → Told → ℕ → Bool
+is_late search t n = nat_le search.timeout (passed search t n)
 
--- The time is up after turn n.
+-- The time is up after n turns, which is the end.
 pub record SearchEnds (search : Search) (t : Told) (left : Option Told) (found : List Found) (n : ℕ) : Type 0 where
-  pub within : n < most_turns
-  pub before : Searches search t n
-  pub received : search_hears search t n ≢ Failure
-  pub over : search.timeout ≤ passed search t (suc n)
-  pub finds : found ≡ found_after search t (suc n)
-  pub link_left : left ≡ searched search t (suc n)
+  pub stops : EndsAfter (search_hears search t) (is_late search t) n
+  pub finds : found ≡ found_after search t n
+  pub link_left : left ≡ searched search t n
 
 -- Turn n failed to receive.
 pub record SearchFails (search : Search) (t : Told) (left : Option Told) (found : List Found) (n : ℕ) : Type 0 where
-  pub within : n < most_turns
-  pub before : Searches search t n
-  pub failed : search_hears search t n ≡ Failure
+  pub stops : FailsAfter (search_hears search t) (is_late search t) n
   pub finds : found ≡ found_after search t n
   pub link_left : left ≡ searched search t (suc n)
 
 -- All turns went by, and there is still time.
 pub record SearchSpent (search : Search) (t : Told) (left : Option Told) (found : List Found) (n : ℕ) : Type 0 where
   pub all : n ≡ most_turns
-  pub before : Searches search t n
+  pub before : GoesOn (search_hears search t) (is_late search t) n
   pub finds : found ≡ found_after search t n
   pub link_left : left ≡ searched search t n
 
 -- The line of the last of these devices, which turn n found, could not be written whole.
 pub record SearchStops (search : Search) (t : Told) (left : Option Told) (found : List Found) (last : Found) (n : ℕ) : Type 0 where
   pub within : n < most_turns
-  pub before : Searches search t n
+  pub before : GoesOn (search_hears search t) (is_late search t) n
   pub finds : found ≡ found_after search t n
   pub heard : found_by search.who (search_hears search t n) ≡ last ∷ []
   pub link_left : left ≡ searched search t (suc n)

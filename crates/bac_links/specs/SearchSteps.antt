@@ -1,17 +1,14 @@
 -- One turn of a search.
-use Rattle.std.specs.Prelude.{◌≡◌, ◌≢◌, ℕ, Bool, true, false, List, [], ◌∷◌, ◌++◌, Option, Some, Result, Ok, Err}
+use Rattle.std.specs.Prelude.{◌≡◌, ◌≢◌, ℕ, Bool, List, [], ◌∷◌, ◌++◌, Option, Some, Result, Ok, Err}
 use Rattle.std.specs.Option.{ForSome}
 use Rattle.std.specs.Io.KnownBytes.{Appends}
 use Rattle.bac_pdu.specs.declared.discovery.WhoIs.{WhoIs}
 use Rattle.bac_links.specs.Told.{Told, Failure, after_wait}
-use Rattle.bac_links.specs.Search.{Found, found_by, found_line, found_lines, found_after, greatest_time, searched, Searches}
+use Rattle.bac_links.specs.Search.{Found, has_found, found_by, found_line, found_lines, search_hears, is_late, found_after, greatest_time, searched}
+use Rattle.bac_links.specs.Courses.{GoesOn}
 use Rattle.bac_text.specs.declared.jobs.Search.{Search}
 use Rattle.bac_links.specs.declared.fault.ToolFault.{ToolFault}
 use Rattle.bac_links.specs.declared.fault.ToolFault.TheVariants.{SendFailed, ReceiveFailed, TurnsSpent, WriteFailed}
-
-abbrev pub has_found : List Found → Bool
-has_found [] = false
-has_found (found ∷ later) = true
 
 -- What a wait hears, and what is printed of that.
 abbrev pub Listens : WhoIs → ℕ → Option (List ℕ) → Option (List ℕ) → Option Told → Option Told → Result Bool ToolFault → Type 0
@@ -30,7 +27,7 @@ Listens who wait before after told left (Err WriteFailed) =
 pub record SearchesSo (search : Search) (t : Told) (link : Option Told) (first greatest : ℕ) (found : List Found) (n : ℕ) : Type 0 where
   pub began : first ≡ t.time []
   pub time : greatest ≡ greatest_time search t n
-  pub before : Searches search t n
+  pub before : GoesOn (search_hears search t) (is_late search t) n
   pub finds : found ≡ found_after search t n
   pub link_left : link ≡ searched search t n
 

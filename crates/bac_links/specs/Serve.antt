@@ -1,5 +1,5 @@
 -- A device that answers what a link tells.
-use Rattle.std.specs.Prelude.{◌≡◌, ◌≢◌, ℕ, zero, suc, ◌<◌, ◌≤◌, List, [], ◌∷◌, ◌++◌, length, map, Option, Some, None, Result, Ok, Err}
+use Rattle.std.specs.Prelude.{◌≡◌, ◌≢◌, ℕ, zero, suc, ◌<◌, nat_le, Bool, List, [], ◌∷◌, ◌++◌, length, map, Option, Some, None, Result, Ok, Err}
 use Rattle.std.specs.Option.{ForSome, option_to_list}
 use Rattle.std.specs.List.{flat_map}
 use Rattle.bac_pdu.specs.Peer.{Station}
@@ -9,6 +9,7 @@ use Rattle.bac_device.specs.Size.{CarriesRequest, CarriesUnconfirmed, HasFifteen
 use Rattle.bac_device.specs.Turns.{Arrival as Came, AreDefined}
 use Rattle.bac_links.specs.Limits.{most_turns, serve_wait}
 use Rattle.bac_links.specs.Told.{Told, Heard, Silence, Arrival, Failure, Sending, waited, having_sent}
+use Rattle.bac_links.specs.Courses.{GoesOn, EndsAfter, FailsAfter}
 use Rattle.bac_links.specs.declared.fault.ToolFault.{ToolFault}
 use Rattle.bac_links.specs.declared.fault.ToolFault.TheVariants.{SendFailed, ReceiveFailed, TurnsSpent, WriteFailed}
 
@@ -59,8 +60,7 @@ pub record ReplyFits (arrival : Came) (to : Station) (reply : List ℕ) : Type 0
 abbrev pub RepliesFit : List Came → List (Option (Station × List ℕ)) → Type 0
 RepliesFit [] replies = replies ≡ []
 RepliesFit (arrival ∷ arrivals) [] = ⊥
-RepliesFit (arrival ∷ arrivals) (None ∷ replies) = RepliesFit arrivals replies
-RepliesFit (arrival ∷ arrivals) (Some reply ∷ replies) = ReplyFits arrival reply.0 reply.1 × RepliesFit arrivals replies
+RepliesFit (arrival ∷ arrivals) (reply ∷ replies) = ForSome reply (λ r. ReplyFits arrival r.0 r.1) × RepliesFit arrivals replies
 
 -- For any writes whose places are the device's: these are its replies to these datagrams, and each fits; and afterwards its info
 -- and its points are as before, and its places are those after the writes that it accepted.
@@ -68,22 +68,29 @@ abbrev pub AnswersAll : DeviceState → List Came → List (Option (Station × L
 AnswersAll before arrivals replies after =
     (writes : List Write) → Holds before writes → AreDefined before writes arrivals replies after × RepliesFit arrivals replies
 
--- The first n waits did not fail, and before each of them fewer datagrams than were asked for had come.
-pub record Waits (t : Told) (count n : ℕ) : Type 0 where
-  pub received : (k : ℕ) → k < n → (waited serve_wait k t).heard [] serve_wait ≢ Failure
-  pub fewer : (k : ℕ) → k < n → length (deliveries t k) < count
+-- What wait n hears.
+abbrev pub serve_hears : Told → ℕ → Heard
+serve_hears t n = (waited serve_wait n t).heard [] serve_wait
+
+-- As many datagrams as were asked for came in n waits.
+abbrev pub all_came : ℕ → Told → ℕ → Bool
+all_came count t n = nat_le count (length (deliveries t n))
 
 -- After n waits these datagrams have come, and their replies are sent.
-pub record ServesSo (t : Told) (left : Option Told) (arrivals : List Came) (replies : List (Option (Station × List ℕ))) (count n : ℕ) : Type 0 where
-  pub within : n ≤ most_turns
-  pub waits : Waits t count n
+pub record ServesSo (t : Told) (left : Option Told) (arrivals : List Came) (replies : List (Option (Station × List ℕ))) (n : ℕ) : Type 0 where
   pub came : arrivals ≡ arrivals_of (deliveries t n)
   pub link_left : left ≡ Some (having_sent (sent_for (deliveries t n) replies) (waited serve_wait n t))
+
+-- And there is no further wait.
+pub record ServeDone (t : Told) (left : Option Told) (arrivals : List Came) (replies : List (Option (Station × List ℕ))) (count n : ℕ) : Type 0 where
+  pub stops : EndsAfter (serve_hears t) (all_came count t) n
+  pub so : ServesSo t left arrivals replies n
 
 -- The last reply, to what wait n brought, could not be sent.
 pub record ServeUnsent (t : Told) (left : Option Told) (arrivals : List Came) (replies : List (Option (Station × List ℕ))) (count n : ℕ) : Type 0 where
   pub within : n < most_turns
-  pub waits : Waits t count (suc n)
+  pub before : GoesOn (serve_hears t) (all_came count t) n
+  pub received : serve_hears t n ≢ Failure
   pub came : arrivals ≡ arrivals_of (deliveries t (suc n))
   pub made : List Sending
   pub lost : Sending
@@ -92,22 +99,25 @@ pub record ServeUnsent (t : Told) (left : Option Told) (arrivals : List Came) (r
 
 -- Wait n failed.
 pub record ServeDeaf (t : Told) (left : Option Told) (arrivals : List Came) (replies : List (Option (Station × List ℕ))) (count n : ℕ) : Type 0 where
-  pub within : n < most_turns
-  pub waits : Waits t count n
-  pub fewer : length (deliveries t n) < count
-  pub failed : (waited serve_wait n t).heard [] serve_wait ≡ Failure
+  pub stops : FailsAfter (serve_hears t) (all_came count t) n
   pub came : arrivals ≡ arrivals_of (deliveries t n)
   pub link_left : left ≡ Some (having_sent (sent_for (deliveries t n) replies) (waited serve_wait (suc n) t))
+
+-- All waits went by, and fewer datagrams came.
+pub record ServeSpent (t : Told) (left : Option Told) (arrivals : List Came) (replies : List (Option (Station × List ℕ))) (count n : ℕ) : Type 0 where
+  pub all : n ≡ most_turns
+  pub before : GoesOn (serve_hears t) (all_came count t) n
+  pub so : ServesSo t left arrivals replies n
 
 -- What came, what was replied and what was sent, by how the server ends.
 abbrev pub ServeEnds : ℕ → List Came → List (Option (Station × List ℕ)) → Option Told → Option Told → Result ℕ ToolFault → Type 0
 ServeEnds count arrivals replies told left (Ok replied) =
     (length arrivals ≡ count) × (replied ≡ reply_count replies)
-    × ForSome told (λ t. (n : ℕ) × ServesSo t left arrivals replies count n)
+    × ForSome told (λ t. (n : ℕ) × ServeDone t left arrivals replies count n)
 ServeEnds count arrivals replies told left (Err SendFailed) = ForSome told (λ t. (n : ℕ) × ServeUnsent t left arrivals replies count n)
 ServeEnds count arrivals replies told left (Err ReceiveFailed) = ForSome told (λ t. (n : ℕ) × ServeDeaf t left arrivals replies count n)
 ServeEnds count arrivals replies told left (Err TurnsSpent) =
-    (length arrivals < count) × ForSome told (λ t. (n : ℕ) × (n ≡ most_turns) × ServesSo t left arrivals replies count n)
+    (length arrivals < count) × ForSome told (λ t. (n : ℕ) × ServeSpent t left arrivals replies count n)
 ServeEnds count arrivals replies told left (Err WriteFailed) = ⊥
 
 -- What a device that serves over a link answers and sends, and what is left of both. What is said of the device holds however

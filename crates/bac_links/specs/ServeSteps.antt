@@ -1,12 +1,13 @@
 -- One wait of a server, and the answer to what it brings.
-use Rattle.std.specs.Prelude.{◌≡◌, ◌≢◌, ℕ, List, [], ◌∷◌, length, Option, Some, Result, Ok, Err}
-use Rattle.std.specs.Option.{ForSome, option_to_list}
+use Rattle.std.specs.Prelude.{◌≡◌, ◌≢◌, ℕ, List, [], ◌∷◌, length, Option, Some, None, Result, Ok, Err}
+use Rattle.std.specs.Option.{ForSome}
 use Rattle.bac_pdu.specs.Peer.{Station}
 use Rattle.bac_device.specs.Device.{DeviceState}
 use Rattle.bac_device.specs.Turns.{Arrival as Came, AnswersInTurn}
 use Rattle.bac_links.specs.Limits.{serve_wait}
 use Rattle.bac_links.specs.Told.{Told, Failure, after_wait, having_sent}
-use Rattle.bac_links.specs.Serve.{arrivals_of, brought, reply_sendings, sent_for, reply_count, ServesSo}
+use Rattle.bac_links.specs.Serve.{arrivals_of, brought, sent_for, reply_count, serve_hears, all_came, ServesSo}
+use Rattle.bac_links.specs.Courses.{first_below, stops_at}
 use Rattle.bac_links.specs.declared.fault.ToolFault.{ToolFault}
 use Rattle.bac_links.specs.declared.fault.ToolFault.TheVariants.{SendFailed, ReceiveFailed, TurnsSpent, WriteFailed}
 use Rattle.bac_links.specs.declared.serving.Brought.{Brought}
@@ -23,18 +24,6 @@ replied_in Nothing = 0
 replied_in Ignored = 0
 replied_in Answered = 1
 
--- The answer to one datagram.
-abbrev pub Responds : DeviceState → DeviceState → Came → Option Told → Option Told → Result Brought ToolFault → Type 0
-Responds before after arrival told left (Ok brings) =
-    (reply : Option (Station × List ℕ)) × AnswersInTurn before (arrival ∷ []) (reply ∷ []) after
-    × (came_in brings ≡ 1) × (replied_in brings ≡ length (option_to_list reply))
-    × ForSome told (λ t. left ≡ Some (having_sent (reply_sendings (t.time []) reply) t))
-Responds before after arrival told left (Err SendFailed) =
-    (reply : Station × List ℕ) × AnswersInTurn before (arrival ∷ []) (Some reply ∷ []) after × (left ≡ told)
-Responds before after arrival told left (Err ReceiveFailed) = ⊥
-Responds before after arrival told left (Err TurnsSpent) = ⊥
-Responds before after arrival told left (Err WriteFailed) = ⊥
-
 -- One wait, and the answer to what it brought.
 abbrev pub ServesOne : DeviceState → DeviceState → Option Told → Option Told → Result Brought ToolFault → Type 0
 ServesOne before after told left (Ok brings) =
@@ -50,6 +39,11 @@ ServesOne before after told left (Err ReceiveFailed) =
 ServesOne before after told left (Err TurnsSpent) = ⊥
 ServesOne before after told left (Err WriteFailed) = ⊥
 
+-- A server after n waits, over what the link told: none of them failed, and before each fewer datagrams had come than were asked for.
+pub record ServesOver (t : Told) (link : Option Told) (arrivals : List Came) (replies : List (Option (Station × List ℕ))) (count n : ℕ) : Type 0 where
+  pub passed : first_below (stops_at (serve_hears t) (all_came count t)) n ≡ None
+  pub so : ServesSo t link arrivals replies n
+
 -- A server after n waits.
 pub record ServeGoes (before device : DeviceState) (told link : Option Told) (count came replied n : ℕ) : Type 0 where
   pub arrivals : List Came
@@ -57,4 +51,4 @@ pub record ServeGoes (before device : DeviceState) (told link : Option Told) (co
   pub in_turn : AnswersInTurn before arrivals replies device
   pub came_is : came ≡ length arrivals
   pub replied_is : replied ≡ reply_count replies
-  pub so_far : ForSome told (λ t. ServesSo t link arrivals replies count n)
+  pub so_far : ForSome told (λ t. ServesOver t link arrivals replies count n)

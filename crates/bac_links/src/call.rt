@@ -117,7 +117,7 @@ fn turn<'d, L: Link>(
         (λ end. n < most_turns → EndsIn tool call t (L.told link.new) (ending_seen end) n)) }
     ensures err { IfErr result (λ fault. (fault ≢ ToolFault.WriteFailed)
         × ((tool : Purpose) (call : Asked) (t : Told) (n : ℕ) → wait_ms ≡ wait_of call →
-        Underway tool call t (L.told link.old) client.old n → TurnFails tool call t (L.told link.new) n fault)) }
+        Underway tool call t (L.told link.old) client.old n → n < most_turns → TurnFails tool call t (L.told link.new) fault)) }
 {
     match hear(client, link, wait_ms, datagram) {
         Ok(Some(outcome)) => Ok(Some(Ending::Answered(outcome))),

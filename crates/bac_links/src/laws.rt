@@ -1,20 +1,14 @@
 //! What holds of the definitions that the contracts cite: each such function has an empty body, and its clause is the law. And that `==` on
 //! the public types is that of their values.
 
-ghost use Rattle.std.specs.Prelude.{◌≡◌, ◌≤◌, ◌+◌, ◌*◌, ◌↔◌, ℕ, suc, [], IsTrue, List, Option, Some, IsSomeAnd, Result, length};
+ghost use Rattle.std.specs.Prelude.{◌≡◌, ◌≤◌, ◌+◌, ◌*◌, ◌↔◌, ℕ, suc, [], IsTrue, List, Option, Some, IsSomeAnd, Result};
 ghost use Rattle.bac_device.specs.Places.{Write};
 ghost use Rattle.bac_device.specs.Device.{DeviceState, points_of, Holds};
-ghost use Rattle.bac_device.specs.Turns.{Arrival as Came};
-ghost use Rattle.bac_tsm.specs.Events.{Outcome};
-ghost use Rattle.bac_links.specs.Limits.{longest_body};
 ghost use Rattle.bac_text.specs.declared.jobs.Call.{Call};
-ghost use Rattle.bac_text.specs.declared.jobs.Search.{Search};
 ghost use Rattle.bac_links.specs.Told.{Told};
 ghost use Rattle.bac_links.specs.Call.{Tells, wait_of};
 ghost use Rattle.bac_links.specs.Progress.{IsPrompt};
-ghost use Rattle.bac_links.specs.Search.{Found};
 ghost use Rattle.bac_links.specs.Serve.{Serves};
-ghost use Rattle.bac_links.specs.Courses.{Course, CallGoes, SearchRuns, ServeRuns};
 ghost use Rattle.bac_links.specs.declared.ending.Tool.{Tool};
 ghost use Rattle.bac_links.specs.declared.ending.Exit.{Exit as Ended};
 ghost use Rattle.bac_links.specs.declared.fault.ToolFault.{ToolFault as Fault};
@@ -23,24 +17,6 @@ use crate::ending::Exit;
 use crate::fault::ToolFault;
 use crate::link::LinkFault;
 use crate::udp::Refused;
-
-/// Of all numbers of turns and all endings one at most fits what the link of a call tells.
-pub fn a_call_goes_one_way()
-    ensures { (tool : Tool) (call : Call) (t : Told) (one other : Course (Option Outcome)) → length call.body.items ≤ longest_body
-        → CallGoes tool call t one → CallGoes tool call t other → one ≡ other }
-{}
-
-/// Of all numbers of turns and all lists of devices one at most fits what the link of a search tells.
-pub fn a_search_goes_one_way()
-    ensures { (search : Search) (t : Told) (found found' : List Found) (one other : Course (Unit {0}))
-        → SearchRuns search t found one → SearchRuns search t found' other → (one ≡ other) × (found ≡ found') }
-{}
-
-/// Of all numbers of turns and all lists of datagrams one at most fits what the link of a server tells.
-pub fn a_server_goes_one_way()
-    ensures { (count : ℕ) (t : Told) (arrivals arrivals' : List Came) (one other : Course (Unit {0}))
-        → ServeRuns count t arrivals one → ServeRuns count t arrivals' other → (one ≡ other) × (arrivals ≡ arrivals') }
-{}
 
 /// However a server ends, and whatever its link is, the device has its info and its points as before.
 pub fn a_server_keeps_its_points()
@@ -58,29 +34,29 @@ pub fn a_call_ends_in_time()
 {}
 
 /// Exits are the same where `==` says so.
-pub fn same_exit(one: Exit, other: Exit) -> bool
-    ensures { IsTrue result ↔ (one ≡ other) }
+pub fn same_exit(exit: Exit, other: Exit) -> bool
+    ensures { IsTrue result ↔ (exit ≡ other) }
 {
-    one == other
+    exit == other
 }
 
 /// Faults of the tools are the same where `==` says so.
-pub fn same_fault(one: ToolFault, other: ToolFault) -> bool
-    ensures { IsTrue result ↔ (one ≡ other) }
+pub fn same_fault(fault: ToolFault, other: ToolFault) -> bool
+    ensures { IsTrue result ↔ (fault ≡ other) }
 {
-    one == other
+    fault == other
 }
 
 /// All faults of links are the same, and `==` says so.
-pub fn same_link_fault(one: LinkFault, other: LinkFault) -> bool
-    ensures { IsTrue result ↔ (one ≡ other) }
+pub fn same_link_fault(link_fault: LinkFault, other: LinkFault) -> bool
+    ensures { IsTrue result ↔ (link_fault ≡ other) }
 {
-    one == other
+    link_fault == other
 }
 
 /// What becomes of a refused datagram is the same where `==` says so.
-pub fn same_refused(one: Refused, other: Refused) -> bool
-    ensures { IsTrue result ↔ (one ≡ other) }
+pub fn same_refused(refused: Refused, other: Refused) -> bool
+    ensures { IsTrue result ↔ (refused ≡ other) }
 {
-    one == other
+    refused == other
 }

@@ -161,17 +161,18 @@ impl<A: Allocator + Copy> Link for MemoryLink<A> {
         ensures goes_on { ForSome (Some (told_of self.old)) (λ t. Some (told_of self.new) ≡ Some (after_wait wait_ms t)) }
         ensures fails_at { fails_at self.new ≡ fails_at self.old }
     {
+        let now = &mut self.time;
         match self.steps.pop_front() {
             None => {
-                self.time = self.time.saturating_add(u64::from(wait_ms));
+                *now = now.saturating_add(u64::from(wait_ms));
                 Ok(None)
             }
             Some(Kept::Quiet(time)) => {
-                self.time = time;
+                *now = time;
                 Ok(None)
             }
             Some(Kept::Packet(time, from, octets)) => {
-                self.time = time;
+                *now = time;
                 if datagram.set(octets.as_slice()) {
                     Ok(Some(without_route(from)))
                 } else {

@@ -1,16 +1,14 @@
 //! A device that answers what comes over a link.
 ghost use Rattle.std.specs.Prelude.{◌≡◌, ◌≤◌, false, IfOk};
-ghost use Rattle.bac_pdu.specs.Peer.{station};
 ghost use Rattle.bac_links.specs.Fault.{is_link_fault};
 ghost use Rattle.bac_links.specs.Serve.{Serves};
-ghost use Rattle.bac_links.specs.ServeSteps.{came_in, replied_in, Responds, ServesOne};
+ghost use Rattle.bac_links.specs.ServeSteps.{came_in, replied_in, ServesOne};
 
 use crate::call::TURNS;
 use crate::datagram::Datagram;
 use crate::fault::ToolFault;
 use crate::link::Link;
 use bac_device::Device;
-use bac_pdu::Peer;
 use bac_wire::Frame;
 
 /// How long a server waits for a datagram, in milliseconds.
@@ -50,27 +48,6 @@ impl Brought {
     }
 }
 
-// Answers one datagram.
-fn respond<L: Link>(
-    link: &mut L,
-    device: &mut Device,
-    from: Peer,
-    octets: &[u8],
-) -> Result<Brought, ToolFault>
-    requires { L.has_failed link.old ≡ false }
-    ensures fault { L.has_failed link.new ≡ is_link_fault result }
-    ensures told { Responds device.old device.new (record { from = station from; datagram = octets.now }) (L.told link.old) (L.told link.new) result }
-{
-    let mut frame = Frame::new();
-    let Some(to) = device.answer(from, octets, &mut frame) else {
-        return Ok(Brought::Ignored);
-    };
-    match link.send(to, frame.as_slice()) {
-        Ok(()) => Ok(Brought::Answered),
-        Err(_) => Err(ToolFault::SendFailed),
-    }
-}
-
 // Answers the next datagram, if one comes.
 fn serve_turn<L: Link>(
     link: &mut L,
@@ -81,10 +58,18 @@ fn serve_turn<L: Link>(
     ensures fault { L.has_failed link.new ≡ is_link_fault result }
     ensures told { ServesOne device.old device.new (L.told link.old) (L.told link.new) result }
 {
-    match link.receive(SERVE_WAIT, datagram) {
-        Ok(Some(from)) => respond(link, device, from, datagram.as_slice()),
-        Ok(None) => Ok(Brought::Nothing),
-        Err(_) => Err(ToolFault::ReceiveFailed),
+    let from = match link.receive(SERVE_WAIT, datagram) {
+        Ok(Some(from)) => from,
+        Ok(None) => return Ok(Brought::Nothing),
+        Err(_) => return Err(ToolFault::ReceiveFailed),
+    };
+    let mut frame = Frame::new();
+    let Some(to) = device.answer(from, datagram.as_slice(), &mut frame) else {
+        return Ok(Brought::Ignored);
+    };
+    match link.send(to, frame.as_slice()) {
+        Ok(()) => Ok(Brought::Answered),
+        Err(_) => Err(ToolFault::SendFailed),
     }
 }
 

@@ -1,8 +1,8 @@
 -- What is read of an APDU is what its octets lay out, and what is laid out is read back.
 use Rattle.std.proofs.Common.{◌≡◌, ℕ, ◌+◌, ◌/◌, ◌%◌, Bool, true, false, cond, eqb, List, [], ◌∷◌, ◌++◌, Option, Some, None, refl, ap, subst, ◌∙◌, arith, inl, inr}
-use Rattle.std.specs.Prelude.{◌==◌, if◌then◌else◌, ◌↔◌}
+use Rattle.std.specs.Prelude.{◌↔◌}
 use Rattle.std.proofs.lemmas.Bool.{eqb-true}
-use Rattle.std.proofs.lemmas.Option.{none-some, some_pair_parts}
+use Rattle.std.proofs.lemmas.Option.{none-some, same_Some, some_pair_parts}
 use Rattle.bac_wire.proofs.Readers.{found_at, chosen}
 use Rattle.bac_wire.proofs.TagLaws.{bind_some}
 use Rattle.bac_pdu.specs.declared.apdu.Part.{Part}
@@ -17,13 +17,12 @@ part_takes first octets false part rest flag e =
     let parts = some_pair_parts None part octets rest e in
     let here : SpellsPart first [] None = (flag, refl) in
     ([], subst (SpellsPart first []) parts.0 here, parts.1)
-part_takes first [] true part rest flag e = absurd (none-some (part, rest) e)
-part_takes first (sequence ∷ []) true part rest flag e = absurd (none-some (part, rest) e)
 part_takes first (sequence ∷ window ∷ octets) true part rest flag e =
     let made : Option Part = Some (record { more = bit 2 first; sequence = sequence; window = window }) in
     let parts = some_pair_parts made part octets rest e in
     let here : SpellsPart first (sequence ∷ window ∷ []) made = (flag, refl, refl) in
     (sequence ∷ window ∷ [], subst (SpellsPart first (sequence ∷ window ∷ [])) parts.0 here, ap (λ (w : List ℕ). sequence ∷ window ∷ w) parts.1)
+part_takes first _ true part rest flag e = absurd (none-some (part, rest) e)
 
 part_again : (first : ℕ) (front : List ℕ) (part : Option Part) (rest : List ℕ) → SpellsPart first front part → part_at first (front ++ rest) (bit 3 first) ≡ found_at part rest
 part_again first front None rest s = rw (s.0, s.1) refl
@@ -51,8 +50,6 @@ parts_again first front part service body s = rw (part_again _ _ _ _ s) refl
 -- ---- each kind
 
 confirmed_takes : (first : ℕ) (octets : List ℕ) (m : Message) → first / 16 ≡ 0 → confirmed_of first octets ≡ Some m → IsLaidOut (first ∷ octets) m
-confirmed_takes first [] m kind e = absurd (none-some m e)
-confirmed_takes first (second ∷ []) m kind e = absurd (none-some m e)
 confirmed_takes first (second ∷ id ∷ octets) m kind e =
     let a = bind_some _ _ _ e in
     let parts = parts_takes _ _ _ a.1 in
@@ -60,6 +57,7 @@ confirmed_takes first (second ∷ id ∷ octets) m kind e =
     let same : made ≡ m = cc in
     let here : IsConfirmed (first ∷ second ∷ id ∷ octets) a.0.0 (second % 16) id a.0.1 a.0.2 = record { first = first; second = second; part_octets = parts.0; whole = ap (λ (w : List ℕ). first ∷ second ∷ id ∷ w) parts.2; kind = kind; coded = refl; spelled = parts.1 } in
     subst (IsLaidOut (first ∷ second ∷ id ∷ octets)) same here
+confirmed_takes first _ m kind e = absurd (none-some m e)
 
 complex_takes : (first : ℕ) (octets : List ℕ) (m : Message) → first / 16 ≡ 3 → complex_ack_of first octets ≡ Some m → IsLaidOut (first ∷ octets) m
 complex_takes first [] m kind e = absurd (none-some m e)
@@ -78,106 +76,38 @@ unconfirmed_takes first (service ∷ body) m kind e =
     subst (IsLaidOut (first ∷ service ∷ body)) same (first, kind, refl)
 
 -- an invoke id and one octet more
-numbered_takes : (made : ℕ → ℕ → List ℕ → Message) (octets : List ℕ) (m : Message) → numbered_of made octets ≡ Some m → (id octet : ℕ) × (rest : List ℕ) × (octets ≡ id ∷ octet ∷ rest) × (made id octet rest ≡ m)
-numbered_takes made [] m e = absurd (none-some m e)
-numbered_takes made (id ∷ []) m e = absurd (none-some m e)
-numbered_takes made (id ∷ octet ∷ rest) m e = (id, octet, rest, refl, cc)
+numbered_laid : (first : ℕ) (made : ℕ → ℕ → List ℕ → Message) (octets : List ℕ) (m : Message) → numbered_of made octets ≡ Some m → ((id octet : ℕ) (rest : List ℕ) → IsLaidOut (first ∷ id ∷ octet ∷ rest) (made id octet rest)) → IsLaidOut (first ∷ octets) m
+numbered_laid first made (id ∷ octet ∷ rest) m e laid = subst (IsLaidOut (first ∷ id ∷ octet ∷ rest)) (same_Some (made id octet rest) m e) (laid id octet rest)
+numbered_laid first made _ m e laid = absurd (none-some m e)
 
--- the octets of an APDU with these behind the first
-behind_first : (first : ℕ) (octets others : List ℕ) → octets ≡ others → first ∷ octets ≡ first ∷ others
-behind_first first octets others e = ap (λ (w : List ℕ). first ∷ w) e
-
-segment_takes : (first : ℕ) (octets : List ℕ) (m : Message) → first / 16 ≡ 4 → ◌≡◌ {A = Option Message} (Some segment_ack) (Some m) → IsLaidOut (first ∷ octets) m
-segment_takes first octets m kind e = let same : segment_ack ≡ m = cc in subst (IsLaidOut (first ∷ octets)) same (first, octets, kind, refl)
-
-simple_takes : (first : ℕ) (octets : List ℕ) (m : Message) → first / 16 ≡ 2 → numbered_of (λ id service _. simple_ack id service) octets ≡ Some m → IsLaidOut (first ∷ octets) m
-simple_takes first octets m kind e =
-    let n = numbered_takes _ _ _ e in
-    subst (IsLaidOut (first ∷ octets)) n.4 (first, n.2, kind, behind_first _ _ _ n.3)
-
-error_takes : (first : ℕ) (octets : List ℕ) (m : Message) → first / 16 ≡ 5 → numbered_of error octets ≡ Some m → IsLaidOut (first ∷ octets) m
-error_takes first octets m kind e =
-    let n = numbered_takes _ _ _ e in
-    subst (IsLaidOut (first ∷ octets)) n.4 (first, kind, behind_first _ _ _ n.3)
-
-reject_takes : (first : ℕ) (octets : List ℕ) (m : Message) → first / 16 ≡ 6 → numbered_of (λ id reason _. reject id reason) octets ≡ Some m → IsLaidOut (first ∷ octets) m
-reject_takes first octets m kind e =
-    let n = numbered_takes _ _ _ e in
-    subst (IsLaidOut (first ∷ octets)) n.4 (first, n.2, kind, behind_first _ _ _ n.3)
-
-abort_takes : (first : ℕ) (octets : List ℕ) (m : Message) → first / 16 ≡ 7 → numbered_of (λ id reason _. abort (bit 0 first) id reason) octets ≡ Some m → IsLaidOut (first ∷ octets) m
-abort_takes first octets m kind e =
-    let n = numbered_takes _ _ _ e in
-    subst (IsLaidOut (first ∷ octets)) n.4 (first, n.2, kind, refl, behind_first _ _ _ n.3)
-
--- the kinds from 4 on
-abbrev late_of : ℕ → List ℕ → Option Message
-late_of first octets =
-    if first / 16 == 4 then Some segment_ack
-    else if first / 16 == 5 then numbered_of error octets
-    else if first / 16 == 6 then numbered_of (λ id reason _. reject id reason) octets
-    else if first / 16 == 7 then numbered_of (λ id reason _. abort (bit 0 first) id reason) octets
-    else None
-
-late_takes : (first : ℕ) (octets : List ℕ) (m : Message) → late_of first octets ≡ Some m → IsLaidOut (first ∷ octets) m
-late_takes first octets m e =
-    let from7 : Option Message = cond (eqb (first / 16) 7) (numbered_of (λ id reason _. abort (bit 0 first) id reason) octets) None in
-    let from6 : Option Message = cond (eqb (first / 16) 6) (numbered_of (λ id reason _. reject id reason) octets) from7 in
-    let from5 : Option Message = cond (eqb (first / 16) 5) (numbered_of error octets) from6 in
-    elim (chosen (eqb (first / 16) 4) (Some segment_ack) from5 (Some m) e) [
-      | inl a ↦ segment_takes first octets m (eqb-true (first / 16) 4 a.0) a.1
-      | inr b ↦ elim (chosen (eqb (first / 16) 5) (numbered_of error octets) from6 (Some m) b.1) [
-        | inl a ↦ error_takes first octets m (eqb-true (first / 16) 5 a.0) a.1
-        | inr b ↦ elim (chosen (eqb (first / 16) 6) (numbered_of (λ id reason _. reject id reason) octets) from7 (Some m) b.1) [
-          | inl a ↦ reject_takes first octets m (eqb-true (first / 16) 6 a.0) a.1
-          | inr b ↦ elim (chosen (eqb (first / 16) 7) (numbered_of (λ id reason _. abort (bit 0 first) id reason) octets) None (Some m) b.1) [
-            | inl a ↦ abort_takes first octets m (eqb-true (first / 16) 7 a.0) a.1
-            | inr b ↦ absurd (none-some m b.1)
-          ]
-        ]
-      ]
-    ]
+-- the APDU of this kind, or of a later one
+this_kind : {T : Type 0} (first k : ℕ) {x y : Option Message} {m : Message} → (first / 16 ≡ k → x ≡ Some m → T) → (y ≡ Some m → T) → cond (eqb (first / 16) k) x y ≡ Some m → T
+this_kind first k here later e = elim (chosen (eqb (first / 16) k) _ _ _ e) [ inl a ↦ here (eqb-true (first / 16) k a.0) a.1 | inr b ↦ later b.1 ]
 
 apdu_takes : (octets : List ℕ) (m : Message) → apdu_of octets ≡ Some m → IsLaidOut octets m
 unfolding apdu_of
 apdu_takes [] m e = absurd (none-some m e)
 apdu_takes (first ∷ octets) m e =
-    let from3 : Option Message = cond (eqb (first / 16) 3) (complex_ack_of first octets) (late_of first octets) in
-    let from2 : Option Message = cond (eqb (first / 16) 2) (numbered_of (λ id service _. simple_ack id service) octets) from3 in
-    let from1 : Option Message = cond (eqb (first / 16) 1) (unconfirmed_of octets) from2 in
-    elim (chosen (eqb (first / 16) 0) (confirmed_of first octets) from1 (Some m) e) [
-      | inl a ↦ confirmed_takes first octets m (eqb-true (first / 16) 0 a.0) a.1
-      | inr b ↦ elim (chosen (eqb (first / 16) 1) (unconfirmed_of octets) from2 (Some m) b.1) [
-        | inl a ↦ unconfirmed_takes first octets m (eqb-true (first / 16) 1 a.0) a.1
-        | inr b ↦ elim (chosen (eqb (first / 16) 2) (numbered_of (λ id service _. simple_ack id service) octets) from3 (Some m) b.1) [
-          | inl a ↦ simple_takes first octets m (eqb-true (first / 16) 2 a.0) a.1
-          | inr b ↦ elim (chosen (eqb (first / 16) 3) (complex_ack_of first octets) (late_of first octets) (Some m) b.1) [
-            | inl a ↦ complex_takes first octets m (eqb-true (first / 16) 3 a.0) a.1
-            | inr b ↦ late_takes first octets m b.1
-          ]
-        ]
-      ]
-    ]
-
-confirmed_again : (first second id service : ℕ) (part_octets body : List ℕ) (part : Option Part) → first / 16 ≡ 0 → SpellsPart first part_octets part → apdu_of (first ∷ second ∷ id ∷ (part_octets ++ service ∷ body)) ≡ Some (confirmed part (second % 16) id service body)
-unfolding apdu_of
-confirmed_again first second id service part_octets body part kind s = rw (kind, parts_again _ _ _ _ _ s) refl
-
-complex_again : (first id service : ℕ) (part_octets body : List ℕ) (part : Option Part) → first / 16 ≡ 3 → SpellsPart first part_octets part → apdu_of (first ∷ id ∷ (part_octets ++ service ∷ body)) ≡ Some (complex_ack part id service body)
-unfolding apdu_of
-complex_again first id service part_octets body part kind s = rw (kind, parts_again _ _ _ _ _ s) refl
+    this_kind first 0 (confirmed_takes first octets m) (
+    this_kind first 1 (unconfirmed_takes first octets m) (
+    this_kind first 2 (λ kind f. numbered_laid first _ octets m f (λ id service rest. (first, rest, kind, refl))) (
+    this_kind first 3 (complex_takes first octets m) (
+    this_kind first 4 (λ kind f. subst (IsLaidOut (first ∷ octets)) (same_Some segment_ack m f) (first, octets, kind, refl)) (
+    this_kind first 5 (λ kind f. numbered_laid first error octets m f (λ id service body. (first, kind, refl))) (
+    this_kind first 6 (λ kind f. numbered_laid first _ octets m f (λ id reason rest. (first, rest, kind, refl))) (
+    this_kind first 7 (λ kind f. numbered_laid first _ octets m f (λ id reason rest. (first, rest, kind, refl, refl)))
+    (λ none. absurd (none-some m none))))))))) e
 
 apdu_again : (octets : List ℕ) (m : Message) → IsLaidOut octets m → apdu_of octets ≡ Some m
 unfolding apdu_of
-apdu_again octets (confirmed part code id service body) s =
-    ap apdu_of s.whole ∙ confirmed_again _ _ _ _ _ _ _ s.kind s.spelled ∙ ap (λ (k : ℕ). Some (confirmed part k id service body)) s.coded
-apdu_again octets (unconfirmed service body) s = ap apdu_of s.2 ∙ rw s.1 refl
-apdu_again octets (simple_ack id service) s = ap apdu_of s.3 ∙ rw s.2 refl
-apdu_again octets (complex_ack part id service body) s = ap apdu_of s.whole ∙ complex_again _ _ _ _ _ _ s.kind s.spelled
-apdu_again octets segment_ack s = ap apdu_of s.3 ∙ rw s.2 refl
-apdu_again octets (error id service body) s = ap apdu_of s.2 ∙ rw s.1 refl
-apdu_again octets (reject id reason) s = ap apdu_of s.3 ∙ rw s.2 refl
-apdu_again octets (abort server id reason) s = ap apdu_of s.4 ∙ rw (s.2, s.3) refl
+apdu_again octets (confirmed part code id service body) s = rw (s.whole, s.kind, parts_again _ _ _ service body s.spelled, s.coded) refl
+apdu_again octets (unconfirmed service body) s = rw (s.2, s.1) refl
+apdu_again octets (simple_ack id service) s = rw (s.3, s.2) refl
+apdu_again octets (complex_ack part id service body) s = rw (s.whole, s.kind, parts_again _ _ _ service body s.spelled) refl
+apdu_again octets segment_ack s = rw (s.3, s.2) refl
+apdu_again octets (error id service body) s = rw (s.2, s.1) refl
+apdu_again octets (reject id reason) s = rw (s.3, s.2) refl
+apdu_again octets (abort server id reason) s = rw (s.4, s.2, s.3) refl
 
 pub apdu_is : (octets : List ℕ) (m : Message) → (apdu_of octets ≡ Some m) ↔ IsLaidOut octets m
 apdu_is octets m = (apdu_takes octets m, apdu_again octets m)

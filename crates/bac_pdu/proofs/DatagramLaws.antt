@@ -1,50 +1,36 @@
 -- What is read of a datagram is what it carries, and what is written is carried back.
 use Rattle.std.proofs.Common.{slice_index_or, ◌≡◌, ℕ, ◌+◌, ◌/◌, ◌%◌, ◌<◌, ◌≤◌, Bool, true, false, cond, eqb, ◌||◌, List, [], ◌∷◌, ◌++◌, length, Option, Some, None, refl, sym, ap, subst, ◌∙◌, append_assoc, arith, inl, inr}
 use Rattle.std.specs.Prelude.{◌↔◌, is_some, IfSome, OnOk, Result, Ok, Err}
-use Rattle.std.proofs.lemmas.Bool.{eqb-true, ltb-true, lt-ltb, eq-eqb}
+use Rattle.std.proofs.lemmas.Bool.{eqb-true, eq-eqb}
+use Rattle.std.proofs.lemmas.Grind.{common_steps}
 use Rattle.std.proofs.lemmas.List.{length-append}
-use Rattle.std.proofs.lemmas.Option.{none-some, some_pair_parts}
+use Rattle.std.proofs.lemmas.Option.{none-some, some_pair_parts, cond_some}
 use Rattle.byteorder.specs.Endian.{big_number, big_bytes}
-use Rattle.byteorder.specs.Numbers.{big_number-reads_back, length-bytes_high_first}
-use Rattle.bac_wire.proofs.Readers.{found_at, chosen}
+use Rattle.byteorder.specs.Numbers.{big_number-reads_back}
+use Rattle.bac_wire.proofs.Readers.{found_at, chosen, only_if}
 use Rattle.bac_wire.proofs.TagLaws.{bind_some}
 use Rattle.bac_pdu.specs.Peer.{NetworkAddress, Station, IsRoutable}
 use Rattle.bac_pdu.specs.Header.{NetworkHeader, SpellsHeader, plain_header}
 use Rattle.bac_wire.specs.Front.{IsSingle}
 use Rattle.bac_pdu.specs.Datagram.{Delivery, SpellsOrigin, unicast, broadcast, forwarded, IsHeeded, Carries, Takes, wrapped, front_count, front_octets}
 use Rattle.bac_pdu.specs.DatagramReading.{forwarded_at, origin_at, link_at, is_routable, is_for_all, is_answerable, carried}
-use Rattle.bac_pdu.proofs.PeerLaws.{both}
 use Rattle.bac_pdu.proofs.HeaderLaws.{header_reader, header_written}
 
 -- ---- which headers are ignored
 
-routable_holds : (to : NetworkAddress) → is_routable to ≡ true → IsRoutable to
-routable_holds to e =
-    let a = both _ _ e in
-    let b = both _ _ a.1 in
-    let c = both _ _ b.1 in
-    let short = ltb-true 0 (length to.address) c.0 in
-    let long = ltb-true (length to.address) 8 c.1 in
-    record { local = ltb-true 0 to.network a.0; global = ltb-true to.network 65535 b.0; shortest = omega arith; longest = omega arith }
+routable : (to : NetworkAddress) → (is_routable to ≡ true) ↔ IsRoutable to
+routable to = (
+  λ e. record { local = grind (arith, common_steps); global = grind (arith, common_steps); shortest = grind (arith, common_steps); longest = grind (arith, common_steps) },
+  λ h. grind (arith, common_steps),
+)
 
-routable_tests : (to : NetworkAddress) → IsRoutable to → is_routable to ≡ true
-routable_tests to h = rw (lt-ltb 0 to.network h.local, lt-ltb to.network 65535 h.global, lt-ltb 0 (length to.address) (omega (arith, h.shortest)), lt-ltb (length to.address) 8 (omega (arith, h.longest))) refl
+destined : (to : Option NetworkAddress) → (is_for_all to ≡ true) ↔ IfSome to (λ t. t.network ≡ 65535)
+destined None = (λ e. tt, λ h. refl)
+destined (Some to) = (eqb-true to.network 65535, eq-eqb to.network 65535)
 
-destined_holds : (to : Option NetworkAddress) → is_for_all to ≡ true → IfSome to (λ t. t.network ≡ 65535)
-destined_holds None e = tt
-destined_holds (Some to) e = eqb-true to.network 65535 e
-
-destined_tests : (to : Option NetworkAddress) → IfSome to (λ t. t.network ≡ 65535) → is_for_all to ≡ true
-destined_tests None h = refl
-destined_tests (Some to) h = eq-eqb to.network 65535 h
-
-answerable_holds : (source : Option NetworkAddress) → is_answerable source ≡ true → IfSome source IsRoutable
-answerable_holds None e = tt
-answerable_holds (Some source) e = routable_holds source e
-
-answerable_tests : (source : Option NetworkAddress) → IfSome source IsRoutable → is_answerable source ≡ true
-answerable_tests None h = refl
-answerable_tests (Some source) h = routable_tests source h
+answerable : (source : Option NetworkAddress) → (is_answerable source ≡ true) ↔ IfSome source IsRoutable
+answerable None = (λ e. tt, λ h. refl)
+answerable (Some source) = routable source
 
 -- ---- the link header
 
@@ -52,35 +38,24 @@ abbrev Origin : Type 0
 Origin = Station × Bool
 
 forwarded_takes : (from : Station) (octets : List ℕ) (x : Origin) (rest : List ℕ) → forwarded_at octets ≡ found_at x rest → (front : List ℕ) × SpellsOrigin from 4 front x.0 x.1 × (octets ≡ front ++ rest)
-forwarded_takes from [] x rest e = absurd (none-some (x, rest) e)
-forwarded_takes from (a ∷ []) x rest e = absurd (none-some (x, rest) e)
-forwarded_takes from (a ∷ b ∷ []) x rest e = absurd (none-some (x, rest) e)
-forwarded_takes from (a ∷ b ∷ c ∷ []) x rest e = absurd (none-some (x, rest) e)
-forwarded_takes from (a ∷ b ∷ c ∷ d ∷ []) x rest e = absurd (none-some (x, rest) e)
-forwarded_takes from (a ∷ b ∷ c ∷ d ∷ f ∷ []) x rest e = absurd (none-some (x, rest) e)
 forwarded_takes from (a ∷ b ∷ c ∷ d ∷ f ∷ g ∷ octets) x rest e =
     let made : Origin = (record { ip = big_number 4 (a ∷ b ∷ c ∷ d ∷ []); port = big_number 2 (f ∷ g ∷ []); route = None }, true) in
     let parts = some_pair_parts made x octets rest e in
     let here : SpellsOrigin from 4 (a ∷ b ∷ c ∷ d ∷ f ∷ g ∷ []) made.0 made.1 = forwarded a b c d f g in
     (a ∷ b ∷ c ∷ d ∷ f ∷ g ∷ [], subst (λ (y : Origin). SpellsOrigin from 4 (a ∷ b ∷ c ∷ d ∷ f ∷ g ∷ []) y.0 y.1) parts.0 here, ap (λ (w : List ℕ). a ∷ b ∷ c ∷ d ∷ f ∷ g ∷ w) parts.1)
+forwarded_takes from _ x rest e = absurd (none-some (x, rest) e)
 
 origin_takes : (function : ℕ) (from : Station) (octets : List ℕ) (x : Origin) (rest : List ℕ) → origin_at function from octets ≡ found_at x rest → (front : List ℕ) × SpellsOrigin from function front x.0 x.1 × (octets ≡ front ++ rest)
 origin_takes function from octets x rest e =
-    let to_one : Option (Origin × List ℕ) = Some ((from, false), octets) in
-    let to_all : Option (Origin × List ℕ) = Some ((from, true), octets) in
-    let last : Option (Origin × List ℕ) = cond (eqb function 4) (forwarded_at octets) None in
-    elim (chosen (eqb function 10) to_one (cond (eqb function 11) to_all last) (found_at x rest) e) [
+    elim (chosen (eqb function 10) _ _ _ e) [
       | inl one ↦
           let parts = some_pair_parts (from, false) x octets rest one.1 in
           rw (eqb-true function 10 one.0) ([], subst (λ (y : Origin). SpellsOrigin from 10 [] y.0 y.1) parts.0 unicast, parts.1)
-      | inr more ↦ elim (chosen (eqb function 11) to_all last (found_at x rest) more.1) [
+      | inr more ↦ elim (chosen (eqb function 11) _ _ _ more.1) [
         | inl all ↦
             let parts = some_pair_parts (from, true) x octets rest all.1 in
             rw (eqb-true function 11 all.0) ([], subst (λ (y : Origin). SpellsOrigin from 11 [] y.0 y.1) parts.0 broadcast, parts.1)
-        | inr most ↦ elim (chosen (eqb function 4) (forwarded_at octets) None (found_at x rest) most.1) [
-          | inl four ↦ rw (eqb-true function 4 four.0) (forwarded_takes from octets x rest four.1)
-          | inr none ↦ absurd (none-some (x, rest) none.1)
-        ]
+        | inr most ↦ let four = only_if (eqb function 4) most.1 in rw (eqb-true function 4 four.0) (forwarded_takes from octets x rest four.1)
       ]
     ]
 
@@ -101,30 +76,20 @@ record BeginsLink (from : Station) (datagram : List ℕ) (x : Origin) (rest : Li
 
 link_takes : (from : Station) (datagram : List ℕ) (x : Origin) (rest : List ℕ) → link_at from datagram ≡ found_at x rest → BeginsLink from datagram x rest
 unfolding link_at
-link_takes from [] x rest e = absurd (none-some (x, rest) e)
-link_takes from (a ∷ []) x rest e = absurd (none-some (x, rest) e)
-link_takes from (a ∷ b ∷ []) x rest e = absurd (none-some (x, rest) e)
-link_takes from (a ∷ b ∷ c ∷ []) x rest e = absurd (none-some (x, rest) e)
 link_takes from (kind ∷ function ∷ high ∷ low ∷ octets) x rest e =
-    let test : Bool = eqb (big_number 2 (high ∷ low ∷ [])) (4 + length octets) in
-    elim (chosen (eqb kind 129) (cond test (origin_at function from octets) None) None (found_at x rest) e) [
-      | inl here ↦ elim (chosen test (origin_at function from octets) None (found_at x rest) here.1) [
-        | inl counted ↦
-            let taken = origin_takes function from octets x rest counted.1 in
-            let same = eqb-true (big_number 2 (high ∷ low ∷ [])) (4 + length octets) counted.0 in
-            record {
-              function = function;
-              high = high;
-              low = low;
-              origin = taken.0;
-              whole = ap (λ (k : ℕ). k ∷ function ∷ high ∷ low ∷ octets) (eqb-true kind 129 here.0) ∙ ap (λ (w : List ℕ). 129 ∷ function ∷ high ∷ low ∷ w) taken.2;
-              counted = same ∙ omega arith;
-              sent = taken.1;
-            }
-        | inr other ↦ absurd (none-some (x, rest) other.1)
-      ]
-      | inr other ↦ absurd (none-some (x, rest) other.1)
-    ]
+    let here = only_if (eqb kind 129) e in
+    let counted = only_if (eqb (big_number 2 (high ∷ low ∷ [])) (4 + length octets)) here.1 in
+    let taken = origin_takes function from octets x rest counted.1 in
+    record {
+      function = function;
+      high = high;
+      low = low;
+      origin = taken.0;
+      whole = ap (λ (k : ℕ). k ∷ function ∷ high ∷ low ∷ octets) (eqb-true kind 129 here.0) ∙ ap (λ (w : List ℕ). 129 ∷ function ∷ high ∷ low ∷ w) taken.2;
+      counted = eqb-true (big_number 2 (high ∷ low ∷ [])) (4 + length octets) counted.0 ∙ omega arith;
+      sent = taken.1;
+    }
+link_takes from _ x rest e = absurd (none-some (x, rest) e)
 
 -- ---- the datagram
 
@@ -135,26 +100,14 @@ delivered_as sender to_all header apdu = record { peer = record { ip = sender.ip
 abbrev heeded_as : Station → Bool → NetworkHeader → List ℕ → Option Delivery
 heeded_as sender to_all header apdu = cond (is_for_all header.destination) (cond (is_answerable header.source) (Some (delivered_as sender to_all header apdu)) None) None
 
--- what was delivered, and that the header is heeded
-record IsHeededAs (sender : Station) (to_all : Bool) (header : NetworkHeader) (apdu : List ℕ) (d : Delivery) : Type 0 where
-  heeded : IsHeeded header
-  same : delivered_as sender to_all header apdu ≡ d
-
-heeded_takes : (sender : Station) (to_all : Bool) (header : NetworkHeader) (apdu : List ℕ) (d : Delivery) → heeded_as sender to_all header apdu ≡ Some d → IsHeededAs sender to_all header apdu d
+heeded_takes : (sender : Station) (to_all : Bool) (header : NetworkHeader) (apdu : List ℕ) (d : Delivery) → heeded_as sender to_all header apdu ≡ Some d → IsHeeded header × (delivered_as sender to_all header apdu ≡ d)
 heeded_takes sender to_all header apdu d e =
-    let made : Delivery = delivered_as sender to_all header apdu in
-    elim (chosen (is_for_all header.destination) (cond (is_answerable header.source) (Some made) None) None (Some d) e) [
-      | inl all ↦ elim (chosen (is_answerable header.source) (Some made) None (Some d) all.1) [
-        | inl source ↦
-            let same : made ≡ d = cc in
-            record { heeded = record { destined = destined_holds header.destination all.0; answerable = answerable_holds header.source source.0 }; same = same }
-        | inr other ↦ absurd (none-some d other.1)
-      ]
-      | inr other ↦ absurd (none-some d other.1)
-    ]
+    let all = only_if (is_for_all header.destination) e in
+    let source = cond_some (is_answerable header.source) (delivered_as sender to_all header apdu) d all.1 in
+    (record { destined = (destined header.destination).0 all.0; answerable = (answerable header.source).0 source.0 }, source.1)
 
 heeded_again : (sender : Station) (to_all : Bool) (header : NetworkHeader) (apdu : List ℕ) → IsHeeded header → heeded_as sender to_all header apdu ≡ Some (delivered_as sender to_all header apdu)
-heeded_again sender to_all header apdu h = rw (destined_tests header.destination h.destined, answerable_tests header.source h.answerable) refl
+heeded_again sender to_all header apdu h = rw ((destined header.destination).1 h.destined, (answerable header.source).1 h.answerable) refl
 
 carried_takes : (from : Station) (datagram : List ℕ) (d : Delivery) → carried from datagram ≡ Some d → Carries from datagram d
 unfolding carried
@@ -178,11 +131,11 @@ carried_takes from datagram d e =
       counted = link.counted;
       sent = link.sent;
       headed = header.spelled;
-      heeded = heard.heeded;
+      heeded = heard.0;
       peer = refl;
       broadcast = refl;
     } in
-    subst (Carries from datagram) heard.same here
+    subst (Carries from datagram) heard.1 here
 
 carried_again_at : (from : Station) (function high low : ℕ) (origin header apdu : List ℕ) (sender : Station) (to_all : Bool) (network : NetworkHeader) → big_number 2 (high ∷ low ∷ []) ≡ 4 + length (origin ++ (header ++ apdu)) → SpellsOrigin from function origin sender to_all → SpellsHeader header network → IsHeeded network
     → carried from (129 ∷ function ∷ high ∷ low ∷ (origin ++ (header ++ apdu))) ≡ Some (delivered_as sender to_all network apdu)
@@ -225,13 +178,6 @@ unfolding wrapped
 wrapped_short None expect apdu routable = omega arith
 wrapped_short (Some station) expect apdu routable = omega (arith, routable.longest, length-append (station.address ++ 255 ∷ []) apdu, length-append station.address (255 ∷ []))
 
--- a frame that holds what is written
-pub frame_takes : (to : Option NetworkAddress) (expect : Bool) (apdu frame : List ℕ) → IfSome to IsRoutable → 4 + (length (plain_header to expect) + length apdu) < 65536 → frame ≡ wrapped to expect apdu → Takes to expect apdu frame
-unfolding wrapped
-frame_takes to expect apdu frame routable fits e =
-    let short : length (wrapped to expect apdu) < 65536 = omega (arith, length-append (plain_header to expect) apdu) in
-    subst (Takes to expect apdu) (sym e) (wrapped_takes _ _ _ routable short)
-
 -- the front and the APDU are the datagram
 pub front_before : (to : Option NetworkAddress) (expect : Bool) (apdu : List ℕ) → front_octets to expect (length apdu) ++ apdu ≡ wrapped to expect apdu
 unfolding front_octets wrapped
@@ -264,21 +210,12 @@ pub single : {A : Type 0} (Spells : List ℕ → A → Type 0) (read : List ℕ 
 single Spells read again octets x y s t =
     let same : ◌≡◌ {A = Option _} (Some x) (Some y) = sym (again octets x s) ∙ again octets y t in cc
 
-header_within : (to : Option NetworkAddress) (expect : Bool) (size : ℕ) → 4 + (length (plain_header to expect) + size) ≤ length (front_octets to expect size) + size
-unfolding front_octets
-header_within to expect size =
-    let header = plain_header to expect in
-    omega (arith, length-append (big_bytes 2 (4 + (length header + size))) header, length-bytes_high_first 2 (4 + (length header + size)))
-
 -- an APDU behind its front takes it to the station
-pub front_takes : (to : Option NetworkAddress) (expect : Bool) (apdu : List ℕ) (size : ℕ) (front frame : List ℕ) → IfSome to IsRoutable → size ≡ length apdu → length (front_octets to expect size) + size ≤ 1497 → front ≡ front_octets to expect size → frame ≡ front ++ apdu → Takes to expect apdu frame
-front_takes to expect apdu size front frame routable all fits is e =
-    let same : frame ≡ wrapped to expect apdu = e ∙ ap (λ (f : List ℕ). f ++ apdu) (is ∙ ap (front_octets to expect) all) ∙ front_before to expect apdu in
-    frame_takes _ _ _ _ routable (omega (arith, header_within to expect size, fits, all)) same
-
--- the same of a call that put the front there
 pub put_front_takes : {T E : Type 0} (result : Result T E) (to : Option NetworkAddress) (expect : Bool) (apdu : List ℕ) (size : ℕ) (front frame : List ℕ) → IfSome to IsRoutable → size ≡ length apdu → front ≡ front_octets to expect size → OnOk result (frame ≡ front ++ apdu) → OnOk result (length front + length apdu ≤ 1497) → OnOk result (Takes to expect apdu frame)
-put_front_takes (Ok x) to expect apdu size front frame routable all is e fits = front_takes _ _ _ _ _ _ routable all (omega (arith, all, fits, ap length is)) is e
+put_front_takes (Ok x) to expect apdu size front frame routable all is e fits =
+    let same : frame ≡ wrapped to expect apdu = e ∙ ap (λ (f : List ℕ). f ++ apdu) (is ∙ ap (front_octets to expect) all) ∙ front_before to expect apdu in
+    let short : length (wrapped to expect apdu) < 65536 = omega (arith, count_wrapped to expect apdu, length_front to expect size, ap length is, fits) in
+    subst (Takes to expect apdu) (sym same) (wrapped_takes to expect apdu routable short)
 put_front_takes (Err x) to expect apdu size front frame routable all is e fits = tt
 
 -- what takes an APDU to a station of this network is carried to it

@@ -1,37 +1,34 @@
 -- Reading the body of a Who-Is, of an I-Am or of an Error finds what its relation says.
-use Rattle.std.proofs.Common.{◌≡◌, ℕ, eqb, List, [], ◌∷◌, Some, None, refl, sym, subst, ◌∙◌, inl, inr}
+use Rattle.std.proofs.Common.{◌≡◌, ℕ, eqb, List, [], ◌∷◌, Option, Some, refl, sym, subst, ◌∙◌}
 use Rattle.std.specs.Prelude.{◌↔◌}
 use Rattle.std.proofs.lemmas.Bool.{eqb-true, eq-eqb}
 use Rattle.std.proofs.lemmas.Option.{none-some}
 use Rattle.bac_wire.specs.Front.{Begins}
+use Rattle.bac_wire.specs.Steps.{◌>>=◌}
+use Rattle.bac_wire.specs.Datum.{Datum, Spells}
 use Rattle.bac_wire.specs.ParameterReading.{number_at}
-use Rattle.bac_wire.proofs.Readers.{found_at, chosen}
+use Rattle.bac_wire.proofs.Readers.{only_if}
 use Rattle.bac_wire.proofs.TagLaws.{bind_some}
-use Rattle.bac_wire.proofs.ParameterLaws.{no_number, kind_again, unsigned_kind, enumerated_kind, object_kind}
+use Rattle.bac_wire.proofs.ParameterLaws.{no_number, number_reader, IsStep, unsigned_step, enumerated_step, object_step}
 use Rattle.bac_pdu.specs.declared.discovery.WhoIs.{WhoIs}
 use Rattle.bac_pdu.specs.declared.discovery.WhoIs.TheVariants as limits
-use Rattle.bac_pdu.specs.PropertyReading.{whole_of}
 use Rattle.bac_pdu.specs.Discovery.{SpellsNumbered, IsWhoIsBody, Introduction, IsIAmBody}
 use Rattle.bac_pdu.specs.Failure.{IsErrorBody}
 use Rattle.bac_pdu.specs.ValueReading.{range_of, who_is_of, introduction_of, error_of}
 use Rattle.bac_pdu.proofs.SequenceLaws.{whole_ended}
-use Rattle.bac_pdu.proofs.Steps.{then_takes, object_step, unsigned_step, enumerated_step}
-use Rattle.bac_pdu.proofs.ParameterLaws.{number_begins, number_read}
+use Rattle.bac_pdu.proofs.ParameterLaws.{reader_step}
 
 -- ---- Who-Is
 
-numbered_begins : (number : ℕ) (octets : List ℕ) (n : ℕ) (rest : List ℕ) → number_at number octets ≡ found_at n rest → Begins SpellsNumbered octets (number, n) rest
-numbered_begins number octets n rest e = let b = number_begins _ _ _ _ e in record { front = b.front; spelled = b.spelled; whole = b.whole }
-
-numbered_read : (number : ℕ) (octets : List ℕ) (n : ℕ) (rest : List ℕ) → Begins SpellsNumbered octets (number, n) rest → number_at number octets ≡ found_at n rest
-numbered_read number octets n rest b = number_read _ _ _ _ (record { front = b.front; spelled = b.spelled; whole = b.whole })
+numbered_step : (number : ℕ) → IsStep SpellsNumbered (λ n. (number, n)) (number_at number)
+numbered_step number = reader_step (λ n. (number, n)) (number_reader number) (λ front n s. s) (λ front n s. s)
 
 range_takes : (body : List ℕ) (w : WhoIs) → range_of body ≡ Some w → IsWhoIsBody body w
 range_takes body w e =
     let a = bind_some _ _ _ e in
     let b = bind_some _ _ _ a.2 in
     let end = whole_ended (limits.Range a.0.0 b.0.0) w b.0.1 b.2 in
-    subst (IsWhoIsBody body) end.1 (a.0.1, numbered_begins 0 body a.0.0 a.0.1 a.1, (b.0.1, numbered_begins 1 a.0.1 b.0.0 b.0.1 b.1, end.0))
+    subst (IsWhoIsBody body) end.1 (a.0.1, (numbered_step 0).takes body a.0.0 a.0.1 a.1, (b.0.1, (numbered_step 1).takes a.0.1 b.0.0 b.0.1 b.1, end.0))
 
 who_is_takes : (body : List ℕ) (w : WhoIs) → who_is_of body ≡ Some w → IsWhoIsBody body w
 unfolding who_is_of
@@ -39,18 +36,22 @@ who_is_takes [] w e = let same : limits.All ≡ w = cc in subst (IsWhoIsBody [])
 who_is_takes (x ∷ xs) w e = range_takes (x ∷ xs) w e
 
 range_again : (body : List ℕ) (low high : ℕ) → IsWhoIsBody body (limits.Range low high) → range_of body ≡ Some (limits.Range low high)
-range_again body low high s = rw (numbered_read _ _ _ _ s.1, numbered_read _ _ _ _ s.2.1, s.2.2) refl
+range_again body low high s = rw ((numbered_step 0).again body low s.0 s.1, (numbered_step 1).again s.0 high s.2.0 s.2.1, s.2.2) refl
 
 who_is_again : (body : List ℕ) (w : WhoIs) → IsWhoIsBody body w → who_is_of body ≡ Some w
 unfolding who_is_of
 who_is_again body limits.All s = rw s refl
-who_is_again [] (limits.Range low high) s = absurd (none-some (low, s.0) (sym (no_number 0) ∙ numbered_read 0 [] low s.0 s.1))
+who_is_again [] (limits.Range low high) s = absurd (none-some (low, s.0) (sym (no_number 0) ∙ (numbered_step 0).again [] low s.0 s.1))
 who_is_again (x ∷ xs) (limits.Range low high) s = range_again _ _ _ s
 
 pub who_is_is : (body : List ℕ) (w : WhoIs) → (who_is_of body ≡ Some w) ↔ IsWhoIsBody body w
 who_is_is body w = (who_is_takes body w, who_is_again body w)
 
 -- ---- I-Am and errors
+
+then_takes : {A B : Type 0} {made : A → Datum} {at : List ℕ → Option (A × List ℕ)} → IsStep Spells made at → (octets : List ℕ) (f : A × List ℕ → Option B) (y : B) → (at octets >>= f) ≡ Some y
+    → (x : A) × (rest : List ℕ) × Begins Spells octets (made x) rest × (f (x, rest) ≡ Some y)
+then_takes step octets f y e = let a = bind_some _ _ _ e in (a.0.0, a.0.1, step.takes octets a.0.0 a.0.1 a.1, a.2)
 
 introduction_takes : (body : List ℕ) (i : Introduction) → introduction_of body ≡ Some i → IsIAmBody body i
 unfolding introduction_of
@@ -60,18 +61,15 @@ introduction_takes body i e =
     let c = then_takes enumerated_step b.1 _ _ b.3 in
     let d = then_takes unsigned_step c.1 _ _ c.3 in
     let made : Introduction = record { device = a.0; max_apdu = b.0; segmentation = c.0; vendor = d.0 } in
-    elim (chosen (eqb a.0.kind 8) (whole_of made d.1) None (Some i) d.3) [
-      | inl eight ↦
-          let end = whole_ended made i d.1 eight.1 in
-          subst (IsIAmBody body) end.1 (record { device = eqb-true a.0.kind 8 eight.0; spelled = (a.1, a.2, (b.1, b.2, (c.1, c.2, (d.1, d.2, end.0)))) })
-      | inr other ↦ absurd (none-some i other.1)
-    ]
+    let eight = only_if (eqb a.0.kind 8) d.3 in
+    let end = whole_ended made i d.1 eight.1 in
+    subst (IsIAmBody body) end.1 (record { device = eqb-true a.0.kind 8 eight.0; spelled = (a.1, a.2, (b.1, b.2, (c.1, c.2, (d.1, d.2, end.0)))) })
 
 introduction_again : (body : List ℕ) (i : Introduction) → IsIAmBody body i → introduction_of body ≡ Some i
 unfolding introduction_of
 introduction_again body i s =
     let t = s.spelled in
-    rw (kind_again _ _ object_kind body i.device t.0 t.1, kind_again _ _ unsigned_kind t.0 i.max_apdu t.2.0 t.2.1, kind_again _ _ enumerated_kind t.2.0 i.segmentation t.2.2.0 t.2.2.1, kind_again _ _ unsigned_kind t.2.2.0 i.vendor t.2.2.2.0 t.2.2.2.1, eq-eqb i.device.kind 8 s.device, t.2.2.2.2) refl
+    rw (object_step.again body i.device t.0 t.1, unsigned_step.again t.0 i.max_apdu t.2.0 t.2.1, enumerated_step.again t.2.0 i.segmentation t.2.2.0 t.2.2.1, unsigned_step.again t.2.2.0 i.vendor t.2.2.2.0 t.2.2.2.1, eq-eqb i.device.kind 8 s.device, t.2.2.2.2) refl
 
 pub introduction_is : (body : List ℕ) (i : Introduction) → (introduction_of body ≡ Some i) ↔ IsIAmBody body i
 introduction_is body i = (introduction_takes body i, introduction_again body i)
@@ -86,9 +84,7 @@ error_takes body x e =
 
 error_again : (body : List ℕ) (x : ℕ × ℕ) → IsErrorBody body x → error_of body ≡ Some x
 unfolding error_of
-error_again body x s = rw (kind_again _ _ enumerated_kind body x.0 s.1.0 s.1.1, kind_again _ _ enumerated_kind s.1.0 x.1 s.1.2.0 s.1.2.1) refl
+error_again body x s = rw (enumerated_step.again body x.0 s.1.0 s.1.1, enumerated_step.again s.1.0 x.1 s.1.2.0 s.1.2.1) refl
 
 pub error_is : (body : List ℕ) (x : ℕ × ℕ) → (error_of body ≡ Some x) ↔ IsErrorBody body x
 error_is body x = (error_takes body x, error_again body x)
-
--- ---- what is read is found

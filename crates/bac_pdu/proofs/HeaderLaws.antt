@@ -1,12 +1,12 @@
 -- Reading a network header finds what its octets spell, and what is written spells its destination.
-use Rattle.std.proofs.Common.{◌≡◌, ℕ, ◌/◌, ◌%◌, ◌<◌, ◌≤◌, Bool, true, false, cond, eqb, ltb, List, [], ◌∷◌, ◌++◌, length, take, drop, Option, Some, None, refl, sym, ap, subst, ◌∙◌, append_assoc, arith, inl, inr}
+use Rattle.std.proofs.Common.{◌≡◌, ℕ, ◌/◌, ◌%◌, ◌<◌, ◌≤◌, Bool, true, false, eqb, ltb, List, [], ◌∷◌, ◌++◌, length, take, drop, Option, Some, None, refl, sym, ap, subst, ◌∙◌, append_assoc, arith}
 use Rattle.std.proofs.lemmas.Bool.{eqb-true, ltb-false, le-ltb}
 use Rattle.std.proofs.lemmas.List.{take_at, drop_at, take-append-drop, length-append, length-take-le}
 use Rattle.std.proofs.lemmas.Option.{none-some, some_pair_parts}
 use Rattle.std.specs.Prelude.{IfSome}
 use Rattle.byteorder.specs.Endian.{big_number}
 use Rattle.byteorder.specs.Numbers.{big_number-reads_back}
-use Rattle.bac_wire.proofs.Readers.{IsReader, reader_of, found_at, chosen}
+use Rattle.bac_wire.proofs.Readers.{IsReader, reader_of, found_at, only_if, unless}
 use Rattle.bac_wire.proofs.TagLaws.{bind_some}
 use Rattle.bac_pdu.specs.Bits.{bit}
 use Rattle.bac_pdu.specs.Peer.{NetworkAddress, IsRoutable}
@@ -17,13 +17,10 @@ use Rattle.bac_pdu.specs.DatagramReading.{counted_at, address_at, announced_at, 
 
 count_takes : (count : ℕ) (octets address rest : List ℕ) → counted_at (count ∷ octets) ≡ found_at address rest → (octets ≡ address ++ rest) × (count ≡ length address)
 count_takes count octets address rest e =
-    elim (chosen (ltb (length octets) count) None (found_at (take count octets) (drop count octets)) (found_at address rest) e) [
-      | inl short ↦ absurd (none-some (address, rest) short.1)
-      | inr room ↦
-          let parts = some_pair_parts (take count octets) address (drop count octets) rest room.1 in
-          let fits : count ≤ length octets = ltb-false (length octets) count room.0 in
-          (sym (take-append-drop count octets) ∙ ap (λ (w : List ℕ). w ++ drop count octets) parts.0 ∙ ap (λ (w : List ℕ). address ++ w) parts.1, sym (length-take-le count octets fits) ∙ ap length parts.0)
-    ]
+    let room = unless (ltb (length octets) count) e in
+    let parts = some_pair_parts (take count octets) address (drop count octets) rest room.1 in
+    let fits : count ≤ length octets = ltb-false (length octets) count room.0 in
+    (sym (take-append-drop count octets) ∙ ap (λ (w : List ℕ). w ++ drop count octets) parts.0 ∙ ap (λ (w : List ℕ). address ++ w) parts.1, sym (length-take-le count octets fits) ∙ ap length parts.0)
 
 count_again : (address rest : List ℕ) → counted_at (length address ∷ (address ++ rest)) ≡ found_at address rest
 count_again address rest =
@@ -32,9 +29,6 @@ count_again address rest =
 
 address_takes : (octets : List ℕ) (station : NetworkAddress) (rest : List ℕ) → address_at octets ≡ found_at station rest → (front : List ℕ) × SpellsAddress front station × (octets ≡ front ++ rest)
 unfolding address_at
-address_takes [] station rest e = absurd (none-some (station, rest) e)
-address_takes (high ∷ []) station rest e = absurd (none-some (station, rest) e)
-address_takes (high ∷ low ∷ []) station rest e = absurd (none-some (station, rest) e)
 address_takes (high ∷ low ∷ count ∷ octets) station rest e =
     let network : ℕ = big_number 2 (high ∷ low ∷ []) in
     let a = bind_some _ _ _ e in
@@ -45,13 +39,11 @@ address_takes (high ∷ low ∷ count ∷ octets) station rest e =
     let made : NetworkAddress = record { network = network; address = a.0.0 } in
     let here : SpellsAddress (high ∷ low ∷ length a.0.0 ∷ a.0.0) made = record { high = high; low = low; whole = refl; number = refl } in
     (high ∷ low ∷ length a.0.0 ∷ a.0.0, subst (λ (w : NetworkAddress). SpellsAddress (high ∷ low ∷ length a.0.0 ∷ a.0.0) w) parts.0 here, line)
-
-address_again_at : (high low network : ℕ) (address rest : List ℕ) → network ≡ big_number 2 (high ∷ low ∷ []) → address_at (high ∷ low ∷ length address ∷ (address ++ rest)) ≡ found_at (record { network = network; address = address }) rest
-unfolding address_at
-address_again_at high low network address rest e = rw (count_again address rest, e) refl
+address_takes _ station rest e = absurd (none-some (station, rest) e)
 
 address_again : (front : List ℕ) (station : NetworkAddress) (rest : List ℕ) → SpellsAddress front station → address_at (front ++ rest) ≡ found_at station rest
-address_again front station rest s = ap (λ (w : List ℕ). address_at (w ++ rest)) s.whole ∙ address_again_at _ _ _ _ _ s.number
+unfolding address_at
+address_again front station rest s = rw (s.whole, count_again station.address rest, ← s.number) refl
 
 -- ---- the network header
 
@@ -98,30 +90,18 @@ control_takes control octets header rest carries e =
 
 header_takes : (octets : List ℕ) (header : NetworkHeader) (rest : List ℕ) → header_at octets ≡ found_at header rest → (front : List ℕ) × SpellsHeader front header × (octets ≡ front ++ rest)
 unfolding header_at
-header_takes [] header rest e = absurd (none-some (header, rest) e)
-header_takes (version ∷ []) header rest e = absurd (none-some (header, rest) e)
 header_takes (version ∷ control ∷ octets) header rest e =
-    elim (chosen (eqb version 1) (cond (bit 7 control) None (behind_control control octets)) None (found_at header rest) e) [
-      | inl one ↦ elim (chosen (bit 7 control) None (behind_control control octets) (found_at header rest) one.1) [
-        | inl message ↦ absurd (none-some (header, rest) message.1)
-        | inr carries ↦
-            let taken = control_takes control octets header rest carries.0 carries.1 in
-            (taken.0, taken.1, ap (λ (v : ℕ). v ∷ control ∷ octets) (eqb-true version 1 one.0) ∙ taken.2)
-      ]
-      | inr other ↦ absurd (none-some (header, rest) other.1)
-    ]
-
-header_again_at : (control : ℕ) (destination source hops rest : List ℕ) (to from : Option NetworkAddress) → bit 7 control ≡ false → SpellsAnnounced (bit 5 control) destination to → SpellsAnnounced (bit 3 control) source from → SpellsHops (bit 5 control) hops
-    → header_at (1 ∷ control ∷ (destination ++ (source ++ (hops ++ rest)))) ≡ found_at (record { destination = to; source = from }) rest
-unfolding header_at
-header_again_at control destination source hops rest to from carries destined sent hopped =
-    rw (carries, announced_again _ _ _ _ destined, announced_again _ _ _ _ sent, hops_again _ _ _ hopped) refl
+    let one = only_if (eqb version 1) e in
+    let carries = unless (bit 7 control) one.1 in
+    let taken = control_takes control octets header rest carries.0 carries.1 in
+    (taken.0, taken.1, ap (λ (v : ℕ). v ∷ control ∷ octets) (eqb-true version 1 one.0) ∙ taken.2)
+header_takes _ header rest e = absurd (none-some (header, rest) e)
 
 header_again : (front : List ℕ) (header : NetworkHeader) (rest : List ℕ) → SpellsHeader front header → header_at (front ++ rest) ≡ found_at header rest
+unfolding header_at
 header_again front header rest s =
-    let outer : (s.destination ++ (s.source ++ s.hops)) ++ rest ≡ s.destination ++ (s.source ++ (s.hops ++ rest)) = append_assoc s.destination (s.source ++ s.hops) rest ∙ ap (λ (w : List ℕ). s.destination ++ w) (append_assoc s.source s.hops rest) in
-    ap (λ (w : List ℕ). header_at (w ++ rest)) s.whole ∙ ap (λ (w : List ℕ). header_at (1 ∷ s.control ∷ w)) outer
-    ∙ header_again_at _ _ _ _ _ _ _ s.carries s.destined s.sent s.hopped
+    let line : (s.destination ++ (s.source ++ s.hops)) ++ rest ≡ s.destination ++ (s.source ++ (s.hops ++ rest)) = append_assoc s.destination (s.source ++ s.hops) rest ∙ ap (λ (w : List ℕ). s.destination ++ w) (append_assoc s.source s.hops rest) in
+    rw (s.whole, line, s.carries, announced_again _ _ _ _ s.destined, announced_again _ _ _ _ s.sent, hops_again _ _ _ s.hopped) refl
 
 pub header_reader : IsReader SpellsHeader header_at
 header_reader = reader_of SpellsHeader header_at header_takes header_again

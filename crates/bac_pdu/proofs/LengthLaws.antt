@@ -1,47 +1,29 @@
 -- How long the body of a ReadProperty is at most.
-use Rattle.std.proofs.Common.{ℕ, ◌≤◌, Bool, true, false, cond, List, [], ◌∷◌, ◌++◌, length, Option, Some, None, arith}
-use Rattle.std.specs.Prelude.{nat_lt}
+use Rattle.std.proofs.Common.{ℕ, ◌≤◌, List, [], ◌++◌, length, Option, Some, None, arith}
+use Rattle.std.proofs.lemmas.Grind.{common_steps}
 use Rattle.std.proofs.lemmas.List.{length-append}
 use Rattle.byteorder.specs.Endian.{big_bytes}
 use Rattle.byteorder.specs.Numbers.{length-bytes_high_first}
-use Rattle.bac_wire.specs.Tag.{plain_tag, plain_number, plain_length}
+use Rattle.bac_wire.specs.Tag.{plain_tag}
 use Rattle.bac_wire.specs.Datum.{octet_count}
 use Rattle.bac_wire.specs.Identifier.{Identifier, number_of}
 use Rattle.bac_wire.specs.Parameter.{context_tag, context_octets, number_octets, object_octets}
-use Rattle.bac_wire.proofs.PlainTag.{plain_length_most}
 use Rattle.bac_wire.proofs.PlainDatum.{count_high}
 use Rattle.bac_pdu.specs.Parameter.{index, optional, plain_parameter, plain_all}
 use Rattle.bac_pdu.specs.Property.{Reference, read_octets}
 
-number_short : (number : ℕ) → length (plain_number number) ≤ 1
-number_short number = go (nat_lt number 15)
-  where
-    go : (b : Bool) → length (cond b [] (number ∷ [])) ≤ 1
-    go true = omega arith
-    go false = omega arith
-
 tag_short : (number count : ℕ) → length (plain_tag (context_tag number count)) ≤ 7
 unfolding plain_tag
-tag_short number count =
-    let low = number_short number in
-    let high = plain_length_most count in
-    omega (arith, length-append (plain_number number) (plain_length count), low, high)
+tag_short number count = grind (arith, common_steps)
 
 context_short : (number : ℕ) (contents : List ℕ) → length contents ≤ 8 → length (context_octets number contents) ≤ 15
-context_short number contents short =
-    let tag = tag_short number (length contents) in
-    omega (arith, length-append (plain_tag (context_tag number (length contents))) contents, tag, short)
+context_short number contents short = omega (arith, length-append (plain_tag (context_tag number (length contents))) contents, tag_short number (length contents))
 
 number_octets_short : (number n : ℕ) → length (number_octets number n) ≤ 15
-number_octets_short number n =
-    let count = count_high n in
-    let long = length-bytes_high_first (octet_count n) n in
-    context_short number (big_bytes (octet_count n) n) (omega (arith, count, long))
+number_octets_short number n = context_short number (big_bytes (octet_count n) n) (rw (length-bytes_high_first (octet_count n) n) (count_high n))
 
 object_octets_short : (number : ℕ) (id : Identifier) → length (object_octets number id) ≤ 15
-object_octets_short number id =
-    let long = length-bytes_high_first 4 (number_of id) in
-    context_short number (big_bytes 4 (number_of id)) (omega (arith, long))
+object_octets_short number id = context_short number (big_bytes 4 (number_of id)) (rw (length-bytes_high_first 4 (number_of id)) (omega arith))
 
 index_short : (i : Option ℕ) → length (plain_all plain_parameter (optional index i)) ≤ 15
 unfolding plain_parameter

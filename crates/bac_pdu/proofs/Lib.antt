@@ -1,6 +1,5 @@
 pub mod PeerLaws
 pub mod SequenceLaws
-pub mod Steps
 pub mod HeaderLaws
 pub mod DatagramLaws
 pub mod ApduLaws

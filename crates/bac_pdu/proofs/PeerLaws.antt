@@ -1,9 +1,9 @@
 -- `==` on peers compares the stations.
-use Rattle.std.proofs.Common.{◌≡◌, ℕ, ◌-◌, Bool, true, false, List, ◌++◌, length, take, drop, Option, Some, None, refl, sym, ap, ◌∙◌, arith}
-use Rattle.std.specs.Prelude.{◌&&◌, IfSome, replicate}
+use Rattle.std.proofs.Common.{◌≡◌, ℕ, ◌-◌, true, List, ◌++◌, length, take, drop, Option, Some, None, refl, sym, ap, ◌∙◌, arith}
+use Rattle.std.specs.Prelude.{IfSome, replicate}
 use Rattle.std.specs.Option.{option_map, option_eq}
 use Rattle.std.specs.Cmp.Lexicographic.{bytes_decides}
-use Rattle.std.proofs.lemmas.Bool.{eqb-true, eq-eqb, false≢true}
+use Rattle.std.proofs.lemmas.Bool.{and_parts, eqb-true, eq-eqb, false≢true}
 use Rattle.std.proofs.lemmas.List.{take-append-drop, length-take-le}
 use Rattle.std.proofs.lemmas.Option.{none-some, same_Some}
 use Rattle.bac_pdu.specs.declared.route.Route.{Route}
@@ -11,10 +11,6 @@ use Rattle.bac_pdu.specs.declared.peer.Peer.{Peer}
 use Rattle.bac_pdu.specs.contracts.route.RoutePartialEq.TheImpl.{eq-value as route_eq}
 use Rattle.bac_pdu.specs.contracts.peer.PeerPartialEq.TheImpl.{eq-value as peer_eq}
 use Rattle.bac_pdu.specs.Peer.{NetworkAddress, IsKept, network_address, station}
-
-pub both : (s t : Bool) → (s && t) ≡ true → (s ≡ true) × (t ≡ true)
-both true t e = (refl, e)
-both false t e = absurd (false≢true e)
 
 -- the octets of a route are the address, and zeros
 same_octets : (a b : Route) → IsKept a → IsKept b → network_address a ≡ network_address b → (a.count ≡ b.count) × (a.octets ≡ b.octets)
@@ -27,8 +23,8 @@ same_octets a b h k e =
 route_decides : (a b : Route) → IsKept a → IsKept b → (route_eq.it a b ≡ true → network_address a ≡ network_address b) × (network_address a ≡ network_address b → route_eq.it a b ≡ true)
 route_decides a b h k = (
   (λ e.
-      let first = both _ _ e in
-      let second = both _ _ first.1 in
+      let first = and_parts _ _ e in
+      let second = and_parts _ _ first.1 in
       let octets = (bytes_decides a.octets b.octets).0 second.1 in
       rw (eqb-true a.network b.network first.0, eqb-true a.count b.count second.0, octets) refl),
   (λ e.
@@ -49,8 +45,8 @@ pub peer_decides : (p q : Peer) → IfSome p.route IsKept → IfSome q.route IsK
 peer_decides p q h k =
     let routes = routes_decide p.route q.route h k in (
       (λ e.
-          let first = both _ _ e in
-          let second = both _ _ first.1 in
+          let first = and_parts _ _ e in
+          let second = and_parts _ _ first.1 in
           rw (eqb-true p.ip q.ip first.0, eqb-true p.port q.port second.0, routes.0 second.1) refl),
       (λ e.
           rw (eq-eqb p.ip q.ip (ap (λ s. s.ip) e), eq-eqb p.port q.port (ap (λ s. s.port) e)) (routes.1 (ap (λ s. s.route) e))),

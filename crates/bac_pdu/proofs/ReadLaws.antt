@@ -3,20 +3,19 @@ use Rattle.std.proofs.Common.{◌≡◌, ℕ, List, [], ◌∷◌, Some, None, R
 use Rattle.std.specs.Result.{result_ok}
 use Rattle.std.specs.Prelude.{◌↔◌, ◌⊎◌}
 use Rattle.std.proofs.lemmas.Option.{none-some}
-use Rattle.bac_wire.specs.Front.{Begins, SpellsTo}
-use Rattle.bac_wire.specs.Identifier.{Identifier}
+use Rattle.bac_wire.specs.Front.{SpellsTo}
 use Rattle.bac_wire.specs.ParameterReading.{number_at, object_at}
 use Rattle.bac_wire.proofs.TagLaws.{bind_some}
 use Rattle.bac_wire.proofs.ParameterLaws.{no_number, no_object, enclosed_no_number}
 use Rattle.bac_pdu.specs.declared.reject.RejectReason.{RejectReason}
 use Rattle.bac_pdu.specs.declared.reject.RejectReason.TheVariants.{InvalidTag, MissingParameter, TooMany}
-use Rattle.bac_pdu.specs.Parameter.{object, property, index, value, SpellsParameter}
+use Rattle.bac_pdu.specs.Parameter.{index, value, SpellsParameter}
 use Rattle.bac_pdu.specs.Property.{Reference, Answer, reference_parameters, IsReadBody, IsAckBody}
 use Rattle.bac_pdu.specs.Reject.{HasMore, LacksReference, ReadFault, IsRejectReason, IsOutcome}
-use Rattle.bac_pdu.specs.PropertyReading.{optional_at, unless_missing, reference_at, read_of, ack_of}
+use Rattle.bac_pdu.specs.PropertyReading.{optional_at, reference_at, read_of, ack_of}
 use Rattle.bac_pdu.proofs.SequenceLaws.{then_to, split_to, to_front, from_front, whole_ended}
-use Rattle.bac_pdu.proofs.ParameterLaws.{object_begins, object_read, property_begins, property_read, value_begins, value_read, index_numbered, optional_begins, optional_read}
-use Rattle.bac_pdu.proofs.RejectLaws.{and_then_ok, and_then_err, ok_err, needs_ok, needs_takes, needs_empty, needs_fails, ended_ok, ended_err, IsJudge, outcome_is}
+use Rattle.bac_pdu.proofs.ParameterLaws.{object_step, property_step, value_step, index_step, optional_begins, optional_read}
+use Rattle.bac_pdu.proofs.RejectLaws.{and_then_ok, and_then_err, ok_err, step_ok, needs_takes, needs_empty, needs_fails, ended_ok, ended_err, IsJudge, outcome_is}
 
 -- ---- the reference
 
@@ -28,30 +27,24 @@ reference_takes body x e =
     let made : Reference × List ℕ = (record { object = a.0.0; property = b.0.0; index = (optional_at 2 b.0.1).0 }, (optional_at 2 b.0.1).1) in
     let same : made ≡ x = cc in
     subst (λ (y : Reference × List ℕ). SpellsTo SpellsParameter body (reference_parameters y.0) y.1) same
-    (a.0.1, object_begins body a.0.0 a.0.1 (needs_takes body (object_at 0 body) a.0 a.1), (b.0.1, property_begins a.0.1 b.0.0 b.0.1 (needs_takes a.0.1 (number_at 1 a.0.1) b.0 b.1), optional_begins 2 index index_numbered b.0.1))
-
-object_ok : (body : List ℕ) (id : Identifier) (rest : List ℕ) → Begins SpellsParameter body (object id) rest → unless_missing body (object_at 0 body) ≡ Ok (id, rest)
-object_ok body id rest b = needs_ok body (object_at 0 body) (id, rest) (λ e. ap (object_at 0) e ∙ no_object 0) (object_read body id rest b)
-
-property_ok : (body : List ℕ) (n : ℕ) (rest : List ℕ) → Begins SpellsParameter body (property n) rest → unless_missing body (number_at 1 body) ≡ Ok (n, rest)
-property_ok body n rest b = needs_ok body (number_at 1 body) (n, rest) (λ e. ap (number_at 1) e ∙ no_number 1) (property_read body n rest b)
+    (a.0.1, object_step.takes body a.0.0 a.0.1 (needs_takes body (object_at 0 body) a.0 a.1), (b.0.1, property_step.takes a.0.1 b.0.0 b.0.1 (needs_takes a.0.1 (number_at 1 a.0.1) b.0 b.1), optional_begins 2 index index_step b.0.1))
 
 pub reference_again : (body : List ℕ) (r : Reference) (rest : List ℕ) → SpellsTo SpellsParameter body (reference_parameters r) rest → (r.index ≡ None → number_at 2 rest ≡ None) → reference_at body ≡ Ok (r, rest)
 unfolding reference_at
-reference_again body r rest s none = rw (object_ok _ _ _ s.1, property_ok _ _ _ s.2.1, optional_read _ _ index_numbered s.2.0 r.index rest s.2.2 none) refl
+reference_again body r rest s none = rw (step_ok object_step (no_object 0) _ _ _ s.1, step_ok property_step (no_number 1) _ _ _ s.2.1, optional_read _ _ index_step s.2.0 r.index rest s.2.2 none) refl
 
 -- where a reference is spelled one is read
 pub reference_found : (body : List ℕ) (r : Reference) (rest : List ℕ) → SpellsTo SpellsParameter body (reference_parameters r) rest → (x : Reference × List ℕ) × (reference_at body ≡ Ok x)
 unfolding reference_at
 reference_found body r rest s =
     let made : Reference × List ℕ = (record { object = r.object; property = r.property; index = (optional_at 2 s.2.0).0 }, (optional_at 2 s.2.0).1) in
-    (made, rw (object_ok _ _ _ s.1, property_ok _ _ _ s.2.1) refl)
+    (made, rw (step_ok object_step (no_object 0) _ _ _ s.1, step_ok property_step (no_number 1) _ _ _ s.2.1) refl)
 
 pub reference_lacks : (body : List ℕ) → LacksReference body → reference_at body ≡ Err MissingParameter
 unfolding reference_at
 reference_lacks body lacks = elim lacks [
   | inl empty ↦ rw (needs_empty _ _ empty) refl
-  | inr alone ↦ rw (object_ok _ _ _ alone.1.1, needs_empty _ _ alone.1.2) refl
+  | inr alone ↦ rw (step_ok object_step (no_object 0) _ _ _ alone.1.1, needs_empty _ _ alone.1.2) refl
 ]
 
 pub reference_fails : (body : List ℕ) (reason : RejectReason) → reference_at body ≡ Err reason → ((reason ≡ MissingParameter) × LacksReference body) ⊎ (reason ≡ InvalidTag)
@@ -61,7 +54,7 @@ reference_fails body reason e =
       | inl first ↦ elim (needs_fails body (object_at 0 body) reason first) [ inl missing ↦ inl (missing.0, inl missing.1) | inr invalid ↦ inr invalid.0 ]
       | inr a ↦ elim (and_then_err _ _ _ a.2) [
         | inl second ↦ elim (needs_fails a.0.1 (number_at 1 a.0.1) reason second) [
-          | inl missing ↦ inl (missing.0, inr (a.0.0, (a.0.1, object_begins body a.0.0 a.0.1 (needs_takes body (object_at 0 body) a.0 a.1), missing.1)))
+          | inl missing ↦ inl (missing.0, inr (a.0.0, (a.0.1, object_step.takes body a.0.0 a.0.1 (needs_takes body (object_at 0 body) a.0 a.1), missing.1)))
           | inr invalid ↦ inr invalid.0
         ]
         | inr b ↦ let no : ◌≡◌ {A = Result (Reference × List ℕ) RejectReason} (Ok (record { object = a.0.0; property = b.0.0; index = (optional_at 2 b.0.1).0 }, (optional_at 2 b.0.1).1)) (Err reason) = b.2 in absurd cc
@@ -126,7 +119,7 @@ ack_takes body answer e =
     let made : Answer = record { reference = a.0.0; value = b.0.0 } in
     let end = whole_ended _ _ _ b.2 in
     let named = reference_takes _ _ (ok_found _ _ a.1) in
-    let begins = value_begins _ _ _ b.1 in
+    let begins = value_step.takes _ _ _ b.1 in
     let here : IsAckBody body made = then_to SpellsParameter body a.0.1 [] (reference_parameters a.0.0) (value b.0.0 ∷ []) named (b.0.1, begins, end.0) in
     subst (IsAckBody body) end.1 here
 
@@ -136,7 +129,7 @@ ack_again body a s =
     let t = split_to SpellsParameter body [] (reference_parameters a.reference) (value a.value ∷ []) s in
     let b = t.2.1 in
     let named = reference_again body a.reference t.0 t.1 (λ none. enclosed_no_number 2 3 t.0 b.front a.value t.2.0 b.spelled b.whole) in
-    rw (named, value_read t.0 a.value t.2.0 b, t.2.2) refl
+    rw (named, value_step.again t.0 a.value t.2.0 b, t.2.2) refl
 
 -- what an answer body is
 pub ack_is : (body : List ℕ) (a : Answer) → (ack_of body ≡ Some a) ↔ IsAckBody body a

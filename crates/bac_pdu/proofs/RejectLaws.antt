@@ -1,7 +1,9 @@
 -- Reading a body of a confirmed request answers its one outcome.
 use Rattle.std.proofs.Common.{◌≡◌, ℕ, List, [], ◌∷◌, Option, Some, None, Result, Ok, Err, refl, sym, ap, ◌∙◌, inl, inr}
-use Rattle.std.specs.Prelude.{◌↔◌, ◌⊎◌, IfOk, IfErr}
+use Rattle.std.specs.Prelude.{◌↔◌, ◌⊎◌}
 use Rattle.std.proofs.lemmas.Option.{none-some}
+use Rattle.bac_wire.specs.Front.{Begins}
+use Rattle.bac_wire.proofs.ParameterLaws.{IsStep}
 use Rattle.bac_pdu.specs.declared.reject.RejectReason.{RejectReason}
 use Rattle.bac_pdu.specs.declared.reject.RejectReason.TheVariants.{InvalidTag, MissingParameter, OutOfRange, TooMany}
 use Rattle.bac_pdu.specs.Reject.{IsFirst, IsRejectReason, IsOutcome}
@@ -20,9 +22,14 @@ and_then_err (Err other) f reason e = let same : other ≡ reason = cc in inl (a
 pub ok_err : {A : Type 0} (r : Result A RejectReason) (x : A) (reason : RejectReason) → r ≡ Ok x → r ≡ Err reason → ⊥
 ok_err r x reason e f = let no : Ok x ≡ Err reason = sym e ∙ f in absurd cc
 
-pub needs_ok : {A : Type 0} (octets : List ℕ) (found : Option A) (x : A) → (octets ≡ [] → found ≡ None) → found ≡ Some x → unless_missing octets found ≡ Ok x
+needs_ok : {A : Type 0} (octets : List ℕ) (found : Option A) (x : A) → (octets ≡ [] → found ≡ None) → found ≡ Some x → unless_missing octets found ≡ Ok x
 needs_ok [] found x none e = absurd (none-some x (sym (none refl) ∙ e))
 needs_ok (o ∷ os) found x none e = rw e refl
+
+-- what a step reads, where octets are left
+pub step_ok : {A P : Type 0} {Spells : List ℕ → P → Type 0} {made : A → P} {at : List ℕ → Option (A × List ℕ)} → IsStep Spells made at → at [] ≡ None → (octets : List ℕ) (x : A) (rest : List ℕ) → Begins Spells octets (made x) rest
+    → unless_missing octets (at octets) ≡ Ok (x, rest)
+step_ok {at = at} step none octets x rest b = needs_ok octets (at octets) (x, rest) (λ e. ap at e ∙ none) (step.again octets x rest b)
 
 pub needs_takes : {A : Type 0} (octets : List ℕ) (found : Option A) (x : A) → unless_missing octets found ≡ Ok x → found ≡ Some x
 needs_takes [] found x e = absurd cc
@@ -33,8 +40,8 @@ pub needs_empty : {A : Type 0} (octets : List ℕ) (found : Option A) → octets
 needs_empty octets found e = rw e refl
 
 pub needs_fails : {A : Type 0} (octets : List ℕ) (found : Option A) (reason : RejectReason) → unless_missing octets found ≡ Err reason → ((reason ≡ MissingParameter) × (octets ≡ [])) ⊎ ((reason ≡ InvalidTag) × (found ≡ None) × (octets ≡ [] → ⊥))
-needs_fails [] found reason e = let same : reason ≡ MissingParameter = cc in inl (same, refl)
-needs_fails (o ∷ os) None reason e = let same : reason ≡ InvalidTag = cc in inr (same, refl, λ h. absurd cc)
+needs_fails [] found reason e = inl (cc, refl)
+needs_fails (o ∷ os) None reason e = inr (cc, refl, λ h. absurd cc)
 needs_fails (o ∷ os) (Some y) reason e = absurd cc
 
 pub ended_ok : {A : Type 0} (x y : A) (rest : List ℕ) → ended x rest ≡ Ok y → (rest ≡ []) × (x ≡ y)
@@ -61,21 +68,10 @@ pub record IsJudge {A : Type 0} (IsWhole : List ℕ → A → Type 0) (HasFault 
   pub again : (body : List ℕ) (x : A) → IsWhole body x → of body ≡ Ok x
   pub fails : (body : List ℕ) (reason : RejectReason) → of body ≡ Err reason → IsRejectReason HasFault body reason
 
-whole_where : {A : Type 0} (IsWhole : List ℕ → A → Type 0) (body : List ℕ) (read o : Result A RejectReason) → ((x : A) → read ≡ Ok x → IsWhole body x) → o ≡ read → IfOk o (IsWhole body)
-whole_where IsWhole body read (Ok x) takes e = takes x (sym e)
-whole_where IsWhole body read (Err reason) takes e = tt
-
-fault_where : {A : Type 0} (HasFault : List ℕ → RejectReason → Type 0) (body : List ℕ) (read o : Result A RejectReason) → ((reason : RejectReason) → read ≡ Err reason → IsRejectReason HasFault body reason) → o ≡ read → IfErr o (IsRejectReason HasFault body)
-fault_where HasFault body read (Ok x) fails e = tt
-fault_where HasFault body read (Err reason) fails e = fails reason (sym e)
-
 -- what is read is the outcome
 pub outcome_found : {A : Type 0} (IsWhole : List ℕ → A → Type 0) (HasFault : List ℕ → RejectReason → Type 0) (of : List ℕ → Result A RejectReason) → IsJudge IsWhole HasFault of → (body : List ℕ) (o : Result A RejectReason) → o ≡ of body → IsOutcome IsWhole HasFault body o
-outcome_found IsWhole HasFault of judge body o e = record {
-  whole = whole_where IsWhole body (of body) o (judge.takes body) e;
-  all = λ x s. e ∙ judge.again body x s;
-  rejected = fault_where HasFault body (of body) o (judge.fails body) e;
-}
+outcome_found IsWhole HasFault of judge body (Ok x) e = record { whole = judge.takes body x (sym e); all = λ y s. e ∙ judge.again body y s; rejected = tt }
+outcome_found IsWhole HasFault of judge body (Err reason) e = record { whole = tt; all = λ y s. e ∙ judge.again body y s; rejected = judge.fails body reason (sym e) }
 
 outcome_read : {A : Type 0} (IsWhole : List ℕ → A → Type 0) (HasFault : List ℕ → RejectReason → Type 0) (of : List ℕ → Result A RejectReason) → IsJudge IsWhole HasFault of → (body : List ℕ) (read o : Result A RejectReason) → of body ≡ read → IsOutcome IsWhole HasFault body o → read ≡ o
 outcome_read IsWhole HasFault of judge body read (Ok x) e is = sym e ∙ judge.again body x is.whole

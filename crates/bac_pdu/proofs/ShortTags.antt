@@ -16,11 +16,7 @@ short_context number contents low short =
 -- four octets
 pub four_context : (number : ℕ) (contents : List ℕ) → number < 15 → length contents ≡ 4 → (16 * number + 12) ∷ slice_index_or contents 0 0 ∷ slice_index_or contents 1 0 ∷ slice_index_or contents 2 0 ∷ slice_index_or contents 3 0 ∷ [] ≡ context_octets number contents
 four_context number (a ∷ b ∷ c ∷ d ∷ []) low four = sym (short_context number (a ∷ b ∷ c ∷ d ∷ []) low (omega arith))
-four_context number [] low four = absurd (omega (arith, four))
-four_context number (a ∷ []) low four = absurd (omega (arith, four))
-four_context number (a ∷ b ∷ []) low four = absurd (omega (arith, four))
-four_context number (a ∷ b ∷ c ∷ []) low four = absurd (omega (arith, four))
-four_context number (a ∷ b ∷ c ∷ d ∷ e ∷ rest) low four = absurd (omega (arith, four))
+four_context number _ low four = absurd (omega (arith, four))
 
 -- a number in one octet
 pub one_number : (number n : ℕ) → number < 15 → n < 256 → number_octets number n ≡ (16 * number + 9) ∷ n ∷ []

@@ -1,39 +1,31 @@
 -- What is written of a body spells it, and no other spelling has fewer octets.
 use Rattle.std.proofs.Common.{◌≡◌, ℕ, ◌+◌, ◌^◌, ◌<◌, ◌≤◌, List, [], ◌∷◌, ◌++◌, length, Option, Some, None, refl, ap, subst, arith}
-use Rattle.std.specs.Prelude.{IfSome, Ok}
+use Rattle.std.specs.Prelude.{IfSome}
 use Rattle.std.specs.List.{AllByRecursion}
 use Rattle.std.proofs.lemmas.Bool.{lt-ltb}
-use Rattle.std.proofs.lemmas.List.{length-append}
+use Rattle.std.proofs.lemmas.List.{append-nil, length-append}
 use Rattle.byteorder.specs.Endian.{big_bytes}
-use Rattle.byteorder.specs.Numbers.{length-bytes_high_first}
+use Rattle.byteorder.specs.Numbers.{big_from-lt, length-bytes_high_first}
 use Rattle.bac_wire.specs.Identifier.{Identifier, number_of}
 use Rattle.bac_wire.specs.Front.{AreOctets, IsShortest, SpellsTo, SpellsAll}
-use Rattle.bac_wire.specs.Tag.{SpellsTag, plain_number, plain_tag}
+use Rattle.bac_wire.specs.Tag.{plain_number, plain_tag}
 use Rattle.bac_wire.specs.Region.{IsRegion, opening_tag, closing_tag}
 use Rattle.bac_wire.specs.Datum.{Datum, Spells, unsigned, enumerated, octet_count, plain, IsDatum}
 use Rattle.bac_wire.specs.Datum as values
-use Rattle.bac_wire.specs.Parameter.{context_tag, SpellsIn, IsNumber, IsObject, SpellsEnclosed, context_octets, number_octets, object_octets, enclosed_octets}
+use Rattle.bac_wire.specs.Parameter.{context_tag, SpellsContext, SpellsIn, IsNumber, IsObject, SpellsEnclosed, context_octets, number_octets, object_octets, enclosed_octets}
 use Rattle.bac_wire.proofs.PlainTag.{behind, tag_least}
-use Rattle.bac_wire.proofs.ShortestDatum.{octet_count_least, number_within, ahead}
+use Rattle.bac_wire.proofs.ShortestDatum.{octet_count_least, ahead}
 use Rattle.bac_pdu.specs.declared.discovery.WhoIs.{WhoIs}
 use Rattle.bac_pdu.specs.declared.discovery.WhoIs.TheVariants as limits
 use Rattle.bac_pdu.specs.Parameter.{Parameter, object, property, index, value, priority, IsParameter, SpellsParameter, optional, plain_parameter, plain_all}
 use Rattle.bac_pdu.specs.Property.{Reference, Answer, Order, reference_parameters, answer_parameters, order_parameters, IsPriority, IsReadBody, IsAckBody, IsWriteBody, read_octets, ack_octets, write_octets}
-use Rattle.bac_pdu.specs.Discovery.{HasLimits, Introduction, introduction_values, IsWhoIsBody, IsIAmBody, who_is_octets, i_am_octets}
+use Rattle.bac_pdu.specs.Discovery.{SpellsNumbered, HasLimits, Introduction, introduction_values, IsWhoIsBody, IsIAmBody, who_is_octets, i_am_octets}
 use Rattle.bac_pdu.specs.Failure.{IsErrorBody, error_octets}
-use Rattle.bac_pdu.specs.PropertyReading.{write_of, ack_of}
 use Rattle.bac_pdu.specs.ValueReading.{introduction_of, error_of}
 use Rattle.bac_pdu.proofs.SequenceLaws.{all_spell, whole_spell}
 use Rattle.bac_pdu.proofs.Written.{optional_is}
 use Rattle.bac_pdu.proofs.DiscoveryLaws.{introduction_is, error_is}
-use Rattle.bac_pdu.proofs.RoundLaws.{parameters_spell, range_spells, write_back, ack_back}
-
--- ---- the fewest octets of a number
-
-number_least : (contents : List ℕ) (n : ℕ) → AreOctets contents → IsNumber contents n → octet_count n ≤ length contents
-number_least contents n fit s =
-    let fits : n < 256 ^ length contents = rw s.2 (number_within contents fit) in
-    octet_count_least (length contents) n s.0 fits
+use Rattle.bac_pdu.proofs.RoundLaws.{parameters_spell, range_spells}
 
 -- ---- a parameter
 
@@ -42,28 +34,23 @@ short_tag : (number count : ℕ) → count < 5 → length (plain_tag (context_ta
 unfolding plain_tag
 short_tag number count short = rw (lt-ltb count 5 short) (omega (arith, length-append (plain_number number) []))
 
-context_least : (number : ℕ) (tag contents least : List ℕ) → AreOctets (tag ++ contents) → SpellsTag tag (context_tag number (length contents)) → length contents < 5 → length least ≤ length contents → length (context_octets number least) ≤ length (tag ++ contents)
-context_least number tag contents least fit s short le =
-    let tags = tag_least tag (context_tag number (length contents)) (ahead tag contents fit) s in
+context_least : (number : ℕ) (octets contents least : List ℕ) → AreOctets octets → SpellsContext number octets contents → length contents < 5 → length least ≤ length contents → length (context_octets number least) ≤ length octets
+context_least number octets contents least fit s short le =
+    let tags = tag_least s.tag (context_tag number (length contents)) (ahead s.tag contents (subst AreOctets s.whole fit)) s.tagged in
     let one = short_tag number (length contents) short in
     let other = short_tag number (length least) (omega arith) in
-    omega (arith, length-append tag contents, length-append (plain_tag (context_tag number (length least))) least)
+    omega (arith, ap length s.whole, length-append s.tag contents, length-append (plain_tag (context_tag number (length least))) least)
 
 number_shortest : (number n : ℕ) (octets : List ℕ) → AreOctets octets → SpellsIn IsNumber number octets n → length (number_octets number n) ≤ length octets
 number_shortest number n octets fit s =
-    let fits : AreOctets (s.context.tag ++ s.contents) = subst AreOctets s.context.whole fit in
-    let le = number_least s.contents n (behind s.context.tag s.contents fits) s.stands in
-    let long = length-bytes_high_first (octet_count n) n in
-    let least = context_least number s.context.tag s.contents (big_bytes (octet_count n) n) fits s.context.tagged (omega (arith, s.stands.1)) (omega arith) in
-    omega (arith, ap length s.context.whole)
+    let inner = behind s.context.tag s.contents (subst AreOctets s.context.whole fit) in
+    let le = octet_count_least (length s.contents) n s.stands.0 (rw s.stands.2 (big_from-lt 0 (length s.contents) s.contents inner)) in
+    context_least number octets s.contents (big_bytes (octet_count n) n) fit s.context (omega (arith, s.stands.1)) (rw (length-bytes_high_first (octet_count n) n) le)
 
 object_shortest : (number : ℕ) (id : Identifier) (octets : List ℕ) → AreOctets octets → SpellsIn IsObject number octets id → length (object_octets number id) ≤ length octets
 object_shortest number id octets fit s =
-    let fits : AreOctets (s.context.tag ++ s.contents) = subst AreOctets s.context.whole fit in
     let four = s.stands.0 in
-    let long = length-bytes_high_first 4 (number_of id) in
-    let least = context_least number s.context.tag s.contents (big_bytes 4 (number_of id)) fits s.context.tagged (omega arith) (omega arith) in
-    omega (arith, ap length s.context.whole)
+    context_least number octets s.contents (big_bytes 4 (number_of id)) fit s.context (omega arith) (rw (length-bytes_high_first 4 (number_of id)) (omega arith))
 
 enclosed_shortest : (number : ℕ) (region octets : List ℕ) → AreOctets octets → SpellsEnclosed number octets region → length (enclosed_octets number region) ≤ length octets
 enclosed_shortest number region octets fit s =
@@ -123,11 +110,9 @@ write_shortest o h urgent = record { spelled = record { spelled = parameters_spe
 
 range_least : (low high : ℕ) (body : List ℕ) → AreOctets body → IsWhoIsBody body (limits.Range low high) → length (who_is_octets (limits.Range low high)) ≤ length body
 range_least low high body fit s =
-    let fits : AreOctets (s.1.front ++ s.0) = subst AreOctets s.1.whole fit in
-    let inner : AreOctets (s.2.1.front ++ s.2.0) = subst AreOctets s.2.1.whole (behind s.1.front s.0 fits) in
-    let first = number_shortest 0 low s.1.front (ahead s.1.front s.0 fits) s.1.spelled in
-    let second = number_shortest 1 high s.2.1.front (ahead s.2.1.front s.2.0 inner) s.2.1.spelled in
-    omega (arith, ap length s.1.whole, ap length s.2.1.whole, length-append s.1.front s.0, length-append s.2.1.front s.2.0, length-append (number_octets 0 low) (number_octets 1 high))
+    let all = all_least SpellsNumbered (λ x. number_octets x.0 x.1) (λ x. Unit {0}) (λ x octets is fit s. number_shortest x.0 x.1 octets fit s) ((0, low) ∷ (1, high) ∷ []) body [] (tt, (tt, tt)) fit s in
+    let whole = rw (append-nil (number_octets 1 high)) at all in
+    omega arith
 
 pub who_is_shortest : (w : WhoIs) → HasLimits w → IsShortest IsWhoIsBody (who_is_octets w) w
 who_is_shortest limits.All h = record { spelled = refl; shortest = λ other fit s. omega arith }
@@ -160,22 +145,16 @@ all_append : {A : Type 0} (Is : A → Type 0) (xs ys : List A) → AllByRecursio
 all_append Is [] ys h k = k
 all_append Is (x ∷ xs) ys h k = (h.0, all_append Is xs ys h.1 k)
 
--- what is written of an answer
-pub ack_is_written : (a : Answer) → AllByRecursion IsParameter (reference_parameters a.reference) → IsRegion 32 a.value → IsShortest IsAckBody (ack_octets a) a
-ack_is_written a named region = ack_shortest a (all_append IsParameter (reference_parameters a.reference) (value a.value ∷ []) named (region, tt))
-
--- it is read back
-pub ack_is_back : (a : Answer) → AllByRecursion IsParameter (reference_parameters a.reference) → IsRegion 32 a.value → ack_of (ack_octets a) ≡ Some a
-ack_is_back a named region = ack_back a (all_append IsParameter (reference_parameters a.reference) (value a.value ∷ []) named (region, tt))
+pub answer_known : (a : Answer) → AllByRecursion IsParameter (reference_parameters a.reference) → IsRegion 32 a.value → AllByRecursion IsParameter (answer_parameters a)
+answer_known a named region = all_append IsParameter (reference_parameters a.reference) (value a.value ∷ []) named (region, tt)
 
 urgent_is : (p : Option ℕ) → IfSome p IsPriority → IfSome p (λ n. n < 2 ^ 32)
 urgent_is None h = tt
 urgent_is (Some n) h = omega (arith, h.1)
 
+pub order_known : (o : Order) → AllByRecursion IsParameter (reference_parameters o.reference) → IsRegion 32 o.value → IfSome o.priority IsPriority → AllByRecursion IsParameter (order_parameters o)
+order_known o named region urgent = all_append IsParameter (reference_parameters o.reference) (value o.value ∷ optional priority o.priority) named (region, optional_is priority o.priority (λ n fits. fits) (urgent_is o.priority urgent))
+
 -- what is written of an order
 pub order_is_written : (o : Order) → AllByRecursion IsParameter (reference_parameters o.reference) → IsRegion 32 o.value → IfSome o.priority IsPriority → IsShortest IsWriteBody (write_octets o) o
-order_is_written o named region urgent = write_shortest o (all_append IsParameter (reference_parameters o.reference) (value o.value ∷ optional priority o.priority) named (region, optional_is priority o.priority (λ n fits. fits) (urgent_is o.priority urgent))) urgent
-
--- it is read back
-pub order_is_back : (o : Order) → AllByRecursion IsParameter (reference_parameters o.reference) → IsRegion 32 o.value → IfSome o.priority IsPriority → write_of (write_octets o) ≡ Ok o
-order_is_back o named region urgent = write_back o (all_append IsParameter (reference_parameters o.reference) (value o.value ∷ optional priority o.priority) named (region, optional_is priority o.priority (λ n fits. fits) (urgent_is o.priority urgent))) urgent
+order_is_written o named region urgent = write_shortest o (order_known o named region urgent) urgent

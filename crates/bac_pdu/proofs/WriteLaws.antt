@@ -1,7 +1,7 @@
 -- Reading the body of a WriteProperty finds what it orders, or the first fault that it has.
 use Rattle.std.proofs.Common.{◌≡◌, ℕ, Bool, true, false, cond, List, [], ◌∷◌, ◌++◌, Option, Some, None, Result, Ok, Err, refl, sym, ap, subst, ◌∙◌, arith, inl, inr}
 use Rattle.std.specs.Prelude.{◌↔◌, IfSome}
-use Rattle.std.proofs.lemmas.Bool.{ltb-true, lt-ltb}
+use Rattle.std.proofs.lemmas.Grind.{common_steps}
 use Rattle.std.proofs.lemmas.Option.{none-some}
 use Rattle.bac_wire.specs.Front.{Begins, SpellsTo, SpellsAll}
 use Rattle.bac_wire.specs.ParameterReading.{behind_opening, enclosed_at}
@@ -14,18 +14,14 @@ use Rattle.bac_pdu.specs.Parameter.{Parameter, value, priority, SpellsParameter,
 use Rattle.bac_pdu.specs.Property.{Reference, Order, reference_parameters, order_parameters, IsReadBody, IsWriteBody, IsPriority}
 use Rattle.bac_pdu.specs.Reject.{HasMore, WriteFault, IsRejectReason, IsOutcome}
 use Rattle.bac_pdu.specs.PropertyReading.{or_none, optional_at, and_then, unless_missing, reference_at, ended, is_priority, write_of}
-use Rattle.bac_pdu.proofs.PeerLaws.{both}
 use Rattle.bac_pdu.proofs.SequenceLaws.{then_to, split_to, to_front, from_front}
-use Rattle.bac_pdu.proofs.ParameterLaws.{value_begins, value_read, priority_numbered, optional_begins, optional_read}
-use Rattle.bac_pdu.proofs.RejectLaws.{and_then_ok, and_then_err, ok_err, needs_ok, needs_takes, needs_fails, ended_ok, ended_err, IsJudge, outcome_is}
+use Rattle.bac_pdu.proofs.ParameterLaws.{value_step, priority_step, optional_begins, optional_read}
+use Rattle.bac_pdu.proofs.RejectLaws.{and_then_ok, and_then_err, ok_err, step_ok, needs_takes, needs_fails, ended_ok, ended_err, IsJudge, outcome_is}
 use Rattle.bac_pdu.proofs.ReadLaws.{reference_takes, reference_again, reference_found, reference_lacks, reference_fails}
 
 no_value : enclosed_at 3 [] ≡ None
 unfolding enclosed_at behind_opening
 no_value = rw no_octets refl
-
-value_ok : (octets region rest : List ℕ) → Begins SpellsParameter octets (value region) rest → unless_missing octets (enclosed_at 3 octets) ≡ Ok (region, rest)
-value_ok octets region rest b = needs_ok octets (enclosed_at 3 octets) (region, rest) (λ e. ap (enclosed_at 3) e ∙ no_value) (value_read octets region rest b)
 
 -- a reference and a value at the front are read
 record ReadsValue (body : List ℕ) (r : Reference) (region rest : List ℕ) : Type 0 where
@@ -45,18 +41,14 @@ write_again_at : (body : List ℕ) (o : Order) → SpellsAll SpellsParameter bod
 unfolding write_of
 write_again_at body o s =
     let t = reads_value body o.reference o.value [] (optional priority o.priority) [] s in
-    rw (t.1.named, value_ok _ _ _ t.1.begins, optional_read _ _ priority_numbered t.0 o.priority [] t.2 (λ none. no_number 4)) refl
+    rw (t.1.named, step_ok value_step no_value _ _ _ t.1.begins, optional_read _ _ priority_step t.0 o.priority [] t.2 (λ none. no_number 4)) refl
 
-priority_holds : (p : Option ℕ) → is_priority p ≡ true → IfSome p IsPriority
-priority_holds None e = tt
-priority_holds (Some n) e = let t = both _ _ e in let low = ltb-true 0 n t.0 in let high = ltb-true n 17 t.1 in (omega arith, omega arith)
-
-priority_tests : (p : Option ℕ) → IfSome p IsPriority → is_priority p ≡ true
-priority_tests None h = refl
-priority_tests (Some n) h = rw (lt-ltb 0 n (omega (arith, h.0)), lt-ltb n 17 (omega (arith, h.1))) refl
+priority_is : (p : Option ℕ) → (is_priority p ≡ true) ↔ IfSome p IsPriority
+priority_is None = (λ e. tt, λ h. refl)
+priority_is (Some n) = (λ e. (grind (arith, common_steps), grind (arith, common_steps)), λ h. grind (arith, common_steps))
 
 pub write_again : (body : List ℕ) (o : Order) → IsWriteBody body o → write_of body ≡ Ok o
-write_again body o s = write_again_at _ _ s.spelled ∙ rw (priority_tests o.priority s.urgent) refl
+write_again body o s = write_again_at _ _ s.spelled ∙ rw ((priority_is o.priority).1 s.urgent) refl
 
 -- what stands behind a reference and a value that were read
 record ReadsOrder (body : List ℕ) (r : Reference) (region : List ℕ) (p : Option ℕ) (rest : List ℕ) : Type 0 where
@@ -66,10 +58,10 @@ record ReadsOrder (body : List ℕ) (r : Reference) (region : List ℕ) (p : Opt
 reads_order : (body : List ℕ) (x v : List ℕ) (r : Reference) (rest : List ℕ) → reference_at body ≡ Ok (r, x) → unless_missing x (enclosed_at 3 x) ≡ Ok (v, rest) → ReadsOrder body r v (optional_at 4 rest).0 rest
 reads_order body x v r rest e f =
     let named = reference_takes body (r, x) e in
-    let begins = value_begins x v rest (needs_takes x (enclosed_at 3 x) (v, rest) f) in
+    let begins = value_step.takes x v rest (needs_takes x (enclosed_at 3 x) (v, rest) f) in
     record {
       front = then_to SpellsParameter body x rest (reference_parameters r) (value v ∷ []) named (rest, begins, refl);
-      whole = then_to SpellsParameter body x (optional_at 4 rest).1 (reference_parameters r) (value v ∷ optional priority (optional_at 4 rest).0) named (rest, begins, optional_begins 4 priority priority_numbered rest);
+      whole = then_to SpellsParameter body x (optional_at 4 rest).1 (reference_parameters r) (value v ∷ optional priority (optional_at 4 rest).0) named (rest, begins, optional_begins 4 priority priority_step rest);
     }
 
 -- the order that a body spells, whatever its priority
@@ -94,7 +86,7 @@ write_takes body o e =
     elim (chosen (is_priority c.0) (Ok made) (Err OutOfRange) (Ok o) c.2) [
       | inl good ↦
           let same : made ≡ o = let f : ◌≡◌ {A = Result Order RejectReason} (Ok made) (Ok o) = good.1 in cc in
-          let here : IsWriteBody body made = record { spelled = order_spelled body a.0.0 b.0.0 (optional_at 4 b.0.1).0 c.0 (optional_at 4 b.0.1).1 read.whole end.0 end.1; urgent = priority_holds c.0 good.0 } in
+          let here : IsWriteBody body made = record { spelled = order_spelled body a.0.0 b.0.0 (optional_at 4 b.0.1).0 c.0 (optional_at 4 b.0.1).1 read.whole end.0 end.1; urgent = (priority_is c.0).0 good.0 } in
           subst (IsWriteBody body) {x = made} same here
       | inr bad ↦ let no : ◌≡◌ {A = Result Order RejectReason} (Err OutOfRange) (Ok o) = bad.1 in absurd cc
     ]
@@ -108,7 +100,7 @@ record ReadsBoth (body : List ℕ) : Type 0 where
 order_read : (body : List ℕ) (o : Order) (rest : List ℕ) → SpellsTo SpellsParameter body (order_parameters o) rest → ReadsBoth body
 order_read body o rest s =
     let t = reads_value body o.reference o.value [] (optional priority o.priority) rest s in
-    record { found = (o.reference, t.1.next); named = t.1.named; valued = λ none. none-some (o.value, t.0) (sym none ∙ value_read _ _ _ t.1.begins) }
+    record { found = (o.reference, t.1.next); named = t.1.named; valued = λ none. none-some (o.value, t.0) (sym none ∙ value_step.again _ _ _ t.1.begins) }
 
 range_read : (body : List ℕ) → WriteFault body OutOfRange → ReadsBoth body
 range_read body h = order_read body h.0 [] h.1
@@ -189,7 +181,7 @@ write_fails_range body reason r x v rest named valued p third e =
           let end = ended_ok (optional_at 4 rest).0 p (optional_at 4 rest).1 third in
           let read = reads_order body x v r rest named valued in
           let spelled = order_spelled body r v (optional_at 4 rest).0 p (optional_at 4 rest).1 read.whole end.0 end.1 in
-          let not_one : IfSome p IsPriority → ⊥ = λ h. let no : true ≡ false = sym (priority_tests p h) ∙ bad.0 in absurd cc in
+          let not_one : IfSome p IsPriority → ⊥ = λ h. let no : true ≡ false = sym ((priority_is p).1 h) ∙ bad.0 in absurd cc in
           inl ((o, spelled, not_one), sym same)
     ]
 

@@ -11,19 +11,13 @@ plain_append : (ps qs : List Parameter) → plain_all plain_parameter (ps ++ qs)
 plain_append [] qs = refl
 plain_append (p ∷ ps) qs = ap (λ (rest : List ℕ). plain_parameter p ++ rest) (plain_append ps qs) ∙ sym (append_assoc (plain_parameter p) (plain_all plain_parameter ps) (plain_all plain_parameter qs))
 
-optional_index : (i : Option ℕ) → plain_all plain_parameter (optional index i) ≡ optional_octets 2 i
-unfolding plain_parameter
-optional_index None = refl
-optional_index (Some n) = append-nil (number_octets 2 n)
-
-optional_priority : (p : Option ℕ) → plain_all plain_parameter (optional priority p) ≡ optional_octets 4 p
-unfolding plain_parameter
-optional_priority None = refl
-optional_priority (Some n) = append-nil (number_octets 4 n)
+optional_plain : (made : ℕ → Parameter) (number : ℕ) → ((n : ℕ) → plain_parameter (made n) ≡ number_octets number n) → (i : Option ℕ) → plain_all plain_parameter (optional made i) ≡ optional_octets number i
+optional_plain made number is None = refl
+optional_plain made number is (Some n) = append-nil (plain_parameter (made n)) ∙ is n
 
 pub read_written : (r : Reference) → object_octets 0 r.object ++ (number_octets 1 r.property ++ optional_octets 2 r.index) ≡ read_octets r
 unfolding plain_parameter
-read_written r = rw (optional_index r.index) refl
+read_written r = rw (optional_plain index 2 (λ n. refl) r.index) refl
 
 pub ack_written : (a : Answer) → read_octets a.reference ++ enclosed_octets 3 a.value ≡ ack_octets a
 unfolding plain_parameter
@@ -31,7 +25,7 @@ ack_written a = sym (plain_append (reference_parameters a.reference) (value a.va
 
 pub write_written : (o : Order) → read_octets o.reference ++ (enclosed_octets 3 o.value ++ optional_octets 4 o.priority) ≡ write_octets o
 unfolding plain_parameter
-write_written o = sym (plain_append (reference_parameters o.reference) (value o.value ∷ optional priority o.priority) ∙ ap (λ (rest : List ℕ). read_octets o.reference ++ (enclosed_octets 3 o.value ++ rest)) (optional_priority o.priority))
+write_written o = sym (plain_append (reference_parameters o.reference) (value o.value ∷ optional priority o.priority) ∙ ap (λ (rest : List ℕ). read_octets o.reference ++ (enclosed_octets 3 o.value ++ rest)) (optional_plain priority 4 (λ n. refl) o.priority))
 
 -- ---- the parameters that there are
 

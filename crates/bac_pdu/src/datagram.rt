@@ -3,7 +3,7 @@ ghost use Rattle.std.specs.Option.{option_map};
 ghost use Rattle.bac_wire.specs.Limits.{frame_room};
 ghost use Rattle.bac_pdu.specs.Peer.{station, IsRoutable};
 ghost use Rattle.bac_pdu.specs.Datagram.{delivery, Takes, wrapped, front_count, front_octets};
-ghost use Rattle.bac_pdu.specs.DatagramReading.{link_at, carried};
+ghost use Rattle.bac_pdu.specs.DatagramReading.{link_at, origin_at, carried};
 
 use crate::header::{HEADER_OCTETS, header_and_rest, local_header, network_header};
 use crate::peer::Peer;
@@ -81,11 +81,18 @@ fn origin_and_rest(from: Peer, datagram: &[u8]) -> Option<(Peer, bool, &[u8])>
     if *kind != BACNET_IP || usize::from(BigEndian::read_u16(&[*high, *low])) != datagram.len() {
         return None;
     }
-    match *function {
-        UNICAST => Some((from, false, rest)),
-        BROADCAST => Some((from, true, rest)),
+    sender_and_rest(*function, from, rest)
+}
+
+/// Who sent a datagram of this function, whether to all, and the octets behind those that say it.
+fn sender_and_rest(function: u8, from: Peer, octets: &[u8]) -> Option<(Peer, bool, &[u8])>
+    ensures { option_map (λ x. ((station x.0, x.1), x.2.now)) result ≡ origin_at function (station from) octets.now }
+{
+    match function {
+        UNICAST => Some((from, false, octets)),
+        BROADCAST => Some((from, true, octets)),
         FORWARDED => {
-            let [a, b, c, d, e, f, rest @ ..] = rest else {
+            let [a, b, c, d, e, f, rest @ ..] = octets else {
                 return None;
             };
             let originator = Peer {

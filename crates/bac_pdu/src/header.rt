@@ -2,7 +2,7 @@ ghost use Rattle.std.specs.Prelude.{◌≡◌, ◌≤◌, length, IfSome, None};
 ghost use Rattle.std.specs.Option.{option_map};
 ghost use Rattle.bac_pdu.specs.Peer.{IsRoutable, network_address};
 ghost use Rattle.bac_pdu.specs.Header.{address_seen, header_seen, plain_header};
-ghost use Rattle.bac_pdu.specs.DatagramReading.{address_at, announced_at, behind_hops, header_at};
+ghost use Rattle.bac_pdu.specs.DatagramReading.{counted_at, address_at, announced_at, behind_hops, header_at};
 
 use crate::bits::has_bit;
 use crate::route::Route;
@@ -85,12 +85,22 @@ fn announced_and_rest(announced: bool, octets: &[u8]) -> Option<(Option<Address<
 fn address_and_rest(octets: &[u8]) -> Option<(Address<'_>, &[u8])>
     ensures { option_map (λ x. (address_seen x.0, x.1.now)) result ≡ address_at octets.now }
 {
-    let [high, low, count, rest @ ..] = octets else {
+    let [high, low, rest @ ..] = octets else {
         return None;
     };
     let network = BigEndian::read_u16(&[*high, *low]);
-    let (address, rest) = rest.split_at_checked(usize::from(*count))?;
+    let (address, rest) = counted_and_rest(rest)?;
     Some((Address { network, address }, rest))
+}
+
+/// As many octets as the first one says, and those behind.
+fn counted_and_rest(octets: &[u8]) -> Option<(&[u8], &[u8])>
+    ensures { option_map (λ x. (x.0.now, x.1.now)) result ≡ counted_at octets.now }
+{
+    let [count, rest @ ..] = octets else {
+        return None;
+    };
+    rest.split_at_checked(usize::from(*count))
 }
 
 /// The octets behind the hop count that stands where a destination does.

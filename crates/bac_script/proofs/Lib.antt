@@ -4,6 +4,7 @@ pub mod NoteTexts
 pub mod Pieces
 pub mod Machine
 pub mod Settled
+pub mod Courses
 pub mod SoFar
 pub mod LongBodies
 pub mod Asking

@@ -1,5 +1,6 @@
 -- What the machine prints for all that a script says is what the look-ahead gives.
-use Rattle.std.proofs.Common.{◌≡◌, ℕ, zero, suc, List, [], ◌∷◌, ◌++◌, drop, length, Option, Some, slice_get, refl, sym, ◌∙◌, ap, append_assoc}
+use Rattle.std.proofs.Common.{◌≡◌, ℕ, zero, suc, List, [], ◌∷◌, ◌++◌, drop, length, Option, Some, slice_get, refl, sym, ◌∙◌, ap}
+use Rattle.std.specs.List.{AllByRecursion}
 use Rattle.bac_tsm.specs.Events.{Event, Note}
 use Rattle.bac_pdu.specs.Peer.{Station}
 use Rattle.bac_tsm.specs.Lookahead.{output}
@@ -13,54 +14,34 @@ use Rattle.bac_device.specs.Demo.{demo_points}
 use Rattle.bac_device.specs.Turns.{replies_to}
 use Rattle.bac_script.specs.Line.{Said, Nothing, Settings, Happens, Asks}
 use Rattle.bac_script.specs.Text.{notes_text}
-use Rattle.bac_script.specs.Running.{Stage, Ran, new_client, small_device, ran, reply_after, writes_with}
+use Rattle.bac_script.specs.Running.{Stage, new_client, small_device, ran, reply_after, writes_with}
 use Rattle.bac_script.specs.Script.{settings_in, events_in, arrivals_in, requests_in, printed, text_of}
 
 -- What a script runs on before its first line.
 abbrev pub first_stage : Stage
 first_stage = record { client = new_client 3000 3 0; writes = [] }
 
-abbrev pub after_that : List ℕ → Ran → Ran
-after_that front later = record { text = front ++ later.text; after = later.after }
+-- What is printed from a stage on for all that is said.
+abbrev pub text_from : Stage → List Said → List ℕ
+text_from stage [] = []
+text_from stage (one ∷ later) = (ran stage one).text ++ text_from (ran stage one).after later
 
--- What is printed for all that is said, and the stage after it.
-abbrev pub run_from : Stage → List Said → Ran
-run_from stage [] = record { text = []; after = stage }
-run_from stage (one ∷ later) = after_that (ran stage one).text (run_from (ran stage one).after later)
-
-abbrev pub machine_text : List Said → List ℕ
-machine_text all = (run_from first_stage all).text
-
-abbrev pub stage_after : List Said → Stage
-stage_after all = (run_from first_stage all).after
-
-pub text-append : (stage : Stage) (all more : List Said) →
-    (run_from stage (all ++ more)).text ≡ (run_from stage all).text ++ (run_from (run_from stage all).after more).text
-text-append stage [] more = refl
-text-append stage (one ∷ later) more =
-    ap (λ (xs : List ℕ). (ran stage one).text ++ xs) (text-append (ran stage one).after later more)
-    ∙ sym (append_assoc (ran stage one).text (run_from (ran stage one).after later).text _)
-
-pub after-push : (stage : Stage) (all : List Said) (last : Said) →
-    (run_from stage (all ++ last ∷ [])).after ≡ (ran (run_from stage all).after last).after
-after-push stage [] last = refl
-after-push stage (one ∷ later) last = after-push (ran stage one).after later last
+-- It is no settings.
+abbrev pub IsOther : Said → Type 0
+IsOther Nothing = Unit {0}
+IsOther (Settings timeout retries first_ticket) = ⊥
+IsOther (Happens event) = Unit {0}
+IsOther (Asks arrival) = Unit {0}
 
 -- No settings are said.
 abbrev pub NoSettings : List Said → Type 0
-NoSettings [] = Unit {0}
-NoSettings (Nothing ∷ later) = NoSettings later
-NoSettings (Settings timeout retries first_ticket ∷ later) = ⊥
-NoSettings (Happens event ∷ later) = NoSettings later
-NoSettings (Asks arrival ∷ later) = NoSettings later
+NoSettings = AllByRecursion IsOther
 
--- Settings are said by nothing but the first that is said.
+-- Settings are said by nothing but the first that says something.
 abbrev pub SettingsFirst : List Said → Type 0
 SettingsFirst [] = Unit {0}
 SettingsFirst (Nothing ∷ later) = SettingsFirst later
-SettingsFirst (Settings timeout retries first_ticket ∷ later) = NoSettings later
-SettingsFirst (Happens event ∷ later) = NoSettings later
-SettingsFirst (Asks arrival ∷ later) = NoSettings later
+SettingsFirst (_ ∷ later) = NoSettings later
 
 drop_next : (events : List Event) (n : ℕ) (event : Event) (later : List Event) → drop n events ≡ event ∷ later →
     (slice_get events n ≡ Some event) × (drop (suc n) events ≡ later)
@@ -88,35 +69,35 @@ module _ (timeout retries first_ticket : ℕ) (events : List Event) where
   -- What is printed after a step of the client.
   abbrev text_after : ℕ → List Write → List Said → Stepped → List ℕ
   text_after n writes later one =
-      notes_text one.notes ++ (run_from (record { client = keeping (stage_at n writes).client one.after; writes = writes }) later).text
+      notes_text one.notes ++ text_from (record { client = keeping (stage_at n writes).client one.after; writes = writes }) later
 
   pub prints_output : (n : ℕ) (writes : List Write) (all : List Said) → NoSettings all → drop n events ≡ events_in all →
-      (run_from (stage_at n writes) all).text ≡ printed notes n all (replies_after writes all)
+      text_from (stage_at n writes) all ≡ printed notes n all (replies_after writes all)
   prints_output n writes [] h e = refl
-  prints_output n writes (Nothing ∷ later) h e = prints_output n writes later h e
-  prints_output n writes (Settings t r f ∷ later) h e = absurd h
+  prints_output n writes (Nothing ∷ later) h e = prints_output n writes later h.1 e
+  prints_output n writes (Settings t r f ∷ later) h e = absurd h.0
   prints_output n writes (Happens event ∷ later) h e =
       let here = drop_next events n event (events_in later) e in
       let now = one_step (client_rules timeout retries) first_ticket events (by_number timeout retries) few_places n event here.0 in
       ap (text_after n writes later) now
-      ∙ ap (λ (xs : List ℕ). notes_text (notes n) ++ xs) (prints_output (suc n) writes later h here.1)
+      ∙ ap (λ (xs : List ℕ). notes_text (notes n) ++ xs) (prints_output (suc n) writes later h.1 here.1)
   prints_output n writes (Asks arrival ∷ later) h e =
-      ap (λ (xs : List ℕ). reply_after writes arrival ++ xs) (prints_output n (writes_with writes arrival) later h e)
+      ap (λ (xs : List ℕ). reply_after writes arrival ++ xs) (prints_output n (writes_with writes arrival) later h.1 e)
 
   pub prints_all : (all : List Said) → NoSettings all → events ≡ events_in all →
-      (run_from (record { client = new_client timeout retries first_ticket; writes = [] }) all).text ≡ printed notes 0 all (replies_after [] all)
+      text_from (record { client = new_client timeout retries first_ticket; writes = [] }) all ≡ printed notes 0 all (replies_after [] all)
   prints_all all h e =
-      ap (λ (state : State). (run_from (record { client = record { timeout = timeout; retries = retries; state = state }; writes = [] }) all).text)
+      ap (λ (state : State). text_from (record { client = record { timeout = timeout; retries = retries; state = state }; writes = [] }) all)
       (begins (client_rules timeout retries) first_ticket events (by_number timeout retries) few_places)
       ∙ prints_output 0 [] all h e
 
 -- The text of a script is what the machine prints.
-pub text_is : (all : List Said) → SettingsFirst all → text_of all ≡ machine_text all
+pub text_is : (all : List Said) → SettingsFirst all → text_of all ≡ text_from first_stage all
 text_is [] h = refl
 text_is (Nothing ∷ later) h = text_is later h
 text_is (Settings t r f ∷ later) h = sym (prints_all t r f (events_in later) later h refl)
-text_is (Happens event ∷ later) h = sym (prints_all 3000 3 0 (events_in (Happens event ∷ later)) (Happens event ∷ later) h refl)
-text_is (Asks arrival ∷ later) h = sym (prints_all 3000 3 0 (events_in later) (Asks arrival ∷ later) h refl)
+text_is (Happens event ∷ later) h = sym (prints_all 3000 3 0 (events_in (Happens event ∷ later)) (Happens event ∷ later) (tt, h) refl)
+text_is (Asks arrival ∷ later) h = sym (prints_all 3000 3 0 (events_in later) (Asks arrival ∷ later) (tt, h) refl)
 
 -- Between two requests of a script with the same number many others are accepted.
 pub requests_late : (all : List Said) → NumbersComeBackLate table_size (requests_in all)

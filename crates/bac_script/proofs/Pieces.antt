@@ -6,6 +6,8 @@ use Rattle.std.proofs.lemmas.List.{append-nil, length-append, length-take-le}
 use Rattle.std.proofs.lemmas.Bool.{ne_eqb}
 use Rattle.std.proofs.lemmas.Bool.Decides.{nat_tests}
 use Rattle.std.proofs.Math.Seq.{get_or-append_seam}
+use Rattle.bac_text.specs.Limits.{longest_line}
+use Rattle.bac_script.specs.Limits.{line_room}
 use Rattle.bac_script.specs.declared.input.Reading.{Reading}
 use Rattle.bac_script.specs.declared.input.Reading.TheVariants.{Open, AtEnd, Failed}
 use Rattle.bac_script.specs.declared.line.LineFault.TheVariants.{TooLong}
@@ -59,11 +61,7 @@ is_line-ended AtEnd line h = refl
 is_line-ended Open line h = rw h refl
 is_line-ended Failed line h = rw h refl
 
-or_true : (a b : Bool) → b ≡ true → cond a true b ≡ true
-or_true true b h = refl
-or_true false b h = h
-
-is_line-long : (reading : Reading) (line : List ℕ) → 4096 < length line → is_line reading line ≡ true
+is_line-long : (reading : Reading) (line : List ℕ) → longest_line < length line → is_line reading line ≡ true
 is_line-long AtEnd line h = refl
 is_line-long Open line h = grind (arith, nat_tests)
 is_line-long Failed line h = grind (arith, nat_tests)
@@ -73,28 +71,28 @@ lines-ended text more reading h =
     rw (append_assoc text (10 ∷ []) more, pieces-line text more h, is_line-ended reading (text ++ 10 ∷ []) (ends_with_feed-push text)) refl
 
 -- What no line feed ends, and is not too long, is a line only at the end
-pub lines-rest : (line : List ℕ) → HasNoFeed line → length line < 4097 → lines line Failed ≡ []
+pub lines-rest : (line : List ℕ) → HasNoFeed line → length line < line_room → lines line Failed ≡ []
 lines-rest [] h short = refl
 lines-rest (x ∷ xs) h short =
-    let e : nat_lt 4096 (length (x ∷ xs)) ≡ false = grind (arith, nat_tests) in
+    let e : nat_lt longest_line (length (x ∷ xs)) ≡ false = grind (arith, nat_tests) in
     rw (pieces-open x xs h, ends_with_feed-none (x ∷ xs) h, e) refl
 
 pub lines-last : (x : ℕ) (xs : List ℕ) → HasNoFeed (x ∷ xs) → lines (x ∷ xs) AtEnd ≡ (x ∷ xs) ∷ []
 lines-last x xs h = rw (pieces-open x xs h) refl
 
 -- A line is as long without its line feed as it is, or one shorter
-without_feed_long : (line front : List ℕ) → HasNoFeed line → length line ≡ 4097 → 4096 < length (without_feed (line ++ front))
+without_feed_long : (line front : List ℕ) → HasNoFeed line → length line ≡ line_room → longest_line < length (without_feed (line ++ front))
 without_feed_long line [] h long =
     rw (append-nil line, ends_with_feed-none line h) (omega arith)
 without_feed_long line (x ∷ xs) h long = shorter (ends_with_feed (line ++ x ∷ xs)) (line ++ x ∷ xs) (omega (arith, length-append line (x ∷ xs)))
   where
-    shorter : (b : Bool) (all : List ℕ) → 4097 < length all → 4096 < length (cond b (take (length all - 1) all) all)
+    shorter : (b : Bool) (all : List ℕ) → line_room < length all → longest_line < length (cond b (take (length all - 1) all) all)
     shorter true all p = rw (length-take-le (length all - 1) all (omega arith)) (omega arith)
     shorter false all p = omega arith
 
-pub said-long : (is_first : Bool) (line : List ℕ) → 4096 < length (without_feed line) → said is_first line ≡ Err TooLong
+pub said-long : (is_first : Bool) (line : List ℕ) → longest_line < length (without_feed line) → said is_first line ≡ Err TooLong
 said-long is_first line h =
-    let e : nat_lt 4096 (length (without_feed line)) ≡ true = grind (arith, nat_tests) in rw e refl
+    let e : nat_lt longest_line (length (without_feed line)) ≡ true = grind (arith, nat_tests) in rw e refl
 
 -- The line that was taken says what the first line of the octets from there on says
 pub record NextLine (line held : List ℕ) (reading : Reading) : Type 0 where
@@ -103,12 +101,12 @@ pub record NextLine (line held : List ℕ) (reading : Reading) : Type 0 where
   pub split : lines (line ++ held) reading ≡ whole ∷ others
   pub same : (is_first : Bool) → said is_first whole ≡ said is_first line
 
-pub next_long : (line held : List ℕ) (reading : Reading) → HasNoFeed line → length line ≡ 4097 → NextLine line held reading
+pub next_long : (line held : List ℕ) (reading : Reading) → HasNoFeed line → length line ≡ line_room → NextLine line held reading
 next_long [] held reading h long = absurd (omega arith)
 next_long (x ∷ xs) held reading h long =
     let b = pieces-begun x xs held h in
-    let long' : 4096 < length ((x ∷ xs) ++ b.front) = omega (arith, length-append (x ∷ xs) b.front) in
-    let too_long : 4096 < length (without_feed (x ∷ xs)) = rw (ends_with_feed-none (x ∷ xs) h) (omega arith) in
+    let long' : longest_line < length ((x ∷ xs) ++ b.front) = omega (arith, length-append (x ∷ xs) b.front) in
+    let too_long : longest_line < length (without_feed (x ∷ xs)) = rw (ends_with_feed-none (x ∷ xs) h) (omega arith) in
     record {
       whole = (x ∷ xs) ++ b.front;
       others = filter (is_line reading) b.others;
@@ -123,5 +121,5 @@ pub next_last : (line : List ℕ) → HasNoFeed line → 0 < length line → Nex
 next_last [] h some = absurd (omega arith)
 next_last (x ∷ xs) h some = record { whole = x ∷ xs; others = []; split = ap (λ zs. lines zs AtEnd) (append-nil (x ∷ xs)) ∙ lines-last x xs h; same = λ is_first. refl }
 
-pub said-whole_long : (is_first : Bool) (line : List ℕ) → HasNoFeed line → length line ≡ 4097 → said is_first line ≡ Err TooLong
+pub said-whole_long : (is_first : Bool) (line : List ℕ) → HasNoFeed line → length line ≡ line_room → said is_first line ≡ Err TooLong
 said-whole_long is_first line h long = said-long is_first line (rw (ends_with_feed-none line h) (omega arith))

@@ -1,16 +1,12 @@
 -- What is taken in several steps.
-use Rattle.std.proofs.Common.{◌≡◌, ℕ, ◌+◌, ◌-◌, ◌<◌, ◌≤◌, zero, suc, Bool, true, false, cond, List, [], ◌∷◌, ◌++◌, length, take, drop, get_or, Option, Some, None, refl, sym, ◌∙◌, ap, subst, append_assoc, arith, length-drop}
+use Rattle.std.proofs.Common.{◌≡◌, ℕ, ◌+◌, ◌<◌, ◌≤◌, zero, suc, Bool, true, false, cond, List, [], ◌∷◌, ◌++◌, length, take, drop, get_or, Option, Some, None, refl, sym, ◌∙◌, ap, subst, append_assoc, arith}
 use Rattle.std.specs.Prelude.{◌==◌, position, nat_lt, not}
-use Rattle.std.specs.List.{position_or_len, slice_range, copy_within}
-use Rattle.std.proofs.Math.Seq.{take-append-add}
+use Rattle.std.specs.List.{position_or_len}
 use Rattle.std.proofs.lemmas.Bool.{eqb-false, eqb-true, not-true}
 use Rattle.std.proofs.lemmas.Bool.Decides.{nat_tests}
-use Rattle.std.proofs.lemmas.List.{drop-take, drop-drop, length-take-le, take-append-drop, take-take, take_all, take_more}
+use Rattle.std.proofs.lemmas.List.{take-append-drop, take_all, take_more}
 use Rattle.std.proofs.lemmas.List.Sums.{prefix_len_passes}
-use Rattle.std.proofs.lemmas.List.Edits.{take-paste}
 use Rattle.std.proofs.lemmas.List.Quantifiers.{position-Some}
-use Rattle.std.proofs.lemmas.Slice.{take-put_mid}
-use borrow.Rule.Slice.PartMut.{put_mid}
 use Rattle.bac_text.specs.declared.checked.Checked.{Checked}
 use Rattle.bac_text.specs.Checked.{inner_of}
 use Rattle.bac_script.specs.Feeds.{HasNoFeed}
@@ -31,29 +27,6 @@ pub Takes-front : {R : Type 0} {remaining : R → Option (List ℕ)} {a b : Chec
     Takes remaining a b held (drop n mid) (take n mid)
 Takes-front {mid = mid} n p = record { given = p.given; gave = p.gave; order = p.order ∙ sym (take-append-drop n mid) }
 
--- What is left of a range.
-pub range_skipped : (xs held : List ℕ) (start end n : ℕ) → slice_range xs start end ≡ held → n ≤ length held → end ≤ length xs → slice_range xs (start + n) end ≡ drop n held
-range_skipped xs held start end n is some within =
-    let long : length held ≤ end - start = omega (arith, ap length (sym is), length-take-le (end - start) (drop start xs) (omega (arith, length-drop start xs))) in
-    let count : n + (end - (start + n)) ≡ end - start = omega arith in
-    sym (ap (drop n) (sym is ∙ ap (λ k. take k (drop start xs)) (sym count)) ∙ drop-take n (end - (start + n)) (drop start xs) ∙ ap (take (end - (start + n))) (drop-drop n start xs))
-
--- A range that was moved to the front.
-pub moved_front : (xs moved held : List ℕ) (start end : ℕ) → slice_range xs start end ≡ held → moved ≡ copy_within xs start end 0 → start ≤ end → end ≤ length xs →
-    take (end - start) moved ≡ held
-moved_front xs moved held start end is copied low high =
-    let all : end - start ≡ 0 + (end - start) = omega arith in
-    ap (λ n. take n moved) all ∙ ap (take (0 + (end - start))) copied ∙ take-paste xs 0 (drop start xs) (end - start) (omega arith) (omega (arith, length-drop start xs)) ∙ is
-
--- Octets that were read behind what is held.
-pub read_behind : (xs ys held : List ℕ) (n k count : ℕ) → take n xs ≡ held → n ≤ length xs → count ≤ length ys →
-    take (n + count) (put_mid n k xs ys) ≡ held ++ take count ys
-read_behind xs ys held n k count front within some =
-    let size : length held ≡ n = ap length (sym front) ∙ length-take-le n xs within in
-    sym (take-take (n + count) (n + length ys) (put_mid n k xs ys) (omega arith))
-    ∙ ap (take (n + count)) (take-put_mid n k xs ys (n + length ys) refl within ∙ ap (λ zs. zs ++ ys) front)
-    ∙ ap (λ m. take (m + count) (held ++ ys)) (sym size) ∙ take-append-add held ys count
-
 -- ---- line feeds
 
 no_feed_below : (xs : List ℕ) (i : ℕ) → ((k : ℕ) → k < i → (get_or xs k 0 == 10) ≡ false) → HasNoFeed (take i xs)
@@ -61,6 +34,10 @@ no_feed_below [] zero h = tt
 no_feed_below [] (suc i) h = tt
 no_feed_below (x ∷ xs) zero h = tt
 no_feed_below (x ∷ xs) (suc i) h = (eqb-false x 10 (h 0 (omega arith)), no_feed_below xs i (λ k below. h (suc k) (omega arith)))
+
+pub no_feed_on : (xs ys : List ℕ) → HasNoFeed xs → HasNoFeed ys → HasNoFeed (xs ++ ys)
+no_feed_on [] ys h k = k
+no_feed_on (x ∷ xs) ys h k = (h.0, no_feed_on xs ys h.1 k)
 
 -- Where none was found that passes, each fails.
 pub none_passes : (p : ℕ → Bool) (xs : List ℕ) → position p xs ≡ None → (k : ℕ) → k < length xs → p (get_or xs k 0) ≡ false

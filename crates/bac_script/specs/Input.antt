@@ -5,6 +5,7 @@ use Rattle.bac_text.specs.declared.checked.Checked.{Checked}
 use Rattle.bac_script.specs.declared.input.Reading.{Reading}
 use Rattle.bac_script.specs.declared.input.Reading.TheVariants.{Open, AtEnd, Failed}
 use Rattle.bac_script.specs.Feeds.{HasNoFeed}
+use Rattle.bac_script.specs.Limits.{line_room, chunk_room}
 use Rattle.bac_text.specs.Checked.{inner_of, has_failed, has_ended, ends_of, ends_with, reads_of}
 
 -- the reads of a script
@@ -17,7 +18,7 @@ may_read reader = most_reads - reads_of reader
 
 -- no more octets than this are still to come
 abbrev pub may_come : {R : Type 0} → Checked R → List ℕ → ℕ
-may_come reader held = 32768 * may_read reader + length held
+may_come reader held = chunk_room * may_read reader + length held
 
 -- the octets held and then those that the reader gave are those taken and then those kept
 pub record Takes {R : Type 0} (remaining : R → Option (List ℕ)) (before after : Checked R) (held kept taken : List ℕ) : Type 0 where
@@ -58,9 +59,9 @@ over Failed = 1
 
 -- a line feed ends the line, or it is too long without one, or it is what was there where reading was over
 abbrev pub IsCutAs : Reading → List ℕ → Type 0
-IsCutAs Open line = ((text : List ℕ) × HasNoFeed text × (line ≡ text ++ 10 ∷ [])) ⊎ (HasNoFeed line × (length line ≡ 4097))
-IsCutAs AtEnd line = HasNoFeed line × (length line < 4097)
-IsCutAs Failed line = HasNoFeed line × (length line < 4097)
+IsCutAs Open line = ((text : List ℕ) × HasNoFeed text × (line ≡ text ++ 10 ∷ [])) ⊎ (HasNoFeed line × (length line ≡ line_room))
+IsCutAs AtEnd line = HasNoFeed line × (length line < line_room)
+IsCutAs Failed line = HasNoFeed line × (length line < line_room)
 
 -- the next line is so many of the octets that are held
 pub record IsNext {R : Type 0} (remaining : R → Option (List ℕ)) (before after : Checked R) (held : List ℕ) (reading : Reading) (count : ℕ) : Type 0 where

@@ -1,4 +1,5 @@
 pub mod Feeds
+pub mod Limits
 pub mod Input
 pub mod Line
 pub mod LongBody

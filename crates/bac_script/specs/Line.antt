@@ -1,11 +1,12 @@
 -- The lines of a script, and what each says.
-use Rattle.std.specs.Prelude.{ℕ, ◌-◌, ◌^◌, ◌==◌, ◌&&◌, Bool, nat_lt, List, [], ◌∷◌, length, take, slice_index, bytes_eq, codes, Option, Some, None, option_map, Result, Ok, Err, ok_or, if◌then◌else◌}
+use Rattle.std.specs.Prelude.{◌≡◌, ℕ, ◌-◌, ◌^◌, ◌==◌, ◌&&◌, Bool, nat_lt, List, [], ◌∷◌, length, take, slice_index, bytes_eq, codes, Option, Some, None, option_map, Result, Ok, Err, ok_or, if◌then◌else◌}
 use Rattle.std.specs.Str.{is_utf8}
 use Rattle.std.specs.Str.Lines.{strip_carriage_return}
 use Rattle.bac_tsm.specs.Events.{Event, Ask, Data, Tick}
 use Rattle.bac_device.specs.Turns.{Arrival}
 use Rattle.bac_script.specs.declared.line.LineFault.{LineFault}
 use Rattle.bac_script.specs.declared.line.LineFault.TheVariants.{Bad, TooLong}
+use Rattle.bac_text.specs.Limits.{longest_line}
 use Rattle.bac_text.specs.Words.{◌>>=◌, words_of, number_up_to, octets_of, next_as, at_end}
 use Rattle.bac_text.specs.Parameters.{priority_from, write_index_of}
 use Rattle.bac_text.specs.Address.{plain_peer_of, peer_of}
@@ -19,6 +20,10 @@ pub data Said : Type 0 where
   Settings : (timeout retries first_ticket : ℕ) → Said
   Happens : (event : Event) → Said
   Asks : (arrival : Arrival) → Said
+
+-- A word is left.
+abbrev pub IsLeft : List (List ℕ) → Type 0
+IsLeft words = (word : List ℕ) × (others : List (List ℕ)) × (words ≡ word ∷ others)
 
 -- TIMEOUT, at least 1, RETRIES and TICKET.
 abbrev pub settings_of : List (List ℕ) → Option Said
@@ -112,7 +117,7 @@ without_feed line = if ends_with_feed line then take (length line - 1) line else
 -- is dropped after that.
 abbrev pub text_of_line : List ℕ → Result (List ℕ) LineFault
 text_of_line line =
-    if nat_lt 4096 (length (without_feed line)) then Err TooLong
+    if nat_lt longest_line (length (without_feed line)) then Err TooLong
     else Ok (if ends_with_feed line then strip_carriage_return (without_feed line) else line)
 
 abbrev pub said_in : Bool → Result (List ℕ) LineFault → Result Said LineFault

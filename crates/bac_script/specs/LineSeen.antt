@@ -13,7 +13,7 @@ use Rattle.bac_script.specs.Line.{Said, Nothing, Settings, Happens, Asks, handed
 use Rattle.bac_script.specs.LongBody.{octets_or_none}
 
 abbrev pub arrival_seen : Received → Arrival
-arrival_seen received = record { from = station received.from; datagram = received.datagram.now }
+arrival_seen received = record { from = station received.from.now; datagram = received.datagram.now }
 
 -- The body of a request that is too long to be sent.
 abbrev pub long_body : LongWrite → List ℕ
@@ -22,8 +22,8 @@ long_body write = octets_or_none (whole_body_of (identifier write.object) write.
 abbrev pub line_seen : Line → Said
 line_seen line.Skipped = Nothing
 line_seen (line.Client config first_ticket) = Settings config.timeout config.retries first_ticket
-line_seen (line.Request peer service body) = Happens (Ask (station peer) service body.now)
-line_seen (line.LongWrite write) = Happens (Ask (station write.peer) 15 (long_body write))
+line_seen (line.Request peer service body) = Happens (Ask (station peer.now) service body.now)
+line_seen (line.LongWrite write) = Happens (Ask (station write.peer.now) 15 (long_body write))
 line_seen (line.Data received) = handed (arrival_seen received)
 line_seen (line.Tick now) = Happens (Tick now)
 line_seen (line.Ask received) = Asks (arrival_seen received)

@@ -15,6 +15,7 @@ use Rattle.bac_script.specs.declared.tracing.TraceEnd.{TraceEnd}
 use Rattle.bac_script.specs.declared.tracing.TraceFault.{TraceFault}
 use Rattle.bac_script.specs.declared.tracing.TraceFault.TheVariants.{BadLine, LineTooLong, ReadFailed, WriteFailed}
 use Rattle.bac_script.specs.Line.{Said, Nothing, Settings, Happens, Asks, said, ends_with_feed}
+use Rattle.bac_text.specs.Limits.{longest_line}
 use Rattle.bac_script.specs.Text.{notes_text, reply_text}
 use Rattle.bac_script.specs.Running.{small_device}
 
@@ -26,8 +27,8 @@ pieces (octet ∷ octets) = if octet == 10 then (octet ∷ []) ∷ pieces octets
 -- A piece without a line feed is a line only at the end of the input, or once it is too long.
 abbrev pub is_line : Reading → List ℕ → Bool
 is_line AtEnd piece = true
-is_line Open piece = ends_with_feed piece || nat_lt 4096 (length piece)
-is_line Failed piece = ends_with_feed piece || nat_lt 4096 (length piece)
+is_line Open piece = ends_with_feed piece || nat_lt longest_line (length piece)
+is_line Failed piece = ends_with_feed piece || nat_lt longest_line (length piece)
 
 -- The lines of the octets that the reader gave, by how reading stopped.
 abbrev pub lines : List ℕ → Reading → List (List ℕ)

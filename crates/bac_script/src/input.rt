@@ -5,7 +5,7 @@ ghost use Rattle.bac_text.specs.Page.{held, writer_of, Prints};
 ghost use Rattle.bac_script.specs.Feeds.{HasNoFeed};
 ghost use Rattle.bac_script.specs.Input.{may_come, may_read, over, Takes, StandsAs, IsSpared, IsCutAs, IsNext};
 
-use bac_text::{Checked, End, Page, WriteFailed, place_of_end};
+use bac_text::{Checked, End, LONGEST_LINE, Page, WriteFailed, place_of_end};
 use std::io::{Read, Write};
 use std::marker::Model;
 
@@ -13,7 +13,7 @@ use std::marker::Model;
 const CHUNK: usize = 32_768;
 
 /// The octets of the longest line with its line feed. So many without a line feed among them are a line that is too long.
-const LINE_ROOM: usize = 4_097;
+const LINE_ROOM: usize = LONGEST_LINE + 1;
 
 /// How reading stands.
 #[derive(Clone, Copy, PartialEq, Eq)]
@@ -38,21 +38,22 @@ pub struct Next {
 pub struct Chunk {
     octets: [u8; CHUNK],
     start: usize,
-    /// No line feed is held before this place.
-    searched: usize,
     end: usize,
+    /// Among so many of the first octets that are held there is no line feed.
+    searched: usize,
 }
 
 impl Model for Chunk {
-    ghost use Rattle.std.specs.Prelude.{ℕ, ◌+◌, ◌≤◌, List, slice_range};
+    ghost use Rattle.std.specs.Prelude.{ℕ, ◌+◌, ◌≤◌, List, take, slice_range};
     ghost use Rattle.bac_script.specs.Feeds.{HasNoFeed};
+    ghost use Rattle.bac_script.specs.Limits.{chunk_room, line_room};
 
     ghost Value = { List ℕ };
 
     ghost view = { λ chunk. slice_range chunk.octets chunk.start chunk.end };
 
-    ghost invariant = { λ chunk. (chunk.start ≤ chunk.searched) × (chunk.searched ≤ chunk.end) × (chunk.end ≤ 32768)
-        × (chunk.searched ≤ chunk.start + 4097) × HasNoFeed (slice_range chunk.octets chunk.start chunk.searched) };
+    ghost invariant = { λ chunk. (chunk.start + chunk.searched ≤ chunk.end) × (chunk.end ≤ chunk_room) × (chunk.searched ≤ line_room)
+        × HasNoFeed (take chunk.searched (slice_range chunk.octets chunk.start chunk.end)) };
 }
 
 impl Chunk {
@@ -62,8 +63,8 @@ impl Chunk {
         Chunk {
             octets: [0; CHUNK],
             start: 0,
-            searched: 0,
             end: 0,
+            searched: 0,
         }
     }
 
@@ -88,7 +89,7 @@ impl Chunk {
         ensures { self.new ≡ drop count self.old }
     {
         self.start += count;
-        self.searched = self.start;
+        self.searched = 0;
     }
 
     /// Finds the next line, and reads until it is held. Before each read the page is turned in, so that nobody waits for text
@@ -139,15 +140,14 @@ impl Chunk {
             (λ count. (count ≤ length self.old) × IsCutAs Reading.Open (take count self.old)) }
     {
         let limit = self.end.min(self.start + LINE_ROOM);
-        if let Some(place) = feed_place(&self.octets[self.searched..limit]) {
-            return Some(self.searched - self.start + place + 1);
+        if let Some(place) = feed_place(&self.octets[self.start + self.searched..limit]) {
+            return Some(self.searched + place + 1);
         }
-        self.searched = limit;
-        let length = limit - self.start;
-        if length < LINE_ROOM {
+        self.searched = limit - self.start;
+        if self.searched < LINE_ROOM {
             None
         } else {
-            Some(length)
+            Some(self.searched)
         }
     }
 
@@ -172,7 +172,6 @@ impl Chunk {
         }
         if self.end > CHUNK - LINE_ROOM {
             self.octets.copy_within(self.start..self.end, 0);
-            self.searched -= self.start;
             self.end -= self.start;
             self.start = 0;
         }

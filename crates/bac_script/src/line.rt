@@ -6,7 +6,7 @@ ghost use Rattle.bac_pdu.specs.Property.{IsPriority};
 ghost use Rattle.bac_text.specs.Words.{number_up_to, octets_of, next_as, at_end};
 ghost use Rattle.bac_text.specs.Address.{plain_peer_of, peer_of};
 ghost use Rattle.bac_text.specs.Parameters.{write_index_of};
-ghost use Rattle.bac_script.specs.Line.{Happens, settings_of, index_in, reading_of, priority_of, writing_of, arrival_of, tick_of, said_by, text_of_line, said};
+ghost use Rattle.bac_script.specs.Line.{Happens, settings_of, IsLeft, index_in, reading_of, priority_of, writing_of, arrival_of, tick_of, said_by, text_of_line, said};
 ghost use Rattle.bac_script.specs.Script.{is_nothing};
 ghost use Rattle.bac_script.specs.LineSeen.{arrival_seen, line_seen, result_seen};
 
@@ -20,7 +20,7 @@ use bac_tsm::Config;
 use bac_wire::ObjectId;
 use std::str;
 
-/// What a line says. Octets lie in the room that was lent to read it.
+/// What a line says. Its peer and its octets lie in the room that was lent to read it.
 #[derive(Drop)]
 pub(crate) enum Line<'a> {
     /// Nothing: it is blank or a remark.
@@ -28,7 +28,7 @@ pub(crate) enum Line<'a> {
     /// The client's settings and its first ticket.
     Client(Config, u64),
     /// A request that the client is asked to make of the peer: the service and its body.
-    Request(Peer, u8, &'a [u8]),
+    Request(&'a Peer, u8, &'a [u8]),
     /// A request to write whose service body is too long to be sent.
     LongWrite(LongWrite<'a>),
     /// A datagram that the client is handed.
@@ -42,13 +42,14 @@ pub(crate) enum Line<'a> {
 /// A datagram, and whom it comes from.
 #[derive(Clone, Copy)]
 pub(crate) struct Received<'a> {
-    pub(crate) from: Peer,
+    pub(crate) from: &'a Peer,
     pub(crate) datagram: &'a [u8],
 }
 
-/// Room for the octets that a line says, which is used again for the next line.
+/// Room for the peer and the octets that a line says, which is used again for the next line.
 #[derive(Drop)]
 pub(crate) struct LineRoom {
+    peer: Peer,
     datagram: [u8; LONGEST_DATAGRAM],
     body: BodyRoom,
 }
@@ -56,6 +57,11 @@ pub(crate) struct LineRoom {
 impl LineRoom {
     pub(crate) fn new() -> Self {
         LineRoom {
+            peer: Peer {
+                ip: 0,
+                port: 0,
+                route: None,
+            },
             datagram: [0; LONGEST_DATAGRAM],
             body: BodyRoom::new(),
         }
@@ -132,19 +138,19 @@ fn read_words<'a>(mut words: Words<'a>, is_first: bool, room: &'a mut LineRoom) 
         return read_settings(words);
     }
     if name == b"read".as_slice() {
-        return read_reading(words, &mut room.body);
+        return read_reading(words, room);
     }
     if name == b"write".as_slice() {
-        return read_writing(words, &mut room.body);
+        return read_writing(words, room);
     }
     if name == b"data".as_slice() {
-        return read_arrival(words, &mut room.datagram).map(Line::Data);
+        return read_arrival(words, room).map(Line::Data);
     }
     if name == b"tick".as_slice() {
         return read_tick(words);
     }
     if name == b"ask".as_slice() {
-        return read_arrival(words, &mut room.datagram).map(Line::Ask);
+        return read_arrival(words, room).map(Line::Ask);
     }
     None
 }
@@ -156,13 +162,14 @@ fn read_settings(mut words: Words<'_>) -> Option<Line<'_>>
     let retries = words.next_number(u8::MAX.into())?;
     let ticket = words.next_number(u64::MAX)?;
     let config = Config::new(timeout as u32, retries as u8)?;
-    ended(words, Line::Client(config, ticket))
+    ended(words)?;
+    Some(Line::Client(config, ticket))
 }
 
-fn read_reading<'a>(mut words: Words<'_>, room: &'a mut BodyRoom) -> Option<Line<'a>>
+fn read_reading<'a>(mut words: Words<'_>, room: &'a mut LineRoom) -> Option<Line<'a>>
     ensures { option_map line_seen result ≡ option_map Happens (reading_of words.entry) }
 {
-    let peer = next_peer(&mut words)?;
+    room.peer = next_peer(&mut words)?;
     let kind = words.next_number(1_023)?;
     let instance = words.next_number(4_194_303)?;
     let property = words.next_number(4_194_303)?;
@@ -172,14 +179,16 @@ fn read_reading<'a>(mut words: Words<'_>, room: &'a mut BodyRoom) -> Option<Line
         property: property as u32,
         index,
     };
-    let body = room.read_body(&request);
-    ended(words, Line::Request(peer, READ_PROPERTY, body))
+    ended(words)?;
+    let body = room.body.read_body(&request);
+    Some(Line::Request(&room.peer, READ_PROPERTY, body))
 }
 
-fn read_writing<'a>(mut words: Words<'a>, room: &'a mut BodyRoom) -> Option<Line<'a>>
+fn read_writing<'a>(mut words: Words<'a>, room: &'a mut LineRoom) -> Option<Line<'a>>
     ensures { option_map line_seen result ≡ option_map Happens (writing_of words.entry) }
 {
-    let peer = next_peer(&mut words)?;
+    let LineRoom { peer, body, .. } = room;
+    *peer = next_peer(&mut words)?;
     let kind = words.next_number(1_023)?;
     let instance = words.next_number(4_194_303)?;
     let property = words.next_number(4_194_303)? as u32;
@@ -187,7 +196,7 @@ fn read_writing<'a>(mut words: Words<'a>, room: &'a mut BodyRoom) -> Option<Line
     let index = next_write_index(&mut words)?;
     let object = ObjectId::new(kind as u16, instance as u32)?;
     let pairs = words.again();
-    match room.write_body(object, property, index, priority, &mut words) {
+    match body.write_body(object, property, index, priority, &mut words) {
         Ok(body) => Some(Line::Request(peer, WRITE_PROPERTY, body)),
         Err(PairFault::TooLong) => Some(Line::LongWrite(LongWrite {
             peer,
@@ -201,34 +210,33 @@ fn read_writing<'a>(mut words: Words<'a>, room: &'a mut BodyRoom) -> Option<Line
     }
 }
 
-fn read_arrival<'a>(
-    mut words: Words<'_>,
-    room: &'a mut [u8; LONGEST_DATAGRAM],
-) -> Option<Received<'a>>
+fn read_arrival<'a>(mut words: Words<'_>, room: &'a mut LineRoom) -> Option<Received<'a>>
     ensures { option_map arrival_seen result ≡ arrival_of words.entry }
 {
-    let from = next_plain_peer(&mut words)?;
-    let datagram = next_datagram(&mut words, room)?;
-    if words.next_word().is_some() {
-        return None;
-    }
-    Some(Received { from, datagram })
+    room.peer = next_plain_peer(&mut words)?;
+    let datagram = next_datagram(&mut words, &mut room.datagram)?;
+    ended(words)?;
+    Some(Received {
+        from: &room.peer,
+        datagram,
+    })
 }
 
 fn read_tick(mut words: Words<'_>) -> Option<Line<'_>>
     ensures { option_map line_seen result ≡ option_map Happens (tick_of words.entry) }
 {
     let now = words.next_number(u64::MAX)?;
-    ended(words, Line::Tick(now))
+    ended(words)?;
+    Some(Line::Tick(now))
 }
 
-// The line, where no word is left.
-fn ended<'a>(mut words: Words<'_>, line: Line<'a>) -> Option<Line<'a>>
-    ensures { option_map line_seen result ≡ at_end words.entry (line_seen line.entry) }
+// Something, where no word is left.
+fn ended(mut words: Words<'_>) -> Option<()>
+    ensures { MatchOption result (IsLeft words.entry) (λ _. words.entry ≡ []) }
 {
     match words.next_word() {
         Some(_) => None,
-        None => Some(line),
+        None => Some(()),
     }
 }
 

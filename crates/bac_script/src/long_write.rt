@@ -11,7 +11,7 @@ use bac_wire::ObjectId;
 /// A request to write as a line says it, where its service body has more octets than a client sends.
 #[derive(Drop)]
 pub(crate) struct LongWrite<'a> {
-    pub(crate) peer: Peer,
+    pub(crate) peer: &'a Peer,
     pub(crate) object: ObjectId,
     pub(crate) property: u32,
     pub(crate) index: Option<u32>,

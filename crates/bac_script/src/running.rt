@@ -43,7 +43,7 @@ pub(crate) fn run_line<W: Write>(
     match line {
         Line::Skipped => {}
         Line::Client(config, first_ticket) => *client = Client::new(config, first_ticket),
-        Line::Request(peer, service, body) => submit(client, peer, service, body, page),
+        Line::Request(peer, service, body) => submit(client, *peer, service, body, page),
         Line::LongWrite(_) => print_refusal(page, SubmitFault::TooLong),
         Line::Data(received) => hand_in(client, received, page),
         Line::Tick(now) => tick(client, now, page),
@@ -73,7 +73,7 @@ fn hand_in<W: Write>(client: &mut Client, received: Received<'_>, page: &mut Pag
     ensures client { client.new ≡ keeping client.old (step_of client.old (Data (arrival_seen received.entry).from (arrival_seen received.entry).datagram)).after }
     ensures text { Prints W.contents page.old page.new (notes_text (step_of client.old (Data (arrival_seen received.entry).from (arrival_seen received.entry).datagram)).notes) }
 {
-    match client.datagram(received.from, received.datagram) {
+    match client.datagram(*received.from, received.datagram) {
         Some(ended) => print_end(page, ended),
         None => page.print(b"drop\n"),
     }
@@ -98,7 +98,7 @@ fn ask<W: Write>(
     ensures device { (writes : List Written) → device.old ≡ device_with writes → device.new ≡ device_with (writes_with writes (arrival_seen received.entry)) }
     ensures text { (writes : List Written) → device.old ≡ device_with writes → Prints W.contents page.old page.new (reply_after writes (arrival_seen received.entry)) }
 {
-    match device.answer(received.from, received.datagram, reply) {
+    match device.answer(*received.from, received.datagram, reply) {
         Some(peer) => print_reply(page, peer, reply.as_slice()),
         None => page.print(b"silent\n"),
     }

@@ -4,7 +4,7 @@ ghost use Rattle.bac_text.specs.Checked.{has_failed};
 ghost use Rattle.bac_script.specs.Input.{AreSpent};
 ghost use Rattle.bac_script.specs.Fits.{AllFit};
 ghost use Rattle.bac_script.specs.Running.{new_client, small_device};
-ghost use Rattle.bac_script.specs.Script.{lines, all_said, requests_in, arrivals_in};
+ghost use Rattle.bac_script.specs.Script.{lines, all_said, requests_in, arrivals_in, fault_at};
 ghost use Rattle.bac_device.specs.Demo.{demo_points};
 ghost use Rattle.bac_device.specs.Turns.{replies_to};
 ghost use Rattle.bac_tsm.specs.Laws.{NumbersComeBackLate};
@@ -56,6 +56,7 @@ impl From<WriteFailed> for TraceFault {
 }
 
 /// Runs each line of a script on a client and a device. What is printed is written before the reader is asked for more.
+#[tactic(auto, using(crate::proofs::Machine::requests_late, crate::proofs::Asking::replies_fit))]
 pub fn trace<R: Read, W: Write>(
     reader: &mut Checked<R>,
     writer: &mut Checked<W>,
@@ -106,8 +107,7 @@ fn run_script<R: Read, W: Write>(
         lines += 1;
         let line = match read_line(chunk.front(next.length), is_first, &mut room) {
             Ok(line) => line,
-            Err(LineFault::Bad) => return Err(TraceFault::BadLine(lines)),
-            Err(LineFault::TooLong) => return Err(TraceFault::LineTooLong(lines)),
+            Err(fault) => return Err(fault_in_line(fault, lines)),
         };
         is_first = is_first && line.is_skipped();
         run_line(&mut client, &mut device, line, &mut reply, page);
@@ -115,6 +115,16 @@ fn run_script<R: Read, W: Write>(
             return Ok(TraceEnd { lines });
         }
         chunk.skip(next.length);
+    }
+}
+
+// The fault of the line with this number.
+fn fault_in_line(fault: LineFault, number: u64) -> TraceFault
+    ensures { result ≡ fault_at number (Err fault) }
+{
+    match fault {
+        LineFault::Bad => TraceFault::BadLine(number),
+        LineFault::TooLong => TraceFault::LineTooLong(number),
     }
 }
 

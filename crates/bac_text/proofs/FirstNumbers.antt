@@ -1,25 +1,20 @@
 -- The number that the first word of a text writes.
 use Rattle.std.proofs.Common.{◌≡◌, ℕ, ◌<◌, true, false, List, length, take, drop, get_or, Some, refl, sym, ◌∙◌, ap, arith, inl, inr}
 use Rattle.std.specs.Prelude.{not, position, unwrap_or}
-use Rattle.std.specs.Char.{is_ascii_digit}
 use Rattle.std.specs.Str.Parse.{digits_value}
 use Rattle.std.proofs.lemmas.Bool.{cases_lt}
 use Rattle.std.proofs.lemmas.Bool.Decides.{nat_tests}
-use Rattle.std.proofs.lemmas.List.{length-take-le, get_or-take}
+use Rattle.std.proofs.lemmas.List.{length-take-le}
 use Rattle.bac_text.specs.Words.{is_blank, is_not_empty, IsFirstNumber}
 use Rattle.bac_text.specs.Leading.{IsLeading}
-use Rattle.bac_text.proofs.NumberLemmas.{digit_at}
+use Rattle.bac_text.proofs.NumberLemmas.{digit_in}
 use Rattle.bac_text.proofs.Lanes.{position_is, position_none}
 use Rattle.bac_text.proofs.WordLemmas.{words-some}
 
 module _ (rest : List ℕ) (number count : ℕ) (l : IsLeading rest 5 number count) where
   -- No digit is a blank.
   no_blank : (k : ℕ) → k < count → is_blank (get_or rest k 0) ≡ false
-  no_blank k below =
-      let size = length-take-le count rest l.within in
-      let at = digit_at (take count rest) k (omega (arith, size, below)) l.digits in
-      let digit : is_ascii_digit (get_or rest k 0) ≡ true = ap is_ascii_digit (sym (get_or-take count rest k 0 below)) ∙ at in
-      grind (arith, nat_tests, digit)
+  no_blank k below = let digit = digit_in rest count k l.within l.digits below in grind (arith, nat_tests, digit)
 
   -- The digits are the whole word.
   word_ends : (count < length rest → is_blank (get_or rest count 0) ≡ true) → count ≡ unwrap_or (position is_blank rest) (length rest)

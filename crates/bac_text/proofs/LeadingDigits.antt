@@ -1,17 +1,16 @@
 -- Numbers at the front of a text.
-use Rattle.std.proofs.Common.{◌≡◌, ℕ, zero, suc, cond, subst, ◌+◌, ◌*◌, ◌<◌, ◌≤◌, Bool, true, false, List, length, take, drop, get_or, Option, Some, None, refl, sym, ◌∙◌, ap, arith, inl, inr, add-one}
-use Rattle.std.specs.Prelude.{◌==◌, nat_le, position, option_map}
+use Rattle.std.proofs.Common.{◌≡◌, ℕ, zero, suc, cond, ◌+◌, ◌-◌, ◌*◌, ◌<◌, ◌≤◌, Bool, true, false, List, length, take, drop, get_or, Option, Some, None, refl, sym, ◌∙◌, ap, arith, inl, inr, add-one}
+use Rattle.std.specs.Prelude.{◌==◌, nat_le}
 use Rattle.std.specs.Char.{is_ascii_digit}
 use Rattle.std.specs.Str.{all_ascii_digits}
 use Rattle.std.specs.Str.Parse.{digits_value}
-use Rattle.std.proofs.lemmas.Bool.{eq-eqb, eqb-true, cases_lt, false≢true}
+use Rattle.std.proofs.lemmas.Bool.{eq-eqb, cases_lt}
 use Rattle.std.proofs.lemmas.Bool.Decides.{nat_tests}
-use Rattle.std.proofs.lemmas.List.{take_all, length-take-le, get_or-take}
-use Rattle.std.proofs.lemmas.List.Quantifiers.{position-Some}
+use Rattle.std.proofs.lemmas.List.{take_all, take_rest, length-take-le}
 use Rattle.bac_text.specs.Words.{◌>>=◌, number_up_to, is_not_empty}
-use Rattle.bac_text.specs.Address.{cut_at, short_number, number_before_dot}
+use Rattle.bac_text.specs.Address.{digit, short_number, number_before_dot}
 use Rattle.bac_text.specs.Leading.{IsLeading}
-use Rattle.bac_text.proofs.NumberLemmas.{and_false, digit_at}
+use Rattle.bac_text.proofs.NumberLemmas.{and_false, not_number, others_are, digit_in, digits_next, value_next}
 use Rattle.bac_text.proofs.Lanes.{position_is}
 
 -- The greatest number of so many digits.
@@ -19,40 +18,10 @@ abbrev pub most_with : ℕ → ℕ
 most_with zero = 0
 most_with (suc n) = most_with n * 10 + 9
 
-pub few_digits : (n : ℕ) → n < 5 → most_with n ≤ 9999
-few_digits zero h = omega arith
-few_digits (suc zero) h = omega arith
-few_digits (suc (suc zero)) h = omega arith
-few_digits (suc (suc (suc zero))) h = omega arith
-few_digits (suc (suc (suc (suc zero)))) h = omega arith
-few_digits (suc (suc (suc (suc (suc n))))) h = absurd (omega arith)
-
 pub most_next : (n number digit : ℕ) → number ≤ most_with n → digit ≤ 9 → number * 10 + digit ≤ most_with (n + 1)
 most_next n number digit h d = rw add-one (omega (arith, h, d))
 
--- A word that is no number, since one of its octets is no digit.
-not_number : (most : ℕ) (word : List ℕ) → all_ascii_digits word ≡ false → number_up_to most word ≡ None
-not_number most word e = rw (e, and_false (is_not_empty word)) refl
-
-others_are : (word : List ℕ) (i : ℕ) → i < length word → is_ascii_digit (get_or word i 0) ≡ false → all_ascii_digits word ≡ false
-others_are word i h one = go (all_ascii_digits word) refl
-  where
-    go : (b : Bool) → all_ascii_digits word ≡ b → all_ascii_digits word ≡ false
-    go true e = absurd (let is = digit_at word i h e in false≢true (sym one ∙ is))
-    go false e = e
-
--- A short text that is a number as a whole, or is none.
-pub short_whole : (text : List ℕ) (digits limit number count : ℕ) → IsLeading text digits number count → 0 < count → length text ≤ count → number ≤ limit →
-    Some number ≡ short_number digits limit text
-short_whole text digits limit number count l some whole small =
-    let all = take_all count text whole in
-    let fits : nat_le (length text) digits ≡ true = grind (arith, nat_tests, l.few, whole) in
-    let value : digits_value 10 text ≡ number = ap (digits_value 10) (sym all) ∙ sym l.value in
-    let is_digits : all_ascii_digits text ≡ true = ap all_ascii_digits (sym all) ∙ l.digits in
-    let not_empty : is_not_empty text ≡ true = grind (arith, nat_tests, l.within, some) in
-    let below : nat_le number limit ≡ true = grind (arith, nat_tests, small) in
-    rw (fits, not_empty, is_digits, value, below) refl
-
+-- A short text that is no number as a whole.
 module _ (text : List ℕ) (digits limit number count : ℕ) (l : IsLeading text digits number count) where
   -- More than digits stand there, or too many of them.
   pub short_long : count < length text → None ≡ short_number digits limit text
@@ -89,99 +58,74 @@ module _ (text : List ℕ) (digits limit number count : ℕ) (l : IsLeading text
       go true e = rw (e, and_false (all_ascii_digits text), and_false (is_not_empty text)) refl
       go false e = refl
 
--- A text of which all digits at the front are taken.
-pub leading_taken : (text : List ℕ) (most number count : ℕ) → IsLeading text most number count → IsLeading (take count text) most number count
-leading_taken text most number count l =
-    let size = length-take-le count text l.within in
-    let same = take_all count (take count text) (omega (arith, size)) in
+-- So many digits at the front write the number.
+record Digits (text : List ℕ) (count number : ℕ) : Type 0 where
+  all : all_ascii_digits (take count text) ≡ true
+  value : number ≡ digits_value 10 (take count text)
+
+is_digit : (octet number : ℕ) → Some number ≡ digit octet → (is_ascii_digit octet ≡ true) × (number ≡ octet - 48)
+is_digit octet number e = go (is_ascii_digit octet) refl e
+  where
+    go : (b : Bool) → is_ascii_digit octet ≡ b → Some number ≡ cond b (Some (octet - 48)) None → (is_ascii_digit octet ≡ true) × (number ≡ octet - 48)
+    go true is e = (is, cc)
+    go false is e = absurd (cc)
+
+one_more : (text : List ℕ) (i number ones total : ℕ) → Digits text i number → i < length text → Some ones ≡ digit (get_or text i 0) → total ≡ number * 10 + ones →
+    Digits text (i + 1) total
+one_more text i number ones total d within found e =
+    let last = is_digit (get_or text i 0) ones found in
     record {
-      within = omega (arith, size);
-      few = l.few;
-      digits = ap all_ascii_digits same ∙ l.digits;
-      value = l.value ∙ sym (ap (digits_value 10) same);
-      ends = λ few more. absurd (omega (arith, size, more));
+      all = digits_next text i within d.all last.0;
+      value = e ∙ ap (λ n. number * 10 + n) last.1 ∙ value_next text i number within last.0 d.value;
     }
 
 -- No dot (46) is among the digits.
 no_dot : (text : List ℕ) (count k : ℕ) → count ≤ length text → all_ascii_digits (take count text) ≡ true → k < count → (get_or text k 0 == 46) ≡ false
-no_dot text count k within all below =
-    let size = length-take-le count text within in
-    let at = digit_at (take count text) k (omega (arith, size)) all in
-    let digit : is_ascii_digit (get_or text k 0) ≡ true = ap is_ascii_digit (sym (get_or-take count text k 0 below)) ∙ at in
-    grind (arith, nat_tests, digit)
+no_dot text count k within all below = let digit = digit_in text count k within all below in grind (arith, nat_tests, digit)
 
-module _ (text : List ℕ) (number count : ℕ) (l : IsLeading text 3 number count) where
-  abbrev cut_there : Option (List ℕ × List ℕ)
-  cut_there = Some (take count text, drop (count + 1) text)
+module _ (text : List ℕ) (count number : ℕ) (d : Digits text count number) (some : 0 < count) (few : count ≤ 3) (within : count < length text) (dot : get_or text count 0 ≡ 46) where
+  abbrev read : Bool → Option (ℕ × List ℕ)
+  read small = do
+    n ← cond small (Some number) None
+    Some (n, drop (count + 1) text)
 
-  -- A dot stands behind the digits.
-  dot_there : count < length text → get_or text count 0 ≡ 46 → cut_at 46 text ≡ cut_there
-  dot_there within dot =
-      ap (option_map (λ i. (take i text, drop (i + 1) text)))
-      (sym (position_is (λ o. o == 46) text count within (λ k below. no_dot text count k l.within l.digits below) (eq-eqb (get_or text count 0) 46 dot)))
+  -- A number of up to three digits before a dot.
+  before_dot : number_before_dot text ≡ read (nat_le number 255)
+  before_dot =
+      let size = length-take-le count text (omega arith) in
+      let at = position_is (λ o. o == 46) text count within (λ k below. no_dot text count k (omega arith) d.all below) (eq-eqb (get_or text count 0) 46 dot) in
+      let short : nat_le (length (take count text)) 3 ≡ true = grind (arith, nat_tests) in
+      let not_empty : is_not_empty (take count text) ≡ true = grind (arith, nat_tests) in
+      rw (← at, short, not_empty, d.all, ← d.value) refl
 
-  abbrev number_of_cut : Option (List ℕ × List ℕ) → Option (ℕ × List ℕ)
-  number_of_cut cut = do
-    parts ← cut
-    n ← short_number 3 255 parts.0
-    Some (n, parts.1)
+  taken : number ≤ 255 → Some (number, take (length text - (count + 1)) (drop (count + 1) text)) ≡ number_before_dot text
+  taken small =
+      let below : nat_le number 255 ≡ true = grind (arith, nat_tests) in
+      rw (take_rest text (count + 1)) (sym (before_dot ∙ ap read below))
 
-  abbrev with_rest : List ℕ → Option ℕ → Option (ℕ × List ℕ)
-  with_rest rest found = do
-    n ← found
-    Some (n, rest)
+  refused : 255 < number → None ≡ number_before_dot text
+  refused large = let above : nat_le number 255 ≡ false = grind (arith, nat_tests) in sym (before_dot ∙ ap read above)
 
-  pub before_dot : count < length text → get_or text count 0 ≡ 46 → 0 < count → number ≤ 255 →
-      Some (number, drop (count + 1) text) ≡ number_before_dot text
-  before_dot within dot some small =
-      let size = length-take-le count text l.within in
-      sym (ap number_of_cut (dot_there within dot)
-      ∙ ap (with_rest (drop (count + 1) text)) (sym (short_whole (take count text) 3 255 number count (leading_taken text 3 number count l) some (omega (arith, size)) small)))
+module _ (text : List ℕ) (a : ℕ) (first : Some a ≡ digit (get_or text 0 0)) where
+  one : 0 < length text → Digits text 1 a
+  one long = one_more text 0 0 a a (record { all = refl; value = refl }) long first (omega arith)
 
-  no_number : (found : Option ℕ) → None ≡ found → (rest : List ℕ) → None ≡ with_rest rest found
-  no_number None e rest = refl
-  no_number (Some n) e rest = absurd (cc)
+  pub one_digit : 1 < length text → get_or text 1 0 ≡ 46 → a ≤ 9 → Some (a, take (length text - 2) (drop 2 text)) ≡ number_before_dot text
+  one_digit long dot small = taken text 1 a (one (omega arith)) (omega arith) (omega arith) long dot (omega arith)
 
-  -- What stands before a dot that stands further on is no such number.
-  further : (j : ℕ) → count < j → j < length text → None ≡ short_number 3 255 (take j text)
-  further j more within = go (nat_le (length (take j text)) 3) refl
-    where
-      size : length (take j text) ≡ j
-      size = length-take-le j text (omega (arith, within))
+  module _ (b : ℕ) (second : Some b ≡ digit (get_or text 1 0)) where
+    two : 1 < length text → Digits text 2 (a * 10 + b)
+    two long = one_more text 1 a b _ (one (omega arith)) long second refl
 
-      go : (b : Bool) → nat_le (length (take j text)) 3 ≡ b → None ≡ short_number 3 255 (take j text)
-      go false e = rw e refl
-      go true e =
-          let few : count < 3 = grind (arith, nat_tests, e, more, size) in
-          let other : is_ascii_digit (get_or (take j text) count 0) ≡ false =
-          ap is_ascii_digit (get_or-take j text count 0 more) ∙ l.ends few (omega (arith, more, within)) in
-          sym (rw e (not_number 255 (take j text) (others_are (take j text) count (omega (arith, size, more)) other)))
+    pub two_digits : 2 < length text → get_or text 2 0 ≡ 46 → a ≤ 9 → b ≤ 9 → Some (a * 10 + b, take (length text - 3) (drop 3 text)) ≡ number_before_dot text
+    two_digits long dot small small' = taken text 2 (a * 10 + b) (two (omega arith)) (omega arith) (omega arith) long dot (omega arith)
 
-  pub no_before_dot : (count < length text → get_or text count 0 ≡ 46 → None ≡ short_number 3 255 (take count text)) → None ≡ number_before_dot text
-  no_before_dot h = go (position (λ o. o == 46) text) refl
-    where
-      at : (j : ℕ) → position (λ o. o == 46) text ≡ Some j → None ≡ short_number 3 255 (take j text)
-      at j found =
-          let p = position-Some (λ o. o == 46) text j 0 found in
-          let dot : get_or text j 0 ≡ 46 = eqb-true (get_or text j 0) 46 p.1 in
-          elim (cases_lt j count) [
-            | inl early ↦ absurd (let not = no_dot text count j l.within l.digits early in false≢true (sym not ∙ p.1))
-            | inr late ↦
-                elim (cases_lt count j) [
-                  | inl more ↦ further j more p.0
-                  | inr all ↦
-                      let same : count ≡ j = omega (arith, late, all) in
-                      subst (λ (k : ℕ). None ≡ short_number 3 255 (take k text)) same
-                      (h (omega (arith, same, p.0)) (subst (λ (k : ℕ). get_or text k 0 ≡ 46) (sym same) dot))
-                ]
-          ]
+    module _ (c : ℕ) (third : Some c ≡ digit (get_or text 2 0)) (long : 3 < length text) (dot : get_or text 3 0 ≡ 46) where
+      three : Digits text 3 (a * 100 + b * 10 + c)
+      three = one_more text 2 (a * 10 + b) c _ (two (omega arith)) (omega arith) third (omega arith)
 
-      go : (found : Option ℕ) → position (λ o. o == 46) text ≡ found → None ≡ number_before_dot text
-      go None e = rw e refl
-      go (Some j) e = rw e (no_number (short_number 3 255 (take j text)) (at j e) (drop (j + 1) text))
+      pub three_digits : a * 100 + b * 10 + c ≤ 255 → Some (a * 100 + b * 10 + c, take (length text - 4) (drop 4 text)) ≡ number_before_dot text
+      three_digits small = taken text 3 _ three (omega arith) (omega arith) long dot small
 
-  pub before_dot-empty : count ≡ 0 → None ≡ number_before_dot text
-  before_dot-empty none = no_before_dot (λ _ _. short_empty (take count text) 3 255 number count (leading_taken text 3 number count l) none)
-
-  pub before_dot-big : 255 < number → None ≡ number_before_dot text
-  before_dot-big big = no_before_dot (λ _ _. short_big (take count text) 3 255 number count (leading_taken text 3 number count l) big)
+      pub three_digits_too_big : 255 < a * 100 + b * 10 + c → None ≡ number_before_dot text
+      three_digits_too_big large = refused text 3 _ three (omega arith) (omega arith) long dot large

@@ -1,5 +1,6 @@
 -- What several prints in a row come to.
-use Rattle.std.proofs.Common.{◌≡◌, ℕ, List, [], ◌∷◌, ◌++◌, Option, refl, sym, ◌∙◌, ap, append_assoc, subst, inl, inr}
+use Rattle.std.proofs.Common.{◌≡◌, ℕ, List, [], ◌∷◌, ◌++◌, Option, Result, Ok, Err, is_err, true, refl, sym, ◌∙◌, ap, append_assoc, subst, inl, inr}
+use Rattle.std.specs.Prelude.{OnErr}
 use Rattle.std.proofs.lemmas.List.{append-nil}
 use Rattle.std.proofs.lemmas.Bool.{cases_Bool, false≢true}
 use Rattle.bac_text.specs.declared.checked.Checked.{Checked}
@@ -16,6 +17,10 @@ encode_with-append t (x ∷ xs) ys = rw (encode_with-append t xs ys) refl
 
 pub encode_lower-append : (xs ys : List ℕ) → encode_lower (xs ++ ys) ≡ encode_lower xs ++ encode_lower ys
 encode_lower-append xs ys = encode_with-append lower_digits xs ys
+
+pub on_err : {A E : Type 0} (r : Result A E) (P : Type 0) → is_err r ≡ true → OnErr r P → P
+on_err (Ok x) P e h = absurd (false≢true e)
+on_err (Err x) P e h = h
 
 -- All of the octets before the rest were printed in hexadecimal.
 pub record PrintsHex {W : Type 0} (contents : W → Option (List ℕ)) (before after : Page W) (octets rest : List ℕ) : Type 0 where

@@ -6,6 +6,7 @@ use Rattle.std.proofs.lemmas.List.Sums.{prefix_len-le-length, count_by-le-length
 use Rattle.std.proofs.lemmas.List.Quantifiers.{position-Some}
 use Rattle.std.proofs.lemmas.List.{drop_all}
 use Rattle.std.proofs.lemmas.List.Splits.{slice_split-cons_yes, slice_split-cons_no, length-slice_split}
+use Rattle.std.proofs.lemmas.Bool.{not-true}
 use Rattle.std.proofs.lemmas.Bool.Decides.{nat_tests}
 use Rattle.bac_text.specs.Words.{words_of, is_blank, is_not_empty}
 
@@ -87,15 +88,11 @@ end_is : (b : Bool) (n m : ℕ) → nat_lt n m ≡ b → n ≤ m → unwrap_or (
 end_is true n m e h = refl
 end_is false n m e h = grind (arith, nat_tests)
 
-not_true : (b : Bool) → not b ≡ true → b ≡ false
-not_true true h = absurd (cc)
-not_true false h = refl
-
 pub words-some : (text rest : List ℕ) (start end : ℕ) → Some start ≡ position (λ octet. not (is_blank octet)) text → rest ≡ drop start text → end ≡ unwrap_or (position is_blank rest) (length rest) → words_of text ≡ take end rest ∷ words_of (drop end rest)
 words-some text rest start end h cut last =
     let found = chosen (nat_lt (blanks text) (length text)) start (blanks text) h in
     let at = position-Some (λ octet. not (is_blank octet)) text start 0 (sym h) in
-    let other : is_blank (get_or text start 0) ≡ false = not_true (is_blank (get_or text start 0)) at.1 in
+    let other : is_blank (get_or text start 0) ≡ false = not-true (is_blank (get_or text start 0)) at.1 in
     let shown : rest ≡ get_or text start 0 ∷ drop (suc start) text = cut ∙ drop-cons text start 0 at.0 in
     let within = prefix_len-le-length (λ octet. not (is_blank octet)) rest in
     let size : end ≡ others rest = last ∙ end_is (nat_lt (others rest) (length rest)) (others rest) (length rest) refl within in

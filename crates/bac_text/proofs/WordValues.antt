@@ -1,19 +1,19 @@
 -- What is appended of a value, and the words of each kind.
-use Rattle.std.proofs.Common.{◌≡◌, ℕ, ◌+◌, ◌-◌, ◌*◌, ◌/◌, ◌%◌, ◌<◌, ◌≤◌, true, false, List, [], ◌∷◌, ◌++◌, length, take, drop, get_or, Option, Some, None, Result, Ok, Err, refl, sym, ◌∙◌, ap, arith, length-append}
+use Rattle.std.proofs.Common.{◌≡◌, ℕ, ◌+◌, ◌-◌, ◌*◌, ◌/◌, ◌%◌, ◌<◌, ◌≤◌, true, false, List, ◌++◌, length, take, drop, get_or, Option, Some, None, Result, Ok, Err, refl, sym, ◌∙◌, ap, arith, length-append}
 use Rattle.std.specs.Prelude.{nat_le, option_map, map, MatchResult}
 use Rattle.std.specs.Char.{is_ascii_hexdigit}
 use Rattle.std.specs.List.{list_all, range_with_len}
 use Rattle.std.specs.Result.{result_ok}
-use Rattle.std.proofs.lemmas.Bool.{false≢true}
 use Rattle.std.proofs.lemmas.Bool.Decides.{nat_tests}
 use Rattle.std.proofs.lemmas.List.{get_or-take, length-take-le}
 use Rattle.std.proofs.lemmas.List.FromFn.{fill_by_all, length-map-range_with_len}
-use Rattle.std.proofs.lemmas.List.Sums.{AllPass-from_list_all, list_all-from_AllPass}
+use Rattle.std.proofs.lemmas.List.Sums.{AllPass-from_list_all}
 use Rattle.hex.specs.Hex.{decode_of, decode_sized, is_hex_digit}
 use Rattle.hex.specs.declared.error.FromHexError.{FromHexError}
 use Rattle.hex.proofs.HexLemmas.{decode_of-ok, decode_of-odd, decode_of-digits, decode_sized-twice}
 use Rattle.bac_wire.specs.Datum.{Datum, octet_string, bit_string, plain, plain_contents, tag_before}
 use Rattle.bac_wire.specs.Tag.{plain_tag}
+use Rattle.bac_text.proofs.HexText.{same_digits}
 use Rattle.bac_text.specs.declared.value_words.ValueFault.TheVariants.{TooLong}
 use Rattle.bac_text.specs.ValueWords.{hex_in, is_bit_digit, bits_octet, octets_for, bits_octets, bits_in, at_most, appended}
 
@@ -33,24 +33,8 @@ plain_length value = omega (arith, length-append (plain_tag (tag_before value (l
 
 -- ---- hexadecimal digits
 
-same_digit : (c : ℕ) → is_ascii_hexdigit c ≡ is_hex_digit c
-same_digit c = grind (arith, nat_tests)
-
-same_digits : (word : List ℕ) → list_all is_ascii_hexdigit word ≡ list_all is_hex_digit word
-same_digits [] = refl
-same_digits (c ∷ cs) = rw (same_digit c, same_digits cs) refl
-
 pub hex_in-odd : (word : List ℕ) → length word % 2 ≡ 1 → hex_in word ≡ None
 hex_in-odd word odd = ap (λ (r : Result (List ℕ) FromHexError). result_ok r) (decode_of-odd word odd)
-
-pub hex_in-others : (word : List ℕ) → list_all is_ascii_hexdigit word ≡ false → hex_in word ≡ None
-hex_in-others word others = go (decode_of word) refl
-  where
-    go : (r : Result (List ℕ) FromHexError) → decode_of word ≡ r → result_ok r ≡ None
-    go (Err why) is = refl
-    go (Ok octets) is =
-        let all = list_all-from_AllPass is_hex_digit word (decode_of-ok word octets is).1 in
-        absurd (false≢true (sym others ∙ same_digits word ∙ all))
 
 -- Two digits write an octet.
 pub record Octets (word : List ℕ) : Type 0 where

@@ -1,11 +1,16 @@
 -- A peer as it is written: four numbers joined by dots, a port after a colon, and a route after a slash.
-use Rattle.std.specs.Prelude.{ℕ, ◌+◌, ◌*◌, ◌==◌, ◌&&◌, nat_lt, nat_le, List, length, take, drop, Option, Some, None, option_map, position, if◌then◌else◌}
+use Rattle.std.specs.Prelude.{ℕ, ◌+◌, ◌-◌, ◌*◌, ◌==◌, ◌&&◌, nat_lt, nat_le, List, length, take, drop, Option, Some, None, option_map, position, if◌then◌else◌}
+use Rattle.std.specs.Char.{is_ascii_digit}
 use Rattle.bac_pdu.specs.Peer.{NetworkAddress, Station}
 use Rattle.bac_text.specs.Words.{◌>>=◌, number_up_to, octets_of}
 
 -- What stands before and after the first such octet, if there is one.
 abbrev pub cut_at : ℕ → List ℕ → Option (List ℕ × List ℕ)
 cut_at octet text = option_map (λ i. (take i text, drop (i + 1) text)) (position (λ o. o == octet) text)
+
+-- The number that a decimal digit (48 to 57) writes.
+abbrev pub digit : ℕ → Option ℕ
+digit octet = if is_ascii_digit octet then Some (octet - 48) else None
 
 -- A number of at most so many digits, up to a limit.
 abbrev pub short_number : ℕ → ℕ → List ℕ → Option ℕ

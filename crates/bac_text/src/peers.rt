@@ -2,7 +2,7 @@
 ghost use Rattle.std.specs.Prelude.{◌≡◌, ◌≤◌, IfSome, option_map};
 ghost use Rattle.bac_pdu.specs.Peer.{station, network_address};
 ghost use Rattle.bac_text.specs.Words.{octets_in};
-ghost use Rattle.bac_text.specs.Address.{cut_at, short_number, number_before_dot, address_of, routable, plain_peer_of, route_of, peer_of};
+ghost use Rattle.bac_text.specs.Address.{cut_at, digit, short_number, number_before_dot, address_of, routable, plain_peer_of, route_of, peer_of};
 
 use crate::hex_digits::{HexDigits, read_hex};
 use crate::numbers::{leading_number, read_number};
@@ -74,14 +74,30 @@ fn number_before_dot(text: &[u8]) -> Option<(u32, &[u8])>
     ensures value { option_map (λ found. (found.0, found.1.now)) result ≡ number_before_dot text.now }
     ensures limit { IfSome result (λ found. found.0 ≤ 255) }
 {
-    let (number, count) = leading_number(text, 3);
-    if count == 0 || number > 255 {
+    match text {
+        [ones, b'.', rest @ ..] => Some((digit(*ones)?, rest)),
+        [tens, ones, b'.', rest @ ..] => Some((digit(*tens)? * 10 + digit(*ones)?, rest)),
+        [hundreds, tens, ones, b'.', rest @ ..] => {
+            let number = digit(*hundreds)? * 100 + digit(*tens)? * 10 + digit(*ones)?;
+            if number > 255 {
+                return None;
+            }
+            Some((number, rest))
+        }
+        _ => None,
+    }
+}
+
+// The number that a decimal digit writes.
+#[inline(always)]
+fn digit(octet: u8) -> Option<u32>
+    ensures value { result ≡ digit octet }
+    ensures limit { IfSome result (λ number. number ≤ 9) }
+{
+    if !octet.is_ascii_digit() {
         return None;
     }
-    if count == text.len() || text[count] != b'.' {
-        return None;
-    }
-    Some((number, &text[count + 1..]))
+    Some(u32::from(octet - b'0'))
 }
 
 fn read_route(text: &[u8]) -> Option<Route>

@@ -34,9 +34,7 @@ module _ (p : Request → Bool) (o : Outcome) (f : Request → Option Outcome) (
 delivers_nothing : (f : Request → Option Outcome) → ((r : Request) → f r ≡ None) → (ws : List Waiting) →
     deliver f ws ≡ record { answer = None; waiting = ws }
 delivers_nothing f none [] = refl
-delivers_nothing f none (w ∷ ws) =
-    rw (none w.request) (ap (λ (later : Delivered). record { answer = later.answer; waiting = w ∷ later.waiting })
-    (delivers_nothing f none ws))
+delivers_nothing f none (w ∷ ws) = grind (arith, none w.request, delivers_nothing f none ws)
 
 -- What a datagram answers and leaves.
 abbrev pub Delivers : Client → Station → List ℕ → Option (ℕ × Outcome) → Client → Type 0
@@ -67,14 +65,10 @@ no_answer client peer bytes e =
 few_of_one : (ws : List Waiting) → (ended : Option ℕ) → option_to_list ended ≡ map ticket_in ws → (outcome : Outcome) →
     (length ws ≤ 1) × (option_map (ended_with outcome) (slice_get ws 0) ≡ option_map (λ t. (t, outcome)) ended)
 few_of_one [] None told outcome = (omega arith, refl)
-few_of_one [] (Some t) told outcome = absurd (let e : t ∷ [] ≡ [] = told in cc)
-few_of_one (w ∷ ws) None told outcome = absurd (let e : [] ≡ w.request.ticket ∷ map ticket_in ws = told in cc)
-few_of_one (w ∷ v ∷ ws) (Some t) told outcome =
-    absurd (let e : t ∷ [] ≡ w.request.ticket ∷ v.request.ticket ∷ map ticket_in ws = told in let f = ap length e in omega arith)
-few_of_one (w ∷ []) (Some t) told outcome =
-    let e : t ∷ [] ≡ w.request.ticket ∷ [] = told in
-    let is : t ≡ w.request.ticket = cc in
-    (omega arith, ap (λ (k : ℕ). Some (k, outcome)) (sym is))
+few_of_one [] (Some t) told outcome = cc
+few_of_one (w ∷ ws) None told outcome = cc
+few_of_one (w ∷ v ∷ ws) (Some t) told outcome = cc
+few_of_one (w ∷ []) (Some t) told outcome = (omega arith, let e : t ≡ w.request.ticket = cc in cc)
 
 module _ (timeout retries clock last next : ℕ) (ws : List Waiting) (peer : Station) (bytes : List ℕ)
     (answer : Answer) (carried : answer_in_datagram peer bytes ≡ Some answer) where

@@ -2,7 +2,7 @@
 use Rattle.std.proofs.Common.{ℕ, ◌≤◌, List, length}
 use Rattle.bac_tsm.specs.Events.{Event, Rules}
 use Rattle.bac_tsm.specs.Rule.{FollowsTheRule}
-use Rattle.bac_tsm.proofs.NumberReuse.{back_late, length-sends}
+use Rattle.bac_tsm.proofs.NumberReuse.{back_late, few_sends}
 use Rattle.bac_tsm.proofs.OpenRequests.{roomy}
 use Rattle.bac_tsm.proofs.Placed.{placed}
 
@@ -10,7 +10,7 @@ pub follows : (rules : Rules) (first_ticket : ℕ) (events : List Event) → rul
 follows rules first_ticket events small = record {
   few = λ n. (roomy rules first_ticket events small n).few;
   apart = λ n. (roomy rules first_ticket events small n).apart;
-  few_sends = λ a. length-sends rules events a rules.retries;
+  few_sends = λ a. few_sends rules events a rules.retries;
   sent_where_placed = λ i k d lt. (placed rules first_ticket events i k d lt).sent;
   ended_where_placed = λ i k d lt. (placed rules first_ticket events i k d lt).ended;
   reuse = back_late rules first_ticket events small (length events);

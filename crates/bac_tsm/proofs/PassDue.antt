@@ -1,10 +1,11 @@
 -- A request that is due goes on, and where the first to have been sent is not due, none is.
-use Rattle.std.proofs.Common.{◌≡◌, ℕ, zero, suc, ◌-◌, ◌<◌, ◌≤◌, List, [], ◌∷◌, ◌++◌, take, drop, length, set, get_or, Option, Some, None, true, false, nat_le, nat_lt, All, refl, ap, sym, subst, ◌∙◌, arith}
+use Rattle.std.proofs.Common.{◌≡◌, ℕ, zero, suc, ◌-◌, ◌<◌, ◌≤◌, List, [], ◌∷◌, ◌++◌, take, drop, length, set, get_or, Option, Some, None, true, false, nat_le, nat_lt, All, refl, ap, sym, subst, ◌∙◌, inl, inr, arith}
 use Rattle.std.specs.Prelude.{remove}
-use Rattle.std.specs.List.{slice_get}
-use Rattle.std.proofs.lemmas.Bool.{leb-false, ltb-true}
-use Rattle.std.proofs.lemmas.Option.{none-some, same_Some}
-use Rattle.std.proofs.lemmas.List.{length-map, get_or_default}
+use Rattle.std.specs.List.{slice_get, list_any}
+use Rattle.std.proofs.lemmas.Bool.{cases_Bool, leb-false, ltb-true, false≢true}
+use Rattle.std.proofs.lemmas.Option.{none-some, same_Some, slice_get-get_or}
+use Rattle.std.proofs.lemmas.List.{length-map, get_or_default, set_split}
+use Rattle.std.proofs.lemmas.List.Folds.{list_any_at, list_any_none}
 use Rattle.std.proofs.lemmas.Bool.Decides.{nat_tests}
 use Rattle.bac_tsm.specs.Limits.{table_size}
 use Rattle.bac_tsm.specs.declared.due.Entry.TheVariants.{Resend, TimedOut as Expired}
@@ -15,7 +16,7 @@ use Rattle.bac_tsm.specs.Waiting.{nothing}
 use Rattle.bac_tsm.proofs.Times.{times_got}
 use Rattle.bac_tsm.proofs.Held.{itself, held_got}
 use Rattle.bac_tsm.proofs.SendQueue.{all_opened, queue-again}
-use Rattle.bac_tsm.proofs.TableReads.{times_split, turn, turn_lt, stands, open_below, open_listed, open_read, one_turn}
+use Rattle.bac_tsm.proofs.TableReads.{times_split, turn, turn_lt, stands, open_below, open_listed, open_read, one_turn, as_many, count}
 use Rattle.bac_tsm.proofs.TableEdits.{changed_by}
 
 first_of : (place : ℕ) (xs : List ℕ) → Some place ≡ slice_get xs 0 → (0 < length xs) × (get_or xs 0 0 ≡ place)
@@ -25,10 +26,14 @@ first_of place (x ∷ xs) is = (omega arith, sym (same_Some _ _ is))
 younger : (timeout clock early late : ℕ) → nat_le timeout (clock - early) ≡ false → early ≤ late → nat_le timeout (clock - late) ≡ false
 younger timeout clock early late young le = let less = leb-false timeout (clock - early) young in grind (arith, nat_tests)
 
-set_at : (xs : List Waiting) (i : ℕ) (y : Waiting) → i < length xs → set xs i y ≡ take i xs ++ (y ∷ [] ++ drop (suc i) xs)
-set_at [] i y lt = absurd (omega arith)
-set_at (x ∷ xs) zero y lt = refl
-set_at (x ∷ xs) (suc i) y lt = ap (◌∷◌ x) (set_at xs i y (omega arith))
+-- Where some request is due, some was sent first.
+pub first_sent : {places : List Waiting} {numbers : List (Option ℕ)} {order tickets sends : List ℕ} → IsTable places numbers order tickets →
+    AreBySend places (open_places order tickets) sends → (ws : List Waiting) → waiting_in places order tickets ≡ ws → (rules : Rules) (clock : ℕ) →
+    list_any (is_due rules clock) ws ≡ true → (items : List ℕ) → items ≡ sends → Some (get_or items 0 0) ≡ slice_get items 0
+first_sent t q [] view rules clock due items are = absurd (false≢true due)
+first_sent t q (w ∷ ws) view rules clock due items are =
+    let some : 0 < length items = let e = ap length are in let f = q.all in let g = as_many t in let h = count t (w ∷ ws) view in omega arith in
+    sym (slice_get-get_or items 0 0 some)
 
 module _ (rules : Rules) (clock : ℕ) (w : Waiting) where
   pub is_again : (ticket : ℕ) → due_entry rules w ≡ Resend ticket → nat_lt w.count rules.retries ≡ true
@@ -62,7 +67,7 @@ module _ {places : List Waiting} {numbers : List (Option ℕ)} {order tickets se
     read : get_or places at d ≡ get_or ws i nothing
     read = open_read t ws view place some at same d
 
-    pub none_due : is_due rules clock (get_or places at d) ≡ false → All (λ w. is_due rules clock w ≡ false) ws
+    none_due : is_due rules clock (get_or places at d) ≡ false → All (λ w. is_due rules clock w ≡ false) ws
     none_due young =
         subst (All (λ w. is_due rules clock w ≡ false)) view
         (all_opened q (λ w. is_due rules clock w ≡ false) (λ k e lt.
@@ -75,16 +80,22 @@ module _ {places : List Waiting} {numbers : List (Option ℕ)} {order tickets se
         later zero e lt = omega arith
         later (suc k) e lt = q.by_send 0 (suc k) e (omega arith) lt
 
-    module _ (past : All (λ v. v.base ≤ clock) ws) (due : is_due rules clock (get_or places at d) ≡ true) where
+    pub some_due : is_due rules clock (get_or places at d) ≡ list_any (is_due rules clock) ws
+    some_due = elim (cases_Bool (is_due rules clock (get_or places at d))) [
+      | inl due ↦ due ∙ sym (list_any_at (is_due rules clock) ws i nothing (turn_lt t ws view place some) (ap (is_due rules clock) (sym read) ∙ due))
+      | inr young ↦ young ∙ sym (list_any_none (is_due rules clock) ws (none_due young))
+    ]
+
+    module _ (past : All (λ v. v.base ≤ clock) ws) (due : list_any (is_due rules clock) ws ≡ true) where
       due_there : is_due rules clock (get_or ws i nothing) ≡ true
-      due_there = ap (is_due rules clock) (sym read) ∙ due
+      due_there = ap (is_due rules clock) (sym read) ∙ some_due ∙ due
 
       pub sent_again : (ticket : ℕ) → due_entry rules (get_or places at d) ≡ Resend ticket → (to : ℕ) → to ≡ place → (e v : Waiting) →
           v ≡ record { request = (get_or places to e).request; base = clock; count = suc (get_or places to e).count } → (rest after : List ℕ) → rest ≡ remove sends 0 → after ≡ rest ++ place ∷ [] →
-          IsPassed rules clock ws (Some (due_entry rules (get_or places at d))) (waiting_in (set places to v) order tickets)
+          IsPassed rules clock ws (due_entry rules (get_or places at d)) (waiting_in (set places to v) order tickets)
           × IsTable (set places to v) numbers order tickets × AreBySend (set places to v) (open_places order tickets) after
       sent_again ticket again to its e v is rest after out back = (
-        (i, turn_lt t ws view place some, due_there, ap (due_entry rules) read, rw its (changed.0 ∙ set_at ws i v (turn_lt t ws view place some) ∙ ap (λ (xs : List Waiting). take i ws ++ (xs ++ drop (suc i) ws)) kept_now)),
+        (i, turn_lt t ws view place some, due_there, ap (due_entry rules) read, rw its (changed.0 ∙ set_split ws i v (turn_lt t ws view place some) ∙ ap (λ (xs : List Waiting). take i ws ++ (xs ++ drop (suc i) ws)) kept_now)),
         rw its changed.2,
         rw (its, back)
             (queue-again q place rest (0, first.0, first.1, out) v (front_listed place refl)
@@ -111,7 +122,7 @@ module _ {places : List Waiting} {numbers : List (Option ℕ)} {order tickets se
       not_found ticket over none = none i nothing (turn_lt t ws view place some) (ap (λ (u : Waiting). u.request.ticket) (sym read) ∙ (is_over rules clock (get_or places at d) ticket over).1)
 
       pub ended : (ticket j : ℕ) → due_entry rules (get_or places at d) ≡ Expired ticket → IsTurnOf ticket ws (Some j) → (after : List Waiting) → after ≡ remove ws j →
-          IsPassed rules clock ws (Some (Expired ticket)) after
+          IsPassed rules clock ws (Expired ticket) after
       ended ticket j over its after to =
           let gone = is_over rules clock (get_or places at d) ticket over in
           let same_turn : j ≡ i = one_turn t ws view j i its.0 (turn_lt t ws view place some) (its.1 ∙ sym gone.1 ∙ ap (λ (u : Waiting). u.request.ticket) read) in

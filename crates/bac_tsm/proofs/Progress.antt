@@ -1,14 +1,14 @@
 -- A request that waits is due, and ends, as timeouts pass; and how far the clock comes meanwhile.
-use Rattle.std.proofs.Common.{◌≡◌, ℕ, zero, suc, ◌+◌, ◌-◌, ◌*◌, ◌<◌, ◌≤◌, Bool, true, false, List, [], ◌∷◌, length, Option, Some, None, option_map, slice_get, IsSomeAnd, subst, arith, refl, ap, ◌∙◌, sym, inl, inr}
+use Rattle.std.proofs.Common.{◌≡◌, ℕ, zero, suc, ◌+◌, ◌-◌, ◌*◌, ◌<◌, ◌≤◌, Bool, true, false, List, [], ◌∷◌, length, Option, Some, None, slice_get, IsSomeAnd, subst, arith, refl, ◌∙◌, sym, inl, inr}
 use Rattle.std.proofs.Math.Nat.{mul-le-mul_right}
 use Rattle.std.proofs.lemmas.Bool.{cases_Bool, cases_lt, false≢true}
 use Rattle.std.proofs.lemmas.Bool.Decides.{nat_tests}
 use Rattle.std.proofs.lemmas.Option.{none-some, same_Some}
-use Rattle.bac_tsm.specs.Events.{Event, Ask, Data, Tick, Rules}
-use Rattle.bac_tsm.specs.Lookahead.{first_within, first_after, clock, is_tick, has_waited, due, Accepted, End, earlier_end, outcome_at, answered_at, end}
+use Rattle.bac_tsm.specs.Events.{Event, Outcome, Ask, Data, Tick, Rules}
+use Rattle.bac_tsm.specs.Lookahead.{first_within, first_after, clock, is_tick, has_waited, due, Accepted, outcome_at, answered_at, end}
 use Rattle.bac_tsm.specs.Progress.{last_of, TimeoutsPass}
-use Rattle.bac_tsm.proofs.FirstAfter.{first_after_from}
-use Rattle.bac_tsm.proofs.RequestLife.{step_back, due_next}
+use Rattle.bac_tsm.proofs.FirstAfter.{first_after_from, first_least, none_within}
+use Rattle.bac_tsm.proofs.RequestLife.{end_of, step_back, due_next}
 use Rattle.bac_tsm.proofs.Turns.{clock_quiet}
 
 pub clock_rises : (events : List Event) (i j : ℕ) → i ≤ j → clock events i ≤ clock events j
@@ -21,24 +21,10 @@ clock_rises (Data peer bytes ∷ events) (suc i) (suc j) le = clock_rises events
 clock_rises (Tick now ∷ events) (suc i) (suc j) le =
     let h : clock events i ≤ clock events j = clock_rises events i j (omega arith) in omega arith
 
--- No position before the first that passes a test passes it, and where there is none, none at all does.
-pub none_before : (test : ℕ → Bool) (i n j m : ℕ) → first_within test i n ≡ Some j → i ≤ m → m < j → test m ≡ false
-none_before test i zero j m e low high = absurd (none-some j e)
-none_before test i (suc n) j m e low high = grind (arith, none_before test (suc i) n j m, e)
-
-pub none_at_all : (test : ℕ → Bool) (i n m : ℕ) → first_within test i n ≡ None → i ≤ m → m < i + n → test m ≡ false
-none_at_all test i zero m e low high = absurd (omega arith)
-none_at_all test i (suc n) m e low high = grind (arith, none_at_all test (suc i) n m, e)
-
 -- The first that passes a test is no later than one that passes it.
 pub found_by : (test : ℕ → Bool) (i n m : ℕ) → i ≤ m → m < i + n → test m ≡ true → IsSomeAnd (first_within test i n) (λ j. j ≤ m)
 found_by test i zero m low high t = absurd (omega arith)
-found_by test i (suc n) m low high t = elim (cases_Bool (test i)) [
-  | inl passes ↦ rw passes low
-  | inr fails ↦
-      let apart : i ≡ m → ⊥ = λ same. false≢true (sym fails ∙ ap test same ∙ t) in
-      rw fails (found_by test (suc i) n m (omega arith) (omega arith) t)
-]
+found_by test i (suc n) m low high t = grind (arith, nat_tests, found_by test (suc i) n m, t)
 
 -- A tick is one of the events.
 pub tick_within : (events : List Event) (j : ℕ) → is_tick (slice_get events j) ≡ true → j < length events
@@ -79,24 +65,14 @@ module _ (rules : Rules) (events : List Event) where
       let next = some_with (λ e. e ≤ j) (due rules events a (suc k)) (due_again a k d i j is le pass.0 pass.1) in
       due_in_turn a (suc k) n next.0 j later (omega arith) next.1 next.2 pass.2
 
-  ends_by : (x y : Option End) (m : ℕ) → IsSomeAnd y (λ e. e.position ≤ m) → IsSomeAnd (earlier_end x y) (λ e. e.position ≤ m)
-  ends_by None y m h = h
-  ends_by (Some x) None m h = absurd h
-  ends_by (Some x) (Some y) m h = grind (arith, nat_tests, h)
-
-  abbrev timed_out : ℕ → End
-  timed_out j = record { position = j; outcome = None }
-
-  times_out_by : (o : Option ℕ) (m : ℕ) → IsSomeAnd o (λ j. j ≤ m) → IsSomeAnd (option_map timed_out o) (λ e. e.position ≤ m)
-  times_out_by None m h = absurd h
-  times_out_by (Some j) m h = h
+  ends_by : (outcome : ℕ → Option Outcome) (x y : Option ℕ) (m : ℕ) → IsSomeAnd y (λ j. j ≤ m) → IsSomeAnd (end_of outcome x y) (λ e. e.position ≤ m)
+  ends_by outcome x None m late = absurd late
+  ends_by outcome None (Some j) m late = late
+  ends_by outcome (Some k) (Some j) m late = grind (arith, nat_tests, late)
 
   pub ends_in_turn : (a : Accepted) (m : ℕ) → IsSomeAnd (due rules events a.position (suc rules.retries)) (λ j. j ≤ m) →
       IsSomeAnd (end rules events a) (λ e. e.position ≤ m)
-  ends_in_turn a m h =
-      ends_by (option_map (λ j. record { position = j; outcome = outcome_at rules events a j }) (answered_at rules events a))
-      (option_map timed_out (due rules events a.position (suc rules.retries))) m
-      (times_out_by (due rules events a.position (suc rules.retries)) m h)
+  ends_in_turn a m = ends_by (outcome_at rules events a) (answered_at rules events a) (due rules events a.position (suc rules.retries)) m
 
   -- As long as no tick has come a timeout after position p, the clock is within a timeout of it.
   quiet_until : (p n : ℕ) → p < n → ((j : ℕ) → p < j → j < n → has_waited rules events p j ≡ false) →
@@ -123,7 +99,7 @@ module _ (rules : Rules) (events : List Event) where
       let behind : back.0 < j = (first_after_from events (has_waited rules events back.0) back.0 j back.2).0 in
       let until : clock events j ≤ clock events (suc back.0) + rules.timeout =
       quiet_until back.0 j behind
-      (λ m low high. none_before (has_waited rules events back.0) (suc back.0) (length events - suc back.0) j m back.2 (omega arith) high) in
+      (λ m low high. first_least (has_waited rules events back.0) (suc back.0) (length events - suc back.0) j m back.2 (omega arith) high) in
       let step : clock events (suc j) ≤ clock events j + d = steady j (omega (arith, before.0)) in
       (omega (arith, before.0), omega (arith, before.1))
 
@@ -153,7 +129,7 @@ module _ (rules : Rules) (events : List Event) where
               | inr not_yet ↦ not_yet
               | inl enough ↦
                   let within : m < length events = tick_within events m (waited_enough last.1 m enough).0 in
-                  none_at_all (has_waited rules events last.1) (suc last.1) (length events - suc last.1) m over (omega arith) (omega arith)
+                  none_within (has_waited rules events last.1) (suc last.1) (length events - suc last.1) m over (omega arith) (omega arith)
             ]) in
             omega (arith, soon.1, few)
         | inr before ↦
@@ -161,17 +137,11 @@ module _ (rules : Rules) (events : List Event) where
             omega (arith, soon.1, few)
       ]
 
-  none_mapped : (o : Option ℕ) → option_map timed_out o ≡ None → o ≡ None
-  none_mapped None e = refl
-  none_mapped (Some j) e = absurd (none-some (timed_out j) (sym e))
-
-  none_later : (x y : Option End) → earlier_end x y ≡ None → y ≡ None
-  none_later None y e = e
-  none_later (Some x) None e = refl
-  none_later (Some x) (Some y) e = grind (arith, nat_tests, e, none-some)
+  unended : (outcome : ℕ → Option Outcome) (x y : Option ℕ) → end_of outcome x y ≡ None → y ≡ None
+  unended outcome x None e = refl
+  unended outcome None (Some j) e = absurd (none-some _ (sym e))
+  unended outcome (Some k) (Some j) e = grind (arith, nat_tests, e, none-some)
 
   -- A request without an end is not due once more than the retries.
   pub never_due : (a : Accepted) → end rules events a ≡ None → due rules events a.position (suc rules.retries) ≡ None
-  never_due a unended =
-      none_mapped (due rules events a.position (suc rules.retries))
-      (none_later (option_map (λ j. record { position = j; outcome = outcome_at rules events a j }) (answered_at rules events a)) _ unended)
+  never_due a = unended (outcome_at rules events a) (answered_at rules events a) _

@@ -1,9 +1,10 @@
 -- The table of open requests through each edit.
-use Rattle.std.proofs.Common.{◌≡◌, ℕ, zero, suc, ◌+◌, ◌<◌, ◌≤◌, List, [], ◌∷◌, ◌++◌, length, map, take, set, get_or, replicate, Option, Some, None, All, refl, ap, sym, subst, ◌∙◌, inl, inr, arith}
+use Rattle.std.proofs.Common.{◌≡◌, ℕ, suc, ◌+◌, ◌<◌, ◌≤◌, List, [], ◌∷◌, ◌++◌, length, map, take, drop, set, get_or, replicate, Option, Some, None, All, refl, ap, sym, subst, ◌∙◌, inl, inr, arith}
 use Rattle.std.specs.Prelude.{remove}
 use Rattle.std.proofs.lemmas.Bool.{cases_eq}
-use Rattle.std.proofs.lemmas.List.{length-append, length-replicate, get_or-replicate, length-map, length-set, map-append, get_or-set_same, get_or-set_other, get_or_default}
-use Rattle.std.proofs.lemmas.List.Edits.{length-remove}
+use Rattle.std.proofs.lemmas.List.{length-append, length-replicate, get_or-replicate, length-map, length-set, length-take, map-append, take_at, take-append-drop, append_assoc, get_or-set_same, get_or-set_other, get_or_default}
+use Rattle.std.proofs.lemmas.Simd.{map-map}
+use Rattle.std.proofs.lemmas.List.Edits.{length-remove, remove-append_left}
 use Rattle.std.proofs.lemmas.List.Quantifiers.{all_pairs_push, all_pairs_remove}
 use Rattle.std.proofs.lemmas.Grind.{take_at_read}
 use Rattle.std.proofs.lemmas.Bool.Decides.{nat_tests}
@@ -14,7 +15,7 @@ use Rattle.bac_tsm.specs.Machine.{Waiting}
 use Rattle.bac_tsm.specs.Table.{times, held_at, number_at, times_of_place, open_places, waiting_in, Names, AreNamed, IsTable, AreBySend, IsTakenOut}
 use Rattle.bac_tsm.specs.Waiting.{ticket_in, number_in, nothing, begun}
 use Rattle.bac_tsm.proofs.SendQueue.{all_sent, queue-push, queue-remove}
-use Rattle.bac_tsm.proofs.Times.{times-append, times_one, times_other, times_of_one, times-remove, times-set, times_got}
+use Rattle.bac_tsm.proofs.Times.{times-append, times_one, times_other, times_of_one, times-remove, times_got}
 use Rattle.bac_tsm.proofs.Held.{itself, held-set, held-push, map-remove, held_got, same_turn}
 use Rattle.bac_tsm.proofs.TableReads.{times_split, few, read_listed, read_held, count, turn_opened, here, ticket_got}
 
@@ -50,26 +51,20 @@ named_set places numbers order changed after index entry a here few same still =
   ];
 }
 
-times_alike : (number : ℕ) (v w : Waiting) → v.request.number ≡ w.request.number → times number_in number (v ∷ []) ≡ times number_in number (w ∷ [])
-times_alike number v w e = grind (arith, nat_tests, e)
-
--- A change that keeps what is read of an element keeps it of all.
-map-set : {A B : Type 0} (f : A → B) (xs : List A) (i : ℕ) (y d : A) → f y ≡ f (get_or xs i d) → map f (set xs i y) ≡ map f xs
-map-set f [] i y d e = refl
-map-set f (x ∷ xs) zero y d e = ap (λ b. b ∷ map f xs) e
-map-set f (x ∷ xs) (suc i) y d e = ap (◌∷◌ (f x)) (map-set f xs i y d e)
+-- Requests that have the same numbers are counted the same.
+same_times : (number : ℕ) (f g : ℕ → Waiting) (order : List ℕ) → ((place : ℕ) → (f place).request.number ≡ (g place).request.number) →
+    times number_in number (map f order) ≡ times number_in number (map g order)
+same_times number f g [] same = refl
+same_times number f g (q ∷ qs) same = grind (arith, nat_tests, same q, same_times number f g qs same)
 
 -- One is taken out among the first ones, and another put behind all.
 take_removed : (xs ys : List ℕ) (i n : ℕ) → i ≤ n → suc n ≤ length xs → take n (remove xs i ++ ys) ≡ remove (take (suc n) xs) i
-take_removed [] ys i n le lt = absurd (omega arith)
-take_removed (x ∷ xs) ys zero n le lt = take_front n xs ys (omega arith)
-  where
-    take_front : (n : ℕ) (xs ys : List ℕ) → n ≤ length xs → take n (xs ++ ys) ≡ take n xs
-    take_front zero xs ys le = refl
-    take_front (suc n) [] ys le = absurd (omega arith)
-    take_front (suc n) (x ∷ xs) ys le = ap (◌∷◌ x) (take_front n xs ys (omega arith))
-take_removed (x ∷ xs) ys (suc i) zero le lt = absurd (omega arith)
-take_removed (x ∷ xs) ys (suc i) (suc n) le lt = ap (◌∷◌ x) (take_removed xs ys i n (omega arith) (omega arith))
+take_removed xs ys i n le lt =
+    let front = take (suc n) xs in
+    let long : length front ≡ suc n = rw length-take (omega arith) in
+    let count = length-remove front i (omega arith) in
+    ap (λ (all : List ℕ). take n (remove all i ++ ys)) (sym (take-append-drop (suc n) xs))
+    ∙ rw (remove-append_left front (drop (suc n) xs) i (omega arith), append_assoc (remove front i) (drop (suc n) xs) ys) (take_at (remove front i) (drop (suc n) xs ++ ys) n (omega arith))
 
 module _ {places : List Waiting} {numbers : List (Option ℕ)} {order tickets : List ℕ} (t : IsTable places numbers order tickets)
     (ws : List Waiting) (view : waiting_in places order tickets ≡ ws) where
@@ -93,9 +88,9 @@ module _ {places : List Waiting} {numbers : List (Option ℕ)} {order tickets : 
         apart = λ number. let e = still number in let f = t.numbered.apart number in omega arith;
         named = λ number below.
             names_as places opens (set places place w) opens number (get_or numbers number None) (still number)
-            (λ other some has. (some, number_still other ∙ has)) (t.numbered.named number below);
+            (λ other some has. (some, same_number other ∙ has)) (t.numbered.named number below);
       };
-      ticketed = ap (map ticket_in) changed_view ∙ map-set ticket_in (held_at places opens) i w nothing (ap (λ (r : Request). r.ticket) (same ∙ ap (λ (u : Waiting). u.request) was)) ∙ t.ticketed;
+      ticketed = map-map ticket_in _ opens ∙ ap (λ (f : ℕ → ℕ). map f opens) (λ j other. (same_request other j).ticket) ∙ sym (map-map ticket_in _ opens) ∙ t.ticketed;
       rise = t.rise;
     },
   )
@@ -109,32 +104,25 @@ module _ {places : List Waiting} {numbers : List (Option ℕ)} {order tickets : 
       read : get_or places place v ≡ get_or ws i nothing
       read = read_held t ws view items are i place lt is v
 
-      was : get_or places place v ≡ get_or (held_at places opens) i nothing
-      was = read ∙ ap (λ (vs : List Waiting). get_or vs i nothing) (sym view)
-
       listed : place < length places
       listed = read_listed t items are i place (let e = ap length are in let f = count t ws view in let g = few t in omega arith) is
 
       changed_view : held_at (set places place w) opens ≡ set (held_at places opens) i w
       changed_view = held-set places place w opens i listed turn at_turn (let e = t.once place in let f = times_split t place (length tickets) in omega arith)
 
-      number_is : w.request.number ≡ number_at places place
-      number_is = ap (λ (r : Request). r.number) same ∙ ap number_in (get_or_default places place v nothing listed)
+      same_request : (other : ℕ) → (get_or (set places place w) other nothing).request ≡ (get_or places other nothing).request
+      same_request other = elim (cases_eq other place) [
+        | inl e ↦
+            subst (λ (k : ℕ). (get_or (set places place w) k nothing).request ≡ (get_or places k nothing).request) (sym e)
+            (ap (λ (u : Waiting). u.request) (get_or-set_same places place w nothing listed) ∙ same ∙ ap (λ (u : Waiting). u.request) (get_or_default places place v nothing listed))
+        | inr e ↦ ap (λ (u : Waiting). u.request) (get_or-set_other places place other w nothing e)
+      ]
+
+      same_number : (other : ℕ) → number_at (set places place w) other ≡ number_at places other
+      same_number other = ap (λ (r : Request). r.number) (same_request other)
 
       still : (number : ℕ) → times number_in number (held_at (set places place w) opens) ≡ times number_in number (held_at places opens)
-      still number =
-          let e = ap (times number_in number) changed_view in
-          let f = times-set number_in number (held_at places opens) i w nothing (rw length-map turn) in
-          let g = times_alike number (get_or (held_at places opens) i nothing) w (ap number_in (held_got places opens i place turn at_turn) ∙ sym number_is) in
-          omega arith
-
-      number_still : (other : ℕ) → number_at (set places place w) other ≡ number_at places other
-      number_still other = elim (cases_eq other place) [
-        | inl e ↦
-            subst (λ (k : ℕ). number_at (set places place w) k ≡ number_at places k) (sym e)
-            (ap number_in (get_or-set_same places place w nothing listed) ∙ number_is)
-        | inr e ↦ ap number_in (get_or-set_other places place other w nothing e)
-      ]
+      still number = same_times number (λ other. get_or (set places place w) other nothing) (λ other. get_or places other nothing) opens same_number
 
   -- The first free place is opened, under a number that no open request has, and the greatest ticket.
   module _ (place : ℕ) (w : Waiting) (is : place ≡ get_or order (length tickets) 0) (room : length tickets < length order)

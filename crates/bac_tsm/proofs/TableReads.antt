@@ -1,5 +1,5 @@
 -- What is read of the table of open requests.
-use Rattle.std.proofs.Common.{◌≡◌, ℕ, zero, suc, nat_lt, ◌+◌, ◌<◌, ◌≤◌, List, [], ◌∷◌, length, map, take, drop, get_or, Option, Some, None, Result, Ok, Err, Bool, true, false, not, nat_eq, if◌then◌else◌, refl, ap, sym, subst, ◌∙◌, one-add, inl, inr, arith}
+use Rattle.std.proofs.Common.{◌≡◌, ℕ, zero, suc, nat_lt, ◌+◌, ◌<◌, ◌≤◌, List, [], ◌∷◌, length, map, take, drop, get_or, Option, Some, None, Result, Ok, Err, Bool, true, false, not, nat_eq, if◌then◌else◌, refl, ap, sym, subst, ◌∙◌, inl, inr, arith}
 use Rattle.std.specs.Prelude.{remove, position, MatchResult}
 use Rattle.std.specs.List.{filter, find, list_any, slice_get, position_or_len}
 use Rattle.std.proofs.lemmas.Option.{slice_get_within, get_or_from_slice_get}
@@ -7,8 +7,9 @@ use Rattle.std.specs.Option.{is_some}
 use Rattle.std.specs.Result.{result_ok}
 use Rattle.std.specs.Ordering.{nat_cmp}
 use Rattle.std.specs.List.Sorted.{IsBinarySearchResult}
-use Rattle.std.proofs.lemmas.Bool.{and_parts, cases_Bool, cases_eq, cases_lt, eqb-true, eqb-false, eq-eqb, ne_eqb, lt-ltb}
+use Rattle.std.proofs.lemmas.Bool.{and_parts, cases_eq, cases_lt, eqb-true, eq-eqb, ne_eqb, lt-ltb}
 use Rattle.std.proofs.lemmas.List.{length-map, length-take, take-append-drop, get_or-take, get_or-map, get_or_default}
+use Rattle.std.proofs.lemmas.List.Sums.{passes_at_first}
 use Rattle.std.proofs.lemmas.List.Sorted.{searched}
 use Rattle.std.proofs.lemmas.Bool.Decides.{nat_tests}
 use Rattle.bac_tsm.specs.Limits.{table_size}
@@ -16,7 +17,7 @@ use Rattle.bac_tsm.specs.Machine.{Waiting}
 use Rattle.bac_tsm.specs.Answers.{Answer, is_answer_to}
 use Rattle.bac_tsm.specs.Table.{times, held_at, times_of_place, open_places, waiting_in, Names, IsTable, IsTurnOf}
 use Rattle.bac_tsm.specs.Waiting.{ticket_in, number_in, nothing}
-use Rattle.bac_tsm.proofs.Times.{times-append, times_other, times-cons, times_got, none_passes, one_passes}
+use Rattle.bac_tsm.proofs.Times.{times-append, times_got, none_passes, one_passes}
 use Rattle.bac_tsm.proofs.CallNotes.{TicketsRise, by_ticket, pairs_tail}
 use Rattle.bac_tsm.proofs.Held.{itself, held_got}
 
@@ -38,21 +39,13 @@ pub record StandsAt (place : ℕ) (order : List ℕ) (i : ℕ) : Type 0 where
 
 pub found_at : (place : ℕ) (order : List ℕ) → 0 < times_of_place place order → (i : ℕ) × StandsAt place order i
 found_at place order some =
-    let there = first place order some in
-    (position_or_len (λ other. nat_eq other place) order, record { found = rw (lt-ltb _ _ there.0) refl; within = there.0; there = there.1 })
+    let test = λ (other : ℕ). nat_eq other place in
+    let within = first order some in
+    (position_or_len test order, record { found = rw (lt-ltb _ _ within) refl; within = within; there = eqb-true _ _ (passes_at_first test order 0 within) })
   where
-    first : (place : ℕ) (order : List ℕ) → 0 < times_of_place place order →
-        (position_or_len (λ other. nat_eq other place) order < length order) × (get_or order (position_or_len (λ other. nat_eq other place) order) 0 ≡ place)
-    first place [] some = absurd (omega arith)
-    first place (q ∷ qs) some =
-        let e = times-cons itself place q qs in
-        elim (cases_Bool (nat_eq q place)) [
-          | inl y ↦ rw y (omega arith, eqb-true _ _ y)
-          | inr n ↦
-              let other = times_other itself place q (eqb-false _ _ n) in
-              let rest = first place qs (omega arith) in
-              rw (n, one-add) (let lt = rest.0 in omega arith, rest.1)
-        ]
+    first : (order : List ℕ) → 0 < times_of_place place order → position_or_len (λ other. nat_eq other place) order < length order
+    first [] some = absurd (omega arith)
+    first (q ∷ qs) some = grind (arith, nat_tests, first qs, some)
 
 -- Where tickets rise, the one request with a ticket is the first with it.
 find_turn : (t : ℕ) (ws : List Waiting) (i : ℕ) → TicketsRise ws → i < length ws → (get_or ws i nothing).request.ticket ≡ t →

@@ -1,20 +1,22 @@
 -- The loop over the open requests that are due at a tick.
-use Rattle.std.proofs.Common.{◌≡◌, ℕ, suc, ◌<◌, ◌≤◌, List, [], ◌∷◌, ◌++◌, length, take, drop, get_or, Some, None, true, false, All, refl, ap, sym, ◌∙◌, add-one, inl, inr, arith}
-use Rattle.std.specs.List.{flat_map, refill}
+use Rattle.std.proofs.Common.{◌≡◌, ℕ, suc, ◌<◌, ◌≤◌, List, [], ◌∷◌, ◌++◌, length, map, take, drop, get_or, true, false, All, refl, ap, sym, ◌∙◌, add-one, arith}
+use Rattle.std.specs.List.{filter, flat_map, list_any, refill}
 use Rattle.std.specs.List.Sorted.{IsPermutation}
-use Rattle.std.proofs.lemmas.Bool.{cases_Bool, false≢true}
-use Rattle.std.proofs.lemmas.List.{length-append, append-nil, append_assoc, take_all, drop_all, take-append-drop, drop_more}
-use Rattle.std.proofs.lemmas.List.Elements.{All-nil, All-cons, All-append, All-head, All-tail, All-take, All-drop}
+use Rattle.std.proofs.lemmas.Bool.{or_parts, false≢true}
+use Rattle.std.proofs.lemmas.List.{length-append, length-map, append-nil, append_assoc, take_all, drop_all, take-append-drop, drop_more}
+use Rattle.std.proofs.lemmas.List.Elements.{All-append, All-take, All-drop}
 use Rattle.std.proofs.lemmas.List.Sorted.{length_permutation, IsPermutation-refl, IsPermutation-trans, IsPermutation-append_right, IsPermutation-middle}
+use Rattle.std.proofs.lemmas.List.Folds.{list_any_none}
 use Rattle.std.proofs.lemmas.Grind.{flat_map-append}
-use Rattle.std.proofs.lemmas.List.Kept.{AllPairs-cons}
+use Rattle.std.proofs.lemmas.List.Kept.{AllPairs-filter}
+use Rattle.std.proofs.lemmas.List.Sums.{length-filter, count_by-le-length}
 use Rattle.std.proofs.lemmas.Bool.Decides.{nat_tests}
 use Rattle.bac_tsm.specs.declared.due.Entry.{Entry}
 use Rattle.bac_tsm.specs.Events.{Rules}
 use Rattle.bac_tsm.specs.Machine.{Waiting, is_due, due_entry, due_answer, kept, ticket_of}
 use Rattle.bac_tsm.specs.Table.{IsPassed}
 use Rattle.bac_tsm.specs.Waiting.{nothing}
-use Rattle.bac_tsm.proofs.CallNotes.{TicketsRise, kept_of_one, pairs_head, pairs_tail}
+use Rattle.bac_tsm.proofs.CallNotes.{TicketsRise, kept_of_one, pairs_map}
 use Rattle.bac_tsm.proofs.SortedEntries.{Rise}
 
 -- A sort in place leaves what it sorts to.
@@ -39,47 +41,37 @@ module _ (rules : Rules) (clock : ℕ) where
   pub not_yet : (entries : List Entry) → entries ≡ [] → (ws : List Waiting) → All (λ w. w.base ≤ clock) ws → HasTicked (due_of ws) (kept_of ws) entries ws
   not_yet entries none ws past = rw none (record { told = IsPermutation-refl _; stay = refl; past = past })
 
-  pub nothing_due : (ws : List Waiting) → All (λ w. is_due rules clock w ≡ false) ws → (due_of ws ≡ []) × (kept_of ws ≡ ws)
+  pub nothing_due : (ws : List Waiting) → list_any (is_due rules clock) ws ≡ false → (due_of ws ≡ []) × (kept_of ws ≡ ws)
   nothing_due [] young = (refl, refl)
   nothing_due (w ∷ ws) young =
-      let here = All-head (λ w. is_due rules clock w ≡ false) w ws young in
-      let rest = nothing_due ws (All-tail (λ w. is_due rules clock w ≡ false) w ws young) in
-      rw here (rest.0, ap (◌∷◌ w) rest.1)
+      let both = or_parts (is_due rules clock w) (list_any (is_due rules clock) ws) young in
+      let rest = nothing_due ws both.1 in
+      rw both.0 (rest.0, ap (◌∷◌ w) rest.1)
 
   -- What was sent now is not due.
   again : 0 < rules.timeout → (w : Waiting) → is_due rules clock w ≡ true →
       (due_of (kept rules clock w) ≡ []) × (kept_of (kept rules clock w) ≡ kept rules clock w)
   again some w due = nothing_due (kept rules clock w)
-      (kept_of_one rules (λ v. is_due rules clock v ≡ false) clock w (λ young. young) (grind (arith, nat_tests)))
+      (list_any_none (is_due rules clock) (kept rules clock w) (kept_of_one rules (λ v. is_due rules clock v ≡ false) clock w (λ young. young) (grind (arith, nat_tests))))
+
+  due_is : (ws : List Waiting) → due_of ws ≡ map (due_entry rules) (filter (is_due rules clock) ws)
+  due_is [] = refl
+  due_is (w ∷ ws) = grind (arith, due_is ws)
 
   pub few_due : (ws : List Waiting) → length (due_of ws) ≤ length ws
-  few_due [] = omega arith
-  few_due (w ∷ ws) = grind (arith, nat_tests, few_due ws)
+  few_due ws = rw (due_is ws, length-map, length-filter) (count_by-le-length (is_due rules clock) ws)
 
   ticket_due : (w : Waiting) → ticket_of (due_entry rules w) ≡ w.request.ticket
   ticket_due w = grind arith
 
-  above_due : (m : ℕ) (ws : List Waiting) → All (λ w. m < w.request.ticket) ws → All (λ e. m < ticket_of e) (due_of ws)
-  above_due m [] above = All-nil (λ e. m < ticket_of e)
-  above_due m (w ∷ ws) above =
-      let P = λ (e : Entry). m < ticket_of e in
-      let more = above_due m ws (All-tail (λ w. m < w.request.ticket) w ws above) in
-      let first : P (due_entry rules w) = let lt : m < w.request.ticket = All-head (λ w. m < w.request.ticket) w ws above in let e = ticket_due w in omega arith in
-      elim (cases_Bool (is_due rules clock w)) [
-        | inl due ↦ rw due (All-cons P (due_entry rules w) (due_of ws) first more)
-        | inr young ↦ rw young more
-      ]
-
   pub rise_due : (ws : List Waiting) → TicketsRise ws → Rise ticket_of (due_of ws)
-  rise_due [] rise = λ i j d less lt. absurd (omega arith)
-  rise_due (w ∷ ws) rise =
-      let R = λ (v u : Waiting). v.request.ticket < u.request.ticket in
-      let rest = rise_due ws (pairs_tail R w ws rise) in
-      let above = above_due w.request.ticket ws (pairs_head R w ws rise) in
-      elim (cases_Bool (is_due rules clock w)) [
-        | inl due ↦ rw due (AllPairs-cons (λ a b. ticket_of a < ticket_of b) (due_entry rules w) (due_of ws) (rw ticket_due above) rest)
-        | inr young ↦ rw young rest
-      ]
+  rise_due ws rise =
+      rw (due_is ws)
+      (pairs_map (λ a b. ticket_of a < ticket_of b) (due_entry rules) (filter (is_due rules clock) ws) (λ i j d less lt.
+      let e = ticket_due (get_or (filter (is_due rules clock) ws) i d) in
+      let f = ticket_due (get_or (filter (is_due rules clock) ws) j d) in
+      let g = AllPairs-filter (λ v w. v.request.ticket < w.request.ticket) (is_due rules clock) ws rise i j d less lt in
+      omega arith))
 
   module _ (some : 0 < rules.timeout) {all : List Entry} {kept_in_all : List Waiting} {entries : List Entry} {ws : List Waiting} (h : HasTicked all kept_in_all entries ws) where
     -- One more has gone on.
@@ -116,10 +108,10 @@ module _ (rules : Rules) (clock : ℕ) where
             ∙ ap (λ (xs : List Entry). due_of (take turn ws) ++ xs)
             (flat_map-append (due_answer rules clock) (kept rules clock w) (drop (suc turn) ws) ∙ ap (λ (xs : List Entry). xs ++ due_of (drop (suc turn) ws)) (again some w due).0)
 
-    pub passed : (entry : Entry) (after : List Waiting) → IsPassed rules clock ws (Some entry) after → HasTicked all kept_in_all (entries ++ entry ∷ []) after
+    pub passed : (entry : Entry) (after : List Waiting) → IsPassed rules clock ws entry after → HasTicked all kept_in_all (entries ++ entry ∷ []) after
     passed entry after (turn, lt, due, is, to) = one_more entry after turn (get_or ws turn nothing) lt refl due is to
 
-    pub fewer : (entry : Entry) (after : List Waiting) → IsPassed rules clock ws (Some entry) after →
+    pub fewer : (entry : Entry) (after : List Waiting) → IsPassed rules clock ws entry after →
         (length entries < length all) × (length (due_of after) < length (due_of ws))
     fewer entry after is =
         let now = sym (length-append entries (due_of ws)) ∙ length_permutation _ _ h.told in
@@ -127,5 +119,5 @@ module _ (rules : Rules) (clock : ℕ) where
         let one = length-append entries (entry ∷ []) in
         (omega arith, omega arith)
 
-    pub all_passed : (after : List Waiting) → IsPassed rules clock ws None after → IsPermutation all entries × (after ≡ kept_in_all)
-    all_passed after (young, to) = let none = nothing_due ws young in (rw (none.0, append-nil) at h.told, to ∙ sym none.1 ∙ h.stay)
+    pub all_passed : list_any (is_due rules clock) ws ≡ false → IsPermutation all entries × (ws ≡ kept_in_all)
+    all_passed young = let none = nothing_due ws young in (rw (none.0, append-nil) at h.told, sym none.1 ∙ h.stay)

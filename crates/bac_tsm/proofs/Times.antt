@@ -1,9 +1,10 @@
 -- How often a number is among those of a list's elements.
-use Rattle.std.proofs.Common.{◌≡◌, ℕ, zero, suc, ◌+◌, ◌<◌, ◌≤◌, List, [], ◌∷◌, ◌++◌, length, set, get_or, Bool, true, false, not, nat_eq, if◌then◌else◌, refl, ap, subst, ◌∙◌, inl, inr, arith}
+use Rattle.std.proofs.Common.{◌≡◌, ℕ, suc, ◌+◌, ◌<◌, ◌≤◌, List, [], ◌∷◌, ◌++◌, length, take, drop, get_or, Bool, true, not, nat_eq, if◌then◌else◌, refl, ap, sym, add-one, ◌∙◌, inl, inr, arith}
 use Rattle.std.specs.Prelude.{remove}
 use Rattle.std.specs.List.{filter}
 use Rattle.std.proofs.lemmas.Bool.{cases_Bool, eq-eqb, ne_eqb}
-use Rattle.std.proofs.lemmas.List.{length-append}
+use Rattle.std.proofs.lemmas.List.{length-append, take-append-drop, drop_more}
+use Rattle.std.proofs.lemmas.List.Sums.{length-filter, sum_by-remove}
 use Rattle.std.proofs.lemmas.List.Elements.{filter-append}
 use Rattle.std.proofs.lemmas.Bool.Decides.{nat_tests}
 use Rattle.bac_tsm.specs.Table.{times}
@@ -28,26 +29,9 @@ module _ {A : Type 0} (key : A → ℕ) where
 
   pub times-remove : (n : ℕ) (xs : List A) (i : ℕ) (d : A) → i < length xs →
       times key n (remove xs i) + times key n (get_or xs i d ∷ []) ≡ times key n xs
-  times-remove n [] i d lt = absurd (omega arith)
-  times-remove n (x ∷ xs) zero d lt = let e = times-cons n x xs in omega arith
-  times-remove n (x ∷ xs) (suc i) d lt =
-      let e = times-cons n x xs in
-      let f = times-cons n x (remove xs i) in
-      let g = times-remove n xs i d (omega arith) in
-      omega arith
-
-  pub times-set : (n : ℕ) (xs : List A) (i : ℕ) (y d : A) → i < length xs →
-      times key n (set xs i y) + times key n (get_or xs i d ∷ []) ≡ times key n xs + times key n (y ∷ [])
-  times-set n [] i y d lt = absurd (omega arith)
-  times-set n (x ∷ xs) zero y d lt =
-      let e = times-cons n x xs in
-      let f = times-cons n y xs in
-      omega arith
-  times-set n (x ∷ xs) (suc i) y d lt =
-      let e = times-cons n x xs in
-      let f = times-cons n x (set xs i y) in
-      let g = times-set n xs i y d (omega arith) in
-      omega arith
+  times-remove n xs i d lt =
+      let count = length-filter (λ x. nat_eq (key x) n) in
+      omega (arith, count (remove xs i), count (get_or xs i d ∷ []), count xs, sum_by-remove (λ x. if nat_eq (key x) n then 1 else 0) xs i d lt)
 
   pub times_got : (xs : List A) (i : ℕ) (d : A) → i < length xs → 0 < times key (key (get_or xs i d)) xs
   times_got xs i d lt =
@@ -67,26 +51,19 @@ module _ {A : Type 0} (key : A → ℕ) (p : A → Bool) (n : ℕ) (says : (x : 
   pub one_passes : (xs : List A) (i : ℕ) (d : A) → i < length xs → key (get_or xs i d) ≡ n → times key n xs ≤ 1 →
       (filter p xs ≡ (if p (get_or xs i d) then get_or xs i d ∷ [] else []))
       × (filter (λ x. not (p x)) xs ≡ (if p (get_or xs i d) then remove xs i else xs))
-  one_passes [] i d lt is few = absurd (omega arith)
-  one_passes (x ∷ xs) zero d lt is few =
-      let e = times-cons key n x xs in
+  one_passes xs i d lt is few =
+      let x : A = get_or xs i d in
+      let front = take i xs in
+      let back = drop (suc i) xs in
+      let split : xs ≡ front ++ (x ∷ back) = sym (take-append-drop i xs) ∙ ap (◌++◌ front) (rw add-one at (drop_more xs i d lt)) in
+      let others = ap (times key n) split ∙ times-append key n front (x ∷ back) in
       let one = times_one key n x is in
-      let rest = none_passes xs (omega arith) in
+      let rest = times-cons key n x back in
+      let before = none_passes front (omega arith) in
+      let after = none_passes back (omega arith) in
+      let passing = ap (filter p) split ∙ filter-append p front (x ∷ back) ∙ ap (λ ys. ys ++ filter p (x ∷ back)) before.0 in
+      let failing = ap (filter (λ y. not (p y))) split ∙ filter-append (λ y. not (p y)) front (x ∷ back) ∙ ap (λ ys. ys ++ filter (λ y. not (p y)) (x ∷ back)) before.1 in
       elim (cases_Bool (p x)) [
-        | inl t ↦ rw t (ap (◌∷◌ x) rest.0, rest.1)
-        | inr f ↦ rw f (rest.0, ap (◌∷◌ x) rest.1)
+        | inl t ↦ rw t (passing ∙ rw (t, after.0) refl, failing ∙ rw (t, after.1) refl)
+        | inr f ↦ rw f (passing ∙ rw (f, after.0) refl, failing ∙ rw (f, after.1) (sym split))
       ]
-  one_passes (x ∷ xs) (suc i) d lt is few =
-      let e = times-cons key n x xs in
-      let there : 0 < times key n xs = subst (λ (k : ℕ). 0 < times key k xs) is (times_got key xs i d (omega arith)) in
-      let rest = one_passes xs i d (omega arith) is (omega arith) in
-      elim (cases_Bool (p x)) [
-        | inl t ↦
-            let one = times_one key n x (says x t) in
-            absurd (omega arith)
-        | inr f ↦ rw f (rest.0, ap (◌∷◌ x) rest.1 ∙ moved (p (get_or xs i d)))
-      ]
-    where
-      moved : (b : Bool) → x ∷ (if b then remove xs i else xs) ≡ (if b then remove (x ∷ xs) (suc i) else (x ∷ xs))
-      moved true = refl
-      moved false = refl

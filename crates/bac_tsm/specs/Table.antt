@@ -1,5 +1,5 @@
 -- The table of open requests, and what is true of it.
-use Rattle.std.specs.Prelude.{◌≡◌, ◌≢◌, ℕ, suc, ◌<◌, ◌≤◌, List, ◌++◌, length, map, take, drop, remove, get_or, Option, Some, None, true, false, nat_eq}
+use Rattle.std.specs.Prelude.{◌≡◌, ◌≢◌, ℕ, suc, ◌<◌, ◌≤◌, List, ◌++◌, length, map, take, drop, remove, get_or, Option, Some, None, true, nat_eq}
 use Rattle.std.specs.List.{All, AllPairs, filter, find}
 use Rattle.bac_tsm.specs.Limits.{table_size}
 use Rattle.bac_tsm.specs.Events.{Rules}
@@ -70,10 +70,9 @@ pub record AreBySend (places : List Waiting) (opened sends : List ℕ) : Type 0 
 abbrev pub IsTakenOut : ℕ → List ℕ → List ℕ → Type 0
 IsTakenOut place before after = (turn : ℕ) × (turn < length before) × (get_or before turn 0 ≡ place) × (after ≡ remove before turn)
 
--- One request that is due at this clock goes on to it, with this entry. Without an entry none is due, and nothing changes.
-abbrev pub IsPassed : Rules → ℕ → List Waiting → Option Entry → List Waiting → Type 0
-IsPassed rules clock before None after = All (λ w. is_due rules clock w ≡ false) before × (after ≡ before)
-IsPassed rules clock before (Some entry) after =
+-- One request that is due at this clock goes on to it, with this entry.
+abbrev pub IsPassed : Rules → ℕ → List Waiting → Entry → List Waiting → Type 0
+IsPassed rules clock before entry after =
     (turn : ℕ) × (turn < length before) × (is_due rules clock (get_or before turn nothing) ≡ true)
     × (entry ≡ due_entry rules (get_or before turn nothing))
     × (after ≡ take turn before ++ (kept rules clock (get_or before turn nothing) ++ drop (suc turn) before))

@@ -8,29 +8,29 @@ use crate::due::Entry;
 use crate::outcome::{Ended, Outcome};
 
 /// `==` on faults.
-pub fn same_fault(a: SubmitFault, b: SubmitFault) -> bool
-    ensures { IsTrue result ↔ (a ≡ b) }
+pub fn same_fault(fault: SubmitFault, other: SubmitFault) -> bool
+    ensures { IsTrue result ↔ (fault ≡ other) }
 {
-    a == b
+    fault == other
 }
 
 /// `==` on the entries of a tick.
-pub fn same_entry(a: Entry, b: Entry) -> bool
-    ensures { IsTrue result ↔ (a ≡ b) }
+pub fn same_entry(entry: Entry, other: Entry) -> bool
+    ensures { IsTrue result ↔ (entry ≡ other) }
 {
-    a == b
+    entry == other
 }
 
 /// `==` on outcomes, with the octets that they lend.
-pub fn same_outcome(a: Outcome<'_>, b: Outcome<'_>) -> bool
-    ensures { IsTrue result ↔ (outcome_seen a.entry ≡ outcome_seen b.entry) }
+pub fn same_outcome(outcome: Outcome<'_>, other: Outcome<'_>) -> bool
+    ensures { IsTrue result ↔ (outcome_seen outcome.entry ≡ outcome_seen other.entry) }
 {
-    a == b
+    outcome == other
 }
 
 /// `==` on ends, with the octets that they lend.
-pub fn same_end(a: Ended<'_>, b: Ended<'_>) -> bool
-    ensures { IsTrue result ↔ (end_seen a.entry ≡ end_seen b.entry) }
+pub fn same_end(end: Ended<'_>, other: Ended<'_>) -> bool
+    ensures { IsTrue result ↔ (end_seen end.entry ≡ end_seen other.entry) }
 {
-    a == b
+    end == other
 }

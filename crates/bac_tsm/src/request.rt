@@ -16,6 +16,7 @@ use crate::datagram::{Datagram, write_request};
 use crate::due::Entry;
 use crate::limits::LONGEST_BODY;
 use bac_pdu::Peer;
+use bac_wire::Frame;
 use std::marker::Model;
 
 /// What a request is opened with: its ticket, whom it goes to, its service and number, and the clock at which it is sent.
@@ -81,8 +82,8 @@ impl Default for OpenRequest {
 }
 
 impl OpenRequest {
-    // Makes it a new request with this body.
-    pub(crate) fn begin(&mut self, asked: Asked, body: &[u8])
+    // Makes it a new request with this body, whose datagram is written in the frame.
+    pub(crate) fn begin(&mut self, asked: Asked, body: &[u8], frame: &mut Frame)
         requires { length body.now ≤ longest_body }
         ensures { self.new ≡ begun asked body.now }
     {
@@ -92,13 +93,7 @@ impl OpenRequest {
         self.number = asked.number;
         self.base = asked.clock;
         self.count = 0;
-        write_request(
-            &mut self.datagram,
-            asked.peer,
-            asked.service,
-            body,
-            asked.number,
-        );
+        write_request(&mut self.datagram, asked, body, frame);
     }
 
     pub(crate) fn ticket(&self) -> u64

@@ -1,6 +1,6 @@
 //! The open requests.
 
-ghost use Rattle.std.specs.Prelude.{◌≡◌, None, replicate, ◌<◌, ◌≤◌, ◌++◌, [], ◌∷◌, ℕ, false, not, length, map, nat_eq, position, get_or, remove};
+ghost use Rattle.std.specs.Prelude.{◌≡◌, None, replicate, ◌<◌, ◌≤◌, ◌++◌, [], ◌∷◌, ℕ, true, not, length, map, nat_eq, position, get_or, remove};
 ghost use Rattle.std.specs.List.{All, AllPairs, filter, find, flat_map, list_any};
 ghost use Rattle.std.specs.Option.{option_copied, option_to_list};
 ghost use Rattle.bac_tsm.specs.Limits.{longest_body, table_size};
@@ -19,6 +19,7 @@ use crate::due::{Entries, Entry, sort_by_ticket};
 use crate::limits::{LONGEST_BODY, PLACES};
 use crate::request::{Asked, OpenRequest};
 use arrayvec::ArrayVec;
+use bac_wire::Frame;
 use std::marker::Model;
 
 /// The open requests, in the order of their tickets.
@@ -26,7 +27,7 @@ use std::marker::Model;
 /// A request stays at its place until it ends. All places stand in one order, first those of the open requests, by ticket,
 /// and then the free ones. The tickets stand beside it, so that one is found without a look at the places, and the place of
 /// each number in a table. The places of the open requests stand once more in the order of their last sends, so that a tick
-/// looks at those that are due, and at the first that isn't.
+/// looks at those that are due, and at the first that isn't. Each datagram is written in one frame, and then kept at its place.
 #[derive(Drop)]
 pub(crate) struct Table {
     places: [OpenRequest; PLACES],
@@ -34,6 +35,7 @@ pub(crate) struct Table {
     order: ArrayVec<u8, PLACES>,
     tickets: ArrayVec<u64, PLACES>,
     sends: ArrayVec<u8, PLACES>,
+    draft: Frame,
 }
 
 impl Model for Table {
@@ -59,6 +61,7 @@ impl Table {
             order: every_place(),
             tickets: ArrayVec::new(),
             sends: ArrayVec::new(),
+            draft: Frame::new(),
         }
     }
 
@@ -77,12 +80,14 @@ impl Table {
         Some(self.at(turn))
     }
 
-    // The turn of the request with this ticket. Where none between it and the first has ended, it is looked at first.
+    // The turn of the request with this ticket. It is looked at first where it stands if none between it and the last has
+    // ended.
     fn turn_of(&self, ticket: u64) -> Option<usize>
         ensures { IsTurnOf ticket self.now result }
     {
-        let first = *self.tickets.first()?;
-        let likely = ticket.wrapping_sub(first) as usize;
+        let last = *self.tickets.last()?;
+        let later = last.wrapping_sub(ticket) as usize;
+        let likely = (self.tickets.len() - 1).wrapping_sub(later);
         if self.tickets.get(likely).copied() == Some(ticket) {
             return Some(likely);
         }
@@ -127,7 +132,7 @@ impl Table {
     {
         let place = self.order[self.tickets.len()];
         self.numbers[usize::from(asked.number)] = Some(place);
-        self.places[usize::from(place)].begin(asked, body);
+        self.places[usize::from(place)].begin(asked, body, &mut self.draft);
         self.tickets.push(asked.ticket);
         self.sends.push(place);
     }
@@ -151,7 +156,7 @@ impl Table {
 
     // Some request is due at this clock, and then the one that was sent longest ago is.
     pub(crate) fn is_due(&self, clock: u64, config: Config) -> bool
-        ensures none { result ≡ false → All (λ w. is_due (client_rules config.timeout config.retries) clock w ≡ false) self.now }
+        ensures due { result ≡ list_any (is_due (client_rules config.timeout config.retries) clock) self.now }
         ensures few { length self.now ≤ table_size }
         ensures rising { AllPairs (λ v w. v.request.ticket < w.request.ticket) self.now }
     {
@@ -165,6 +170,7 @@ impl Table {
     // alone, so that a tick at which nothing is due is a comparison at its caller.
     #[inline(never)]
     pub(crate) fn pass_all(&mut self, clock: u64, config: Config, entries: &mut Entries)
+        requires due { list_any (is_due (client_rules config.timeout config.retries) clock) self.old ≡ true }
         requires past { All (λ w. w.base ≤ clock) self.old }
         requires empty { entries.old.items ≡ [] }
         requires few { length self.old ≤ table_size }
@@ -172,24 +178,23 @@ impl Table {
         ensures by_ticket { IsNonDecreasingBy ticket_of entries.new.items }
         ensures kept { self.new ≡ flat_map (kept (client_rules config.timeout config.retries) clock) self.old }
     {
-        while let Some(entry) = self.pass_due(clock, config) {
+        let mut is_due = true;
+        while is_due {
+            let entry = self.pass(clock, config);
             entries.push(entry);
+            is_due = self.is_due(clock, config);
         }
         sort_by_ticket(entries.as_mut_slice());
     }
 
-    // Brings the request that was sent longest ago to this clock, if it is due, and answers what becomes of it. None where
-    // none is due.
-    fn pass_due(&mut self, clock: u64, config: Config) -> Option<Entry>
-        requires { All (λ w. w.base ≤ clock) self.old }
+    // Brings the request that was sent longest ago to this clock, and answers what becomes of it.
+    fn pass(&mut self, clock: u64, config: Config) -> Entry
+        requires due { list_any (is_due (client_rules config.timeout config.retries) clock) self.old ≡ true }
+        requires past { All (λ w. w.base ≤ clock) self.old }
         ensures { IsPassed (client_rules config.timeout config.retries) clock self.old result self.new }
     {
-        let place = *self.sends.first()?;
-        let request = &self.places[usize::from(place)];
-        if !request.is_due(clock, config) {
-            return None;
-        }
-        let entry = request.due_entry(config);
+        let place = self.sends[0];
+        let entry = self.places[usize::from(place)].due_entry(config);
         match entry {
             Entry::Resend(_) => {
                 self.places[usize::from(place)].send_again(clock, config);
@@ -202,7 +207,7 @@ impl Table {
                 }
             }
         }
-        Some(entry)
+        entry
     }
 
     // Ends the request at this turn: its place is the last of the free ones.
@@ -215,16 +220,18 @@ impl Table {
         self.numbers[usize::from(number)] = None;
         self.order.push(place);
         self.tickets.remove(turn);
-        take_out(&mut self.sends, place);
+        take_out(&mut self.sends, place, turn);
     }
 }
 
-// Takes a place out.
-fn take_out(places: &mut ArrayVec<u8, PLACES>, place: u8)
+// Takes a place out. The likely turn is looked at first.
+fn take_out(places: &mut ArrayVec<u8, PLACES>, place: u8, likely: usize)
     requires { 0 < times_of_place place places.old.items }
     ensures { IsTakenOut place places.old.items places.new.items }
 {
-    if let Some(turn) = turn_of_place(places, place) {
+    if places.get(likely).copied() == Some(place) {
+        places.remove(likely);
+    } else if let Some(turn) = turn_of_place(places, place) {
         places.remove(turn);
     }
 }

@@ -13,6 +13,7 @@ ghost use Rattle.bac_tsm.specs.Machine.{folded, initial};
 ghost use Rattle.bac_tsm.specs.Laws.{AnswersByNumber, NumbersComeBackLate, PassedAreHeld, outputs, state_at};
 
 /// The machine tells, at each position, the notes that the look-ahead gives there, and keeps what it says is open.
+#[tactic(auto, using(crate::proofs::WholeRun::run_whole, crate::proofs::WholeRun::run_first))]
 pub fn run_is_lookahead()
     ensures notes { (rules : Rules) (first_ticket : ℕ) (events : List Event) →
         AnswersByNumber rules → rules.places ≤ 255 →
@@ -36,6 +37,7 @@ pub fn answers_are_by_number()
 {}
 
 /// An answer is to a request only where it comes from the same station: address, port and route.
+#[tactic(auto, using(crate::proofs::SameStation::same_station_is, crate::proofs::SameStation::same_station_refl))]
 pub fn stations_are_compared_whole()
     ensures { (a b : Station) → (same_station a b ≡ true) ↔ (a ≡ b) }
 {}
@@ -47,6 +49,7 @@ pub fn answers_in_words()
 {}
 
 /// At each position few requests are open, under different numbers, and each is sent only so often.
+#[tactic(auto, using(crate::proofs::OpenRequests::roomy, crate::proofs::OpenRequests::tickets_rise, crate::proofs::NumberReuse::few_sends))]
 pub fn table_is_bounded()
     ensures few { (rules : Rules) (first_ticket : ℕ) (events : List Event) (n : ℕ) →
         rules.places ≤ 255 → length (open_at rules first_ticket events n) ≤ rules.places }
@@ -59,6 +62,7 @@ pub fn table_is_bounded()
 {}
 
 /// What is told at a position rests on nothing that comes after it.
+#[tactic(auto, using(crate::proofs::LookingBack::looks_back, crate::proofs::LookingBack::reaches))]
 pub fn output_looks_back()
     ensures { (rules : Rules) (first_ticket : ℕ) (events others : List Event) (n : ℕ) →
         n < length events → take (suc n) events ≡ take (suc n) others →
@@ -66,6 +70,7 @@ pub fn output_looks_back()
 {}
 
 /// Between two requests with the same number many others are accepted.
+#[tactic(auto, using(crate::proofs::NumberReuse::back_late))]
 pub fn numbers_come_back_late()
     ensures { (rules : Rules) (first_ticket : ℕ) (events : List Event) (n : ℕ) →
         rules.places ≤ 255 → NumbersComeBackLate rules.places (accepted rules first_ticket events n) }

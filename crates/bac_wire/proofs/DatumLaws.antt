@@ -1,19 +1,19 @@
 -- What the reader of values takes is spelled so, and what is spelled so is taken, whatever follows.
 use Rattle.std.proofs.Common.{◌≡◌, ℕ, zero, suc, ◌^◌, ◌/◌, ◌%◌, ◌<◌, ◌≤◌, Bool, true, false, cond, ltb, eqb, List, [], ◌∷◌, ◌++◌, length, take, drop, Option, Some, None, refl, sym, ap, subst, ◌∙◌, append_assoc, arith, inl, inr}
 use Rattle.std.specs.Option.{option_map}
-use Rattle.std.proofs.lemmas.Option.{same_Some, some_pair_parts, none-some}
-use Rattle.std.proofs.lemmas.Bool.{ltb-true, ltb-false, eqb-true, lt-ltb, le-ltb, eq-eqb, ne_eqb, eqb-false}
+use Rattle.std.proofs.lemmas.Option.{same_Some, some_pair_parts, none-some, cond_some}
+use Rattle.std.proofs.lemmas.Grind.{common_steps}
+use Rattle.std.proofs.lemmas.Bool.{ltb-false, eqb-true, lt-ltb, le-ltb, eq-eqb, ne_eqb, eqb-false}
 use Rattle.std.proofs.lemmas.List.{length-append, take_at, drop_at, take-append-drop, nil_from_length, length-take-le}
 use Rattle.byteorder.specs.Endian.{big_number, twos_complement}
 use Rattle.bac_wire.specs.declared.tag.Shape.{Shape}
-use Rattle.bac_wire.specs.declared.tag.Shape.TheVariants.{App, Context, Opening, Closing}
+use Rattle.bac_wire.specs.declared.tag.Shape.TheVariants.{App}
 use Rattle.bac_wire.specs.Identifier.{Identifier, number_of, identifier_of}
 use Rattle.bac_wire.specs.Tag.{SpellsTag}
-use Rattle.bac_wire.specs.Steps.{◌>>=◌}
 use Rattle.bac_wire.specs.TagReading.{tag_at}
 use Rattle.bac_wire.specs.Datum.{Datum, null, boolean, unsigned, signed, real, double, octet_string, char_string, bit_string, enumerated, date, time, object, tag_number, StandsFor, shape_number, tag_before, Spells, IsSound}
 use Rattle.bac_wire.specs.DatumReading.{exactly, number_within, chars_of, bits_of, contents_of, boolean_of, behind_at, with_shape, value_at}
-use Rattle.bac_wire.proofs.Readers.{IsReader, Took, reader_of, found_at, chosen, one_front}
+use Rattle.bac_wire.proofs.Readers.{IsReader, Took, reader_of, found_at, chosen, unless, one_front}
 use Rattle.bac_wire.proofs.TagLaws.{bind_some, tag_reader}
 
 -- ---- the contents of a value are read again
@@ -21,10 +21,10 @@ use Rattle.bac_wire.proofs.TagLaws.{bind_some, tag_reader}
 exactly_again : (n : ℕ) (contents : List ℕ) → length contents ≡ n → exactly n contents ≡ Some contents
 exactly_again n contents e = rw (eq-eqb (length contents) n e) refl
 
-within_again : (most : ℕ) (contents : List ℕ) → 1 ≤ length contents → length contents ≤ most → number_within most contents ≡ Some (big_number (length contents) contents)
+pub within_again : (most : ℕ) (contents : List ℕ) → 1 ≤ length contents → length contents ≤ most → number_within most contents ≡ Some (big_number (length contents) contents)
 within_again most contents low high = rw (lt-ltb 0 (length contents) low, le-ltb most (length contents) high) refl
 
-same_identifier : (n : ℕ) (id : Identifier) → id.instance < 2 ^ 22 → n ≡ number_of id → identifier_of n ≡ id
+pub same_identifier : (n : ℕ) (id : Identifier) → id.instance < 2 ^ 22 → n ≡ number_of id → identifier_of n ≡ id
 same_identifier n id low e =
     let high_is : n / 2 ^ 22 ≡ id.kind = omega arith in
     let low_is : n % 2 ^ 22 ≡ id.instance = omega arith in
@@ -36,19 +36,10 @@ bits_again contents unused (b ∷ x) h = rw (h.0, le-ltb 7 unused h.1.most) refl
 
 contents_again : (contents : List ℕ) (value : Datum) → (tag_number value ≡ 1 → ⊥) → StandsFor contents value → contents_of (tag_number value) contents ≡ Some value
 unfolding contents_of
-contents_again contents null other h = rw h refl
 contents_again contents (boolean b) other h = absurd (other refl)
-contents_again contents (unsigned n) other h = rw (within_again 8 contents h.0 h.1, h.2) refl
-contents_again contents (signed z) other h = rw (within_again 8 contents h.0 h.1, h.2) refl
-contents_again contents (real r) other h = rw (exactly_again 4 contents h.0, h.1) refl
-contents_again contents (double d) other h = rw (exactly_again 8 contents h.0, h.1) refl
-contents_again contents (octet_string x) other h = rw h refl
-contents_again contents (char_string set x) other h = rw h refl
 contents_again contents (bit_string unused x) other h = bits_again contents unused x h
-contents_again contents (enumerated n) other h = rw (within_again 4 contents h.0 h.1, h.2) refl
-contents_again contents (date d) other h = rw (exactly_again 4 contents h.0, h.1) refl
-contents_again contents (time t) other h = rw (exactly_again 4 contents h.0, h.1) refl
 contents_again contents (object id) other h = rw (exactly_again 4 contents h.0, same_identifier (big_number 4 contents) id h.1 h.2) refl
+contents_again contents value other h = grind (arith, common_steps)
 
 -- ---- what is read are the contents of the value
 
@@ -57,21 +48,10 @@ abbrev Holding : ℕ → List ℕ → Datum → Type 0
 Holding number contents value = (tag_number value ≡ number) × StandsFor contents value
 
 exactly_takes : (n : ℕ) (contents : List ℕ) (x : List ℕ) → exactly n contents ≡ Some x → (length contents ≡ n) × (contents ≡ x)
-exactly_takes n contents x e =
-    elim (chosen (eqb (length contents) n) (Some contents) None (Some x) e) [
-      | inl here ↦ (eqb-true (length contents) n here.0, same_Some contents x here.1)
-      | inr none ↦ let nothing = none.1 in absurd cc
-    ]
+exactly_takes n contents x e = let t = cond_some (eqb (length contents) n) contents x e in (eqb-true (length contents) n t.0, t.1)
 
-within_takes : (most : ℕ) (contents : List ℕ) (n : ℕ) → number_within most contents ≡ Some n → (1 ≤ length contents) × (length contents ≤ most) × (n ≡ big_number (length contents) contents)
-within_takes most contents n e =
-    elim (chosen (ltb 0 (length contents)) (cond (ltb most (length contents)) None (Some (big_number (length contents) contents))) None (Some n) e) [
-      | inl some ↦ elim (chosen (ltb most (length contents)) None (Some (big_number (length contents) contents)) (Some n) some.1) [
-        | inl none ↦ let nothing = none.1 in absurd cc
-        | inr here ↦ (ltb-true 0 (length contents) some.0, ltb-false most (length contents) here.0, sym (same_Some (big_number (length contents) contents) n here.1))
-      ]
-      | inr none ↦ let nothing = none.1 in absurd cc
-    ]
+pub within_takes : (most : ℕ) (contents : List ℕ) (n : ℕ) → number_within most contents ≡ Some n → (1 ≤ length contents) × (length contents ≤ most) × (n ≡ big_number (length contents) contents)
+within_takes most contents n e = (grind (arith, common_steps), grind (arith, common_steps), grind (arith, common_steps))
 
 -- the value under a function that was mapped
 mapped : {A B : Type 0} (f : A → B) (o : Option A) (y : B) → option_map f o ≡ Some y → (x : A) × (o ≡ Some x) × (f x ≡ y)
@@ -113,32 +93,19 @@ chars_takes (set ∷ x) value e = made 7 (set ∷ x) (char_string set x) value (
 bits_takes : (contents : List ℕ) (value : Datum) → bits_of contents ≡ Some value → Holding 8 contents value
 bits_takes [] value e = absurd cc
 bits_takes (unused ∷ []) value e =
-    elim (chosen (eqb unused 0) (Some (bit_string unused [])) None (Some value) e) [
-      | inl here ↦
-          let none = eqb-true unused 0 here.0 in
-          made 8 (unused ∷ []) (bit_string unused []) value (same_Some (bit_string unused []) value here.1) (refl, (refl, record { most = omega arith; empty = λ _. none }))
-      | inr none ↦ let nothing = none.1 in absurd cc
-    ]
+    let t = cond_some (eqb unused 0) (bit_string unused []) value e in
+    let none = eqb-true unused 0 t.0 in
+    made 8 (unused ∷ []) (bit_string unused []) value t.1 (refl, (refl, record { most = omega arith; empty = λ _. none }))
 bits_takes (unused ∷ b ∷ x) value e =
-    elim (chosen (ltb 7 unused) None (Some (bit_string unused (b ∷ x))) (Some value) e) [
-      | inl none ↦ let nothing = none.1 in absurd cc
-      | inr here ↦ made 8 (unused ∷ b ∷ x) (bit_string unused (b ∷ x)) value (same_Some (bit_string unused (b ∷ x)) value here.1) (refl, (refl, record { most = ltb-false 7 unused here.0; empty = λ empty. absurd cc }))
-    ]
+    let t = unless (ltb 7 unused) e in
+    made 8 (unused ∷ b ∷ x) (bit_string unused (b ∷ x)) value (same_Some (bit_string unused (b ∷ x)) value t.1) (refl, (refl, record { most = ltb-false 7 unused t.0; empty = λ empty. absurd cc }))
 
 object_holds : (contents : List ℕ) → length contents ≡ 4 → Holding 12 contents (object (identifier_of (big_number 4 contents)))
 object_holds contents e = (refl, (e, omega arith, omega arith))
 
--- past the table there is no value
-contents_past : (number : ℕ) (contents : List ℕ) → 13 ≤ number → contents_of number contents ≡ None
-unfolding contents_of
-contents_past number contents high =
-    let other : (k : ℕ) → k < 13 → number ≡ k → ⊥ = λ k low e. omega arith in
-    rw (ne_eqb number 0 (other 0 (omega arith)), ne_eqb number 2 (other 2 (omega arith)), ne_eqb number 3 (other 3 (omega arith)), ne_eqb number 4 (other 4 (omega arith)), ne_eqb number 5 (other 5 (omega arith)), ne_eqb number 6 (other 6 (omega arith)), ne_eqb number 7 (other 7 (omega arith)), ne_eqb number 8 (other 8 (omega arith)), ne_eqb number 9 (other 9 (omega arith)), ne_eqb number 10 (other 10 (omega arith)), ne_eqb number 11 (other 11 (omega arith)), ne_eqb number 12 (other 12 (omega arith))) refl
-
 contents_take : (number : ℕ) (contents : List ℕ) (value : Datum) → contents_of number contents ≡ Some value → Holding number contents value
 unfolding contents_of
 contents_take zero contents value e = null_takes contents value e
-contents_take (suc zero) contents value e = absurd cc
 contents_take (suc (suc zero)) contents value e = number_takes 2 8 unsigned (λ c n h. (refl, h)) contents value e
 contents_take (suc (suc (suc zero))) contents value e = signed_takes contents value e
 contents_take (suc (suc (suc (suc zero)))) contents value e = exact_takes 4 4 real (λ c h. (refl, (h, refl))) contents value e
@@ -150,7 +117,7 @@ contents_take (suc (suc (suc (suc (suc (suc (suc (suc (suc zero))))))))) content
 contents_take (suc (suc (suc (suc (suc (suc (suc (suc (suc (suc zero)))))))))) contents value e = exact_takes 10 4 date (λ c h. (refl, (h, refl))) contents value e
 contents_take (suc (suc (suc (suc (suc (suc (suc (suc (suc (suc (suc zero))))))))))) contents value e = exact_takes 11 4 time (λ c h. (refl, (h, refl))) contents value e
 contents_take (suc (suc (suc (suc (suc (suc (suc (suc (suc (suc (suc (suc zero)))))))))))) contents value e = exact_takes 12 4 (λ c. object (identifier_of (big_number 4 c))) object_holds contents value e
-contents_take (suc (suc (suc (suc (suc (suc (suc (suc (suc (suc (suc (suc (suc n))))))))))))) contents value e = absurd (none-some value (sym (contents_past (suc (suc (suc (suc (suc (suc (suc (suc (suc (suc (suc (suc (suc n))))))))))))) contents (omega arith)) ∙ e))
+contents_take number contents value e = absurd (none-some value (grind (arith, common_steps)))
 
 -- ---- a value
 
@@ -166,19 +133,8 @@ behind_again value contents rest other same h =
     rw (ne_eqb (tag_number value) 1 other, long, take_at contents rest (length contents) refl, drop_at contents rest (length contents) refl, contents_again contents value other h) refl
 
 shaped_again : (value : Datum) (contents rest : List ℕ) → StandsFor contents value → behind_at (tag_number value) (shape_number value (length contents)) (contents ++ rest) ≡ found_at value rest
-shaped_again null contents rest h = behind_again null contents rest (λ e. cc) refl h
 shaped_again (boolean b) contents rest h = rw (boolean_again b, h) refl
-shaped_again (unsigned n) contents rest h = behind_again (unsigned n) contents rest (λ e. cc) refl h
-shaped_again (signed z) contents rest h = behind_again (signed z) contents rest (λ e. cc) refl h
-shaped_again (real r) contents rest h = behind_again (real r) contents rest (λ e. cc) refl h
-shaped_again (double d) contents rest h = behind_again (double d) contents rest (λ e. cc) refl h
-shaped_again (octet_string x) contents rest h = behind_again (octet_string x) contents rest (λ e. cc) refl h
-shaped_again (char_string set x) contents rest h = behind_again (char_string set x) contents rest (λ e. cc) refl h
-shaped_again (bit_string unused x) contents rest h = behind_again (bit_string unused x) contents rest (λ e. cc) refl h
-shaped_again (enumerated n) contents rest h = behind_again (enumerated n) contents rest (λ e. cc) refl h
-shaped_again (date d) contents rest h = behind_again (date d) contents rest (λ e. cc) refl h
-shaped_again (time t) contents rest h = behind_again (time t) contents rest (λ e. cc) refl h
-shaped_again (object id) contents rest h = behind_again (object id) contents rest (λ e. cc) refl h
+shaped_again value contents rest h = behind_again value contents rest (λ e. cc) refl h
 
 value_again : (front : List ℕ) (value : Datum) (rest : List ℕ) → Spells front value → value_at (front ++ rest) ≡ Some (value, rest)
 unfolding value_at
@@ -188,30 +144,14 @@ value_again front value rest s =
     rw (s.whole, append_assoc s.tag s.contents rest, tag, shaped) refl
 
 boolean_takes : (n : ℕ) (value : Datum) → boolean_of n ≡ Some value → (b : Bool) × (value ≡ boolean b) × (n ≡ cond b 1 0)
-boolean_takes n value e =
-    elim (chosen (eqb n 0) (Some (boolean false)) (cond (eqb n 1) (Some (boolean true)) None) (Some value) e) [
-      | inl here ↦ (false, sym (same_Some (boolean false) value here.1), eqb-true n 0 here.0)
-      | inr more ↦ elim (chosen (eqb n 1) (Some (boolean true)) None (Some value) more.1) [
-        | inl here ↦ (true, sym (same_Some (boolean true) value here.1), eqb-true n 1 here.0)
-        | inr none ↦ let nothing = none.1 in absurd cc
-      ]
-    ]
+boolean_takes zero value e = (false, sym (same_Some (boolean false) value e), refl)
+boolean_takes (suc zero) value e = (true, sym (same_Some (boolean true) value e), refl)
+boolean_takes n value e = absurd (none-some value (grind (arith, common_steps)))
 
 -- the number in the tag of contents that hold a value of another kind
 shape_number_is : (value : Datum) (n : ℕ) → (tag_number value ≡ 1 → ⊥) → shape_number value n ≡ n
-shape_number_is null n other = refl
 shape_number_is (boolean b) n other = absurd (other refl)
-shape_number_is (unsigned _) n other = refl
-shape_number_is (signed _) n other = refl
-shape_number_is (real _) n other = refl
-shape_number_is (double _) n other = refl
-shape_number_is (octet_string _) n other = refl
-shape_number_is (char_string _ _) n other = refl
-shape_number_is (bit_string _ _) n other = refl
-shape_number_is (enumerated _) n other = refl
-shape_number_is (date _) n other = refl
-shape_number_is (time _) n other = refl
-shape_number_is (object _) n other = refl
+shape_number_is _ n other = refl
 
 -- contents behind a tag, and the value that they hold with it
 abbrev Behind : ℕ → ℕ → List ℕ → Datum → List ℕ → Type 0
@@ -219,27 +159,21 @@ Behind number n after value rest = (contents : List ℕ) × (tag_number value �
 
 behind_takes : (number n : ℕ) (after : List ℕ) (value : Datum) (rest : List ℕ) → behind_at number n after ≡ found_at value rest → Behind number n after value rest
 behind_takes number n after value rest e =
-    elim (chosen (eqb number 1) (boolean_of n >>= (λ v. Some (v, after))) (cond (ltb (length after) n) None (contents_of number (take n after) >>= (λ v. Some (v, drop n after)))) (found_at value rest) e) [
+    elim (chosen (eqb number 1) _ _ _ e) [
       | inl here ↦
-          let one = eqb-true number 1 here.0 in
           let bound = bind_some (boolean_of n) (λ v. Some (v, after)) (value, rest) here.1 in
           let same = some_pair_parts bound.0 value after rest bound.2 in
           let taken = boolean_takes n bound.0 bound.1 in
-          let is : value ≡ boolean taken.0 = sym same.0 ∙ taken.1 in
-          subst (λ (v : Datum). Behind number n after v rest) (sym is) ([], sym one, sym taken.2, refl, same.1)
-      | inr more ↦ elim (chosen (ltb (length after) n) None (contents_of number (take n after) >>= (λ v. Some (v, drop n after))) (found_at value rest) more.1) [
-        | inl none ↦ let nothing = none.1 in absurd cc
-        | inr here ↦
-            let other = eqb-false number 1 more.0 in
-            let room = ltb-false (length after) n here.0 in
-            let bound = bind_some (contents_of number (take n after)) (λ v. Some (v, drop n after)) (value, rest) here.1 in
-            let same = some_pair_parts bound.0 value (drop n after) rest bound.2 in
-            let taken = contents_take number (take n after) bound.0 bound.1 in
-            let long : length (take n after) ≡ n = length-take-le n after room in
-            let count : shape_number bound.0 (length (take n after)) ≡ n = shape_number_is bound.0 (length (take n after)) (λ one. other (sym taken.0 ∙ one)) ∙ long in
-            let whole : after ≡ take n after ++ rest = sym (take-append-drop n after) ∙ ap (λ (w : List ℕ). take n after ++ w) same.1 in
-            subst (λ (v : Datum). Behind number n after v rest) same.0 (take n after, taken.0, count, taken.1, whole)
-      ]
+          rw (sym same.0 ∙ taken.1) ([], sym (eqb-true number 1 here.0), sym taken.2, refl, same.1)
+      | inr other ↦
+          let here = unless (ltb (length after) n) other.1 in
+          let bound = bind_some (contents_of number (take n after)) (λ v. Some (v, drop n after)) (value, rest) here.1 in
+          let same = some_pair_parts bound.0 value (drop n after) rest bound.2 in
+          let taken = contents_take number (take n after) bound.0 bound.1 in
+          let long : length (take n after) ≡ n = length-take-le n after (ltb-false (length after) n here.0) in
+          let count = shape_number_is bound.0 (length (take n after)) (λ one. eqb-false number 1 other.0 (sym taken.0 ∙ one)) ∙ long in
+          let whole : after ≡ take n after ++ rest = sym (take-append-drop n after) ∙ ap (λ (w : List ℕ). take n after ++ w) same.1 in
+          rw (← same.0) (take n after, taken.0, count, taken.1, whole)
     ]
 
 shape_takes : (number : ℕ) (shape : Shape) (tag after : List ℕ) (value : Datum) (rest : List ℕ) → SpellsTag tag (record { number = number; shape = shape })
@@ -248,9 +182,7 @@ shape_takes number (App n) tag after value rest s e =
     let taken = behind_takes number n after value rest e in
     let tagged : SpellsTag tag (tag_before value (length taken.0)) = rw (taken.1, taken.2) s in
     (tag ++ taken.0, record { tag = tag; contents = taken.0; whole = refl; tagged = tagged; held = taken.3 }, ap (λ (w : List ℕ). tag ++ w) taken.4 ∙ sym (append_assoc tag taken.0 rest))
-shape_takes number (Context n) tag after value rest s e = absurd cc
-shape_takes number Opening tag after value rest s e = absurd cc
-shape_takes number Closing tag after value rest s e = absurd cc
+shape_takes number _ tag after value rest s e = absurd cc
 
 value_takes : (spelling : List ℕ) (value : Datum) (rest : List ℕ) → value_at spelling ≡ found_at value rest → Took Spells spelling value rest
 unfolding value_at
@@ -269,16 +201,5 @@ one_value = one_front Spells value_at value_reader
 
 -- what contents stand for is sound
 pub held_sound : (contents : List ℕ) (value : Datum) → StandsFor contents value → IsSound value
-held_sound contents null h = tt
-held_sound contents (boolean b) h = tt
-held_sound contents (unsigned n) h = tt
-held_sound contents (signed z) h = tt
-held_sound contents (real r) h = tt
-held_sound contents (double d) h = tt
-held_sound contents (octet_string x) h = tt
-held_sound contents (char_string set x) h = tt
 held_sound contents (bit_string unused x) h = h.1
-held_sound contents (enumerated n) h = tt
-held_sound contents (date d) h = tt
-held_sound contents (time t) h = tt
-held_sound contents (object id) h = tt
+held_sound contents _ h = tt

@@ -1,8 +1,8 @@
 -- Reading items from left to right finds what the relations say.
-use Rattle.std.proofs.Common.{◌≡◌, ℕ, zero, suc, ◌+◌, ◌-◌, ◌<◌, List, [], ◌∷◌, ◌++◌, length, take, drop, Option, Some, None, refl, sym, ap, subst, ◌∙◌, append_assoc, add-one, arith, inl, inr, ◌↔◌}
-use Rattle.std.proofs.lemmas.Bool.{le-ltb, cases_lt, cases_eq, lt-ltb, eq-eqb, ne_eqb}
-use Rattle.std.proofs.lemmas.List.{take_at, drop_at, length-append}
-use Rattle.std.proofs.lemmas.Option.{none-some, some_pair_parts}
+use Rattle.std.proofs.Common.{◌≡◌, ℕ, zero, suc, ◌+◌, ◌-◌, ◌<◌, eqb, List, [], ◌∷◌, ◌++◌, length, take, drop, Option, Some, None, refl, sym, ap, subst, ◌∙◌, append_assoc, add-one, arith, inl, inr, ◌↔◌}
+use Rattle.std.proofs.lemmas.Bool.{le-ltb, cases_lt, cases_eq, lt-ltb, eqb-true, eq-eqb, ne_eqb}
+use Rattle.std.proofs.lemmas.List.{drop_at, length-append}
+use Rattle.std.proofs.lemmas.Option.{none-some, some_pair_parts, cond_some}
 use Rattle.bac_wire.specs.declared.tag.Shape.{Shape}
 use Rattle.bac_wire.specs.declared.tag.Shape.TheVariants.{App, Context, Opening, Closing}
 use Rattle.bac_wire.specs.declared.tag.Tag.{Tag}
@@ -11,31 +11,36 @@ use Rattle.bac_wire.specs.Tag.{SpellsTag}
 use Rattle.bac_wire.specs.Steps.{◌>>=◌}
 use Rattle.bac_wire.specs.TagReading.{tag_at}
 use Rattle.bac_wire.specs.Region.{closing_tag, CountsBehind, IsRegion, IsClosedBy, HasEnded, LeavesRest, LeavesBehind, IsClosedRegion, SpellsClosed}
-use Rattle.bac_wire.proofs.Readers.{IsReader, reader_of, found_at}
+use Rattle.bac_wire.proofs.Readers.{IsReader, reader_of, found_at, take_front}
 use Rattle.bac_wire.proofs.TagLaws.{tag_reader, bind_some}
-use Rattle.bac_wire.proofs.RegionReading.{closed_again, closed_since, closed_is, no_closed, ended_since, ended_is, ended_empty, ended_nothing, counted_since, none_counted, opening_since, opening_none, opening_deep, closing_none, no_tag_all, ended_leaves, leaves_more, item_all, stuck_all, behind_shorter, one_left, whole_region, region_whole}
+use Rattle.bac_wire.proofs.RegionReading.{closed_again, closed_since, ended_since, ended_is, ended_empty, ended_nothing, counted_since, none_counted, opening_since, opening_none, opening_deep, closing_none, no_tag_all, ended_leaves, leaves_more, item_all, stuck_all, behind_shorter, one_left, whole_region, region_whole}
 use Rattle.bac_wire.proofs.Reading.{nothing_read}
 use Rattle.bac_wire.specs.ItemReading.{behind_count, closing_of, behind_closing, behind_item, behind_tag, behind_tag_found, behind_items, region_at}
 
 -- ---- tags and counts
 
-closing_finds_at : (number : ℕ) (octets : List ℕ) (tag : Tag) (shape : Shape) (rest : List ℕ) → found_at tag rest ≡ tag_at octets → tag.shape ≡ shape → Finds (IsClosedBy number octets) (closing_of number tag shape rest)
-closing_finds_at number octets tag Closing rest e is =
-    elim (cases_eq tag.number number) [
-      | inl same ↦ rw (eq-eqb tag.number number same) (closed_since tag number octets rest e is same)
-      | inr other ↦ rw (ne_eqb tag.number number other) (λ after c. other (closed_is tag number octets rest after e c).0)
-    ]
-closing_finds_at number octets tag Opening rest e is = λ after c. let shapes : ◌≡◌ {A = Shape} Opening Closing = sym is ∙ (closed_is tag number octets rest after e c).1 in absurd cc
-closing_finds_at number octets tag (App n) rest e is = λ after c. let shapes : ◌≡◌ {A = Shape} (App n) Closing = sym is ∙ (closed_is tag number octets rest after e c).1 in absurd cc
-closing_finds_at number octets tag (Context n) rest e is = λ after c. let shapes : ◌≡◌ {A = Shape} (Context n) Closing = sym is ∙ (closed_is tag number octets rest after e c).1 in absurd cc
+closing_takes : (number : ℕ) (tag : Tag) (shape : Shape) (after rest : List ℕ) → closing_of number tag shape after ≡ Some rest → (shape ≡ Closing) × (tag.number ≡ number) × (after ≡ rest)
+closing_takes number tag Closing after rest e = let same = cond_some (eqb tag.number number) after rest e in (refl, eqb-true tag.number number same.0, same.1)
+closing_takes number tag _ after rest e = absurd (none-some rest e)
 
-closing_finds_read : (number : ℕ) (octets : List ℕ) (read : Option (Tag × List ℕ)) → read ≡ tag_at octets → Finds (IsClosedBy number octets) (read >>= (λ x. closing_of number x.0 x.0.shape x.1))
-closing_finds_read number octets None e = λ rest c. no_closed number octets rest e c
-closing_finds_read number octets (Some x) e = closing_finds_at number octets x.0 x.0.shape x.1 e refl
+closed_takes : (number : ℕ) (octets rest : List ℕ) → behind_closing number octets ≡ Some rest → IsClosedBy number octets rest
+unfolding behind_closing
+closed_takes number octets rest e =
+    let a = bind_some (tag_at octets) (λ x. closing_of number x.0 x.0.shape x.1) rest e in
+    let same = closing_takes number a.0.0 a.0.0.shape a.0.1 rest a.2 in
+    closed_since a.0.0 number octets rest (ap (found_at a.0.0) (sym same.2) ∙ sym a.1) same.0 same.1
+
+pub closing_again : (number : ℕ) (octets rest : List ℕ) → IsClosedBy number octets rest → behind_closing number octets ≡ Some rest
+unfolding behind_closing
+closing_again number octets rest c = rw (closed_again number octets rest c, eq-eqb number number refl) refl
+
+-- a function that takes such rests, and finds again each that there is
+finds_from : {IsRest : List ℕ → Type 0} (read : Option (List ℕ)) → ((rest : List ℕ) → read ≡ Some rest → IsRest rest) → ((rest : List ℕ) → IsRest rest → read ≡ Some rest) → Finds IsRest read
+finds_from None takes again = λ rest is. none-some rest (again rest is)
+finds_from (Some rest) takes again = takes rest refl
 
 pub closing_finds : (number : ℕ) (octets : List ℕ) → Finds (IsClosedBy number octets) (behind_closing number octets)
-unfolding behind_closing
-closing_finds number octets = closing_finds_read number octets (tag_at octets) refl
+closing_finds number octets = finds_from (behind_closing number octets) (closed_takes number octets) (closing_again number octets)
 
 pub count_finds : (count : ℕ) (octets : List ℕ) → Finds (CountsBehind count octets) (behind_count count octets)
 count_finds count octets =
@@ -79,18 +84,11 @@ more_finds items most depth octets (Some next) reads short going finds =
     let shorter = behind_shorter depth octets next finds in
     others_find depth octets next (items depth next) finds (reads depth next (omega (arith, shorter)))
 
-not_ended : (octets : List ℕ) (tag : Tag) (shape : Shape) (after : List ℕ) → found_at tag after ≡ tag_at octets → tag.shape ≡ shape → (shape ≡ Closing → ⊥) → HasEnded octets → ⊥
-not_ended octets tag shape after e is other ended = other (sym is ∙ ended_is tag octets after e ended)
-
 tag_finds : (items : ℕ → List ℕ → Option (List ℕ)) (most depth : ℕ) (octets : List ℕ) (tag : Tag) (shape : Shape) (after : List ℕ) → ReadsItems items most → length octets < suc most → length after < length octets → found_at tag after ≡ tag_at octets → tag.shape ≡ shape
     → Finds (LeavesRest depth octets) (behind_tag items depth octets tag shape after)
 tag_finds items most depth octets tag Closing after reads short less e is = ended_leaves depth octets (ended_since tag octets after e is)
-tag_finds items most depth octets tag Opening after reads short less e is =
-    more_finds items most depth octets (behind_item items depth tag Opening after) reads short (not_ended octets tag Opening after e is (λ s. absurd cc)) (item_finds items most depth octets tag Opening after reads (omega arith) e is)
-tag_finds items most depth octets tag (App n) after reads short less e is =
-    more_finds items most depth octets (behind_item items depth tag (App n) after) reads short (not_ended octets tag (App n) after e is (λ s. absurd cc)) (item_finds items most depth octets tag (App n) after reads (omega arith) e is)
-tag_finds items most depth octets tag (Context n) after reads short less e is =
-    more_finds items most depth octets (behind_item items depth tag (Context n) after) reads short (not_ended octets tag (Context n) after e is (λ s. absurd cc)) (item_finds items most depth octets tag (Context n) after reads (omega arith) e is)
+tag_finds items most depth octets tag shape after reads short less e is =
+    more_finds items most depth octets (behind_item items depth tag shape after) reads short (λ ended. let closing : shape ≡ Closing = sym is ∙ ended_is tag octets after e ended in absurd cc) (item_finds items most depth octets tag shape after reads (omega arith) e is)
 
 -- a tag has an octet at least
 tag_shorter : (octets : List ℕ) (tag : Tag) (after : List ℕ) → found_at tag after ≡ tag_at octets → length after < length octets
@@ -102,7 +100,7 @@ read_finds : (items : ℕ → List ℕ → Option (List ℕ)) (most depth : ℕ)
     → Finds (LeavesRest depth octets) (behind_tag_found items depth octets read)
 read_finds items most depth [] None reads short e = ended_leaves depth [] (ended_nothing [] refl)
 read_finds items most depth (x ∷ xs) None reads short e =
-    λ rest l. stuck_all depth (x ∷ xs) rest (λ ended. let nothing : x ∷ xs ≡ [] = ended_empty (x ∷ xs) e ended in absurd cc) (λ next i. no_tag_all depth (x ∷ xs) next (sym e) i) l
+    λ rest l. stuck_all depth (x ∷ xs) rest (λ ended. let nothing : x ∷ xs ≡ [] = ended_empty (x ∷ xs) e ended in absurd cc) (λ next i. no_tag_all depth (x ∷ xs) next e i) l
 read_finds items most depth octets (Some t) reads short e = tag_finds items most depth octets t.0 t.0.shape t.1 reads short (tag_shorter octets t.0 t.1 e) e refl
 
 pub items_find : (count depth : ℕ) (octets : List ℕ) → length octets < count → Finds (LeavesRest depth octets) (behind_items count depth octets)
@@ -112,15 +110,9 @@ items_find (suc count) depth octets short = read_finds (behind_items count) coun
 
 -- ---- what is found is the one that there is
 
-pub finds_again : (IsRest : List ℕ → Type 0) (read : Option (List ℕ)) (rest : List ℕ) → Finds IsRest read → ((a b : List ℕ) → IsRest a → IsRest b → a ≡ b) → IsRest rest → read ≡ Some rest
+finds_again : (IsRest : List ℕ → Type 0) (read : Option (List ℕ)) (rest : List ℕ) → Finds IsRest read → ((a b : List ℕ) → IsRest a → IsRest b → a ≡ b) → IsRest rest → read ≡ Some rest
 finds_again IsRest None rest finds one is = absurd (finds rest is)
 finds_again IsRest (Some found) rest finds one is = ap Some (one found rest finds is)
-
-pub one_closed : (number : ℕ) (octets a b : List ℕ) → IsClosedBy number octets a → IsClosedBy number octets b → a ≡ b
-one_closed number octets a b c d = (some_pair_parts (closing_tag number) (closing_tag number) a b (sym (closed_again number octets a c) ∙ closed_again number octets b d)).1
-
-pub closing_again : (number : ℕ) (octets rest : List ℕ) → IsClosedBy number octets rest → behind_closing number octets ≡ Some rest
-closing_again number octets rest c = finds_again (IsClosedBy number octets) (behind_closing number octets) rest (closing_finds number octets) (one_closed number octets) c
 
 pub items_again : (depth : ℕ) (octets rest : List ℕ) → LeavesRest depth octets rest → behind_items (suc (length octets)) depth octets ≡ Some rest
 items_again depth octets rest l = finds_again (LeavesRest depth octets) (behind_items (suc (length octets)) depth octets) rest (items_find (suc (length octets)) depth octets (omega arith)) (λ a b. one_left depth octets a b) l
@@ -146,9 +138,8 @@ region_takes number octets region rest e =
     let b = bind_some (behind_closing number a.0) (λ rest. found_at (take (length octets - length a.0) octets) rest) (region, rest) a.2 in
     let parts = some_pair_parts (take (length octets - length a.0) octets) region b.0 rest b.2 in
     let l : LeavesRest 32 octets a.0 = subst (Finds (LeavesRest 32 octets)) a.1 (items_find (suc (length octets)) 32 octets (omega arith)) in
-    let c : IsClosedBy number a.0 b.0 = subst (Finds (IsClosedBy number a.0)) b.1 (closing_finds number a.0) in
-    let long : length octets - length a.0 ≡ length l.front = omega (arith, ap length l.whole, length-append l.front a.0) in
-    let region_is : region ≡ l.front = sym parts.0 ∙ ap (λ (k : ℕ). take k octets) long ∙ ap (take (length l.front)) l.whole ∙ take_at l.front a.0 (length l.front) refl in
+    let c = closed_takes number a.0 b.0 b.1 in
+    let region_is : region ≡ l.front = sym parts.0 ∙ (take_front octets l.front a.0 l.whole).2 in
     let line : octets ≡ (l.front ++ c.closing) ++ rest = l.whole ∙ ap (λ (w : List ℕ). l.front ++ w) (c.whole ∙ ap (λ (w : List ℕ). c.closing ++ w) parts.1) ∙ sym (append_assoc l.front c.closing rest) in
     let here : SpellsClosed number (l.front ++ c.closing) l.front = record { closing = c.closing; whole = refl; items = l.region; closed = c.closed } in
     (l.front ++ c.closing, subst (λ (w : List ℕ). SpellsClosed number (l.front ++ c.closing) w) (sym region_is) here, line)
@@ -158,9 +149,7 @@ unfolding region_at
 region_again_at number octets region closing rest items closed line =
     let c : IsClosedBy number (closing ++ rest) rest = record { closing = closing; closed = closed; whole = refl } in
     let l : LeavesRest 32 octets (closing ++ rest) = record { front = region; region = items; whole = line; ended = inr (number, rest, c) } in
-    let long : length octets - length (closing ++ rest) ≡ length region = omega (arith, ap length line, length-append region (closing ++ rest)) in
-    let region_is : take (length octets - length (closing ++ rest)) octets ≡ region = ap (λ (k : ℕ). take k octets) long ∙ ap (take (length region)) line ∙ take_at region (closing ++ rest) (length region) refl in
-    rw (items_again 32 octets (closing ++ rest) l, closing_again number (closing ++ rest) rest c, region_is) refl
+    rw (items_again 32 octets (closing ++ rest) l, closing_again number (closing ++ rest) rest c, (take_front octets region (closing ++ rest) line).2) refl
 
 pub region_reader : (number : ℕ) → IsReader (SpellsClosed number) (region_at number)
 region_reader number =

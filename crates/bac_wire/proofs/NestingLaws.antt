@@ -40,7 +40,7 @@ opens_within depth count front region tail rest (into {opening} {rest = others} 
 opens_within depth count front region tail rest (into {count = fewer} {opening} {rest = others} number t o) (more {first} {rest = after} j s) ended e =
     let line : first ++ (after ++ tail) ≡ opening ++ (others ++ rest) = sym (append_assoc first after tail) ∙ e ∙ append_assoc opening others rest in
     let item : LeavesBehind depth (first ++ (after ++ tail)) (after ++ tail) = record { front = first; item = j; whole = refl } in
-    let inside = bracket_all depth number (first ++ (after ++ tail)) (others ++ rest) (after ++ tail) (ap tag_at line ∙ opening_read opening (others ++ rest) number t) item in
+    let inside = bracket_all depth (first ++ (after ++ tail)) (opening_tag number) (others ++ rest) (after ++ tail) (sym (ap tag_at line ∙ opening_read opening (others ++ rest) number t)) refl item in
     let within = opens_within inside.below fewer others inside.leaves.front inside.mid rest o inside.leaves.region inside.leaves.ended (sym inside.leaves.whole) in
     omega (arith, inside.deeper)
 

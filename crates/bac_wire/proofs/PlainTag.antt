@@ -1,6 +1,7 @@
 -- The shortest spelling of a tag is a spelling, and none is shorter.
-use Rattle.std.proofs.Common.{◌≡◌, ℕ, suc, ◌+◌, ◌-◌, ◌*◌, ◌^◌, ◌/◌, ◌%◌, ◌<◌, ◌≤◌, min, List, [], ◌∷◌, ◌++◌, length, refl, sym, ap, subst, arith, inl, inr}
-use Rattle.std.proofs.lemmas.Bool.{cases_lt, lt-ltb, le-ltb}
+use Rattle.std.proofs.Common.{◌≡◌, ℕ, suc, ◌+◌, ◌-◌, ◌*◌, ◌^◌, ◌/◌, ◌%◌, ◌<◌, ◌≤◌, min, cond, ltb, List, [], ◌∷◌, ◌++◌, length, refl, sym, ap, subst, arith}
+use Rattle.std.proofs.lemmas.Bool.{cond_both, ltb-true, ltb-false}
+use Rattle.std.proofs.lemmas.Grind.{common_steps}
 use Rattle.std.proofs.lemmas.List.{length-append}
 use Rattle.byteorder.specs.Numbers.{big_number-reads_back}
 use Rattle.bac_wire.specs.declared.tag.Shape.{Shape}
@@ -9,31 +10,24 @@ use Rattle.bac_wire.specs.declared.tag.Tag.{Tag}
 use Rattle.bac_wire.specs.Front.{AreOctets, IsShortest}
 use Rattle.bac_wire.specs.Tag.{SpellsNumber, SpellsLength, SpellsShape, SpellsTag, IsTag, plain_number, plain_length, low_half, shape_octets, plain_tag}
 
+-- what holds of each branch of a test, where it is taken
+by_test : {A : Type 0} (P : A → Type 0) (m n : ℕ) {x y : A} → (m < n → P x) → (n ≤ m → P y) → P (cond (ltb m n) x y)
+by_test P m n below above = cond_both (ltb m n) _ _ P (λ e. below (ltb-true m n e)) (λ e. above (ltb-false m n e))
+
 plain_number_spells : (n : ℕ) → n < 255 → SpellsNumber (min n 15) (plain_number n) n
-plain_number_spells n fits =
-    elim (cases_lt n 15) [
-      | inl low ↦ rw (lt-ltb n 15 low) (omega arith, omega arith)
-      | inr high ↦ rw (le-ltb n 15 high) (omega arith, omega arith, refl)
-    ]
+plain_number_spells n fits = by_test (λ octets. SpellsNumber (min n 15) octets n) n 15 (λ low. (omega arith, omega arith)) (λ high. (omega arith, omega arith, refl))
 
 plain_length_spells : (n : ℕ) → n < 2 ^ 32 → SpellsLength (min n 5) (plain_length n) n
 plain_length_spells n fits =
-    elim (cases_lt n 5) [
-      | inl low ↦ rw (lt-ltb n 5 low) (omega arith, omega arith)
-      | inr more ↦ elim (cases_lt n 254) [
-        | inl low ↦ rw (le-ltb n 5 more, lt-ltb n 254 low) (omega arith, omega arith, refl)
-        | inr most ↦ elim (cases_lt n 65536) [
-          | inl low ↦ rw (le-ltb n 5 more, le-ltb n 254 most, lt-ltb n 65536 low) (omega arith, refl, sym (big_number-reads_back 2 n [] low))
-          | inr all ↦ rw (le-ltb n 5 more, le-ltb n 254 most, le-ltb n 65536 all) (omega arith, refl, sym (big_number-reads_back 4 n [] fits))
-        ]
-      ]
-    ]
+    let Spelled : List ℕ → Type 0 = λ octets. SpellsLength (min n 5) octets n in
+    by_test Spelled n 5 (λ few. (omega arith, omega arith)) (λ more.
+    by_test Spelled n 254 (λ one. (omega arith, omega arith, refl)) (λ most.
+    by_test Spelled n 65536 (λ two. (omega arith, refl, sym (big_number-reads_back 2 n [] two))) (λ four.
+    (omega arith, refl, sym (big_number-reads_back 4 n [] fits)))))
 
 low_half_below : (shape : Shape) → low_half shape < 16
 low_half_below (App n) = omega arith
-low_half_below (Context n) = omega arith
-low_half_below Opening = omega arith
-low_half_below Closing = omega arith
+low_half_below _ = omega arith
 
 shape_octets_spell : (shape : Shape) (tag : Tag) → tag.shape ≡ shape → IsTag tag → SpellsShape (low_half shape) (shape_octets shape) shape
 shape_octets_spell (App n) tag e fits = let limit : n < 2 ^ 32 = rw e at fits.count in plain_length_spells n limit
@@ -63,51 +57,18 @@ plain_tag_spells tag fits =
 -- ---- no spelling is shorter
 
 number_least : (high : ℕ) (octets : List ℕ) (n : ℕ) → SpellsNumber high octets n → length (plain_number n) ≤ length octets
-number_least high [] n s = let small : n < 15 = omega arith in rw (lt-ltb n 15 small) (omega arith)
-number_least high (octet ∷ []) n s = elim (cases_lt n 15) [ inl low ↦ rw (lt-ltb n 15 low) (omega arith) | inr more ↦ rw (le-ltb n 15 more) (omega arith) ]
-number_least high (_ ∷ _ ∷ _) n s = absurd s
-
-pub plain_length_most : (n : ℕ) → length (plain_length n) ≤ 5
-plain_length_most n =
-    elim (cases_lt n 5) [
-      | inl low ↦ rw (lt-ltb n 5 low) (omega arith)
-      | inr more ↦ elim (cases_lt n 254) [
-        | inl low ↦ rw (le-ltb n 5 more, lt-ltb n 254 low) (omega arith)
-        | inr most ↦ elim (cases_lt n 65536) [
-          | inl low ↦ rw (le-ltb n 5 more, le-ltb n 254 most, lt-ltb n 65536 low) (omega arith)
-          | inr all ↦ rw (le-ltb n 5 more, le-ltb n 254 most, le-ltb n 65536 all) (omega arith)
-        ]
-      ]
-    ]
-
-pub plain_length_below : (n : ℕ) → n < 65536 → length (plain_length n) ≤ 3
-plain_length_below n small =
-    elim (cases_lt n 5) [
-      | inl low ↦ rw (lt-ltb n 5 low) (omega arith)
-      | inr more ↦ elim (cases_lt n 254) [
-        | inl low ↦ rw (le-ltb n 5 more, lt-ltb n 254 low) (omega arith)
-        | inr most ↦ rw (le-ltb n 5 more, le-ltb n 254 most, lt-ltb n 65536 small) (omega arith)
-      ]
-    ]
+number_least high [] n s = grind (arith, common_steps)
+number_least high _ n s = grind (arith, common_steps)
 
 length_least : (low : ℕ) (octets : List ℕ) (n : ℕ) → AreOctets octets → SpellsLength low octets n → length (plain_length n) ≤ length octets
-length_least low [] n fit s = let small : n < 5 = omega arith in rw (lt-ltb n 5 small) (omega arith)
-length_least low (a ∷ []) n fit s =
-    elim (cases_lt n 5) [
-      | inl below ↦ rw (lt-ltb n 5 below) (omega arith)
-      | inr more ↦ let small : n < 254 = omega arith in rw (le-ltb n 5 more, lt-ltb n 254 small) (omega arith)
-    ]
-length_least low (_ ∷ _ ∷ []) n fit s = absurd s
-length_least low (a ∷ b ∷ c ∷ []) n fit s = plain_length_below n (let first = fit 1 in let second = fit 2 in omega arith)
-length_least low (_ ∷ _ ∷ _ ∷ _ ∷ []) n fit s = absurd s
-length_least low (a ∷ b ∷ c ∷ d ∷ e ∷ []) n fit s = plain_length_most n
-length_least low (_ ∷ _ ∷ _ ∷ _ ∷ _ ∷ _ ∷ _) n fit s = absurd s
+length_least low (a ∷ b ∷ c ∷ []) n fit s = let first = fit 1 in let second = fit 2 in grind (arith, common_steps)
+length_least low (a ∷ b ∷ c ∷ d ∷ e ∷ []) n fit s = grind (arith, common_steps)
+length_least low _ n fit s = grind (arith, common_steps)
 
 shape_least : (low : ℕ) (octets : List ℕ) (shape : Shape) → AreOctets octets → SpellsShape low octets shape → length (shape_octets shape) ≤ length octets
 shape_least low octets (App n) fit s = length_least low octets n fit s
 shape_least low octets (Context n) fit s = length_least (low - 8) octets n fit s.1
-shape_least low octets Opening fit s = omega arith
-shape_least low octets Closing fit s = omega arith
+shape_least low octets _ fit s = omega arith
 
 pub behind : (front rest : List ℕ) → AreOctets (front ++ rest) → AreOctets rest
 behind [] rest fit = fit

@@ -1,5 +1,5 @@
 -- A reader on lists that takes what is spelled, and finds again what is spelled.
-use Rattle.std.proofs.Common.{Bool, true, false, cond, inl, inr, ◌≡◌, ℕ, ◌+◌, ◌-◌, ◌≤◌, List, ◌++◌, length, take, Option, Some, None, refl, sym, ap, subst, ◌∙◌, arith, length-append}
+use Rattle.std.proofs.Common.{Bool, true, false, cond, inl, inr, ◌≡◌, ℕ, ◌-◌, ◌≤◌, List, ◌++◌, length, take, Option, Some, None, refl, sym, ap, ◌∙◌, arith, length-append}
 use Rattle.std.specs.Prelude.{◌⊎◌}
 use Rattle.std.proofs.lemmas.List.{take_at, append_cancel_right}
 use Rattle.std.proofs.lemmas.Option.{some_pair_parts}
@@ -20,15 +20,26 @@ reader_of Spells at takes again = record {
 abbrev pub found_at : {A : Type 0} → A → List ℕ → Option (A × List ℕ)
 found_at x rest = Some (x, rest)
 
-take_front : (octets front rest : List ℕ) → octets ≡ front ++ rest → (length rest ≤ length octets) × (length octets - length rest ≡ length front) × (take (length front) octets ≡ front)
+-- a front, by the length of what stands behind it
+pub take_front : (octets front rest : List ℕ) → octets ≡ front ++ rest → (length rest ≤ length octets) × (length octets - length rest ≡ length front) × (take (length octets - length rest) octets ≡ front)
 take_front octets front rest e =
-    let long : length octets ≡ length front + length rest = ap length e ∙ length-append front rest in
-    (omega arith, omega arith, rw e (take_at front rest (length front) refl))
+    let long : length octets - length rest ≡ length front = omega (arith, ap length e, length-append front rest) in
+    (omega (arith, ap length e, length-append front rest), long, ap (λ (k : ℕ). take k octets) long ∙ rw e (take_at front rest (length front) refl))
 
 -- the branch that a test took
 pub chosen : {A : Type 0} (b : Bool) (x y z : A) → cond b x y ≡ z → ((b ≡ true) × (x ≡ z)) ⊎ ((b ≡ false) × (y ≡ z))
 chosen true x y z e = inl (refl, e)
 chosen false x y z e = inr (refl, e)
+
+-- what was found where a test had to hold
+pub only_if : {A : Type 0} (b : Bool) {x : Option A} {y : A} → cond b x None ≡ Some y → (b ≡ true) × (x ≡ Some y)
+only_if true e = (refl, e)
+only_if false e = absurd cc
+
+-- what was found where a test had to fail
+pub unless : {A : Type 0} (b : Bool) {x : Option A} {y : A} → cond b None x ≡ Some y → (b ≡ false) × (x ≡ Some y)
+unless true e = absurd cc
+unless false e = (refl, e)
 
 -- no spelling begins another
 pub one_front : {A : Type 0} (Spells : List ℕ → A → Type 0) (at : List ℕ → Option (A × List ℕ)) → IsReader Spells at
@@ -45,7 +56,7 @@ pub found_front : {A : Type 0} (Spells : List ℕ → A → Type 0) (at : List �
 found_front {A} Spells at reader octets x rest e =
     let taken = reader.takes octets x rest (sym e) in
     let here = take_front octets taken.front rest taken.whole in
-    let spelled : Spells (take (length octets - length rest) octets) x = subst (λ (w : List ℕ). Spells w x) (sym (ap (λ (k : ℕ). take k octets) here.1 ∙ here.2)) taken.spelled in
+    let spelled : Spells (take (length octets - length rest) octets) x = rw here.2 taken.spelled in
     let all : (other after : List ℕ) (y : A) → Spells other y → octets ≡ other ++ after → ◌≡◌ {A = Option (A × ℕ)} (Some (x, length octets - length rest)) (Some (y, length other)) = λ other after y t parts.
     let both = some_pair_parts x y rest after (e ∙ ap at parts ∙ reader.again other y after t) in
     let there = take_front octets other after parts in

@@ -5,15 +5,17 @@ use Rattle.std.proofs.lemmas.Option.{none-some}
 use Rattle.bac_wire.specs.Front.{FindsFront}
 use Rattle.bac_wire.proofs.Readers.{IsReader, found_at}
 
-none_is : {A : Type 0} (Spells : List ℕ → A → Type 0) (at : List ℕ → Option (A × List ℕ)) → IsReader Spells at → (octets : List ℕ) (read : Option (A × List ℕ)) → at octets ≡ read → FindsFront Spells octets None → None ≡ read
-none_is Spells at reader octets None e finds = refl
-none_is Spells at reader octets (Some y) e finds =
-    let taken = reader.takes octets y.0 y.1 e in
-    absurd (none-some (y.0, length taken.front) (finds.all taken.front y.1 y.0 taken.spelled taken.whole))
+none_where : {A : Type 0} (Spells : List ℕ → A → Type 0) (at : List ℕ → Option (A × List ℕ)) → IsReader Spells at → (octets : List ℕ) (read : Option (A × List ℕ)) → at octets ≡ read → ((front rest : List ℕ) (x : A) → Spells front x → octets ≡ front ++ rest → ⊥) → None ≡ read
+none_where Spells at reader octets None e nothing = refl
+none_where Spells at reader octets (Some y) e nothing = let taken = reader.takes octets y.0 y.1 e in absurd (nothing taken.front y.1 y.0 taken.spelled taken.whole)
+
+-- where nothing stands at the front nothing is read
+pub nothing_read : {A : Type 0} (Spells : List ℕ → A → Type 0) (at : List ℕ → Option (A × List ℕ)) → IsReader Spells at → (octets : List ℕ) → ((front rest : List ℕ) (x : A) → Spells front x → octets ≡ front ++ rest → ⊥) → None ≡ at octets
+nothing_read Spells at reader octets nothing = none_where Spells at reader octets (at octets) refl nothing
 
 -- where nothing was found nothing is read
 pub none_read : {A : Type 0} (Spells : List ℕ → A → Type 0) (at : List ℕ → Option (A × List ℕ)) → IsReader Spells at → (octets : List ℕ) → FindsFront Spells octets None → None ≡ at octets
-none_read Spells at reader octets finds = none_is Spells at reader octets (at octets) refl finds
+none_read Spells at reader octets finds = nothing_read Spells at reader octets (λ front rest x s e. none-some (x, length front) (finds.all front rest x s e))
 
 -- what was found is read, and the octets behind it are left
 pub found_read : {A : Type 0} (Spells : List ℕ → A → Type 0) (at : List ℕ → Option (A × List ℕ)) → IsReader Spells at → (octets : List ℕ) (x : A) (size : ℕ) → FindsFront Spells octets (Some (x, size)) → found_at x (drop size octets) ≡ at octets
@@ -23,11 +25,3 @@ found_read Spells at reader octets x size finds =
 -- a range that goes to the end
 pub to_end : (octets : List ℕ) (size : ℕ) → take (length octets - size) (drop size octets) ≡ drop size octets
 to_end octets size = take_all (length octets - size) (drop size octets) (omega (arith, length-drop size octets))
-
-none_where : {A : Type 0} (Spells : List ℕ → A → Type 0) (at : List ℕ → Option (A × List ℕ)) → IsReader Spells at → (octets : List ℕ) (read : Option (A × List ℕ)) → at octets ≡ read → ((front rest : List ℕ) (x : A) → Spells front x → octets ≡ front ++ rest → ⊥) → None ≡ read
-none_where Spells at reader octets None e nothing = refl
-none_where Spells at reader octets (Some y) e nothing = let taken = reader.takes octets y.0 y.1 e in absurd (nothing taken.front y.1 y.0 taken.spelled taken.whole)
-
--- where nothing stands at the front nothing is read
-pub nothing_read : {A : Type 0} (Spells : List ℕ → A → Type 0) (at : List ℕ → Option (A × List ℕ)) → IsReader Spells at → (octets : List ℕ) → ((front rest : List ℕ) (x : A) → Spells front x → octets ≡ front ++ rest → ⊥) → None ≡ at octets
-nothing_read Spells at reader octets nothing = none_where Spells at reader octets (at octets) refl nothing

@@ -5,7 +5,7 @@ use Rattle.bac_wire.specs.declared.tag.Shape.{Shape}
 use Rattle.bac_wire.specs.declared.tag.Shape.TheVariants.{App, Context, Opening, Closing}
 use Rattle.bac_wire.specs.declared.tag.Tag.{Tag}
 use Rattle.bac_wire.specs.Tag.{SpellsTag}
-use Rattle.bac_wire.specs.Region.{opening_tag, closing_tag, Counts, IsPrimitive, IsSequence, none, more, IsBracketed, IsItem}
+use Rattle.bac_wire.specs.Region.{opening_tag, closing_tag, Counts, IsPrimitive, IsSequence, none, more, IsItem, IsRegion}
 use Rattle.bac_wire.proofs.TagLaws.{one_tag}
 
 -- a front of a front
@@ -15,55 +15,70 @@ regrouped a b c w e = ap (λ (x : List ℕ). x ++ w) e ∙ append_assoc b c w
 same_length_front : (a b u v : List ℕ) → length a ≡ length b → a ++ u ≡ b ++ v → a ≡ b
 same_length_front a b u v len e = sym (take_at a u (length a) refl) ∙ ap (take (length a)) e ∙ take_at b v (length a) (sym len)
 
-pub one_count : (number : ℕ) (shape : Shape) (m n : ℕ) → Counts number shape m → Counts number shape n → m ≡ n
-one_count number (App k) m n p q = p ∙ sym q
-one_count number (Context k) m n p q = p ∙ sym q
-one_count number Opening m n p q = absurd p
-one_count number Closing m n p q = absurd p
+-- ---- an item as its tag and what stands behind it
 
-one_primitive : (a b u v : List ℕ) → IsPrimitive a → IsPrimitive b → a ++ u ≡ b ++ v → a ≡ b
-one_primitive a b u v p q e =
-    let line : p.spelling ++ (p.contents ++ u) ≡ q.spelling ++ (q.contents ++ v) = sym (regrouped a p.spelling p.contents u p.whole) ∙ e ∙ regrouped b q.spelling q.contents v q.whole in
-    let tags = one_tag p.spelling q.spelling (p.contents ++ u) (q.contents ++ v) p.tag q.tag p.tagged q.tagged line in
-    let counted : Counts p.tag.number p.tag.shape (length q.contents) = subst (λ (t : Tag). Counts t.number t.shape (length q.contents)) (sym tags.1) q.counted in
-    let lengths : length p.contents ≡ length q.contents = one_count p.tag.number p.tag.shape (length p.contents) (length q.contents) p.counted counted in
-    let rest : p.contents ++ u ≡ q.contents ++ v = append_cancel_left p.spelling (p.contents ++ u) (q.contents ++ v) (line ∙ ap (λ (s : List ℕ). s ++ (q.contents ++ v)) (sym tags.0)) in
-    let contents : p.contents ≡ q.contents = same_length_front p.contents q.contents u v lengths rest in
-    p.whole ∙ ap (λ (s : List ℕ). s ++ p.contents) tags.0 ∙ ap (λ (s : List ℕ). q.spelling ++ s) contents ∙ sym q.whole
+-- the items between two brackets, and the closing one
+pub record IsInside (depth number : ℕ) (octets : List ℕ) : Type 0 where
+  pub items : List ℕ
+  pub closing : List ℕ
+  pub whole : octets ≡ items ++ closing
+  pub region : IsRegion depth items
+  pub closed : SpellsTag closing (closing_tag number)
 
--- a primitive item does not begin with a bracket
-no_bracket : (a u b v : List ℕ) (tag : Tag) → IsPrimitive a → SpellsTag b tag → ((n : ℕ) → Counts tag.number tag.shape n → ⊥) → a ++ u ≡ b ++ v → ⊥
-no_bracket a u b v tag p s bracket e =
-    let line : p.spelling ++ (p.contents ++ u) ≡ b ++ v = sym (regrouped a p.spelling p.contents u p.whole) ∙ e in
-    let tags = one_tag p.spelling b (p.contents ++ u) v p.tag tag p.tagged s line in
-    bracket (length p.contents) (subst (λ (t : Tag). Counts t.number t.shape (length p.contents)) tags.1 p.counted)
+-- what stands behind the tag of an item, by the tag's shape
+abbrev pub Holds : ℕ → ℕ → Shape → List ℕ → Type 0
+Holds depth number (App n) octets = Counts number (App n) (length octets)
+Holds depth number (Context n) octets = Counts number (Context n) (length octets)
+Holds zero number Opening octets = ⊥
+Holds (suc depth) number Opening octets = IsInside depth number octets
+Holds depth number Closing octets = ⊥
 
-pub bracket_line : (Part : List ℕ → Type 0) (a u : List ℕ) (p : IsBracketed Part a) → a ++ u ≡ p.opening ++ (p.inside ++ (p.closing ++ u))
-bracket_line Part a u p = regrouped a p.opening (p.inside ++ p.closing) u p.whole ∙ ap (λ (s : List ℕ). p.opening ++ s) (append_assoc p.inside p.closing u)
+pub record IsTagged (depth : ℕ) (item : List ℕ) : Type 0 where
+  pub tag : Tag
+  pub spelling : List ℕ
+  pub others : List ℕ
+  pub whole : item ≡ spelling ++ others
+  pub tagged : SpellsTag spelling tag
+  pub held : Holds depth tag.number tag.shape others
 
-opening_no_closing : (m n : ℕ) → opening_tag m ≡ closing_tag n → ⊥
-opening_no_closing m n e = let shapes : ◌≡◌ {A = Shape} Opening Closing = ap (λ (t : Tag). t.shape) e in absurd cc
+pub counted_holds : (depth number : ℕ) (shape : Shape) (octets : List ℕ) → Counts number shape (length octets) → Holds depth number shape octets
+counted_holds depth number (App n) octets counted = counted
+counted_holds depth number (Context n) octets counted = counted
+counted_holds depth number _ octets counted = absurd counted
 
-bracket_opens : (Part : List ℕ → Type 0) (a u c v : List ℕ) (number : ℕ) → IsBracketed Part a → SpellsTag c (closing_tag number) → a ++ u ≡ c ++ v → ⊥
-bracket_opens Part a u c v number p s e =
-    let line = sym (bracket_line Part a u p) ∙ e in
-    let tags = one_tag p.opening c (p.inside ++ (p.closing ++ u)) v (opening_tag p.number) (closing_tag number) p.opened s line in
-    opening_no_closing p.number number tags.1
+primitive_tagged : (depth : ℕ) (item : List ℕ) → IsPrimitive item → IsTagged depth item
+primitive_tagged depth item p = record { tag = p.tag; spelling = p.spelling; others = p.contents; whole = p.whole; tagged = p.tagged; held = counted_holds depth p.tag.number p.tag.shape p.contents p.counted }
 
-primitive_opens : (a u c v : List ℕ) (number : ℕ) → IsPrimitive a → SpellsTag c (closing_tag number) → a ++ u ≡ c ++ v → ⊥
-primitive_opens a u c v number p s e = no_bracket a u c v (closing_tag number) p s (λ n h. h) e
+pub item_tagged : (depth : ℕ) (item : List ℕ) → IsItem depth item → IsTagged depth item
+item_tagged zero item i = primitive_tagged zero item i
+item_tagged (suc depth) item i = elim i [
+  | inl p ↦ primitive_tagged (suc depth) item p
+  | inr p ↦
+      let inside : IsInside depth p.number (p.inside ++ p.closing) = record { items = p.inside; closing = p.closing; whole = refl; region = p.parts; closed = p.closed } in
+      record { tag = opening_tag p.number; spelling = p.opening; others = p.inside ++ p.closing; whole = p.whole; tagged = p.opened; held = inside }
+]
+
+primitive_item : (depth : ℕ) (item : List ℕ) → IsPrimitive item → IsItem depth item
+primitive_item zero item p = p
+primitive_item (suc depth) item p = inl p
+
+pub tagged_item : (depth number : ℕ) (shape : Shape) (spelling others : List ℕ) → SpellsTag spelling (record { number = number; shape = shape }) → Holds depth number shape others → IsItem depth (spelling ++ others)
+tagged_item depth number (App n) spelling others s h = primitive_item depth (spelling ++ others) (record { tag = record { number = number; shape = App n }; spelling = spelling; contents = others; whole = refl; tagged = s; counted = h })
+tagged_item depth number (Context n) spelling others s h = primitive_item depth (spelling ++ others) (record { tag = record { number = number; shape = Context n }; spelling = spelling; contents = others; whole = refl; tagged = s; counted = h })
+tagged_item (suc depth) number Opening spelling others s h = inr (record { number = number; opening = spelling; inside = h.items; closing = h.closing; whole = ap (λ (w : List ℕ). spelling ++ w) h.whole; opened = s; parts = h.region; closed = h.closed })
+tagged_item _ number _ spelling others s h = absurd h
+
+-- ---- what begins with an item
 
 -- no item begins with a closing tag
 pub item_opens : (depth : ℕ) (a u c v : List ℕ) (number : ℕ) → IsItem depth a → SpellsTag c (closing_tag number) → a ++ u ≡ c ++ v → ⊥
-item_opens zero a u c v number i s e = primitive_opens a u c v number i s e
-item_opens (suc depth) a u c v number i s e =
-    elim i [
-      | inl p ↦ primitive_opens a u c v number p s e
-      | inr p ↦ bracket_opens (IsItem depth) a u c v number p s e
-    ]
+item_opens depth a u c v number i s e =
+    let t = item_tagged depth a i in
+    let tags = one_tag t.spelling c (t.others ++ u) v t.tag (closing_tag number) t.tagged s (sym (regrouped a t.spelling t.others u t.whole) ∙ e) in
+    subst (λ (k : Tag). Holds depth k.number k.shape t.others) tags.1 t.held
 
 -- what two parts at the front of one list are to be
-abbrev OnePart : (List ℕ → Type 0) → (List ℕ → Type 0) → Type 0
+abbrev pub OnePart : (List ℕ → Type 0) → (List ℕ → Type 0) → Type 0
 OnePart P Q = (a b u v : List ℕ) → P a → Q b → a ++ u ≡ b ++ v → a ≡ b
 
 abbrev Opens : (List ℕ → Type 0) → Type 0
@@ -84,40 +99,31 @@ one_sequence P Q one opens_p opens_q a b c d u v m n (more {first} {rest} p s) (
     let tail = one_sequence P Q one opens_p opens_q rest after c d u v m n s t sc sd next in
     ap (λ (x : List ℕ). x ++ rest) same ∙ ap (λ (x : List ℕ). other ++ x) tail
 
-one_bracketed : (P Q : List ℕ → Type 0) → OnePart P Q → Opens P → Opens Q → OnePart (IsBracketed P) (IsBracketed Q)
-one_bracketed P Q one opens_p opens_q a b u v p q e =
-    let line = sym (bracket_line P a u p) ∙ e ∙ bracket_line Q b v q in
-    let tags = one_tag p.opening q.opening (p.inside ++ (p.closing ++ u)) (q.inside ++ (q.closing ++ v)) (opening_tag p.number) (opening_tag q.number) p.opened q.opened line in
-    let next = append_cancel_left p.opening (p.inside ++ (p.closing ++ u)) (q.inside ++ (q.closing ++ v)) (line ∙ ap (λ (x : List ℕ). x ++ (q.inside ++ (q.closing ++ v))) (sym tags.0)) in
-    let insides = one_sequence P Q one opens_p opens_q p.inside q.inside p.closing q.closing u v p.number q.number p.parts q.parts p.closed q.closed next in
-    let last = append_cancel_left p.inside (p.closing ++ u) (q.closing ++ v) (next ∙ ap (λ (x : List ℕ). x ++ (q.closing ++ v)) (sym insides)) in
-    let closings = one_tag p.closing q.closing u v (closing_tag p.number) (closing_tag q.number) p.closed q.closed last in
-    p.whole ∙ ap (λ (x : List ℕ). x ++ (p.inside ++ p.closing)) tags.0 ∙ ap (λ (x : List ℕ). q.opening ++ (x ++ p.closing)) insides ∙ ap (λ (x : List ℕ). q.opening ++ (q.inside ++ x)) closings.0 ∙ sym q.whole
+-- of two items at the front of one list the tags are the same, and so are the items where what stands behind the tags is
+tagged_one : (depth other : ℕ) → ((number : ℕ) (shape : Shape) → OnePart (Holds depth number shape) (Holds other number shape)) → OnePart (IsItem depth) (IsItem other)
+tagged_one depth other one a b u v i j e =
+    let s = item_tagged depth a i in
+    let t = item_tagged other b j in
+    let line = sym (regrouped a s.spelling s.others u s.whole) ∙ e ∙ regrouped b t.spelling t.others v t.whole in
+    let tags = one_tag s.spelling t.spelling (s.others ++ u) (t.others ++ v) s.tag t.tag s.tagged t.tagged line in
+    let held : Holds other s.tag.number s.tag.shape t.others = subst (λ (k : Tag). Holds other k.number k.shape t.others) (sym tags.1) t.held in
+    let next = append_cancel_left s.spelling (s.others ++ u) (t.others ++ v) (line ∙ ap (λ (x : List ℕ). x ++ (t.others ++ v)) (sym tags.0)) in
+    let others = one s.tag.number s.tag.shape s.others t.others u v s.held held next in
+    s.whole ∙ ap (λ (x : List ℕ). x ++ s.others) tags.0 ∙ ap (λ (x : List ℕ). t.spelling ++ x) others ∙ sym t.whole
 
-primitive_bracketed : (P : List ℕ → Type 0) (a b u v : List ℕ) → IsPrimitive a → IsBracketed P b → a ++ u ≡ b ++ v → ⊥
-primitive_bracketed P a b u v p q e = no_bracket a u q.opening (q.inside ++ (q.closing ++ v)) (opening_tag q.number) p q.opened (λ n h. h) (e ∙ bracket_line P b v q)
+held_one : (depth other number : ℕ) (shape : Shape) → OnePart (Holds depth number shape) (Holds other number shape)
+held_one depth other number (App n) a b u v h k e = same_length_front a b u v (h ∙ sym k) e
+held_one depth other number (Context n) a b u v h k e = same_length_front a b u v (h ∙ sym k) e
+held_one (suc depth) (suc other) number Opening a b u v h k e =
+    let line : h.items ++ (h.closing ++ u) ≡ k.items ++ (k.closing ++ v) = sym (regrouped a h.items h.closing u h.whole) ∙ e ∙ regrouped b k.items k.closing v k.whole in
+    let one = tagged_one depth other (λ n s x y w z p q f. held_one depth other n s x y w z p q f) in
+    let items = one_sequence (IsItem depth) (IsItem other) one (item_opens depth) (item_opens other) h.items k.items h.closing k.closing u v number number h.region k.region h.closed k.closed line in
+    let last = append_cancel_left h.items (h.closing ++ u) (k.closing ++ v) (line ∙ ap (λ (x : List ℕ). x ++ (k.closing ++ v)) (sym items)) in
+    let closings = one_tag h.closing k.closing u v (closing_tag number) (closing_tag number) h.closed k.closed last in
+    h.whole ∙ ap (λ (x : List ℕ). x ++ h.closing) items ∙ ap (λ (x : List ℕ). k.items ++ x) closings.0 ∙ sym k.whole
+held_one (suc depth) zero number Opening a b u v h k e = absurd k
+held_one _ _ number _ a b u v h k e = absurd h
 
 -- no item begins another, whatever depth is allowed to either
-pub one_item : (depth other : ℕ) (a b u v : List ℕ) → IsItem depth a → IsItem other b → a ++ u ≡ b ++ v → a ≡ b
-one_item zero zero a b u v i j e = one_primitive a b u v i j e
-one_item zero (suc other) a b u v i j e =
-    elim j [
-      | inl q ↦ one_primitive a b u v i q e
-      | inr q ↦ absurd (primitive_bracketed (IsItem other) a b u v i q e)
-    ]
-one_item (suc depth) zero a b u v i j e =
-    elim i [
-      | inl p ↦ one_primitive a b u v p j e
-      | inr p ↦ absurd (primitive_bracketed (IsItem depth) b a v u j p (sym e))
-    ]
-one_item (suc depth) (suc other) a b u v i j e =
-    elim i [
-      | inl p ↦ elim j [
-        | inl q ↦ one_primitive a b u v p q e
-        | inr q ↦ absurd (primitive_bracketed (IsItem other) a b u v p q e)
-      ]
-      | inr p ↦ elim j [
-        | inl q ↦ absurd (primitive_bracketed (IsItem depth) b a v u q p (sym e))
-        | inr q ↦ one_bracketed (IsItem depth) (IsItem other) (λ x y s t. one_item depth other x y s t) (item_opens depth) (item_opens other) a b u v p q e
-      ]
-    ]
+pub one_item : (depth other : ℕ) → OnePart (IsItem depth) (IsItem other)
+one_item depth other = tagged_one depth other (held_one depth other)

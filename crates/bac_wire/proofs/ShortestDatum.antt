@@ -1,7 +1,8 @@
 -- No spelling of a value has fewer octets than the plain one.
 use Rattle.std.proofs.Common.{◌≡◌, ℕ, ℤ, pos, negsuc, zero, suc, ◌+◌, ◌-◌, ◌*◌, ◌^◌, ◌<◌, ◌≤◌, List, [], ◌∷◌, ◌++◌, length, sym, ap, subst, ◌∙◌, arith, inl, inr}
-use Rattle.std.specs.Prelude.{◌-ℤ◌, slice_index}
-use Rattle.std.proofs.Math.Nat.{pow-le-pow_right, pow-succ'}
+use Rattle.std.specs.Prelude.{◌-ℤ◌}
+use Rattle.std.proofs.Math.Nat.{pow-succ'}
+use Rattle.std.proofs.lemmas.Grind.{common_steps}
 use Rattle.std.proofs.lemmas.Int.{ints}
 use Rattle.std.proofs.lemmas.Bool.{cases_lt, lt-ltb, le-ltb}
 use Rattle.std.proofs.lemmas.List.{length-append}
@@ -12,29 +13,15 @@ use Rattle.std.specs.Int.{w64}
 use Rattle.bac_wire.specs.declared.tag.Shape.TheVariants.{App}
 use Rattle.bac_wire.specs.Front.{AreOctets, IsShortest}
 use Rattle.bac_wire.specs.Tag.{plain_number, plain_length, plain_tag}
-use Rattle.bac_wire.specs.Datum.{Datum, null, boolean, unsigned, signed, real, double, octet_string, char_string, bit_string, enumerated, date, time, object, tag_number, StandsFor, shape_number, tag_before, Spells, octet_count, signed_count, plain_contents, plain, InRange, IsDatum}
-use Rattle.bac_wire.proofs.PlainTag.{plain_length_most, plain_length_below, tag_least, behind}
-use Rattle.bac_wire.proofs.PlainDatum.{octet_count_cases, plain_spells}
+use Rattle.bac_wire.specs.Datum.{Datum, boolean, unsigned, signed, enumerated, tag_number, StandsFor, shape_number, tag_before, Spells, octet_count, signed_count, plain_contents, plain, InRange, IsDatum}
+use Rattle.bac_wire.proofs.PlainTag.{tag_least, behind}
+use Rattle.bac_wire.proofs.PlainDatum.{count_high, plain_spells}
 
 -- ---- the fewest octets of a number
 
-more_octets : (i k n : ℕ) → 256 ^ i ≤ n → n < 256 ^ k → i < k
-more_octets i k n low high =
-    elim (cases_lt i k) [
-      | inl less ↦ less
-      | inr most ↦ let grows : 256 ^ k ≤ 256 ^ i = pow-le-pow_right (omega arith) most in absurd (omega arith)
-    ]
-
 pub octet_count_least : (k n : ℕ) → 1 ≤ k → n < 256 ^ k → octet_count n ≤ k
-octet_count_least k n low fits = octet_count_cases (λ j. j ≤ k) n
-    (λ h. low)
-    (λ l h. more_octets 1 k n l fits)
-    (λ l h. more_octets 2 k n l fits)
-    (λ l h. more_octets 3 k n l fits)
-    (λ l h. more_octets 4 k n l fits)
-    (λ l h. more_octets 5 k n l fits)
-    (λ l h. more_octets 6 k n l fits)
-    (λ l. more_octets 7 k n l fits)
+octet_count_least (suc (suc (suc (suc (suc (suc (suc (suc zero)))))))) n low fits = count_high n
+octet_count_least k n low fits = grind (arith, common_steps, count_high)
 
 -- a bit less, doubled
 half_octets : (k : ℕ) → 1 ≤ k → 2 * 2 ^ (8 * k - 1) ≡ 256 ^ k
@@ -72,70 +59,30 @@ signed_least : (contents : List ℕ) (z : ℤ) → AreOctets contents → 1 ≤ 
 signed_least contents z fit low e =
     rw (length-bytes_high_first (signed_count z) (low_bytes w64 (signed_count z) z)) (signed_count_least (length contents) (big_number (length contents) contents) z low (number_within contents fit) e)
 
-same_least : (contents x : List ℕ) → contents ≡ x → length x ≤ length contents
-same_least contents x e = rw e (omega arith)
-
 contents_least : (contents : List ℕ) (value : Datum) → AreOctets contents → StandsFor contents value → length (plain_contents value) ≤ length contents
-contents_least contents null fit h = omega arith
-contents_least contents (boolean b) fit h = omega arith
 contents_least contents (unsigned n) fit h = unsigned_least contents n fit h.0 h.2
 contents_least contents (signed z) fit h = signed_least contents z fit h.0 h.2
-contents_least contents (real r) fit h = same_least contents r h.1
-contents_least contents (double d) fit h = same_least contents d h.1
-contents_least contents (octet_string x) fit h = same_least contents x h
-contents_least contents (char_string set x) fit h = same_least contents (set ∷ x) h
-contents_least contents (bit_string unused x) fit h = same_least contents (unused ∷ x) h.0
 contents_least contents (enumerated n) fit h = unsigned_least contents n fit h.0 h.2
-contents_least contents (date d) fit h = same_least contents d h.1
-contents_least contents (time t) fit h = same_least contents t h.1
-contents_least contents (object id) fit h = let four = h.0 in omega arith
+contents_least contents _ fit h = grind (arith, common_steps)
 
 -- ---- the tag before them
 
 plain_length_grows : (m n : ℕ) → m ≤ n → length (plain_length m) ≤ length (plain_length n)
-plain_length_grows m n le =
-    elim (cases_lt n 5) [
-      | inl low ↦ let below : m < 5 = omega arith in rw (lt-ltb n 5 low, lt-ltb m 5 below) (omega arith)
-      | inr more ↦ elim (cases_lt n 254) [
-        | inl low ↦ elim (cases_lt m 5) [
-          | inl small ↦ rw (lt-ltb m 5 small) (omega arith)
-          | inr big ↦ let below : m < 254 = omega arith in rw (le-ltb n 5 more, lt-ltb n 254 low, le-ltb m 5 big, lt-ltb m 254 below) (omega arith)
-        ]
-        | inr most ↦ elim (cases_lt n 65536) [
-          | inl low ↦ let few = plain_length_below m (omega arith) in rw (le-ltb n 5 more, le-ltb n 254 most, lt-ltb n 65536 low) few
-          | inr all ↦ let few = plain_length_most m in rw (le-ltb n 5 more, le-ltb n 254 most, le-ltb n 65536 all) few
-        ]
-      ]
-    ]
+plain_length_grows m n le = grind (arith, common_steps)
 
 tag_grows : (number m n : ℕ) → m ≤ n → length (plain_tag (record { number = number; shape = App m })) ≤ length (plain_tag (record { number = number; shape = App n }))
 unfolding plain_tag
 tag_grows number m n le = let grows = plain_length_grows m n le in omega (arith, length-append (plain_number number) (plain_length m), length-append (plain_number number) (plain_length n))
 
 shape_number_grows : (value : Datum) (m n : ℕ) → m ≤ n → shape_number value m ≤ shape_number value n
-shape_number_grows null m n le = le
 shape_number_grows (boolean b) m n le = omega arith
-shape_number_grows (unsigned _) m n le = le
-shape_number_grows (signed _) m n le = le
-shape_number_grows (real _) m n le = le
-shape_number_grows (double _) m n le = le
-shape_number_grows (octet_string _) m n le = le
-shape_number_grows (char_string _ _) m n le = le
-shape_number_grows (bit_string _ _) m n le = le
-shape_number_grows (enumerated _) m n le = le
-shape_number_grows (date _) m n le = le
-shape_number_grows (time _) m n le = le
-shape_number_grows (object _) m n le = le
+shape_number_grows _ m n le = le
 
 -- ---- the whole
 
-first_is : (front rest : List ℕ) (i : ℕ) → AreOctets (front ++ rest) → slice_index front i < 256
-first_is [] rest i fit = omega arith
-first_is (x ∷ front) rest zero fit = fit zero
-first_is (x ∷ front) rest (suc i) fit = first_is front rest i (λ j. fit (suc j))
-
 pub ahead : (front rest : List ℕ) → AreOctets (front ++ rest) → AreOctets front
-ahead front rest fit = λ i. first_is front rest i fit
+ahead [] rest fit = λ i. omega arith
+ahead (x ∷ front) rest fit = elim [ zero ↦ fit zero | suc i ↦ ahead front rest (λ j. fit (suc j)) i ]
 
 value_least : (other : List ℕ) (value : Datum) → AreOctets other → Spells other value → length (plain value) ≤ length other
 unfolding plain

@@ -3,7 +3,8 @@ ghost use Rattle.std.specs.Option.{option_map};
 ghost use Rattle.bac_wire.specs.Limits.{deepest, value_tag};
 ghost use Rattle.bac_wire.specs.Front.{Finds};
 ghost use Rattle.bac_wire.specs.TagReading.{tag_at};
-ghost use Rattle.bac_wire.specs.Region.{CountsBehind, IsRegion, FindsRegion, IsClosedBy, LeavesRest, LeavesBehind};
+ghost use Rattle.bac_wire.specs.ItemReading.{behind_closing as closing_at};
+ghost use Rattle.bac_wire.specs.Region.{CountsBehind, IsRegion, FindsRegion, LeavesRest, LeavesBehind};
 
 use crate::tag::{Shape, Tag, tag_and_rest};
 
@@ -76,8 +77,9 @@ fn behind_octets(octets: &[u8], count: u32) -> Option<&[u8]>
 }
 
 /// The octets behind the closing tag of this number.
+#[tactic(auto, unfolding(crate::specs::ItemReading::behind_closing))]
 fn behind_closing(octets: &[u8], number: u8) -> Option<&[u8]>
-    ensures { Finds (IsClosedBy number octets.now) (option_map (λ r. r.now) result) }
+    ensures { option_map (λ r. r.now) result ≡ closing_at number octets.now }
 {
     let (tag, rest) = tag_and_rest(octets)?;
     match tag.shape {

@@ -1,8 +1,8 @@
 -- Words that `clap` takes name one of the five tools, with matches that passed its rules.
-use Rattle.std.proofs.Common.{◌∙◌, ◌≡◌, ◌⊎◌, ◌||◌, Bool, codes, true, false, refl, sym, subst, inl, inr, List, [], ◌∷◌, Some, Result, Ok, Err}
+use Rattle.std.proofs.Common.{◌∙◌, ◌≡◌, ◌⊎◌, Bool, codes, true, false, refl, sym, subst, inl, inr, List, [], ◌∷◌, Some, Result, Ok, Err}
 use Rattle.std.specs.Prelude.{IsSomeAnd, IsErrAnd}
 use Rattle.std.specs.List.{find}
-use Rattle.std.specs.Str.{bytes_eq}
+use Rattle.std.proofs.Math.Bool.{or-false}
 use Rattle.std.proofs.lemmas.Bool.{false≢true}
 use Rattle.std.proofs.lemmas.Slice.Eq.{bytes_eq-Decides}
 use Rattle.clap.specs.Walk.{Text, answers_to, nothing_held}
@@ -41,12 +41,8 @@ Passed s = (name : Text) (words : List Text) → answers_to name (label_of s) �
 -- The name of `clap`'s own subcommand asks for help.
 asks : (name : Text) → answers_to name (codes "help", []) ≡ true → asks_for_help (built bactool) name ≡ true
 asks name answers =
-    let is : codes "help" ≡ name = (bytes_eq-Decides (codes "help") name).0 (or_false (bytes_eq (codes "help") name) answers) in
+    let is : codes "help" ≡ name = (bytes_eq-Decides (codes "help") name).0 (sym (or-false _) ∙ answers) in
     subst (λ (n : Text). asks_for_help (built bactool) n ≡ true) is refl
-  where
-    or_false : (b : Bool) → (b || false) ≡ true → b ≡ true
-    or_false true e = refl
-    or_false false e = e
 
 each_tool : AllOf Passed (built bactool).subs
 each_tool = (

@@ -1,9 +1,9 @@
 -- What the words of a tool ask for, and the first thing that is wrong with them.
-use Rattle.std.specs.Prelude.{◌≡◌, ◌⊎◌, ◌<◌, ℕ, List, [], Option, Some, None, Result, Ok, Err, codes, map, unwrap_or, option_and_then, if◌then◌else◌, ⊤}
+use Rattle.std.specs.Prelude.{◌≡◌, ◌⊎◌, ◌<◌, ◌++◌, ℕ, true, List, [], is_some, Option, Some, None, Result, Ok, Err, codes, map, unwrap_or, option_and_then, if◌then◌else◌, ⊤}
 use Rattle.std.specs.Str.{bytes_eq}
-use Rattle.clap.specs.Words.{Row, Text, all_of, first_of}
+use Rattle.clap.specs.Words.{Row, Rule, Text, all_of, first_of}
 use Rattle.clap_laws.specs.Commands.{rules_of}
-use Rattle.clap_laws.specs.Numbers.{number_of}
+use Rattle.clap_laws.specs.Numbers.{FitsWord, bounds_in, number_of}
 use Rattle.clap_laws.specs.Passes.{IsTaken}
 use Rattle.bac_wire.specs.Identifier.{Identifier}
 use Rattle.bac_pdu.specs.Peer.{Station}
@@ -31,6 +31,21 @@ needs (Some x) fault next = next x
 -- The number of a word that has to be there.
 abbrev pub needed_number : Text → List Row → ℕ
 needed_number id rows = unwrap_or (number_of id rows) 0
+
+-- The bounds of an argument that is a number.
+abbrev pub bounds : Text → Option (ℕ × ℕ)
+bounds id = bounds_in (rules_of bacdev ++ rules_of bacrp ++ rules_of bacwp ++ rules_of bacwi) id
+
+-- The matches passed rules by which the argument is a number within its bounds.
+pub record IsNumber (id : Text) (rows : List Row) : Type 0 where
+  pub rules : List Rule
+  pub taken : IsTaken rules rows
+  pub bounded : bounds_in rules id ≡ bounds id
+  pub fits : FitsWord (bounds id)
+
+-- The argument was given.
+pub record IsGiven (id : Text) (rows : List Row) : Type 0 where
+  pub given : is_some (number_of id rows) ≡ true
 
 -- ---- what the words say
 

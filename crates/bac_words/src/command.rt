@@ -1,7 +1,8 @@
 //! The command that `clap` reads the words by.
-ghost use Rattle.std.specs.Prelude.{◌≡◌, false, IfOk, codes};
-ghost use Rattle.clap.specs.Words.{new_rule, rule_of};
-ghost use Rattle.clap_laws.specs.Commands.{IsCommand, number, needed, by_name, several};
+ghost use Rattle.std.specs.Prelude.{◌≡◌, false, IfOk, codes, map};
+ghost use Rattle.std.specs.List.{list_any};
+ghost use Rattle.clap.specs.Words.{App, new_app, new_rule, rule_of};
+ghost use Rattle.clap_laws.specs.Commands.{IsCommand, number, needed, by_name, several, with_rules};
 ghost use Rattle.bac_words.specs.Command.{own_instance, mac, timeout, retries, port, bacrp, bacwp, bacwi, bacdev, bactrace, bactool};
 
 use crate::help;
@@ -93,93 +94,117 @@ fn pairs<'a>(alloc: Global) -> Arg<'a>
         .help(help::PAIRS)
 }
 
+/// A command with its help.
+fn named<'a>(alloc: Global, name: &'a str, about: &'a str, lines: &'a str) -> Command<'a>
+    ensures { IsCommand result (new_app name.entry.now) }
+{
+    Command::new(alloc, name).about(about).after_help(lines)
+}
+
+/// A tool with its arguments.
+fn tool<'a>(command: Command<'a>, arguments: Vec<Arg<'a>>) -> Result<Command<'a>, AllocError>
+    requires { list_any (λ a. a.global) arguments.items ≡ false }
+    ensures { (app : App) → IsCommand command.entry app
+        → IfOk result (λ c. IsCommand c (with_rules app (map rule_of arguments.entry.items))) }
+{
+    command.args(arguments)
+}
+
 fn bacrp<'a>(alloc: Global) -> Result<Command<'a>, AllocError>
     ensures { IfOk result (λ c. IsCommand c bacrp) }
 {
-    Command::new(alloc, "bacrp")
-        .about(help::READS)
-        .after_help(help::READ_LINES)
-        .arg(needed(alloc, "device-instance", 0, 4_194_303, help::DEVICE))?
-        .arg(needed(alloc, "object-type", 0, 1023, help::OBJECT_TYPE))?
-        .arg(needed(
+    let arguments = vec![in alloc;
+        needed(alloc, "device-instance", 0, 4_194_303, help::DEVICE),
+        needed(alloc, "object-type", 0, 1023, help::OBJECT_TYPE),
+        needed(
             alloc,
             "object-instance",
             0,
             4_194_303,
-            help::OBJECT_INSTANCE,
-        ))?
-        .arg(needed(alloc, "property", 0, 4_194_303, help::PROPERTY))?
-        .arg(number(alloc, "index", 0, u32::MAX, help::ELEMENT))?
-        .arg(mac(alloc))?
-        .arg(timeout(alloc, help::TIMEOUT))?
-        .arg(retries(alloc))?
-        .arg(port(alloc, help::PORT))
+            help::OBJECT_INSTANCE
+        ),
+        needed(alloc, "property", 0, 4_194_303, help::PROPERTY),
+        number(alloc, "index", 0, u32::MAX, help::ELEMENT),
+        mac(alloc),
+        timeout(alloc, help::TIMEOUT),
+        retries(alloc),
+        port(alloc, help::PORT),
+    ]?;
+    tool(
+        named(alloc, "bacrp", help::READS, help::READ_LINES),
+        arguments,
+    )
 }
 
 fn bacwp<'a>(alloc: Global) -> Result<Command<'a>, AllocError>
     ensures { IfOk result (λ c. IsCommand c bacwp) }
 {
-    Command::new(alloc, "bacwp")
-        .about(help::WRITES)
-        .after_help(help::WRITE_LINES)
-        .arg(needed(alloc, "device-instance", 0, 4_194_303, help::DEVICE))?
-        .arg(needed(alloc, "object-type", 0, 1023, help::OBJECT_TYPE))?
-        .arg(needed(
+    let arguments = vec![in alloc;
+        needed(alloc, "device-instance", 0, 4_194_303, help::DEVICE),
+        needed(alloc, "object-type", 0, 1023, help::OBJECT_TYPE),
+        needed(
             alloc,
             "object-instance",
             0,
             4_194_303,
-            help::OBJECT_INSTANCE,
-        ))?
-        .arg(needed(alloc, "property", 0, 4_194_303, help::PROPERTY))?
-        .arg(needed(alloc, "priority", 0, 16, help::PRIORITY))?
-        .arg(index(alloc))?
-        .arg(pairs(alloc))?
-        .arg(mac(alloc))?
-        .arg(timeout(alloc, help::TIMEOUT))?
-        .arg(retries(alloc))?
-        .arg(port(alloc, help::PORT))
+            help::OBJECT_INSTANCE
+        ),
+        needed(alloc, "property", 0, 4_194_303, help::PROPERTY),
+        needed(alloc, "priority", 0, 16, help::PRIORITY),
+        index(alloc),
+        pairs(alloc),
+        mac(alloc),
+        timeout(alloc, help::TIMEOUT),
+        retries(alloc),
+        port(alloc, help::PORT),
+    ]?;
+    tool(
+        named(alloc, "bacwp", help::WRITES, help::WRITE_LINES),
+        arguments,
+    )
 }
 
 fn bacwi<'a>(alloc: Global) -> Result<Command<'a>, AllocError>
     ensures { IfOk result (λ c. IsCommand c bacwi) }
 {
-    Command::new(alloc, "bacwi")
-        .about(help::SEARCHES)
-        .after_help(help::SEARCH_LINES)
-        .arg(number(alloc, "min", 0, 4_194_303, help::LEAST))?
-        .arg(number(alloc, "max", 0, 4_194_303, help::MOST))?
-        .arg(mac(alloc))?
-        .arg(timeout(alloc, help::SEARCH_TIME))?
-        .arg(port(alloc, help::SEARCH_PORT))
+    let arguments = vec![in alloc;
+        number(alloc, "min", 0, 4_194_303, help::LEAST),
+        number(alloc, "max", 0, 4_194_303, help::MOST),
+        mac(alloc),
+        timeout(alloc, help::SEARCH_TIME),
+        port(alloc, help::SEARCH_PORT),
+    ]?;
+    tool(
+        named(alloc, "bacwi", help::SEARCHES, help::SEARCH_LINES),
+        arguments,
+    )
 }
 
 fn bacdev<'a>(alloc: Global) -> Result<Command<'a>, AllocError>
     ensures { IfOk result (λ c. IsCommand c bacdev) }
 {
-    Command::new(alloc, "bacdev")
-        .about(help::SERVES)
-        .after_help(help::SERVE_LINES)
-        .arg(own_instance(alloc))?
-        .arg(port(alloc, help::SERVE_PORT))?
-        .arg(option(alloc, "count", 1, 65_535, help::COUNT))
+    let arguments = vec![in alloc;
+        own_instance(alloc),
+        port(alloc, help::SERVE_PORT),
+        option(alloc, "count", 1, 65_535, help::COUNT),
+    ]?;
+    tool(
+        named(alloc, "bacdev", help::SERVES, help::SERVE_LINES),
+        arguments,
+    )
 }
 
 fn bactrace<'a>(alloc: Global) -> Command<'a>
     ensures { IsCommand result bactrace }
 {
-    Command::new(alloc, "bactrace")
-        .about(help::TRACES)
-        .after_help(help::TRACE_LINES)
+    named(alloc, "bactrace", help::TRACES, help::TRACE_LINES)
 }
 
 /// The program, with a subcommand for each tool.
 pub fn bactool<'a>(alloc: Global) -> Result<Command<'a>, AllocError>
     ensures { IfOk result (λ c. IsCommand c bactool) }
 {
-    Command::new(alloc, "bactool")
-        .about(help::ABOUT)
-        .after_help(help::TYPICAL)
+    named(alloc, "bactool", help::ABOUT, help::TYPICAL)
         .subcommand_required(true)
         .subcommand(bacrp(alloc)?)?
         .subcommand(bacwp(alloc)?)?

@@ -29,7 +29,9 @@ pub(crate) const TYPICAL: &str = "A typical line of each tool:
       runs a script, with no network
 
 Status: 0 done, or help; 1 another answer or none; 2 wrong words or a bad line;
-3 a port, a datagram or a text that failed; 4 out of memory";
+3 a port, a datagram or a text that failed; 4 out of memory
+
+Numbers of types, properties, units and codes: man bactool-numbers";
 
 pub(crate) const READ_LINES: &str = "Example:
   bactool bacrp 1234 0 5 85 --mac 192.0.2.7
@@ -41,7 +43,7 @@ that is a string, octets, bits, a date, a time, several values, and Null. Its ty
 Status 1: timeout, segmented, bad-error, bad-ack, or
   error CLASS CODE  1 31 unknown object, 2 32 unknown property, 2 42 no such element, 2 50 no array
   reject REASON     4 to 7 the device could not read the request, 9 unknown service
-  abort REASON      4 the value does not fit into one datagram
+  abort REASON      1, 4 and 11 the value is too long: read it element by element
 An answer from another address than that of --mac is not taken, so it is a timeout.";
 
 pub(crate) const WRITE_LINES: &str = "Tags, and how the value is written:

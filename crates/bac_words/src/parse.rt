@@ -6,12 +6,13 @@ ghost use Rattle.bac_wire.specs.Identifier.{identifier};
 ghost use Rattle.bac_pdu.specs.Peer.{station};
 ghost use Rattle.bac_pdu.specs.Property.{IsPriority};
 ghost use Rattle.clap_laws.specs.Commands.{rules_of};
+ghost use Rattle.clap_laws.specs.Numbers.{IsWithin, number_of};
 ghost use Rattle.clap_laws.specs.Passes.{IsTaken};
 ghost use Rattle.bac_text.specs.Address.{plain_peer_of};
 ghost use Rattle.bac_text.specs.Parameters.{priority_from};
 ghost use Rattle.bac_words.specs.Command.{bacdev, bacrp, bacwi, bacwp};
 ghost use Rattle.bac_words.specs.Fault.{usage_of};
-ghost use Rattle.bac_words.specs.Job.{peer_given, index_given, object_given, needed_number, timeout_given, retries_given, port_given, request_given, body_given, limits, read_order, write_order, search_order, serve_order, order_of, IsTool, IsRequest, IsClient, IsReady};
+ghost use Rattle.bac_words.specs.Job.{peer_given, index_given, object_given, needed_number, timeout_given, retries_given, port_given, request_given, body_given, limits, read_order, write_order, search_order, serve_order, order_of, IsTool, IsRequest, IsClient, IsReady, IsNumber, IsGiven, bounds};
 ghost use Rattle.bac_words.specs.Line.{Answers, IsRefused};
 ghost use Rattle.bac_words.specs.Orders.{request_seen, seen};
 
@@ -65,6 +66,7 @@ fn job(matches: &ArgMatches<'_>) -> Result<Job, UsageFault>
     }
 }
 
+#[tactic(auto, using(crate::proofs::Given::of_tool, crate::proofs::Given::given_to_tool))]
 fn read_job(matches: &ArgMatches<'_>) -> Result<Job, UsageFault>
     requires { IsTaken (rules_of bacrp) (rows_of (found_of matches.now)) }
     ensures job { seen result ≡ read_order (rows_of (found_of matches.now)) }
@@ -72,8 +74,8 @@ fn read_job(matches: &ArgMatches<'_>) -> Result<Job, UsageFault>
 {
     let request = ReadRequest {
         object: object(matches),
-        property: property(matches),
-        index: matches.get_one::<u32>("index"),
+        property: needed(matches, "property"),
+        index: number(matches, "index"),
     };
     let Some(to) = peer(matches) else {
         return Err(UsageFault::BadMac);
@@ -96,13 +98,14 @@ fn write_job(matches: &ArgMatches<'_>) -> Result<Job, UsageFault>
     Ok(Job::Write(call(matches, to, body)))
 }
 
+#[tactic(auto, using(crate::proofs::Given::of_tool, crate::proofs::Given::given_to_tool))]
 fn search_job(matches: &ArgMatches<'_>) -> Result<Job, UsageFault>
     requires { IsTaken (rules_of bacwi) (rows_of (found_of matches.now)) }
     ensures job { seen result ≡ search_order (rows_of (found_of matches.now)) }
     ensures ready { IfOk result IsReady }
 {
-    let least = matches.get_one::<u32>("min");
-    let most = matches.get_one::<u32>("max");
+    let least = number(matches, "min");
+    let most = number(matches, "max");
     let Some(to) = peer(matches) else {
         return Err(UsageFault::BadMac);
     };
@@ -114,14 +117,15 @@ fn search_job(matches: &ArgMatches<'_>) -> Result<Job, UsageFault>
     }))
 }
 
+#[tactic(auto, using(crate::proofs::Given::of_tool, crate::proofs::Given::given_to_tool))]
 fn serve_job(matches: &ArgMatches<'_>) -> Result<Job, UsageFault>
     requires { IsTaken (rules_of bacdev) (rows_of (found_of matches.now)) }
     ensures job { seen result ≡ serve_order (rows_of (found_of matches.now)) }
     ensures ready { IfOk result IsReady }
 {
-    let instance = matches.get_one::<u32>("device-instance").unwrap();
-    let port = matches.get_one::<u16>("port").unwrap_or(47_808);
-    let count = matches.get_one::<u32>("count").unwrap_or(65_535);
+    let instance = needed(matches, "device-instance");
+    let port = number(matches, "port").unwrap_or(47_808) as u16;
+    let count = number(matches, "count").unwrap_or(65_535);
     let info = DeviceInfo::new(instance, "Small device").unwrap();
     Ok(Job::Device(Serve { info, port, count }))
 }
@@ -142,68 +146,52 @@ fn call(matches: &ArgMatches<'_>, to: Peer, body: ArrayVec<u8, LONGEST_BODY>) ->
 }
 
 // The object of a request.
+#[tactic(auto, using(crate::proofs::Given::of_request, crate::proofs::Given::given_to_request))]
 fn object(matches: &ArgMatches<'_>) -> ObjectId
     requires { IsRequest (rows_of (found_of matches.now)) }
     ensures { identifier result ≡ object_given (rows_of (found_of matches.now)) }
 {
-    ObjectId::new(object_type(matches), object_instance(matches)).unwrap()
-}
-
-fn object_type(matches: &ArgMatches<'_>) -> u16
-    requires { IsRequest (rows_of (found_of matches.now)) }
-    ensures value { result ≡ needed_number (codes "object-type") (rows_of (found_of matches.now)) }
-    ensures within { result ≤ 1023 }
-{
-    matches.get_one::<u16>("object-type").unwrap()
-}
-
-fn object_instance(matches: &ArgMatches<'_>) -> u32
-    requires { IsRequest (rows_of (found_of matches.now)) }
-    ensures value { result ≡ needed_number (codes "object-instance") (rows_of (found_of matches.now)) }
-    ensures within { result ≤ 4194303 }
-{
-    matches.get_one::<u32>("object-instance").unwrap()
-}
-
-fn property(matches: &ArgMatches<'_>) -> u32
-    requires { IsRequest (rows_of (found_of matches.now)) }
-    ensures { result ≡ needed_number (codes "property") (rows_of (found_of matches.now)) }
-{
-    matches.get_one::<u32>("property").unwrap()
+    let kind = needed(matches, "object-type") as u16;
+    let instance = needed(matches, "object-instance");
+    ObjectId::new(kind, instance).unwrap()
 }
 
 // The milliseconds of a timeout, 3 seconds where none is given.
+#[tactic(auto, using(crate::proofs::Given::of_client))]
 fn timeout(matches: &ArgMatches<'_>) -> u32
     requires { IsClient (rows_of (found_of matches.now)) }
     ensures value { result ≡ timeout_given (rows_of (found_of matches.now)) }
     ensures some { 0 < result }
 {
-    matches.get_one::<u32>("apdu-timeout").unwrap_or(3_000)
+    number(matches, "apdu-timeout").unwrap_or(3_000)
 }
 
 // How often a request is sent again, three times where it isn't said.
+#[tactic(auto, using(crate::proofs::Given::of_request))]
 fn retries(matches: &ArgMatches<'_>) -> u8
     requires { IsRequest (rows_of (found_of matches.now)) }
     ensures { result ≡ retries_given (rows_of (found_of matches.now)) }
 {
-    matches.get_one::<u8>("apdu-retries").unwrap_or(3)
+    number(matches, "apdu-retries").unwrap_or(3) as u8
 }
 
 // The port to send from, any where none is given.
+#[tactic(auto, using(crate::proofs::Given::of_client))]
 fn port(matches: &ArgMatches<'_>) -> u16
     requires { IsClient (rows_of (found_of matches.now)) }
     ensures { result ≡ port_given (rows_of (found_of matches.now)) }
 {
-    matches.get_one::<u16>("port").unwrap_or(0)
+    number(matches, "port").unwrap_or(0) as u16
 }
 
 // The priority of a write.
+#[tactic(auto, using(crate::proofs::Given::of_tool, crate::proofs::Given::given_to_tool))]
 fn priority(matches: &ArgMatches<'_>) -> Option<u8>
     requires { IsTaken (rules_of bacwp) (rows_of (found_of matches.now)) }
     ensures value { result ≡ priority_from (needed_number (codes "priority") (rows_of (found_of matches.now))) }
     ensures sound { IfSome result IsPriority }
 {
-    priority_from(matches.get_one::<u8>("priority").unwrap())
+    priority_from(needed(matches, "priority") as u8)
 }
 
 // The peer of `--mac`, which has no route.
@@ -228,6 +216,7 @@ fn index(matches: &ArgMatches<'_>) -> Option<Option<u32>>
 }
 
 // The body of a write, whose values are the pairs as they were typed.
+#[tactic(auto, using(crate::proofs::Given::of_tool, crate::proofs::Given::given_to_tool))]
 fn write_body(
     matches: &ArgMatches<'_>,
     index: Option<u32>,
@@ -241,11 +230,30 @@ fn write_body(
     let mut words = TypedWords::new(pairs);
     read_write_body(
         object(matches),
-        property(matches),
+        needed(matches, "property"),
         index,
         priority(matches),
         &mut words,
     )
+}
+
+// The number of an argument that has to be given.
+fn needed(matches: &ArgMatches<'_>, id: &str) -> u32
+    requires number { IsNumber id.now (rows_of (found_of matches.now)) }
+    requires given { IsGiven id.now (rows_of (found_of matches.now)) }
+    ensures value { result ≡ needed_number id.now (rows_of (found_of matches.now)) }
+    ensures within { IsWithin (bounds id.now) result }
+{
+    number(matches, id).unwrap()
+}
+
+// The number of an argument, if it is given.
+fn number(matches: &ArgMatches<'_>, id: &str) -> Option<u32>
+    requires { IsNumber id.now (rows_of (found_of matches.now)) }
+    ensures value { result ≡ number_of id.now (rows_of (found_of matches.now)) }
+    ensures within { IfSome result (IsWithin (bounds id.now)) }
+{
+    matches.get_one(id)
 }
 
 // One number is both limits, and none is no limit.

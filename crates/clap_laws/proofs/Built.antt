@@ -1,15 +1,17 @@
 -- A command grows by one argument or one tool, and stays the one that the rules say.
-use Rattle.std.proofs.Common.{◌≡◌, ◌∙◌, ◌||◌, ap, ap₂, false, true, Option, Result, IfOk}
+use Rattle.std.proofs.Common.{◌≡◌, ◌∙◌, ◌||◌, ap, ap₂, subst, refl, map, List, [], ◌∷◌, false, true, Option, Result, IfOk}
 use Rattle.std.proofs.lemmas.Result.{IfOk-weaker}
 use Rattle.clap.specs.declared.builder.command.Command.TheViews.{out-Command}
 use Rattle.clap.specs.declared.builder.command.Command.TheOpen.{Command-F}
 use Rattle.clap.specs.Simple.{app_of_fields}
 use Rattle.std.specs.Borrow.{Bor}
 use Rattle.clap.specs.Walk.{Text}
-use Rattle.clap.specs.Words.{AddsArg, AddsSubcommand, App, Rule, rule_of, with_rule, with_subcommand}
+use Rattle.clap.specs.Words.{AddsArg, AddsInTurn, AddsSubcommand, App, Rule, rule_of, with_rule, with_subcommand}
 use Rattle.clap.specs.declared.builder.arg.Arg.{Arg}
 use Rattle.clap.specs.declared.builder.command.Command.{Command}
-use Rattle.clap_laws.specs.Commands.{IsCommand, wanting}
+use Rattle.clap_laws.specs.Commands.{IsCommand, wanting, with_rules}
+use Rattle.clap_laws.proofs.Rows.{neither}
+use Rattle.std.specs.List.{list_any}
 
 pub more : {app : App} {r : Rule} (old new : Command) (a : Arg) → IsCommand old app → rule_of a ≡ r → a.global ≡ false → AddsArg old a new
     → IsCommand new (with_rule app r)
@@ -25,22 +27,24 @@ with_tool old new sub is tool_is added = record {
   local = added.globals ∙ ap₂ (λ x y. x || y) is.local tool_is.local;
 }
 
--- the last argument of a chain
-pub last_is : {E : Type 0} {app : App} {r : Rule} (old : Command) (result : Result Command E) (a : Arg) → IsCommand old app → rule_of a ≡ r
-    → a.global ≡ false → IfOk result (λ new. AddsArg old a new) → IfOk result (λ new. IsCommand new (with_rule app r))
-last_is old result a is rule local added = IfOk-weaker result _ _ (λ new h. more old new a is rule local h) added
+-- arguments in turn
+pub in_turn : (args : List Arg) (app : App) (old new : Command) → IsCommand old app → list_any (λ a. a.global) args ≡ false → AddsInTurn AddsArg old args new
+    → IsCommand new (with_rules app (map rule_of args))
+in_turn [] app old new is local same = subst (λ c. IsCommand c app) same is
+in_turn (a ∷ rest) app old new is local chain =
+    let parts = neither a.global (list_any (λ a. a.global) rest) local in
+    in_turn rest (with_rule app (rule_of a)) chain.0 new (more old chain.0 a is refl parts.0 chain.1) parts.1 chain.2
+
+pub all_in_turn : {E : Type 0} (result : Result Command E) (args : List Arg) (app : App) (old : Command) → IsCommand old app → list_any (λ a. a.global) args ≡ false
+    → IfOk result (λ new. AddsInTurn AddsArg old args new) → IfOk result (λ new. IsCommand new (with_rules app (map rule_of args)))
+all_in_turn result args app old is local added = IfOk-weaker result _ _ (λ new h. in_turn args app old new is local h) added
 
 -- help leaves the rules as they are
-pub about_is : {app : App} {text : Option (Bor Text)} (old new : Command) → IsCommand old app → out-Command new ≡ record (out-Command old) { about = text } → IsCommand new app
-about_is old new is same = record {
-  shape = ap app_of_fields same ∙ is.shape;
-  local = ap (λ (f : Command-F Command). f.has_globals) same ∙ is.local;
-}
-
-pub after_help_is : {app : App} {text : Option (Bor Text)} (old new : Command) → IsCommand old app → out-Command new ≡ record (out-Command old) { after_help = text } → IsCommand new app
-after_help_is old new is same = record {
-  shape = ap app_of_fields same ∙ is.shape;
-  local = ap (λ (f : Command-F Command). f.has_globals) same ∙ is.local;
+pub helped : {app : App} {about after : Option (Bor Text)} (first second third : Command) → IsCommand first app → out-Command second ≡ record (out-Command first) { about = about }
+    → out-Command third ≡ record (out-Command second) { after_help = after } → IsCommand third app
+helped first second third is about after = record {
+  shape = ap app_of_fields after ∙ ap app_of_fields about ∙ is.shape;
+  local = ap (λ (f : Command-F Command). f.has_globals) after ∙ ap (λ (f : Command-F Command). f.has_globals) about ∙ is.local;
 }
 
 -- the program before its tools: one is wanted

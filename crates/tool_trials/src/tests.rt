@@ -27,6 +27,16 @@ const Q: Peer = Peer {
     route: None,
 };
 
+/// The present value of analog-input 5, as it is answered.
+const VALUE: &[u8] =
+    b"\x81\x0a\x00\x17\x01\x00\x30\x01\x0c\x0c\x00\x00\x00\x05\x19\x55\x3e\x44\x42\x90\x99\x9a\x3f";
+
+/// Who is there, and the I-Am of the device 1234.
+const WHO_IS: &[u8] = b"\x81\x0a\x00\x08\x01\x00\x10\x08";
+
+const I_AM: &[u8] =
+    b"\x81\x0a\x00\x15\x01\x00\x10\x00\xc4\x02\x00\x04\xd2\x22\x05\xc4\x91\x03\x22\x01\x04";
+
 /// Sees that these octets came of the row, as digits.
 fn expect_digits<H: Abort + AllocGlobal>(
     rt: &H,
@@ -37,13 +47,4 @@ fn expect_digits<H: Abort + AllocGlobal>(
     let written = hex::encode(rt.alloc(), octets)?;
     assert_eq!(rt; written.as_str(), digits, "for {row:?}");
     Ok(())
-}
-
-/// A text so many times.
-fn repeated(rt: &impl AllocGlobal, text: &str, times: u16) -> Result<String, Fail> {
-    let mut all = String::new(rt.alloc());
-    for _ in 0..times {
-        all.push_str(text)?;
-    }
-    Ok(all)
 }

@@ -7,7 +7,7 @@ mod requests;
 mod sockets;
 mod watching;
 
-use crate::tests::{P, Q};
+use crate::tests::{I_AM, P, Q, VALUE, WHO_IS};
 use arrayvec::ArrayVec;
 use bac_device::{DeviceInfo, demo};
 use bac_links::{
@@ -18,19 +18,10 @@ use bac_text::{Call, Checked, Search};
 use std::process::Abort;
 use std::test::Fail;
 
-/// The present value of analog-input 5 is asked for: the body, its datagram, and the answer.
+/// The present value of analog-input 5 is asked for: the body, and its datagram.
 const BODY: &[u8] = b"\x0c\x00\x00\x00\x05\x19\x55";
 
 const ASK: &[u8] = b"\x81\x0a\x00\x11\x01\x04\x00\x05\x01\x0c\x0c\x00\x00\x00\x05\x19\x55";
-
-const VALUE: &[u8] =
-    b"\x81\x0a\x00\x17\x01\x00\x30\x01\x0c\x0c\x00\x00\x00\x05\x19\x55\x3e\x44\x42\x90\x99\x9a\x3f";
-
-/// Who is there, and the I-Am of the device 1234.
-const WHO_IS: &[u8] = b"\x81\x0a\x00\x08\x01\x00\x10\x08";
-
-const I_AM: &[u8] =
-    b"\x81\x0a\x00\x15\x01\x00\x10\x00\xc4\x02\x00\x04\xd2\x22\x05\xc4\x91\x03\x22\x01\x04";
 
 /// A call of P with this body.
 fn call_of(timeout: u32, retries: u8, body: &[u8]) -> Call

@@ -1,47 +1,7 @@
-//! Readers that give a few octets at a time, and readers and writers that fail.
+//! Readers and writers that fail.
 
 use std::cell::Cell;
 use std::io::{self, ErrorKind, Read, Write};
-
-/// Gives its octets a few at a time, and fails once its reads are used up.
-#[derive(Drop)]
-pub(crate) struct Pieces<'a> {
-    rest: &'a [u8],
-    most: usize,
-    reads: usize,
-}
-
-impl Read for Pieces<'_> {
-    fn read(&mut self, buf: &mut [u8]) -> io::Result<usize> {
-        if self.reads == 0 {
-            return Err(io::Error::from(ErrorKind::Other));
-        }
-        self.reads -= 1;
-        let count = self.rest.len().min(buf.len()).min(self.most);
-        let (front, rest) = self.rest.split_at(count);
-        buf[..count].copy_from_slice(front);
-        self.rest = rest;
-        Ok(count)
-    }
-}
-
-/// A text of which as much comes at a read as there is room for.
-pub(crate) fn whole(text: &str) -> Pieces<'_> {
-    Pieces {
-        rest: text.as_bytes(),
-        most: usize::MAX,
-        reads: usize::MAX,
-    }
-}
-
-/// A text of which one octet comes at a read, for so many reads.
-pub(crate) fn octet_by_octet(text: &str, reads: usize) -> Pieces<'_> {
-    Pieces {
-        rest: text.as_bytes(),
-        most: 1,
-        reads,
-    }
-}
 
 /// Takes so many octets, one at a time, and then takes none, or fails. One that fails also fails to flush.
 #[derive(Drop)]
@@ -123,5 +83,49 @@ impl Write for Told<'_> {
 
     fn flush(&mut self) -> io::Result<()> {
         Ok(())
+    }
+}
+
+/// How many octets of a text are printed once so many of its script were read.
+pub(crate) fn printed_after(ends: &[(usize, usize)], octets: usize) -> usize {
+    let mut printed = 0;
+    for (read, written) in ends {
+        if *read <= octets {
+            printed = *written;
+        }
+    }
+    printed
+}
+
+/// Gives a script an octet at a time, and fails once, at the read with this number.
+#[derive(Drop)]
+pub(crate) struct Asked<'a> {
+    pub(crate) progress: &'a Progress,
+    pub(crate) script: &'a str,
+    /// How many octets of the script there are up to the end of each line that prints, and how many of the text.
+    pub(crate) ends: &'a [(usize, usize)],
+    pub(crate) fails_at: usize,
+}
+
+impl Read for Asked<'_> {
+    fn read(&mut self, buf: &mut [u8]) -> io::Result<usize> {
+        let read = self.progress.read.get();
+        let printed = printed_after(self.ends, read);
+        if self.progress.is_broken.get() || self.progress.written.get() < printed {
+            self.progress.is_early.set(true);
+        }
+        let reads = self.progress.reads.get();
+        self.progress.reads.set(reads.saturating_add(1));
+        if reads == self.fails_at {
+            return Err(io::Error::from(ErrorKind::Other));
+        }
+        match (self.script.as_bytes().get(read), buf.first_mut()) {
+            (Some(octet), Some(place)) => {
+                *place = *octet;
+                self.progress.read.set(read.saturating_add(1));
+                Ok(1)
+            }
+            _ => Ok(0),
+        }
     }
 }

@@ -8,14 +8,6 @@ use bac_text::Checked;
 use bac_tools::{Binding, Network, run_words};
 use std::alloc::Global;
 
-const VALUE: &[u8] =
-    b"\x81\x0a\x00\x17\x01\x00\x30\x01\x0c\x0c\x00\x00\x00\x05\x19\x55\x3e\x44\x42\x90\x99\x9a\x3f";
-
-const WHO_IS: &[u8] = b"\x81\x0a\x00\x08\x01\x00\x10\x08";
-
-const I_AM: &[u8] =
-    b"\x81\x0a\x00\x15\x01\x00\x10\x00\xc4\x02\x00\x04\xd2\x22\x05\xc4\x91\x03\x22\x01\x04";
-
 /// Gives links of these steps to whoever asks for this port of every address, and what becomes of a refused reply so.
 #[derive(Clone, Copy)]
 struct Rehearsal<'a> {
@@ -72,16 +64,6 @@ fn expect_words<H: Abort + AllocGlobal>(
     Ok(())
 }
 
-/// The network of a client at this port.
-fn client_of<'a>(alloc: Global, steps: &'a [Step<'a>], port: u16) -> Rehearsal<'a> {
-    Rehearsal {
-        alloc,
-        steps,
-        port,
-        refused: Refused::Fails,
-    }
-}
-
 const READ: &str = "bactool bacrp 1234 0 5 85 --mac 127.0.0.1";
 
 const READ_AT_9: &str = "bactool bacrp 1234 0 5 85 --mac 127.0.0.1 --port 9";
@@ -102,32 +84,37 @@ const SCRIPT: &[u8] = b"read 127.0.0.1:47808 0 5 85\ntick x\n";
 
 const SENT: &str = "send 0 127.0.0.1:47808 810a001101040005010c0c000000051955\n";
 
+// A device alone goes on where a reply is refused.
 #[test]
 fn words_are_run(rt: HostRuntime) -> Result<(), Fail> {
     let value = [Step::Packet(5, P, VALUE)];
-    let network = client_of(rt.alloc(), &value, 0);
-    for (line, text, status, fault) in [
-        (READ, "4290999a\n", 0, ""),
-        (WRITE, "timeout\n", 1, ""),
-        (READ_AT_9, "", 3, "bind failed"),
-        (READ_NOWHERE, "", 2, "bad mac"),
-        (TRACE, SENT, 2, "line 2: bad line"),
+    let i_am = [Step::Packet(5, P, I_AM)];
+    let asked = [Step::Packet(0, Q, WHO_IS), Step::Packet(0, Q, b"\x00")];
+    let quiet = vec![in rt.alloc(); Step::Quiet(0); 65_536]?;
+    for (line, steps, port, text, status, fault) in [
+        (READ, value.as_slice(), 0, "4290999a\n", 0, ""),
+        (WRITE, value.as_slice(), 0, "timeout\n", 1, ""),
+        (READ_AT_9, value.as_slice(), 0, "", 3, "bind failed"),
+        (READ_NOWHERE, value.as_slice(), 0, "", 2, "bad mac"),
+        (TRACE, value.as_slice(), 0, SENT, 2, "line 2: bad line"),
+        (READ_AT_9, &[Step::Broken], 9, "", 3, "receiving failed"),
+        (READ, quiet.as_slice(), 0, "", 3, "turns spent"),
+        (SEARCH, i_am.as_slice(), 0, FOUND, 0, ""),
+        (SERVE, asked.as_slice(), 47_808, "", 0, ""),
+        (SEARCH, asked.as_slice(), 47_808, "", 3, "bind failed"),
     ] {
+        let refused = if line == SERVE {
+            Refused::IsLost
+        } else {
+            Refused::Fails
+        };
+        let network = Rehearsal {
+            alloc: rt.alloc(),
+            steps,
+            port,
+            refused,
+        };
         expect_words(&rt, line, &network, text, status, fault)?;
     }
-    let broken = [Step::Broken];
-    let network = client_of(rt.alloc(), &broken, 9);
-    expect_words(&rt, READ_AT_9, &network, "", 3, "receiving failed")?;
-    let i_am = [Step::Packet(5, P, I_AM)];
-    let network = client_of(rt.alloc(), &i_am, 0);
-    expect_words(&rt, SEARCH, &network, FOUND, 0, "")?;
-    let asked = [Step::Packet(0, Q, WHO_IS), Step::Packet(0, Q, b"\x00")];
-    let network = Rehearsal {
-        alloc: rt.alloc(),
-        steps: &asked,
-        port: 47_808,
-        refused: Refused::IsLost,
-    };
-    expect_words(&rt, SERVE, &network, "", 0, "")?;
-    expect_words(&rt, SEARCH, &network, "", 3, "bind failed")
+    Ok(())
 }

@@ -6,7 +6,7 @@ mod refusals;
 
 use crate::tests::{LOCALHOST, P, Q, expect_digits};
 use bac_text::Call;
-use bac_words::{Job, UsageFault, parse_words, usage_status};
+use bac_words::{Job, UsageFault, parse_words};
 use std::process::Abort;
 use std::test::Fail;
 

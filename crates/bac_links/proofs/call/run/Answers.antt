@@ -13,14 +13,8 @@ pub returns-in_err-ending-clause-told : goal.returns-in_err-ending-clause-told
 returns-in_err-ending-clause-told g c =
     let p = err_from_is_err_and c.from_residual-in_err-ending.result c.from_residual-in_err-ending.ensures.1 in
     rw (p.1, p.2)
-    (fails_so c.args.tool c.args.call.now _ _ _ _ _ c.in_err-ending.ensures.err.0 (λ t e.
-    let far = c.loop-turn.invariant.so_far t e in
-    record {
-      n = c.loop-turn._turn;
-      within = c.loop-turn-test.true;
-      before = is_open c.args.tool c.args.call.now t _ _ _ far;
-      fails = c.in_err-ending.ensures.err.1 c.args.tool c.args.call.now t _ c.turn_wait-wait_ms.ensures far;
-    }))
+    (fails_so c.args.tool c.args.call.now _ _ _ _ _ c.in_err-ending.ensures.err.0
+    (λ t e. c.in_err-ending.ensures.err.1 c.args.tool c.args.call.now t _ c.turn_wait-wait_ms.ensures (c.loop-turn.invariant.so_far t e) c.loop-turn-test.true))
 
 pub returns-in-Some-clause-told : goal.returns-in-Some-clause-told
 returns-in-Some-clause-told g c =

@@ -1,7 +1,7 @@
-use Rattle.std.proofs.Common.{arith, add-one, sym, ◌∙◌}
+use Rattle.std.proofs.Common.{arith, add-one, refl, ◌∙◌}
 use Rattle.std.proofs.lemmas.Result.{err_from_is_err_and}
 use Rattle.bac_text.proofs.Known.{Appends-none}
-use Rattle.bac_links.proofs.Searches.{begun, goes_on, ended, fails, spent, good_exit, bad_exit}
+use Rattle.bac_links.proofs.Searches.{begun, goes_on, ended, fails, spent}
 use Rattle.bac_links.proofs.search.run_whois.Goals as goal
 
 pub returns-in_err-ask-clause-told : goal.returns-in_err-ask-clause-told
@@ -30,14 +30,14 @@ returns-then-any-clause-told g c =
     let told = rw c.turn_wait-wait_ms.ensures at c.in_ok-any.ensures.told in
     let over = rw (c.from.ensures, c.max-greatest.ensures) at c.if-greatest-first.true in
     let all = ended c.args.search.now _ _ _ _ _ _ _ _ _ _ c.loop-turn.invariant.goes _ told _ c.now.ensures.time _ c.now.ensures.same c.loop-turn-test.true over in
-    (all.0, good_exit all.0 (sym c.if-any.true ∙ all.1), all.2, all.3)
+    (all.0, rw (← all.1, c.if-any.true) refl, all.2, all.3)
 
 pub returns-else-any-clause-told : goal.returns-else-any-clause-told
 returns-else-any-clause-told g c =
     let told = rw c.turn_wait-wait_ms.ensures at c.in_ok-any.ensures.told in
     let over = rw (c.from.ensures, c.max-greatest.ensures) at c.if-greatest-first.true in
     let all = ended c.args.search.now _ _ _ _ _ _ _ _ _ _ c.loop-turn.invariant.goes _ told _ c.now.ensures.time _ c.now.ensures.same c.loop-turn-test.true over in
-    (all.0, bad_exit all.0 (sym c.if-any.false ∙ all.1), all.2, all.3)
+    (all.0, rw (← all.1, c.if-any.false) refl, all.2, all.3)
 
 pub loop-turn-preserved : goal.loop-turn-preserved
 loop-turn-preserved g c =

@@ -18,7 +18,7 @@ use Rattle.bac_script.proofs.running.run_line.Goals as goal
 long_refused : (stage : Stage) (line : Line) (write : Write) → line ≡ LongWrite write → ran stage (line_seen line) ≡ record { text = notes_text (Refused TooLong ∷ []); after = stage }
 long_refused stage line write is =
     ap (λ (l : Line). ran stage (line_seen l)) is
-    ∙ refused stage (station write.peer) 15 (long_body write) (long (whole_body_of (identifier write.object) write.property write.index write.priority write.words) write.long)
+    ∙ refused stage (station write.peer.now) 15 (long_body write) (long (whole_body_of (identifier write.object) write.property write.index write.priority write.words) write.long)
 
 pub returns-in-LongWrite-clause-stage : goal.returns-in-LongWrite-clause-stage
 returns-in-LongWrite-clause-stage g c stage stands =

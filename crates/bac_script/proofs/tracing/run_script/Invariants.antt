@@ -1,14 +1,13 @@
-use Rattle.std.proofs.Common.{◌≡◌, ◌+◌, ◌*◌, ◌≤◌, false}
-use Rattle.bac_text.specs.Checked.{has_failed}
+use Rattle.std.proofs.Common.{◌+◌, ◌*◌, ◌≤◌}
 use Rattle.bac_script.specs.Input.{may_come, most_reads}
+use Rattle.bac_script.specs.Limits.{chunk_room}
 use Rattle.bac_script.proofs.SoFar.{SoFar}
 use Rattle.bac_script.proofs.tracing.run_script.Given as goal
 
 abbrev pub invariant-loop-next : goal.invariant-loop-next
 invariant-loop-next g l = record {
   so_far : SoFar g.R.Read.remaining g.W.Write.contents l.fn.reader l.reader l.chunk l.fn.page l.page l.lines l.is_first l.client l.device;
-  sound_reader : has_failed l.reader ≡ false;
-  room : l.lines + may_come l.reader l.chunk ≤ 32768 * most_reads;
+  room : l.lines + may_come l.reader l.chunk ≤ chunk_room * most_reads;
 }
 
 abbrev pub decreases-loop-next : goal.decreases-loop-next

@@ -1,7 +1,4 @@
-use Rattle.std.proofs.Common.{rules, []}
-use Rattle.bac_script.specs.Script.{lines, all_said, arrivals_in}
-use Rattle.bac_script.proofs.Asking.{replies_fit}
-use Rattle.bac_script.proofs.Machine.{requests_late}
+use Rattle.std.proofs.Common.{rules}
 use Rattle.bac_script.proofs.SoFar.{traces_all, traces_front}
 use Rattle.bac_script.proofs.tracing.trace.Goals as goal
 
@@ -14,15 +11,3 @@ pub returns-clause-script : goal.returns-clause-script
 returns-clause-script g c =
     traces_all {after = c.finish.new.self.0} (search rules) c.run_script-answer.ensures.script c.new-page.ensures.writer c.new-page.ensures.empty c.finish.ensures.printed
     (search rules)
-
-pub returns-in_err-finish-clause-reuse : goal.returns-in_err-finish-clause-reuse
-returns-in_err-finish-clause-reuse g c octets reading = requests_late (all_said (lines octets reading))
-
-pub returns-clause-reuse : goal.returns-clause-reuse
-returns-clause-reuse g c octets reading = requests_late (all_said (lines octets reading))
-
-pub returns-in_err-finish-clause-fits : goal.returns-in_err-finish-clause-fits
-returns-in_err-finish-clause-fits g c octets reading = replies_fit [] (arrivals_in (all_said (lines octets reading)))
-
-pub returns-clause-fits : goal.returns-clause-fits
-returns-clause-fits g c octets reading = replies_fit [] (arrivals_in (all_said (lines octets reading)))

@@ -1,10 +1,10 @@
-use Rattle.std.proofs.Common.{◌+◌, sym, ◌∙◌, arith}
+use Rattle.std.proofs.Common.{◌+◌, ◌-◌, ◌^◌, sym, ◌∙◌, arith}
 use Rattle.std.proofs.lemmas.Bool.Decides.{nat_tests}
-use Rattle.bac_text.proofs.NumberLemmas.{digits_next, value_next, number_up_to-not_digit, number_up_to-too_big, number_up_to-whole}
+use Rattle.bac_text.proofs.NumberLemmas.{digits_next, value_next, not_number, others_are, number_up_to-too_big, number_up_to-whole}
 use Rattle.bac_text.proofs.numbers.plain_number.Goals as goal
 
 pub returns-then-not-is_ascii_digit : goal.returns-then-not-is_ascii_digit
-returns-then-not-is_ascii_digit c = sym (number_up_to-not_digit c.args.word.now c.loop-digit.digit-index c.loop-digit-test.true (sym c.if-not-is_ascii_digit.ensures.value))
+returns-then-not-is_ascii_digit c = sym (not_number (2 ^ 64 - 1) c.args.word.now (others_are c.args.word.now c.loop-digit.digit-index c.loop-digit-test.true (sym c.if-not-is_ascii_digit.ensures.value)))
 
 pub returns-in_err-checked_mul : goal.returns-in_err-checked_mul
 returns-in_err-checked_mul c =

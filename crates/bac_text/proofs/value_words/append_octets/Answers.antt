@@ -2,7 +2,8 @@ use Rattle.std.proofs.Common.{◌≡◌, ℕ, ◌%◌, List, Option, None, lengt
 use Rattle.std.specs.Prelude.{option_map}
 use Rattle.bac_wire.specs.Datum.{octet_string}
 use Rattle.bac_text.specs.ValueWords.{hex_in, appended}
-use Rattle.bac_text.proofs.WordValues.{hex_in-odd, hex_in-others, hex_in-digits, octets-decoded, octets-long}
+use Rattle.bac_text.proofs.HexText.{others_refused}
+use Rattle.bac_text.proofs.WordValues.{hex_in-odd, hex_in-digits, octets-decoded, octets-long}
 use Rattle.bac_text.proofs.value_words.append_octets.Goals as goal
 use Rattle.bac_text.proofs.value_words.append_octets.Goals.{then-digits-eq1-via-then-digits-eq1, then-digits-eq1-via-else-digits-eq1+then-not-is_hex}
 
@@ -11,7 +12,7 @@ returns-then-digits-eq1-clause-value c =
     let none : hex_in c.args.digits.now ≡ None =
     elim c.then-digits-eq1.branch [
       | then-digits-eq1-via-then-digits-eq1 w ↦ hex_in-odd c.args.digits.now w.if-digits-eq1.true
-      | then-digits-eq1-via-else-digits-eq1+then-not-is_hex w ↦ hex_in-others c.args.digits.now (sym w.is_hex.ensures ∙ w.if-not-is_hex.true)
+      | then-digits-eq1-via-else-digits-eq1+then-not-is_hex w ↦ others_refused c.args.digits.now (sym w.is_hex.ensures ∙ w.if-not-is_hex.true)
     ] in
     ap (λ (found : Option (List ℕ)). appended c.args.region.now (option_map octet_string found)) none
 

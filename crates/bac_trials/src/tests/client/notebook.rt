@@ -79,19 +79,21 @@ impl Kept {
         Some(Kept { at, told })
     }
 
-    /// The position and the note.
-    pub(crate) fn note(&self) -> (usize, Note<'_>) {
-        let note = match &self.told {
-            Told::Sent(ticket, peer, octets) => Note::Sent(*ticket, *peer, octets.as_slice()),
-            Told::Refused(fault) => Note::Refused(*fault),
-            Told::Done(ticket, body) => Note::Done(Ended {
-                ticket: *ticket,
-                outcome: Outcome::Complex(body.as_slice()),
-            }),
-            Told::Dropped => Note::Dropped,
-            Told::TimedOut(ticket) => Note::TimedOut(*ticket),
+    /// Whether it is this note, at this position.
+    fn is(&self, at: usize, note: &Note<'_>) -> bool {
+        let is_told = match (&self.told, *note) {
+            (Told::Sent(ticket, peer, octets), Note::Sent(other, to, bytes)) => {
+                *ticket == other && peer.is_same(&to) && octets.as_slice() == bytes
+            }
+            (Told::Refused(fault), Note::Refused(other)) => *fault == other,
+            (Told::Done(ticket, body), Note::Done(ended)) => {
+                *ticket == ended.ticket && ended.outcome == Outcome::Complex(body.as_slice())
+            }
+            (Told::Dropped, Note::Dropped) => true,
+            (Told::TimedOut(ticket), Note::TimedOut(other)) => *ticket == other,
+            _ => false,
         };
-        (self.at, note)
+        is_told && self.at == at
     }
 }
 
@@ -123,8 +125,8 @@ impl Notebook {
 
     /// Whether it keeps these notes, at these positions, and no others.
     pub(crate) fn has(&self, notes: &[(usize, Note<'_>)]) -> bool {
-        for (kept, note) in self.kept.iter().zip(notes) {
-            if kept.note() != *note {
+        for (kept, (at, note)) in self.kept.iter().zip(notes) {
+            if !kept.is(*at, note) {
                 return false;
             }
         }

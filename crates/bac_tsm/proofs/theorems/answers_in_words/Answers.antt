@@ -1,5 +1,5 @@
-use Rattle.bac_tsm.proofs.AnswersInWords.{answers_is}
+use Rattle.bac_tsm.proofs.AnswersInWords.{answers, answered}
 use Rattle.bac_tsm.proofs.theorems.answers_in_words.Goals as goal
 
 pub returns : goal.returns
-returns c = answers_is
+returns c request from datagram outcome = (answers request from datagram outcome, answered request from datagram outcome)

@@ -4,6 +4,7 @@ use Rattle.std.proofs.lemmas.List.{nil_from_length}
 use Rattle.std.specs.Option.{option_map}
 use Rattle.bac_wire.specs.declared.tag.Shape.TheVariants.{App, Context}
 use Rattle.bac_wire.proofs.RegionReading.{counted_since, none_counted, opening_since, opening_none, opening_deep, closing_none, no_tag_all, behind_shorter, ended_since, ended_is, ended_empty, ended_nothing, same_rests_more, same_rests_ended, same_rests_stuck}
+use Rattle.bac_wire.proofs.ItemLaws.{closing_finds}
 use Rattle.bac_wire.proofs.items.+nesting.Goals as goal
 
 pub behind_item-returns-in_err-checked_sub-in-Opening : goal.behind_item-returns-in_err-checked_sub-in-Opening
@@ -20,7 +21,7 @@ behind_item-returns-in-App t c = λ octets e. counted_since c.args.depth 0 c.arg
 pub behind_item-returns-in_ok-rest-in-Opening : goal.behind_item-returns-in_ok-rest-in-Opening
 behind_item-returns-in_ok-rest-in-Opening t c = λ octets e.
     let deeper : c.args.depth ≡ suc c.in_ok-checked_sub-in-Opening.field-0 = omega (arith, c.in_ok-checked_sub-in-Opening.ensures) in
-    opening_since c.args.depth c.in_ok-checked_sub-in-Opening.field-0 c.args.tag octets c.args.behind.now c.in_ok-rest-in-Opening.rest.now (option_map (λ r. r.now) c.behind_closing.result) deeper e c.in-Opening.is c.in_ok-rest-in-Opening.ensures c.behind_closing.ensures
+    opening_since c.args.depth c.in_ok-checked_sub-in-Opening.field-0 c.args.tag octets c.args.behind.now c.in_ok-rest-in-Opening.rest.now (option_map (λ r. r.now) c.behind_closing.result) deeper e c.in-Opening.is c.in_ok-rest-in-Opening.ensures (rw c.behind_closing.ensures (closing_finds c.args.tag.number c.in_ok-rest-in-Opening.rest.now))
 
 pub behind_item-returns-in-Closing : goal.behind_item-returns-in-Closing
 behind_item-returns-in-Closing t c = λ octets e rest l. closing_none c.args.depth c.args.tag octets c.args.behind.now rest e c.in-Closing.is l
@@ -53,4 +54,4 @@ behind_items-returns-then-is_empty t c = same_rests_ended c.args.depth c.args.oc
 pub behind_items-returns-else-is_empty : goal.behind_items-returns-else-is_empty
 behind_items-returns-else-is_empty t c = λ left l. same_rests_stuck c.args.depth c.args.octets.now c.loop-tag.rest.now left c.loop-tag.invariant
     (λ ended. eqb-false (length c.loop-tag.rest.now) 0 (sym c.is_empty.ensures ∙ c.if-is_empty.false) (ap length (ended_empty c.loop-tag.rest.now c.in_default.ensures ended)))
-    (λ next i. no_tag_all c.args.depth c.loop-tag.rest.now next (sym c.in_default.ensures) i) l
+    (λ next i. no_tag_all c.args.depth c.loop-tag.rest.now next c.in_default.ensures i) l

@@ -1,5 +1,6 @@
-use Rattle.std.proofs.Common.{Some, ap, arith}
-use Rattle.bac_wire.proofs.RegionReading.{region_none, region_open, region_all, region_found}
+use Rattle.std.proofs.Common.{None}
+use Rattle.bac_wire.proofs.RegionReading.{region_none, region_finds}
+use Rattle.bac_wire.proofs.ItemLaws.{closing_finds}
 use Rattle.bac_wire.proofs.items.region.Goals as goal
 
 pub returns-in_err-rest : goal.returns-in_err-rest
@@ -7,11 +8,8 @@ returns-in_err-rest c = rw c.from_residual.ensures (record { within = tt; found 
 
 pub returns-in_err-behind_closing : goal.returns-in_err-behind_closing
 returns-in_err-behind_closing c =
-    rw c.from_residual-in_err-behind_closing.ensures (record { within = tt; found = tt; all = λ front r. absurd (region_open 32 3 c.args.octets.now c.in_ok-rest.rest.now front c.in_ok-rest.ensures c.in_err-behind_closing.ensures r) })
+    let none = rw (← c.in_err-behind_closing.ensures) at (closing_finds 3 c.in_ok-rest.rest.now) in
+    rw c.from_residual-in_err-behind_closing.ensures (region_finds 32 3 c.args.octets.now c.in_ok-rest.rest.now None c.in_ok-rest.ensures none)
 
 pub returns : goal.returns
-returns c = record {
-  within = omega arith;
-  found = region_found 32 3 c.args.octets.now c.in_ok-rest.rest.now c.in_ok-behind_closing.field-0.now c.in_ok-rest.ensures c.in_ok-behind_closing.ensures;
-  all = λ front r. ap Some (region_all 32 3 c.args.octets.now c.in_ok-rest.rest.now front c.in_ok-rest.ensures r);
-}
+returns c = rw (← c.in_ok-behind_closing.ensures) at (region_finds 32 3 c.args.octets.now c.in_ok-rest.rest.now _ c.in_ok-rest.ensures (closing_finds 3 c.in_ok-rest.rest.now))

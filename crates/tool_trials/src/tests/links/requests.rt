@@ -1,59 +1,44 @@
 //! Calls over links in memory.
 use super::*;
-use bac_links::status;
 use bac_wire::Frame;
 
-/// An answer to a read, whether the call ends well with it, and the line that is printed of it.
-static ANSWERS: [(&str, Exit, &str); 10] = [
+/// Answers to a read, and the line that is printed of each: those that give the value, and others.
+static VALUES: [(&str, &str); 3] = [
     (
         "810a0017010030010c0c0000000519553e444290999a3f",
-        Exit::Good,
-        "4290999a",
+        "4290999a\n",
     ),
-    (
-        "810a0015010030010c0c00000005194d3e72003f3f",
-        Exit::Good,
-        "\"?\"",
-    ),
+    ("810a0015010030010c0c00000005194d3e72003f3f", "\"?\"\n"),
     (
         "810a0016010030010c0c0000000519553e0e21050f3f",
-        Exit::Good,
-        "hex 0e21050f",
+        "hex 0e21050f\n",
     ),
-    (
-        "810a0016010030010c0c0000000519553e444290999a",
-        Exit::Bad,
-        "bad-ack",
-    ),
-    ("810a0009010020010c", Exit::Bad, "bad-ack"),
-    ("810a000b0100380100010c", Exit::Bad, "segmented"),
-    ("810a0009010050010c", Exit::Bad, "bad-error"),
-    ("810a000d010050010c91029120", Exit::Bad, "error 2 32"),
-    ("810a00090100600109", Exit::Bad, "reject 9"),
-    ("810a00090100710104", Exit::Bad, "abort 4"),
+];
+
+static OTHERS: [(&str, &str); 7] = [
+    ("810a0016010030010c0c0000000519553e444290999a", "bad-ack\n"),
+    ("810a0009010020010c", "bad-ack\n"),
+    ("810a000b0100380100010c", "segmented\n"),
+    ("810a0009010050010c", "bad-error\n"),
+    ("810a000d010050010c91029120", "error 2 32\n"),
+    ("810a00090100600109", "reject 9\n"),
+    ("810a00090100710104", "abort 4\n"),
 ];
 
 #[test]
 fn answers_are_printed(rt: HostRuntime) -> Result<(), Fail> {
     let call = call_of(3_000, 3, BODY);
-    for (digits, exit, text) in &ANSWERS {
-        let answer = hex::decode(rt.alloc(), digits).map_err(|_| "no digits")?;
-        let steps = [Step::Packet(5, P, answer.as_slice())];
-        let line = format!(in rt.alloc(); "{text}\n")?;
-        let got = Ok(*exit);
-        expect_call(
-            &rt,
-            Kind::Read,
-            &call,
-            &steps,
-            None,
-            got,
-            line.as_str(),
-            &[(0, ASK)],
-        )?;
+    let once = [(0, ASK)];
+    for (exit, rows) in [
+        (Exit::Good, VALUES.as_slice()),
+        (Exit::Bad, OTHERS.as_slice()),
+    ] {
+        for (digits, text) in rows {
+            let answer = hex::decode(rt.alloc(), digits).map_err(|_| "no digits")?;
+            let steps = [Step::Packet(5, P, answer.as_slice())];
+            expect_call(&rt, Kind::Read, &call, &steps, None, Ok(exit), text, &once)?;
+        }
     }
-    assert_eq!(rt; status(&Ok(Exit::Good)), 0);
-    assert_eq!(rt; status(&Ok(Exit::Bad)), 1);
     Ok(())
 }
 
@@ -134,21 +119,4 @@ fn calls_fail(rt: HostRuntime) -> Result<(), Fail> {
     let quiet = vec![in rt.alloc(); Step::Quiet(0); 65_536]?;
     let spent = Err(ToolFault::TurnsSpent);
     expect_read(&rt, quiet.as_slice(), None, spent, "", &once)
-}
-
-// The message and the status of each fault.
-#[test]
-fn faults_are_told(rt: HostRuntime) -> Result<(), Fail> {
-    for (fault, message) in [
-        (ToolFault::SendFailed, "sending failed"),
-        (ToolFault::ReceiveFailed, "receiving failed"),
-        (ToolFault::TurnsSpent, "turns spent"),
-        (ToolFault::WriteFailed, "writing failed"),
-    ] {
-        assert_eq!(rt; status(&Err(fault)), 3);
-        assert_eq!(rt; format!(in rt.alloc(); "{fault}")?.as_str(), message);
-    }
-    let unbound = format!(in rt.alloc(); "{LinkFault}")?;
-    assert_eq!(rt; unbound.as_str(), "bind failed");
-    Ok(())
 }

@@ -4,7 +4,6 @@ ghost use Rattle.std.specs.Prelude.{◌≡◌, false, is_err, OnOk};
 use super::*;
 use bac_device::Device;
 use bac_links::{Datagram, Refused, UdpLink};
-use bac_wire::Frame;
 
 /// What a link hears within a second, and from whom.
 fn hear<L: Link>(rt: &impl Abort, link: &mut L, from: Peer, octets: &[u8]) -> Result<(), LinkFault>
@@ -16,40 +15,6 @@ fn hear<L: Link>(rt: &impl Abort, link: &mut L, from: Peer, octets: &[u8]) -> Re
     assert_eq!(rt; peer, Some(from));
     assert!(rt; datagram.as_slice() == octets);
     Ok(())
-}
-
-/// The desk asks for a value, and what the device answers goes through the field's socket.
-fn answers_by_hand<L: Link>(
-    rt: &impl Abort,
-    desk: &mut L,
-    field: &mut L,
-    device: &mut Device,
-) -> Result<(), LinkFault>
-    requires { (L.has_failed desk.old ≡ false) × (L.has_failed field.old ≡ false) }
-    ensures { OnOk result ((L.has_failed desk.new ≡ false) × (L.has_failed field.new ≡ false)) }
-{
-    desk.send(P, ASK)?;
-    hear(rt, field, Q, ASK)?;
-    let mut frame = Frame::new();
-    assert_eq!(rt; device.answer(Q, ASK, &mut frame), Some(Q));
-    field.send(Q, frame.as_slice())?;
-    hear(rt, desk, P, VALUE)
-}
-
-/// The same, where the device serves.
-fn serves_once<L: Link>(
-    rt: &impl Abort,
-    desk: &mut L,
-    field: &mut L,
-    device: &mut Device,
-) -> Result<(), LinkFault>
-    requires { (L.has_failed desk.old ≡ false) × (L.has_failed field.old ≡ false) }
-    ensures { OnOk result ((L.has_failed desk.new ≡ false) × (L.has_failed field.new ≡ false)) }
-{
-    desk.send(P, ASK)?;
-    assert_eq!(rt; serve(field, device, 1), Ok(1));
-    assert!(rt; !field.failed());
-    hear(rt, desk, P, VALUE)
 }
 
 /// The desk asks, and waits for a millisecond. The field hears it afterwards, and then both hear nothing more.
@@ -71,12 +36,9 @@ fn times_out<L: Link>(rt: &impl Abort, desk: &mut L, field: &mut L) -> Result<()
 
 #[test]
 fn two_sockets(rt: HostRuntime) -> Result<(), Fail> {
-    let mut device = demo(DeviceInfo::new(1_234, "Small device").ok_or("no device")?);
     let mut field = UdpLink::bind(&rt, rt.alloc(), P)?;
     let mut desk = UdpLink::bind(&rt, rt.alloc(), Q)?;
     assert!(rt; UdpLink::bind(&rt, rt.alloc(), Q).is_err());
-    answers_by_hand(&rt, &mut desk, &mut field, &mut device)?;
-    serves_once(&rt, &mut desk, &mut field, &mut device)?;
     times_out(&rt, &mut desk, &mut field)?;
     Ok(())
 }
@@ -165,22 +127,20 @@ const FROM_ALL: &[u8] = b"\x81\x04\x00\x0e\xff\xff\xff\xff\xba\xc0\x01\x00\x10\x
 
 const FROM_NOWHERE: &[u8] = b"\x81\x04\x00\x0e\x00\x00\x00\x00\x00\x00\x01\x00\x10\x08";
 
-/// Asks so that no reply can be sent, and then so that one can: the device that serves goes on.
-fn goes_on<L: Link>(
+/// The desk asks, the device serves for so many datagrams, and the desk hears the value.
+fn answers<L: Link>(
     rt: &impl Abort,
     desk: &mut L,
     field: &mut L,
     device: &mut Device,
     server: Peer,
+    count: u32,
 ) -> Result<(), LinkFault>
     requires { (L.has_failed desk.old ≡ false) × (L.has_failed field.old ≡ false) }
-    ensures { OnOk result (L.has_failed desk.new ≡ false) }
+    ensures { OnOk result ((L.has_failed desk.new ≡ false) × (L.has_failed field.new ≡ false)) }
 {
-    desk.send(server, FROM_PORT_0)?;
-    desk.send(server, FROM_ALL)?;
-    desk.send(server, FROM_NOWHERE)?;
     desk.send(server, ASK)?;
-    assert_eq!(rt; serve(field, device, 4), Ok(4));
+    assert_eq!(rt; serve(field, device, count), Ok(count));
     assert!(rt; !field.failed());
     hear(rt, desk, server, VALUE)
 }
@@ -188,14 +148,17 @@ fn goes_on<L: Link>(
 // Whoever makes a device answer where nothing can be sent does not stop it; a link that was bound without this fails.
 #[test]
 fn refused_replies_are_lost(rt: HostRuntime) -> Result<(), Fail> {
-    let client = Peer { port: 47_812, ..P };
     let server = Peer { port: 47_813, ..P };
     let strict = Peer { port: 47_814, ..P };
     let mut device = demo(DeviceInfo::new(1_234, "Small device").ok_or("no device")?);
-    let mut desk = UdpLink::bind(&rt, rt.alloc(), client)?;
+    let mut desk = UdpLink::bind(&rt, rt.alloc(), Peer { port: 47_812, ..P })?;
     let mut field = UdpLink::bind_with(&rt, rt.alloc(), server, Refused::IsLost)?;
-    goes_on(&rt, &mut desk, &mut field, &mut device, server)?;
+    desk.send(server, FROM_PORT_0)?;
+    desk.send(server, FROM_ALL)?;
+    desk.send(server, FROM_NOWHERE)?;
+    answers(&rt, &mut desk, &mut field, &mut device, server, 4)?;
     let mut brittle = UdpLink::bind(&rt, rt.alloc(), strict)?;
+    answers(&rt, &mut desk, &mut brittle, &mut device, strict, 1)?;
     desk.send(strict, FROM_PORT_0)?;
     let answer = serve(&mut brittle, &mut device, 1);
     assert_eq!(rt; answer, Err(ToolFault::SendFailed));

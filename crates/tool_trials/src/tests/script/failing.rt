@@ -1,6 +1,6 @@
 //! Readers and writers that fail, one operation after another.
-use crate::tests::streams::{Progress, Room, Told, octet_by_octet, whole};
-use bac_script::{TraceEnd, TraceFault, trace, trace_status};
+use crate::tests::streams::{Asked, Progress, Room, Told, printed_after};
+use bac_script::{TraceEnd, TraceFault, trace};
 use bac_text::Checked;
 use std::io::{self, ErrorKind, Read};
 use std::process::Abort;
@@ -26,7 +26,7 @@ const PRINTED: &str = "send 0 127.0.0.1:47808 810a001101040005010c0c000000051955
 fn a_text_in_fixed_room(rt: HostRuntime) {
     let mut room = [0; PRINTED.len()];
     let got = trace(
-        &mut Checked::new(whole(SCRIPT)),
+        &mut Checked::new(SCRIPT.as_bytes()),
         &mut Checked::new(room.as_mut_slice()),
     );
     assert_eq!(rt; got, Ok(TraceEnd { lines: 6 }));
@@ -45,7 +45,10 @@ fn writes_fail_in_turn(rt: HostRuntime) {
                     left,
                     fails,
                 };
-                trace(&mut Checked::new(whole(SCRIPT)), &mut Checked::new(room))
+                trace(
+                    &mut Checked::new(SCRIPT.as_bytes()),
+                    &mut Checked::new(room),
+                )
             };
             assert_eq!(rt; got, Err(TraceFault::WriteFailed), "after {left}");
             assert_eq!(rt; taken.as_slice(), &text[..left], "after {left}");
@@ -56,17 +59,6 @@ fn writes_fail_in_turn(rt: HostRuntime) {
 /// How many octets of the script there are up to the end of each line that prints, and how many of the text.
 const ENDS: [(usize, usize); 5] = [(28, 58), (48, 116), (58, 174), (68, 232), (79, 242)];
 
-/// How many octets of a text are printed once so many of its script were read.
-fn printed_after(ends: &[(usize, usize)], octets: usize) -> usize {
-    let mut printed = 0;
-    for (read, written) in ends {
-        if *read <= octets {
-            printed = *written;
-        }
-    }
-    printed
-}
-
 /// Sees that a reader that gives one octet at a time, and fails at whichever read, leaves the text of the whole lines before.
 fn expect_reads_fail<H: Abort + AllocGlobal>(
     rt: &H,
@@ -75,9 +67,15 @@ fn expect_reads_fail<H: Abort + AllocGlobal>(
     ends: &[(usize, usize)],
 ) {
     for reads in 0..=script.len() {
+        let progress = Progress::new();
         let mut written = Vec::new(rt.alloc());
         let got = {
-            let mut reader = Checked::new(octet_by_octet(script, reads));
+            let mut reader = Checked::new(Asked {
+                progress: &progress,
+                script,
+                ends: &[],
+                fails_at: reads,
+            });
             trace(&mut reader, &mut Checked::new(&mut written))
         };
         assert_eq!(rt; got, Err(TraceFault::ReadFailed), "after {reads}");
@@ -164,37 +162,6 @@ fn what_has_ended_is_not_asked_again(rt: HostRuntime) {
     }
 }
 
-/// Gives the script an octet at a time, and fails once, at the read with this number.
-#[derive(Drop)]
-struct Asked<'a> {
-    progress: &'a Progress,
-    fails_at: usize,
-}
-
-impl Read for Asked<'_> {
-    fn read(&mut self, buf: &mut [u8]) -> io::Result<usize> {
-        let read = self.progress.read.get();
-        if self.progress.is_broken.get()
-            || self.progress.written.get() < printed_after(&ENDS, read)
-        {
-            self.progress.is_early.set(true);
-        }
-        let reads = self.progress.reads.get();
-        self.progress.reads.set(reads.saturating_add(1));
-        if reads == self.fails_at {
-            return Err(io::Error::from(ErrorKind::Other));
-        }
-        match (SCRIPT.as_bytes().get(read), buf.first_mut()) {
-            (Some(octet), Some(place)) => {
-                *place = *octet;
-                self.progress.read.set(read.saturating_add(1));
-                Ok(1)
-            }
-            _ => Ok(0),
-        }
-    }
-}
-
 /// Runs the script where the read and the write with these numbers fail, and sees how it ends, and that no read came early.
 fn expect_watched(
     rt: &impl Abort,
@@ -205,6 +172,8 @@ fn expect_watched(
     let (read, write, takes_none) = fails;
     let mut reader = Checked::new(Asked {
         progress,
+        script: SCRIPT,
+        ends: &ENDS,
         fails_at: read,
     });
     let mut writer = Checked::new(Told {
@@ -256,19 +225,4 @@ fn what_failed_is_not_asked_again(rt: HostRuntime) {
             assert_eq!(rt; progress.writes.get(), write + 1, "at {write}");
         }
     }
-}
-
-#[test]
-fn statuses_and_messages(rt: HostRuntime) -> Result<(), Fail> {
-    assert_eq!(rt; trace_status(&Ok(TraceEnd { lines: 3 })), 0);
-    for (fault, status, message) in [
-        (TraceFault::BadLine(2), 2, "line 2: bad line"),
-        (TraceFault::LineTooLong(17), 2, "line 17: too long"),
-        (TraceFault::ReadFailed, 3, "reading failed"),
-        (TraceFault::WriteFailed, 3, "writing failed"),
-    ] {
-        assert_eq!(rt; trace_status(&Err(fault)), status);
-        assert_eq!(rt; format!(in rt.alloc(); "{fault}")?.as_str(), message);
-    }
-    Ok(())
 }

@@ -1,11 +1,17 @@
 //! Readers and writers that fail.
-use crate::tests::streams::{Progress, Room, Told, octet_by_octet};
+use crate::tests::streams::{Asked, Progress, Room, Told};
 use bac_text::{Checked, WriteFailed, show_value};
 use std::io::{Read, Write};
 
 #[test]
 fn a_fresh_reader_has_not_failed(rt: HostRuntime) {
-    let mut reader = Checked::new(octet_by_octet("aa", 1));
+    let progress = Progress::new();
+    let mut reader = Checked::new(Asked {
+        progress: &progress,
+        script: "aa",
+        ends: &[],
+        fails_at: 1,
+    });
     let mut octets = [0; 4];
     assert!(rt; !reader.failed());
     assert_eq!(rt; reader.reads(), 0);

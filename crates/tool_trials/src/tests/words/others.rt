@@ -26,17 +26,11 @@ fn searches(rt: HostRuntime) -> Result<(), Fail> {
             panic!(rt; "another job for {line:?}");
         };
         assert_eq!(rt; search.who, who, "for {line:?}");
-        assert_eq!(rt;
-            (search.to.ip, search.timeout, search.port),
-            (LOCALHOST, 3_000, 0),
-            "for {line:?}"
-        );
+        let settings = (search.to.ip, search.timeout, search.port);
+        assert_eq!(rt; settings, (LOCALHOST, 3_000, 0), "for {line:?}");
     }
-    let Job::WhoIs(search) = parse(
-        &rt,
-        "bactool bacwi --mac 127.0.0.1 --apdu-timeout 60000 --port 47808",
-    )?
-    else {
+    let line = "bactool bacwi --mac 127.0.0.1 --apdu-timeout 60000 --port 47808";
+    let Job::WhoIs(search) = parse(&rt, line)? else {
         panic!(rt; "another job");
     };
     assert_eq!(rt; (search.timeout, search.port), (60_000, 47_808));

@@ -1,11 +1,6 @@
-use Rattle.std.proofs.Common.{◌≡◌, ◌∙◌, Result, Ok, Err, is_err, true, sym}
-use Rattle.std.specs.Prelude.{OnErr}
-use Rattle.std.proofs.lemmas.Bool.{false≢true}
+use Rattle.std.proofs.Common.{sym, ◌∙◌}
+use Rattle.bac_text.proofs.Printed.{on_err}
 use Rattle.bac_text.proofs.page.Page.hold_or_write.Goals as goal
-
-on_err : {A E : Type 0} (r : Result A E) (P : Type 0) → is_err r ≡ true → OnErr r P → P
-on_err (Ok x) P e h = absurd (false≢true e)
-on_err (Err x) P e h = h
 
 pub returns-then-is_err : goal.returns-then-is_err
 returns-then-is_err g c =

@@ -1,12 +1,17 @@
-use Rattle.std.proofs.Common.{length}
+use Rattle.std.proofs.Common.{◌≡◌, length}
+use Rattle.std.specs.List.{list_any}
 use Rattle.bac_tsm.specs.Client.{client_rules}
+use Rattle.bac_tsm.specs.Machine.{is_due}
 use Rattle.bac_tsm.proofs.TableTick.{due_of, kept_of, HasTicked}
 use Rattle.bac_tsm.proofs.table.Table.pass_all.Given as goal
 
-abbrev pub invariant-loop-entry : goal.invariant-loop-entry
-invariant-loop-entry l =
+abbrev pub invariant-loop-is_due : goal.invariant-loop-is_due
+invariant-loop-is_due l =
     let rules = client_rules l.config.timeout l.config.retries in
-    HasTicked rules l.clock (due_of rules l.clock l.initial.self) (kept_of rules l.clock l.initial.self) l.entries.items l.self
+    record {
+      ticked : HasTicked rules l.clock (due_of rules l.clock l.initial.self) (kept_of rules l.clock l.initial.self) l.entries.items l.self;
+      due : l.is_due ≡ list_any (is_due rules l.clock) l.self;
+    }
 
-abbrev pub decreases-loop-entry : goal.decreases-loop-entry
-decreases-loop-entry l = length (due_of (client_rules l.config.timeout l.config.retries) l.clock l.self)
+abbrev pub decreases-loop-is_due : goal.decreases-loop-is_due
+decreases-loop-is_due l = length (due_of (client_rules l.config.timeout l.config.retries) l.clock l.self)

@@ -1,0 +1,8 @@
+use Rattle.std.proofs.Common.{◌≡◌, ◌++◌, take}
+use Rattle.std.specs.List.{flat_map}
+use Rattle.bac_wire.specs.Datum.{plain}
+use Rattle.bac_device.specs.Property.{property_seen}
+use Rattle.bac_device.proofs.property.append_region.Given as goal
+
+abbrev pub invariant-loop-place : goal.invariant-loop-place
+invariant-loop-place l = l.frame ≡ l.initial.frame ++ flat_map plain (take l.place (property_seen l.property).values)

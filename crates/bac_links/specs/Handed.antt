@@ -1,0 +1,19 @@
+-- What a client is handed in the course of a call, turn by turn, as the link tells it.
+use Rattle.std.specs.Prelude.{ℕ, zero, suc, List, [], ◌∷◌, ◌++◌}
+use Rattle.bac_tsm.specs.Events.{Event, Data, Tick}
+use Rattle.bac_links.specs.Told.{Told, Heard, Silence, Arrival, Failure, waited}
+
+-- The datagram that was heard, if one was.
+abbrev pub data_in : Heard → List Event
+data_in Silence = []
+data_in (Arrival from octets) = Data from octets ∷ []
+data_in Failure = []
+
+-- The next turn: what a wait hears, and then the time.
+abbrev pub turn : ℕ → Told → List Event
+turn wait t = data_in (t.heard [] wait) ++ Tick (t.time (wait ∷ [])) ∷ []
+
+-- The first n turns, always with the same wait.
+abbrev pub turns : ℕ → Told → ℕ → List Event
+turns wait t zero = []
+turns wait t (suc n) = turns wait t n ++ turn wait (waited wait n t)
