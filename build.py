@@ -21,8 +21,9 @@ import time
 PROGRAM = "bactool"
 ROOMS = "out/build"
 CRATE_MEMORY = 2 << 30  # what a crate takes while it is proved, in octets
-COST = """From nothing this takes 28 minutes of processor time: 12 minutes on a quiet machine with four processors, and some 17 with two (an
-estimate). Memory: some 2 GB for each crate at work. Disk: 3.2 GB, which are kept, so that the next build proves only what has changed."""
+COST = """From nothing this takes some 28 minutes of processor time: 12 minutes on a quiet machine with four processors, and 25 with two where
+others are at other work. Memory: some 2 GB for each crate at work. Disk: 3.2 GB, which are kept, so that the next build proves only what has
+changed."""
 
 
 def needed():

@@ -123,9 +123,10 @@ def answer(number):
 
 
 def answers_under_each_number():
-    """The answer under each number but the request's is dropped."""
+    """The answer under each number but the request's is dropped, and leaves the request open. A second one is dropped too."""
     for number in range(256):
-        yield generated(f"answer under {number}", READ + answer(number), SENT + (DONE if number == 1 else "drop\n"))
+        ends = DONE + "drop\n" if number == 1 else "drop\n" + DONE
+        yield generated(f"answer under {number}", READ + answer(number) + answer(1), SENT + ends)
 
 
 def full_tables():
@@ -140,13 +141,13 @@ def full_tables():
 
 
 def open_number():
-    """The request with number 1 stays open while 256 others are answered, and its number is left out."""
+    """The request with number 1 stays open while 256 others are answered, and its number is left out. Then it is answered."""
     script, output = READ, SENT
     for ticket in range(1, 257):
         number = {255: 0, 256: 2}.get(ticket, ticket + 1)
         script += READ + answer(number)
         output += sent(ticket, number) + f"done {ticket} value 4290999a\n"
-    return generated("open number", script, output)
+    return generated("open number", script + answer(1), output + DONE)
 
 
 def changed(datagram, place):

@@ -1,10 +1,11 @@
 #!/usr/bin/env python3
 """Tries wrong bodies of functions, many in one check, and says of each by what the prover refuses it.
 
-A wrong body is a file NAME.edit in crates/CRATE/must-fail or crates/CRATE/wrong, with lines as `rt must-fail` reads them, and three of its own:
+A wrong body is a file NAME.edit in crates/CRATE/must-fail or crates/CRATE/wrong, with lines as `rt must-fail` reads them, and four of its own:
 
     file: src/FILE.rt
-    old: TEXT       stands once in that file, in the body of a function
+    in: FUNCTION    where a line of that file stands in other functions too: the one that is meant
+    old: TEXT       stands once in that file, or behind the head of that function, in the body of a function
     new: TEXT       what stands there in the wrong body
     twin: TEXT      what stands there in a right body of the same shape, which must be proved: so the wrong one is not refused for its shape
     answer: TEXT    only an answer refuses this body, and TEXT says why it is kept all the same
@@ -97,10 +98,17 @@ class Edit:
             word, _, text = line.partition(":")
             said[word] = text[1:] if text.startswith(" ") else text
             if word == ("twin" if is_twin else "new"):
-                self.pairs.append((said["file"], said["old"], said[word]))
+                self.pairs.append((said["file"], *self.spread(said, said[word])))
         self.has_twin, self.twin, self.hole, self.answer = "twin" in said, None, said.get("hole", ""), said.get("answer", "")
         self.is_unfit = self.unfit()
         self.shown = ", ".join(dict.fromkeys(it.shown for _, it in self.functions))
+
+    def spread(self, said, new):
+        """What the edit replaces, and by what: from the head of the function on, where one is named."""
+        text, old = text_of(f"{ROOT}/crates/{self.crate}/{said['file']}") if "in" in said else "", said["old"]
+        head = re.search(rf"\bfn {said.get('in')}\b", text)
+        front = text[head.start() : max(text.find(old, head.end()), head.start())] if head else ""
+        return front + old, front + new
 
     def unfit(self):
         """Why this edit can't be tried on the code as it stands, or "". Notes the functions that it touches."""
@@ -111,7 +119,7 @@ class Edit:
             text = texts.get(path) or text_of(f"{ROOT}/crates/{self.crate}/{path}")
             if text.count(old) != 1:
                 return f"old text stands {text.count(old)} times in {path}"
-            line = text[: text.find(old)].count("\n")
+            line = text[: text.find(old) + len(old)].count("\n")
             within = [it for it in functions_of(self.crate, path, text) if it.first <= line <= it.last]
             if old == new or "ghost " in old + new or (within and line < within[-1].body):
                 return f"it changes nothing, or a contract, in {path}"

@@ -1,8 +1,6 @@
 pub mod ListLaws
 pub mod PlaceLaws
 pub mod StateLaws
-pub mod ReplyLaws
 pub mod SizeLaws
 pub mod OrderLaws
 pub mod DemoLaws
-pub mod TurnLaws

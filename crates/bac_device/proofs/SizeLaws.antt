@@ -1,13 +1,15 @@
--- Each reply to a confirmed request fits the announced size, or is the stated Abort.
+-- How long replies are: each to a confirmed request fits the announced size, or is the stated Abort.
 use Rattle.std.proofs.Common.{◌≡◌, ℕ, ◌≤◌, Bool, true, false, List, [], ◌∷◌, length, Option, Some, None, refl, sym, ap, subst, ◌∙◌, arith, inl, inr, nat_le, nat_eq}
 use Rattle.std.specs.Prelude.{◌⊎◌, IfSome, if◌then◌else◌}
 use Rattle.std.specs.Option.{option_map, option_and_then}
 use Rattle.std.proofs.lemmas.Bool.{leb-true}
 use Rattle.std.proofs.lemmas.Bool.Decides.{nat_tests}
 use Rattle.std.proofs.lemmas.Option.{none-some, some_pair_parts}
+use Rattle.bac_wire.specs.Datum.{plain}
+use Rattle.bac_wire.specs.Tag.{plain_tag}
 use Rattle.bac_pdu.specs.declared.peer.Peer.{Peer}
 use Rattle.bac_pdu.specs.declared.discovery.WhoIs.{WhoIs}
-use Rattle.bac_pdu.specs.Peer.{Station, IsRoutable, station}
+use Rattle.bac_pdu.specs.Peer.{Station, NetworkAddress, IsRoutable, station}
 use Rattle.bac_pdu.specs.Datagram.{Delivery, Carries, Takes, wrapped}
 use Rattle.bac_pdu.specs.Apdu.{Message, IsLaidOut, confirmed, unconfirmed, laid_out, announced_size}
 use Rattle.bac_pdu.specs.ValueReading.{who_is_of}
@@ -15,81 +17,76 @@ use Rattle.bac_pdu.proofs.DatagramLaws.{carried_is, wrapped_takes, wrapped_short
 use Rattle.bac_pdu.proofs.ApduLaws.{apdu_is}
 use Rattle.bac_device.specs.Info.{Info}
 use Rattle.bac_device.specs.Device.{DeviceState}
-use Rattle.bac_device.specs.Reply.{refused, fitting, full_reply, asks, i_am, introduced, reply_message, reply_apdu, reply_of}
+use Rattle.bac_device.specs.Reply.{refused, fitting, full_reply, asks, i_am, reply_message, reply_apdu, reply_of, introduced}
 use Rattle.bac_device.specs.Size.{CarriesRequest, CarriesUnconfirmed, IsWithinAnnounced, HasFifteen}
-use Rattle.bac_device.proofs.ReplyLaws.{length_i_am, carried_routable}
+
+-- a route leads to whom a datagram is from
+pub carried_routable : (from : Station) (datagram : List ℕ) (delivery : Delivery) → Carries from datagram delivery → IfSome delivery.peer.route IsRoutable
+carried_routable from datagram delivery carries = subst (λ (r : Option NetworkAddress). IfSome r IsRoutable) (sym (ap (λ (s : Station). s.route) carries.peer)) carries.heeded.answerable
 
 -- what is sent to the peer of a delivery where this is the reply
 abbrev sent : Delivery → Option Message → Option (Station × List ℕ)
 sent d reply = option_map (λ apdu. (d.peer, wrapped d.peer.route false apdu)) (option_map laid_out reply)
 
--- the reply to what a datagram carries
-reply_is : (device : DeviceState) (from : Station) (datagram : List ℕ) (d : Delivery) (m : Message) → Carries from datagram d → IsLaidOut d.apdu m → reply_of device from datagram ≡ sent d (reply_message device d.broadcast m)
+-- What is sent to whom a datagram is from takes the APDU of the reply, where each such reply is short.
+reply_takes : (device : DeviceState) (from to : Station) (datagram reply : List ℕ) (d : Delivery) (m : Message) (P : Message → Type 0) → Carries from datagram d → IsLaidOut d.apdu m
+    → ((x : Message) → P x → length (laid_out x) ≤ 1476) → IfSome (reply_message device d.broadcast m) P → reply_of device from datagram ≡ Some (to, reply)
+    → (x : Message) × P x × Takes to.route false (laid_out x) reply
 unfolding reply_of reply_apdu
-reply_is device from datagram d m carries laid = rw ((carried_is from datagram d).1 carries, (apdu_is d.apdu m).1 laid) refl
+reply_takes device from to datagram reply d m P carries laid short all e = go (reply_message device d.broadcast m) all (rw ((carried_is from datagram d).1 carries, (apdu_is d.apdu m).1 laid) at e)
+  where
+    go : (answer : Option Message) → IfSome answer P → sent d answer ≡ Some (to, reply) → (x : Message) × P x × Takes to.route false (laid_out x) reply
+    go None all e = absurd (none-some (to, reply) e)
+    go (Some x) all e =
+        let routable = carried_routable from datagram d carries in
+        let same = some_pair_parts d.peer to (wrapped d.peer.route false (laid_out x)) reply e in
+        let takes = wrapped_takes d.peer.route false (laid_out x) routable (omega (arith, short x all, wrapped_short d.peer.route false (laid_out x) routable)) in
+        (x, all, subst (λ (s : Station). Takes s.route false (laid_out x) reply) same.0 (subst (Takes d.peer.route false (laid_out x)) same.1 takes))
 
 -- ---- a confirmed request
+
+-- no more than announced, or the Abort
+abbrev Fits : ℕ → ℕ → Message → Type 0
+Fits code id m = (length (laid_out m) ≤ announced_size code) ⊎ (laid_out m ≡ 0x71 ∷ id ∷ 0x04 ∷ [])
+
+fits : (code id : ℕ) (full : Message) (b : Bool) → nat_le (length (laid_out full)) (announced_size code) ≡ b → Fits code id (if b then full else refused id)
+fits code id full true e = inl (leb-true (length (laid_out full)) (announced_size code) e)
+fits code id full false e = inr refl
 
 announced_most : (code : ℕ) → announced_size code ≤ 1476
 announced_most code = grind (arith, nat_tests)
 
--- no more than announced, or the Abort
-fitting_at : (code id : ℕ) (full : Message) (b : Bool) → nat_le (length (laid_out full)) (announced_size code) ≡ b
-    → (length (laid_out (if b then full else refused id)) ≤ announced_size code) ⊎ (laid_out (if b then full else refused id) ≡ 0x71 ∷ id ∷ 0x04 ∷ [])
-fitting_at code id full true e = inl (leb-true (length (laid_out full)) (announced_size code) e)
-fitting_at code id full false e = inr refl
+short : (code id : ℕ) (m : Message) → Fits code id m → length (laid_out m) ≤ 1476
+short code id m (inl few) = omega (arith, few, announced_most code)
+short code id m (inr abort) = omega (arith, ap length abort)
 
-fitting_size : (code id : ℕ) (full : Message) → (length (laid_out (fitting code id full)) ≤ announced_size code) ⊎ (laid_out (fitting code id full) ≡ 0x71 ∷ id ∷ 0x04 ∷ [])
-fitting_size code id full = fitting_at code id full (nat_le (length (laid_out full)) (announced_size code)) refl
-
-short_of : (code id : ℕ) (apdu : List ℕ) → (length apdu ≤ announced_size code) ⊎ (apdu ≡ 0x71 ∷ id ∷ 0x04 ∷ []) → length apdu ≤ 1476
-short_of code id apdu size = elim size [
-  | inl fits ↦ omega (arith, fits, announced_most code)
-  | inr abort ↦ omega (arith, ap length abort)
-]
-
--- what is sent takes the APDU
-sent_takes : (d : Delivery) (to : Station) (apdu reply : List ℕ) → IfSome d.peer.route IsRoutable → length apdu ≤ 1476 → ◌≡◌ {A = Option (Station × List ℕ)} (Some (d.peer, wrapped d.peer.route false apdu)) (Some (to, reply)) → Takes to.route false apdu reply
-sent_takes d to apdu reply routable short e =
-    let same = some_pair_parts d.peer to (wrapped d.peer.route false apdu) reply e in
-    let takes = wrapped_takes d.peer.route false apdu routable (omega (arith, short, wrapped_short d.peer.route false apdu routable)) in
-    subst (λ (s : Station). Takes s.route false apdu reply) same.0 (subst (Takes d.peer.route false apdu) same.1 takes)
-
-request_at : (b : Bool) (d : Delivery) (to : Station) (code id : ℕ) (full : Message) (reply : List ℕ) → IfSome d.peer.route IsRoutable → sent d (if b then None else Some (fitting code id full)) ≡ Some (to, reply) → IsWithinAnnounced to code id reply
-request_at true d to code id full reply routable e = absurd (none-some (to, reply) e)
-request_at false d to code id full reply routable e =
-    let apdu = laid_out (fitting code id full) in
-    let size = fitting_size code id full in
-    record { apdu = apdu; taken = sent_takes d to apdu reply routable (short_of code id apdu size) e; size = size }
+unless_broadcast : (b : Bool) (code id : ℕ) (full : Message) → IfSome (if b then None else Some (fitting code id full)) (Fits code id)
+unless_broadcast true code id full = tt
+unless_broadcast false code id full = fits code id full (nat_le (length (laid_out full)) (announced_size code)) refl
 
 pub request_fits : (device : DeviceState) (from to : Station) (datagram reply : List ℕ) (code id : ℕ) → CarriesRequest from datagram code id → reply_of device from datagram ≡ Some (to, reply) → IsWithinAnnounced to code id reply
 request_fits device from to datagram reply code id r e =
-    let d = r.delivery in
-    let here = sym (reply_is device from datagram d (confirmed r.part code id r.service r.body) r.carried r.confirms) ∙ e in
-    request_at d.broadcast d to code id (full_reply device r.part id r.service r.body) reply (carried_routable from datagram d r.carried) here
+    let all = unless_broadcast r.delivery.broadcast code id (full_reply device r.part id r.service r.body) in
+    let t = reply_takes device from to datagram reply r.delivery (confirmed r.part code id r.service r.body) (Fits code id) r.carried r.confirms (short code id) all e in
+    record { apdu = laid_out t.0; taken = t.2; size = t.1 }
 
 -- ---- Who-Is
 
-asked_at : (b : Bool) (info : Info) (d : Delivery) (to : Station) (reply : List ℕ) → IfSome d.peer.route IsRoutable → sent d (if b then Some (i_am info) else None) ≡ Some (to, reply) → HasFifteen to reply
-asked_at false info d to reply routable e = absurd (none-some (to, reply) e)
-asked_at true info d to reply routable e =
-    let long = length_i_am info in
-    record { apdu = laid_out (i_am info); taken = sent_takes d to (laid_out (i_am info)) reply routable (omega (arith, long)) e; size = long }
+pub length_i_am : (info : Info) → length (laid_out (i_am info)) ≡ 15
+unfolding plain plain_tag
+length_i_am info = refl
 
-introduced_at : (who : Option WhoIs) (info : Info) (d : Delivery) (to : Station) (reply : List ℕ) → IfSome d.peer.route IsRoutable → sent d (option_and_then (λ who. if asks who info.instance then Some (i_am info) else None) who) ≡ Some (to, reply) → HasFifteen to reply
-introduced_at None info d to reply routable e = absurd (none-some (to, reply) e)
-introduced_at (Some who) info d to reply routable e = asked_at (asks who info.instance) info d to reply routable e
-
-service_at : (b : Bool) (info : Info) (body : List ℕ) (d : Delivery) (to : Station) (reply : List ℕ) → IfSome d.peer.route IsRoutable → sent d (if b then introduced info body else None) ≡ Some (to, reply) → HasFifteen to reply
-unfolding introduced
-service_at false info body d to reply routable e = absurd (none-some (to, reply) e)
-service_at true info body d to reply routable e = introduced_at (who_is_of body) info d to reply routable e
+where_asked : (b : Bool) (who : Option WhoIs) (info : Info) → IfSome (if b then option_and_then (λ who. if asks who info.instance then Some (i_am info) else None) who else None) (λ m. length (laid_out m) ≡ 15)
+where_asked false who info = tt
+where_asked true None info = tt
+where_asked true (Some who) info = elim (asks who info.instance) as (λ b. IfSome (if b then Some (i_am info) else None) (λ m. length (laid_out m) ≡ 15)) [ true ↦ length_i_am info | false ↦ tt ]
 
 pub introduction_fits : (device : DeviceState) (from to : Station) (datagram reply : List ℕ) → CarriesUnconfirmed from datagram → reply_of device from datagram ≡ Some (to, reply) → HasFifteen to reply
+unfolding introduced
 introduction_fits device from to datagram reply r e =
-    let d = r.delivery in
-    let here = sym (reply_is device from datagram d (unconfirmed r.service r.body) r.carried r.laid) ∙ e in
-    service_at (nat_eq r.service 8) device.info r.body d to reply (carried_routable from datagram d r.carried) here
+    let all = where_asked (nat_eq r.service 8) (who_is_of r.body) device.info in
+    let t = reply_takes device from to datagram reply r.delivery (unconfirmed r.service r.body) (λ m. length (laid_out m) ≡ 15) r.carried r.laid (λ m long. omega (arith, long)) all e in
+    record { apdu = laid_out t.0; taken = t.2; size = t.1 }
 
 -- ---- an answer
 

@@ -1,22 +1,21 @@
 -- A device whose places are those after some writes.
-use Rattle.std.proofs.Common.{◌≡◌, ℕ, ◌≤◌, Bool, true, false, cond, List, [], ◌∷◌, ◌++◌, map, find, Option, Some, None, Result, Ok, Err, refl, IfSome, sym, ap, subst, ◌∙◌, append-nil}
+use Rattle.std.proofs.Common.{◌≡◌, ℕ, ◌≤◌, Bool, true, false, cond, List, [], ◌∷◌, ◌++◌, map, find, Option, Some, None, refl, IfSome, sym, ap, subst, ◌∙◌, append-nil}
 use Rattle.std.specs.Prelude.{if◌then◌else◌}
 use Rattle.std.proofs.lemmas.List.{map_push}
-use Rattle.std.proofs.lemmas.Option.{cond_some}
+use Rattle.std.proofs.lemmas.Option.{cond_some, none-some, same_Some}
 use Rattle.std.proofs.lemmas.Simd.{map-map}
 use Rattle.bac_wire.proofs.TagLaws.{bind_some}
-use Rattle.bac_device.specs.declared.device.AddFault.{AddFault}
-use Rattle.bac_device.specs.declared.device.AddFault.TheVariants.{TooMany, Twice, NameTwice, BadPoint}
 use Rattle.bac_device.specs.Kind.{kind_of}
-use Rattle.bac_device.specs.Steps.{needs}
 use Rattle.std.specs.Option.{option_map, option_and_then, option_to_list}
+use Rattle.bac_pdu.specs.Peer.{Station}
 use Rattle.bac_wire.specs.Identifier.{Identifier}
 use Rattle.bac_wire.specs.Steps.{◌>>=◌}
 use Rattle.bac_device.specs.Info.{Info}
 use Rattle.bac_device.specs.Point.{Given, Description, same_object, is_described, described, description_of}
 use Rattle.bac_device.specs.Places.{Write, Standing, IsUrgent, NoneTo, priorities, standing_after, present, place_at, put}
-use Rattle.bac_device.specs.Device.{DeviceState, points_of, device_after, Holds, with_point, add_point, standing_at, point_at, present_after, place_after, place_if}
-use Rattle.bac_device.specs.Reply.{with_write}
+use Rattle.bac_device.specs.Device.{DeviceState, points_of, device_after, Holds, with_point, standing_at, point_at, present_after, place_after, place_if}
+use Rattle.bac_device.specs.Reply.{with_write, reply_to, writes_after}
+use Rattle.bac_device.specs.Turns.{Arrival, AnswersInTurn, AreDefined}
 use Rattle.bac_device.proofs.PlaceLaws.{map_same, place_chosen, place_none, put_after}
 
 find_map : {A B : Type 0} (f : A → B) (test : B → Bool) (xs : List A) → find test (map f xs) ≡ option_map f (find (λ x. test (f x)) xs)
@@ -84,25 +83,40 @@ more_held device point writes holds none =
     map_push (standing_after writes) (points_of device) point ∙ ap (λ (s : List Standing). s ++ standing_after writes point ∷ []) (sym before) ∙ ap (λ (s : Standing). device.standings ++ s ∷ []) (untouched writes point none) in
     ap (λ (s : List Standing). record { info = device.info; standings = s }) (sym (ap (map (standing_after writes)) points ∙ all))
 
-added_held : (device new : DeviceState) (point : Given) (writes : List Write) (found : Option Description) → ((d : Description) → found ≡ Some d → d.object ≡ point.object) → needs BadPoint (option_map (with_point device) found) ≡ Ok new → Holds device writes → NoneTo point.object writes → Holds new writes
-added_held device new point writes None same e holds none = let no : ◌≡◌ {A = Result DeviceState AddFault} (Err BadPoint) (Ok new) = e in absurd cc
-added_held device new point writes (Some d) same e holds none =
-    let is : with_point device d ≡ new = cc in
-    subst (λ (s : DeviceState). Holds s writes) is (more_held device d writes holds (subst (λ (o : Identifier). NoneTo o writes) (sym (same d refl)) none))
-
 described_object : (point : Given) (d : Description) → description_of point ≡ Some d → d.object ≡ point.object
 unfolding description_of
 described_object point d e =
     let a = bind_some (kind_of point.object.kind) (λ kind. if is_described kind point then Some (described kind point) else None) d e in
     ap (λ (x : Description). x.object) (sym (cond_some (is_described a.0 point) (described a.0 point) d a.2).1)
 
-else_ok : (b : Bool) (fault : AddFault) (rest : Result DeviceState AddFault) (new : DeviceState) → (if b then Err fault else rest) ≡ Ok new → rest ≡ Ok new
-else_ok true fault rest new e = absurd cc
-else_ok false fault rest new e = e
-
 -- a device to which a point was added holds the writes that it held, where none of them is to the point
-pub add_held : (device new : DeviceState) (point : Given) (writes : List Write) → add_point device point ≡ Ok new → Holds device writes → NoneTo point.object writes → Holds new writes
-unfolding add_point
-add_held device new point writes e holds none =
-    let made = else_ok _ NameTwice _ new (else_ok _ Twice _ new (else_ok _ TooMany _ new e)) in
-    added_held device new point writes (description_of point) (described_object point) made holds none
+pub added_held : (device : DeviceState) (standing : Standing) (point : Given) (writes : List Write) → Some standing ≡ option_map (standing_after []) (description_of point) → Holds device writes → NoneTo point.object writes
+    → Holds (record { info = device.info; standings = device.standings ++ standing ∷ [] }) writes
+added_held device standing point writes made holds none = go (description_of point) refl (sym made)
+  where
+    go : (found : Option Description) → description_of point ≡ found → option_map (standing_after []) found ≡ Some standing → Holds (record { info = device.info; standings = device.standings ++ standing ∷ [] }) writes
+    go None at is = absurd (none-some standing is)
+    go (Some d) at is =
+        subst (λ (s : Standing). Holds (record { info = device.info; standings = device.standings ++ s ∷ [] }) writes) (same_Some _ _ is)
+        (more_held device d writes holds (subst (λ (o : Identifier). NoneTo o writes) (sym (described_object point d at)) none))
+
+-- a device after some writes holds them
+pub after_holds : (info : Info) (points : List Description) (writes : List Write) → Holds (device_after info points writes) writes
+after_holds info points writes = ap (λ (p : List Description). device_after info p writes) (sym (points_after info points writes))
+
+-- a device that answers datagrams in turn
+pub in_turn : (device : DeviceState) (arrivals : List Arrival) (replies : List (Option (Station × List ℕ))) (after : DeviceState) (writes : List Write) → AnswersInTurn device arrivals replies after → Holds device writes → AreDefined device writes arrivals replies after
+in_turn device [] [] after writes turns holds = record { replied = refl; written = turns ∙ holds }
+in_turn device [] (reply ∷ replies) after writes turns holds = absurd turns
+in_turn device (arrival ∷ arrivals) [] after writes turns holds = absurd turns
+in_turn device (arrival ∷ arrivals) (reply ∷ replies) after writes (next, call, others) holds =
+    let points = points_of device in
+    let more = writes_after device.info points writes arrival.from arrival.datagram in
+    let same : next ≡ device_after device.info points more = call.written writes holds in
+    let later = in_turn next arrivals replies after more others (subst (λ (d : DeviceState). Holds d more) (sym same) (after_holds device.info points more)) in
+    let rest : AreDefined (device_after device.info points more) more arrivals replies after = subst (λ (d : DeviceState). AreDefined d more arrivals replies after) same later in
+    let r = rw (points_after device.info points more) at rest.replied in
+    record {
+      replied = ap (λ (first : Option (Station × List ℕ)). first ∷ replies) (call.replied writes holds) ∙ ap (λ rest. reply_to device.info points writes arrival.from arrival.datagram ∷ rest) r;
+      written = rw (points_after device.info points more) at rest.written;
+    }

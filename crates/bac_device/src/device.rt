@@ -3,10 +3,11 @@ ghost use Rattle.std.specs.List.{list_any};
 ghost use Rattle.std.specs.Option.{option_map, option_and_then, option_copied};
 ghost use Rattle.bac_wire.specs.Datum.{datum, IsSound};
 ghost use Rattle.bac_wire.specs.Identifier.{identifier};
+ghost use Rattle.bac_device.specs.Kind.{value_of};
 ghost use Rattle.bac_device.specs.Point.{given, same_object};
 ghost use Rattle.bac_device.specs.Places.{Write, NoneTo, write_seen, present, place_at, put as put_write};
 ghost use Rattle.bac_device.specs.Steps.{result_seen};
-ghost use Rattle.bac_device.specs.Property.{property_seen, IsSoundProperty};
+ghost use Rattle.bac_device.specs.Property.{property_seen, single, IsSoundProperty};
 ghost use Rattle.bac_device.specs.Device.{Holds, points_of, device_after, standing_at, present_after, place_after, same_name, has_object as has_object_in, has_name as has_name_in, add_point, device_text, device_number, device_property};
 ghost use Rattle.bac_device.specs.Reply.{property_of, commanded, with_write};
 
@@ -162,8 +163,10 @@ impl Device {
     }
 
     /// The point whose present value this property is, where it can be written.
+    #[tactic(auto, unfolding(crate::specs::Reply::property_of, crate::specs::Property::point_property))]
     pub(crate) fn commanded(&self, object: ObjectId, number: u32) -> Option<&StandingPoint>
-        ensures { option_copied result ≡ commanded self.now (record { object = identifier object; property = number; index = None }) }
+        ensures point { option_copied result ≡ commanded self.now (record { object = identifier object; property = number; index = None }) }
+        ensures property { IfSome result (λ point. property_of self.now (identifier object) number ≡ Ok (single (value_of point.now.point.kind.family (present point.now)))) }
     {
         if number != PRESENT_VALUE || self.info.is_object(object) {
             return None;

@@ -41,8 +41,8 @@ pub fn replies_fit()
 {}
 
 /// The fault.
-pub fn same_fault(a: &AddFault, b: &AddFault) -> bool
-    ensures { IsTrue result ↔ (a.now ≡ b.now) }
+pub fn same_fault(fault: &AddFault, other: &AddFault) -> bool
+    ensures { IsTrue result ↔ (fault.now ≡ other.now) }
 {
-    a == b
+    fault == other
 }

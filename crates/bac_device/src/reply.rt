@@ -275,7 +275,7 @@ impl Device {
 }
 
 /// Appends the I-Am of a device that the body of a Who-Is asks to an empty frame. None where it does not ask the device.
-#[tactic(auto, using(crate::proofs::ReplyLaws::length_i_am), unfolding(crate::specs::Reply::introduced))]
+#[tactic(auto, using(crate::proofs::SizeLaws::length_i_am), unfolding(crate::specs::Reply::introduced))]
 fn introduce(info: &DeviceInfo, body: &[u8], frame: &mut Frame) -> Option<()>
     requires { frame.old ≡ [] }
     ensures value { option_map (λ _. frame.new) result ≡ option_map laid_out (introduced info.now body.now) }

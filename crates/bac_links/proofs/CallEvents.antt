@@ -1,5 +1,5 @@
 -- What the look-ahead says of the events of a call, one event after another.
-use Rattle.std.proofs.Common.{◌≡◌, ℕ, zero, suc, ◌+◌, ◌<◌, ◌≤◌, List, [], ◌∷◌, ◌++◌, length, Option, Some, None, Result, Ok, slice_get, true, false, nat_lt, refl, sym, ap, ◌∙◌, arith, append_assoc, inl, inr, subst, eq-eqb}
+use Rattle.std.proofs.Common.{◌≡◌, ℕ, zero, suc, ◌+◌, ◌<◌, ◌≤◌, List, [], ◌∷◌, ◌++◌, flat_map, length, Option, Some, None, Result, Ok, slice_get, true, false, nat_lt, refl, sym, ap, ◌∙◌, arith, append_assoc, inl, inr, subst, eq-eqb}
 use Rattle.std.proofs.lemmas.List.{append-nil, length_push, take-append-le}
 use Rattle.std.proofs.lemmas.List.Concat.{flat_map-append}
 use Rattle.std.proofs.lemmas.List.Elements.{All-nil, All-cons, All-append}
@@ -8,9 +8,9 @@ use Rattle.std.proofs.lemmas.Bool.{cases_eq, cases_lt, ne_eqb}
 use Rattle.std.proofs.lemmas.Bool.Decides.{nat_tests}
 use Rattle.std.proofs.Math.Seq.{take-append_seam}
 use Rattle.std.specs.List.{All}
-use Rattle.bac_pdu.specs.Peer.{Station, station}
+use Rattle.bac_pdu.specs.Peer.{station}
 use Rattle.bac_tsm.specs.Limits.{longest_body}
-use Rattle.bac_tsm.specs.Events.{Outcome, Event, Ask, Data, Tick, Note, Rules, Request}
+use Rattle.bac_tsm.specs.Events.{Outcome, Event, Ask, Data, Tick, Note, Dropped, Rules, Request}
 use Rattle.bac_tsm.specs.Lookahead.{Accepted, End, accepted, accepted_at, end, end_notes, end_note, or_dropped, send_notes, next_number, refusal_of, output, notes_on, is_tick}
 use Rattle.bac_tsm.specs.Machine.{State, Stepped, Answered, Run, step, initial, folded, submit, tick, sent}
 use Rattle.bac_tsm.specs.declared.client.SubmitFault.{SubmitFault}
@@ -84,20 +84,6 @@ module _ (tool : Tool) (call : Call) (time : ℕ) where
 
 -- ---- the ends and the sends among notes
 
-endings-append : (xs ys : List Note) → endings (xs ++ ys) ≡ endings xs ++ endings ys
-endings-append xs ys = flat_map-append ending_in xs ys
-
-sendings-append : (time : ℕ) (xs ys : List Note) → sendings time (xs ++ ys) ≡ sendings time xs ++ sendings time ys
-sendings-append time xs ys = flat_map-append (send_in time) xs ys
-
-endings_dropped : (xs : List Note) → endings (or_dropped xs) ≡ endings xs
-endings_dropped [] = refl
-endings_dropped (x ∷ xs) = refl
-
-sendings_dropped : (time : ℕ) (xs : List Note) → sendings time (or_dropped xs) ≡ sendings time xs
-sendings_dropped time [] = refl
-sendings_dropped time (x ∷ xs) = refl
-
 endings_sent : (rules : Rules) (events : List Event) (i : ℕ) (a : Accepted) → endings (send_notes rules events i a) ≡ []
 endings_sent rules events i a = grind arith
 
@@ -140,45 +126,47 @@ ended_there i request (Some x) o e = elim (cases_eq x.position i) [
 
 -- ---- what is told at a position
 
--- The sends and the ends that are told at position i are those that the look-ahead places there.
+-- The sends and the end that the look-ahead places at position i.
+abbrev placed : Rules → List Event → ℕ → Accepted → List Note
+placed rules events i a = send_notes rules events i a ++ end_notes i a.request (end rules events a)
+
+sends_placed : (rules : Rules) (events : List Event) (i : ℕ) (a : Accepted) (time : ℕ) → sendings time (placed rules events i a) ≡ sendings time (send_notes rules events i a)
+sends_placed rules events i a time =
+    flat_map-append (send_in time) (send_notes rules events i a) _
+    ∙ ap (λ (xs : List Sending). sendings time (send_notes rules events i a) ++ xs) (sendings_ended time i a.request (end rules events a))
+    ∙ append-nil (sendings time (send_notes rules events i a))
+
+ends_placed : (rules : Rules) (events : List Event) (i : ℕ) (a : Accepted) → endings (placed rules events i a) ≡ endings (end_notes i a.request (end rules events a))
+ends_placed rules events i a =
+    flat_map-append ending_in (send_notes rules events i a) _
+    ∙ ap (λ (xs : List (Option Outcome)). xs ++ endings (end_notes i a.request (end rules events a))) (endings_sent rules events i a)
+
+-- The sends and the ends that are told at position i are those that are placed there.
 record TellsPlaced (rules : Rules) (events : List Event) (a : Accepted) (i : ℕ) : Type 0 where
   sends : (time : ℕ) → sendings time (output rules 0 events i) ≡ sendings time (send_notes rules events i a)
   ends : endings (output rules 0 events i) ≡ endings (end_notes i a.request (end rules events a))
 
--- Where one request was accepted before, a later event tells so.
-module _ (rules : Rules) (events : List Event) (i : ℕ) (a : Accepted) (only : accepted rules 0 events i ≡ a ∷ []) (other : a.position ≡ i → ⊥) where
-  abbrev end_here : List Note
-  end_here = end_notes i a.request (end rules events a)
+-- What is read of notes, where nothing is read of a dropped datagram.
+module _ {X : Type 0} (read : Note → List X) (silent : read Dropped ≡ []) where
+  dropped : (notes : List Note) → flat_map read (or_dropped notes) ≡ flat_map read notes
+  dropped [] = rw silent refl
+  dropped (note ∷ notes) = refl
 
-  tick_output : (now : ℕ) → slice_get events i ≡ Some (Tick now) → output rules 0 events i ≡ send_notes rules events i a ++ end_here
-  tick_output now e =
-      ap (λ xs. notes_on rules 0 events i xs (slice_get events i)) only
-      ∙ ap (notes_on rules 0 events i (a ∷ [])) e
-      ∙ append-nil (send_notes rules events i a ++ end_here)
+  -- Where one request was accepted before, a later event tells what is placed there.
+  news_told : (rules : Rules) (events : List Event) (i : ℕ) (a : Accepted) → accepted rules 0 events i ≡ a ∷ [] → (a.position ≡ i → ⊥) →
+      (event : Event) → IsNews event → slice_get events i ≡ Some event → flat_map read (output rules 0 events i) ≡ flat_map read (placed rules events i a)
+  news_told rules events i a only other event news e = ap (flat_map read) here ∙ go event news e
+    where
+      here : output rules 0 events i ≡ notes_on rules 0 events i (a ∷ []) (Some event)
+      here = ap (λ xs. notes_on rules 0 events i xs (slice_get events i)) only ∙ ap (notes_on rules 0 events i (a ∷ [])) e
 
-  data_output : (peer : Station) (bytes : List ℕ) → slice_get events i ≡ Some (Data peer bytes) → output rules 0 events i ≡ or_dropped end_here
-  data_output peer bytes e =
-      ap (λ xs. notes_on rules 0 events i xs (slice_get events i)) only
-      ∙ ap (notes_on rules 0 events i (a ∷ [])) e
-      ∙ ap or_dropped (append-nil end_here)
-
-  news_told : (event : Event) → IsNews event → slice_get events i ≡ Some event → TellsPlaced rules events a i
-  news_told (Ask peer service body) news e = absurd news
-  news_told (Data peer bytes) news e = record {
-    sends = λ time.
-        ap (sendings time) (data_output peer bytes e) ∙ sendings_dropped time end_here ∙ sendings_ended time i a.request (end rules events a)
-        ∙ sym (ap (sendings time) (quiet_unsent rules events a i other (ap is_tick e)));
-    ends = ap endings (data_output peer bytes e) ∙ endings_dropped end_here;
-  }
-  news_told (Tick now) news e = record {
-    sends = λ time.
-        ap (sendings time) (tick_output now e) ∙ sendings-append time (send_notes rules events i a) end_here
-        ∙ ap (λ (xs : List Sending). sendings time (send_notes rules events i a) ++ xs) (sendings_ended time i a.request (end rules events a))
-        ∙ append-nil (sendings time (send_notes rules events i a));
-    ends =
-        ap endings (tick_output now e) ∙ endings-append (send_notes rules events i a) end_here
-        ∙ ap (λ (xs : List (Option Outcome)). xs ++ endings end_here) (endings_sent rules events i a);
-  }
+      go : (event : Event) → IsNews event → slice_get events i ≡ Some event →
+          flat_map read (notes_on rules 0 events i (a ∷ []) (Some event)) ≡ flat_map read (placed rules events i a)
+      go (Ask peer service body) news e = absurd news
+      go (Data peer bytes) news e =
+          dropped _ ∙ ap (flat_map read) (append-nil _)
+          ∙ ap (λ (xs : List Note). flat_map read (xs ++ end_notes i a.request (end rules events a))) (sym (quiet_unsent rules events a i other (ap is_tick e)))
+      go (Tick now) news e = ap (flat_map read) (append-nil (placed rules events i a))
 
 -- What is sent does not rest on what comes later, if what is told doesn't.
 sent_before : (rules : Rules) (events more : List Event) (a : Accepted) →
@@ -217,22 +205,24 @@ module _ (tool : Tool) (call : Call) (time : ℕ) (later : List Event) (short : 
   pub is_accepted : IsAccepted tool call all
   is_accepted = accepted_is tool call time later short quiet (length later)
 
-  told_at : (i : ℕ) (event : Event) → slice_get all i ≡ Some event → TellsPlaced (rules_for call) all (asked tool call) i
+  told_at : {X : Type 0} (read : Note → List X) → read Dropped ≡ [] → (i : ℕ) (event : Event) → slice_get all i ≡ Some event →
+      flat_map read (output (rules_for call) 0 all i) ≡ flat_map read (placed (rules_for call) all i (asked tool call))
   unfolding refusal_of next_number
-  told_at zero event e = record {
-    sends = λ at. rw (early_unsent (rules_for call) all (asked tool call) 0 (omega arith)) refl;
-    ends = rw (early_unended (rules_for call) all (asked tool call) 0 (omega arith)) refl;
-  }
-  told_at (suc zero) event e = record {
-    sends = λ at. rw (sent_first (rules_for call) all (asked tool call), fitting tool call time short) refl;
-    ends = rw (early_unended (rules_for call) all (asked tool call) 1 (omega arith), fitting tool call time short) refl;
-  }
-  told_at (suc (suc j)) event e =
-      news_told (rules_for call) all (suc (suc j)) (asked tool call) (accepted_is tool call time later short quiet j) (λ q. omega arith) event
+  told_at read silent zero event e =
+      rw (early_unsent (rules_for call) all (asked tool call) 0 (omega arith), early_unended (rules_for call) all (asked tool call) 0 (omega arith)) refl
+  told_at read silent (suc zero) event e =
+      rw (sent_first (rules_for call) all (asked tool call), early_unended (rules_for call) all (asked tool call) 1 (omega arith), fitting tool call time short) refl
+  told_at read silent (suc (suc j)) event e =
+      news_told read silent (rules_for call) all (suc (suc j)) (asked tool call) (accepted_is tool call time later short quiet j) (λ q. omega arith) event
       (news_at later j event quiet e) e
 
   told : (i : ℕ) → i < length all → TellsPlaced (rules_for call) all (asked tool call) i
-  told i within = let here = drop_head all i within in told_at i here.0 here.1
+  told i within =
+      let here = drop_head all i within in
+      record {
+        sends = λ at. told_at (send_in at) refl i here.0 here.1 ∙ sends_placed (rules_for call) all i (asked tool call) at;
+        ends = told_at ending_in refl i here.0 here.1 ∙ ends_placed (rules_for call) all i (asked tool call);
+      }
 
   -- The request ends among the events.
   end_within : (x : End) → end_in tool call all ≡ Some x → x.position < length all

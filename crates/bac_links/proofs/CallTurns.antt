@@ -21,7 +21,7 @@ use Rattle.bac_links.specs.declared.fault.ToolFault.TheVariants.{SendFailed, Rec
 use Rattle.bac_links.proofs.Courses.{none_yet, one_more, ends_now, fails_now}
 use Rattle.bac_links.proofs.CallEvents.{one_news, is_accepted, stands, sends_no_more, carries_on, ends_next, sends_next, carried_alone, submitted, begins, begins_sent}
 use Rattle.bac_links.proofs.CallEnds.{is_open}
-use Rattle.bac_links.proofs.Sendings.{having_nothing, having_sent-both}
+use Rattle.bac_links.proofs.Requests.{having_nothing, having_sent-both}
 
 -- A datagram sends nothing.
 data_unsent : (time : ℕ) (rules : Rules) (state : State) (from : Station) (octets : List ℕ) → sendings time (step rules state (Data from octets)).notes ≡ []

@@ -1,5 +1,4 @@
 mod Requests
-mod Sendings
 mod Courses
 mod CallEvents
 mod CallEnds

@@ -1,5 +1,5 @@
 -- What a client with one open request says of it.
-use Rattle.std.proofs.Common.{◌≡◌, ℕ, List, [], ◌∷◌, map, flat_map, Option, Some, None, slice_get, option_to_list, refl, sym, ap, ◌∙◌, inl, inr}
+use Rattle.std.proofs.Common.{◌≡◌, ℕ, List, [], ◌∷◌, ◌++◌, append_assoc, map, flat_map, Option, Some, None, slice_get, option_to_list, refl, sym, ap, ◌∙◌, inl, inr}
 use Rattle.std.proofs.lemmas.List.{append-nil}
 use Rattle.std.proofs.lemmas.Bool.{cases_Bool}
 use Rattle.bac_pdu.specs.Peer.{Station}
@@ -7,7 +7,7 @@ use Rattle.bac_tsm.specs.declared.due.Entry.{Entry}
 use Rattle.bac_tsm.specs.declared.due.Entry.TheVariants.{Resend}
 use Rattle.bac_tsm.specs.Events.{Rules, Tick, Sent}
 use Rattle.bac_tsm.specs.Machine.{State, Waiting, to_send, sent, is_due, due_entry, due_notes, tick, step}
-use Rattle.bac_links.specs.Told.{Sending}
+use Rattle.bac_links.specs.Told.{Told, Sending, having_sent}
 use Rattle.bac_links.specs.Call.{sendings}
 use Rattle.bac_links.specs.CallSteps.{endings, IsAlone}
 
@@ -43,3 +43,10 @@ resent rules state now ticket alone first =
           let bad : Some (Resend ticket) ≡ None = first ∙ ap (λ (xs : List Entry). slice_get xs 0) none in
           cc
     ]
+
+-- What a link tells once more was sent.
+pub having_nothing : (t : Told) → t ≡ having_sent [] t
+having_nothing t = λ i. record { heard = t.heard; time = t.time; sent = sym (append-nil t.sent) i }
+
+pub having_sent-both : (t : Told) (first more : List Sending) → having_sent more (having_sent first t) ≡ having_sent (first ++ more) t
+having_sent-both t first more = rw (append_assoc t.sent first more) refl

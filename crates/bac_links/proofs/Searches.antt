@@ -1,16 +1,16 @@
 -- A search, turn by turn.
-use Rattle.std.proofs.Common.{◌≡◌, ◌≢◌, ℕ, suc, ◌-◌, ◌<◌, ◌≤◌, max, List, [], ◌∷◌, ◌++◌, Option, Some, None, Ok, Err, Bool, true, false, ◌||◌, nat_le, refl, sym, ◌∙◌, arith, subst}
+use Rattle.std.proofs.Common.{◌≡◌, ◌≢◌, ℕ, suc, ◌-◌, ◌<◌, ◌≤◌, max, List, [], ◌∷◌, ◌++◌, Option, Some, None, Ok, Err, Bool, false, ◌||◌, refl, sym, ◌∙◌, arith, subst}
 use Rattle.std.specs.Option.{ForSome}
 use Rattle.std.proofs.lemmas.List.{append-nil}
-use Rattle.std.proofs.lemmas.Bool.Decides.{nat_tests}
+use Rattle.std.proofs.lemmas.Bool.{le-leb, lt-leb}
 use Rattle.std.proofs.lemmas.List.Concat.{flat_map-append}
 use Rattle.std.specs.Io.KnownBytes.{Appends}
 use Rattle.bac_pdu.specs.declared.discovery.WhoIs.{WhoIs}
 use Rattle.bac_pdu.specs.Peer.{Station}
 use Rattle.bac_text.proofs.Known.{Appends-none, Appends-more}
 use Rattle.bac_links.specs.Limits.{most_turns}
-use Rattle.bac_links.specs.Told.{Told, Heard, Arrival, Failure, after_wait, waited, having_sent}
-use Rattle.bac_links.specs.Search.{Found, has_found, found_of, found_by, found_line, found_lines, found_after, passed, who_is_sending, search_wait, search_hears, is_late, SearchEnds, Searched}
+use Rattle.bac_links.specs.Told.{Told, Heard, Arrival, Failure, having_sent}
+use Rattle.bac_links.specs.Search.{Found, has_found, found_of, found_by, found_line, found_lines, found_after, greatest_time, passed, searched, who_is_sending, search_wait, search_hears, is_late, SearchEnds, Searched}
 use Rattle.bac_links.specs.Courses.{first_below, stops_at}
 use Rattle.bac_links.proofs.Courses.{none_yet, one_more, ends_now, fails_now}
 use Rattle.bac_links.specs.SearchSteps.{Listens, SearchesSo, SearchGoes}
@@ -34,81 +34,66 @@ has_found-append : (xs ys : List Found) → has_found (xs ++ ys) ≡ (has_found 
 has_found-append [] ys = refl
 has_found-append (x ∷ xs) ys = refl
 
--- ---- a turn, over what the link told
-
-in_time_is : (timeout passed : ℕ) → passed < timeout → nat_le timeout passed ≡ false
-in_time_is timeout passed less = grind (arith, nat_tests)
-
-late_is : (timeout passed : ℕ) → timeout ≤ passed → nat_le timeout passed ≡ true
-late_is timeout passed late = grind (arith, nat_tests)
-
-module _ (search : Search) (t : Told) (link : Option Told) (first greatest : ℕ) (found : List Found) (n : ℕ) (far : SearchesSo search t link first greatest found n) where
-  abbrev here : Told
-  here = having_sent (who_is_sending search t ∷ []) (waited (search_wait search) n t)
-
-  abbrev heard : Heard
-  heard = search_hears search t n
-
-  module _ (left : Option Told) (more : List Found) (now : ℕ) (received : heard ≢ Failure) (finds : more ≡ found_by search.who heard) (left_is : left ≡ Some (after_wait (search_wait search) here)) (now_is : now ≡ (after_wait (search_wait search) here).time []) where
-    found_next : found ++ more ≡ found_after search t (suc n)
-    found_next = rw (far.finds, finds) refl
-
-    passed_next : max greatest now - first ≡ passed search t (suc n)
-    passed_next = rw (far.time, far.began, now_is) refl
-
-    turns_next : first_below (stops_at (search_hears search t) (is_late search t)) (suc n) ≡ None
-    turns_next = one_more (search_hears search t) (is_late search t) n far.before received
-
-    pub so_on : max greatest now - first < search.timeout → SearchesSo search t left first (max greatest now) (found ++ more) (suc n)
-    so_on in_time = record {
-      began = far.began;
-      time = rw (far.time, now_is) refl;
-      before = record { passed = turns_next; unended = in_time_is search.timeout (passed search t (suc n)) (rw (← passed_next) in_time) };
-      finds = found_next;
-      link_left = left_is;
-    }
-
-    pub so_ended : n < most_turns → search.timeout ≤ max greatest now - first → SearchEnds search t left (found ++ more) (suc n)
-    so_ended within over = record {
-      stops = ends_now (search_hears search t) (is_late search t) (suc n) turns_next (late_is search.timeout (passed search t (suc n)) (rw (← passed_next) over)) (omega arith);
-      finds = found_next;
-      link_left = left_is;
-    }
-
 -- ---- a turn
 
 module _ (search : Search) (before middle after : Option (List ℕ)) (told mid left : Option Told) (first greatest : ℕ) (any : Bool) (n : ℕ) (goes : SearchGoes search before middle told mid first greatest any n) where
   -- A wait that goes well.
   module _ (some : Bool) (listens : Listens search.who (search_wait search) middle after mid left (Ok some)) (now : ℕ) (now_is : ForSome left (λ t. now ≡ t.time [])) (last : Option Told) (same : last ≡ left) where
-    printed_next : Appends before after (found_lines (goes.found ++ listens.0))
+    abbrev next : List Found
+    next = goes.found ++ listens.0
+
+    printed_next : Appends before after (found_lines next)
     printed_next =
         subst (Appends before after) (sym (flat_map-append found_line goes.found listens.0))
         (Appends-more before middle after (found_lines goes.found) (found_lines listens.0) goes.printed listens.2)
 
-    any_next : (any || some) ≡ has_found (goes.found ++ listens.0)
+    any_next : (any || some) ≡ has_found next
     any_next = rw (goes.any_is, listens.1) (sym (has_found-append goes.found listens.0))
+
+    -- Over what the link told.
+    module _ (t : Told) (e : told ≡ Some t) where
+      far : SearchesSo search t mid first greatest goes.found n
+      far = goes.so_far t e
+
+      turns_next : first_below (stops_at (search_hears search t) (is_late search t)) (suc n) ≡ None
+      turns_next = one_more (search_hears search t) (is_late search t) n far.before (listens.3 _ far.link_left).0
+
+      found_next : next ≡ found_after search t (suc n)
+      found_next = rw (far.finds, (listens.3 _ far.link_left).1) refl
+
+      left_next : last ≡ searched search t (suc n)
+      left_next = same ∙ (listens.3 _ far.link_left).2
+
+      time_next : max greatest now ≡ greatest_time search t (suc n)
+      time_next = rw (far.time, now_is _ (listens.3 _ far.link_left).2) refl
+
+      passed_next : max greatest now - first ≡ passed search t (suc n)
+      passed_next = rw (time_next, far.began) refl
 
     pub goes_on : max greatest now - first < search.timeout → SearchGoes search before after told last first (max greatest now) (any || some) (suc n)
     goes_on in_time = record {
-      found = goes.found ++ listens.0;
+      found = next;
       any_is = any_next;
       printed = printed_next;
-      so_far = λ t e.
-          let far = goes.so_far t e in
-          let heard = listens.3 _ far.link_left in
-          so_on search t mid first greatest goes.found n far last listens.0 now heard.0 heard.1 (same ∙ heard.2) (now_is _ heard.2) in_time;
+      so_far = λ t e. record {
+        began = (far t e).began;
+        time = time_next t e;
+        before = record { passed = turns_next t e; unended = lt-leb search.timeout (passed search t (suc n)) (rw (← passed_next t e) in_time) };
+        finds = found_next t e;
+        link_left = left_next t e;
+      };
     }
 
     pub ended : n < most_turns → search.timeout ≤ max greatest now - first → (found : List Found) × ((any || some) ≡ has_found found)
         × Appends before after (found_lines found) × ForSome told (λ t. (n : ℕ) × SearchEnds search t last found n)
     ended within over = (
-      goes.found ++ listens.0,
+      next,
       any_next,
       printed_next,
       λ t e.
-          let far = goes.so_far t e in
-          let heard = listens.3 _ far.link_left in
-          (suc n, so_ended search t mid first greatest goes.found n far last listens.0 now heard.0 heard.1 (same ∙ heard.2) (now_is _ heard.2) within over),
+          let late = le-leb search.timeout (passed search t (suc n)) (rw (← passed_next t e) over) in
+          let stops = ends_now (search_hears search t) (is_late search t) (suc n) (turns_next t e) late (omega arith) in
+          (suc n, record { stops = stops; finds = found_next t e; link_left = left_next t e }),
     )
 
   -- A wait that fails.
@@ -156,7 +141,7 @@ begun search before told link first positive sent = record {
         time = s.0;
         before = record {
           passed = none_yet (stops_at (search_hears search t) (is_late search t));
-          unended = in_time_is search.timeout (passed search t 0) (omega arith);
+          unended = lt-leb search.timeout (passed search t 0) (omega arith);
         };
         finds = refl;
         link_left = s.1;

@@ -1,9 +1,9 @@
 -- A device that serves, wait by wait.
-use Rattle.std.proofs.Common.{◌≡◌, ◌≢◌, ℕ, suc, ◌+◌, ◌<◌, ◌≤◌, List, [], ◌∷◌, ◌++◌, flat_map, length, length-append, Option, Some, Ok, Err, refl, sym, ap, ◌∙◌, arith, append_assoc, subst, true, false, nat_le}
+use Rattle.std.proofs.Common.{◌≡◌, ◌≢◌, ℕ, suc, ◌+◌, ◌<◌, ◌≤◌, List, [], ◌∷◌, ◌++◌, flat_map, length, length-append, Option, Some, Ok, Err, refl, sym, ap, ◌∙◌, arith, append_assoc, subst}
 use Rattle.std.specs.Option.{option_to_list}
 use Rattle.std.proofs.lemmas.List.{append-nil, length-map, map-append}
 use Rattle.std.proofs.lemmas.List.Concat.{flat_map-append}
-use Rattle.std.proofs.lemmas.Bool.Decides.{nat_tests}
+use Rattle.std.proofs.lemmas.Bool.{le-leb, lt-leb}
 use Rattle.bac_pdu.specs.Peer.{Station}
 use Rattle.bac_device.specs.Device.{DeviceState, device_after, points_of}
 use Rattle.bac_device.specs.Info.{Info}
@@ -12,14 +12,14 @@ use Rattle.bac_device.specs.Point.{Description}
 use Rattle.bac_device.specs.Reply.{reply_to, writes_after}
 use Rattle.bac_device.specs.Turns.{Arrival as Came, AnswersInTurn, replies_to}
 use Rattle.bac_device.proofs.SizeLaws.{introduction_fits, request_fits}
-use Rattle.bac_device.proofs.TurnLaws.{in_turn}
+use Rattle.bac_device.proofs.StateLaws.{in_turn}
 use Rattle.bac_links.specs.Limits.{most_turns, serve_wait}
-use Rattle.bac_links.specs.Told.{Told, Heard, Silence, Arrival, Failure, Sending, after_wait, waited, having_sent}
-use Rattle.bac_links.specs.Serve.{Delivery, arrivals_of, delivery_at, brought, deliveries, reply_sendings, sent_for, reply_count, AnswersAll, RepliesFit, ReplyFits, serve_hears, all_came, ServeDone, ServeUnsent, ServeDeaf, Serves}
+use Rattle.bac_links.specs.Told.{Told, Heard, Silence, Arrival, Failure, Sending, waited, having_sent}
+use Rattle.bac_links.specs.Serve.{Delivery, arrivals_of, delivery_at, brought, deliveries, reply_sendings, sent_for, reply_count, AnswersAll, RepliesFit, ReplyFits, serve_hears, all_came, Serves}
 use Rattle.bac_links.specs.Courses.{stops_at, GoesOn}
 use Rattle.bac_links.proofs.Courses.{none_yet, one_more, ends_now, fails_now}
 use Rattle.bac_links.specs.ServeSteps.{came_in, replied_in, ServesOne, ServesOver, ServeGoes}
-use Rattle.bac_links.proofs.Sendings.{having_nothing, having_sent-both}
+use Rattle.bac_links.proofs.Requests.{having_nothing, having_sent-both}
 use Rattle.bac_links.specs.declared.serving.Brought.{Brought}
 use Rattle.bac_links.specs.declared.fault.ToolFault.{ToolFault}
 use Rattle.bac_links.specs.declared.fault.ToolFault.TheVariants.{SendFailed, ReceiveFailed, TurnsSpent, WriteFailed}
@@ -84,71 +84,6 @@ count-append : (rs ss : List (Option (Station × List ℕ))) → reply_count (rs
 count-append rs ss =
     ap length (flat_map-append option_to_list rs ss) ∙ length-append (flat_map option_to_list rs) (flat_map option_to_list ss)
 
--- ---- a wait, over what the link told
-
-all_is : (count n : ℕ) → count ≤ n → nat_le count n ≡ true
-all_is count n le = grind (arith, nat_tests)
-
-fewer_is : (count n : ℕ) → n < count → nat_le count n ≡ false
-fewer_is count n less = grind (arith, nat_tests)
-
-module _ (t : Told) (link : Option Told) (arrivals more : List Came) (replies answers : List (Option (Station × List ℕ))) (count n : ℕ) (far : ServesOver t link arrivals replies count n) (same : length arrivals ≡ length replies) where
-  abbrev here : Told
-  here = having_sent (sent_for (deliveries t n) replies) (waited serve_wait n t)
-
-  came_is : length (deliveries t n) ≡ length arrivals
-  came_is = sym (ap length far.so.came ∙ length-map (deliveries t n) (λ d. d.arrival))
-
-  -- The server is done, or waits on.
-  pub done_so : length arrivals ≡ count → n ≤ most_turns → ServeDone t link arrivals replies count n
-  done_so all within = record {
-    stops = ends_now (serve_hears t) (all_came count t) n far.passed (all_is count (length (deliveries t n)) (omega (arith, all, came_is))) within;
-    so = far.so;
-  }
-
-  pub waits_on : length arrivals < count → GoesOn (serve_hears t) (all_came count t) n
-  waits_on fewer = record { passed = far.passed; unended = fewer_is count (length (deliveries t n)) (omega (arith, fewer, came_is)) }
-
-  module _ (fewer : length arrivals < count) (received : here.heard [] serve_wait ≢ Failure) (brings : more ≡ arrivals_of (brought here)) where
-    came_next : arrivals ++ more ≡ arrivals_of (deliveries t (suc n))
-    came_next = rw (far.so.came, brings) (sym (map-append (λ d. d.arrival) (deliveries t n) (brought (waited serve_wait n t))))
-
-    sent_next : (answers : List (Option (Station × List ℕ))) → sent_for (deliveries t (suc n)) (replies ++ answers) ≡ sent_for (deliveries t n) replies ++ sent_for (brought (waited serve_wait n t)) answers
-    sent_next answers = sent_for-append (deliveries t n) (brought (waited serve_wait n t)) replies answers (came_is ∙ same)
-
-    pub serves_on : (left : Option Told) → left ≡ Some (having_sent (sent_for (brought here) answers) (after_wait serve_wait here)) →
-        ServesOver t left (arrivals ++ more) (replies ++ answers) count (suc n)
-    serves_on left e = record {
-      passed = one_more (serve_hears t) (all_came count t) n (waits_on fewer) received;
-      so = record {
-        came = came_next;
-        link_left =
-            e ∙ ap Some (having_sent-both (waited serve_wait (suc n) t) (sent_for (deliveries t n) replies) (sent_for (brought here) answers))
-            ∙ ap (λ (xs : List Sending). Some (having_sent xs (waited serve_wait (suc n) t))) (sym (sent_next answers));
-      };
-    }
-
-    pub unsent_so : n < most_turns → (left : Option Told) (reply : Option (Station × List ℕ)) (lost : Sending) → sent_for (brought here) (reply ∷ []) ≡ lost ∷ [] →
-        left ≡ Some (after_wait serve_wait here) → ServeUnsent t left (arrivals ++ more) (replies ++ reply ∷ []) count n
-    unsent_so within left reply lost one e = record {
-      within = within;
-      before = waits_on fewer;
-      received = received;
-      came = came_next;
-      made = sent_for (deliveries t n) replies;
-      lost = lost;
-      owed = sent_next (reply ∷ []) ∙ ap (λ (xs : List Sending). sent_for (deliveries t n) replies ++ xs) one;
-      link_left = e;
-    }
-
-  pub deaf_so : n < most_turns → length arrivals < count → (left : Option Told) → here.heard [] serve_wait ≡ Failure → left ≡ Some (after_wait serve_wait here) →
-      ServeDeaf t left arrivals replies count n
-  deaf_so within fewer left failure e = record {
-    stops = fails_now (serve_hears t) (all_came count t) n (waits_on fewer) failure within;
-    came = far.so.came;
-    link_left = e;
-  }
-
 -- ---- a wait
 
 -- One reply is one send.
@@ -172,32 +107,46 @@ serves_none device told count = record {
 }
 
 module _ (before device : DeviceState) (told mid : Option Told) (count came replied n : ℕ) (goes : ServeGoes before device told mid count came replied n) where
-  same : length goes.arrivals ≡ length goes.replies
-  same = same_length before device goes.arrivals goes.replies goes.in_turn
+  -- Over what the link told.
+  module _ (t : Told) (e : told ≡ Some t) where
+    far : ServesOver t mid goes.arrivals goes.replies count n
+    far = goes.so_far t e
 
-  fewer_came : came < count → length goes.arrivals < count
-  fewer_came fewer = rw (← goes.came_is) fewer
+    came_is : length (deliveries t n) ≡ came
+    came_is = sym (goes.came_is ∙ ap length far.so.came ∙ length-map (deliveries t n) (λ d. d.arrival))
+
+    waits_on : came < count → GoesOn (serve_hears t) (all_came count t) n
+    waits_on fewer = record { passed = far.passed; unended = lt-leb count (length (deliveries t n)) (omega (arith, fewer, came_is)) }
+
+    came_next : (more : List Came) → more ≡ arrivals_of (brought (waited serve_wait n t)) → goes.arrivals ++ more ≡ arrivals_of (deliveries t (suc n))
+    came_next more brings = rw (far.so.came, brings) (sym (map-append (λ d. d.arrival) (deliveries t n) (brought (waited serve_wait n t))))
+
+    sent_next : (answers : List (Option (Station × List ℕ))) →
+        sent_for (deliveries t (suc n)) (goes.replies ++ answers) ≡ sent_for (deliveries t n) goes.replies ++ sent_for (brought (waited serve_wait n t)) answers
+    sent_next answers =
+        sent_for-append (deliveries t n) (brought (waited serve_wait n t)) goes.replies answers
+        (came_is ∙ goes.came_is ∙ same_length before device goes.arrivals goes.replies goes.in_turn)
 
   pub serve_done : came ≡ count → n ≤ most_turns → Serves count before device told mid (Ok replied)
-  serve_done all within =
-      let all = sym goes.came_is ∙ all in (
-        goes.arrivals,
-        goes.replies,
-        defined before device goes.arrivals goes.replies goes.in_turn,
-        (all, goes.replied_is, λ t e. (n, done_so t mid goes.arrivals [] goes.replies [] count n (goes.so_far t e) same all within)),
-      )
+  serve_done all within = (
+    goes.arrivals,
+    goes.replies,
+    defined before device goes.arrivals goes.replies goes.in_turn,
+    (
+      sym goes.came_is ∙ all,
+      goes.replied_is,
+      λ t e.
+          let enough = le-leb count (length (deliveries t n)) (omega (arith, all, came_is t e)) in
+          (n, record { stops = ends_now (serve_hears t) (all_came count t) n (far t e).passed enough within; so = (far t e).so }),
+    ),
+  )
 
   pub serve_spent : n ≡ most_turns → came < count → Serves count before device told mid (Err TurnsSpent)
   serve_spent all fewer = (
     goes.arrivals,
     goes.replies,
     defined before device goes.arrivals goes.replies goes.in_turn,
-    (
-      fewer_came fewer,
-      λ t e.
-          let far = goes.so_far t e in
-          (n, record { all = all; before = waits_on t mid goes.arrivals [] goes.replies [] count n far same (fewer_came fewer); so = far.so }),
-    ),
+    (rw (← goes.came_is) fewer, λ t e. (n, record { all = all; before = waits_on t e fewer; so = (far t e).so })),
   )
 
   pub serve_on : (after : DeviceState) (left : Option Told) → came < count → (brings : Brought) → ServesOne device after mid left (Ok brings) →
@@ -209,9 +158,16 @@ module _ (before device : DeviceState) (told mid : Option Told) (count came repl
     came_is = rw (goes.came_is, one.3) (sym (length-append goes.arrivals one.0));
     replied_is = rw (goes.replied_is, one.4) (sym (count-append goes.replies one.1));
     so_far = λ t e.
-        let far = goes.so_far t e in
-        let heard = one.5 _ far.so.link_left in
-        serves_on t mid goes.arrivals one.0 goes.replies one.1 count n far same (fewer_came fewer) heard.0 heard.1 left heard.2;
+        let heard = one.5 _ (far t e).so.link_left in
+        record {
+          passed = one_more (serve_hears t) (all_came count t) n (waits_on t e fewer) heard.0;
+          so = record {
+            came = came_next t e one.0 heard.1;
+            link_left =
+                heard.2 ∙ ap Some (having_sent-both (waited serve_wait (suc n) t) (sent_for (deliveries t n) goes.replies) _)
+                ∙ ap (λ (xs : List Sending). Some (having_sent xs (waited serve_wait (suc n) t))) (sym (sent_next t e one.1));
+          };
+        };
   }
 
   pub serve_fails : (after : DeviceState) (left : Option Told) → n < most_turns → came < count → (fault : ToolFault) → ServesOne device after mid left (Err fault) → Serves count before after told left (Err fault)
@@ -221,20 +177,29 @@ module _ (before device : DeviceState) (told mid : Option Told) (count came repl
     defined before after (goes.arrivals ++ one.0) (goes.replies ++ Some one.1 ∷ [])
         (turns-append before device after goes.arrivals one.0 goes.replies (Some one.1 ∷ []) goes.in_turn one.2),
     λ t e.
-        let far = goes.so_far t e in
-        let heard = one.3 _ far.so.link_left in
+        let heard = one.3 _ (far t e).so.link_left in
         let single = ap length (sym heard.1) ∙ same_length device after one.0 (Some one.1 ∷ []) one.2 in
-        let lost = one_lost ((waited serve_wait n t).time (serve_wait ∷ [])) ((waited serve_wait n t).heard [] serve_wait) one.1 single in
-        (n, unsent_so t mid goes.arrivals one.0 goes.replies [] count n far same (fewer_came fewer) heard.0 heard.1 within left (Some one.1) lost.0 lost.1 heard.2),
+        let lost = one_lost ((waited serve_wait n t).time (serve_wait ∷ [])) (serve_hears t n) one.1 single in (
+          n,
+          record {
+            within = within;
+            before = waits_on t e fewer;
+            received = heard.0;
+            came = came_next t e one.0 heard.1;
+            made = sent_for (deliveries t n) goes.replies;
+            lost = lost.0;
+            owed = sent_next t e (Some one.1 ∷ []) ∙ ap (λ (xs : List Sending). sent_for (deliveries t n) goes.replies ++ xs) lost.1;
+            link_left = heard.2;
+          },
+        ),
   )
   serve_fails after left within fewer ReceiveFailed one = (
     goes.arrivals,
     goes.replies,
     defined before after goes.arrivals goes.replies (subst (AnswersInTurn before goes.arrivals goes.replies) (sym one.0) goes.in_turn),
     λ t e.
-        let far = goes.so_far t e in
-        let heard = one.1 _ far.so.link_left in
-        (n, deaf_so t mid goes.arrivals [] goes.replies [] count n far same within (fewer_came fewer) left heard.0 heard.1),
+        let heard = one.1 _ (far t e).so.link_left in
+        (n, record { stops = fails_now (serve_hears t) (all_came count t) n (waits_on t e fewer) heard.0 within; came = (far t e).so.came; link_left = heard.1 }),
   )
   serve_fails after left within fewer TurnsSpent one = absurd one
   serve_fails after left within fewer WriteFailed one = absurd one

@@ -27,7 +27,11 @@ use std::io::Write;
 const LONGEST_WAIT: u32 = 50;
 
 /// The turns after which a tool gives up.
-pub(crate) const TURNS: u32 = 65_536;
+pub(crate) fn most_turns() -> u32
+    ensures { result ≡ most_turns }
+{
+    65_536
+}
 
 /// How long a turn of a call or a search with this timeout waits, in milliseconds.
 pub(crate) fn turn_wait(timeout: u32) -> u32
@@ -170,7 +174,7 @@ fn run<L: Link, W: Write>(
     let mut client = begin(tool, call, link)?;
     let wait_ms = turn_wait(call.timeout);
     let mut datagram = Datagram::new();
-    for _turn in 0..TURNS {
+    for _turn in 0..most_turns() {
         if let Some(ending) = turn(&mut client, link, wait_ms, &mut datagram)? {
             return show_ending(tool, ending, writer);
         }

@@ -10,7 +10,7 @@ ghost use Rattle.bac_links.specs.Fault.{is_link_fault, is_write_fault};
 ghost use Rattle.bac_links.specs.Search.{Found as Device, found_seen, found_of, found_by, found_line, who_is_datagram, who_is_sending, Searched};
 ghost use Rattle.bac_links.specs.SearchSteps.{Listens};
 
-use crate::call::{TURNS, turn_wait};
+use crate::call::{most_turns, turn_wait};
 use crate::datagram::Datagram;
 use crate::ending::Exit;
 use crate::fault::ToolFault;
@@ -183,7 +183,7 @@ pub fn run_whois<L: Link, W: Write>(
     let mut datagram = Datagram::new();
     let mut greatest = first;
     let mut any = false;
-    for _turn in 0..TURNS {
+    for _turn in 0..most_turns() {
         any |= listen(search.who, link, wait_ms, &mut datagram, writer)?;
         greatest = greatest.max(link.now());
         if greatest - first >= u64::from(search.timeout) {

@@ -4,7 +4,7 @@ ghost use Rattle.bac_links.specs.Fault.{is_link_fault};
 ghost use Rattle.bac_links.specs.Serve.{Serves};
 ghost use Rattle.bac_links.specs.ServeSteps.{came_in, replied_in, ServesOne};
 
-use crate::call::TURNS;
+use crate::call::most_turns;
 use crate::datagram::Datagram;
 use crate::fault::ToolFault;
 use crate::link::Link;
@@ -90,7 +90,7 @@ pub fn serve<L: Link>(link: &mut L, device: &mut Device, count: u32) -> Result<u
     let mut datagram = Datagram::new();
     let mut came = 0;
     let mut replied = 0;
-    for _turn in 0..TURNS {
+    for _turn in 0..most_turns() {
         let brought = serve_turn(link, device, &mut datagram)?;
         came += brought.came();
         replied += brought.replied();

@@ -43,6 +43,7 @@ pub fn print_outcome<W: Write>(page: &mut Page<'_, W>, outcome: Outcome<'_>)
     }
 }
 
+#[tactic(auto, using(bac_text::proofs::Printed::printing))]
 fn print_error<W: Write>(page: &mut Page<'_, W>, class: u32, code: u32)
     ensures { Prints W.contents page.old page.new (outcome_text (Failed class code)) }
 {
@@ -52,6 +53,7 @@ fn print_error<W: Write>(page: &mut Page<'_, W>, class: u32, code: u32)
     page.print_number(u64::from(code));
 }
 
+#[tactic(auto, using(bac_text::proofs::Printed::printing))]
 fn print_reason<W: Write>(page: &mut Page<'_, W>, what: &[u8], reason: u8)
     ensures { Prints W.contents page.old page.new (what.now ++ decimal reason) }
 {

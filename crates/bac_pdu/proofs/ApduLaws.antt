@@ -3,25 +3,19 @@ use Rattle.std.proofs.Common.{◌≡◌, ℕ, ◌+◌, ◌/◌, ◌%◌, Bool, t
 use Rattle.std.specs.Prelude.{◌↔◌}
 use Rattle.std.proofs.lemmas.Bool.{eqb-true}
 use Rattle.std.proofs.lemmas.Option.{none-some, same_Some, some_pair_parts}
-use Rattle.bac_wire.proofs.Readers.{found_at, chosen}
+use Rattle.bac_wire.proofs.Readers.{Took, took, found_at, chosen}
 use Rattle.bac_wire.proofs.TagLaws.{bind_some}
 use Rattle.bac_pdu.specs.declared.apdu.Part.{Part}
 use Rattle.bac_pdu.specs.Bits.{bit}
-use Rattle.bac_pdu.specs.Apdu.{Message, confirmed, unconfirmed, simple_ack, complex_ack, segment_ack, error, reject, abort, SpellsPart, IsConfirmed, IsComplexAck, IsLaidOut, part_flags, part_octets, laid_out, IsWritable}
+use Rattle.bac_pdu.specs.Apdu.{Message, confirmed, unconfirmed, simple_ack, complex_ack, segment_ack, error, reject, abort, SpellsPart, IsLaidOut, part_flags, part_octets, laid_out, IsWritable}
 use Rattle.bac_pdu.specs.ApduReading.{part_at, service_at, parts_at, confirmed_of, unconfirmed_of, complex_ack_of, numbered_of, apdu_of}
 
 -- ---- the part
 
-part_takes : (first : ℕ) (octets : List ℕ) (b : Bool) (part : Option Part) (rest : List ℕ) → bit 3 first ≡ b → part_at first octets b ≡ found_at part rest → (front : List ℕ) × SpellsPart first front part × (octets ≡ front ++ rest)
-part_takes first octets false part rest flag e =
-    let parts = some_pair_parts None part octets rest e in
-    let here : SpellsPart first [] None = (flag, refl) in
-    ([], subst (SpellsPart first []) parts.0 here, parts.1)
+part_takes : (first : ℕ) (octets : List ℕ) (b : Bool) (part : Option Part) (rest : List ℕ) → bit 3 first ≡ b → part_at first octets b ≡ found_at part rest → Took (SpellsPart first) octets part rest
+part_takes first octets false part rest flag e = took (SpellsPart first) [] None part octets rest e (flag, refl)
 part_takes first (sequence ∷ window ∷ octets) true part rest flag e =
-    let made : Option Part = Some (record { more = bit 2 first; sequence = sequence; window = window }) in
-    let parts = some_pair_parts made part octets rest e in
-    let here : SpellsPart first (sequence ∷ window ∷ []) made = (flag, refl, refl) in
-    (sequence ∷ window ∷ [], subst (SpellsPart first (sequence ∷ window ∷ [])) parts.0 here, ap (λ (w : List ℕ). sequence ∷ window ∷ w) parts.1)
+    took (SpellsPart first) (sequence ∷ window ∷ []) (Some (record { more = bit 2 first; sequence = sequence; window = window })) part octets rest e (flag, refl, refl)
 part_takes first _ true part rest flag e = absurd (none-some (part, rest) e)
 
 part_again : (first : ℕ) (front : List ℕ) (part : Option Part) (rest : List ℕ) → SpellsPart first front part → part_at first (front ++ rest) (bit 3 first) ≡ found_at part rest
@@ -53,10 +47,8 @@ confirmed_takes : (first : ℕ) (octets : List ℕ) (m : Message) → first / 16
 confirmed_takes first (second ∷ id ∷ octets) m kind e =
     let a = bind_some _ _ _ e in
     let parts = parts_takes _ _ _ a.1 in
-    let made : Message = confirmed a.0.0 (second % 16) id a.0.1 a.0.2 in
-    let same : made ≡ m = cc in
-    let here : IsConfirmed (first ∷ second ∷ id ∷ octets) a.0.0 (second % 16) id a.0.1 a.0.2 = record { first = first; second = second; part_octets = parts.0; whole = ap (λ (w : List ℕ). first ∷ second ∷ id ∷ w) parts.2; kind = kind; coded = refl; spelled = parts.1 } in
-    subst (IsLaidOut (first ∷ second ∷ id ∷ octets)) same here
+    let same = same_Some (confirmed a.0.0 (second % 16) id a.0.1 a.0.2) m a.2 in
+    rw (← same) (record { first = first; second = second; part_octets = parts.0; whole = ap (λ (w : List ℕ). first ∷ second ∷ id ∷ w) parts.2; kind = kind; coded = refl; spelled = parts.1 })
 confirmed_takes first _ m kind e = absurd (none-some m e)
 
 complex_takes : (first : ℕ) (octets : List ℕ) (m : Message) → first / 16 ≡ 3 → complex_ack_of first octets ≡ Some m → IsLaidOut (first ∷ octets) m
@@ -64,16 +56,12 @@ complex_takes first [] m kind e = absurd (none-some m e)
 complex_takes first (id ∷ octets) m kind e =
     let a = bind_some _ _ _ e in
     let parts = parts_takes _ _ _ a.1 in
-    let made : Message = complex_ack a.0.0 id a.0.1 a.0.2 in
-    let same : made ≡ m = cc in
-    let here : IsComplexAck (first ∷ id ∷ octets) a.0.0 id a.0.1 a.0.2 = record { first = first; part_octets = parts.0; whole = ap (λ (w : List ℕ). first ∷ id ∷ w) parts.2; kind = kind; spelled = parts.1 } in
-    subst (IsLaidOut (first ∷ id ∷ octets)) same here
+    let same = same_Some (complex_ack a.0.0 id a.0.1 a.0.2) m a.2 in
+    rw (← same) (record { first = first; part_octets = parts.0; whole = ap (λ (w : List ℕ). first ∷ id ∷ w) parts.2; kind = kind; spelled = parts.1 })
 
 unconfirmed_takes : (first : ℕ) (octets : List ℕ) (m : Message) → first / 16 ≡ 1 → unconfirmed_of octets ≡ Some m → IsLaidOut (first ∷ octets) m
 unconfirmed_takes first [] m kind e = absurd (none-some m e)
-unconfirmed_takes first (service ∷ body) m kind e =
-    let same : unconfirmed service body ≡ m = cc in
-    subst (IsLaidOut (first ∷ service ∷ body)) same (first, kind, refl)
+unconfirmed_takes first (service ∷ body) m kind e = rw (← same_Some (unconfirmed service body) m e) (first, kind, refl)
 
 -- an invoke id and one octet more
 numbered_laid : (first : ℕ) (made : ℕ → ℕ → List ℕ → Message) (octets : List ℕ) (m : Message) → numbered_of made octets ≡ Some m → ((id octet : ℕ) (rest : List ℕ) → IsLaidOut (first ∷ id ∷ octet ∷ rest) (made id octet rest)) → IsLaidOut (first ∷ octets) m

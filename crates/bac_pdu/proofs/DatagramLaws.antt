@@ -1,20 +1,132 @@
--- What is read of a datagram is what it carries, and what is written is carried back.
-use Rattle.std.proofs.Common.{slice_index_or, ◌≡◌, ℕ, ◌+◌, ◌/◌, ◌%◌, ◌<◌, ◌≤◌, Bool, true, false, cond, eqb, ◌||◌, List, [], ◌∷◌, ◌++◌, length, Option, Some, None, refl, sym, ap, subst, ◌∙◌, append_assoc, arith, inl, inr}
-use Rattle.std.specs.Prelude.{◌↔◌, is_some, IfSome, OnOk, Result, Ok, Err}
-use Rattle.std.proofs.lemmas.Bool.{eqb-true, eq-eqb}
-use Rattle.std.proofs.lemmas.Grind.{common_steps}
-use Rattle.std.proofs.lemmas.List.{length-append}
+-- What is read of a header or a datagram is what it carries, and what is written is carried back.
+use Rattle.std.proofs.Common.{◌≡◌, ℕ, ◌/◌, ◌%◌, ◌<◌, ◌≤◌, Bool, true, false, eqb, ltb, List, [], ◌∷◌, ◌++◌, length, take, drop, Option, Some, None, refl, sym, ap, ◌∙◌, append_assoc, arith, slice_index_or, ◌+◌, cond, ◌||◌, subst, inl, inr}
+use Rattle.std.proofs.lemmas.Bool.{eqb-true, ltb-false, le-ltb, eq-eqb}
+use Rattle.std.proofs.lemmas.List.{take_at, drop_at, take-append-drop, length-append, length-take-le}
 use Rattle.std.proofs.lemmas.Option.{none-some, some_pair_parts, cond_some}
+use Rattle.std.specs.Prelude.{IfSome, ◌↔◌, is_some, OnOk, Result, Ok, Err}
 use Rattle.byteorder.specs.Endian.{big_number, big_bytes}
 use Rattle.byteorder.specs.Numbers.{big_number-reads_back}
-use Rattle.bac_wire.proofs.Readers.{found_at, chosen, only_if}
+use Rattle.bac_wire.proofs.Readers.{IsReader, Took, took, took_as, reader_of, found_at, only_if, unless, chosen}
 use Rattle.bac_wire.proofs.TagLaws.{bind_some}
-use Rattle.bac_pdu.specs.Peer.{NetworkAddress, Station, IsRoutable}
-use Rattle.bac_pdu.specs.Header.{NetworkHeader, SpellsHeader, plain_header}
+use Rattle.bac_pdu.specs.Bits.{bit}
+use Rattle.bac_pdu.specs.Peer.{NetworkAddress, IsRoutable, Station}
+use Rattle.bac_pdu.specs.Header.{NetworkHeader, SpellsAddress, SpellsAnnounced, SpellsHops, SpellsHeader, address_octets, plain_header}
+use Rattle.bac_pdu.specs.DatagramReading.{counted_at, address_at, announced_at, behind_hops, behind_control, header_at, forwarded_at, origin_at, link_at, is_routable, is_for_all, is_answerable, carried}
+use Rattle.std.proofs.lemmas.Grind.{common_steps}
 use Rattle.bac_wire.specs.Front.{IsSingle}
 use Rattle.bac_pdu.specs.Datagram.{Delivery, SpellsOrigin, unicast, broadcast, forwarded, IsHeeded, Carries, Takes, wrapped, front_count, front_octets}
-use Rattle.bac_pdu.specs.DatagramReading.{forwarded_at, origin_at, link_at, is_routable, is_for_all, is_answerable, carried}
-use Rattle.bac_pdu.proofs.HeaderLaws.{header_reader, header_written}
+
+-- ---- the address of a station
+
+count_takes : (count : ℕ) (octets address rest : List ℕ) → counted_at (count ∷ octets) ≡ found_at address rest → (octets ≡ address ++ rest) × (count ≡ length address)
+count_takes count octets address rest e =
+    let room = unless (ltb (length octets) count) e in
+    let parts = some_pair_parts (take count octets) address (drop count octets) rest room.1 in
+    let fits : count ≤ length octets = ltb-false (length octets) count room.0 in
+    (sym (take-append-drop count octets) ∙ ap (λ (w : List ℕ). w ++ drop count octets) parts.0 ∙ ap (λ (w : List ℕ). address ++ w) parts.1, sym (length-take-le count octets fits) ∙ ap length parts.0)
+
+count_again : (address rest : List ℕ) → counted_at (length address ∷ (address ++ rest)) ≡ found_at address rest
+count_again address rest =
+    let fits : length address ≤ length (address ++ rest) = omega (arith, length-append address rest) in
+    rw (le-ltb (length (address ++ rest)) (length address) fits, take_at address rest (length address) refl, drop_at address rest (length address) refl) refl
+
+address_takes : (octets : List ℕ) (station : NetworkAddress) (rest : List ℕ) → address_at octets ≡ found_at station rest → Took SpellsAddress octets station rest
+unfolding address_at
+address_takes (high ∷ low ∷ count ∷ octets) station rest e =
+    let a = bind_some _ _ _ e in
+    let counted = count_takes count octets a.0.0 a.0.1 a.1 in
+    let front : List ℕ = high ∷ low ∷ length a.0.0 ∷ a.0.0 in
+    let line : high ∷ low ∷ count ∷ octets ≡ front ++ a.0.1 = ap (λ (k : ℕ). high ∷ low ∷ k ∷ octets) counted.1 ∙ ap (λ (w : List ℕ). high ∷ low ∷ length a.0.0 ∷ w) counted.0 in
+    let made : NetworkAddress = record { network = big_number 2 (high ∷ low ∷ []); address = a.0.0 } in
+    rw line (took SpellsAddress front made station a.0.1 rest a.2 (record { high = high; low = low; whole = refl; number = refl }))
+address_takes _ station rest e = absurd (none-some (station, rest) e)
+
+address_again : (front : List ℕ) (station : NetworkAddress) (rest : List ℕ) → SpellsAddress front station → address_at (front ++ rest) ≡ found_at station rest
+unfolding address_at
+address_again front station rest s = rw (s.whole, count_again station.address rest, ← s.number) refl
+
+-- ---- the network header
+
+announced_takes : (b : Bool) (octets : List ℕ) (station : Option NetworkAddress) (rest : List ℕ) → announced_at b octets ≡ found_at station rest → Took (SpellsAnnounced b) octets station rest
+announced_takes false octets station rest e = took (SpellsAnnounced false) [] None station octets rest e refl
+announced_takes true octets station rest e =
+    let a = bind_some _ _ _ e in
+    took_as SpellsAddress (SpellsAnnounced true) octets a.0.0 (Some a.0.0) station a.0.1 rest (address_takes _ _ _ a.1) a.2 (λ front s. s)
+
+announced_again : (b : Bool) (front : List ℕ) (station : Option NetworkAddress) (rest : List ℕ) → SpellsAnnounced b front station → announced_at b (front ++ rest) ≡ found_at station rest
+announced_again false front None rest s = rw s refl
+announced_again false front (Some station) rest s = absurd s
+announced_again true front None rest s = absurd s
+announced_again true front (Some station) rest s = rw (address_again _ _ _ s) refl
+
+hops_take : (b : Bool) (octets rest : List ℕ) → behind_hops b octets ≡ Some rest → (front : List ℕ) × SpellsHops b front × (octets ≡ front ++ rest)
+hops_take false octets rest e = ([], refl, cc)
+hops_take true [] rest e = absurd (none-some rest e)
+hops_take true (count ∷ octets) rest e = let same : octets ≡ rest = cc in (count ∷ [], (count, refl), ap (λ (w : List ℕ). count ∷ w) same)
+
+hops_again : (b : Bool) (front rest : List ℕ) → SpellsHops b front → behind_hops b (front ++ rest) ≡ Some rest
+hops_again false front rest s = rw s refl
+hops_again true front rest s = rw s.1 refl
+
+-- three parts, and a rest
+behind_all : (a b c rest : List ℕ) → (a ++ (b ++ c)) ++ rest ≡ a ++ (b ++ (c ++ rest))
+behind_all a b c rest = simp append_assoc
+
+control_takes : (control : ℕ) (octets : List ℕ) (header : NetworkHeader) (rest : List ℕ) → bit 7 control ≡ false → behind_control control octets ≡ found_at header rest → Took SpellsHeader (1 ∷ control ∷ octets) header rest
+control_takes control octets header rest carries e =
+    let a = bind_some _ _ _ e in
+    let b = bind_some _ _ _ a.2 in
+    let c = bind_some _ _ _ b.2 in
+    let destination = announced_takes _ _ _ _ a.1 in
+    let source = announced_takes _ _ _ _ b.1 in
+    let hops = hops_take _ _ _ c.1 in
+    let front : List ℕ = 1 ∷ control ∷ (destination.0 ++ (source.0 ++ hops.0)) in
+    let inner : octets ≡ destination.0 ++ (source.0 ++ (hops.0 ++ c.0)) = destination.2 ∙ ap (λ (w : List ℕ). destination.0 ++ w) (source.2 ∙ ap (λ (w : List ℕ). source.0 ++ w) hops.2) in
+    let line : 1 ∷ control ∷ octets ≡ front ++ c.0 = ap (λ (w : List ℕ). 1 ∷ control ∷ w) (inner ∙ sym (behind_all destination.0 source.0 hops.0 c.0)) in
+    let made : NetworkHeader = record { destination = a.0.0; source = b.0.0 } in
+    rw line (took SpellsHeader front made header c.0 rest c.2 (record { control = control; destination = destination.0; source = source.0; hops = hops.0; whole = refl; carries = carries; destined = destination.1; sent = source.1; hopped = hops.1 }))
+
+header_takes : (octets : List ℕ) (header : NetworkHeader) (rest : List ℕ) → header_at octets ≡ found_at header rest → Took SpellsHeader octets header rest
+unfolding header_at
+header_takes (version ∷ control ∷ octets) header rest e =
+    let one = only_if (eqb version 1) e in
+    let carries = unless (bit 7 control) one.1 in
+    let taken = control_takes control octets header rest carries.0 carries.1 in
+    (taken.0, taken.1, ap (λ (v : ℕ). v ∷ control ∷ octets) (eqb-true version 1 one.0) ∙ taken.2)
+header_takes _ header rest e = absurd (none-some (header, rest) e)
+
+header_again : (front : List ℕ) (header : NetworkHeader) (rest : List ℕ) → SpellsHeader front header → header_at (front ++ rest) ≡ found_at header rest
+unfolding header_at
+header_again front header rest s =
+    rw (s.whole, behind_all s.destination s.source s.hops rest, s.carries, announced_again _ _ _ _ s.destined, announced_again _ _ _ _ s.sent, hops_again _ _ _ s.hopped) refl
+
+pub header_reader : IsReader SpellsHeader header_at
+header_reader = reader_of SpellsHeader header_at header_takes header_again
+
+-- ---- the header that is written
+
+address_spells : (station : NetworkAddress) → station.network < 65536 → SpellsAddress (address_octets station) station
+address_spells station fits =
+    let n : ℕ = station.network in
+    record { high = n / 256 % 256; low = n % 256; whole = refl; number = sym (big_number-reads_back 2 n [] fits) }
+
+-- a header that was written, and that it says whether a reply is expected
+pub record IsWrittenHeader (to : Option NetworkAddress) (expect : Bool) : Type 0 where
+  pub spelled : SpellsHeader (plain_header to expect) (record { destination = to; source = None })
+  pub expected : bit 2 spelled.control ≡ expect
+
+-- a header with no source
+abbrev without_source : (to : Option NetworkAddress) (control : ℕ) (destination hops : List ℕ) → bit 7 control ≡ false → bit 3 control ≡ false → SpellsAnnounced (bit 5 control) destination to → SpellsHops (bit 5 control) hops → SpellsHeader (1 ∷ control ∷ (destination ++ hops)) (record { destination = to; source = None })
+without_source to control destination hops seven three destined hopped = record { control = control; destination = destination; source = []; hops = hops; whole = refl; carries = seven; destined = destined; sent = rw three refl; hopped = hopped }
+
+-- what is written is a header with this destination and no source
+pub header_written : (to : Option NetworkAddress) (expect : Bool) → IfSome to IsRoutable → IsWrittenHeader to expect
+header_written None true routable = record { spelled = without_source None 4 [] [] refl refl refl refl; expected = refl }
+header_written None false routable = record { spelled = without_source None 0 [] [] refl refl refl refl; expected = refl }
+header_written (Some station) true routable =
+    record { spelled = without_source (Some station) 36 (address_octets station) (255 ∷ []) refl refl (address_spells station (omega (arith, routable.global))) (255, refl); expected = refl }
+header_written (Some station) false routable =
+    record { spelled = without_source (Some station) 32 (address_octets station) (255 ∷ []) refl refl (address_spells station (omega (arith, routable.global))) (255, refl); expected = refl }
 
 -- ---- which headers are ignored
 
@@ -37,24 +149,21 @@ answerable (Some source) = routable source
 abbrev Origin : Type 0
 Origin = Station × Bool
 
-forwarded_takes : (from : Station) (octets : List ℕ) (x : Origin) (rest : List ℕ) → forwarded_at octets ≡ found_at x rest → (front : List ℕ) × SpellsOrigin from 4 front x.0 x.1 × (octets ≡ front ++ rest)
+abbrev Sent : Station → ℕ → List ℕ → Origin → Type 0
+Sent from function front x = SpellsOrigin from function front x.0 x.1
+
+forwarded_takes : (from : Station) (octets : List ℕ) (x : Origin) (rest : List ℕ) → forwarded_at octets ≡ found_at x rest → Took (Sent from 4) octets x rest
 forwarded_takes from (a ∷ b ∷ c ∷ d ∷ f ∷ g ∷ octets) x rest e =
-    let made : Origin = (record { ip = big_number 4 (a ∷ b ∷ c ∷ d ∷ []); port = big_number 2 (f ∷ g ∷ []); route = None }, true) in
-    let parts = some_pair_parts made x octets rest e in
-    let here : SpellsOrigin from 4 (a ∷ b ∷ c ∷ d ∷ f ∷ g ∷ []) made.0 made.1 = forwarded a b c d f g in
-    (a ∷ b ∷ c ∷ d ∷ f ∷ g ∷ [], subst (λ (y : Origin). SpellsOrigin from 4 (a ∷ b ∷ c ∷ d ∷ f ∷ g ∷ []) y.0 y.1) parts.0 here, ap (λ (w : List ℕ). a ∷ b ∷ c ∷ d ∷ f ∷ g ∷ w) parts.1)
+    let origin : Station = record { ip = big_number 4 (a ∷ b ∷ c ∷ d ∷ []); port = big_number 2 (f ∷ g ∷ []); route = None } in
+    took (Sent from 4) (a ∷ b ∷ c ∷ d ∷ f ∷ g ∷ []) (origin, true) x octets rest e (forwarded a b c d f g)
 forwarded_takes from _ x rest e = absurd (none-some (x, rest) e)
 
-origin_takes : (function : ℕ) (from : Station) (octets : List ℕ) (x : Origin) (rest : List ℕ) → origin_at function from octets ≡ found_at x rest → (front : List ℕ) × SpellsOrigin from function front x.0 x.1 × (octets ≡ front ++ rest)
+origin_takes : (function : ℕ) (from : Station) (octets : List ℕ) (x : Origin) (rest : List ℕ) → origin_at function from octets ≡ found_at x rest → Took (Sent from function) octets x rest
 origin_takes function from octets x rest e =
     elim (chosen (eqb function 10) _ _ _ e) [
-      | inl one ↦
-          let parts = some_pair_parts (from, false) x octets rest one.1 in
-          rw (eqb-true function 10 one.0) ([], subst (λ (y : Origin). SpellsOrigin from 10 [] y.0 y.1) parts.0 unicast, parts.1)
+      | inl one ↦ rw (eqb-true function 10 one.0) (took (Sent from 10) [] (from, false) x octets rest one.1 unicast)
       | inr more ↦ elim (chosen (eqb function 11) _ _ _ more.1) [
-        | inl all ↦
-            let parts = some_pair_parts (from, true) x octets rest all.1 in
-            rw (eqb-true function 11 all.0) ([], subst (λ (y : Origin). SpellsOrigin from 11 [] y.0 y.1) parts.0 broadcast, parts.1)
+        | inl all ↦ rw (eqb-true function 11 all.0) (took (Sent from 11) [] (from, true) x octets rest all.1 broadcast)
         | inr most ↦ let four = only_if (eqb function 4) most.1 in rw (eqb-true function 4 four.0) (forwarded_takes from octets x rest four.1)
       ]
     ]
@@ -63,33 +172,6 @@ origin_again : (from : Station) (function : ℕ) (front : List ℕ) (sender : St
 origin_again from function front sender to_all rest unicast = refl
 origin_again from function front sender to_all rest broadcast = refl
 origin_again from function front sender to_all rest (forwarded a b c d e f) = refl
-
--- a link header in front of a rest
-record BeginsLink (from : Station) (datagram : List ℕ) (x : Origin) (rest : List ℕ) : Type 0 where
-  function : ℕ
-  high : ℕ
-  low : ℕ
-  origin : List ℕ
-  whole : datagram ≡ 129 ∷ function ∷ high ∷ low ∷ (origin ++ rest)
-  counted : big_number 2 (high ∷ low ∷ []) ≡ length datagram
-  sent : SpellsOrigin from function origin x.0 x.1
-
-link_takes : (from : Station) (datagram : List ℕ) (x : Origin) (rest : List ℕ) → link_at from datagram ≡ found_at x rest → BeginsLink from datagram x rest
-unfolding link_at
-link_takes from (kind ∷ function ∷ high ∷ low ∷ octets) x rest e =
-    let here = only_if (eqb kind 129) e in
-    let counted = only_if (eqb (big_number 2 (high ∷ low ∷ [])) (4 + length octets)) here.1 in
-    let taken = origin_takes function from octets x rest counted.1 in
-    record {
-      function = function;
-      high = high;
-      low = low;
-      origin = taken.0;
-      whole = ap (λ (k : ℕ). k ∷ function ∷ high ∷ low ∷ octets) (eqb-true kind 129 here.0) ∙ ap (λ (w : List ℕ). 129 ∷ function ∷ high ∷ low ∷ w) taken.2;
-      counted = eqb-true (big_number 2 (high ∷ low ∷ [])) (4 + length octets) counted.0 ∙ omega arith;
-      sent = taken.1;
-    }
-link_takes from _ x rest e = absurd (none-some (x, rest) e)
 
 -- ---- the datagram
 
@@ -110,32 +192,34 @@ heeded_again : (sender : Station) (to_all : Bool) (header : NetworkHeader) (apdu
 heeded_again sender to_all header apdu h = rw ((destined header.destination).1 h.destined, (answerable header.source).1 h.answerable) refl
 
 carried_takes : (from : Station) (datagram : List ℕ) (d : Delivery) → carried from datagram ≡ Some d → Carries from datagram d
-unfolding carried
-carried_takes from datagram d e =
+unfolding carried link_at
+carried_takes from (kind ∷ function ∷ high ∷ low ∷ octets) d e =
     let a = bind_some _ _ _ e in
     let b = bind_some _ _ _ a.2 in
-    let link = link_takes from datagram a.0.0 a.0.1 a.1 in
+    let here = only_if (eqb kind 129) a.1 in
+    let counted = only_if (eqb (big_number 2 (high ∷ low ∷ [])) (4 + length octets)) here.1 in
+    let origin = origin_takes function from octets a.0.0 a.0.1 counted.1 in
     let header = header_reader.takes a.0.1 b.0.0 b.0.1 b.1 in
     let heard = heeded_takes a.0.0.0 a.0.0.1 b.0.0 b.0.1 d b.2 in
-    let made : Delivery = delivered_as a.0.0.0 a.0.0.1 b.0.0 b.0.1 in
-    let here : Carries from datagram made = record {
-      function = link.function;
-      high = link.high;
-      low = link.low;
-      origin = link.origin;
+    let line : octets ≡ origin.0 ++ (header.front ++ b.0.1) = origin.2 ∙ ap (λ (w : List ℕ). origin.0 ++ w) header.whole in
+    rw (← heard.1) (record {
+      function = function;
+      high = high;
+      low = low;
+      origin = origin.0;
       header = header.front;
       sender = a.0.0.0;
       to_all = a.0.0.1;
       network = b.0.0;
-      whole = link.whole ∙ ap (λ (w : List ℕ). 129 ∷ link.function ∷ link.high ∷ link.low ∷ (link.origin ++ w)) header.whole;
-      counted = link.counted;
-      sent = link.sent;
+      whole = ap (λ (k : ℕ). k ∷ function ∷ high ∷ low ∷ octets) (eqb-true kind 129 here.0) ∙ ap (λ (w : List ℕ). 129 ∷ function ∷ high ∷ low ∷ w) line;
+      counted = eqb-true (big_number 2 (high ∷ low ∷ [])) (4 + length octets) counted.0 ∙ omega arith;
+      sent = origin.1;
       headed = header.spelled;
       heeded = heard.0;
       peer = refl;
       broadcast = refl;
-    } in
-    subst (Carries from datagram) heard.1 here
+    })
+carried_takes from _ d e = absurd (none-some d e)
 
 carried_again_at : (from : Station) (function high low : ℕ) (origin header apdu : List ℕ) (sender : Station) (to_all : Bool) (network : NetworkHeader) → big_number 2 (high ∷ low ∷ []) ≡ 4 + length (origin ++ (header ++ apdu)) → SpellsOrigin from function origin sender to_all → SpellsHeader header network → IsHeeded network
     → carried from (129 ∷ function ∷ high ∷ low ∷ (origin ++ (header ++ apdu))) ≡ Some (delivered_as sender to_all network apdu)
@@ -221,22 +305,5 @@ put_front_takes (Err x) to expect apdu size front frame routable all is e fits =
 -- what takes an APDU to a station of this network is carried to it
 pub taken_carries : (from : Station) (expect : Bool) (apdu datagram : List ℕ) → Takes None expect apdu datagram → carried from datagram ≡ Some (record { peer = record { ip = from.ip; port = from.port; route = None }; broadcast = false; apdu = apdu })
 taken_carries from expect apdu datagram t =
-    let d : Delivery = record { peer = record { ip = from.ip; port = from.port; route = None }; broadcast = false; apdu = apdu } in
-    let c : Carries from datagram d = record {
-      function = 10;
-      high = t.high;
-      low = t.low;
-      origin = [];
-      header = t.header;
-      sender = from;
-      to_all = false;
-      network = record { destination = None; source = None };
-      whole = t.whole;
-      counted = t.counted;
-      sent = unicast;
-      headed = t.headed;
-      heeded = record { destined = tt; answerable = tt };
-      peer = refl;
-      broadcast = refl;
-    } in
-    carried_again _ _ _ c
+    let counted : big_number 2 (t.high ∷ t.low ∷ []) ≡ 4 + length (t.header ++ apdu) = t.counted ∙ ap length t.whole ∙ omega arith in
+    ap (carried from) t.whole ∙ carried_again_at from 10 t.high t.low [] t.header apdu from false (record { destination = None; source = None }) counted unicast t.headed (record { destined = tt; answerable = tt })

@@ -35,14 +35,11 @@ unfolding who_is_of
 who_is_takes [] w e = let same : limits.All ≡ w = cc in subst (IsWhoIsBody []) same refl
 who_is_takes (x ∷ xs) w e = range_takes (x ∷ xs) w e
 
-range_again : (body : List ℕ) (low high : ℕ) → IsWhoIsBody body (limits.Range low high) → range_of body ≡ Some (limits.Range low high)
-range_again body low high s = rw ((numbered_step 0).again body low s.0 s.1, (numbered_step 1).again s.0 high s.2.0 s.2.1, s.2.2) refl
-
 who_is_again : (body : List ℕ) (w : WhoIs) → IsWhoIsBody body w → who_is_of body ≡ Some w
 unfolding who_is_of
 who_is_again body limits.All s = rw s refl
 who_is_again [] (limits.Range low high) s = absurd (none-some (low, s.0) (sym (no_number 0) ∙ (numbered_step 0).again [] low s.0 s.1))
-who_is_again (x ∷ xs) (limits.Range low high) s = range_again _ _ _ s
+who_is_again (x ∷ xs) (limits.Range low high) s = rw ((numbered_step 0).again (x ∷ xs) low s.0 s.1, (numbered_step 1).again s.0 high s.2.0 s.2.1, s.2.2) refl
 
 pub who_is_is : (body : List ℕ) (w : WhoIs) → (who_is_of body ≡ Some w) ↔ IsWhoIsBody body w
 who_is_is body w = (who_is_takes body w, who_is_again body w)

@@ -6,7 +6,7 @@ use Rattle.byteorder.specs.Endian.{big_bytes}
 use Rattle.byteorder.specs.Numbers.{length-bytes_high_first}
 use Rattle.bac_wire.specs.Tag.{plain_tag}
 use Rattle.bac_wire.specs.Datum.{octet_count}
-use Rattle.bac_wire.specs.Identifier.{Identifier, number_of}
+use Rattle.bac_wire.specs.Identifier.{number_of}
 use Rattle.bac_wire.specs.Parameter.{context_tag, context_octets, number_octets, object_octets}
 use Rattle.bac_wire.proofs.PlainDatum.{count_high}
 use Rattle.bac_pdu.specs.Parameter.{index, optional, plain_parameter, plain_all}
@@ -19,22 +19,17 @@ tag_short number count = grind (arith, common_steps)
 context_short : (number : ℕ) (contents : List ℕ) → length contents ≤ 8 → length (context_octets number contents) ≤ 15
 context_short number contents short = omega (arith, length-append (plain_tag (context_tag number (length contents))) contents, tag_short number (length contents))
 
-number_octets_short : (number n : ℕ) → length (number_octets number n) ≤ 15
-number_octets_short number n = context_short number (big_bytes (octet_count n) n) (rw (length-bytes_high_first (octet_count n) n) (count_high n))
-
-object_octets_short : (number : ℕ) (id : Identifier) → length (object_octets number id) ≤ 15
-object_octets_short number id = context_short number (big_bytes 4 (number_of id)) (rw (length-bytes_high_first 4 (number_of id)) (omega arith))
+number_short : (number n : ℕ) → length (number_octets number n) ≤ 15
+number_short number n = context_short number (big_bytes (octet_count n) n) (rw (length-bytes_high_first (octet_count n) n) (count_high n))
 
 index_short : (i : Option ℕ) → length (plain_all plain_parameter (optional index i)) ≤ 15
 unfolding plain_parameter
 index_short None = omega arith
-index_short (Some n) = let short = number_octets_short 2 n in omega (arith, length-append (number_octets 2 n) [], short)
+index_short (Some n) = omega (arith, length-append (number_octets 2 n) [], number_short 2 n)
 
 pub read_octets_short : (r : Reference) → length (read_octets r) ≤ 45
 unfolding plain_parameter
 read_octets_short r =
-    let first = object_octets_short 0 r.object in
-    let second = number_octets_short 1 r.property in
-    let third = index_short r.index in
     let rest = plain_all plain_parameter (optional index r.index) in
-    omega (arith, length-append (object_octets 0 r.object) (number_octets 1 r.property ++ rest), length-append (number_octets 1 r.property) rest, first, second, third)
+    let first = context_short 0 (big_bytes 4 (number_of r.object)) (omega arith) in
+    omega (arith, length-append (object_octets 0 r.object) (number_octets 1 r.property ++ rest), length-append (number_octets 1 r.property) rest, first, number_short 1 r.property, index_short r.index)

@@ -1,6 +1,5 @@
 pub mod PeerLaws
 pub mod SequenceLaws
-pub mod HeaderLaws
 pub mod DatagramLaws
 pub mod ApduLaws
 pub mod ParameterLaws
@@ -8,7 +7,6 @@ pub mod RejectLaws
 pub mod ReadLaws
 pub mod WriteLaws
 pub mod DiscoveryLaws
-pub mod RoundLaws
 pub mod Written
 pub mod ShortestLaws
 pub mod LengthLaws

@@ -1,21 +1,21 @@
 -- Reading the body of a ReadProperty finds what it asks for, or the first fault that it has; reading its answer finds the value.
-use Rattle.std.proofs.Common.{◌≡◌, ℕ, List, [], ◌∷◌, Some, None, Result, Ok, Err, refl, sym, ap, subst, ◌∙◌, inl, inr}
+use Rattle.std.proofs.Common.{◌≡◌, ℕ, List, [], ◌∷◌, ◌++◌, Some, None, Result, Ok, Err, refl, ap, subst, inl, inr}
 use Rattle.std.specs.Result.{result_ok}
 use Rattle.std.specs.Prelude.{◌↔◌, ◌⊎◌}
 use Rattle.std.proofs.lemmas.Option.{none-some}
-use Rattle.bac_wire.specs.Front.{SpellsTo}
-use Rattle.bac_wire.specs.ParameterReading.{number_at, object_at}
+use Rattle.bac_wire.specs.Front.{Begins, SpellsTo}
+use Rattle.bac_wire.specs.ParameterReading.{number_at, object_at, enclosed_at}
 use Rattle.bac_wire.proofs.TagLaws.{bind_some}
 use Rattle.bac_wire.proofs.ParameterLaws.{no_number, no_object, enclosed_no_number}
 use Rattle.bac_pdu.specs.declared.reject.RejectReason.{RejectReason}
-use Rattle.bac_pdu.specs.declared.reject.RejectReason.TheVariants.{InvalidTag, MissingParameter, TooMany}
-use Rattle.bac_pdu.specs.Parameter.{index, value, SpellsParameter}
+use Rattle.bac_pdu.specs.declared.reject.RejectReason.TheVariants.{InvalidTag, MissingParameter, OutOfRange, TooMany}
+use Rattle.bac_pdu.specs.Parameter.{Parameter, index, value, SpellsParameter}
 use Rattle.bac_pdu.specs.Property.{Reference, Answer, reference_parameters, IsReadBody, IsAckBody}
-use Rattle.bac_pdu.specs.Reject.{HasMore, LacksReference, ReadFault, IsRejectReason, IsOutcome}
+use Rattle.bac_pdu.specs.Reject.{LacksReference, ReadFault, IsOutcome}
 use Rattle.bac_pdu.specs.PropertyReading.{optional_at, reference_at, read_of, ack_of}
 use Rattle.bac_pdu.proofs.SequenceLaws.{then_to, split_to, to_front, from_front, whole_ended}
 use Rattle.bac_pdu.proofs.ParameterLaws.{object_step, property_step, value_step, index_step, optional_begins, optional_read}
-use Rattle.bac_pdu.proofs.RejectLaws.{and_then_ok, and_then_err, ok_err, step_ok, needs_takes, needs_empty, needs_fails, ended_ok, ended_err, IsJudge, outcome_is}
+use Rattle.bac_pdu.proofs.RejectLaws.{and_then_ok, and_then_err, step_ok, needs_takes, needs_fails, ended_ok, ended_err, IsJudge, outcome_is}
 
 -- ---- the reference
 
@@ -33,18 +33,11 @@ pub reference_again : (body : List ℕ) (r : Reference) (rest : List ℕ) → Sp
 unfolding reference_at
 reference_again body r rest s none = rw (step_ok object_step (no_object 0) _ _ _ s.1, step_ok property_step (no_number 1) _ _ _ s.2.1, optional_read _ _ index_step s.2.0 r.index rest s.2.2 none) refl
 
--- where a reference is spelled one is read
-pub reference_found : (body : List ℕ) (r : Reference) (rest : List ℕ) → SpellsTo SpellsParameter body (reference_parameters r) rest → (x : Reference × List ℕ) × (reference_at body ≡ Ok x)
-unfolding reference_at
-reference_found body r rest s =
-    let made : Reference × List ℕ = (record { object = r.object; property = r.property; index = (optional_at 2 s.2.0).0 }, (optional_at 2 s.2.0).1) in
-    (made, rw (step_ok object_step (no_object 0) _ _ _ s.1, step_ok property_step (no_number 1) _ _ _ s.2.1) refl)
-
 pub reference_lacks : (body : List ℕ) → LacksReference body → reference_at body ≡ Err MissingParameter
 unfolding reference_at
 reference_lacks body lacks = elim lacks [
-  | inl empty ↦ rw (needs_empty _ _ empty) refl
-  | inr alone ↦ rw (step_ok object_step (no_object 0) _ _ _ alone.1.1, needs_empty _ _ alone.1.2) refl
+  | inl empty ↦ rw empty refl
+  | inr alone ↦ rw (step_ok object_step (no_object 0) _ _ _ alone.1.1, alone.1.2) refl
 ]
 
 pub reference_fails : (body : List ℕ) (reason : RejectReason) → reference_at body ≡ Err reason → ((reason ≡ MissingParameter) × LacksReference body) ⊎ (reason ≡ InvalidTag)
@@ -74,36 +67,44 @@ pub read_again : (body : List ℕ) (r : Reference) → IsReadBody body r → rea
 unfolding read_of
 read_again body r s = rw (reference_again body r [] s (λ none. no_number 2)) refl
 
--- a reference in front of a rest
-read_front : (body : List ℕ) → HasMore (λ front. (r : Reference) × IsReadBody front r) body → (x : Reference × List ℕ) × (reference_at body ≡ Ok x)
-read_front body h =
-    let s = from_front SpellsParameter h.front h.rest (reference_parameters h.whole.0) h.whole.1 in
-    reference_found body h.whole.0 h.rest (subst (λ (w : List ℕ). SpellsTo SpellsParameter w (reference_parameters h.whole.0) h.rest) (sym h.line) s)
-
-read_fails : (body : List ℕ) (reason : RejectReason) → read_of body ≡ Err reason → IsRejectReason ReadFault body reason
+read_fault : (body : List ℕ) (reason : RejectReason) → read_of body ≡ Err reason → ReadFault body reason
 unfolding read_of
-read_fails body reason e =
+read_fault body reason e =
     elim (and_then_err _ _ _ e) [
-      | inl first ↦
-          let no_more : ReadFault body TooMany → ⊥ = λ h. let f = read_front body h in ok_err (reference_at body) f.0 reason f.1 first in
-          elim (reference_fails body reason first) [
-            | inl missing ↦ inr (λ h. h, inr (no_more, inl (missing.1, missing.0)))
-            | inr invalid ↦
-                let no_lack : ReadFault body MissingParameter → ⊥ = λ h. let two : ◌≡◌ {A = Result (Reference × List ℕ) RejectReason} (Err MissingParameter) (Err InvalidTag) = sym (reference_lacks body h) ∙ first ∙ ap Err invalid in absurd cc in
-                inr (λ h. h, inr (no_more, inr (no_lack, inl (tt, invalid))))
-          ]
+      | inl first ↦ elim (reference_fails body reason first) [ inl missing ↦ rw missing.0 missing.1 | inr invalid ↦ rw invalid tt ]
       | inr a ↦
           let end = ended_err a.0.0 a.0.1 reason a.2 in
           let t = to_front SpellsParameter body a.0.1 (reference_parameters a.0.0) (reference_takes body a.0 a.1) in
-          let more : HasMore (λ front. (r : Reference) × IsReadBody front r) body = record { front = t.0; rest = a.0.1; whole = (a.0.0, t.1); line = t.2; more = end.1 } in
-          inr (λ h. h, inl (more, end.0))
+          rw end.0 (record { front = t.0; rest = a.0.1; whole = (a.0.0, t.1); line = t.2; more = end.1 })
     ]
 
+read_late : (body : List ℕ) (reason : RejectReason) → ReadFault body TooMany → read_of body ≡ Err reason → (reason ≡ TooMany) ⊎ (reason ≡ OutOfRange)
+unfolding read_of reference_at
+read_late body reason h e =
+    let s = from_front SpellsParameter body h.front h.rest (reference_parameters h.whole.0) h.line h.whole.1 in
+    inl (ended_err _ _ reason (rw (step_ok object_step (no_object 0) _ _ _ s.1, step_ok property_step (no_number 1) _ _ _ s.2.1) at e)).0
+
+read_missing : (body : List ℕ) → ReadFault body MissingParameter → read_of body ≡ Err MissingParameter
+unfolding read_of
+read_missing body lacks = rw (reference_lacks body lacks) refl
+
 read_judge : IsJudge IsReadBody ReadFault read_of
-read_judge = record { takes = read_takes; again = read_again; fails = read_fails }
+read_judge = record { takes = read_takes; again = read_again; fault = read_fault; range = λ body h. absurd h; late = read_late; missing = read_missing; invalid = λ body. tt; unknown = λ body h. h }
 
 pub read_is : (body : List ℕ) (o : Result Reference RejectReason) → (read_of body ≡ o) ↔ IsOutcome IsReadBody ReadFault body o
-read_is body o = outcome_is IsReadBody ReadFault read_of read_judge body o
+read_is = outcome_is read_judge
+
+-- ---- a reference and a value
+
+pub value_takes : (body x v rest last : List ℕ) (r : Reference) (others : List Parameter) → reference_at body ≡ Ok (r, x) → enclosed_at 3 x ≡ Some (v, rest) → SpellsTo SpellsParameter rest others last → SpellsTo SpellsParameter body (reference_parameters r ++ value v ∷ others) last
+value_takes body x v rest last r others e f s = then_to SpellsParameter body x last (reference_parameters r) (value v ∷ others) (reference_takes body (r, x) e) (rest, value_step.takes x v rest f, s)
+
+pub value_again : (body v last : List ℕ) (r : Reference) (others : List Parameter) → SpellsTo SpellsParameter body (reference_parameters r ++ value v ∷ others) last
+    → (x : List ℕ) × (rest : List ℕ) × (reference_at body ≡ Ok (r, x)) × Begins SpellsParameter x (value v) rest × SpellsTo SpellsParameter rest others last
+value_again body v last r others s =
+    let t = split_to SpellsParameter body last (reference_parameters r) (value v ∷ others) s in
+    let b = t.2.1 in
+    (t.0, t.2.0, reference_again body r t.0 t.1 (λ none. enclosed_no_number 2 3 t.0 b.front v t.2.0 b.spelled b.whole), b, t.2.2)
 
 -- ---- ReadProperty-ACK
 
@@ -116,20 +117,12 @@ unfolding ack_of
 ack_takes body answer e =
     let a = bind_some _ _ _ e in
     let b = bind_some _ _ _ a.2 in
-    let made : Answer = record { reference = a.0.0; value = b.0.0 } in
     let end = whole_ended _ _ _ b.2 in
-    let named = reference_takes _ _ (ok_found _ _ a.1) in
-    let begins = value_step.takes _ _ _ b.1 in
-    let here : IsAckBody body made = then_to SpellsParameter body a.0.1 [] (reference_parameters a.0.0) (value b.0.0 ∷ []) named (b.0.1, begins, end.0) in
-    subst (IsAckBody body) end.1 here
+    rw (← end.1) (value_takes body a.0.1 b.0.0 b.0.1 [] a.0.0 [] (ok_found _ _ a.1) b.1 end.0)
 
 ack_again : (body : List ℕ) (a : Answer) → IsAckBody body a → ack_of body ≡ Some a
 unfolding ack_of
-ack_again body a s =
-    let t = split_to SpellsParameter body [] (reference_parameters a.reference) (value a.value ∷ []) s in
-    let b = t.2.1 in
-    let named = reference_again body a.reference t.0 t.1 (λ none. enclosed_no_number 2 3 t.0 b.front a.value t.2.0 b.spelled b.whole) in
-    rw (named, value_step.again t.0 a.value t.2.0 b, t.2.2) refl
+ack_again body a s = let t = value_again body a.value [] a.reference [] s in rw (t.2, value_step.again t.0 a.value t.1 t.3, t.4) refl
 
 -- what an answer body is
 pub ack_is : (body : List ℕ) (a : Answer) → (ack_of body ≡ Some a) ↔ IsAckBody body a

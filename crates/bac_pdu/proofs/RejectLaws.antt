@@ -5,7 +5,7 @@ use Rattle.std.proofs.lemmas.Option.{none-some}
 use Rattle.bac_wire.specs.Front.{Begins}
 use Rattle.bac_wire.proofs.ParameterLaws.{IsStep}
 use Rattle.bac_pdu.specs.declared.reject.RejectReason.{RejectReason}
-use Rattle.bac_pdu.specs.declared.reject.RejectReason.TheVariants.{InvalidTag, MissingParameter, OutOfRange, TooMany}
+use Rattle.bac_pdu.specs.declared.reject.RejectReason.TheVariants.{InvalidTag, MissingParameter, OutOfRange, TooMany, UnknownService}
 use Rattle.bac_pdu.specs.Reject.{IsFirst, IsRejectReason, IsOutcome}
 use Rattle.bac_pdu.specs.PropertyReading.{and_then, unless_missing, ended}
 
@@ -18,9 +18,6 @@ and_then_ok (Err reason) f y e = absurd cc
 pub and_then_err : {A B : Type 0} (r : Result A RejectReason) (f : A → Result B RejectReason) (reason : RejectReason) → and_then r f ≡ Err reason → (r ≡ Err reason) ⊎ ((x : A) × (r ≡ Ok x) × (f x ≡ Err reason))
 and_then_err (Ok x) f reason e = inr (x, refl, e)
 and_then_err (Err other) f reason e = let same : other ≡ reason = cc in inl (ap Err same)
-
-pub ok_err : {A : Type 0} (r : Result A RejectReason) (x : A) (reason : RejectReason) → r ≡ Ok x → r ≡ Err reason → ⊥
-ok_err r x reason e f = let no : Ok x ≡ Err reason = sym e ∙ f in absurd cc
 
 needs_ok : {A : Type 0} (octets : List ℕ) (found : Option A) (x : A) → (octets ≡ [] → found ≡ None) → found ≡ Some x → unless_missing octets found ≡ Ok x
 needs_ok [] found x none e = absurd (none-some x (sym (none refl) ∙ e))
@@ -35,9 +32,6 @@ pub needs_takes : {A : Type 0} (octets : List ℕ) (found : Option A) (x : A) �
 needs_takes [] found x e = absurd cc
 needs_takes (o ∷ os) None x e = absurd cc
 needs_takes (o ∷ os) (Some y) x e = let same : y ≡ x = cc in ap Some same
-
-pub needs_empty : {A : Type 0} (octets : List ℕ) (found : Option A) → octets ≡ [] → unless_missing octets found ≡ Err MissingParameter
-needs_empty octets found e = rw e refl
 
 pub needs_fails : {A : Type 0} (octets : List ℕ) (found : Option A) (reason : RejectReason) → unless_missing octets found ≡ Err reason → ((reason ≡ MissingParameter) × (octets ≡ [])) ⊎ ((reason ≡ InvalidTag) × (found ≡ None) × (octets ≡ [] → ⊥))
 needs_fails [] found reason e = inl (cc, refl)
@@ -62,22 +56,54 @@ one_first Applies (x ∷ xs) a b s t = elim s [
 
 -- ---- the outcome of a body
 
--- a function that reads a body: it takes what is whole and nothing else, and where it fails gives the reason
+-- a function that reads a body: it takes what is whole and nothing else; where it fails the body has that fault, and none that comes before
 pub record IsJudge {A : Type 0} (IsWhole : List ℕ → A → Type 0) (HasFault : List ℕ → RejectReason → Type 0) (of : List ℕ → Result A RejectReason) : Type 0 where
   pub takes : (body : List ℕ) (x : A) → of body ≡ Ok x → IsWhole body x
   pub again : (body : List ℕ) (x : A) → IsWhole body x → of body ≡ Ok x
-  pub fails : (body : List ℕ) (reason : RejectReason) → of body ≡ Err reason → IsRejectReason HasFault body reason
+  pub fault : (body : List ℕ) (reason : RejectReason) → of body ≡ Err reason → HasFault body reason
+  pub range : (body : List ℕ) → HasFault body OutOfRange → of body ≡ Err OutOfRange
+  pub late : (body : List ℕ) (reason : RejectReason) → HasFault body TooMany → of body ≡ Err reason → (reason ≡ TooMany) ⊎ (reason ≡ OutOfRange)
+  pub missing : (body : List ℕ) → HasFault body MissingParameter → of body ≡ Err MissingParameter
+  pub invalid : (body : List ℕ) → HasFault body InvalidTag
+  pub unknown : (body : List ℕ) → HasFault body UnknownService → ⊥
+
+one_reason : {A : Type 0} (r : Result A RejectReason) (a b : RejectReason) → r ≡ Err a → r ≡ Err b → a ≡ b
+one_reason r a b e f = let two : Err a ≡ Err b = sym e ∙ f in cc
+
+rejected : {A : Type 0} {IsWhole : List ℕ → A → Type 0} {HasFault : List ℕ → RejectReason → Type 0} {of : List ℕ → Result A RejectReason} → IsJudge IsWhole HasFault of → (body : List ℕ) (reason : RejectReason) → of body ≡ Err reason → IsRejectReason HasFault body reason
+rejected judge body OutOfRange e = inl (judge.fault body OutOfRange e, refl)
+rejected {of = of} judge body TooMany e = inr (λ h. let two = one_reason (of body) OutOfRange TooMany (judge.range body h) e in cc, inl (judge.fault body TooMany e, refl))
+rejected {of = of} judge body MissingParameter e =
+    inr (
+      λ h. let two = one_reason (of body) OutOfRange MissingParameter (judge.range body h) e in cc,
+      inr (
+        λ h. elim (judge.late body MissingParameter h e) [ inl a ↦ absurd cc | inr b ↦ absurd cc ],
+        inl (judge.fault body MissingParameter e, refl),
+      ),
+    )
+rejected {of = of} judge body InvalidTag e =
+    inr (
+      λ h. let two = one_reason (of body) OutOfRange InvalidTag (judge.range body h) e in cc,
+      inr (
+        λ h. elim (judge.late body InvalidTag h e) [ inl a ↦ absurd cc | inr b ↦ absurd cc ],
+        inr (
+          λ h. let two = one_reason (of body) MissingParameter InvalidTag (judge.missing body h) e in cc,
+          inl (judge.invalid body, refl),
+        ),
+      ),
+    )
+rejected judge body UnknownService e = absurd (judge.unknown body (judge.fault body UnknownService e))
 
 -- what is read is the outcome
-pub outcome_found : {A : Type 0} (IsWhole : List ℕ → A → Type 0) (HasFault : List ℕ → RejectReason → Type 0) (of : List ℕ → Result A RejectReason) → IsJudge IsWhole HasFault of → (body : List ℕ) (o : Result A RejectReason) → o ≡ of body → IsOutcome IsWhole HasFault body o
-outcome_found IsWhole HasFault of judge body (Ok x) e = record { whole = judge.takes body x (sym e); all = λ y s. e ∙ judge.again body y s; rejected = tt }
-outcome_found IsWhole HasFault of judge body (Err reason) e = record { whole = tt; all = λ y s. e ∙ judge.again body y s; rejected = judge.fails body reason (sym e) }
+outcome_found : {A : Type 0} {IsWhole : List ℕ → A → Type 0} {HasFault : List ℕ → RejectReason → Type 0} {of : List ℕ → Result A RejectReason} → IsJudge IsWhole HasFault of → (body : List ℕ) (o : Result A RejectReason) → of body ≡ o → IsOutcome IsWhole HasFault body o
+outcome_found judge body (Ok x) e = record { whole = judge.takes body x e; all = λ y s. sym e ∙ judge.again body y s; rejected = tt }
+outcome_found judge body (Err reason) e = record { whole = tt; all = λ y s. sym e ∙ judge.again body y s; rejected = rejected judge body reason e }
 
-outcome_read : {A : Type 0} (IsWhole : List ℕ → A → Type 0) (HasFault : List ℕ → RejectReason → Type 0) (of : List ℕ → Result A RejectReason) → IsJudge IsWhole HasFault of → (body : List ℕ) (read o : Result A RejectReason) → of body ≡ read → IsOutcome IsWhole HasFault body o → read ≡ o
-outcome_read IsWhole HasFault of judge body read (Ok x) e is = sym e ∙ judge.again body x is.whole
-outcome_read IsWhole HasFault of judge body (Ok y) (Err reason) e is = absurd (ok_err (Err reason) y reason (is.all y (judge.takes body y e)) refl)
-outcome_read IsWhole HasFault of judge body (Err other) (Err reason) e is = ap Err (one_first (HasFault body) (OutOfRange ∷ TooMany ∷ MissingParameter ∷ InvalidTag ∷ []) other reason (judge.fails body other e) is.rejected)
+outcome_read : {A : Type 0} {IsWhole : List ℕ → A → Type 0} {HasFault : List ℕ → RejectReason → Type 0} {of : List ℕ → Result A RejectReason} → IsJudge IsWhole HasFault of → (body : List ℕ) (read o : Result A RejectReason) → of body ≡ read → IsOutcome IsWhole HasFault body o → read ≡ o
+outcome_read judge body read (Ok x) e is = sym e ∙ judge.again body x is.whole
+outcome_read judge body (Ok y) (Err reason) e is = let two = is.all y (judge.takes body y e) in absurd cc
+outcome_read {HasFault = HasFault} judge body (Err other) (Err reason) e is = ap Err (one_first (HasFault body) (OutOfRange ∷ TooMany ∷ MissingParameter ∷ InvalidTag ∷ []) other reason (rejected judge body other e) is.rejected)
 
 -- a body has one outcome
-pub outcome_is : {A : Type 0} (IsWhole : List ℕ → A → Type 0) (HasFault : List ℕ → RejectReason → Type 0) (of : List ℕ → Result A RejectReason) → IsJudge IsWhole HasFault of → (body : List ℕ) (o : Result A RejectReason) → (of body ≡ o) ↔ IsOutcome IsWhole HasFault body o
-outcome_is IsWhole HasFault of judge body o = (λ e. outcome_found IsWhole HasFault of judge body o (sym e), outcome_read IsWhole HasFault of judge body (of body) o refl)
+pub outcome_is : {A : Type 0} {IsWhole : List ℕ → A → Type 0} {HasFault : List ℕ → RejectReason → Type 0} {of : List ℕ → Result A RejectReason} → IsJudge IsWhole HasFault of → (body : List ℕ) (o : Result A RejectReason) → (of body ≡ o) ↔ IsOutcome IsWhole HasFault body o
+outcome_is {of = of} judge body o = (λ e. outcome_found judge body o e, outcome_read judge body (of body) o refl)

@@ -33,10 +33,11 @@ to_front Spells octets rest (x ∷ xs) s =
     let t = to_front Spells s.0 rest xs s.2 in
     (s.1.front ++ t.0, (t.0, record { front = s.1.front; spelled = s.1.spelled; whole = refl }, t.1), s.1.whole ∙ ap (λ (w : List ℕ). s.1.front ++ w) t.2 ∙ sym (append_assoc s.1.front t.0 rest))
 
-pub from_front : {A : Type 0} (Spells : List ℕ → A → Type 0) (front rest : List ℕ) (xs : List A) → SpellsAll Spells front xs → SpellsTo Spells (front ++ rest) xs rest
-from_front Spells front rest [] s = ap (λ (w : List ℕ). w ++ rest) s
-from_front Spells front rest (x ∷ xs) s =
-    (s.0 ++ rest, record { front = s.1.front; spelled = s.1.spelled; whole = ap (λ (w : List ℕ). w ++ rest) s.1.whole ∙ append_assoc s.1.front s.0 rest }, from_front Spells s.0 rest xs s.2)
+pub from_front : {A : Type 0} (Spells : List ℕ → A → Type 0) (octets front rest : List ℕ) (xs : List A) → octets ≡ front ++ rest → SpellsAll Spells front xs → SpellsTo Spells octets xs rest
+from_front Spells octets front rest [] e s = e ∙ ap (λ (w : List ℕ). w ++ rest) s
+from_front Spells octets front rest (x ∷ xs) e s =
+    let line = e ∙ ap (λ (w : List ℕ). w ++ rest) s.1.whole ∙ append_assoc s.1.front s.0 rest in
+    (s.0 ++ rest, record { front = s.1.front; spelled = s.1.spelled; whole = line }, from_front Spells (s.0 ++ rest) s.0 rest xs refl s.2)
 
 -- ---- a whole body
 

@@ -1,5 +1,5 @@
--- What is written of a body spells it, and no other spelling has fewer octets.
-use Rattle.std.proofs.Common.{◌≡◌, ℕ, ◌+◌, ◌^◌, ◌<◌, ◌≤◌, List, [], ◌∷◌, ◌++◌, length, Option, Some, None, refl, ap, subst, arith}
+-- What is written of a body spells it, no other spelling has fewer octets, and it is read back.
+use Rattle.std.proofs.Common.{◌≡◌, ℕ, ◌+◌, ◌^◌, ◌<◌, ◌≤◌, List, [], ◌∷◌, ◌++◌, length, Option, Some, None, Ok, refl, ap, subst, arith}
 use Rattle.std.specs.Prelude.{IfSome}
 use Rattle.std.specs.List.{AllByRecursion}
 use Rattle.std.proofs.lemmas.Bool.{lt-ltb}
@@ -13,19 +13,23 @@ use Rattle.bac_wire.specs.Region.{IsRegion, opening_tag, closing_tag}
 use Rattle.bac_wire.specs.Datum.{Datum, Spells, unsigned, enumerated, octet_count, plain, IsDatum}
 use Rattle.bac_wire.specs.Datum as values
 use Rattle.bac_wire.specs.Parameter.{context_tag, SpellsContext, SpellsIn, IsNumber, IsObject, SpellsEnclosed, context_octets, number_octets, object_octets, enclosed_octets}
-use Rattle.bac_wire.proofs.PlainTag.{behind, tag_least}
+use Rattle.bac_wire.proofs.TagLaws.{behind, tag_least}
+use Rattle.bac_wire.proofs.PlainDatum.{plain_spells}
 use Rattle.bac_wire.proofs.ShortestDatum.{octet_count_least, ahead}
+use Rattle.bac_wire.proofs.ParameterLaws.{number_spells, object_spells, enclosed_spells}
 use Rattle.bac_pdu.specs.declared.discovery.WhoIs.{WhoIs}
 use Rattle.bac_pdu.specs.declared.discovery.WhoIs.TheVariants as limits
 use Rattle.bac_pdu.specs.Parameter.{Parameter, object, property, index, value, priority, IsParameter, SpellsParameter, optional, plain_parameter, plain_all}
 use Rattle.bac_pdu.specs.Property.{Reference, Answer, Order, reference_parameters, answer_parameters, order_parameters, IsPriority, IsReadBody, IsAckBody, IsWriteBody, read_octets, ack_octets, write_octets}
+use Rattle.bac_pdu.specs.PropertyReading.{read_of, write_of, ack_of}
 use Rattle.bac_pdu.specs.Discovery.{SpellsNumbered, HasLimits, Introduction, introduction_values, IsWhoIsBody, IsIAmBody, who_is_octets, i_am_octets}
 use Rattle.bac_pdu.specs.Failure.{IsErrorBody, error_octets}
-use Rattle.bac_pdu.specs.ValueReading.{introduction_of, error_of}
+use Rattle.bac_pdu.specs.ValueReading.{who_is_of, introduction_of, error_of}
 use Rattle.bac_pdu.proofs.SequenceLaws.{all_spell, whole_spell}
 use Rattle.bac_pdu.proofs.Written.{optional_is}
-use Rattle.bac_pdu.proofs.DiscoveryLaws.{introduction_is, error_is}
-use Rattle.bac_pdu.proofs.RoundLaws.{parameters_spell, range_spells}
+use Rattle.bac_pdu.proofs.ReadLaws.{read_again, ack_is}
+use Rattle.bac_pdu.proofs.WriteLaws.{write_again}
+use Rattle.bac_pdu.proofs.DiscoveryLaws.{who_is_is, introduction_is, error_is}
 
 -- ---- a parameter
 
@@ -60,84 +64,101 @@ enclosed_shortest number region octets fit s =
     let closing = tag_least s.closed.closing (closing_tag number) (behind region s.closed.closing inner) s.closed.closed in
     omega (arith, ap length s.whole, ap length s.closed.whole, length-append s.opening s.behind, length-append region s.closed.closing, length-append (plain_tag (opening_tag number)) (region ++ plain_tag (closing_tag number)), length-append region (plain_tag (closing_tag number)))
 
-parameter_least : (p : Parameter) (octets : List ℕ) → AreOctets octets → SpellsParameter octets p → length (plain_parameter p) ≤ length octets
+parameter_shortest : (p : Parameter) → IsParameter p → IsShortest SpellsParameter (plain_parameter p) p
 unfolding plain_parameter
-parameter_least (object id) octets fit s = object_shortest 0 id octets fit s
-parameter_least (property n) octets fit s = number_shortest 1 n octets fit s
-parameter_least (index n) octets fit s = number_shortest 2 n octets fit s
-parameter_least (priority n) octets fit s = number_shortest 4 n octets fit s
-parameter_least (value region) octets fit s = enclosed_shortest 3 region octets fit s
+parameter_shortest (object id) h = record { spelled = object_spells 0 id (omega arith) h; shortest = λ octets fit s. object_shortest 0 id octets fit s }
+parameter_shortest (property n) h = record { spelled = number_spells 1 n (omega arith) h; shortest = λ octets fit s. number_shortest 1 n octets fit s }
+parameter_shortest (index n) h = record { spelled = number_spells 2 n (omega arith) h; shortest = λ octets fit s. number_shortest 2 n octets fit s }
+parameter_shortest (priority n) h = record { spelled = number_spells 4 n (omega arith) h; shortest = λ octets fit s. number_shortest 4 n octets fit s }
+parameter_shortest (value region) h = record { spelled = enclosed_spells 3 region (omega arith) h; shortest = λ octets fit s. enclosed_shortest 3 region octets fit s }
 
 -- ---- one after the other
 
 -- things of which each is written in the fewest octets
-all_least : {A : Type 0} (Spells : List ℕ → A → Type 0) (plain : A → List ℕ) (Is : A → Type 0) → ((x : A) (octets : List ℕ) → Is x → AreOctets octets → Spells octets x → length (plain x) ≤ length octets) → (xs : List A) (octets rest : List ℕ) → AllByRecursion Is xs → AreOctets octets → SpellsTo Spells octets xs rest
+all_least : {A : Type 0} (Spells : List ℕ → A → Type 0) (plain : A → List ℕ) (Is : A → Type 0) → ((x : A) → Is x → IsShortest Spells (plain x) x) → (xs : List A) (octets rest : List ℕ) → AllByRecursion Is xs → AreOctets octets → SpellsTo Spells octets xs rest
     → length (plain_all plain xs) + length rest ≤ length octets
-all_least Spells plain Is least [] octets rest h fit s = omega (arith, ap length s)
-all_least Spells plain Is least (x ∷ xs) octets rest h fit s =
+all_least Spells plain Is each [] octets rest h fit s = omega (arith, ap length s)
+all_least Spells plain Is each (x ∷ xs) octets rest h fit s =
     let fits : AreOctets (s.1.front ++ s.0) = subst AreOctets s.1.whole fit in
-    let first = least x s.1.front h.0 (ahead s.1.front s.0 fits) s.1.spelled in
-    let others = all_least Spells plain Is least xs s.0 rest h.1 (behind s.1.front s.0 fits) s.2 in
+    let first = (each x h.0).shortest s.1.front (ahead s.1.front s.0 fits) s.1.spelled in
+    let others = all_least Spells plain Is each xs s.0 rest h.1 (behind s.1.front s.0 fits) s.2 in
     omega (arith, ap length s.1.whole, length-append s.1.front s.0, length-append (plain x) (plain_all plain xs))
 
-parameters_least : (ps : List Parameter) (body : List ℕ) → AllByRecursion IsParameter ps → AreOctets body → SpellsTo SpellsParameter body ps [] → length (plain_all plain_parameter ps) ≤ length body
-parameters_least ps body h fit s =
-    let all = all_least SpellsParameter plain_parameter IsParameter (λ p octets is fit s. parameter_least p octets fit s) ps body [] h fit s in
-    omega arith
+all_shortest : {A : Type 0} (Spells : List ℕ → A → Type 0) (plain : A → List ℕ) (Is : A → Type 0) → ((x : A) → Is x → IsShortest Spells (plain x) x) → (xs : List A) → AllByRecursion Is xs → IsShortest (SpellsAll Spells) (plain_all plain xs) xs
+all_shortest Spells plain Is each xs h = record {
+  spelled = whole_spell Spells plain Is (λ x is. (each x is).spelled) xs h;
+  shortest = λ octets fit s. let all = all_least Spells plain Is each xs octets [] h fit s in omega arith;
+}
+
+parameters_shortest : (ps : List Parameter) → AllByRecursion IsParameter ps → IsShortest (SpellsAll SpellsParameter) (plain_all plain_parameter ps) ps
+parameters_shortest ps h = all_shortest SpellsParameter plain_parameter IsParameter parameter_shortest ps h
 
 -- the value is written in the fewest octets
 abbrev pub IsWritten : Datum → Type 0
 IsWritten datum = IsShortest Spells (plain datum) datum
 
-values_spell : (xs : List Datum) → AllByRecursion IsWritten xs → SpellsAll Spells (plain_all plain xs) xs
-values_spell xs h = whole_spell Spells plain IsWritten (λ x is. is.spelled) xs h
-
-values_least : (xs : List Datum) (body rest : List ℕ) → AllByRecursion IsWritten xs → AreOctets body → SpellsTo Spells body xs rest → length (plain_all plain xs) ≤ length body
-values_least xs body rest h fit s =
-    let all = all_least Spells plain IsWritten (λ x octets is fit s. is.shortest octets fit s) xs body rest h fit s in
-    omega arith
-
 -- ---- the bodies
 
 pub read_shortest : (r : Reference) → AllByRecursion IsParameter (reference_parameters r) → IsShortest IsReadBody (read_octets r) r
-read_shortest r h = record { spelled = parameters_spell (reference_parameters r) h; shortest = λ other fit s. parameters_least (reference_parameters r) other h fit s }
+read_shortest r h = let all = parameters_shortest (reference_parameters r) h in record { spelled = all.spelled; shortest = all.shortest }
+
+pub read_back : (r : Reference) → AllByRecursion IsParameter (reference_parameters r) → read_of (read_octets r) ≡ Ok r
+read_back r h = read_again (read_octets r) r (read_shortest r h).spelled
 
 pub ack_shortest : (a : Answer) → AllByRecursion IsParameter (answer_parameters a) → IsShortest IsAckBody (ack_octets a) a
-ack_shortest a h = record { spelled = parameters_spell (answer_parameters a) h; shortest = λ other fit s. parameters_least (answer_parameters a) other h fit s }
+ack_shortest a h = let all = parameters_shortest (answer_parameters a) h in record { spelled = all.spelled; shortest = all.shortest }
+
+pub ack_back : (a : Answer) → AllByRecursion IsParameter (answer_parameters a) → ack_of (ack_octets a) ≡ Some a
+ack_back a h = (ack_is (ack_octets a) a).1 (ack_shortest a h).spelled
 
 pub write_shortest : (o : Order) → AllByRecursion IsParameter (order_parameters o) → IfSome o.priority IsPriority → IsShortest IsWriteBody (write_octets o) o
-write_shortest o h urgent = record { spelled = record { spelled = parameters_spell (order_parameters o) h; urgent = urgent }; shortest = λ other fit s. parameters_least (order_parameters o) other h fit s.spelled }
+write_shortest o h urgent = let all = parameters_shortest (order_parameters o) h in record { spelled = record { spelled = all.spelled; urgent = urgent }; shortest = λ other fit s. all.shortest other fit s.spelled }
 
-range_least : (low high : ℕ) (body : List ℕ) → AreOctets body → IsWhoIsBody body (limits.Range low high) → length (who_is_octets (limits.Range low high)) ≤ length body
-range_least low high body fit s =
-    let all = all_least SpellsNumbered (λ x. number_octets x.0 x.1) (λ x. Unit {0}) (λ x octets is fit s. number_shortest x.0 x.1 octets fit s) ((0, low) ∷ (1, high) ∷ []) body [] (tt, (tt, tt)) fit s in
-    let whole = rw (append-nil (number_octets 1 high)) at all in
-    omega arith
+pub write_back : (o : Order) → AllByRecursion IsParameter (order_parameters o) → IfSome o.priority IsPriority → write_of (write_octets o) ≡ Ok o
+write_back o h urgent = write_again (write_octets o) o (write_shortest o h urgent).spelled
+
+range_shortest : (low high : ℕ) → low < 2 ^ 32 → high < 2 ^ 32 → IsShortest IsWhoIsBody (who_is_octets (limits.Range low high)) (limits.Range low high)
+range_shortest low high l h =
+    let Fits : ℕ × ℕ → Type 0 = λ x. (x.0 < 255) × (x.1 < 2 ^ 32) in
+    let all = all_shortest SpellsNumbered (λ x. number_octets x.0 x.1) Fits (λ x is. record { spelled = number_spells x.0 x.1 is.0 is.1; shortest = λ octets fit s. number_shortest x.0 x.1 octets fit s }) ((0, low) ∷ (1, high) ∷ []) ((omega arith, l), ((omega arith, h), tt)) in
+    rw (← append-nil (number_octets 1 high)) (record { spelled = all.spelled; shortest = all.shortest })
 
 pub who_is_shortest : (w : WhoIs) → HasLimits w → IsShortest IsWhoIsBody (who_is_octets w) w
 who_is_shortest limits.All h = record { spelled = refl; shortest = λ other fit s. omega arith }
-who_is_shortest (limits.Range low high) h = record { spelled = range_spells low high h.0 h.1; shortest = λ other fit s. range_least low high other fit s }
+who_is_shortest (limits.Range low high) h = range_shortest low high h.0 h.1
+
+pub limits_back : (w : WhoIs) → HasLimits w → who_is_of (who_is_octets w) ≡ Some w
+limits_back w h = (who_is_is (who_is_octets w) w).1 (who_is_shortest w h).spelled
+
+pub who_is_back : (low high : ℕ) → low < 2 ^ 32 → high < 2 ^ 32 → who_is_of (who_is_octets (limits.Range low high)) ≡ Some (limits.Range low high)
+who_is_back low high l h = limits_back (limits.Range low high) (l, h)
 
 pub i_am_shortest : (i : Introduction) → i.device.kind ≡ 8 → IsWritten (values.object i.device) → IsWritten (unsigned i.max_apdu) → IsWritten (enumerated i.segmentation) → IsWritten (unsigned i.vendor) → IsShortest IsIAmBody (i_am_octets i) i
 i_am_shortest i device a b c d =
-    let all : AllByRecursion IsWritten (introduction_values i) = (a, (b, (c, (d, tt)))) in
-    record { spelled = record { device = device; spelled = values_spell (introduction_values i) all }; shortest = λ other fit s. values_least (introduction_values i) other [] all fit s.spelled }
+    let all = all_shortest Spells plain IsWritten (λ x is. is) (introduction_values i) (a, (b, (c, (d, tt)))) in
+    record { spelled = record { device = device; spelled = all.spelled }; shortest = λ other fit s. all.shortest other fit s.spelled }
 
-pub error_shortest : (class code : ℕ) → IsWritten (enumerated class) → IsWritten (enumerated code) → IsShortest IsErrorBody (error_octets class code) (class, code)
-error_shortest class code a b =
-    let all : AllByRecursion IsWritten (enumerated class ∷ enumerated code ∷ []) = (a, (b, tt)) in
-    record { spelled = ([], values_spell (enumerated class ∷ enumerated code ∷ []) all); shortest = λ other fit s. values_least (enumerated class ∷ enumerated code ∷ []) other s.0 all fit s.1 }
-
--- what is written of an error is read back
-pub error_is_back : (class code : ℕ) → IsWritten (enumerated class) → IsWritten (enumerated code) → (rest : List ℕ) → error_of (error_octets class code ++ rest) ≡ Some (class, code)
-error_is_back class code a b rest =
-    let values : List Datum = enumerated class ∷ enumerated code ∷ [] in
-    let all : AllByRecursion IsWritten values = (a, (b, tt)) in
-    (error_is (error_octets class code ++ rest) (class, code)).1 (rest, all_spell Spells plain IsWritten (λ x is. is.spelled) values rest all)
-
--- what is written of a device is read back
 pub i_am_is_back : (i : Introduction) → IsShortest IsIAmBody (i_am_octets i) i → introduction_of (i_am_octets i) ≡ Some i
 i_am_is_back i written = (introduction_is (i_am_octets i) i).1 written.spelled
+
+pub introduction_back : (i : Introduction) → i.device.kind ≡ 8 → AllByRecursion IsDatum (introduction_values i) → introduction_of (i_am_octets i) ≡ Some i
+introduction_back i device h = (introduction_is (i_am_octets i) i).1 (record { device = device; spelled = whole_spell Spells plain IsDatum plain_spells (introduction_values i) h })
+
+pub error_shortest : (class code : ℕ) → IsWritten (enumerated class) → IsWritten (enumerated code) → IsShortest IsErrorBody (error_octets class code) (class, code)
+error_shortest class code a b = record {
+  spelled = ([], whole_spell Spells plain IsWritten (λ x is. is.spelled) (enumerated class ∷ enumerated code ∷ []) (a, (b, tt)));
+  shortest = λ other fit s. let all = all_least Spells plain IsWritten (λ x is. is) (enumerated class ∷ enumerated code ∷ []) other s.0 (a, (b, tt)) fit s.1 in omega arith;
+}
+
+-- what is written of an error is read back, whatever follows
+error_again : (Is : Datum → Type 0) → ((x : Datum) → Is x → Spells (plain x) x) → (class code : ℕ) (rest : List ℕ) → AllByRecursion Is (enumerated class ∷ enumerated code ∷ []) → error_of (error_octets class code ++ rest) ≡ Some (class, code)
+error_again Is spell class code rest h = (error_is (error_octets class code ++ rest) (class, code)).1 (rest, all_spell Spells plain Is spell (enumerated class ∷ enumerated code ∷ []) rest h)
+
+pub error_back : (class code : ℕ) (rest : List ℕ) → AllByRecursion IsDatum (enumerated class ∷ enumerated code ∷ []) → error_of (error_octets class code ++ rest) ≡ Some (class, code)
+error_back = error_again IsDatum plain_spells
+
+pub error_is_back : (class code : ℕ) → IsWritten (enumerated class) → IsWritten (enumerated code) → (rest : List ℕ) → error_of (error_octets class code ++ rest) ≡ Some (class, code)
+error_is_back class code a b rest = error_again IsWritten (λ x is. is.spelled) class code rest (a, (b, tt))
 
 -- ---- the parameters of a request
 

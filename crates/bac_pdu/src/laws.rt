@@ -89,57 +89,57 @@ pub fn one_record()
 {}
 
 /// All three fields.
-pub fn same_part(a: &Part, b: &Part) -> bool
-    ensures { IsTrue result ↔ (a.now ≡ b.now) }
+pub fn same_part(part: &Part, other: &Part) -> bool
+    ensures { IsTrue result ↔ (part.now ≡ other.now) }
 {
-    a == b
+    part == other
 }
 
 /// The type, and all that it says, wherever the octets of the body lie.
-pub fn same_apdu(a: &Apdu<'_>, b: &Apdu<'_>) -> bool
-    ensures { IsTrue result ↔ (message a.now ≡ message b.now) }
+pub fn same_apdu(apdu: &Apdu<'_>, other: &Apdu<'_>) -> bool
+    ensures { IsTrue result ↔ (message apdu.now ≡ message other.now) }
 {
-    a == b
+    apdu == other
 }
 
 /// Both limits, where there are any.
-pub fn same_limits(a: &WhoIs, b: &WhoIs) -> bool
-    ensures { IsTrue result ↔ (a.now ≡ b.now) }
+pub fn same_limits(limits: &WhoIs, other: &WhoIs) -> bool
+    ensures { IsTrue result ↔ (limits.now ≡ other.now) }
 {
-    a == b
+    limits == other
 }
 
 /// All four fields.
-pub fn same_introduction(a: &IAm, b: &IAm) -> bool
-    ensures { IsTrue result ↔ (introduction a.now ≡ introduction b.now) }
+pub fn same_introduction(i_am: &IAm, other: &IAm) -> bool
+    ensures { IsTrue result ↔ (introduction i_am.now ≡ introduction other.now) }
 {
-    a == b
+    i_am == other
 }
 
 /// Object, property and index.
-pub fn same_read(a: &ReadRequest, b: &ReadRequest) -> bool
-    ensures { IsTrue result ↔ (reference a.now ≡ reference b.now) }
+pub fn same_read(read: &ReadRequest, other: &ReadRequest) -> bool
+    ensures { IsTrue result ↔ (reference read.now ≡ reference other.now) }
 {
-    a == b
+    read == other
 }
 
 /// The same, and the octets of the value.
-pub fn same_ack(a: &Ack<'_>, b: &Ack<'_>) -> bool
-    ensures { IsTrue result ↔ (answer a.now ≡ answer b.now) }
+pub fn same_ack(ack: &Ack<'_>, other: &Ack<'_>) -> bool
+    ensures { IsTrue result ↔ (answer ack.now ≡ answer other.now) }
 {
-    a == b
+    ack == other
 }
 
 /// The same, and the priority.
-pub fn same_write(a: &WriteRequest<'_>, b: &WriteRequest<'_>) -> bool
-    ensures { IsTrue result ↔ (order a.now ≡ order b.now) }
+pub fn same_write(write: &WriteRequest<'_>, other: &WriteRequest<'_>) -> bool
+    ensures { IsTrue result ↔ (order write.now ≡ order other.now) }
 {
-    a == b
+    write == other
 }
 
 /// The reason.
-pub fn same_reason(a: &RejectReason, b: &RejectReason) -> bool
-    ensures { IsTrue result ↔ (a.now ≡ b.now) }
+pub fn same_reason(reason: &RejectReason, other: &RejectReason) -> bool
+    ensures { IsTrue result ↔ (reason.now ≡ other.now) }
 {
-    a == b
+    reason == other
 }

@@ -1,5 +1,5 @@
 -- The device of a script, asked with a datagram.
-use Rattle.std.proofs.Common.{◌≡◌, ℕ, List, [], ◌∷◌, Option, Some, None, refl, sym, ◌∙◌, ap, subst}
+use Rattle.std.proofs.Common.{◌≡◌, ℕ, List, [], ◌∷◌, Option, Some, None, refl, ◌∙◌, ap}
 use Rattle.bac_pdu.specs.Peer.{Station}
 use Rattle.bac_device.specs.Point.{Description}
 use Rattle.bac_device.specs.Places.{Write}
@@ -8,32 +8,26 @@ use Rattle.bac_device.specs.Device.{DeviceState, points_of, device_after, Holds}
 use Rattle.bac_device.specs.Reply.{reply_to, writes_after}
 use Rattle.bac_device.specs.Turns.{Arrival, replies_to}
 use Rattle.bac_device.proofs.SizeLaws.{request_fits}
-use Rattle.bac_device.proofs.StateLaws.{points_after}
-use Rattle.bac_device.proofs.TurnLaws.{after_holds}
+use Rattle.bac_device.proofs.StateLaws.{points_after, after_holds}
 use Rattle.bac_script.specs.Fits.{ReplyFits, AllFit}
 use Rattle.bac_script.specs.Running.{small_device, device_with}
 
-held : (device : DeviceState) (writes : List Write) → device ≡ device_with writes → Holds device writes
-held device writes e = subst (λ (d : DeviceState). Holds d writes) (sym e) (after_holds small_device demo_points writes)
-
-module _ (device : DeviceState) (writes : List Write) (from : Station) (datagram : List ℕ) (is : device ≡ device_with writes) where
+module _ (writes : List Write) (from : Station) (datagram : List ℕ) where
   -- What is answered after any writes that the device holds is what is answered after these.
   pub replied : (reply : Option (Station × List ℕ)) →
-      ((held : List Write) → Holds device held → reply ≡ reply_to device.info (points_of device) held from datagram) →
+      ((held : List Write) → Holds (device_with writes) held → reply ≡ reply_to small_device (points_of (device_with writes)) held from datagram) →
       reply ≡ reply_to small_device demo_points writes from datagram
   replied reply h =
-      h writes (held device writes is)
-      ∙ ap (λ (d : DeviceState). reply_to d.info (points_of d) writes from datagram) is
+      h writes (after_holds small_device demo_points writes)
       ∙ ap (λ (points : List Description). reply_to small_device points writes from datagram) (points_after small_device demo_points writes)
 
   -- And so are the writes that it holds then.
   pub asked : (after : DeviceState) →
-      ((held : List Write) → Holds device held →
-      after ≡ device_after device.info (points_of device) (writes_after device.info (points_of device) held from datagram)) →
+      ((held : List Write) → Holds (device_with writes) held →
+      after ≡ device_after small_device (points_of (device_with writes)) (writes_after small_device (points_of (device_with writes)) held from datagram)) →
       after ≡ device_with (writes_after small_device demo_points writes from datagram)
   asked after h =
-      h writes (held device writes is)
-      ∙ ap (λ (d : DeviceState). device_after d.info (points_of d) (writes_after d.info (points_of d) writes from datagram)) is
+      h writes (after_holds small_device demo_points writes)
       ∙ ap (λ (points : List Description). device_after small_device points (writes_after small_device points writes from datagram))
       (points_after small_device demo_points writes)
 

@@ -1,6 +1,6 @@
 -- The octets of a chunk: a range of its room, of which a front was searched for a line feed.
 use Rattle.std.proofs.Common.{◌≡◌, ℕ, ◌+◌, ◌-◌, ◌<◌, ◌≤◌, List, [], ◌∷◌, ◌++◌, length, take, drop, Option, Some, None, refl, sym, ◌∙◌, ap, subst, inl, inr, append_assoc, append-nil, arith, length-drop}
-use Rattle.std.specs.Prelude.{◌==◌, position}
+use Rattle.std.specs.Prelude.{◌==◌, min, position}
 use Rattle.std.specs.List.{slice_range, copy_within}
 use Rattle.std.specs.Io.KnownBytes.{Consumes, Keeps}
 use Rattle.std.proofs.Math.Seq.{take-add, take-append-add}
@@ -25,14 +25,10 @@ pub range_skipped : (xs held : List ℕ) (start end n : ℕ) → slice_range xs 
 range_skipped xs held start end n is =
     between_is xs (start + n) end ∙ sym (drop-drop n start (take end xs)) ∙ ap (drop n) (sym (between_is xs start end) ∙ is)
 
-pub none_there : {A : Type 0} (found : Option A) → ((x : A) → found ≡ Some x → ⊥) → found ≡ None
-none_there None not = refl
-none_there (Some x) not = absurd (not x refl)
-
 -- ---- a search that goes on behind what was searched
 
-module _ (xs : List ℕ) (start count limit end : ℕ) (from : start + count ≤ limit) (below : limit ≤ end) (room : end ≤ length xs)
-    (before : HasNoFeed (take count (slice_range xs start end))) where
+module _ (xs : List ℕ) (start count limit end : ℕ) (is : limit ≡ min end (start + line_room)) (within : start + count ≤ end) (room : end ≤ length xs)
+    (few : count ≤ line_room) (before : HasNoFeed (take count (slice_range xs start end))) where
   abbrev held : List ℕ
   held = slice_range xs start end
 
@@ -44,13 +40,13 @@ module _ (xs : List ℕ) (start count limit end : ℕ) (from : start + count ≤
   size = range_size xs held start end refl room
 
   long : length front ≡ limit - start
-  long = length-take-le (limit - start) held (omega (arith, size, below))
+  long = length-take-le (limit - start) held (omega (arith, size, is))
 
   here : slice_range xs (start + count) limit ≡ drop count front
-  here = range_skipped xs front start limit count (sym (take-take (limit - start) (end - start) (drop start xs) (omega (arith, below))))
+  here = range_skipped xs front start limit count (sym (take-take (limit - start) (end - start) (drop start xs) (omega (arith, is))))
 
   searched : HasNoFeed (take count front)
-  searched = subst HasNoFeed (sym (take-take count (limit - start) held (omega (arith, from)))) before
+  searched = subst HasNoFeed (sym (take-take count (limit - start) held (omega (arith, is, within, few)))) before
 
   -- The line that ends with the first line feed.
   pub cut_behind : (place : ℕ) → position (λ octet. octet == 10) (slice_range xs (start + count) limit) ≡ Some place →
@@ -58,12 +54,12 @@ module _ (xs : List ℕ) (start count limit end : ℕ) (from : start + count ≤
   cut_behind place found =
       let rest = drop count front in
       let f = feed_at rest place (ap (position (λ octet. octet == 10)) (sym here) ∙ found) in
-      let within : count + place + 1 ≤ limit - start = omega (arith, f.within, length-drop count front, long) in
+      let there : count + place + 1 ≤ limit - start = omega (arith, f.within, length-drop count front, long) in
       let all : count + place + 1 ≡ count + (place + 1) = omega arith in
       let whole : take (count + place + 1) held ≡ (take count front ++ take place rest) ++ 10 ∷ [] =
-      sym (take-take (count + place + 1) (limit - start) held within) ∙ ap (λ (n : ℕ). take n front) all ∙ take-add count (place + 1) front
+      sym (take-take (count + place + 1) (limit - start) held there) ∙ ap (λ (n : ℕ). take n front) all ∙ take-add count (place + 1) front
       ∙ ap (λ (ys : List ℕ). take count front ++ ys) f.ended ∙ sym (append_assoc (take count front) (take place rest) (10 ∷ [])) in
-      (omega (arith, size, within, below), inl (take count front ++ take place rest, no_feed_on (take count front) (take place rest) searched f.before, whole))
+      (omega (arith, size, there, is), inl (take count front ++ take place rest, no_feed_on (take count front) (take place rest) searched f.before, whole))
 
   -- There is no line feed up to where was searched.
   pub none_up_to : position (λ octet. octet == 10) (slice_range xs (start + count) limit) ≡ None → HasNoFeed front
@@ -71,12 +67,12 @@ module _ (xs : List ℕ) (start count limit end : ℕ) (from : start + count ≤
       let rest = no_feed (drop count front) (ap (position (λ octet. octet == 10)) (sym here) ∙ none) in
       subst HasNoFeed (take-append-drop count front) (no_feed_on (take count front) (drop count front) searched rest)
 
-  -- Nor among all that is held.
-  pub none_held : HasNoFeed front → limit ≡ end → HasNoFeed held
-  none_held none e = subst HasNoFeed (take_all (limit - start) held (omega (arith, size, e))) none
+  -- Nor among all that is held, where no more is.
+  pub none_held : HasNoFeed front → limit - start < line_room → HasNoFeed held × (length held < line_room)
+  none_held none short = (subst HasNoFeed (take_all (limit - start) held (omega (arith, size, is, short))) none, omega (arith, size, is, short))
 
-  pub cut_as_long : HasNoFeed front → limit - start ≡ line_room → (limit - start ≤ length held) × IsCutAs Open front
-  cut_as_long none all = (omega (arith, size, below), inr (none, long ∙ all))
+  pub cut_as_long : HasNoFeed front → line_room ≤ limit - start → (limit - start ≤ length held) × IsCutAs Open front
+  cut_as_long none all = (omega (arith, size, is), inr (none, omega (arith, long, is, all)))
 
 -- ---- octets that are read behind what is held
 

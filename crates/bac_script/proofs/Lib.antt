@@ -1,10 +1,8 @@
 pub mod Taken
 pub mod Chunks
-pub mod NoteTexts
 pub mod Pieces
 pub mod Machine
 pub mod Settled
 pub mod Courses
 pub mod SoFar
-pub mod LongBodies
 pub mod Asking

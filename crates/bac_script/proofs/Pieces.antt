@@ -1,6 +1,6 @@
 -- Where the octets of a script are cut.
 use Rattle.std.proofs.Common.{◌≡◌, ◌≢◌, ℕ, ◌-◌, ◌<◌, Bool, true, false, List, [], ◌∷◌, ◌++◌, length, take, get_or, refl, sym, ◌∙◌, ap, append_assoc, arith, Err}
-use Rattle.std.specs.Prelude.{nat_lt, cond, filter}
+use Rattle.std.specs.Prelude.{◌||◌, nat_lt, cond, filter}
 use Rattle.std.specs.List.{onto_first}
 use Rattle.std.proofs.lemmas.List.{append-nil, length-append, length-take-le}
 use Rattle.std.proofs.lemmas.Bool.{ne_eqb}
@@ -56,19 +56,14 @@ ends_with_feed-push text =
     let at : length (text ++ 10 ∷ []) - 1 ≡ length text = omega (arith, length-append text (10 ∷ [])) in
     rw (at, get_or-append_seam text 10 [] 0) refl
 
-is_line-ended : (reading : Reading) (line : List ℕ) → ends_with_feed line ≡ true → is_line reading line ≡ true
-is_line-ended AtEnd line h = refl
-is_line-ended Open line h = rw h refl
-is_line-ended Failed line h = rw h refl
-
-is_line-long : (reading : Reading) (line : List ℕ) → longest_line < length line → is_line reading line ≡ true
-is_line-long AtEnd line h = refl
-is_line-long Open line h = grind (arith, nat_tests)
-is_line-long Failed line h = grind (arith, nat_tests)
+is_line-sure : (reading : Reading) (line : List ℕ) → (ends_with_feed line || nat_lt longest_line (length line)) ≡ true → is_line reading line ≡ true
+is_line-sure AtEnd line h = refl
+is_line-sure Open line h = h
+is_line-sure Failed line h = h
 
 pub lines-ended : (text more : List ℕ) (reading : Reading) → HasNoFeed text → lines ((text ++ 10 ∷ []) ++ more) reading ≡ (text ++ 10 ∷ []) ∷ lines more reading
 lines-ended text more reading h =
-    rw (append_assoc text (10 ∷ []) more, pieces-line text more h, is_line-ended reading (text ++ 10 ∷ []) (ends_with_feed-push text)) refl
+    rw (append_assoc text (10 ∷ []) more, pieces-line text more h, is_line-sure reading (text ++ 10 ∷ []) (rw (ends_with_feed-push text) refl)) refl
 
 -- What no line feed ends, and is not too long, is a line only at the end
 pub lines-rest : (line : List ℕ) → HasNoFeed line → length line < line_room → lines line Failed ≡ []
@@ -106,11 +101,12 @@ next_long [] held reading h long = absurd (omega arith)
 next_long (x ∷ xs) held reading h long =
     let b = pieces-begun x xs held h in
     let long' : longest_line < length ((x ∷ xs) ++ b.front) = omega (arith, length-append (x ∷ xs) b.front) in
+    let sure : (ends_with_feed ((x ∷ xs) ++ b.front) || nat_lt longest_line (length ((x ∷ xs) ++ b.front))) ≡ true = grind (arith, nat_tests, long') in
     let too_long : longest_line < length (without_feed (x ∷ xs)) = rw (ends_with_feed-none (x ∷ xs) h) (omega arith) in
     record {
       whole = (x ∷ xs) ++ b.front;
       others = filter (is_line reading) b.others;
-      split = rw (b.is, is_line-long reading ((x ∷ xs) ++ b.front) long') refl;
+      split = rw (b.is, is_line-sure reading ((x ∷ xs) ++ b.front) sure) refl;
       same = λ is_first. said-long is_first ((x ∷ xs) ++ b.front) (without_feed_long (x ∷ xs) b.front h long) ∙ sym (said-long is_first (x ∷ xs) too_long);
     }
 

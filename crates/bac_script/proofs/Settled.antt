@@ -37,11 +37,10 @@ found_other (Some one) fault h = h
 
 text_other : (r : Result (List ℕ) LineFault) → IfOk (said_in false r) IsOther
 text_other (Err fault) = tt
-text_other (Ok text) = go (is_utf8 text)
-  where
-    go : (b : Bool) → IfOk (cond b (ok_or (said_by false (words_of text)) Bad) (Err Bad)) IsOther
-    go true = found_other (said_by false (words_of text)) Bad (words_other (words_of text))
-    go false = tt
+text_other (Ok text) = elim (is_utf8 text) as (λ b. IfOk (cond b (ok_or (said_by false (words_of text)) Bad) (Err Bad)) IsOther) [
+  | true ↦ found_other (said_by false (words_of text)) Bad (words_other (words_of text))
+  | false ↦ tt
+]
 
 other_then : (s : Result Said LineFault) (later : List Said) → IfOk s IsOther → NoSettings later → NoSettings (and_then s later)
 other_then (Err fault) later h rest = tt

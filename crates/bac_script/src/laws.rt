@@ -4,15 +4,15 @@ ghost use Rattle.std.specs.Prelude.{◌≡◌, ◌↔◌, IsTrue};
 use crate::tracing::{TraceEnd, TraceFault};
 
 /// Ends of scripts are equal just where they are the same.
-pub fn same_end(one: &TraceEnd, other: &TraceEnd) -> bool
-    ensures { IsTrue result ↔ (one.now ≡ other.now) }
+pub fn same_end(end: &TraceEnd, other: &TraceEnd) -> bool
+    ensures { IsTrue result ↔ (end.now ≡ other.now) }
 {
-    one == other
+    end == other
 }
 
 /// Faults of scripts are equal just where they are the same.
-pub fn same_fault(one: &TraceFault, other: &TraceFault) -> bool
-    ensures { IsTrue result ↔ (one.now ≡ other.now) }
+pub fn same_fault(fault: &TraceFault, other: &TraceFault) -> bool
+    ensures { IsTrue result ↔ (fault.now ≡ other.now) }
 {
-    one == other
+    fault == other
 }

@@ -105,7 +105,10 @@ pub(crate) fn read_line<'a>(
 fn is_text(octets: &[u8]) -> bool
     ensures { result ≡ is_utf8 octets.now }
 {
-    place_of_end(octets, End::PastAscii).is_none() || str::from_utf8(octets).is_ok()
+    match place_of_end(octets, End::PastAscii) {
+        None => true,
+        Some(_) => str::from_utf8(octets).is_ok(),
+    }
 }
 
 // The octets of a line without its line feed and a carriage return before that.

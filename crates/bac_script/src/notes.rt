@@ -1,5 +1,5 @@
 //! What is printed of a client's notes, and of a device's replies.
-ghost use Rattle.std.specs.Prelude.{◌≡◌, false, is_err, IfErr, Some};
+ghost use Rattle.std.specs.Prelude.{◌≡◌, false, is_err, option_map, IfErr, Some};
 ghost use Rattle.std.specs.List.{flat_map};
 ghost use Rattle.bac_pdu.specs.Peer.{station};
 ghost use Rattle.bac_tsm.specs.Events.{Done, Refused, TimedOut};
@@ -106,6 +106,7 @@ fn print_entry<W: Write>(page: &mut Page<'_, W>, client: &Client, entry: Entry)
     }
 }
 
+#[tactic(auto, using(bac_text::proofs::Printed::printing))]
 fn print_timeout<W: Write>(page: &mut Page<'_, W>, ticket: u64)
     ensures { Prints W.contents page.old page.new (note_text (TimedOut ticket)) }
 {
@@ -114,8 +115,17 @@ fn print_timeout<W: Write>(page: &mut Page<'_, W>, ticket: u64)
     page.print(b"\n");
 }
 
-/// Prints the device's reply to the peer.
-pub(crate) fn print_reply<W: Write>(page: &mut Page<'_, W>, peer: Peer, octets: &[u8])
+/// Prints what the device answers: its reply, or that it is silent.
+pub(crate) fn print_answer<W: Write>(page: &mut Page<'_, W>, to: Option<Peer>, octets: &[u8])
+    ensures { Prints W.contents page.old page.new (reply_text (option_map (λ peer. (station peer, octets.now)) to)) }
+{
+    match to {
+        Some(peer) => print_reply(page, peer, octets),
+        None => page.print(b"silent\n"),
+    }
+}
+
+fn print_reply<W: Write>(page: &mut Page<'_, W>, peer: Peer, octets: &[u8])
     ensures { Prints W.contents page.old page.new (reply_text (Some (station peer, octets.now))) }
 {
     page.print(b"reply ");

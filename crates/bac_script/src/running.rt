@@ -10,7 +10,7 @@ ghost use Rattle.bac_script.specs.Running.{Stage, Stands, step_of, device_with, 
 ghost use Rattle.bac_script.specs.Text.{notes_text};
 
 use crate::line::{Line, Received};
-use crate::notes::{print_due, print_end, print_refusal, print_reply, print_sent};
+use crate::notes::{print_answer, print_due, print_end, print_refusal, print_sent};
 use bac_device::{Device, DeviceInfo, demo};
 use bac_pdu::Peer;
 use bac_text::Page;
@@ -98,8 +98,6 @@ fn ask<W: Write>(
     ensures device { (writes : List Written) → device.old ≡ device_with writes → device.new ≡ device_with (writes_with writes (arrival_seen received.entry)) }
     ensures text { (writes : List Written) → device.old ≡ device_with writes → Prints W.contents page.old page.new (reply_after writes (arrival_seen received.entry)) }
 {
-    match device.answer(*received.from, received.datagram, reply) {
-        Some(peer) => print_reply(page, peer, reply.as_slice()),
-        None => page.print(b"silent\n"),
-    }
+    let to = device.answer(*received.from, received.datagram, reply);
+    print_answer(page, to, reply.as_slice());
 }

@@ -1,8 +1,7 @@
 -- The body of words orders the values that they write, in the standard's words.
-use Rattle.std.proofs.Common.{◌≡◌, ℕ, ◌^◌, ◌<◌, ◌≤◌, Bool, true, false, List, length, Option, Some, None, Result, Ok, Err, refl, sym, subst, arith}
-use Rattle.std.specs.Prelude.{nat_le, IfSome}
+use Rattle.std.proofs.Common.{◌≡◌, ℕ, ◌^◌, ◌<◌, ◌≤◌, List, length, Option, Some, None, Result, Ok, Err, refl, sym, subst, arith}
+use Rattle.std.specs.Prelude.{IfSome}
 use Rattle.std.specs.List.{AllByRecursion}
-use Rattle.std.proofs.lemmas.Bool.Decides.{nat_tests}
 use Rattle.bac_wire.specs.Datum.{Datum, Spells, InRange, IsDatum, plain}
 use Rattle.bac_wire.specs.Front.{IsShortest}
 use Rattle.bac_wire.specs.Identifier.{Identifier, IsIdentifier}
@@ -12,18 +11,13 @@ use Rattle.bac_pdu.specs.Property.{IsWriteBody, reference_parameters, write_octe
 use Rattle.bac_pdu.proofs.SequenceLaws.{whole_spell}
 use Rattle.bac_pdu.proofs.ShortestLaws.{order_is_written}
 use Rattle.bac_text.specs.declared.pairs.PairFault.TheVariants.{TooLong}
-use Rattle.bac_text.specs.ValueWords.{at_most}
 use Rattle.bac_text.specs.Pairs.{values_in, region_with, region_of, order_of, body_with}
 use Rattle.bac_text.specs.PairsInWords.{AreWritten, IsWritten, BodiesAreWritten}
 use Rattle.bac_text.proofs.ValueLists.{read_all}
 use Rattle.bac_text.proofs.ValueRegions.{values_are_region}
 use Rattle.bac_text.proofs.WordRanges.{values_range, values_spelled}
+use Rattle.bac_text.proofs.WordValues.{at_most_found}
 use Rattle.bac_text.proofs.WriteBodies.{region_within}
-
--- What has so few octets as it may is as it was.
-at_most-is : (most : ℕ) (octets found : List ℕ) (b : Bool) → nat_le (length octets) most ≡ b → at_most TooLong most octets ≡ Ok found → (found ≡ octets) × (length octets ≤ most)
-at_most-is most octets found true fits e = ((let same : Ok octets ≡ Ok found = rw fits at e in cc), grind (arith, nat_tests))
-at_most-is most octets found false past e = absurd (let bad : Err TooLong ≡ Ok found = rw past at e in cc)
 
 -- The values of words whose spellings fit a frame, one after another.
 values_written : (words : List (List ℕ)) (values : List Datum) → values_in words ≡ Ok values → length (plain_all plain values) ≤ 1497 → AreWritten words (plain_all plain values)
@@ -39,7 +33,7 @@ region_written words region e = go (values_in words) refl e
     go : (found : Result (List Datum) ℕ) → values_in words ≡ found → region_with found ≡ Ok region → AreWritten words region
     go (Err n) said e = absurd (cc)
     go (Ok values) said e =
-        let is = at_most-is 1497 (plain_all plain values) region (nat_le (length (plain_all plain values)) 1497) refl e in
+        let is = at_most_found TooLong 1497 (plain_all plain values) region e in
         subst (AreWritten words) (sym is.0) (values_written words values said is.1)
 
 named : (object : Identifier) (property : ℕ) (index priority : Option ℕ) (region : List ℕ) → IsIdentifier object → property < 2 ^ 32 → IfSome index (λ n. n < 2 ^ 32) →
@@ -55,7 +49,7 @@ bodies_written object property index priority words body id low h urgent e = go 
     go (Ok values) said e =
         let region = plain_all plain values in
         let order = order_of object property index priority region in
-        let is = at_most-is 476 (write_octets order) body (nat_le (length (write_octets order)) 476) refl e in
+        let is = at_most_found TooLong 476 (write_octets order) body e in
         let within = region_within order in
         let written = values_written words values said (omega arith) in
         let ordered = order_is_written order (named object property index priority region id low h) (values_are_region written.values region written.spelled) urgent in

@@ -9,7 +9,7 @@ use Rattle.bac_text.specs.Words.{is_blank, is_not_empty, IsFirstNumber}
 use Rattle.bac_text.specs.Leading.{IsLeading}
 use Rattle.bac_text.proofs.NumberLemmas.{digit_in}
 use Rattle.bac_text.proofs.Lanes.{position_is, position_none}
-use Rattle.bac_text.proofs.WordLemmas.{words-some}
+use Rattle.bac_text.proofs.WordLemmas.{words_some}
 
 module _ (rest : List ℕ) (number count : ℕ) (l : IsLeading rest 5 number count) where
   -- No digit is a blank.
@@ -29,7 +29,7 @@ module _ (rest : List ℕ) (number count : ℕ) (l : IsLeading rest 5 number cou
       (count < length rest → is_blank (get_or rest count 0) ≡ true) → IsFirstNumber text number (drop count rest)
   first_number_is text start found cut some blank = record {
     word = take count rest;
-    first = words-some text rest start count found cut (word_ends blank);
+    first = words_some text rest start count found cut (word_ends blank);
     value = λ most.
         let not_empty : is_not_empty (take count rest) ≡ true = grind (arith, nat_tests, length-take-le count rest l.within, some) in
         let value : digits_value 10 (take count rest) ≡ number = sym l.value in

@@ -1,5 +1,5 @@
 -- Octets and their digits, by lanes.
-use Rattle.std.proofs.Common.{◌≡◌, ℕ, ◌+◌, ◌*◌, ◌/◌, ◌%◌, ◌<◌, ◌≤◌, cond, List, [], ◌∷◌, map, ◌++◌, length, take, drop, get_or, slice_index, Bool, true, false, suc, Some, None, Result, Ok, Err, refl, arith, sym, ap, ◌∙◌}
+use Rattle.std.proofs.Common.{◌≡◌, ℕ, ◌+◌, ◌*◌, ◌/◌, ◌%◌, ◌<◌, ◌≤◌, cond, List, [], ◌∷◌, map, ◌++◌, length, take, drop, get_or, slice_index, true, false, suc, Some, None, Ok, refl, arith, sym, ap, ◌∙◌}
 use Rattle.std.specs.Prelude.{◌-◌, nat_lt, not, bit_and, bit_or}
 use Rattle.std.specs.List.{range_with_len}
 use Rattle.std.proofs.Math.Seq.{take-append_seam, take-add}
@@ -8,16 +8,15 @@ use Rattle.std.proofs.lemmas.Simd.{length-chunk, take_more_put_chunk, splat_is_m
 use Rattle.std.proofs.lemmas.List.FromFn.{get_or-map-range_with_len}
 use Rattle.std.proofs.lemmas.Nat.{and_mask}
 use Rattle.std.specs.Result.{result_ok}
-use Rattle.std.proofs.lemmas.Bool.{false≢true, not-true}
+use Rattle.std.proofs.lemmas.Bool.{not-true}
 use Rattle.std.proofs.lemmas.Bool.Decides.{nat_tests}
 use Rattle.std.proofs.lemmas.List.Folds.{list_all_at}
-use Rattle.std.proofs.lemmas.List.Sums.{list_all-from_AllPass}
 use lib.Lanes.{chunk, put_chunk, top, zip2}
 use lib.ListN.{replicate}
 use Rattle.hex.specs.Hex.{lower_digits, encode_lower, is_hex_digit, hex_digit_value, decode_pairs, decode_of}
-use Rattle.hex.specs.declared.error.FromHexError.{FromHexError}
-use Rattle.hex.proofs.HexLemmas.{length-encode_with, decode_of-ok}
+use Rattle.hex.proofs.HexLemmas.{length-encode_with}
 use Rattle.bac_text.specs.HexLanes.{number_by_lane, octets_by_lanes}
+use Rattle.bac_text.proofs.HexText.{same_digits, others_refused}
 use Rattle.bac_text.proofs.Lanes.{lane_is}
 use Rattle.bac_text.proofs.Printed.{encode_lower-append}
 
@@ -36,36 +35,38 @@ high_digit octet h = same_below 0 digit_lane (slice_index lower_digits) 16 (octe
 pub low_digit : (octet : ℕ) → digit_lane (bit_and octet 15) ≡ slice_index lower_digits (octet % 16)
 low_digit octet = ap digit_lane (and_mask octet 4) ∙ same_below 0 digit_lane (slice_index lower_digits) 16 (octet % 16) refl (omega arith)
 
--- What was written so far, up to an earlier place.
-written_front : (octets digits : List ℕ) (at start : ℕ) → at ≤ start → start ≤ length octets → take (2 * start) digits ≡ encode_lower (take start octets) →
-    take (2 * at) digits ≡ encode_lower (take at octets)
-written_front octets digits at start before within written =
-    let front = take at octets in
-    let more = drop at (take start octets) in
-    let parts : take start octets ≡ front ++ more = sym (take-append-drop at (take start octets)) ∙ ap (λ (xs : List ℕ). xs ++ more) (take-take at start octets before) in
-    let size : length (encode_lower front) ≡ 2 * at = length-encode_with lower_digits front ∙ ap (λ (n : ℕ). 2 * n) (length-take-le at octets (omega arith)) in
-    sym (take-take (2 * at) (2 * start) digits (omega arith)) ∙ ap (take (2 * at)) (written ∙ ap encode_lower parts ∙ encode_lower-append front more)
-    ∙ ap (λ (n : ℕ). take n (encode_lower front ++ encode_lower more)) (sym size) ∙ take-append_seam (encode_lower front) (encode_lower more)
+-- Of what is read piece by piece and written piece by piece, one more piece: it may begin before the place that was reached.
+module _ (f : List ℕ → List ℕ) (xs ys : List ℕ) (i j n k l m : ℕ) (before : i ≤ j) (below : k ≤ l)
+    (apart : (more : List ℕ) → f (take i xs ++ more) ≡ f (take i xs) ++ f more)
+    (size : length (f (take i xs)) ≡ k) (long : length (f (chunk i n xs)) ≡ m)
+    (room : k + m ≤ length ys) (written : take l ys ≡ f (take j xs)) where
+  front : take k ys ≡ f (take i xs)
+  front =
+      let more = drop i (take j xs) in
+      let parts = sym (take-append-drop i (take j xs)) ∙ ap (λ (zs : List ℕ). zs ++ more) (take-take i j xs before) in
+      sym (take-take k l ys below) ∙ ap (take k) (written ∙ ap f parts ∙ apart more)
+      ∙ ap (λ (h : ℕ). take h (f (take i xs) ++ f more)) (sym size) ∙ take-append_seam (f (take i xs)) (f more)
+
+  one_more : take (k + m) (put_chunk k ys (f (chunk i n xs))) ≡ f (take (i + n) xs)
+  one_more =
+      take_more_put_chunk k ys (f (chunk i n xs)) (k + m) (ap (λ (h : ℕ). k + h) (sym long)) room ∙ ap (λ (zs : List ℕ). zs ++ f (chunk i n xs)) front
+      ∙ sym (apart (chunk i n xs)) ∙ ap f (sym (take-add i n xs))
 
 -- The digits of eight more octets were written.
 pub written_on : (octets digits : List ℕ) (at start : ℕ) → at ≤ start → start ≤ length octets → at + 8 ≤ length octets → length digits ≡ 2 * length octets →
     take (2 * start) digits ≡ encode_lower (take start octets) →
     take (2 * (at + 8)) (put_chunk (2 * at) digits (encode_lower (chunk at 8 octets))) ≡ encode_lower (take (at + 8) octets)
 written_on octets digits at start before within room size written =
-    let eight_more = chunk at 8 octets in
-    let long : length (encode_lower eight_more) ≡ 16 = length-encode_with lower_digits eight_more ∙ ap (λ (n : ℕ). 2 * n) (length-chunk at 8 octets room) in
-    take_more_put_chunk (2 * at) digits (encode_lower eight_more) (2 * (at + 8)) (omega (arith, long)) (omega arith)
-    ∙ ap (λ (xs : List ℕ). xs ++ encode_lower eight_more) (written_front octets digits at start before within written)
-    ∙ sym (encode_lower-append (take at octets) eight_more) ∙ ap encode_lower (sym (take-add at 8 octets))
+    let twice = λ (xs : List ℕ). length-encode_with lower_digits xs in
+    let place : 2 * (at + 8) ≡ 2 * at + 16 = omega arith in
+    rw place (one_more encode_lower octets digits at start 8 (2 * at) (2 * start) 16 before (omega arith) (encode_lower-append (take at octets))
+    (omega (arith, twice (take at octets), length-take-le at octets (omega arith)))
+    (omega (arith, twice (chunk at 8 octets), length-chunk at 8 octets room)) (omega arith) written)
 
 -- ---- digits, as lanes read them
 
 number_is : (digit : ℕ) → (bit_and digit 15 + cond (top 7 (cond (nat_lt 63 digit) 255 0)) 9 0) % 256 ≡ number_by_lane digit
-number_is digit = rw (and_mask digit 4, lane_is (nat_lt 63 digit)) (go (nat_lt 63 digit))
-  where
-    go : (b : Bool) → (digit % 16 + cond b 9 0) % 256 ≡ digit % 16 + cond b 9 0
-    go true = omega arith
-    go false = omega arith
+number_is digit = rw (and_mask digit 4, lane_is (nat_lt 63 digit)) (grind (arith, nat_tests))
 
 -- The octet of two digits, as a lane has it.
 pub octet_is : (high low : ℕ) →
@@ -107,34 +108,19 @@ length-octets_by_lanes [] even = refl
 length-octets_by_lanes (a ∷ []) even = absurd (omega arith)
 length-octets_by_lanes (a ∷ b ∷ xs) even = omega (arith, length-octets_by_lanes xs (omega arith))
 
--- What was read so far, up to an earlier place.
-read_front : (digits octets : List ℕ) (at start : ℕ) → at ≤ start → 2 * start ≤ length digits → take start octets ≡ octets_by_lanes (take (2 * start) digits) →
-    take at octets ≡ octets_by_lanes (take (2 * at) digits)
-read_front digits octets at start before within read =
-    let front = take (2 * at) digits in
-    let more = drop (2 * at) (take (2 * start) digits) in
-    let parts : take (2 * start) digits ≡ front ++ more =
-    sym (take-append-drop (2 * at) (take (2 * start) digits)) ∙ ap (λ (xs : List ℕ). xs ++ more) (take-take (2 * at) (2 * start) digits (omega arith)) in
-    let long : length front ≡ 2 * at = length-take-le (2 * at) digits (omega arith) in
-    let even : length front % 2 ≡ 0 = omega (arith, long) in
-    let size : length (octets_by_lanes front) ≡ at = omega (arith, length-octets_by_lanes front even, long) in
-    sym (take-take at start octets before) ∙ ap (take at) (read ∙ ap octets_by_lanes parts ∙ octets_by_lanes-append front more even)
-    ∙ ap (λ (n : ℕ). take n (octets_by_lanes front ++ octets_by_lanes more)) (sym size) ∙ take-append_seam (octets_by_lanes front) (octets_by_lanes more)
-
 -- Eight more octets were read.
 pub read_on : (digits octets : List ℕ) (at start : ℕ) → at ≤ start → start ≤ length octets → at + 8 ≤ length octets → length digits ≡ 2 * length octets →
     take start octets ≡ octets_by_lanes (take (2 * start) digits) →
     take (at + 8) (put_chunk at octets (octets_by_lanes (chunk (2 * at) 16 digits))) ≡ octets_by_lanes (take (2 * (at + 8)) digits)
 read_on digits octets at start before within room size read =
-    let more = chunk (2 * at) 16 digits in
-    let long : length more ≡ 16 = length-chunk (2 * at) 16 digits (omega arith) in
-    let eight : length (octets_by_lanes more) ≡ 8 = omega (arith, length-octets_by_lanes more (omega (arith, long)), long) in
-    let front = take (2 * at) digits in
-    let even : length front % 2 ≡ 0 = omega (arith, length-take-le (2 * at) digits (omega arith)) in
-    let place : 2 * at + 16 ≡ 2 * (at + 8) = omega arith in
-    take_more_put_chunk at octets (octets_by_lanes more) (at + 8) (omega (arith, eight)) room
-    ∙ ap (λ (xs : List ℕ). xs ++ octets_by_lanes more) (read_front digits octets at start before (omega arith) read)
-    ∙ sym (octets_by_lanes-append front more even) ∙ ap octets_by_lanes (sym (take-add (2 * at) 16 digits) ∙ ap (λ (n : ℕ). take n digits) place)
+    let long = length-chunk (2 * at) 16 digits (omega arith) in
+    let front = length-take-le (2 * at) digits (omega arith) in
+    let even : length (take (2 * at) digits) % 2 ≡ 0 = omega (arith, front) in
+    let place : 2 * (at + 8) ≡ 2 * at + 16 = omega arith in
+    rw place (one_more octets_by_lanes digits octets (2 * at) (2 * start) 16 at start 8 (omega arith) before
+    (λ more. octets_by_lanes-append (take (2 * at) digits) more even)
+    (omega (arith, front, length-octets_by_lanes (take (2 * at) digits) even))
+    (omega (arith, long, length-octets_by_lanes (chunk (2 * at) 16 digits) (omega (arith, long)))) room read)
 
 -- A digit's number.
 abbrev IsNumber : ℕ → Type 0
@@ -157,13 +143,5 @@ digits_read i (a ∷ b ∷ rest) even all =
     rw (high.0, low.0, later) (ap (λ (x : ℕ). Ok (x ∷ octets_by_lanes rest)) octet)
 
 pub digits_refused : (digits : List ℕ) (k : ℕ) → k < length digits → not (is_hex_digit (get_or digits k 0)) ≡ true → result_ok (decode_of digits) ≡ None
-digits_refused digits k h e = go (decode_of digits) refl
-  where
-    other : is_hex_digit (get_or digits k 0) ≡ false
-    other = not-true (is_hex_digit (get_or digits k 0)) e
-
-    go : (r : Result (List ℕ) FromHexError) → decode_of digits ≡ r → result_ok r ≡ None
-    go (Err why) is = refl
-    go (Ok octets) is =
-        let all = list_all-from_AllPass is_hex_digit digits (decode_of-ok digits octets is).1 in
-        absurd (false≢true (sym (list_all_at is_hex_digit digits k 0 h other) ∙ all))
+digits_refused digits k h e =
+    others_refused digits (same_digits digits ∙ list_all_at is_hex_digit digits k 0 h (not-true (is_hex_digit (get_or digits k 0)) e))

@@ -1,8 +1,8 @@
 -- From the mask of one load to the octets that pass a test.
-use Rattle.std.proofs.Common.{◌≡◌, ℕ, ◌+◌, ◌-◌, ◌%◌, ◌^◌, ◌<◌, ◌≤◌, cond, Bool, true, false, not, List, map, length, get_or, Some, None, refl, sym, ap, ◌∙◌, subst, arith, inl, inr}
-use Rattle.std.specs.Prelude.{◌||◌, nat_lt, position, bit_or}
+use Rattle.std.proofs.Common.{◌≡◌, ℕ, ◌+◌, ◌-◌, ◌%◌, ◌^◌, ◌<◌, ◌≤◌, cond, Bool, true, false, not, List, map, length, get_or, Some, None, refl, sym, ap, ◌∙◌, subst, arith}
+use Rattle.std.specs.Prelude.{◌||◌, position, bit_or}
 use Rattle.std.specs.List.{prefix_len, position_or_len}
-use Rattle.std.proofs.lemmas.Bool.{not-true, not-false, cases_eq, cases_lt, eq-eqb, ne_eqb, cond-true, cond-false}
+use Rattle.std.proofs.lemmas.Bool.{not-true, not-false}
 use Rattle.std.proofs.lemmas.Bool.Decides.{nat_tests}
 use Rattle.std.proofs.lemmas.Simd.{map-map, mask_l-mod, length-chunk, get_or-chunk, leading_from_mask_l, trailing_mask_l}
 use Rattle.std.proofs.lemmas.List.{length-map}
@@ -11,11 +11,7 @@ use lib.Lanes.{chunk, mask_l, top}
 use Rattle.bac_text.specs.Search.{first_set, IsRunIn}
 
 run_is : (p : ℕ → Bool) (v : List ℕ) (n : ℕ) → length v ≡ n → n ≤ 64 → first_set (mask_l (map p v)) n ≡ prefix_len (λ x. not (p x)) v
-run_is p v n long few =
-    elim (cases_eq (mask_l (map p v)) 0) [
-      | inl none ↦ cond-true _ _ _ (eq-eqb _ _ none) ∙ sym (leading_from_mask_l p v none ∙ long)
-      | inr some ↦ cond-false _ _ _ (ne_eqb _ _ some) ∙ trailing_mask_l p 64 v (omega arith) (omega arith)
-    ]
+run_is p v n long few = grind (arith, nat_tests, leading_from_mask_l, trailing_mask_l)
 
 -- Comparing sets all bits of a lane or none.
 pub lane_is : (a : Bool) → top 7 (cond a 255 0) ≡ a
@@ -64,17 +60,14 @@ module _ (q : ℕ → Bool) (d : List ℕ) (i n r : ℕ) (z : List ℕ) (room : 
 pub position_is : (p : ℕ → Bool) (xs : List ℕ) (i : ℕ) → i < length xs → ((k : ℕ) → k < i → p (get_or xs k 0) ≡ false) → p (get_or xs i 0) ≡ true →
     Some i ≡ position p xs
 position_is p xs i within before here =
-    let at : position_or_len p xs ≡ i = position_or_len_is p xs i 0 (omega arith) before (λ _. here) in
-    let below : nat_lt i (length xs) ≡ true = grind (arith, nat_tests) in
-    rw (at, below) refl
+    let at : position_or_len p xs ≡ i = position_or_len_is p xs i 0 (omega arith) before (λ _. here) in grind (arith, nat_tests)
 
 pub position_none : (p : ℕ → Bool) (xs : List ℕ) → ((k : ℕ) → k < length xs → p (get_or xs k 0) ≡ false) → None ≡ position p xs
 position_none p xs before =
     let at : position_or_len p xs ≡ length xs = position_or_len_is p xs (length xs) 0 (omega arith) before (λ less. absurd (omega arith)) in
-    let below : nat_lt (length xs) (length xs) ≡ false = grind (arith, nat_tests) in
-    rw (at, below) refl
+    grind (arith, nat_tests)
 
 -- The octets before a load, and those of it.
 pub all_before : (p : ℕ → Bool) (xs : List ℕ) (start at n run : ℕ) → at ≤ start → ((k : ℕ) → k < start → p (get_or xs k 0) ≡ false) →
     IsRunIn p xs at n run → (k : ℕ) → k < at + run → p (get_or xs k 0) ≡ false
-all_before p xs start at n run over before found k below = elim (cases_lt k at) [ inl early ↦ before k (omega arith) | inr late ↦ found.fail k late below ]
+all_before p xs start at n run over before found k below = grind (arith, before, found.fail)

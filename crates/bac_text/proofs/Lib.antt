@@ -5,7 +5,6 @@ pub mod WordLemmas
 pub mod HexText
 pub mod ValueLists
 pub mod ValueTexts
-pub mod Routes
 pub mod WordValues
 pub mod ValueRegions
 pub mod PairLemmas

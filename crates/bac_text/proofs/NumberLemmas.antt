@@ -1,21 +1,17 @@
 -- Numbers that are read digit by digit.
-use Rattle.std.proofs.Common.{◌≡◌, ℕ, ◌+◌, ◌-◌, ◌*◌, ◌^◌, ◌<◌, ◌≤◌, Bool, true, false, List, [], ◌∷◌, length, take, get_or, Some, None, refl, sym, ◌∙◌, ap, arith, inl, inr}
-use Rattle.std.specs.Prelude.{nat_le, ◌&&◌}
+use Rattle.std.proofs.Common.{decimal, lit<, ◌≡◌, ℕ, ◌+◌, ◌-◌, ◌*◌, ◌^◌, ◌<◌, ◌≤◌, Bool, true, false, List, [], ◌∷◌, length, take, get_or, Some, None, refl, ◌∙◌, ap, arith}
+use Rattle.std.specs.Prelude.{◌&&◌}
 use Rattle.std.specs.List.{list_all}
 use Rattle.std.specs.Char.{is_ascii_digit, digit_value}
 use Rattle.std.specs.Str.{all_ascii_digits}
 use Rattle.std.specs.Str.Parse.{digits_value}
-use Rattle.std.proofs.lemmas.Bool.{cases_Bool, false≢true}
 use Rattle.std.proofs.lemmas.List.{take_all, length-take-le, get_or-take}
 use Rattle.std.proofs.lemmas.List.Folds.{list_all_at, list_all_more}
 use Rattle.std.proofs.lemmas.Bool.Decides.{nat_tests}
 use Rattle.std.proofs.lemmas.Int.Digits.{digits_value_more}
 use Rattle.std.proofs.lemmas.Str.Parse.{digits_value-take-le}
-use Rattle.bac_text.specs.Words.{number_up_to, is_not_empty}
-
-pub and_false : (a : Bool) → (a && false) ≡ false
-and_false true = refl
-and_false false = refl
+use Rattle.std.proofs.lemmas.Fmt.{length-decimal-le}
+use Rattle.bac_text.specs.Words.{number_up_to}
 
 all_tested : (word : List ℕ) → all_ascii_digits word ≡ list_all is_ascii_digit word
 all_tested [] = refl
@@ -25,11 +21,10 @@ pub others_are : (word : List ℕ) (i : ℕ) → i < length word → is_ascii_di
 others_are word i h one = all_tested word ∙ list_all_at is_ascii_digit word i 0 h one
 
 digit_at : (word : List ℕ) (i : ℕ) → i < length word → all_ascii_digits word ≡ true → is_ascii_digit (get_or word i 0) ≡ true
-digit_at word i h all = elim (cases_Bool (is_ascii_digit (get_or word i 0))) [ inl is ↦ is | inr other ↦ absurd (false≢true (sym (others_are word i h other) ∙ all)) ]
+digit_at word i h all = grind (arith, others_are)
 
 pub digit_in : (text : List ℕ) (count k : ℕ) → count ≤ length text → all_ascii_digits (take count text) ≡ true → k < count → is_ascii_digit (get_or text k 0) ≡ true
-digit_in text count k within all below =
-    ap is_ascii_digit (sym (get_or-take count text k 0 below)) ∙ digit_at (take count text) k (omega (arith, length-take-le count text within, below)) all
+digit_in text count k within all below = grind (arith, digit_at, get_or-take, length-take-le)
 
 pub digits_next : (word : List ℕ) (i : ℕ) → i < length word → all_ascii_digits (take i word) ≡ true → is_ascii_digit (get_or word i 0) ≡ true → all_ascii_digits (take (i + 1) word) ≡ true
 digits_next word i h all one = all_tested (take (i + 1) word) ∙ list_all_more is_ascii_digit word i 0 h ∙ rw (← all_tested (take i word), all, one) refl
@@ -39,24 +34,26 @@ value_of_digit : (c : ℕ) → is_ascii_digit c ≡ true → digit_value c ≡ c
 value_of_digit c h = grind (arith, nat_tests)
 
 pub value_next : (word : List ℕ) (i number : ℕ) → i < length word → is_ascii_digit (get_or word i 0) ≡ true → number ≡ digits_value 10 (take i word) → number * 10 + (get_or word i 0 - 48) ≡ digits_value 10 (take (i + 1) word)
-value_next word i number h one e =
-    ap (λ n. n * 10 + (get_or word i 0 - 48)) e ∙ (ap (λ d. digits_value 10 (take i word) * 10 + d) (sym (value_of_digit (get_or word i 0) one)) ∙ sym (digits_value_more 10 word i h))
+value_next word i number h one e = grind (arith, value_of_digit, digits_value_more)
 
 -- A word that is no number, since one of its octets is no digit.
 pub not_number : (most : ℕ) (word : List ℕ) → all_ascii_digits word ≡ false → number_up_to most word ≡ None
-not_number most word e = rw (e, and_false (is_not_empty word)) refl
+not_number most word e = grind arith
 
 pub number_up_to-too_big : (word : List ℕ) (i : ℕ) → 2 ^ 64 ≤ digits_value 10 (take i word) → number_up_to (2 ^ 64 - 1) word ≡ None
-number_up_to-too_big word i big =
-    let more = digits_value-take-le 10 word i (omega arith) in
-    let e : nat_le (digits_value 10 word) (2 ^ 64 - 1) ≡ false = grind (arith, nat_tests) in
-    rw (e, and_false (all_ascii_digits word), and_false (is_not_empty word)) refl
+number_up_to-too_big word i big = let more = digits_value-take-le 10 word i (omega arith) in grind (arith, nat_tests)
 
 pub number_up_to-whole : (word : List ℕ) (i number : ℕ) → length word ≤ i → 0 < length word → all_ascii_digits (take i word) ≡ true → number ≡ digits_value 10 (take i word) → number < 2 ^ 64 → number_up_to (2 ^ 64 - 1) word ≡ Some number
-number_up_to-whole word i number h some all e fits =
-    let whole = take_all i word h in
-    let all' : all_ascii_digits word ≡ true = ap all_ascii_digits (sym whole) ∙ all in
-    let value : digits_value 10 word ≡ number = ap (digits_value 10) (sym whole) ∙ sym e in
-    let not_empty : is_not_empty word ≡ true = grind (arith, nat_tests) in
-    let small : nat_le number (2 ^ 64 - 1) ≡ true = grind (arith, nat_tests) in
-    rw (not_empty, all', value, small) refl
+number_up_to-whole word i number h some all e fits = let whole = take_all i word h in grind (arith, nat_tests)
+
+-- How many digits a number of one, two or eight octets has.
+pub one_octet : (n : ℕ) → n < 256 → length (decimal n) ≤ 3
+one_octet n small = let fits : n < 2 ^ 64 = omega arith in length-decimal-le 3 n (lit< tt) (omega arith) fits
+
+pub two_octets : (n : ℕ) → n < 65536 → length (decimal n) ≤ 5
+two_octets n small = let fits : n < 2 ^ 64 = omega arith in length-decimal-le 5 n (lit< tt) (omega arith) fits
+
+pub eight_octets : (n : ℕ) → n < 2 ^ 64 → length (decimal n) ≤ 20
+eight_octets n fits = length-decimal-le 20 n (lit< tt) (omega arith) fits
+
+pub ruleset plain_numbers = (digits_next, value_next, not_number, others_are, number_up_to-too_big, number_up_to-whole, nat_tests)

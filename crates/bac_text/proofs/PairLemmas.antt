@@ -1,15 +1,13 @@
 -- The words of pairs, from their front, and the region that they write.
-use Rattle.std.proofs.Common.{◌≡◌, ℕ, ◌+◌, ◌*◌, ◌<◌, ◌≤◌, ◌-◌, Bool, true, false, List, [], ◌∷◌, ◌++◌, length, Option, Some, None, Result, Ok, Err, refl, sym, ◌∙◌, ap, subst, arith, append-nil, append_assoc, length-append}
-use Rattle.std.specs.Prelude.{nat_le}
+use Rattle.std.proofs.Common.{◌≡◌, ℕ, ◌+◌, ◌*◌, ◌<◌, ◌≤◌, ◌-◌, Bool, true, false, List, [], ◌∷◌, ◌++◌, length, Option, Some, None, Result, Ok, Err, refl, sym, ◌∙◌, ap, arith, append-nil, append_assoc, length-append}
 use Rattle.std.proofs.lemmas.Bool.Decides.{nat_tests}
 use Rattle.bac_wire.specs.Datum.{Datum, plain}
 use Rattle.bac_wire.specs.Tag.{plain_tag}
 use Rattle.bac_pdu.specs.Parameter.{plain_all}
 use Rattle.bac_text.specs.declared.value_words.ValueFault.TheVariants as faults
-use Rattle.bac_text.specs.declared.pairs.PairFault.TheVariants.{Bad, TooLong}
+use Rattle.bac_text.specs.declared.pairs.PairFault.TheVariants.{Bad}
 use Rattle.bac_text.specs.ValueWords.{value_in, appended}
-use Rattle.bac_text.specs.Pairs.{value_before, pairs_from, values_in, region_with, region_of}
-use Rattle.bac_text.proofs.WordValues.{at_most-ok}
+use Rattle.bac_text.specs.Pairs.{value_before, pairs_from, values_in, region_of}
 
 -- ---- one more value behind others
 
@@ -40,15 +38,10 @@ pub record Progress (all left : List (List ℕ)) (number : ℕ) (region : List �
 
 first_pair : (n : ℕ) (tag word : List ℕ) (left : List (List ℕ)) (value : Datum) → value_in tag word ≡ Some value →
     pairs_from n (tag ∷ word ∷ left) ≡ then_values (value ∷ []) (pairs_from (n + 1) left)
-first_pair n tag word left value e = ap (λ (found : Option Datum). value_before n found (pairs_from (n + 1) left)) e ∙ go (pairs_from (n + 1) left)
-  where
-    go : (found : Result (List Datum) ℕ) → value_before n (Some value) found ≡ then_values (value ∷ []) found
-    go (Err bad) = refl
-    go (Ok values) = refl
+first_pair n tag word left value e = grind arith
 
 then_then : (first second : List Datum) (found : Result (List Datum) ℕ) → then_values first (then_values second found) ≡ then_values (first ++ second) found
-then_then first second (Err bad) = refl
-then_then first second (Ok more) = ap (λ (values : List Datum). Ok values) (sym (append_assoc first second more))
+then_then first second found = grind (arith, append_assoc)
 
 said-more : (all left : List (List ℕ)) (n : ℕ) (tag word : List ℕ) (values : List Datum) (value : Datum) →
     pairs_from 1 all ≡ then_values values (pairs_from n (tag ∷ word ∷ left)) → value_in tag word ≡ Some value →
@@ -56,38 +49,25 @@ said-more : (all left : List (List ℕ)) (n : ℕ) (tag word : List ℕ) (values
 said-more all left n tag word values value said e =
     said ∙ ap (then_values values) (first_pair n tag word left value e) ∙ then_then values (value ∷ []) (pairs_from (n + 1) left)
 
-appended-new : (region new : List ℕ) (value : Datum) (b : Bool) → nat_le (length (region ++ plain value)) 1497 ≡ b → appended region (Some value) ≡ Ok new →
-    (new ≡ region ++ plain value) × (length new ≤ 1497)
-appended-new region new value true fits e =
-    let same : Ok (region ++ plain value) ≡ Ok new = rw fits at e in
-    let is : new ≡ region ++ plain value = cc in
-    (is, (let long = ap length is in grind (arith, nat_tests)))
-appended-new region new value false past e = absurd (let bad : Err faults.TooLong ≡ Ok new = rw past at e in cc)
-
-appended-long : (region : List ℕ) (value : Datum) (b : Bool) → nat_le (length (region ++ plain value)) 1497 ≡ b → appended region (Some value) ≡ Err faults.TooLong →
-    1497 < length (region ++ plain value)
-appended-long region value true fits e = absurd (let bad : Ok (region ++ plain value) ≡ Err faults.TooLong = rw fits at e in cc)
-appended-long region value false past e = grind (arith, nat_tests)
-
 stands-more : (b : Bool) (region new : List ℕ) (values : List Datum) (value : Datum) → Stands b region values → appended region (Some value) ≡ Ok new →
     Stands b new (values ++ value ∷ [])
-stands-more true region new values value long e =
-    let size = ap length (plain_all-more values value) in
-    omega (arith, size, long, length-append (plain_all plain values) (plain value))
-stands-more false region new values value stands e =
-    let added = appended-new region new value (nat_le (length (region ++ plain value)) 1497) refl e in
-    (added.0 ∙ ap (λ (w : List ℕ). w ++ plain value) stands.0 ∙ sym (plain_all-more values value), added.1)
+stands-more b region new values value stands e = let more = plain_all-more values value in grind (arith, nat_tests, length-append)
 
 stands-long : (b : Bool) (region : List ℕ) (values : List Datum) (value : Datum) → Stands b region values → appended region (Some value) ≡ Err faults.TooLong →
     1497 < length (plain_all plain (values ++ value ∷ []))
-stands-long true region values value long e =
-    let size = ap length (plain_all-more values value) in
-    omega (arith, size, long, length-append (plain_all plain values) (plain value))
-stands-long false region values value stands e =
-    let size = ap length (plain_all-more values value) in
-    let past = appended-long region value (nat_le (length (region ++ plain value)) 1497) refl e in
-    let same = ap length stands.0 in
-    omega (arith, size, past, same, length-append region (plain value), length-append (plain_all plain values) (plain value))
+stands-long b region values value stands e = let more = plain_all-more values value in grind (arith, nat_tests, length-append)
+
+progress-on : {all left : List (List ℕ)} {n : ℕ} {tag word region new : List ℕ} {b later : Bool} (value : Datum) →
+    Progress all (tag ∷ word ∷ left) n region b →
+    value_in tag word ≡ Some value → ((values : List Datum) → Stands b region values → Stands later new (values ++ value ∷ [])) →
+    Progress all left (n + 1) new later
+progress-on {all} {left} {n} {tag} {word} value p is on = record {
+  values = p.values ++ value ∷ [];
+  said = said-more all left n tag word p.values value p.said is;
+  counted = omega (arith, p.counted, p.some);
+  some = omega arith;
+  stands = on p.values p.stands;
+}
 
 pub progress-more : (all left : List (List ℕ)) (n : ℕ) (tag word region new : List ℕ) (b : Bool) → Progress all (tag ∷ word ∷ left) n region b →
     appended region (value_in tag word) ≡ Ok new → Progress all left (n + 1) new b
@@ -95,13 +75,7 @@ progress-more all left n tag word region new b p e = go (value_in tag word) refl
   where
     go : (found : Option Datum) → value_in tag word ≡ found → appended region found ≡ Ok new → Progress all left (n + 1) new b
     go None is e = absurd (cc)
-    go (Some value) is e = record {
-      values = p.values ++ value ∷ [];
-      said = said-more all left n tag word p.values value p.said is;
-      counted = omega (arith, p.counted, p.some);
-      some = omega arith;
-      stands = stands-more b region new p.values value p.stands e;
-    }
+    go (Some value) is e = progress-on value p is (λ values stands. stands-more b region new values value stands e)
 
 pub progress-long : (all left : List (List ℕ)) (n : ℕ) (tag word region new : List ℕ) (b : Bool) → Progress all (tag ∷ word ∷ left) n region b →
     appended region (value_in tag word) ≡ Err faults.TooLong → Progress all left (n + 1) new true
@@ -109,18 +83,12 @@ progress-long all left n tag word region new b p e = go (value_in tag word) refl
   where
     go : (found : Option Datum) → value_in tag word ≡ found → appended region found ≡ Err faults.TooLong → Progress all left (n + 1) new true
     go None is e = absurd (cc)
-    go (Some value) is e = record {
-      values = p.values ++ value ∷ [];
-      said = said-more all left n tag word p.values value p.said is;
-      counted = omega (arith, p.counted, p.some);
-      some = omega arith;
-      stands = stands-long b region p.values value p.stands e;
-    }
+    go (Some value) is e = progress-on value p is (λ values stands. stands-long b region values value stands e)
 
 -- ---- what the region is in the end
 
 said-all : (values : List Datum) (n : ℕ) (left : List (List ℕ)) → left ≡ [] → then_values values (pairs_from n left) ≡ Ok values
-said-all values n left e = ap (λ (l : List (List ℕ)). then_values values (pairs_from n l)) e ∙ ap (λ (v : List Datum). Ok v) (append-nil values)
+said-all values n left e = rw e (ap (λ (v : List Datum). Ok v) (append-nil values))
 
 values_in-some : (words : List (List ℕ)) (value : Datum) (others : List Datum) → pairs_from 1 words ≡ Ok (value ∷ others) → values_in words ≡ Ok (value ∷ others)
 values_in-some [] value others e = absurd (cc)
@@ -131,9 +99,7 @@ unfolding plain plain_tag
 plain_some value others = omega arith
 
 none_first : (n : ℕ) (found : Option Datum) (more : Result (List Datum) ℕ) → value_before n found more ≡ Ok [] → ⊥
-none_first n None more e = cc
-none_first n (Some value) (Err bad) e = cc
-none_first n (Some value) (Ok values) e = cc
+none_first n found more e = grind arith
 
 values_in-empty : (words : List (List ℕ)) → pairs_from 1 words ≡ Ok [] → region_of words ≡ Err (Bad 1)
 values_in-empty [] e = refl
@@ -154,6 +120,8 @@ progress-end all left n region p e some = go p.values (p.said ∙ said-all p.val
     go : (values : List Datum) → pairs_from 1 all ≡ Ok values → Stands false region values → region_of all ≡ Ok region
     go [] said stands = absurd (some stands.0)
     go (value ∷ others) said stands =
-        ap region_with (values_in-some all value others said)
-        ∙ at_most-ok TooLong 1497 (plain_all plain (value ∷ others)) (subst (λ (w : List ℕ). length w ≤ 1497) stands.0 stands.1)
-        ∙ ap (λ (w : List ℕ). Ok w) (sym stands.0)
+        let is = values_in-some all value others said in
+        let size = ap length stands.0 in
+        rw is (grind (arith, nat_tests))
+
+pub ruleset progress = (progress-more, progress-long, progress-empty, progress-end)

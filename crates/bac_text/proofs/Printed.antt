@@ -1,7 +1,7 @@
 -- What several prints in a row come to.
 use Rattle.std.proofs.Common.{◌≡◌, ℕ, List, [], ◌∷◌, ◌++◌, Option, Result, Ok, Err, is_err, true, refl, sym, ◌∙◌, ap, append_assoc, subst, inl, inr}
-use Rattle.std.specs.Prelude.{OnErr}
-use Rattle.std.proofs.lemmas.List.{append-nil}
+use Rattle.std.proofs.lemmas.List.{append-nil, take-append-drop}
+use Rattle.std.proofs.lemmas.Bool.Decides.{nat_tests}
 use Rattle.std.proofs.lemmas.Bool.{cases_Bool, false≢true}
 use Rattle.bac_text.specs.declared.checked.Checked.{Checked}
 use Rattle.bac_text.specs.declared.page.Page.{Page}
@@ -17,10 +17,6 @@ encode_with-append t (x ∷ xs) ys = rw (encode_with-append t xs ys) refl
 
 pub encode_lower-append : (xs ys : List ℕ) → encode_lower (xs ++ ys) ≡ encode_lower xs ++ encode_lower ys
 encode_lower-append xs ys = encode_with-append lower_digits xs ys
-
-pub on_err : {A E : Type 0} (r : Result A E) (P : Type 0) → is_err r ≡ true → OnErr r P → P
-on_err (Ok x) P e h = absurd (false≢true e)
-on_err (Err x) P e h = h
 
 -- All of the octets before the rest were printed in hexadecimal.
 pub record PrintsHex {W : Type 0} (contents : W → Option (List ℕ)) (before after : Page W) (octets rest : List ℕ) : Type 0 where
@@ -92,6 +88,21 @@ module _ {W : Type 0} {contents : W → Option (List ℕ)} where
   pub printed_as : {before after : Page W} {text said : List ℕ} → Prints contents before after text → text ≡ said → Prints contents before after said
   printed_as {before} {after} printed same = subst (λ (xs : List ℕ). Prints contents before after xs) same printed
 
+  pub then_prints : {before middle after : Page W} {text more said : List ℕ} → Prints contents before middle text →
+      Prints contents middle after more →
+      text ++ more ≡ said → Prints contents before after said
+  then_prints first second same = printed_as (first ⨾ second) same
+
+  pub three_prints : {before middle next after : Page W} {text more last said : List ℕ} → Prints contents before middle text →
+      Prints contents middle next more →
+      Prints contents next after last → text ++ (more ++ last) ≡ said → Prints contents before after said
+  three_prints first second third same = printed_as (first ⨾ second ⨾ third) same
+
+  pub four_prints : {before middle next last after : Page W} {text more then rest said : List ℕ} → Prints contents before middle text →
+      Prints contents middle next more →
+      Prints contents next last then → Prints contents last after rest → text ++ (more ++ (then ++ rest)) ≡ said → Prints contents before after said
+  four_prints first second third fourth same = printed_as (first ⨾ second ⨾ third ⨾ fourth) same
+
   pub hex_none : (page : Page W) (octets : List ℕ) → PrintsHex contents page page octets octets
   unfolding encode_with
   hex_none page octets = record { front = []; parts = refl; printed = prints_nothing page }
@@ -103,3 +114,7 @@ module _ {W : Type 0} {contents : W → Option (List ℕ)} where
     parts = so_far.parts ∙ ap (λ (xs : List ℕ). so_far.front ++ xs) cut ∙ sym (append_assoc so_far.front part later);
     printed = printed_as (so_far.printed ⨾ more) (sym (encode_lower-append so_far.front part));
   }
+
+pub ruleset printing = (then_prints, three_prints, four_prints, prints_nothing, nat_tests)
+
+pub ruleset printing_hex = (hex_none, hex_more, take-append-drop)

@@ -1,6 +1,7 @@
 -- The values that a region is, from its front.
 use Rattle.std.proofs.Common.{◌≡◌, ℕ, zero, suc, ◌+◌, ◌<◌, ◌≤◌, List, [], ◌∷◌, length, Option, Some, None, refl, sym, ◌∙◌, ap, subst, arith}
 use Rattle.std.specs.Prelude.{option_map}
+use Rattle.std.proofs.lemmas.Bool.Decides.{nat_tests}
 use Rattle.std.proofs.lemmas.Option.{none-some}
 use Rattle.bac_wire.specs.Datum.{Datum, Spells}
 use Rattle.bac_wire.specs.DatumReading.{value_at}
@@ -9,6 +10,7 @@ use Rattle.bac_wire.proofs.RegionReading.{tag_shorter}
 use Rattle.bac_wire.specs.Front.{SpellsAll}
 use Rattle.bac_pdu.proofs.SequenceLaws.{begins, begins_read}
 use Rattle.bac_text.specs.Words.{◌>>=◌}
+use Rattle.bac_text.specs.ValuesInWords.{AreSpelled}
 use Rattle.bac_text.specs.Values.{values_within, values_of}
 
 -- A value has an octet at least.
@@ -52,59 +54,36 @@ unfolding values_within
 values-first [] value rest e = absurd (let short = value-shorter [] value rest e in omega arith)
 values-first (x ∷ xs) value rest e =
     let short = value-shorter (x ∷ xs) value rest e in
-    ap (then_others (length xs)) e
-    ∙ ap (λ (found : Option (List Datum)). found >>= (λ others. Some (value ∷ others))) (enough (length xs) (length rest) rest (omega arith) (omega arith))
-    ∙ mapped value (values_of rest)
-  where
-    mapped : (value : Datum) (found : Option (List Datum)) → (found >>= (λ others. Some (value ∷ others))) ≡ option_map (λ others. value ∷ others) found
-    mapped value None = refl
-    mapped value (Some others) = refl
+    let same = enough (length xs) (length rest) rest (omega arith) (omega arith) in
+    grind arith
 
 -- Only nothing is no values.
 pub values-empty : (octets : List ℕ) → values_of octets ≡ Some [] → octets ≡ []
 unfolding values_within
 values-empty [] e = refl
-values-empty (x ∷ xs) e = go (value_at (x ∷ xs)) refl
-  where
-    none : (first : Datum × List ℕ) (found : Option (List Datum)) → (found >>= (λ others. Some (first.0 ∷ others))) ≡ Some [] → ⊥
-    none first None h = none-some [] h
-    none first (Some others) h = (let bad : first.0 ∷ others ≡ [] = cc in absurd (cc))
-
-    go : (found : Option (Datum × List ℕ)) → value_at (x ∷ xs) ≡ found → x ∷ xs ≡ []
-    go None f = absurd (none-some [] (sym (ap (then_others (length xs)) f) ∙ e))
-    go (Some first) f = absurd (none first (values_within (length xs) first.1) (sym (ap (then_others (length xs)) f) ∙ e))
+values-empty (x ∷ xs) e = absurd (grind arith)
 
 -- So many values were counted before the rest.
-abbrev pub Counted : List ℕ → List ℕ → ℕ → Type 0
-Counted region rest count = option_map length (values_of region) ≡ option_map (λ (n : ℕ). count + n) (option_map length (values_of rest))
+pub record Counted (region rest : List ℕ) (count : ℕ) : Type 0 where
+  pub is : option_map length (values_of region) ≡ option_map (λ (n : ℕ). count + n) (option_map length (values_of rest))
 
-pub counted-none : (region : List ℕ) → Counted region region 0
-counted-none region = go (values_of region)
-  where
-    go : (found : Option (List Datum)) → option_map length found ≡ option_map (λ (n : ℕ). 0 + n) (option_map length found)
-    go None = refl
-    go (Some values) = let same : length values ≡ 0 + length values = omega arith in ap (λ (n : ℕ). Some n) same
+pub counted_none : (region : List ℕ) → Counted region region 0
+counted_none region = record { is = grind arith }
 
-pub counted-more : (region rest behind : List ℕ) (count : ℕ) (value : Datum) → Counted region rest count → value_at rest ≡ Some (value, behind) →
+pub counted_more : (region rest behind : List ℕ) (count : ℕ) (value : Datum) → Counted region rest count → value_at rest ≡ Some (value, behind) →
     Counted region behind (count + 1)
-counted-more region rest behind count value h found =
-    h ∙ ap (λ (values : Option (List Datum)). option_map (λ (n : ℕ). count + n) (option_map length values)) (values-first rest value behind found)
-    ∙ shift (values_of behind)
-  where
-    shift : (values : Option (List Datum)) →
-        option_map (λ (n : ℕ). count + n) (option_map length (option_map (λ others. value ∷ others) values)) ≡ option_map (λ (n : ℕ). count + 1 + n) (option_map length values)
-    shift None = refl
-    shift (Some others) = let same : count + length (value ∷ others) ≡ count + 1 + length others = omega arith in ap (λ (n : ℕ). Some n) same
+counted_more region rest behind count value h found = let more = values-first rest value behind found in record { is = grind arith }
 
-pub counted-stuck : (region rest : List ℕ) (count : ℕ) → Counted region rest count → value_at rest ≡ None → 0 < length rest →
+pub counted_stuck : (region rest : List ℕ) (count : ℕ) → Counted region rest count → value_at rest ≡ None → 0 < length rest →
     None ≡ option_map length (values_of region)
-counted-stuck region rest count h none some =
-    sym (h ∙ ap (λ (values : Option (List Datum)). option_map (λ (n : ℕ). count + n) (option_map length values)) (values-none rest none some))
+counted_stuck region rest count h none some = let stuck = values-none rest none some in grind arith
 
-pub counted-all : (region rest : List ℕ) (count : ℕ) → Counted region rest count → length rest ≡ 0 → Some count ≡ option_map length (values_of region)
+pub counted_all : (region rest : List ℕ) (count : ℕ) → Counted region rest count → length rest ≡ 0 → Some count ≡ option_map length (values_of region)
 unfolding values_within
-counted-all region [] count h e = let same : count ≡ count + 0 = omega arith in ap (λ (n : ℕ). Some n) same ∙ sym h
-counted-all region (x ∷ xs) count h e = absurd (omega arith)
+counted_all region [] count h e = grind arith
+counted_all region (x ∷ xs) count h e = absurd (omega arith)
+
+pub ruleset counted = (counted_none, counted_more, counted_stuck, counted_all, nat_tests)
 
 -- ---- the values in the standard's words
 
@@ -116,8 +95,7 @@ spelled (value ∷ others) [] e = absurd (let bad : [] ≡ value ∷ others = cc
 spelled (value ∷ others) (x ∷ xs) e = go (λ rest. spelled others rest) (value_at (x ∷ xs)) refl
   where
     parts : (first : Datum) (found : Option (List Datum)) → option_map (λ more. first ∷ more) found ≡ Some (value ∷ others) → (first ≡ value) × (found ≡ Some others)
-    parts first None h = absurd (none-some (value ∷ others) h)
-    parts first (Some more) h = (cc, cc)
+    parts first found h = grind arith
 
     go : ((rest : List ℕ) → values_of rest ≡ Some others → SpellsAll Spells rest others) →
         (found : Option (Datum × List ℕ)) → value_at (x ∷ xs) ≡ found → SpellsAll Spells (x ∷ xs) (value ∷ others)
@@ -134,3 +112,6 @@ read_all [] octets s = ap values_of s
 read_all (value ∷ others) octets s =
     values-first octets value s.0 (begins_read Spells value_at value_reader octets value s.0 s.1)
     ∙ ap (option_map (λ more. value ∷ more)) (read_all others s.0 s.2)
+
+pub are_spelled : AreSpelled
+are_spelled region values = (spelled values region, read_all values region)

@@ -6,7 +6,7 @@ use Rattle.std.specs.List.{flat_map}
 use Rattle.std.proofs.lemmas.List.{append-nil, take_more}
 use Rattle.std.proofs.lemmas.List.Concat.{flat_map-append}
 use Rattle.std.proofs.lemmas.Option.{none-some}
-use Rattle.std.proofs.lemmas.Int.{ints}
+use Rattle.std.proofs.lemmas.Int.{ints, to_z-of_z}
 use Rattle.bac_wire.specs.Datum.{Datum}
 use Rattle.bac_wire.specs.DatumReading.{value_at}
 use Rattle.bac_text.specs.declared.page.Page.{Page}
@@ -17,30 +17,30 @@ use Rattle.bac_text.specs.Values.{octet_bits, bits_text, datum_text, separator, 
 use Rattle.bac_text.proofs.Printed.{◌⨾◌, printed_as, prints_nothing}
 use Rattle.bac_text.proofs.ValueLists.{values-none, values-first, values-empty}
 
--- The text of one more element.
-pub texts-more : {A : Type 0} (text : A → List ℕ) (xs : List A) (i : ℕ) (d : A) → i < length xs →
-    flat_map text (take i xs) ++ text (get_or xs i d) ≡ flat_map text (take (i + 1) xs)
-texts-more text xs i d within =
-    ap (λ (one : List ℕ). flat_map text (take i xs) ++ one) (sym (append-nil (text (get_or xs i d))))
-    ∙ sym (flat_map-append text (take i xs) (get_or xs i d ∷ [])) ∙ ap (flat_map text) (sym (take_more xs i d within))
+-- The text of one more octet.
+pub texts_more : (text : ℕ → List ℕ) (xs : List ℕ) (i : ℕ) → i < length xs →
+    flat_map text (take (i + 1) xs) ≡ flat_map text (take i xs) ++ text (get_or xs i 0)
+texts_more text xs i within =
+    ap (flat_map text) (take_more xs i 0 within) ∙ flat_map-append text (take i xs) (get_or xs i 0 ∷ [])
+    ∙ ap (λ (one : List ℕ). flat_map text (take i xs) ++ one) (append-nil (text (get_or xs i 0)))
 
-pub signed-negative : (z : ℤ) → z <ℤ pos 0 → 45 ∷ decimal (unsigned_abs z) ≡ signed_decimal z
-signed-negative (pos n) h = absurd (omega (arith, ints))
-signed-negative (negsuc n) h = refl
+pub signed_negative : (z : ℤ) → z <ℤ pos 0 → 45 ∷ decimal (unsigned_abs z) ≡ signed_decimal z
+signed_negative (pos n) h = absurd (omega (arith, ints))
+signed_negative (negsuc n) h = refl
 
 -- The bits of octets, of which the last is known.
-pub bits-last : (others : List ℕ) (last unused : ℕ) →
+pub bits_last : (others : List ℕ) (last unused : ℕ) →
     flat_map octet_bits others ++ take (8 - unused) (octet_bits last) ≡ bits_text unused (others ++ last ∷ [])
-bits-last [] last unused = refl
-bits-last (x ∷ []) last unused = refl
-bits-last (x ∷ y ∷ ys) last unused = ap (λ (bits : List ℕ). octet_bits x ++ bits) (bits-last (y ∷ ys) last unused)
+bits_last [] last unused = refl
+bits_last (x ∷ []) last unused = refl
+bits_last (x ∷ y ∷ ys) last unused = ap (λ (bits : List ℕ). octet_bits x ++ bits) (bits_last (y ∷ ys) last unused)
 
 -- One more value, and a comma where others follow.
 one_more : (first : Datum) (more : List Datum) (behind : List ℕ) → values_of behind ≡ Some more →
     joined (first ∷ more) ≡ (datum_text first ++ separator behind) ++ joined more
 unfolding values_within
 one_more first [] [] e = sym (append-nil (datum_text first ++ []) ∙ append-nil (datum_text first))
-one_more first (second ∷ more) [] e = absurd (let bad : [] ≡ second ∷ more = cc in cc)
+one_more first (second ∷ more) [] e = grind arith
 one_more first [] (octet ∷ octets) e = absurd (let bad = values-empty (octet ∷ octets) e in cc)
 one_more first (second ∷ more) (octet ∷ octets) e = sym (append_assoc (datum_text first) (44 ∷ []) (joined (second ∷ more)))
 
@@ -53,7 +53,7 @@ behind_first value others (Some more) e = (more, refl, cc)
 nothing_left : (rest : List ℕ) (others : List Datum) → value_at rest ≡ None → values_of rest ≡ Some others → others ≡ []
 unfolding values_within
 nothing_left [] others none e = cc
-nothing_left (octet ∷ octets) others none e = absurd (none-some others (sym (values-none (octet ∷ octets) none (omega arith)) ∙ e))
+nothing_left (octet ∷ octets) others none e = grind (arith, values-none)
 
 -- If the region is values and nothing else, the texts of those before the rest were printed.
 pub record PrintsFront {W : Type 0} (contents : W → Option (List ℕ)) (before after : Page W) (region rest : List ℕ) : Type 0 where
@@ -68,10 +68,11 @@ module _ {W : Type 0} {contents : W → Option (List ℕ)} where
   pub front_none : (page : Page W) (region : List ℕ) → PrintsFront contents page page region region
   front_none page region = record { front = λ values e. ([], values, e, refl, prints_nothing page) }
 
-  pub front_more : {before middle after : Page W} {region rest behind : List ℕ} (value : Datum) →
-      PrintsFront contents before middle region rest → value_at rest ≡ Some (value, behind) →
-      Prints contents middle after (datum_text value ++ separator behind) → PrintsFront contents before after region behind
-  front_more {rest = rest} {behind = behind} value so_far found printed = record {
+  pub front_more : {before middle next after : Page W} {region rest behind : List ℕ} {value : Datum} →
+      PrintsFront contents before middle region rest →
+      value_at rest ≡ Some (value, behind) → Prints contents middle next (datum_text value) → Prints contents next after (separator behind) →
+      PrintsFront contents before after region behind
+  front_more {rest = rest} {behind = behind} {value = value} so_far found first second = record {
     front = λ values e.
         let f = so_far.front values e in
         let more = behind_first value f.1 (values_of behind) (sym (values-first rest value behind found) ∙ f.2) in (
@@ -80,7 +81,7 @@ module _ {W : Type 0} {contents : W → Option (List ℕ)} where
           more.1,
           f.3 ∙ ap (λ (all : List Datum). f.0 ++ joined all) more.2 ∙ ap (λ (text : List ℕ). f.0 ++ text) (one_more value more.0 behind more.1)
               ∙ sym (append_assoc f.0 (datum_text value ++ separator behind) (joined more.0)),
-          f.4 ⨾ printed,
+          f.4 ⨾ first ⨾ second,
         );
   }
 
@@ -109,10 +110,11 @@ module _ {W : Type 0} {contents : W → Option (List ℕ)} where
           printed_as (opened ⨾ p ⨾ closed) (rw other refl)
 
   -- What is no values is shown by its octets.
-  pub printed_octets : {before after : Page W} (region : List ℕ) → None ≡ option_map length (values_of region) →
-      Prints contents before after (codes "hex " ++ encode_lower region) → Prints contents before after (region_text region)
-  printed_octets {before} {after} region none printed = go (values_of region) none
-    where
-      go : (found : Option (List Datum)) → None ≡ option_map length found → Prints contents before after (text_or_octets region found)
-      go None e = printed
-      go (Some values) e = absurd (none-some (length values) e)
+  pub printed_octets : {before middle after : Page W} (region : List ℕ) → None ≡ option_map length (values_of region) →
+      Prints contents before middle (codes "hex ") → Prints contents middle after (encode_lower region) →
+      Prints contents before after (region_text region)
+  printed_octets region none first second = printed_as (first ⨾ second) (grind arith)
+
+pub ruleset printing_values = (front_none, front_whole)
+
+pub ruleset printing_signed = (signed_negative, ints, to_z-of_z)

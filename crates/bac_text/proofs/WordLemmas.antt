@@ -1,10 +1,10 @@
 -- The words_of of a text, from its front.
 use Rattle.std.proofs.Common.{◌≡◌, ℕ, suc, ◌+◌, ◌≤◌, Bool, true, false, List, [], ◌∷◌, length, take, drop, get_or, Some, None, refl, sym, ◌∙◌, ap, subst, arith, drop-cons}
-use Rattle.std.specs.Prelude.{not, filter, position, unwrap_or, nat_lt, cond}
+use Rattle.std.specs.Prelude.{not, filter, position, unwrap_or}
 use Rattle.std.specs.List.{slice_split, onto_first, position_or_len}
 use Rattle.std.proofs.lemmas.List.Sums.{prefix_len-le-length, count_by-le-length, length-filter}
 use Rattle.std.proofs.lemmas.List.Quantifiers.{position-Some}
-use Rattle.std.proofs.lemmas.List.{drop_all}
+use Rattle.std.proofs.lemmas.List.{drop_all, take_rest}
 use Rattle.std.proofs.lemmas.List.Splits.{slice_split-cons_yes, slice_split-cons_no, length-slice_split}
 use Rattle.std.proofs.lemmas.Bool.{not-true}
 use Rattle.std.proofs.lemmas.Bool.Decides.{nat_tests}
@@ -18,18 +18,14 @@ abbrev others : List ℕ → ℕ
 others text = position_or_len is_blank text
 
 one_more : (x : ℕ) (xs : List ℕ) → is_blank x ≡ true → blanks (x ∷ xs) ≡ suc (blanks xs)
-one_more x xs e = let one : 1 + blanks xs ≡ suc (blanks xs) = omega arith in rw (e, one) refl
+one_more x xs e = grind (arith, nat_tests)
 
 one_other : (x : ℕ) (xs : List ℕ) → is_blank x ≡ false → others (x ∷ xs) ≡ suc (others xs)
-one_other x xs e = let one : 1 + others xs ≡ suc (others xs) = omega arith in rw (e, one) refl
-
-skip : (x : ℕ) (xs : List ℕ) (b : Bool) → is_blank x ≡ b → words_of xs ≡ words_of (drop (blanks xs) xs) → words_of (x ∷ xs) ≡ words_of (drop (blanks (x ∷ xs)) (x ∷ xs))
-skip x xs true e h = ap (filter is_not_empty) (slice_split-cons_yes is_blank x xs e) ∙ (h ∙ ap (λ n. words_of (drop n (x ∷ xs))) (sym (one_more x xs e)))
-skip x xs false e h = let none : blanks (x ∷ xs) ≡ 0 = rw e refl in ap (λ n. words_of (drop n (x ∷ xs))) (sym none)
+one_other x xs e = grind (arith, nat_tests)
 
 words-skip : (text : List ℕ) → words_of text ≡ words_of (drop (blanks text) text)
 words-skip [] = refl
-words-skip (x ∷ xs) = skip x xs (is_blank x) refl (words-skip xs)
+words-skip (x ∷ xs) = let rest = words-skip xs in let blank = one_more x xs in grind (arith, nat_tests)
 
 record First (text : List ℕ) : Type 0 where
   rest : List (List ℕ)
@@ -70,40 +66,27 @@ words-first x xs e =
     let some : is_not_empty (take (others (x ∷ xs)) (x ∷ xs)) ≡ true = ap (λ n. is_not_empty (take n (x ∷ xs))) (one_other x xs e) ∙ is_not_empty-cons x (take (others xs) xs) in
     ap (filter is_not_empty) f.split ∙ keeps (take (others (x ∷ xs)) (x ∷ xs)) f.rest (words_of (drop (others (x ∷ xs)) (x ∷ xs))) some f.same
 
-chosen : (b : Bool) (i j : ℕ) → Some i ≡ cond b (Some j) None → (i ≡ j) × (b ≡ true)
-chosen true i j h = (cc, refl)
-chosen false i j h = absurd (cc)
-
-none_chosen : (b : Bool) (j : ℕ) → None ≡ cond b (Some j) None → b ≡ false
-none_chosen true j h = absurd (cc)
-none_chosen false j h = refl
-
-pub words-none : (text : List ℕ) → None ≡ position (λ octet. not (is_blank octet)) text → words_of text ≡ []
-words-none text h =
-    let e = none_chosen (nat_lt (blanks text) (length text)) (blanks text) h in
+pub words_none : (text : List ℕ) → None ≡ position (λ octet. not (is_blank octet)) text → words_of text ≡ []
+words_none text h =
     let past : length text ≤ blanks text = grind (arith, nat_tests) in
     words-skip text ∙ ap words_of (drop_all (blanks text) text past)
 
-end_is : (b : Bool) (n m : ℕ) → nat_lt n m ≡ b → n ≤ m → unwrap_or (cond b (Some n) None) m ≡ n
-end_is true n m e h = refl
-end_is false n m e h = grind (arith, nat_tests)
+end_is : (rest : List ℕ) (end : ℕ) → end ≡ unwrap_or (position is_blank rest) (length rest) → (end ≡ others rest) × (end ≤ length rest)
+end_is rest end last = let within = prefix_len-le-length (λ octet. not (is_blank octet)) rest in grind (arith, nat_tests)
 
-pub words-some : (text rest : List ℕ) (start end : ℕ) → Some start ≡ position (λ octet. not (is_blank octet)) text → rest ≡ drop start text → end ≡ unwrap_or (position is_blank rest) (length rest) → words_of text ≡ take end rest ∷ words_of (drop end rest)
-words-some text rest start end h cut last =
-    let found = chosen (nat_lt (blanks text) (length text)) start (blanks text) h in
+pub words_some : (text rest : List ℕ) (start end : ℕ) → Some start ≡ position (λ octet. not (is_blank octet)) text → rest ≡ drop start text →
+    end ≡ unwrap_or (position is_blank rest) (length rest) → words_of text ≡ take end rest ∷ words_of (drop end rest)
+words_some text rest start end h cut last =
+    let found : start ≡ blanks text = grind (arith, nat_tests) in
     let at = position-Some (λ octet. not (is_blank octet)) text start 0 (sym h) in
     let other : is_blank (get_or text start 0) ≡ false = not-true (is_blank (get_or text start 0)) at.1 in
     let shown : rest ≡ get_or text start 0 ∷ drop (suc start) text = cut ∙ drop-cons text start 0 at.0 in
-    let within = prefix_len-le-length (λ octet. not (is_blank octet)) rest in
-    let size : end ≡ others rest = last ∙ end_is (nat_lt (others rest) (length rest)) (others rest) (length rest) refl within in
-    let skipped : words_of text ≡ words_of rest = words-skip text ∙ ap (λ n. words_of (drop n text)) (sym found.0) ∙ ap words_of (sym cut) in
-    skipped ∙ (subst (λ r. words_of r ≡ take (others r) r ∷ words_of (drop (others r) r)) (sym shown) (words-first (get_or text start 0) (drop (suc start) text) other) ∙ ap (λ n. take n rest ∷ words_of (drop n rest)) (sym size))
+    let skipped : words_of text ≡ words_of rest = words-skip text ∙ ap (λ n. words_of (drop n text)) (sym found) ∙ ap words_of (sym cut) in
+    skipped ∙ (subst (λ r. words_of r ≡ take (others r) r ∷ words_of (drop (others r) r)) (sym shown)
+    (words-first (get_or text start 0) (drop (suc start) text) other) ∙ ap (λ n. take n rest ∷ words_of (drop n rest)) (sym (end_is rest end last).0))
 
 pub end_within : (rest : List ℕ) (end : ℕ) → end ≡ unwrap_or (position is_blank rest) (length rest) → end ≤ length rest
-end_within rest end last =
-    let within = prefix_len-le-length (λ octet. not (is_blank octet)) rest in
-    let size : end ≡ others rest = last ∙ end_is (nat_lt (others rest) (length rest)) (others rest) (length rest) refl within in
-    omega (arith, size, within)
+end_within rest end last = (end_is rest end last).1
 
 -- there are no more words than octets and one
 pub words_fewer : (text : List ℕ) → length (words_of text) ≤ length text + 1
@@ -113,3 +96,5 @@ words_fewer text =
     let cut = length-slice_split is_blank text in
     let blank = count_by-le-length is_blank text in
     omega arith
+
+pub ruleset first_words = (words_none, words_some, end_within, take_rest)

@@ -1,6 +1,5 @@
 -- The body of a WriteProperty request, by the region in it.
-use Rattle.std.proofs.Common.{◌≡◌, ℕ, ◌<◌, ◌≤◌, Bool, true, false, List, [], ◌∷◌, ◌++◌, length, Option, Result, Ok, Err, refl, ◌∙◌, arith, length-append}
-use Rattle.std.specs.Prelude.{nat_le}
+use Rattle.std.proofs.Common.{◌≡◌, ℕ, ◌≤◌, List, [], ◌∷◌, ◌++◌, length, Option, Result, Ok, Err, arith, length-append}
 use Rattle.std.proofs.lemmas.Bool.Decides.{nat_tests}
 use Rattle.bac_wire.specs.Datum.{Datum, plain}
 use Rattle.bac_wire.specs.Identifier.{Identifier}
@@ -14,7 +13,7 @@ use Rattle.bac_text.specs.declared.pairs.PairFault.{PairFault}
 use Rattle.bac_text.specs.declared.pairs.PairFault.TheVariants.{TooLong}
 use Rattle.bac_text.specs.ValueWords.{at_most}
 use Rattle.bac_text.specs.Pairs.{values_in, region_with, region_of, order_of, body_with, body_of}
-use Rattle.bac_text.proofs.WordValues.{at_most-long}
+use Rattle.bac_text.proofs.WordValues.{at_most_fault}
 
 parameters_within : (front behind : List Parameter) (region : List ℕ) → length region ≤ length (plain_all plain_parameter (front ++ parameters.value region ∷ behind))
 unfolding plain_parameter
@@ -35,15 +34,13 @@ body-fault object property index priority words fault e = go (values_in words) e
     within : (values : List Datum) → length (plain_all plain values) ≤ length (write_octets (order_of object property index priority (plain_all plain values)))
     within values = region_within (order_of object property index priority (plain_all plain values))
 
-    long : (values : List Datum) (b : Bool) → nat_le (length (plain_all plain values)) 1497 ≡ b → at_most TooLong 1497 (plain_all plain values) ≡ Err fault →
+    long : (values : List Datum) → at_most TooLong 1497 (plain_all plain values) ≡ Err fault →
         body_with object property index priority (Ok values) ≡ Err fault
-    long values true fits e = absurd (let bad : Ok (plain_all plain values) ≡ Err fault = rw fits at e in cc)
-    long values false past e =
-        let same : Err TooLong ≡ Err fault = rw past at e in
+    long values e =
+        let past = at_most_fault TooLong fault 1497 (plain_all plain values) e in
         let size = within values in
-        let more : 1497 < length (plain_all plain values) = grind (arith, nat_tests) in
-        at_most-long TooLong 476 (write_octets (order_of object property index priority (plain_all plain values))) (omega arith) ∙ same
+        grind (arith, nat_tests)
 
     go : (found : Result (List Datum) ℕ) → region_with found ≡ Err fault → body_with object property index priority found ≡ Err fault
     go (Err n) e = e
-    go (Ok values) e = long values (nat_le (length (plain_all plain values)) 1497) refl e
+    go (Ok values) e = long values e

@@ -115,6 +115,7 @@ impl<W: Write> Write for Checked<W> {
 
 impl<W: Write> Checked<W> {
     /// Writes the whole text, or fails after a front of it.
+    #[tactic(auto, using(crate::proofs::Known::Sent_more))]
     pub(crate) fn put(&mut self, text: &[u8]) -> Result<(), WriteFailed>
         requires { has_failed self.old ≡ false }
         ensures text { Puts (W.contents (inner_of self.old)) (W.contents (inner_of self.new)) text.now result }

@@ -15,6 +15,7 @@ pub fn read_number(word: &[u8], most: u64) -> Option<u64>
     Some(number)
 }
 
+#[tactic(auto, using(crate::proofs::NumberLemmas::plain_numbers))]
 fn plain_number(word: &[u8]) -> Option<u64>
     ensures { result ≡ number_up_to (2 ^ 64 - 1) word.now }
 {
@@ -35,6 +36,7 @@ fn plain_number(word: &[u8]) -> Option<u64>
 
 // The number that the first digits write, but no more than so many of them, and how many these are.
 #[inline(always)]
+#[tactic(auto, using(crate::proofs::LeadingDigits::leading_numbers))]
 pub(crate) fn leading_number(text: &[u8], most: usize) -> (u32, usize)
     requires { most ≤ 5 }
     ensures { IsLeading text.now most result.0 result.1 }

@@ -27,6 +27,7 @@ pub struct Page<'w, W> {
 }
 
 // Writes the decimal digits of a number before a place of the room, and says where they begin.
+#[tactic(auto, using(std::proofs::lemmas::Fmt::decimal_nonempty))]
 pub(crate) fn write_digits(number: u64, room: &mut [u8], end: usize) -> usize
     requires within { end ≤ length room.old }
     requires fits { length (decimal number) ≤ end }
@@ -113,6 +114,7 @@ impl<'w, W: Write> Page<'w, W> {
 
     // Prints a text for which there is no room on the page.
     #[cold]
+    #[tactic(auto, using(crate::proofs::Printed::printing))]
     fn print_past(&mut self, text: &[u8])
         ensures { Prints W.contents self.old self.new text.now }
     {
@@ -140,6 +142,7 @@ impl<'w, W: Write> Page<'w, W> {
 
 impl<W: Write> Page<'_, W> {
     /// Prints the number in decimal digits.
+    #[tactic(auto, using(crate::proofs::NumberLemmas::eight_octets))]
     pub fn print_number(&mut self, number: u64)
         ensures { Prints W.contents self.old self.new (decimal number) }
     {
@@ -149,6 +152,7 @@ impl<W: Write> Page<'_, W> {
     }
 
     /// Prints the octets in hexadecimal digits, in lower case.
+    #[tactic(auto, using(crate::proofs::Printed::printing_hex))]
     pub fn print_hex(&mut self, octets: &[u8])
         ensures { Prints W.contents self.old self.new (encode_lower octets.now) }
     {

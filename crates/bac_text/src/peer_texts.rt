@@ -13,6 +13,7 @@ const LONGEST_STATION: usize = 21;
 
 impl<W: Write> Page<'_, W> {
     /// Prints the IP address in dotted decimal, a colon and the port, and the route, if there is one.
+    #[tactic(auto, using(crate::proofs::Printed::printing, std::proofs::lemmas::List::take_rest, std::proofs::lemmas::Grind::common_steps))]
     pub fn print_peer(&mut self, peer: Peer)
         ensures { Prints W.contents self.old self.new (peer_text (station peer)) }
     {
@@ -22,6 +23,7 @@ impl<W: Write> Page<'_, W> {
         self.print_route(peer.route);
     }
 
+    #[tactic(auto, using(crate::proofs::Printed::printing))]
     fn print_route(&mut self, route: Option<Route>)
         ensures { Prints W.contents self.old self.new (route_text (option_map network_address route)) }
     {
@@ -35,6 +37,7 @@ impl<W: Write> Page<'_, W> {
 }
 
 // Writes an IP address in dotted decimal, a colon and a port at the end of the room, and says where they begin.
+#[tactic(auto, using(crate::proofs::NumberLemmas::two_octets))]
 fn write_station(ip: u32, port: u16, room: &mut [u8; LONGEST_STATION]) -> usize
     ensures text { drop result room.new ≡ address_text ip ++ 58 ∷ decimal port }
     ensures within { result ≤ LONGEST_STATION }
@@ -49,6 +52,7 @@ fn write_station(ip: u32, port: u16, room: &mut [u8; LONGEST_STATION]) -> usize
 }
 
 // Writes the number of an octet and a mark before a place of the room, and says where they begin.
+#[tactic(auto, using(crate::proofs::NumberLemmas::one_octet))]
 fn write_octet(octet: u8, mark: u8, room: &mut [u8], end: usize) -> usize
     requires within { end ≤ length room.old }
     requires fits { 4 ≤ end }

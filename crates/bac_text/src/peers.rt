@@ -109,6 +109,7 @@ fn read_route(text: &[u8]) -> Option<Route>
     route_to(network as u16, address)
 }
 
+#[tactic(auto, using(crate::proofs::HexText::routable_digits))]
 fn route_to(network: u16, address: HexDigits<'_>) -> Option<Route>
     ensures { option_map network_address result ≡ routable network (octets_in address.entry.digits.now) }
 {
@@ -135,6 +136,7 @@ fn short_number(text: &[u8], digits: usize, limit: u32) -> Option<u32>
 }
 
 /// What stands before and after the first such octet.
+#[tactic(auto, using(std::proofs::lemmas::List::take_rest))]
 pub(crate) fn cut(text: &[u8], octet: u8) -> Option<(&[u8], &[u8])>
     ensures { option_map (λ parts. (parts.0.now, parts.1.now)) result ≡ cut_at octet text.now }
 {

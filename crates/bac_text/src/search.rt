@@ -35,7 +35,7 @@ pub fn place_of_end(octets: &[u8], end: End) -> Option<usize>
     while start < octets.len() {
         // The last load goes back over some that were seen.
         let at = start.min(octets.len() - LANES);
-        let run = run_before(octets, at, end);
+        let run = run_before::<LANES>(octets, at, end);
         if run < LANES {
             return Some(at + run);
         }
@@ -50,12 +50,12 @@ fn place_in_few(octets: &[u8], end: End) -> Option<usize>
     requires most { length octets.now ≤ LANES }
     ensures { result ≡ position (ends_at end) octets.now }
 {
-    let run = run_before_few(octets, 0, end);
+    let run = run_before::<FEW_LANES>(octets, 0, end);
     if run < FEW_LANES {
         return Some(run);
     }
     let at = octets.len() - FEW_LANES;
-    let run = run_before_few(octets, at, end);
+    let run = run_before::<FEW_LANES>(octets, at, end);
     if run < FEW_LANES {
         return Some(at + run);
     }
@@ -74,35 +74,20 @@ fn ends_at(octet: u8, end: End) -> bool
 
 // How many of the octets that one load takes come before the first that ends a piece.
 #[inline(always)]
-fn run_before(octets: &[u8], at: usize, end: End) -> usize
-    requires { at + LANES ≤ length octets.now }
-    ensures { IsRunIn (ends_at end) octets.now at LANES result }
+fn run_before<const N: usize>(octets: &[u8], at: usize, end: End) -> usize
+    requires most { N ≤ 64 }
+    requires within { at + N ≤ length octets.now }
+    ensures { IsRunIn (ends_at end) octets.now at N result }
 {
-    let loaded = u8x16::from_slice(&octets[at..]);
+    let loaded = Simd::<u8, N>::from_slice(&octets[at..]);
     let ends = match end {
         End::Blank => {
-            (loaded.simd_eq(u8x16::splat(b' ')) | loaded.simd_eq(u8x16::splat(b'\t'))).to_bitmask()
+            (loaded.simd_eq(Simd::splat(b' ')) | loaded.simd_eq(Simd::splat(b'\t'))).to_bitmask()
         }
-        End::At(other) => loaded.simd_eq(u8x16::splat(other)).to_bitmask(),
-        End::PastAscii => loaded.simd_gt(u8x16::splat(127)).to_bitmask(),
+        End::At(other) => loaded.simd_eq(Simd::splat(other)).to_bitmask(),
+        End::PastAscii => loaded.simd_gt(Simd::splat(127)).to_bitmask(),
     };
-    first_set(ends, LANES)
-}
-
-#[inline(always)]
-fn run_before_few(octets: &[u8], at: usize, end: End) -> usize
-    requires { at + FEW_LANES ≤ length octets.now }
-    ensures { IsRunIn (ends_at end) octets.now at FEW_LANES result }
-{
-    let loaded = u8x8::from_slice(&octets[at..]);
-    let ends = match end {
-        End::Blank => {
-            (loaded.simd_eq(u8x8::splat(b' ')) | loaded.simd_eq(u8x8::splat(b'\t'))).to_bitmask()
-        }
-        End::At(other) => loaded.simd_eq(u8x8::splat(other)).to_bitmask(),
-        End::PastAscii => loaded.simd_gt(u8x8::splat(127)).to_bitmask(),
-    };
-    first_set(ends, FEW_LANES)
+    first_set(ends, N)
 }
 
 // The place of the lowest bit that is set, or the lanes.

@@ -34,6 +34,7 @@ pub fn show_value<W: Write>(region: &[u8], writer: &mut Checked<W>) -> Result<()
 
 impl<W: Write> Page<'_, W> {
     /// Prints what the body of a ReadProperty-ACK says.
+    #[tactic(auto, using(crate::proofs::Printed::printing))]
     pub fn print_ack(&mut self, body: &[u8])
         ensures { Prints W.contents self.old self.new (ack_text body.now) }
     {
@@ -65,6 +66,7 @@ impl<W: Write> Page<'_, W> {
     }
 
     // Prints values one after another, joined by commas.
+    #[tactic(auto, using(crate::proofs::ValueTexts::printing_values))]
     fn print_values(&mut self, region: &[u8])
         ensures { IfSome (values_of region.now) (λ values. Prints W.contents self.old self.new (joined values)) }
     {
@@ -116,6 +118,7 @@ impl<W: Write> Page<'_, W> {
         }
     }
 
+    #[tactic(auto, using(crate::proofs::Printed::printing, crate::proofs::ValueTexts::printing_signed))]
     fn print_signed(&mut self, number: i64)
         ensures { Prints W.contents self.old self.new (signed_decimal number) }
     {
@@ -127,6 +130,7 @@ impl<W: Write> Page<'_, W> {
         }
     }
 
+    #[tactic(auto, using(crate::proofs::Printed::printing))]
     fn print_object(&mut self, id: ObjectId)
         ensures { Prints W.contents self.old self.new (object_text (identifier id)) }
     {
@@ -136,6 +140,7 @@ impl<W: Write> Page<'_, W> {
     }
 
     // Prints a letter, and the octets in hexadecimal digits between apostrophes.
+    #[tactic(auto, using(crate::proofs::Printed::printing))]
     fn print_lettered(&mut self, letter: u8, octets: &[u8])
         ensures { Prints W.contents self.old self.new (lettered letter octets.now) }
     {
@@ -146,6 +151,7 @@ impl<W: Write> Page<'_, W> {
 }
 
 impl<W: Write> Page<'_, W> {
+    #[tactic(auto, using(crate::proofs::Printed::printing))]
     fn print_string(&mut self, set: u8, text: &[u8])
         ensures { Prints W.contents self.old self.new (string_text set text.now) }
     {
@@ -158,6 +164,7 @@ impl<W: Write> Page<'_, W> {
         }
     }
 
+    #[tactic(auto, using(crate::proofs::Printed::printing))]
     fn print_quoted(&mut self, text: &[u8])
         ensures { Prints W.contents self.old self.new (quoted text.now) }
     {
@@ -166,6 +173,7 @@ impl<W: Write> Page<'_, W> {
         self.print(b"\"");
     }
 
+    #[tactic(auto, using(crate::proofs::Printed::printing, crate::proofs::ValueTexts::texts_more))]
     fn print_quoted_octets(&mut self, text: &[u8])
         ensures { Prints W.contents self.old self.new (flat_map quoted_octet text.now) }
     {
@@ -174,6 +182,7 @@ impl<W: Write> Page<'_, W> {
         }
     }
 
+    #[tactic(auto, using(crate::proofs::Printed::printing))]
     fn print_quoted_octet(&mut self, octet: u8)
         ensures { Prints W.contents self.old self.new (quoted_octet octet) }
     {
@@ -187,6 +196,7 @@ impl<W: Write> Page<'_, W> {
         }
     }
 
+    #[tactic(auto, using(crate::proofs::Printed::printing))]
     fn print_bits(&mut self, unused: u8, octets: &[u8])
         ensures { Prints W.contents self.old self.new (datum_text (bit_string unused octets.now)) }
     {
@@ -196,6 +206,7 @@ impl<W: Write> Page<'_, W> {
     }
 
     // Prints the bits of the octets but for the last ones, which are unused.
+    #[tactic(auto, using(crate::proofs::Printed::printing, crate::proofs::ValueTexts::bits_last))]
     fn print_used_bits(&mut self, unused: u8, octets: &[u8])
         ensures { Prints W.contents self.old self.new (bits_text unused octets.now) }
     {
@@ -207,6 +218,7 @@ impl<W: Write> Page<'_, W> {
     }
 
     // Prints all bits of the octets.
+    #[tactic(auto, using(crate::proofs::Printed::printing, crate::proofs::ValueTexts::texts_more))]
     fn print_whole_octets(&mut self, octets: &[u8])
         ensures { Prints W.contents self.old self.new (flat_map octet_bits octets.now) }
     {
@@ -254,6 +266,7 @@ fn is_printable(octet: u8) -> bool
 }
 
 // How many values the region is, if it is nothing else.
+#[tactic(auto, using(crate::proofs::ValueLists::counted))]
 fn count_values(region: &[u8]) -> Option<usize>
     ensures { result ≡ option_map length (values_of region.now) }
 {

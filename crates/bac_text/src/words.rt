@@ -92,6 +92,7 @@ impl<'a> WordSource<'a> for Words<'a> {
 }
 
 // The first word and what follows it.
+#[tactic(auto, using(crate::proofs::WordLemmas::first_words))]
 fn first_word(text: &[u8]) -> Option<(&[u8], &[u8])>
     ensures { MatchOption result (words_of text.now ≡ [])
         (λ found. words_of text.now ≡ found.0.now ∷ words_of found.1.now) }

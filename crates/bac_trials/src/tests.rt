@@ -10,7 +10,7 @@ mod reading;
 mod wire;
 
 use bac_device::{Device, DeviceInfo, demo};
-use bac_pdu::Peer;
+use bac_pdu::{Peer, Route};
 use bac_tsm::{Client, Config};
 use bac_wire::{Frame, ObjectId};
 use std::process::Abort;
@@ -28,6 +28,14 @@ const ASKER: Peer = Peer {
     port: 50000,
     route: None,
 };
+
+/// The same station behind a router.
+fn routed(router: Peer, network: u16, address: &[u8]) -> Peer {
+    Peer {
+        route: Route::new(network, address),
+        ..router
+    }
+}
 
 const READ_PROPERTY: u8 = 12;
 
@@ -51,15 +59,17 @@ fn octets<H: Abort + AllocGlobal>(rt: &H, text: &str) -> Vec<u8> {
 }
 
 /// The points that can be commanded: type and instance.
-const COMMANDABLE: [(u16, u32); 6] = [(1, 1), (2, 2), (4, 4), (5, 5), (14, 1), (19, 1)];
+static COMMANDABLE: [(u16, u32); 6] = [(1, 1), (2, 2), (4, 4), (5, 5), (14, 1), (19, 1)];
+
+/// A timeout of three seconds and three retries.
+const USUAL: Config = Config {
+    timeout: 3000,
+    retries: 3,
+};
 
 /// A client that has asked the controller, under the ticket 0 and the number 1.
 fn asking() -> Client {
-    let config = Config {
-        timeout: 3000,
-        retries: 3,
-    };
-    let mut client = Client::new(config, 0);
+    let mut client = Client::new(USUAL, 0);
     let _ = client.submit(CONTROLLER, READ_PROPERTY, &BODY);
     client
 }
@@ -80,8 +90,8 @@ fn small_device() -> Option<Device> {
 
 /// Whether every place of every point is NULL, as in a fresh device.
 fn is_fresh(device: &Device) -> bool {
-    for (kind, instance) in COMMANDABLE {
-        let Some(object) = ObjectId::new(kind, instance) else {
+    for (kind, instance) in &COMMANDABLE {
+        let Some(object) = ObjectId::new(*kind, *instance) else {
             return false;
         };
         for priority in 1..=16_u8 {
@@ -97,4 +107,13 @@ fn is_fresh(device: &Device) -> bool {
 fn is_silent(device: &mut Device, datagram: &[u8]) -> bool {
     let mut frame = Frame::new();
     device.answer(ASKER, datagram, &mut frame).is_none() && frame.is_empty() && is_fresh(device)
+}
+
+/// A frame with these octets, and behind them so many brackets inside one another, at most 33.
+fn nested(front: &[u8], depth: usize) -> Frame {
+    let mut frame = Frame::new();
+    let _ = frame.append(front);
+    let _ = frame.append([0x0e; 33].get(..depth).unwrap_or(&[]));
+    let _ = frame.append([0x0f; 33].get(..depth).unwrap_or(&[]));
+    frame
 }

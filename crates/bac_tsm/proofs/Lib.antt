@@ -1,14 +1,10 @@
-mod AnswersByNumber
 mod AnswersInWords
 mod CallNotes
-mod DatagramStep
 mod FirstAfter
-mod Followed
 mod FreeNumber
 mod Held
 pub mod Laws
 mod LookaheadSteps
-mod LookingBack
 mod NumberCycle
 mod NumberReuse
 mod OpenRequests
@@ -17,15 +13,10 @@ mod Placed
 pub mod Progress
 mod RequestLife
 mod Runs
-mod SameStation
 mod SendQueue
-mod SortedEntries
-mod SubmitStep
 mod TableEdits
 mod TableReads
-mod TickStep
+mod CallSteps
 mod TableTick
-mod Times
 mod Turns
-mod Watches
 mod WholeRun

@@ -1,9 +1,9 @@
 -- A request that is due goes on, and where the first to have been sent is not due, none is.
-use Rattle.std.proofs.Common.{◌≡◌, ℕ, zero, suc, ◌-◌, ◌<◌, ◌≤◌, List, [], ◌∷◌, ◌++◌, take, drop, length, set, get_or, Option, Some, None, true, false, nat_le, nat_lt, All, refl, ap, sym, subst, ◌∙◌, inl, inr, arith}
+use Rattle.std.proofs.Common.{◌≡◌, ℕ, suc, ◌-◌, ◌<◌, ◌≤◌, List, [], ◌∷◌, ◌++◌, take, drop, length, set, get_or, Option, Some, None, true, false, nat_le, nat_lt, All, refl, ap, sym, subst, ◌∙◌, inl, inr, arith}
 use Rattle.std.specs.Prelude.{remove}
 use Rattle.std.specs.List.{slice_get, list_any}
 use Rattle.std.proofs.lemmas.Bool.{cases_Bool, leb-false, ltb-true, false≢true}
-use Rattle.std.proofs.lemmas.Option.{none-some, same_Some, slice_get-get_or}
+use Rattle.std.proofs.lemmas.Option.{slice_get-get_or, slice_get_within, get_or_from_slice_get}
 use Rattle.std.proofs.lemmas.List.{length-map, get_or_default, set_split}
 use Rattle.std.proofs.lemmas.List.Folds.{list_any_at, list_any_none}
 use Rattle.std.proofs.lemmas.Bool.Decides.{nat_tests}
@@ -12,16 +12,11 @@ use Rattle.bac_tsm.specs.declared.due.Entry.TheVariants.{Resend, TimedOut as Exp
 use Rattle.bac_tsm.specs.Events.{Rules}
 use Rattle.bac_tsm.specs.Machine.{Waiting, is_due, due_entry, kept}
 use Rattle.bac_tsm.specs.Table.{held_at, times_of_place, open_places, waiting_in, IsTable, IsTurnOf, IsPassed, AreBySend}
-use Rattle.bac_tsm.specs.Waiting.{nothing}
-use Rattle.bac_tsm.proofs.Times.{times_got}
-use Rattle.bac_tsm.proofs.Held.{itself, held_got}
+use Rattle.bac_tsm.specs.Waiting.{nothing, sent_at, ticket_in}
+use Rattle.bac_tsm.proofs.Held.{itself, held_got, times_got}
 use Rattle.bac_tsm.proofs.SendQueue.{all_opened, queue-again}
-use Rattle.bac_tsm.proofs.TableReads.{times_split, turn, turn_lt, stands, open_below, open_listed, open_read, one_turn, as_many, count}
+use Rattle.bac_tsm.proofs.TableReads.{times_split, turn, turn_lt, stands, open_below, open_read, one_turn, as_many, count}
 use Rattle.bac_tsm.proofs.TableEdits.{changed_by}
-
-first_of : (place : ℕ) (xs : List ℕ) → Some place ≡ slice_get xs 0 → (0 < length xs) × (get_or xs 0 0 ≡ place)
-first_of place [] is = absurd (none-some _ (sym is))
-first_of place (x ∷ xs) is = (omega arith, sym (same_Some _ _ is))
 
 younger : (timeout clock early late : ℕ) → nat_le timeout (clock - early) ≡ false → early ≤ late → nat_le timeout (clock - late) ≡ false
 younger timeout clock early late young le = let less = leb-false timeout (clock - early) young in grind (arith, nat_tests)
@@ -36,7 +31,7 @@ first_sent t q (w ∷ ws) view rules clock due items are =
     sym (slice_get-get_or items 0 0 some)
 
 module _ (rules : Rules) (clock : ℕ) (w : Waiting) where
-  pub is_again : (ticket : ℕ) → due_entry rules w ≡ Resend ticket → nat_lt w.count rules.retries ≡ true
+  is_again : (ticket : ℕ) → due_entry rules w ≡ Resend ticket → nat_lt w.count rules.retries ≡ true
   is_again ticket is = grind (arith, nat_tests, is)
 
   is_over : (ticket : ℕ) → due_entry rules w ≡ Expired ticket → (nat_lt w.count rules.retries ≡ false) × (w.request.ticket ≡ ticket)
@@ -46,7 +41,7 @@ module _ {places : List Waiting} {numbers : List (Option ℕ)} {order tickets se
     (q : AreBySend places (open_places order tickets) sends) (ws : List Waiting) (view : waiting_in places order tickets ≡ ws)
     (items : List ℕ) (are : items ≡ sends) (place : ℕ) (front : Some place ≡ slice_get items 0) where
   first : (0 < length sends) × (get_or sends 0 0 ≡ place)
-  first = first_of place sends (front ∙ ap (λ (xs : List ℕ). slice_get xs 0) are)
+  first = let e = sym (front ∙ ap (λ (xs : List ℕ). slice_get xs 0) are) in (slice_get_within sends 0 place e, get_or_from_slice_get sends 0 place 0 e)
 
   some : 0 < times_of_place place (open_places order tickets)
   some =
@@ -54,77 +49,66 @@ module _ {places : List Waiting} {numbers : List (Option ℕ)} {order tickets se
       let e = q.same place in
       omega arith
 
-  pub front_below : (at : ℕ) → at ≡ place → at < table_size
+  pub front_below : place < table_size
   front_below = open_below t ws view place some
-
-  pub front_listed : (at : ℕ) → at ≡ place → at < length places
-  front_listed = open_listed t ws view place some
 
   abbrev i : ℕ
   i = (turn t ws view place some).0
 
-  module _ (rules : Rules) (clock at : ℕ) (same : at ≡ place) (d : Waiting) where
-    read : get_or places at d ≡ get_or ws i nothing
-    read = open_read t ws view place some at same d
+  module _ (rules : Rules) (clock : ℕ) (w : Waiting) (reads : w ≡ get_or places place nothing) where
+    read : w ≡ get_or ws i nothing
+    read = reads ∙ open_read t ws view place some
 
-    none_due : is_due rules clock (get_or places at d) ≡ false → All (λ w. is_due rules clock w ≡ false) ws
+    none_due : is_due rules clock w ≡ false → All (λ v. is_due rules clock v ≡ false) ws
     none_due young =
-        subst (All (λ w. is_due rules clock w ≡ false)) view
-        (all_opened q (λ w. is_due rules clock w ≡ false) (λ k e lt.
+        subst (All (λ v. is_due rules clock v ≡ false)) view
+        (all_opened q (λ v. is_due rules clock v ≡ false) (λ k e lt.
         younger rules.timeout clock (get_or (held_at places sends) 0 e).base (get_or (held_at places sends) k e).base (rw (here e) young) (later k e lt)))
       where
-        here : (e : Waiting) → get_or (held_at places sends) 0 e ≡ get_or places at d
-        here e = get_or_default (held_at places sends) 0 e nothing (rw length-map first.0) ∙ held_got places sends 0 place first.0 first.1 ∙ open_read t ws view place some place refl nothing ∙ sym read
+        here : (e : Waiting) → get_or (held_at places sends) 0 e ≡ w
+        here e = get_or_default (held_at places sends) 0 e nothing (rw length-map first.0) ∙ held_got places sends 0 place first.0 first.1 ∙ sym reads
 
         later : (k : ℕ) (e : Waiting) → k < length (held_at places sends) → (get_or (held_at places sends) 0 e).base ≤ (get_or (held_at places sends) k e).base
-        later zero e lt = omega arith
-        later (suc k) e lt = q.by_send 0 (suc k) e (omega arith) lt
+        later k e lt = grind (arith, q.by_send 0 k e)
 
-    pub some_due : is_due rules clock (get_or places at d) ≡ list_any (is_due rules clock) ws
-    some_due = elim (cases_Bool (is_due rules clock (get_or places at d))) [
+    pub some_due : is_due rules clock w ≡ list_any (is_due rules clock) ws
+    some_due = elim (cases_Bool (is_due rules clock w)) [
       | inl due ↦ due ∙ sym (list_any_at (is_due rules clock) ws i nothing (turn_lt t ws view place some) (ap (is_due rules clock) (sym read) ∙ due))
       | inr young ↦ young ∙ sym (list_any_none (is_due rules clock) ws (none_due young))
     ]
 
-    module _ (past : All (λ v. v.base ≤ clock) ws) (due : list_any (is_due rules clock) ws ≡ true) where
+    pub count_left : (ticket : ℕ) → due_entry rules w ≡ Resend ticket → (get_or places place nothing).count < rules.retries
+    count_left ticket again = let less = ltb-true _ _ (is_again rules clock w ticket again) in let f = ap (λ (u : Waiting). u.count) reads in omega arith
+
+    pub not_found : (ticket : ℕ) → due_entry rules w ≡ Expired ticket → IsTurnOf ticket ws None → ⊥
+    not_found ticket over none = none i nothing (turn_lt t ws view place some) (ap ticket_in (sym read) ∙ (is_over rules clock w ticket over).1)
+
+    module _ (due : list_any (is_due rules clock) ws ≡ true) where
       due_there : is_due rules clock (get_or ws i nothing) ≡ true
       due_there = ap (is_due rules clock) (sym read) ∙ some_due ∙ due
 
-      pub sent_again : (ticket : ℕ) → due_entry rules (get_or places at d) ≡ Resend ticket → (to : ℕ) → to ≡ place → (e v : Waiting) →
-          v ≡ record { request = (get_or places to e).request; base = clock; count = suc (get_or places to e).count } → (rest after : List ℕ) → rest ≡ remove sends 0 → after ≡ rest ++ place ∷ [] →
-          IsPassed rules clock ws (due_entry rules (get_or places at d)) (waiting_in (set places to v) order tickets)
-          × IsTable (set places to v) numbers order tickets × AreBySend (set places to v) (open_places order tickets) after
-      sent_again ticket again to its e v is rest after out back = (
-        (i, turn_lt t ws view place some, due_there, ap (due_entry rules) read, rw its (changed.0 ∙ set_split ws i v (turn_lt t ws view place some) ∙ ap (λ (xs : List Waiting). take i ws ++ (xs ++ drop (suc i) ws)) kept_now)),
-        rw its changed.2,
-        rw (its, back)
-            (queue-again q place rest (0, first.0, first.1, out) v (front_listed place refl)
-            (let e = t.once place in let f = times_split t place (length tickets) in omega arith)
-            (subst (All (λ u. u.base ≤ v.base)) (sym view) (rw (ap (λ (u : Waiting). u.base) is) past))),
-      )
-        where
-          changed : (waiting_in (set places place v) order tickets ≡ set ws i v) × (get_or places place e ≡ get_or ws i nothing) × IsTable (set places place v) numbers order tickets
-          changed =
-              changed_by t ws view i (turn_lt t ws view place some) order place refl (stands t ws view place some) e v
-              (ap (λ (u : Waiting). u.request) is ∙ ap (λ (k : ℕ). (get_or places k e).request) its)
+      pub sent_again : All (λ v. v.base ≤ clock) ws → (ticket : ℕ) → due_entry rules w ≡ Resend ticket → (changed : List Waiting) (rest after : List ℕ) →
+          changed ≡ set places place (sent_at clock (get_or places place nothing)) → rest ≡ remove sends 0 → after ≡ rest ++ place ∷ [] →
+          IsPassed rules clock ws (due_entry rules w) (waiting_in changed order tickets)
+          × IsTable changed numbers order tickets × AreBySend changed (open_places order tickets) after
+      sent_again past ticket again changed rest after is out back =
+          let v = sent_at clock (get_or places place nothing) in
+          let lt = turn_lt t ws view place some in
+          let moved = changed_by t ws view i lt place (stands t ws view place some) v refl in
+          let kept_now : v ∷ [] ≡ kept rules clock (get_or ws i nothing) =
+          rw (due_there, ap (λ (u : Waiting). nat_lt u.count rules.retries) (sym read) ∙ is_again rules clock w ticket again)
+          (ap (λ (u : Waiting). sent_at clock u ∷ []) (open_read t ws view place some)) in
+          rw (is, back) (
+            (i, lt, due_there, ap (due_entry rules) read, moved.0 ∙ set_split ws i v lt ∙ ap (λ (xs : List Waiting). take i ws ++ (xs ++ drop (suc i) ws)) kept_now),
+            moved.1,
+            queue-again q place rest (0, first.0, first.1, out) v (let all = t.all_places in let below = front_below in omega arith)
+                (let e = t.once place in let f = times_split t place (length tickets) in omega arith) (subst (All (λ u. u.base ≤ clock)) (sym view) past),
+          )
 
-          kept_now : v ∷ [] ≡ kept rules clock (get_or ws i nothing)
-          kept_now = rw (due_there, ap (λ (u : Waiting). nat_lt u.count rules.retries) (sym read) ∙ is_again rules clock (get_or places at d) ticket again)
-              (ap (λ (u : Waiting). u ∷ []) (is ∙ ap (λ (u : Waiting). record { request = u.request; base = clock; count = suc u.count }) (open_read t ws view place some to its e)))
-
-      pub count_left : (ticket : ℕ) → due_entry rules (get_or places at d) ≡ Resend ticket → (to : ℕ) → to ≡ place → (e : Waiting) → (get_or places to e).count < rules.retries
-      count_left ticket again to its e =
-          let less = ltb-true _ _ (is_again rules clock (get_or places at d) ticket again) in
-          let f = ap (λ (u : Waiting). u.count) (open_read t ws view place some to its e ∙ sym read) in
-          omega arith
-
-      pub not_found : (ticket : ℕ) → due_entry rules (get_or places at d) ≡ Expired ticket → IsTurnOf ticket ws None → ⊥
-      not_found ticket over none = none i nothing (turn_lt t ws view place some) (ap (λ (u : Waiting). u.request.ticket) (sym read) ∙ (is_over rules clock (get_or places at d) ticket over).1)
-
-      pub ended : (ticket j : ℕ) → due_entry rules (get_or places at d) ≡ Expired ticket → IsTurnOf ticket ws (Some j) → (after : List Waiting) → after ≡ remove ws j →
+      pub ended : (ticket j : ℕ) → due_entry rules w ≡ Expired ticket → IsTurnOf ticket ws (Some j) → (after : List Waiting) → after ≡ remove ws j →
           IsPassed rules clock ws (Expired ticket) after
       ended ticket j over its after to =
-          let gone = is_over rules clock (get_or places at d) ticket over in
-          let same_turn : j ≡ i = one_turn t ws view j i its.0 (turn_lt t ws view place some) (its.1 ∙ sym gone.1 ∙ ap (λ (u : Waiting). u.request.ticket) read) in
+          let gone = is_over rules clock w ticket over in
+          let same_turn : j ≡ i = one_turn t ws view j i its.0 (turn_lt t ws view place some) (its.1 ∙ sym gone.1 ∙ ap ticket_in read) in
           let none : kept rules clock (get_or ws i nothing) ≡ [] = rw (due_there, ap (λ (u : Waiting). nat_lt u.count rules.retries) (sym read) ∙ gone.0) refl in
           (i, turn_lt t ws view place some, due_there, sym over ∙ ap (due_entry rules) read, to ∙ ap (remove ws) same_turn ∙ ap (λ (xs : List Waiting). take i ws ++ (xs ++ drop (suc i) ws)) (sym none))

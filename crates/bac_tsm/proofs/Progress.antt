@@ -1,10 +1,10 @@
 -- A request that waits is due, and ends, as timeouts pass; and how far the clock comes meanwhile.
 use Rattle.std.proofs.Common.{◌≡◌, ℕ, zero, suc, ◌+◌, ◌-◌, ◌*◌, ◌<◌, ◌≤◌, Bool, true, false, List, [], ◌∷◌, length, Option, Some, None, slice_get, IsSomeAnd, subst, arith, refl, ◌∙◌, sym, inl, inr}
 use Rattle.std.proofs.Math.Nat.{mul-le-mul_right}
-use Rattle.std.proofs.lemmas.Bool.{cases_Bool, cases_lt, false≢true}
+use Rattle.std.proofs.lemmas.Bool.{cases_Bool, cases_lt}
 use Rattle.std.proofs.lemmas.Bool.Decides.{nat_tests}
-use Rattle.std.proofs.lemmas.Option.{none-some, same_Some}
-use Rattle.bac_tsm.specs.Events.{Event, Outcome, Ask, Data, Tick, Rules}
+use Rattle.std.proofs.lemmas.Option.{none-some, same_Some, slice_get_past}
+use Rattle.bac_tsm.specs.Events.{Event, Outcome, Rules}
 use Rattle.bac_tsm.specs.Lookahead.{first_within, first_after, clock, is_tick, has_waited, due, Accepted, outcome_at, answered_at, end}
 use Rattle.bac_tsm.specs.Progress.{last_of, TimeoutsPass}
 use Rattle.bac_tsm.proofs.FirstAfter.{first_after_from, first_least, none_within}
@@ -16,22 +16,16 @@ clock_rises [] zero j le = omega arith
 clock_rises [] (suc i) j le = omega arith
 clock_rises (e ∷ events) zero j le = omega arith
 clock_rises (e ∷ events) (suc i) zero le = absurd (omega arith)
-clock_rises (Ask peer service body ∷ events) (suc i) (suc j) le = clock_rises events i j (omega arith)
-clock_rises (Data peer bytes ∷ events) (suc i) (suc j) le = clock_rises events i j (omega arith)
-clock_rises (Tick now ∷ events) (suc i) (suc j) le =
-    let h : clock events i ≤ clock events j = clock_rises events i j (omega arith) in omega arith
+clock_rises (event ∷ events) (suc i) (suc j) le = grind (arith, clock_rises events i j (omega arith))
 
 -- The first that passes a test is no later than one that passes it.
-pub found_by : (test : ℕ → Bool) (i n m : ℕ) → i ≤ m → m < i + n → test m ≡ true → IsSomeAnd (first_within test i n) (λ j. j ≤ m)
+found_by : (test : ℕ → Bool) (i n m : ℕ) → i ≤ m → m < i + n → test m ≡ true → IsSomeAnd (first_within test i n) (λ j. j ≤ m)
 found_by test i zero m low high t = absurd (omega arith)
 found_by test i (suc n) m low high t = grind (arith, nat_tests, found_by test (suc i) n m, t)
 
 -- A tick is one of the events.
-pub tick_within : (events : List Event) (j : ℕ) → is_tick (slice_get events j) ≡ true → j < length events
-tick_within [] zero e = absurd (false≢true e)
-tick_within [] (suc j) e = absurd (false≢true e)
-tick_within (event ∷ events) zero e = omega arith
-tick_within (event ∷ events) (suc j) e = let h : j < length events = tick_within events j e in omega arith
+tick_within : (events : List Event) (j : ℕ) → is_tick (slice_get events j) ≡ true → j < length events
+tick_within events j e = grind (arith, slice_get_past events j, e)
 
 some_with : {A : Type 0} (P : A → Type 0) (o : Option A) → IsSomeAnd o P → (x : A) × (o ≡ Some x) × P x
 some_with P None h = absurd h
@@ -43,12 +37,7 @@ module _ (rules : Rules) (events : List Event) where
   waited_enough i j e = (grind (arith, nat_tests, e), grind (arith, nat_tests, e))
 
   has_waited_since : (d i j : ℕ) → d ≤ i → has_waited rules events i j ≡ true → has_waited rules events d j ≡ true
-  has_waited_since d i j le e =
-      let w = waited_enough i j e in
-      let rises : clock events (suc d) ≤ clock events (suc i) = clock_rises events (suc d) (suc i) (omega arith) in
-      let enough : rules.timeout ≤ clock events (suc j) - clock events (suc d) = omega (arith, w.1) in
-      let tick : is_tick (slice_get events j) ≡ true = w.0 in
-      grind (arith, nat_tests, tick, enough)
+  has_waited_since d i j le e = grind (arith, nat_tests, e, clock_rises events (suc d) (suc i) (omega arith))
 
   -- What is due by position i is due again by the next tick that comes a timeout later.
   due_again : (a k d i j : ℕ) → due rules events a k ≡ Some d → d ≤ i → i < j → has_waited rules events i j ≡ true →
@@ -66,9 +55,7 @@ module _ (rules : Rules) (events : List Event) where
       due_in_turn a (suc k) n next.0 j later (omega arith) next.1 next.2 pass.2
 
   ends_by : (outcome : ℕ → Option Outcome) (x y : Option ℕ) (m : ℕ) → IsSomeAnd y (λ j. j ≤ m) → IsSomeAnd (end_of outcome x y) (λ e. e.position ≤ m)
-  ends_by outcome x None m late = absurd late
-  ends_by outcome None (Some j) m late = late
-  ends_by outcome (Some k) (Some j) m late = grind (arith, nat_tests, late)
+  ends_by outcome x y m late = grind (arith, nat_tests, late)
 
   pub ends_in_turn : (a : Accepted) (m : ℕ) → IsSomeAnd (due rules events a.position (suc rules.retries)) (λ j. j ≤ m) →
       IsSomeAnd (end rules events a) (λ e. e.position ≤ m)
@@ -82,10 +69,7 @@ module _ (rules : Rules) (events : List Event) where
     | inl below ↦
         let before : clock events n ≤ clock events (suc p) + rules.timeout = quiet_until p n below (λ j low high. none j low (omega arith)) in
         let not_yet : has_waited rules events p n ≡ false = none n below (omega arith) in
-        elim (cases_Bool (is_tick (slice_get events n))) [
-          | inl tick ↦ grind (arith, nat_tests, not_yet, tick)
-          | inr quiet ↦ rw (clock_quiet events n quiet) before
-        ]
+        grind (arith, nat_tests, not_yet, clock_quiet events n)
     | inr above ↦ let same : n ≡ p = omega arith in rw same (omega arith)
   ]
 
@@ -138,9 +122,7 @@ module _ (rules : Rules) (events : List Event) where
       ]
 
   unended : (outcome : ℕ → Option Outcome) (x y : Option ℕ) → end_of outcome x y ≡ None → y ≡ None
-  unended outcome x None e = refl
-  unended outcome None (Some j) e = absurd (none-some _ (sym e))
-  unended outcome (Some k) (Some j) e = grind (arith, nat_tests, e, none-some)
+  unended outcome x y e = grind (arith, nat_tests, e, none-some)
 
   -- A request without an end is not due once more than the retries.
   pub never_due : (a : Accepted) → end rules events a ≡ None → due rules events a.position (suc rules.retries) ≡ None

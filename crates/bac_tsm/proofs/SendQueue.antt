@@ -7,15 +7,14 @@ use Rattle.std.proofs.lemmas.List.Quantifiers.{all_pairs_push, all_pairs_remove}
 use Rattle.bac_tsm.specs.Machine.{Waiting}
 use Rattle.bac_tsm.specs.Table.{held_at, times_of_place, open_places, AreBySend, IsTakenOut}
 use Rattle.bac_tsm.specs.Waiting.{nothing}
-use Rattle.bac_tsm.proofs.Times.{times-append, times_one, times-remove, times_got}
-use Rattle.bac_tsm.proofs.Held.{itself, held-push, map-remove}
+use Rattle.bac_tsm.proofs.Held.{itself, held-push, map-remove, times-append, times_one, times-remove, times_got}
 use Rattle.bac_tsm.proofs.TableReads.{found_at}
 
 abbrev IsEarlier : Waiting → Waiting → Type 0
 IsEarlier early late = early.base ≤ late.base
 
 -- What holds of the requests at places holds of those at some of them.
-pub all_among : (P : Waiting → Type 0) (places : List Waiting) (xs ys : List ℕ) → ((place : ℕ) → 0 < times_of_place place xs → 0 < times_of_place place ys) →
+all_among : (P : Waiting → Type 0) (places : List Waiting) (xs ys : List ℕ) → ((place : ℕ) → 0 < times_of_place place xs → 0 < times_of_place place ys) →
     All P (held_at places ys) → All P (held_at places xs)
 all_among P places xs ys among all = λ k d lt.
     let read = λ (place : ℕ). get_or places place nothing in

@@ -2,7 +2,7 @@
 use Rattle.std.proofs.Common.{◌≡◌, ℕ, suc, ◌+◌, ◌<◌, ◌≤◌, List, [], ◌∷◌, ◌++◌, length, map, take, drop, set, get_or, replicate, Option, Some, None, All, refl, ap, sym, subst, ◌∙◌, inl, inr, arith}
 use Rattle.std.specs.Prelude.{remove}
 use Rattle.std.proofs.lemmas.Bool.{cases_eq}
-use Rattle.std.proofs.lemmas.List.{length-append, length-replicate, get_or-replicate, length-map, length-set, length-take, map-append, take_at, take-append-drop, append_assoc, get_or-set_same, get_or-set_other, get_or_default}
+use Rattle.std.proofs.lemmas.List.{length-append, length-replicate, get_or-replicate, length-map, length-set, length-take, map-append, take_at, take-append-drop, append_assoc, get_or-set_same, get_or-set_other}
 use Rattle.std.proofs.lemmas.Simd.{map-map}
 use Rattle.std.proofs.lemmas.List.Edits.{length-remove, remove-append_left}
 use Rattle.std.proofs.lemmas.List.Quantifiers.{all_pairs_push, all_pairs_remove}
@@ -15,9 +15,8 @@ use Rattle.bac_tsm.specs.Machine.{Waiting}
 use Rattle.bac_tsm.specs.Table.{times, held_at, number_at, times_of_place, open_places, waiting_in, Names, AreNamed, IsTable, AreBySend, IsTakenOut}
 use Rattle.bac_tsm.specs.Waiting.{ticket_in, number_in, nothing, begun}
 use Rattle.bac_tsm.proofs.SendQueue.{all_sent, queue-push, queue-remove}
-use Rattle.bac_tsm.proofs.Times.{times-append, times_one, times_other, times_of_one, times-remove, times_got}
-use Rattle.bac_tsm.proofs.Held.{itself, held-set, held-push, map-remove, held_got, same_turn}
-use Rattle.bac_tsm.proofs.TableReads.{times_split, few, read_listed, read_held, count, turn_opened, here, ticket_got}
+use Rattle.bac_tsm.proofs.Held.{itself, held-set, held-push, map-remove, held_got, same_turn, times-append, times_one, times_other, times_of_one, times-remove, times_got}
+use Rattle.bac_tsm.proofs.TableReads.{times_split, few, read_listed, count, turn_within, turn_opened, here, ticket_got}
 
 -- An entry says what it said where as many requests have the number, and the place that it names still holds one.
 names_as : (places : List Waiting) (order : List ℕ) (changed : List Waiting) (after : List ℕ) (number : ℕ) (entry : Option ℕ) →
@@ -36,10 +35,7 @@ named_set : (places : List Waiting) (numbers : List (Option ℕ)) (order : List 
     AreNamed changed (set numbers index entry) after
 named_set places numbers order changed after index entry a here few same still = record {
   all_numbers = length-set numbers index entry ∙ a.all_numbers;
-  apart = λ number. elim (cases_eq number index) [
-    | inl e ↦ subst (λ (n : ℕ). times number_in n (held_at changed after) ≤ 1) (sym e) few
-    | inr e ↦ let f = same number e in let g = a.apart number in omega arith
-  ];
+  apart = λ number. grind (arith, few, same number, a.apart number);
   named = λ number below. elim (cases_eq number index) [
     | inl e ↦
         let all = a.all_numbers in
@@ -72,12 +68,10 @@ module _ {places : List Waiting} {numbers : List (Option ℕ)} {order tickets : 
   opens = open_places order tickets
 
   -- The request at this turn changes, and not what it asks.
-  pub changed_by : (i : ℕ) → i < length ws → (items : List ℕ) (place : ℕ) → items ≡ order → place ≡ get_or items i 0 → (v w : Waiting) →
-      w.request ≡ (get_or places place v).request →
-      (waiting_in (set places place w) order tickets ≡ set ws i w) × (get_or places place v ≡ get_or ws i nothing) × IsTable (set places place w) numbers order tickets
-  changed_by i lt items place are is v w same = (
+  pub changed_by : (i : ℕ) → i < length ws → (place : ℕ) → get_or order i 0 ≡ place → (w : Waiting) → w.request ≡ (get_or places place nothing).request →
+      (waiting_in (set places place w) order tickets ≡ set ws i w) × IsTable (set places place w) numbers order tickets
+  changed_by i lt place is w same = (
     changed_view ∙ ap (λ (vs : List Waiting). set vs i w) view,
-    read,
     record {
       all_places = length-set places place w ∙ t.all_places;
       all_turns = t.all_turns;
@@ -95,28 +89,14 @@ module _ {places : List Waiting} {numbers : List (Option ℕ)} {order tickets : 
     },
   )
     where
-      at_turn : get_or opens i 0 ≡ place
-      at_turn = here t ws view i place lt (ap (λ (xs : List ℕ). get_or xs i 0) (sym are) ∙ sym is)
-
-      turn : i < length opens
-      turn = turn_opened t ws view i lt
-
-      read : get_or places place v ≡ get_or ws i nothing
-      read = read_held t ws view items are i place lt is v
-
       listed : place < length places
-      listed = read_listed t items are i place (let e = ap length are in let f = count t ws view in let g = few t in omega arith) is
+      listed = read_listed t i place (turn_within t ws view i lt) is
 
       changed_view : held_at (set places place w) opens ≡ set (held_at places opens) i w
-      changed_view = held-set places place w opens i listed turn at_turn (let e = t.once place in let f = times_split t place (length tickets) in omega arith)
+      changed_view = held-set places place w opens i listed (turn_opened t ws view i lt) (here t ws view i place lt is) (let e = t.once place in let f = times_split t place (length tickets) in omega arith)
 
       same_request : (other : ℕ) → (get_or (set places place w) other nothing).request ≡ (get_or places other nothing).request
-      same_request other = elim (cases_eq other place) [
-        | inl e ↦
-            subst (λ (k : ℕ). (get_or (set places place w) k nothing).request ≡ (get_or places k nothing).request) (sym e)
-            (ap (λ (u : Waiting). u.request) (get_or-set_same places place w nothing listed) ∙ same ∙ ap (λ (u : Waiting). u.request) (get_or_default places place v nothing listed))
-        | inr e ↦ ap (λ (u : Waiting). u.request) (get_or-set_other places place other w nothing e)
-      ]
+      same_request other = grind (arith, get_or-set_same places place w nothing listed, get_or-set_other places place other w nothing, same)
 
       same_number : (other : ℕ) → number_at (set places place w) other ≡ number_at places other
       same_number other = ap (λ (r : Request). r.number) (same_request other)
@@ -142,7 +122,7 @@ module _ {places : List Waiting} {numbers : List (Option ℕ)} {order tickets : 
         omega arith
 
     there : place < length places
-    there = read_listed t order refl (length tickets) place room is
+    there = read_listed t (length tickets) place room (sym is)
 
     opened_view : held_at (set places place w) (opens ++ place ∷ []) ≡ held_at places opens ++ w ∷ []
     opened_view = held-push places place w opens there closed
@@ -191,16 +171,17 @@ module _ {places : List Waiting} {numbers : List (Option ℕ)} {order tickets : 
 
   -- As the code makes it.
   pub opened_by : (sends : List ℕ) → AreBySend places opens sends → length ws < table_size → (items : List ℕ) → items ≡ order → (n : ℕ) → n ≡ length tickets →
-      (asked : Asked) (body : List ℕ) (w : Waiting) → w ≡ begun asked body → times number_in asked.number ws ≡ 0 → All (λ v. v.request.ticket < asked.ticket) ws → All (λ v. v.base ≤ asked.clock) ws →
-      (at index : ℕ) (after sent : List ℕ) → at ≡ get_or items n 0 → index ≡ asked.number → after ≡ tickets ++ asked.ticket ∷ [] → sent ≡ sends ++ get_or items n 0 ∷ [] →
-      (waiting_in (set places at w) order after ≡ ws ++ begun asked body ∷ []) × IsTable (set places at w) (set numbers index (Some (get_or items n 0))) order after
-      × AreBySend (set places at w) (open_places order after) sent
-  opened_by sends q room items are n is asked body w made unused latest past at index after sent from has to too =
+      (asked : Asked) (body : List ℕ) → times number_in asked.number ws ≡ 0 → All (λ v. v.request.ticket < asked.ticket) ws → All (λ v. v.base ≤ asked.clock) ws →
+      (index : ℕ) (changed : List Waiting) (after sent : List ℕ) → index ≡ asked.number → changed ≡ set places (get_or items n 0) (begun asked body) →
+      after ≡ tickets ++ asked.ticket ∷ [] → sent ≡ sends ++ get_or items n 0 ∷ [] →
+      (waiting_in changed order after ≡ ws ++ begun asked body ∷ []) × IsTable changed (set numbers index (Some (get_or items n 0))) order after
+      × AreBySend changed (open_places order after) sent
+  opened_by sends q room items are n is asked body unused latest past index changed after sent has made to too =
       let new = begun asked body in
       let place = get_or items n 0 in
       let here : place ≡ get_or order (length tickets) 0 = rw (are, is) refl in
       let fits : length tickets < length order = let e = count t ws view in let g = t.all_turns in omega arith in
-      rw (from, has, to, too, made) (
+      rw (has, made, to, too) (
         ap (held_at (set places place new)) (grown place new here fits unused latest) ∙ opened_view place new here fits unused latest
             ∙ ap (λ (vs : List Waiting). vs ++ new ∷ []) view,
         opened place new here fits unused latest,
@@ -279,21 +260,16 @@ module _ {places : List Waiting} {numbers : List (Option ℕ)} {order tickets : 
 
   -- As the code makes it.
   pub sent_place : (i : ℕ) → i < length ws → (place : ℕ) → place ≡ get_or order i place → (sends : List ℕ) → AreBySend places opens sends → 0 < times_of_place place sends
-  sent_place i lt place got sends q =
-      let within : i < length order = let e = count t ws view in let f = few t in omega arith in
-      sent i place (number_at places place) lt (same_turn order i place within got) refl sends q
+  sent_place i lt place got sends q = sent i place (number_at places place) lt (same_turn order i place (turn_within t ws view i lt) got) refl sends q
 
-  pub ended_by : (i : ℕ) → i < length ws → (place at index number : ℕ) (removed after rest : List ℕ) (w : Waiting) →
-      place ≡ get_or order i place → at ≡ place → number ≡ (get_or places at w).request.number → index ≡ number →
+  pub ended_by : (i : ℕ) → i < length ws → (place index number : ℕ) (removed after rest : List ℕ) (w : Waiting) →
+      place ≡ get_or order i place → w ≡ get_or places place nothing → number ≡ w.request.number → index ≡ number →
       removed ≡ remove order i → after ≡ removed ++ place ∷ [] → rest ≡ remove tickets i →
       (sends left : List ℕ) → AreBySend places opens sends → IsTakenOut place sends left →
       (waiting_in places after rest ≡ remove ws i) × IsTable places (set numbers index None) after rest × AreBySend places (open_places after rest) left
-  ended_by i lt place at index number removed after rest w got is has same gone to from sends left q out =
-      let within : i < length order = let e = count t ws view in let f = few t in omega arith in
-      let first = same_turn order i place within got in
-      let its : index ≡ number_at places place =
-      same ∙ has ∙ ap (λ (k : ℕ). (get_or places k w).request.number) is
-      ∙ ap number_in (get_or_default places place w nothing (read_listed t order refl i place within first)) in
+  ended_by i lt place index number removed after rest w got is has same gone to from sends left q out =
+      let first = same_turn order i place (turn_within t ws view i lt) got in
+      let its : index ≡ number_at places place = same ∙ has ∙ ap number_in is in
       rw (from, to, gone) (ended_view i place index lt first its, ended i place index lt first its, unqueued i place index lt first its sends left q out)
 
 -- The places below one, each once.

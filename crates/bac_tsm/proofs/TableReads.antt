@@ -1,5 +1,5 @@
 -- What is read of the table of open requests.
-use Rattle.std.proofs.Common.{◌≡◌, ℕ, zero, suc, nat_lt, ◌+◌, ◌<◌, ◌≤◌, List, [], ◌∷◌, length, map, take, drop, get_or, Option, Some, None, Result, Ok, Err, Bool, true, false, not, nat_eq, if◌then◌else◌, refl, ap, sym, subst, ◌∙◌, inl, inr, arith}
+use Rattle.std.proofs.Common.{◌≡◌, ℕ, zero, suc, nat_lt, ◌+◌, ◌<◌, ◌≤◌, List, [], ◌∷◌, length, map, take, drop, get_or, Option, Some, None, Result, Ok, Err, Bool, true, false, not, nat_eq, if◌then◌else◌, refl, ap, sym, subst, ◌∙◌, arith}
 use Rattle.std.specs.Prelude.{remove, position, MatchResult}
 use Rattle.std.specs.List.{filter, find, list_any, slice_get, position_or_len}
 use Rattle.std.proofs.lemmas.Option.{slice_get_within, get_or_from_slice_get}
@@ -7,8 +7,8 @@ use Rattle.std.specs.Option.{is_some}
 use Rattle.std.specs.Result.{result_ok}
 use Rattle.std.specs.Ordering.{nat_cmp}
 use Rattle.std.specs.List.Sorted.{IsBinarySearchResult}
-use Rattle.std.proofs.lemmas.Bool.{and_parts, cases_eq, cases_lt, eqb-true, eq-eqb, ne_eqb, lt-ltb}
-use Rattle.std.proofs.lemmas.List.{length-map, length-take, take-append-drop, get_or-take, get_or-map, get_or_default}
+use Rattle.std.proofs.lemmas.Bool.{and_parts, eqb-true, eq-eqb, ne_eqb, lt-ltb}
+use Rattle.std.proofs.lemmas.List.{length-map, length-take, take-append-drop, get_or-take, get_or-map}
 use Rattle.std.proofs.lemmas.List.Sums.{passes_at_first}
 use Rattle.std.proofs.lemmas.List.Sorted.{searched}
 use Rattle.std.proofs.lemmas.Bool.Decides.{nat_tests}
@@ -17,9 +17,8 @@ use Rattle.bac_tsm.specs.Machine.{Waiting}
 use Rattle.bac_tsm.specs.Answers.{Answer, is_answer_to}
 use Rattle.bac_tsm.specs.Table.{times, held_at, times_of_place, open_places, waiting_in, Names, IsTable, IsTurnOf}
 use Rattle.bac_tsm.specs.Waiting.{ticket_in, number_in, nothing}
-use Rattle.bac_tsm.proofs.Times.{times-append, times_got, none_passes, one_passes}
 use Rattle.bac_tsm.proofs.CallNotes.{TicketsRise, by_ticket, pairs_tail}
-use Rattle.bac_tsm.proofs.Held.{itself, held_got}
+use Rattle.bac_tsm.proofs.Held.{itself, held_got, times-append, times_got, none_passes, one_passes}
 
 -- A number is found among these where one of them has it.
 pub any_number : (number : ℕ) (ws : List Waiting) → list_any (λ w. nat_eq number w.request.number) ws ≡ nat_lt 0 (times number_in number ws)
@@ -57,7 +56,7 @@ find_turn t (w ∷ ws) (suc i) rise lt is =
     rw (ne_eqb w.request.ticket t (λ q. omega arith)) (find_turn t ws i (pairs_tail (λ v w. v.request.ticket < w.request.ticket) w ws rise) (omega arith) is)
 
 module _ {places : List Waiting} {numbers : List (Option ℕ)} {order tickets : List ℕ} (t : IsTable places numbers order tickets) where
-  abbrev pub opened : List ℕ
+  abbrev opened : List ℕ
   opened = open_places order tickets
 
   pub as_many : length opened ≡ length tickets
@@ -71,20 +70,12 @@ module _ {places : List Waiting} {numbers : List (Option ℕ)} {order tickets : 
   pub few : length tickets ≤ length order
   few = let e = length-take (length tickets) order in let f = as_many in omega arith
 
-  -- What is read at a turn of the order.
-  module _ (items : List ℕ) (are : items ≡ order) (i place : ℕ) (lt : i < length items) (is : place ≡ get_or items i 0) where
-    there : get_or order i 0 ≡ place
-    there = ap (λ (xs : List ℕ). get_or xs i 0) (sym are) ∙ sym is
-
+  -- A place that stands at a turn of the order.
+  module _ (i place : ℕ) (lt : i < length order) (is : get_or order i 0 ≡ place) where
     pub read_within : place < table_size
-    read_within = elim (cases_lt place table_size) [
-      | inl below ↦ below
-      | inr above ↦
-          let turn : i < length order = let e = ap length are in omega arith in
-          let some = subst (λ (k : ℕ). 0 < times_of_place k order) there (times_got itself order i 0 turn) in
-          let none = t.within place above in
-          absurd (omega arith)
-    ]
+    read_within =
+        let some = subst (λ (k : ℕ). 0 < times_of_place k order) is (times_got itself order i 0 lt) in
+        grind (arith, t.within place, some)
 
     pub read_listed : place < length places
     read_listed = let all = t.all_places in let below = read_within in omega arith
@@ -94,8 +85,8 @@ module _ {places : List Waiting} {numbers : List (Option ℕ)} {order tickets : 
     pub count : length tickets ≡ length ws
     count = sym as_many ∙ sym (length-map opened (λ place. get_or places place nothing)) ∙ ap length view
 
-    pub turn_within : (items : List ℕ) → items ≡ order → (i : ℕ) → i < length ws → i < length items
-    turn_within items are i lt = let e = count in let f = ap length are in let g = few in omega arith
+    pub turn_within : (i : ℕ) → i < length ws → i < length order
+    turn_within i lt = let e = count in let g = few in omega arith
 
     pub turn_opened : (i : ℕ) → i < length ws → i < length opened
     turn_opened i lt = let e = count in let f = as_many in omega arith
@@ -103,19 +94,13 @@ module _ {places : List Waiting} {numbers : List (Option ℕ)} {order tickets : 
     pub here : (i place : ℕ) → i < length ws → get_or order i 0 ≡ place → get_or opened i 0 ≡ place
     here i place lt is = get_or-take (length tickets) order i 0 (let e = count in omega arith) ∙ is
 
-    pub read_held : (items : List ℕ) → items ≡ order → (i place : ℕ) → i < length ws → place ≡ get_or items i 0 → (d : Waiting) →
-        get_or places place d ≡ get_or ws i nothing
-    read_held items are i place lt is d =
-        get_or_default places place d nothing (read_listed items are i place (turn_within items are i lt) is)
-        ∙ sym (held_got places opened i place (turn_opened i lt) (here i place lt (ap (λ (xs : List ℕ). get_or xs i 0) (sym are) ∙ sym is)))
-        ∙ ap (λ (vs : List Waiting). get_or vs i nothing) view
+    pub read_held : (i place : ℕ) → i < length ws → get_or order i 0 ≡ place → get_or places place nothing ≡ get_or ws i nothing
+    read_held i place lt is =
+        sym (held_got places opened i place (turn_opened i lt) (here i place lt is)) ∙ ap (λ (vs : List Waiting). get_or vs i nothing) view
 
     -- The first free place, where there is one.
-    pub next_free : length ws < table_size → (items : List ℕ) → items ≡ order → (n : ℕ) → n ≡ length tickets → (at : ℕ) → at ≡ get_or items n 0 →
-        (at < table_size) × (at < length places)
-    next_free room items are n is at has =
-        let lt : n < length items = let e = count in let f = ap length are in let g = t.all_turns in omega arith in
-        (read_within items are n at lt has, read_listed items are n at lt has)
+    pub next_free : length ws < table_size → get_or order (length tickets) 0 < table_size
+    next_free room = read_within (length tickets) _ (let e = count in let g = t.all_turns in omega arith) refl
 
     -- The tickets are those of the requests.
     pub ticket_got : (i : ℕ) → i < length ws → (d : Waiting) (e : ℕ) → get_or tickets i e ≡ (get_or ws i d).request.ticket
@@ -131,13 +116,7 @@ module _ {places : List Waiting} {numbers : List (Option ℕ)} {order tickets : 
 
     -- A ticket stands at one turn.
     pub one_turn : (i j : ℕ) → i < length ws → j < length ws → (get_or ws i nothing).request.ticket ≡ (get_or ws j nothing).request.ticket → i ≡ j
-    one_turn i j lt most same = elim (cases_eq i j) [
-      | inl q ↦ q
-      | inr q ↦ elim (cases_lt i j) [
-        | inl below ↦ let less : (get_or ws i nothing).request.ticket < (get_or ws j nothing).request.ticket = rising i j nothing below most in absurd (omega arith)
-        | inr above ↦ let more : (get_or ws j nothing).request.ticket < (get_or ws i nothing).request.ticket = rising j i nothing (omega arith) lt in absurd (omega arith)
-      ]
-    ]
+    one_turn i j lt most same = grind (arith, rising i j nothing, rising j i nothing)
 
     -- A turn at which the ticket stands.
     pub likely_turn : (ticket : ℕ) (items : List ℕ) → items ≡ tickets → (i : ℕ) → slice_get items i ≡ Some ticket → IsTurnOf ticket ws (Some i)
@@ -156,10 +135,7 @@ module _ {places : List Waiting} {numbers : List (Option ℕ)} {order tickets : 
         by r (searched tickets ticket r (subst (λ (xs : List ℕ). IsBinarySearchResult (λ y. nat_cmp y ticket) xs r) are found) up)
       where
         up : (i j : ℕ) → i ≤ j → j < length tickets → get_or tickets i 0 ≤ get_or tickets j 0
-        up i j le lt = elim (cases_eq i j) [
-          | inl same ↦ let e = ap (λ (k : ℕ). get_or tickets k 0) same in omega arith
-          | inr other ↦ let less : get_or tickets i 0 < get_or tickets j 0 = t.rise i j 0 (omega arith) lt in omega arith
-        ]
+        up i j le lt = grind (arith, t.rise i j 0)
 
         by : (r : Result ℕ ℕ) → MatchResult r (λ i. (i < length tickets) × (get_or tickets i 0 ≡ ticket))
             (λ i. (i ≤ length tickets) × ((k : ℕ) → k < i → get_or tickets k 0 < ticket) × ((k : ℕ) → i ≤ k → k < length tickets → ticket < get_or tickets k 0)) →
@@ -172,10 +148,7 @@ module _ {places : List Waiting} {numbers : List (Option ℕ)} {order tickets : 
         by (Err i) h = λ k d lt same.
             let e = count in
             let f = ticket_got k lt d 0 in
-            elim (cases_lt k i) [
-              | inl below ↦ let less = h.1 k below in absurd (omega arith)
-              | inr above ↦ let more = h.2 k above (omega arith) in absurd (omega arith)
-            ]
+            grind (arith, h.1 k, h.2 k)
 
   -- An open place, and the turn of the request there.
   module _ (ws : List Waiting) (view : waiting_in places order tickets ≡ ws) (place : ℕ) (some : 0 < times_of_place place opened) where
@@ -185,26 +158,24 @@ module _ {places : List Waiting} {numbers : List (Option ℕ)} {order tickets : 
     pub turn_lt : turn.0 < length ws
     turn_lt = let e = count ws view in let f = as_many in let lt = turn.1.within in omega arith
 
-    pub stands : place ≡ get_or order turn.0 0
-    stands = sym turn.1.there ∙ get_or-take (length tickets) order turn.0 0 (let lt = turn_lt in let e = count ws view in omega arith)
+    pub stands : get_or order turn.0 0 ≡ place
+    stands = sym (get_or-take (length tickets) order turn.0 0 (let lt = turn_lt in let e = count ws view in omega arith)) ∙ turn.1.there
 
-    pub open_below : (at : ℕ) → at ≡ place → at < table_size
-    open_below at same = rw same (read_within order refl turn.0 place (turn_within ws view order refl turn.0 turn_lt) stands)
+    pub open_below : place < table_size
+    open_below = read_within turn.0 place (turn_within ws view turn.0 turn_lt) stands
 
-    pub open_listed : (at : ℕ) → at ≡ place → at < length places
-    open_listed at same = let lt = open_below at same in let all = t.all_places in omega arith
-
-    pub open_read : (at : ℕ) → at ≡ place → (d : Waiting) → get_or places at d ≡ get_or ws turn.0 nothing
-    open_read at same d = ap (λ (k : ℕ). get_or places k d) same ∙ read_held ws view order refl turn.0 place turn_lt stands d
+    pub open_read : get_or places place nothing ≡ get_or ws turn.0 nothing
+    open_read = read_held ws view turn.0 place turn_lt stands
 
   -- The entry of a number.
   module _ (number : ℕ) (fits : number < 256) where
     -- The place that the entry names is open, and the request there has the number.
-    pub named : (place : ℕ) → get_or numbers number None ≡ Some place → Names places opened number (Some place)
+    named : (place : ℕ) → get_or numbers number None ≡ Some place → Names places opened number (Some place)
     named place is = subst (Names places opened number) is (t.numbered.named number fits)
 
-    pub taken : is_some (get_or numbers number None) ≡ list_any (λ w. nat_eq number w.request.number) (waiting_in places order tickets)
-    taken = by (get_or numbers number None) refl
+    pub taken : (index : ℕ) → index ≡ number → (ws : List Waiting) → waiting_in places order tickets ≡ ws →
+        is_some (get_or numbers index None) ≡ list_any (λ w. nat_eq number w.request.number) ws
+    taken index is ws view = rw (is, ← view) (by (get_or numbers number None) refl)
       where
         by : (entry : Option ℕ) → get_or numbers number None ≡ entry → is_some entry ≡ list_any (λ w. nat_eq number w.request.number) (waiting_in places order tickets)
         by None is = sym (any_number number (held_at places opened) ∙ ap (nat_lt 0) (subst (Names places opened number) is (t.numbered.named number fits)))
@@ -240,32 +211,28 @@ module _ {places : List Waiting} {numbers : List (Option ℕ)} {order tickets : 
       abbrev i : ℕ
       i = (turn ws view place some).0
 
-      pub named_below : (at : ℕ) → at ≡ place → at < table_size
+      pub named_below : place < table_size
       named_below = open_below ws view place some
 
-      pub named_listed : (at : ℕ) → at ≡ place → at < length places
-      named_listed = open_listed ws view place some
+      module _ (w : Waiting) (reads : w ≡ get_or places place nothing) where
+        read : w ≡ get_or ws i nothing
+        read = reads ∙ open_read ws view place some
 
-      module _ (at : ℕ) (same : at ≡ place) (d : Waiting) where
-        read : get_or places at d ≡ get_or ws i nothing
-        read = open_read ws view place some at same d
-
-        found : (filter ends ws ≡ (if ends (get_or places at d) then get_or places at d ∷ [] else []))
-            × (filter (λ w. not (ends w)) ws ≡ (if ends (get_or places at d) then remove ws i else ws))
+        found : (filter ends ws ≡ (if ends w then w ∷ [] else [])) × (filter (λ v. not (ends v)) ws ≡ (if ends w then remove ws i else ws))
         found =
             rw read
             (one_passes number_in ends number says ws i nothing (turn_lt ws view place some)
-            (ap number_in (sym (open_read ws view place some place refl nothing)) ∙ (named number fits place is).1)
+            (ap number_in (sym (open_read ws view place some)) ∙ (named number fits place is).1)
             (subst (λ (vs : List Waiting). times number_in number vs ≤ 1) view (t.numbered.apart number)))
 
-        pub closed_not : ends (get_or places at d) ≡ false → Ends [] ws
+        pub closed_not : ends w ≡ false → Ends [] ws
         closed_not fails = let both = rw fails at found in (sym (ap (map ticket_in) both.0), sym both.1)
 
-        module _ (ticket : ℕ) (named : ticket ≡ (get_or places at d).request.ticket) where
+        module _ (ticket : ℕ) (named : ticket ≡ w.request.ticket) where
           pub closed_some_turn : IsTurnOf ticket ws None → ⊥
           closed_some_turn none = none i nothing (turn_lt ws view place some) (sym (named ∙ ap ticket_in read))
 
-          pub closed_that : ends (get_or places at d) ≡ true → (j : ℕ) → IsTurnOf ticket ws (Some j) → (after : List Waiting) → after ≡ remove ws j → Ends (ticket ∷ []) after
+          pub closed_that : ends w ≡ true → (j : ℕ) → IsTurnOf ticket ws (Some j) → (after : List Waiting) → after ≡ remove ws j → Ends (ticket ∷ []) after
           closed_that passes j its after to =
               let both = rw passes at found in
               rw (named, to, one_turn ws view j i its.0 (turn_lt ws view place some) (its.1 ∙ named ∙ ap ticket_in read)) (sym (ap (map ticket_in) both.0), sym both.1)

@@ -1,15 +1,15 @@
 -- The loop over the open requests that are due at a tick.
-use Rattle.std.proofs.Common.{◌≡◌, ℕ, suc, ◌<◌, ◌≤◌, List, [], ◌∷◌, ◌++◌, length, map, take, drop, get_or, true, false, All, refl, ap, sym, ◌∙◌, add-one, arith}
-use Rattle.std.specs.List.{filter, flat_map, list_any, refill}
-use Rattle.std.specs.List.Sorted.{IsPermutation}
-use Rattle.std.proofs.lemmas.Bool.{or_parts, false≢true}
-use Rattle.std.proofs.lemmas.List.{length-append, length-map, append-nil, append_assoc, take_all, drop_all, take-append-drop, drop_more}
-use Rattle.std.proofs.lemmas.List.Elements.{All-append, All-take, All-drop}
-use Rattle.std.proofs.lemmas.List.Sorted.{length_permutation, IsPermutation-refl, IsPermutation-trans, IsPermutation-append_right, IsPermutation-middle}
+use Rattle.std.proofs.Common.{◌≡◌, ℕ, suc, ◌<◌, ◌≤◌, List, [], ◌∷◌, ◌++◌, length, map, take, drop, get_or, true, false, All, refl, ap, sym, ◌∙◌, add-one, arith, zero, ◌+◌, Bool, nat_lt, nat_le, if◌then◌else◌}
+use Rattle.std.specs.List.{filter, flat_map, list_any, refill, AllPairs, count_by}
+use Rattle.std.specs.List.Sorted.{IsPermutation, IsNonDecreasingBy}
+use Rattle.std.proofs.lemmas.Bool.{false≢true}
+use Rattle.std.proofs.lemmas.List.{length-append, length-map, append-nil, append_assoc, take_all, drop_all, take-append-drop, drop_more, get_or_default, same_lists}
+use Rattle.std.proofs.lemmas.List.Elements.{All-append, All-take, All-drop, Contains-get_or}
+use Rattle.std.proofs.lemmas.List.Sorted.{length_permutation, IsPermutation-refl, IsPermutation-trans, IsPermutation-append_right, IsPermutation-middle, Contains-permutation, sum_by-IsPermutation}
 use Rattle.std.proofs.lemmas.List.Folds.{list_any_none}
 use Rattle.std.proofs.lemmas.Grind.{flat_map-append}
 use Rattle.std.proofs.lemmas.List.Kept.{AllPairs-filter}
-use Rattle.std.proofs.lemmas.List.Sums.{length-filter, count_by-le-length}
+use Rattle.std.proofs.lemmas.List.Sums.{length-filter, count_by-le-length, sum_by-cons}
 use Rattle.std.proofs.lemmas.Bool.Decides.{nat_tests}
 use Rattle.bac_tsm.specs.declared.due.Entry.{Entry}
 use Rattle.bac_tsm.specs.Events.{Rules}
@@ -17,7 +17,46 @@ use Rattle.bac_tsm.specs.Machine.{Waiting, is_due, due_entry, due_answer, kept, 
 use Rattle.bac_tsm.specs.Table.{IsPassed}
 use Rattle.bac_tsm.specs.Waiting.{nothing}
 use Rattle.bac_tsm.proofs.CallNotes.{TicketsRise, kept_of_one, pairs_map}
-use Rattle.bac_tsm.proofs.SortedEntries.{Rise}
+
+-- ---- a list whose keys rise is what any sort by the key makes of its elements
+
+-- How many pass a test, where the first n do, and where only they may.
+module _ {A : Type 0} (p : A → Bool) (d : A) where
+  at_least : (xs : List A) (n : ℕ) → n ≤ length xs → ((i : ℕ) → i < n → p (get_or xs i d) ≡ true) → n ≤ count_by p xs
+  at_least xs zero le all = omega arith
+  at_least [] (suc n) le all = absurd (omega arith)
+  at_least (x ∷ xs) (suc n) le all = grind (arith, sum_by-cons (λ y. if p y then 1 else 0) x xs, all 0 (omega arith), at_least xs n (omega arith) (λ i lt. all (suc i) (omega arith)))
+
+  at_most : (xs : List A) (n : ℕ) → ((i : ℕ) → n ≤ i → i < length xs → p (get_or xs i d) ≡ false) → count_by p xs ≤ n
+  at_most [] n none = omega arith
+  at_most (x ∷ xs) zero none =
+      grind (arith, sum_by-cons (λ y. if p y then 1 else 0) x xs, none 0 (omega arith) (omega arith), at_most xs zero (λ i le lt. none (suc i) (omega arith) (omega arith)))
+  at_most (x ∷ xs) (suc n) none = grind (arith, sum_by-cons (λ y. if p y then 1 else 0) x xs, at_most xs n (λ i le lt. none (suc i) (omega arith) (omega arith)))
+
+module _ {A : Type 0} (key : A → ℕ) where
+  abbrev Rise : List A → Type 0
+  Rise = AllPairs (λ a b. key a < key b)
+
+  -- As many keys are lower than one in either list, and as many no higher, so it stands at one place in both.
+  pub sorted_rising : (xs ys : List A) → IsPermutation xs ys → Rise xs → IsNonDecreasingBy key ys → ys ≡ xs
+  sorted_rising xs ys moved rise up = sym (same_lists xs ys (sym (length_permutation xs ys moved)) here)
+    where
+      here : (k : ℕ) (d : A) → k < length xs → get_or xs k d ≡ get_or ys k d
+      here k d lt =
+          let x : A = get_or xs k d in
+          let (j, within, there) = Contains-permutation xs ys x moved (Contains-get_or xs k d lt) in
+          let is : get_or ys j d ≡ x = get_or_default ys j d x within ∙ there in
+          let its = ap key is in
+          let lower = λ (y : A). nat_lt (key y) (key x) in
+          let up_to = λ (y : A). nat_le (key y) (key x) in
+          let e = at_least lower d xs k (omega arith) (λ i less. let f = rise i k d less lt in grind (arith, nat_tests)) in
+          let f = at_most lower d ys j (λ i le most. let g = up j i d le most in grind (arith, nat_tests)) in
+          let g = at_least up_to d ys (j + 1) (omega arith) (λ i less. let h = up i j d (omega arith) within in grind (arith, nat_tests)) in
+          let h = at_most up_to d xs (k + 1) (λ i le most. let e = rise k i d (omega arith) most in grind (arith, nat_tests)) in
+          let counts = sum_by-IsPermutation (λ y. if lower y then 1 else 0) xs ys moved in
+          let more = sum_by-IsPermutation (λ y. if up_to y then 1 else 0) xs ys moved in
+          let same : j ≡ k = omega arith in
+          sym (rw same at is)
 
 -- A sort in place leaves what it sorts to.
 pub refilled : (xs ys : List Entry) → length ys ≡ length xs → refill (length xs) xs ys ≡ ys
@@ -43,10 +82,7 @@ module _ (rules : Rules) (clock : ℕ) where
 
   pub nothing_due : (ws : List Waiting) → list_any (is_due rules clock) ws ≡ false → (due_of ws ≡ []) × (kept_of ws ≡ ws)
   nothing_due [] young = (refl, refl)
-  nothing_due (w ∷ ws) young =
-      let both = or_parts (is_due rules clock w) (list_any (is_due rules clock) ws) young in
-      let rest = nothing_due ws both.1 in
-      rw both.0 (rest.0, ap (◌∷◌ w) rest.1)
+  nothing_due (w ∷ ws) young = grind (arith, nothing_due ws, young)
 
   -- What was sent now is not due.
   again : 0 < rules.timeout → (w : Waiting) → is_due rules clock w ≡ true →
@@ -81,11 +117,7 @@ module _ (rules : Rules) (clock : ℕ) where
       told =
           IsPermutation-trans _ _ _ (rw told_before at h.told)
           (rw (told_after, append_assoc) (IsPermutation-append_right entries _ _ (rw is (IsPermutation-middle (due_of (take turn ws)) (due_entry rules w) (due_of (drop (suc turn) ws))))));
-      stay =
-          ap kept_of to ∙ flat_map-append (kept rules clock) (take turn ws) (kept rules clock w ++ drop (suc turn) ws)
-          ∙ ap (λ (xs : List Waiting). kept_of (take turn ws) ++ xs)
-          (flat_map-append (kept rules clock) (kept rules clock w) (drop (suc turn) ws) ∙ ap (λ (xs : List Waiting). xs ++ kept_of (drop (suc turn) ws)) (again some w due).1)
-          ∙ sym (flat_map-append (kept rules clock) (take turn ws) (w ∷ drop (suc turn) ws)) ∙ ap kept_of (sym split) ∙ h.stay;
+      stay = simp (to, flat_map-append, (again some w due).1) (simp flat_map-append at (ap kept_of (sym split) ∙ h.stay));
       past =
           rw to
           (All-append (λ v. v.base ≤ clock) (take turn ws) (kept rules clock w ++ drop (suc turn) ws) (All-take (λ v. v.base ≤ clock) turn ws h.past)
@@ -98,15 +130,10 @@ module _ (rules : Rules) (clock : ℕ) where
         split = sym (take-append-drop turn ws) ∙ ap (λ (xs : List Waiting). take turn ws ++ xs) (rw (add-one, here) at (drop_more ws turn nothing lt))
 
         told_before : due_of ws ≡ due_of (take turn ws) ++ (due_entry rules w ∷ due_of (drop (suc turn) ws))
-        told_before =
-            ap due_of split ∙ flat_map-append (due_answer rules clock) (take turn ws) (w ∷ drop (suc turn) ws)
-            ∙ ap (λ (xs : List Entry). due_of (take turn ws) ++ xs) (rw due refl)
+        told_before = ap due_of split ∙ flat_map-append (due_answer rules clock) (take turn ws) (w ∷ drop (suc turn) ws) ∙ rw due refl
 
         told_after : due_of after ≡ due_of (take turn ws) ++ due_of (drop (suc turn) ws)
-        told_after =
-            ap due_of to ∙ flat_map-append (due_answer rules clock) (take turn ws) (kept rules clock w ++ drop (suc turn) ws)
-            ∙ ap (λ (xs : List Entry). due_of (take turn ws) ++ xs)
-            (flat_map-append (due_answer rules clock) (kept rules clock w) (drop (suc turn) ws) ∙ ap (λ (xs : List Entry). xs ++ due_of (drop (suc turn) ws)) (again some w due).0)
+        told_after = simp (to, flat_map-append, (again some w due).0)
 
     pub passed : (entry : Entry) (after : List Waiting) → IsPassed rules clock ws entry after → HasTicked all kept_in_all (entries ++ entry ∷ []) after
     passed entry after (turn, lt, due, is, to) = one_more entry after turn (get_or ws turn nothing) lt refl due is to

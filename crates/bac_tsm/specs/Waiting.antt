@@ -1,5 +1,5 @@
 -- A request that waits for an answer, as the table holds it.
-use Rattle.std.specs.Prelude.{ℕ, List, [], None}
+use Rattle.std.specs.Prelude.{ℕ, suc, List, [], None}
 use Rattle.bac_pdu.specs.Peer.{station}
 use Rattle.bac_tsm.specs.declared.request.Asked.{Asked}
 use Rattle.bac_tsm.specs.Machine.{Waiting}
@@ -24,6 +24,10 @@ begun asked body = record {
   base = asked.clock;
   count = 0;
 }
+
+-- The request, sent again at this clock.
+abbrev pub sent_at : ℕ → Waiting → Waiting
+sent_at clock w = record { request = w.request; base = clock; count = suc w.count }
 
 -- What is read at a place that is not there.
 abbrev pub nothing : Waiting

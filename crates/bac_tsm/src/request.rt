@@ -142,6 +142,7 @@ impl OpenRequest {
         self.is_to(&answer.peer) && self.number == answer.number && self.is_for(answer.service)
     }
 
+    #[tactic(auto, using(crate::proofs::AnswersInWords::same_station_is, crate::proofs::AnswersInWords::same_station_refl))]
     fn is_to(&self, peer: &Peer) -> bool
         ensures { result ≡ same_station self.now.request.peer (station peer.now) }
     {

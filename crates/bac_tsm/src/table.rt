@@ -1,6 +1,6 @@
 //! The open requests.
 
-ghost use Rattle.std.specs.Prelude.{◌≡◌, None, replicate, ◌<◌, ◌≤◌, ◌++◌, [], ◌∷◌, ℕ, true, not, length, map, nat_eq, position, get_or, remove};
+ghost use Rattle.std.specs.Prelude.{◌≡◌, None, replicate, ◌<◌, ◌≤◌, ◌++◌, [], ◌∷◌, ℕ, true, not, length, map, nat_eq, position, get_or, remove, set};
 ghost use Rattle.std.specs.List.{All, AllPairs, filter, find, flat_map, list_any};
 ghost use Rattle.std.specs.Option.{option_copied, option_to_list};
 ghost use Rattle.bac_tsm.specs.Limits.{longest_body, table_size};
@@ -11,7 +11,7 @@ ghost use Rattle.bac_tsm.specs.Answers.{is_answer_to};
 ghost use Rattle.bac_tsm.specs.Seen.{answer_seen};
 ghost use Rattle.bac_tsm.specs.Client.{client_rules};
 ghost use Rattle.bac_tsm.specs.Table.{times, times_of_place, IsTurnOf, IsPassed, IsTakenOut};
-ghost use Rattle.bac_tsm.specs.Waiting.{begun, nothing, ticket_in, number_in};
+ghost use Rattle.bac_tsm.specs.Waiting.{begun, sent_at, nothing, ticket_in, number_in};
 
 use crate::answer::Answer;
 use crate::config::Config;
@@ -56,7 +56,7 @@ impl Table {
         ensures { result ≡ [] }
     {
         Table {
-            places: Default::default(),
+            places: no_requests(),
             numbers: no_numbers(),
             order: every_place(),
             tickets: ArrayVec::new(),
@@ -99,7 +99,7 @@ impl Table {
         requires { turn < length self.now }
         ensures { result.now ≡ get_or self.now turn nothing }
     {
-        &self.places[usize::from(self.order[turn])]
+        held(&self.places, self.order[turn])
     }
 
     // The first number of the cycle after the last one that no open request has.
@@ -132,9 +132,9 @@ impl Table {
     {
         let place = self.order[self.tickets.len()];
         self.numbers[usize::from(asked.number)] = Some(place);
-        self.places[usize::from(place)].begin(asked, body, &mut self.draft);
+        begin_at(&mut self.places, place, asked, body, &mut self.draft);
         self.tickets.push(asked.ticket);
-        self.sends.push(place);
+        put_last(&mut self.sends, place);
     }
 
     // Ends the request that the answer is to, and answers its ticket. Only the request with the answer's number is looked
@@ -144,7 +144,7 @@ impl Table {
         ensures others { self.new ≡ filter (λ w. not (is_answer_to w.request (answer_seen answer.now))) self.old }
     {
         let place = self.numbers[usize::from(answer.number)]?;
-        let request = &self.places[usize::from(place)];
+        let request = held(&self.places, place);
         if !request.is_answered_by(answer) {
             return None;
         }
@@ -161,7 +161,7 @@ impl Table {
         ensures rising { AllPairs (λ v w. v.request.ticket < w.request.ticket) self.now }
     {
         match self.sends.first() {
-            Some(place) => self.places[usize::from(*place)].is_due(clock, config),
+            Some(place) => held(&self.places, *place).is_due(clock, config),
             None => false,
         }
     }
@@ -181,7 +181,7 @@ impl Table {
         let mut is_due = true;
         while is_due {
             let entry = self.pass(clock, config);
-            entries.push(entry);
+            put_last(entries, entry);
             is_due = self.is_due(clock, config);
         }
         sort_by_ticket(entries.as_mut_slice());
@@ -194,10 +194,10 @@ impl Table {
         ensures { IsPassed (client_rules config.timeout config.retries) clock self.old result self.new }
     {
         let place = self.sends[0];
-        let entry = self.places[usize::from(place)].due_entry(config);
+        let entry = held(&self.places, place).due_entry(config);
         match entry {
             Entry::Resend(_) => {
-                self.places[usize::from(place)].send_again(clock, config);
+                send_again_at(&mut self.places, place, clock, config);
                 self.sends.remove(0);
                 self.sends.push(place);
             }
@@ -216,12 +216,57 @@ impl Table {
         ensures { self.new ≡ remove self.old turn }
     {
         let place = self.order.remove(turn);
-        let number = self.places[usize::from(place)].number();
+        let number = held(&self.places, place).number();
         self.numbers[usize::from(number)] = None;
         self.order.push(place);
         self.tickets.remove(turn);
         take_out(&mut self.sends, place, turn);
     }
+}
+
+// The request at this place.
+fn held(places: &[OpenRequest; PLACES], place: u8) -> &OpenRequest
+    requires { place < table_size }
+    ensures { result.now ≡ get_or places.now place nothing }
+{
+    &places[usize::from(place)]
+}
+
+// Makes the request at this place a new one.
+fn begin_at(
+    places: &mut [OpenRequest; PLACES],
+    place: u8,
+    asked: Asked,
+    body: &[u8],
+    frame: &mut Frame,
+)
+    requires within { place < table_size }
+    requires short { length body.now ≤ longest_body }
+    ensures { places.new ≡ set places.old place (begun asked body.now) }
+{
+    places[usize::from(place)].begin(asked, body, frame);
+}
+
+// Makes the request at this place one that is sent again now.
+fn send_again_at(places: &mut [OpenRequest; PLACES], place: u8, clock: u64, config: Config)
+    requires within { place < table_size }
+    requires left { (get_or places.old place nothing).count < config.retries }
+    ensures { places.new ≡ set places.old place (sent_at clock (get_or places.old place nothing)) }
+{
+    places[usize::from(place)].send_again(clock, config);
+}
+
+fn put_last<T: Copy + Default>(items: &mut ArrayVec<T, PLACES>, item: T)
+    requires { length items.old.items < table_size }
+    ensures { items.new.items ≡ items.old.items ++ item ∷ [] }
+{
+    items.push(item);
+}
+
+fn no_requests() -> [OpenRequest; PLACES]
+    ensures { length result ≡ table_size }
+{
+    Default::default()
 }
 
 // Takes a place out. The likely turn is looked at first.

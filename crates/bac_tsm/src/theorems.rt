@@ -37,7 +37,7 @@ pub fn answers_are_by_number()
 {}
 
 /// An answer is to a request only where it comes from the same station: address, port and route.
-#[tactic(auto, using(crate::proofs::SameStation::same_station_is, crate::proofs::SameStation::same_station_refl))]
+#[tactic(auto, using(crate::proofs::AnswersInWords::same_station_is, crate::proofs::AnswersInWords::same_station_refl))]
 pub fn stations_are_compared_whole()
     ensures { (a b : Station) → (same_station a b ≡ true) ↔ (a ≡ b) }
 {}
@@ -62,7 +62,7 @@ pub fn table_is_bounded()
 {}
 
 /// What is told at a position rests on nothing that comes after it.
-#[tactic(auto, using(crate::proofs::LookingBack::looks_back, crate::proofs::LookingBack::reaches))]
+#[tactic(auto, using(crate::proofs::WholeRun::looks_back, crate::proofs::WholeRun::reaches))]
 pub fn output_looks_back()
     ensures { (rules : Rules) (first_ticket : ℕ) (events others : List Event) (n : ℕ) →
         n < length events → take (suc n) events ≡ take (suc n) others →

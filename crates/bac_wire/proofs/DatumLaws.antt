@@ -3,7 +3,7 @@ use Rattle.std.proofs.Common.{◌≡◌, ℕ, zero, suc, ◌^◌, ◌/◌, ◌%�
 use Rattle.std.specs.Option.{option_map}
 use Rattle.std.proofs.lemmas.Option.{same_Some, some_pair_parts, none-some, cond_some}
 use Rattle.std.proofs.lemmas.Grind.{common_steps}
-use Rattle.std.proofs.lemmas.Bool.{ltb-false, eqb-true, lt-ltb, le-ltb, eq-eqb, ne_eqb, eqb-false}
+use Rattle.std.proofs.lemmas.Bool.{ltb-false, eqb-true, lt-ltb, le-ltb, eq-eqb, eqb-false}
 use Rattle.std.proofs.lemmas.List.{length-append, take_at, drop_at, take-append-drop, nil_from_length, length-take-le}
 use Rattle.byteorder.specs.Endian.{big_number, twos_complement}
 use Rattle.bac_wire.specs.declared.tag.Shape.{Shape}
@@ -17,9 +17,6 @@ use Rattle.bac_wire.proofs.Readers.{IsReader, Took, reader_of, found_at, chosen,
 use Rattle.bac_wire.proofs.TagLaws.{bind_some, tag_reader}
 
 -- ---- the contents of a value are read again
-
-exactly_again : (n : ℕ) (contents : List ℕ) → length contents ≡ n → exactly n contents ≡ Some contents
-exactly_again n contents e = rw (eq-eqb (length contents) n e) refl
 
 pub within_again : (most : ℕ) (contents : List ℕ) → 1 ≤ length contents → length contents ≤ most → number_within most contents ≡ Some (big_number (length contents) contents)
 within_again most contents low high = rw (lt-ltb 0 (length contents) low, le-ltb most (length contents) high) refl
@@ -38,7 +35,7 @@ contents_again : (contents : List ℕ) (value : Datum) → (tag_number value ≡
 unfolding contents_of
 contents_again contents (boolean b) other h = absurd (other refl)
 contents_again contents (bit_string unused x) other h = bits_again contents unused x h
-contents_again contents (object id) other h = rw (exactly_again 4 contents h.0, same_identifier (big_number 4 contents) id h.1 h.2) refl
+contents_again contents (object id) other h = rw (eq-eqb (length contents) 4 h.0, same_identifier (big_number 4 contents) id h.1 h.2) refl
 contents_again contents value other h = grind (arith, common_steps)
 
 -- ---- what is read are the contents of the value
@@ -46,9 +43,6 @@ contents_again contents value other h = grind (arith, common_steps)
 -- contents and the value of this kind that they hold
 abbrev Holding : ℕ → List ℕ → Datum → Type 0
 Holding number contents value = (tag_number value ≡ number) × StandsFor contents value
-
-exactly_takes : (n : ℕ) (contents : List ℕ) (x : List ℕ) → exactly n contents ≡ Some x → (length contents ≡ n) × (contents ≡ x)
-exactly_takes n contents x e = let t = cond_some (eqb (length contents) n) contents x e in (eqb-true (length contents) n t.0, t.1)
 
 pub within_takes : (most : ℕ) (contents : List ℕ) (n : ℕ) → number_within most contents ≡ Some n → (1 ≤ length contents) × (length contents ≤ most) × (n ≡ big_number (length contents) contents)
 within_takes most contents n e = (grind (arith, common_steps), grind (arith, common_steps), grind (arith, common_steps))
@@ -58,62 +52,47 @@ mapped : {A B : Type 0} (f : A → B) (o : Option A) (y : B) → option_map f o 
 mapped f None y e = absurd cc
 mapped f (Some x) y e = (x, refl, same_Some (f x) y e)
 
-made : (number : ℕ) (contents : List ℕ) (x y : Datum) → x ≡ y → Holding number contents x → Holding number contents y
-made number contents x y e h = subst (Holding number contents) e h
-
-null_takes : (contents : List ℕ) (value : Datum) → option_map (λ _. null) (exactly 0 contents) ≡ Some value → Holding 0 contents value
-null_takes contents value e =
-    let m = mapped (λ _. null) (exactly 0 contents) value e in
-    let taken = exactly_takes 0 contents m.0 m.1 in
-    made 0 contents null value m.2 (refl, nil_from_length contents taken.0)
-
-number_takes : (number most : ℕ) (make : ℕ → Datum) → ((contents : List ℕ) (n : ℕ) → (1 ≤ length contents) × (length contents ≤ most) × (n ≡ big_number (length contents) contents) → Holding number contents (make n))
-    → (contents : List ℕ) (value : Datum) → option_map make (number_within most contents) ≡ Some value → Holding number contents value
+number_takes : (number most : ℕ) (make : List ℕ → ℕ → Datum) → ((contents : List ℕ) (n : ℕ) → (1 ≤ length contents) × (length contents ≤ most) × (n ≡ big_number (length contents) contents) → Holding number contents (make contents n))
+    → (contents : List ℕ) (value : Datum) → option_map (make contents) (number_within most contents) ≡ Some value → Holding number contents value
 number_takes number most make holds contents value e =
-    let m = mapped make (number_within most contents) value e in
-    made number contents (make m.0) value m.2 (holds contents m.0 (within_takes most contents m.0 m.1))
+    let m = mapped (make contents) (number_within most contents) value e in
+    rw (← m.2) (holds contents m.0 (within_takes most contents m.0 m.1))
 
 exact_takes : (number count : ℕ) (make : List ℕ → Datum) → ((contents : List ℕ) → length contents ≡ count → Holding number contents (make contents))
     → (contents : List ℕ) (value : Datum) → option_map make (exactly count contents) ≡ Some value → Holding number contents value
 exact_takes number count make holds contents value e =
     let m = mapped make (exactly count contents) value e in
-    let taken = exactly_takes count contents m.0 m.1 in
-    made number contents (make contents) value (ap make taken.1 ∙ m.2) (holds contents taken.0)
-
-signed_takes : (contents : List ℕ) (value : Datum) → option_map (λ n. signed (twos_complement (length contents) n)) (number_within 8 contents) ≡ Some value → Holding 3 contents value
-signed_takes contents value e =
-    let m = mapped (λ n. signed (twos_complement (length contents) n)) (number_within 8 contents) value e in
-    let taken = within_takes 8 contents m.0 m.1 in
-    made 3 contents (signed (twos_complement (length contents) m.0)) value m.2 (refl, (taken.0, taken.1, ap (twos_complement (length contents)) taken.2))
+    let taken = cond_some (eqb (length contents) count) contents m.0 m.1 in
+    rw (← m.2, ← taken.1) (holds contents (eqb-true (length contents) count taken.0))
 
 chars_takes : (contents : List ℕ) (value : Datum) → chars_of contents ≡ Some value → Holding 7 contents value
 chars_takes [] value e = absurd cc
-chars_takes (set ∷ x) value e = made 7 (set ∷ x) (char_string set x) value (same_Some (char_string set x) value e) (refl, refl)
+chars_takes (set ∷ x) value e = rw (← same_Some (char_string set x) value e) (refl, refl)
 
 bits_takes : (contents : List ℕ) (value : Datum) → bits_of contents ≡ Some value → Holding 8 contents value
 bits_takes [] value e = absurd cc
 bits_takes (unused ∷ []) value e =
     let t = cond_some (eqb unused 0) (bit_string unused []) value e in
     let none = eqb-true unused 0 t.0 in
-    made 8 (unused ∷ []) (bit_string unused []) value t.1 (refl, (refl, record { most = omega arith; empty = λ _. none }))
+    rw (← t.1) (refl, (refl, record { most = omega arith; empty = λ _. none }))
 bits_takes (unused ∷ b ∷ x) value e =
     let t = unless (ltb 7 unused) e in
-    made 8 (unused ∷ b ∷ x) (bit_string unused (b ∷ x)) value (same_Some (bit_string unused (b ∷ x)) value t.1) (refl, (refl, record { most = ltb-false 7 unused t.0; empty = λ empty. absurd cc }))
+    rw (← same_Some (bit_string unused (b ∷ x)) value t.1) (refl, (refl, record { most = ltb-false 7 unused t.0; empty = λ empty. absurd cc }))
 
 object_holds : (contents : List ℕ) → length contents ≡ 4 → Holding 12 contents (object (identifier_of (big_number 4 contents)))
 object_holds contents e = (refl, (e, omega arith, omega arith))
 
 contents_take : (number : ℕ) (contents : List ℕ) (value : Datum) → contents_of number contents ≡ Some value → Holding number contents value
 unfolding contents_of
-contents_take zero contents value e = null_takes contents value e
-contents_take (suc (suc zero)) contents value e = number_takes 2 8 unsigned (λ c n h. (refl, h)) contents value e
-contents_take (suc (suc (suc zero))) contents value e = signed_takes contents value e
+contents_take zero contents value e = exact_takes 0 0 (λ _. null) (λ c h. (refl, nil_from_length c h)) contents value e
+contents_take (suc (suc zero)) contents value e = number_takes 2 8 (λ c n. unsigned n) (λ c n h. (refl, h)) contents value e
+contents_take (suc (suc (suc zero))) contents value e = number_takes 3 8 (λ c n. signed (twos_complement (length c) n)) (λ c n h. (refl, (h.0, h.1, ap (twos_complement (length c)) h.2))) contents value e
 contents_take (suc (suc (suc (suc zero)))) contents value e = exact_takes 4 4 real (λ c h. (refl, (h, refl))) contents value e
 contents_take (suc (suc (suc (suc (suc zero))))) contents value e = exact_takes 5 8 double (λ c h. (refl, (h, refl))) contents value e
-contents_take (suc (suc (suc (suc (suc (suc zero)))))) contents value e = made 6 contents (octet_string contents) value (same_Some (octet_string contents) value e) (refl, refl)
+contents_take (suc (suc (suc (suc (suc (suc zero)))))) contents value e = rw (← same_Some (octet_string contents) value e) (refl, refl)
 contents_take (suc (suc (suc (suc (suc (suc (suc zero))))))) contents value e = chars_takes contents value e
 contents_take (suc (suc (suc (suc (suc (suc (suc (suc zero)))))))) contents value e = bits_takes contents value e
-contents_take (suc (suc (suc (suc (suc (suc (suc (suc (suc zero))))))))) contents value e = number_takes 9 4 enumerated (λ c n h. (refl, h)) contents value e
+contents_take (suc (suc (suc (suc (suc (suc (suc (suc (suc zero))))))))) contents value e = number_takes 9 4 (λ c n. enumerated n) (λ c n h. (refl, h)) contents value e
 contents_take (suc (suc (suc (suc (suc (suc (suc (suc (suc (suc zero)))))))))) contents value e = exact_takes 10 4 date (λ c h. (refl, (h, refl))) contents value e
 contents_take (suc (suc (suc (suc (suc (suc (suc (suc (suc (suc (suc zero))))))))))) contents value e = exact_takes 11 4 time (λ c h. (refl, (h, refl))) contents value e
 contents_take (suc (suc (suc (suc (suc (suc (suc (suc (suc (suc (suc (suc zero)))))))))))) contents value e = exact_takes 12 4 (λ c. object (identifier_of (big_number 4 c))) object_holds contents value e
@@ -121,20 +100,12 @@ contents_take number contents value e = absurd (none-some value (grind (arith, c
 
 -- ---- a value
 
-boolean_again : (b : Bool) → boolean_of (cond b 1 0) ≡ Some (boolean b)
-boolean_again true = refl
-boolean_again false = refl
-
--- what stands behind the tag of a value that is no boolean
-behind_again : (value : Datum) (contents rest : List ℕ) → (tag_number value ≡ 1 → ⊥) → shape_number value (length contents) ≡ length contents → StandsFor contents value
-    → behind_at (tag_number value) (length contents) (contents ++ rest) ≡ found_at value rest
-behind_again value contents rest other same h =
-    let long : ltb (length (contents ++ rest)) (length contents) ≡ false = le-ltb _ _ (omega (arith, length-append contents rest)) in
-    rw (ne_eqb (tag_number value) 1 other, long, take_at contents rest (length contents) refl, drop_at contents rest (length contents) refl, contents_again contents value other h) refl
-
 shaped_again : (value : Datum) (contents rest : List ℕ) → StandsFor contents value → behind_at (tag_number value) (shape_number value (length contents)) (contents ++ rest) ≡ found_at value rest
-shaped_again (boolean b) contents rest h = rw (boolean_again b, h) refl
-shaped_again value contents rest h = behind_again value contents rest (λ e. cc) refl h
+shaped_again (boolean true) contents rest h = rw h refl
+shaped_again (boolean false) contents rest h = rw h refl
+shaped_again value contents rest h =
+    let long : ltb (length (contents ++ rest)) (length contents) ≡ false = le-ltb _ _ (omega (arith, length-append contents rest)) in
+    rw (long, take_at contents rest (length contents) refl, drop_at contents rest (length contents) refl, contents_again contents value (λ e. cc) h) refl
 
 value_again : (front : List ℕ) (value : Datum) (rest : List ℕ) → Spells front value → value_at (front ++ rest) ≡ Some (value, rest)
 unfolding value_at

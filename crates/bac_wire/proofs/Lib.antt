@@ -2,12 +2,9 @@ pub mod Readers
 pub mod Reading
 pub mod Writing
 pub mod TagLaws
-pub mod PlainTag
 pub mod DatumLaws
 pub mod PlainDatum
 pub mod ShortestDatum
-pub mod RegionLaws
 pub mod RegionReading
-pub mod NestingLaws
 pub mod ItemLaws
 pub mod ParameterLaws

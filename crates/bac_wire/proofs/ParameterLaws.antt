@@ -1,10 +1,10 @@
 -- Reading a parameter, or a value of one kind, finds what its relation says, and what is written of one is a spelling of it.
 use Rattle.std.proofs.Common.{◌≡◌, ℕ, ◌^◌, ◌<◌, ◌≤◌, eqb, ltb, List, [], ◌++◌, length, take, drop, Option, Some, None, refl, sym, ap, subst, ◌∙◌, append_assoc, arith}
 use Rattle.std.proofs.lemmas.Bool.{eqb-true, eq-eqb, ltb-false, le-ltb}
-use Rattle.std.proofs.lemmas.List.{take_at, drop_at, take-append-drop, length-append, length-take-le, append-nil}
-use Rattle.std.proofs.lemmas.Option.{none-some, some_pair_parts, same_Some, cond_some}
+use Rattle.std.proofs.lemmas.List.{take_at, drop_at, take-append-drop, length-append, length-take-le}
+use Rattle.std.proofs.lemmas.Option.{none-some, some_pair_parts, cond_some}
 use Rattle.byteorder.specs.Endian.{big_number, big_bytes}
-use Rattle.byteorder.specs.Numbers.{big_number-reads_back, length-bytes_high_first}
+use Rattle.byteorder.specs.Numbers.{length-bytes_high_first}
 use Rattle.bac_wire.specs.declared.tag.Shape.{Shape}
 use Rattle.bac_wire.specs.declared.tag.Shape.TheVariants.{Context, Opening}
 use Rattle.bac_wire.specs.declared.tag.Tag.{Tag}
@@ -21,11 +21,10 @@ use Rattle.bac_wire.specs.ItemReading.{region_at}
 use Rattle.bac_wire.specs.Parameter.{context_tag, SpellsContext, IsNumber, IsObject, SpellsIn, SpellsEnclosed, context_octets, number_octets, object_octets, enclosed_octets}
 use Rattle.bac_wire.specs.ParameterReading.{counted_of, context_at, number_of_contents, object_of_contents, number_at, object_at, opening_of, behind_opening, enclosed_at, unsigned_in, enumerated_in, object_in, kind_at}
 use Rattle.bac_wire.proofs.Readers.{reader_of, found_at, only_if, unless}
-use Rattle.bac_wire.proofs.TagLaws.{tag_reader, bind_some}
-use Rattle.bac_wire.proofs.PlainTag.{plain_tag_spells}
+use Rattle.bac_wire.proofs.TagLaws.{tag_reader, bind_some, plain_tag_spells}
 use Rattle.bac_wire.proofs.DatumLaws.{within_again, same_identifier, within_takes, value_reader}
 use Rattle.bac_wire.proofs.PlainDatum.{count_low, count_four, count_fits, number_back}
-use Rattle.bac_wire.proofs.RegionReading.{no_octets, tag_parts}
+use Rattle.bac_wire.proofs.RegionReading.{no_octets, tag_parts, tag_again}
 use Rattle.bac_wire.proofs.ItemLaws.{region_reader}
 
 -- ---- the contents under a context tag
@@ -44,7 +43,7 @@ counted_takes number octets tag (Context n) after contents rest e is f =
     (taken.front ++ contents, here, taken.whole ∙ ap (λ (w : List ℕ). taken.front ++ w) after_is ∙ sym (append_assoc taken.front contents rest))
 counted_takes number octets tag _ after contents rest e is f = absurd (none-some (contents, rest) f)
 
-counted_again : (number : ℕ) (contents rest : List ℕ) → counted_of number (record { number = number; shape = Context (length contents) }) (Context (length contents)) (contents ++ rest) ≡ found_at contents rest
+counted_again : (number : ℕ) (contents rest : List ℕ) → counted_of number (context_tag number (length contents)) (Context (length contents)) (contents ++ rest) ≡ found_at contents rest
 counted_again number contents rest =
     let fits : length contents ≤ length (contents ++ rest) = omega (arith, length-append contents rest) in
     rw (eq-eqb number number refl, le-ltb (length (contents ++ rest)) (length contents) fits, take_at contents rest (length contents) refl, drop_at contents rest (length contents) refl) refl
@@ -55,19 +54,11 @@ context_takes number octets contents rest e =
     let a = bind_some (tag_at octets) (λ x. counted_of number x.0 x.0.shape x.1) (contents, rest) e in
     counted_takes number octets a.0.0 a.0.0.shape a.0.1 contents rest a.1 refl a.2
 
-context_line : (number : ℕ) (tag contents rest : List ℕ) → SpellsTag tag (record { number = number; shape = Context (length contents) }) → context_at number (tag ++ (contents ++ rest)) ≡ found_at contents rest
-unfolding context_at
-context_line number tag contents rest s = rw (tag_reader.again tag (record { number = number; shape = Context (length contents) }) (contents ++ rest) s) (counted_again number contents rest)
-
 context_again : (number : ℕ) (front contents rest : List ℕ) → SpellsContext number front contents → context_at number (front ++ rest) ≡ found_at contents rest
-context_again number front contents rest s = ap (λ (w : List ℕ). context_at number (w ++ rest)) s.whole ∙ ap (context_at number) (append_assoc s.tag contents rest) ∙ context_line number s.tag contents rest s.tagged
+unfolding context_at
+context_again number front contents rest s = rw (tag_again front s.tag contents rest (context_tag number (length contents)) s.whole s.tagged) (counted_again number contents rest)
 
 -- ---- what the contents stand for
-
--- contents are read as what they stand for
-record Decides {A : Type 0} (Stands : List ℕ → A → Type 0) (of : List ℕ → Option A) : Type 0 where
-  takes : (contents : List ℕ) (x : A) → of contents ≡ Some x → Stands contents x
-  again : (contents : List ℕ) (x : A) → Stands contents x → of contents ≡ Some x
 
 object_takes : (contents : List ℕ) (id : Identifier) → object_of_contents contents ≡ Some id → IsObject contents id
 object_takes contents id e =
@@ -79,8 +70,9 @@ object_again contents id s = rw (eq-eqb (length contents) 4 s.0) (ap Some (same_
 
 -- ---- numbers and objects
 
-in_reader : {A : Type 0} (Stands : List ℕ → A → Type 0) (of : List ℕ → Option A) → Decides Stands of → (number : ℕ) → IsReader (SpellsIn Stands number) (λ octets. context_at number octets >>= (λ c. of c.0 >>= (λ a. found_at a c.1)))
-in_reader Stands of decides number = record {
+in_reader : {A : Type 0} (Stands : List ℕ → A → Type 0) (of : List ℕ → Option A) → ((contents : List ℕ) (x : A) → of contents ≡ Some x → Stands contents x) → ((contents : List ℕ) (x : A) → Stands contents x → of contents ≡ Some x)
+    → (number : ℕ) → IsReader (SpellsIn Stands number) (λ octets. context_at number octets >>= (λ c. of c.0 >>= (λ a. found_at a c.1)))
+in_reader Stands of taken_as again_as number = record {
   takes = λ octets x rest e.
       let a = bind_some (context_at number octets) (λ c. of c.0 >>= (λ a. found_at a c.1)) (x, rest) e in
       let b = bind_some (of a.0.0) (λ y. found_at y a.0.1) (x, rest) a.2 in
@@ -88,19 +80,19 @@ in_reader Stands of decides number = record {
       let taken = context_takes number octets a.0.0 a.0.1 a.1 in
       record {
         front = taken.0;
-        spelled = record { contents = a.0.0; context = taken.1; stands = rw parts.0 at (decides.takes a.0.0 b.0 b.1) };
+        spelled = record { contents = a.0.0; context = taken.1; stands = rw parts.0 at (taken_as a.0.0 b.0 b.1) };
         whole = taken.2 ∙ ap (λ (w : List ℕ). taken.0 ++ w) parts.1;
       };
-  again = λ front x rest s. rw (context_again number front s.contents rest s.context, decides.again s.contents x s.stands) refl;
+  again = λ front x rest s. rw (context_again number front s.contents rest s.context, again_as s.contents x s.stands) refl;
 }
 
 pub number_reader : (number : ℕ) → IsReader (SpellsIn IsNumber number) (number_at number)
 unfolding number_at
-number_reader number = in_reader IsNumber number_of_contents (record { takes = within_takes 4; again = λ contents n s. within_again 4 contents s.0 s.1 ∙ ap Some (sym s.2) }) number
+number_reader number = in_reader IsNumber number_of_contents (within_takes 4) (λ contents n s. within_again 4 contents s.0 s.1 ∙ ap Some (sym s.2)) number
 
 pub object_reader : (number : ℕ) → IsReader (SpellsIn IsObject number) (object_at number)
 unfolding object_at
-object_reader number = in_reader IsObject object_of_contents (record { takes = object_takes; again = object_again }) number
+object_reader number = in_reader IsObject object_of_contents object_takes object_again number
 
 pub context_reader : (number : ℕ) → IsReader (SpellsContext number) (context_at number)
 context_reader number = reader_of (SpellsContext number) (context_at number) (context_takes number) (context_again number)
@@ -116,39 +108,26 @@ no_object number = rw no_octets refl
 
 -- ---- items between two tags
 
--- an opening tag of this number, and a rest
-record OpensTo (number : ℕ) (octets rest : List ℕ) : Type 0 where
-  opening : List ℕ
-  opened : SpellsTag opening (opening_tag number)
-  whole : octets ≡ opening ++ rest
-
 opening_takes : (number : ℕ) (tag : Tag) (shape : Shape) (after rest : List ℕ) → opening_of number tag shape after ≡ Some rest → (shape ≡ Opening) × (tag.number ≡ number) × (after ≡ rest)
 opening_takes number tag Opening after rest e = let same = cond_some (eqb tag.number number) after rest e in (refl, eqb-true tag.number number same.0, same.1)
 opening_takes number tag _ after rest e = absurd (none-some rest e)
 
-opened_takes : (number : ℕ) (octets rest : List ℕ) → behind_opening number octets ≡ Some rest → OpensTo number octets rest
-unfolding behind_opening
-opened_takes number octets rest e =
-    let a = bind_some (tag_at octets) (λ x. opening_of number x.0 x.0.shape x.1) rest e in
-    let same = opening_takes number a.0.0 a.0.0.shape a.0.1 rest a.2 in
-    let taken = tag_reader.takes octets a.0.0 a.0.1 a.1 in
-    record { opening = taken.front; opened = subst (SpellsTag taken.front) (tag_parts a.0.0 number Opening same.0 same.1) taken.spelled; whole = taken.whole ∙ ap (λ (w : List ℕ). taken.front ++ w) same.2 }
-
 enclosed_takes : (number : ℕ) (octets region rest : List ℕ) → enclosed_at number octets ≡ found_at region rest → (front : List ℕ) × SpellsEnclosed number front region × (octets ≡ front ++ rest)
-unfolding enclosed_at
+unfolding enclosed_at behind_opening
 enclosed_takes number octets region rest e =
-    let a = bind_some (behind_opening number octets) (region_at number) (region, rest) e in
-    let o = opened_takes number octets a.0 a.1 in
+    let a = bind_some (tag_at octets >>= λ x. opening_of number x.0 x.0.shape x.1) (region_at number) (region, rest) e in
+    let o = bind_some (tag_at octets) (λ x. opening_of number x.0 x.0.shape x.1) a.0 a.1 in
+    let same = opening_takes number o.0.0 o.0.0.shape o.0.1 a.0 o.2 in
+    let t = tag_reader.takes octets o.0.0 o.0.1 o.1 in
     let b = (region_reader number).takes a.0 region rest a.2 in
-    (o.opening ++ b.front, record { opening = o.opening; behind = b.front; whole = refl; opened = o.opened; closed = b.spelled }, o.whole ∙ ap (λ (w : List ℕ). o.opening ++ w) b.whole ∙ sym (append_assoc o.opening b.front rest))
-
-enclosed_line : (number : ℕ) (front region rest : List ℕ) (s : SpellsEnclosed number front region) → tag_at (front ++ rest) ≡ found_at (opening_tag number) (s.behind ++ rest)
-enclosed_line number front region rest s =
-    ap (λ (w : List ℕ). tag_at (w ++ rest)) s.whole ∙ ap tag_at (append_assoc s.opening s.behind rest) ∙ tag_reader.again s.opening (opening_tag number) (s.behind ++ rest) s.opened
+    let opened = subst (SpellsTag t.front) (tag_parts o.0.0 number Opening same.0 same.1) t.spelled in
+    let line = t.whole ∙ ap (λ (w : List ℕ). t.front ++ w) (same.2 ∙ b.whole) ∙ sym (append_assoc t.front b.front rest) in
+    (t.front ++ b.front, record { opening = t.front; behind = b.front; whole = refl; opened = opened; closed = b.spelled }, line)
 
 enclosed_again : (number : ℕ) (front region rest : List ℕ) → SpellsEnclosed number front region → enclosed_at number (front ++ rest) ≡ found_at region rest
 unfolding enclosed_at behind_opening
-enclosed_again number front region rest s = rw (enclosed_line number front region rest s, eq-eqb number number refl) ((region_reader number).again s.behind region rest s.closed)
+enclosed_again number front region rest s =
+    rw (tag_again front s.opening s.behind rest (opening_tag number) s.whole s.opened, eq-eqb number number refl) ((region_reader number).again s.behind region rest s.closed)
 
 pub enclosed_reader : (number : ℕ) → IsReader (SpellsEnclosed number) (enclosed_at number)
 enclosed_reader number = reader_of (SpellsEnclosed number) (enclosed_at number) (enclosed_takes number) (enclosed_again number)
@@ -156,7 +135,7 @@ enclosed_reader number = reader_of (SpellsEnclosed number) (enclosed_at number) 
 -- items between tags are no number
 pub enclosed_no_number : (number other : ℕ) (octets front region rest : List ℕ) → SpellsEnclosed other front region → octets ≡ front ++ rest → number_at number octets ≡ None
 unfolding number_at context_at
-enclosed_no_number number other octets front region rest s e = rw (ap tag_at e ∙ enclosed_line other front region rest s) refl
+enclosed_no_number number other octets front region rest s e = rw (e, tag_again front s.opening s.behind rest (opening_tag other) s.whole s.opened) refl
 
 -- ---- values of one kind
 
@@ -177,26 +156,14 @@ kind_step made in_kind takes again = record {
   again = λ octets x rest b. rw (ap value_at b.whole ∙ value_reader.again b.front (made x) rest b.spelled, again x) refl;
 }
 
-unsigned_takes : (value : Datum) (x : ℕ) → unsigned_in value ≡ Some x → value ≡ unsigned x
-unsigned_takes (unsigned n) x e = ap unsigned (same_Some n x e)
-unsigned_takes _ x e = absurd (none-some x e)
-
-enumerated_takes : (value : Datum) (x : ℕ) → enumerated_in value ≡ Some x → value ≡ enumerated x
-enumerated_takes (enumerated n) x e = ap enumerated (same_Some n x e)
-enumerated_takes _ x e = absurd (none-some x e)
-
-object_kind_takes : (value : Datum) (x : Identifier) → object_in value ≡ Some x → value ≡ values.object x
-object_kind_takes (values.object id) x e = ap values.object (same_Some id x e)
-object_kind_takes _ x e = absurd (none-some x e)
-
 pub unsigned_step : IsStep Spells unsigned (kind_at unsigned_in)
-unsigned_step = kind_step unsigned unsigned_in unsigned_takes (λ n. refl)
+unsigned_step = kind_step unsigned unsigned_in (λ value x e. grind arith) (λ n. refl)
 
 pub enumerated_step : IsStep Spells enumerated (kind_at enumerated_in)
-enumerated_step = kind_step enumerated enumerated_in enumerated_takes (λ n. refl)
+enumerated_step = kind_step enumerated enumerated_in (λ value x e. grind arith) (λ n. refl)
 
 pub object_step : IsStep Spells values.object (kind_at object_in)
-object_step = kind_step values.object object_in object_kind_takes (λ id. refl)
+object_step = kind_step values.object object_in (λ value x e. grind arith) (λ id. refl)
 
 -- ---- what is written is a spelling
 
@@ -209,22 +176,18 @@ context_spells number contents low short = record {
 
 pub number_spells : (number n : ℕ) → number < 255 → n < 2 ^ 32 → SpellsIn IsNumber number (number_octets number n) n
 number_spells number n low fits =
-    let long : length (big_bytes (octet_count n) n) ≡ octet_count n = length-bytes_high_first (octet_count n) n in
+    let contents = big_bytes (octet_count n) n in
+    let long : length contents ≡ octet_count n = length-bytes_high_first (octet_count n) n in
     let least = count_low n in
     let most = count_four n fits in
-    record {
-      contents = big_bytes (octet_count n) n;
-      context = context_spells number (big_bytes (octet_count n) n) low (omega arith);
-      stands = (omega arith, omega arith, number_back (octet_count n) n (count_fits n (omega arith)));
-    }
+    record { contents = contents; context = context_spells number contents low (omega arith); stands = (omega arith, omega arith, number_back (octet_count n) n (count_fits n (omega arith))) }
 
 pub object_spells : (number : ℕ) (id : Identifier) → number < 255 → IsIdentifier id → SpellsIn IsObject number (object_octets number id) id
 object_spells number id low h =
     let kind = h.kind in
     let instance = h.instance in
-    let fits : number_of id < 2 ^ 32 = omega arith in
-    let back : big_number 4 (big_bytes 4 (number_of id)) ≡ number_of id = ap (big_number 4) (sym (append-nil (big_bytes 4 (number_of id)))) ∙ big_number-reads_back 4 (number_of id) [] fits in
-    record { contents = big_bytes 4 (number_of id); context = context_spells number (big_bytes 4 (number_of id)) low (omega arith); stands = (refl, instance, back) }
+    let contents = big_bytes 4 (number_of id) in
+    record { contents = contents; context = context_spells number contents low (omega arith); stands = (refl, instance, sym (number_back 4 (number_of id) (omega arith))) }
 
 pub enclosed_spells : (number : ℕ) (region : List ℕ) → number < 255 → IsRegion 32 region → SpellsEnclosed number (enclosed_octets number region) region
 enclosed_spells number region low items = record {

@@ -1,6 +1,6 @@
 -- The shortest spelling of a value is a spelling.
 use Rattle.std.proofs.Common.{◌≡◌, ℕ, ℤ, pos, negsuc, suc, slice_index_or, ◌+◌, ◌-◌, ◌*◌, ◌^◌, ◌%◌, ◌<◌, ◌≤◌, min, zero, true, false, List, [], ◌∷◌, length, refl, sym, ap, ◌∙◌, arith}
-use Rattle.std.specs.Prelude.{FitsSigned, ◌-ℤ◌}
+use Rattle.std.specs.Prelude.{FitsSigned}
 use Rattle.std.specs.Int.{w64}
 use Rattle.std.proofs.lemmas.Int.{ints}
 use Rattle.std.proofs.lemmas.Bool.{lt-ltb, le-ltb}
@@ -11,7 +11,7 @@ use Rattle.byteorder.specs.Numbers.{big_number-reads_back, length-bytes_high_fir
 use Rattle.bac_wire.specs.Identifier.{number_of}
 use Rattle.bac_wire.specs.Tag.{IsTag, plain_tag}
 use Rattle.bac_wire.specs.Datum.{Datum, boolean, unsigned, signed, enumerated, object, StandsFor, tag_before, Spells, octet_count, plain_contents, tagged, plain, InRange, IsDatum}
-use Rattle.bac_wire.proofs.PlainTag.{plain_tag_spells}
+use Rattle.bac_wire.proofs.TagLaws.{plain_tag_spells}
 
 pub count_low : (n : ℕ) → 1 ≤ octet_count n
 count_low n = grind (arith, common_steps)
@@ -35,19 +35,12 @@ number_back k n fits =
 not_negative : (k n : ℕ) → n < 2 ^ (8 * k - 1) → n % 2 ^ (8 * k) ≡ n → twos_complement k (n % 2 ^ (8 * k)) ≡ pos n
 not_negative k n low same = rw (same, lt-ltb n (2 ^ (8 * k - 1)) low) refl
 
-below_zero : (n p : ℕ) → suc n ≤ p → pos (p - suc n) -ℤ pos p ≡ negsuc n
-below_zero n p h = omega (arith, ints)
-
 negative : (k n x : ℕ) → x ≡ 2 ^ (8 * k) - suc n → 2 ^ (8 * k - 1) ≤ x → suc n ≤ 2 ^ (8 * k) → twos_complement k x ≡ negsuc n
-negative k n x e high fits = rw (le-ltb x (2 ^ (8 * k - 1)) high, e) (below_zero n (2 ^ (8 * k)) fits)
+negative k n x e high fits = rw (le-ltb x (2 ^ (8 * k - 1)) high, e) (omega (arith, ints))
 
-positive_back : (k n : ℕ) → 1 ≤ k → k ≤ 8 → 2 * n < 256 ^ k → twos_complement k (low_bytes w64 k (pos n)) ≡ pos n
-positive_back (suc (suc (suc (suc (suc (suc (suc (suc zero)))))))) n low high fits = not_negative 8 n (omega arith) (omega arith)
-positive_back k n low high fits = not_negative k n (omega arith) (omega arith)
-
-negative_back : (k n : ℕ) → 1 ≤ k → k ≤ 8 → 2 * n < 256 ^ k → twos_complement k (low_bytes w64 k (negsuc n)) ≡ negsuc n
-negative_back (suc (suc (suc (suc (suc (suc (suc (suc zero)))))))) n low high fits = negative 8 n (low_bytes w64 8 (negsuc n)) (omega (arith, ints)) (omega (arith, ints)) (omega arith)
-negative_back k n low high fits = negative k n (low_bytes w64 k (negsuc n)) (omega (arith, ints)) (omega (arith, ints)) (omega arith)
+signed_back : (k n : ℕ) → 1 ≤ k → k ≤ 8 → 2 * n < 256 ^ k → (twos_complement k (low_bytes w64 k (pos n)) ≡ pos n) × (twos_complement k (low_bytes w64 k (negsuc n)) ≡ negsuc n)
+signed_back (suc (suc (suc (suc (suc (suc (suc (suc zero)))))))) n low high fits = (not_negative 8 n (omega arith) (omega arith), negative 8 n (low_bytes w64 8 (negsuc n)) (omega (arith, ints)) (omega (arith, ints)) (omega arith))
+signed_back k n low high fits = (not_negative k n (omega arith) (omega arith), negative k n (low_bytes w64 k (negsuc n)) (omega (arith, ints)) (omega (arith, ints)) (omega arith))
 
 low_bytes_fit : (k : ℕ) (z : ℤ) → 1 ≤ k → k ≤ 8 → low_bytes w64 k z < 256 ^ k
 low_bytes_fit (suc (suc (suc (suc (suc (suc (suc (suc zero)))))))) z low high = omega arith
@@ -60,8 +53,8 @@ signed_parts k z low high e =
     (rw long low, rw long high, e ∙ ap (twos_complement k) (number_back k x (low_bytes_fit k z low high)) ∙ ap (λ (j : ℕ). twos_complement j (big_number (length (big_bytes k x)) (big_bytes k x))) (sym long))
 
 signed_holds : (z : ℤ) → FitsSigned w64 z → StandsFor (plain_contents (signed z)) (signed z)
-signed_holds (pos n) h = signed_parts (octet_count (2 * n)) (pos n) (count_low (2 * n)) (count_high (2 * n)) (sym (positive_back _ n (count_low (2 * n)) (count_high (2 * n)) (count_fits (2 * n) (omega (arith, h)))))
-signed_holds (negsuc n) h = signed_parts (octet_count (2 * n)) (negsuc n) (count_low (2 * n)) (count_high (2 * n)) (sym (negative_back _ n (count_low (2 * n)) (count_high (2 * n)) (count_fits (2 * n) (omega (arith, h)))))
+signed_holds (pos n) h = let k : ℕ = octet_count (2 * n) in signed_parts k (pos n) (count_low (2 * n)) (count_high (2 * n)) (sym (signed_back k n (count_low (2 * n)) (count_high (2 * n)) (count_fits (2 * n) (omega (arith, h)))).0)
+signed_holds (negsuc n) h = let k : ℕ = octet_count (2 * n) in signed_parts k (negsuc n) (count_low (2 * n)) (count_high (2 * n)) (sym (signed_back k n (count_low (2 * n)) (count_high (2 * n)) (count_fits (2 * n) (omega (arith, h)))).1)
 
 -- ---- the contents
 

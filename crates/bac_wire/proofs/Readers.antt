@@ -1,5 +1,5 @@
 -- A reader on lists that takes what is spelled, and finds again what is spelled.
-use Rattle.std.proofs.Common.{Bool, true, false, cond, inl, inr, ◌≡◌, ℕ, ◌-◌, ◌≤◌, List, ◌++◌, length, take, Option, Some, None, refl, sym, ap, ◌∙◌, arith, length-append}
+use Rattle.std.proofs.Common.{Bool, true, false, cond, inl, inr, ◌≡◌, ℕ, ◌-◌, ◌≤◌, List, ◌++◌, length, take, Option, Some, None, refl, sym, ap, subst, ◌∙◌, arith, length-append}
 use Rattle.std.specs.Prelude.{◌⊎◌}
 use Rattle.std.proofs.lemmas.List.{take_at, append_cancel_right}
 use Rattle.std.proofs.lemmas.Option.{some_pair_parts}
@@ -10,15 +10,23 @@ pub use Rattle.bac_wire.specs.Front.{IsReader, Begins}
 abbrev pub Took : {A : Type 0} → (List ℕ → A → Type 0) → List ℕ → A → List ℕ → Type 0
 Took Spells octets x rest = (front : List ℕ) × Spells front x × (octets ≡ front ++ rest)
 
+abbrev pub found_at : {A : Type 0} → A → List ℕ → Option (A × List ℕ)
+found_at x rest = Some (x, rest)
+
+-- a front that was taken whole
+pub took : {A : Type 0} (Spells : List ℕ → A → Type 0) (front : List ℕ) (x y : A) (after rest : List ℕ) → found_at x after ≡ found_at y rest → Spells front x → Took Spells (front ++ after) y rest
+took Spells front x y after rest e s = let same = some_pair_parts x y after rest e in (front, subst (Spells front) same.0 s, ap (λ (w : List ℕ). front ++ w) same.1)
+
+-- a front that was taken as one thing, and spells another one
+pub took_as : {A B : Type 0} (As : List ℕ → A → Type 0) (Spells : List ℕ → B → Type 0) (octets : List ℕ) (a : A) (x y : B) (after rest : List ℕ) → Took As octets a after → found_at x after ≡ found_at y rest → ((front : List ℕ) → As front a → Spells front x) → Took Spells octets y rest
+took_as As Spells octets a x y after rest t e to = rw t.2 (took Spells t.0 x y after rest e (to t.0 t.1))
+
 pub reader_of : {A : Type 0} (Spells : List ℕ → A → Type 0) (at : List ℕ → Option (A × List ℕ)) → ((octets : List ℕ) (x : A) (rest : List ℕ) → at octets ≡ Some (x, rest) → Took Spells octets x rest)
     → ((front : List ℕ) (x : A) (rest : List ℕ) → Spells front x → at (front ++ rest) ≡ Some (x, rest)) → IsReader Spells at
 reader_of Spells at takes again = record {
   takes = λ octets x rest e. let t = takes octets x rest e in record { front = t.0; spelled = t.1; whole = t.2 };
   again = again;
 }
-
-abbrev pub found_at : {A : Type 0} → A → List ℕ → Option (A × List ℕ)
-found_at x rest = Some (x, rest)
 
 -- a front, by the length of what stands behind it
 pub take_front : (octets front rest : List ℕ) → octets ≡ front ++ rest → (length rest ≤ length octets) × (length octets - length rest ≡ length front) × (take (length octets - length rest) octets ≡ front)

@@ -1,21 +1,17 @@
 -- What a public reader found is what the reader on lists reads.
-use Rattle.std.proofs.Common.{◌≡◌, ℕ, ◌-◌, List, ◌++◌, length, take, drop, Option, Some, None, refl, sym, ap, ◌∙◌, arith}
+use Rattle.std.proofs.Common.{◌≡◌, ℕ, ◌-◌, List, length, take, drop, Option, Some, None, refl, sym, ap, ◌∙◌, arith}
 use Rattle.std.proofs.lemmas.List.{take_all, take-append-drop, length-drop}
 use Rattle.std.proofs.lemmas.Option.{none-some}
 use Rattle.bac_wire.specs.Front.{FindsFront}
 use Rattle.bac_wire.proofs.Readers.{IsReader, found_at}
 
-none_where : {A : Type 0} (Spells : List ℕ → A → Type 0) (at : List ℕ → Option (A × List ℕ)) → IsReader Spells at → (octets : List ℕ) (read : Option (A × List ℕ)) → at octets ≡ read → ((front rest : List ℕ) (x : A) → Spells front x → octets ≡ front ++ rest → ⊥) → None ≡ read
-none_where Spells at reader octets None e nothing = refl
-none_where Spells at reader octets (Some y) e nothing = let taken = reader.takes octets y.0 y.1 e in absurd (nothing taken.front y.1 y.0 taken.spelled taken.whole)
-
--- where nothing stands at the front nothing is read
-pub nothing_read : {A : Type 0} (Spells : List ℕ → A → Type 0) (at : List ℕ → Option (A × List ℕ)) → IsReader Spells at → (octets : List ℕ) → ((front rest : List ℕ) (x : A) → Spells front x → octets ≡ front ++ rest → ⊥) → None ≡ at octets
-nothing_read Spells at reader octets nothing = none_where Spells at reader octets (at octets) refl nothing
+none_from : {A : Type 0} (Spells : List ℕ → A → Type 0) (at : List ℕ → Option (A × List ℕ)) → IsReader Spells at → (octets : List ℕ) (read : Option (A × List ℕ)) → at octets ≡ read → FindsFront Spells octets None → None ≡ read
+none_from Spells at reader octets None e finds = refl
+none_from Spells at reader octets (Some y) e finds = let t = reader.takes octets y.0 y.1 e in absurd (none-some (y.0, length t.front) (finds.all t.front y.1 y.0 t.spelled t.whole))
 
 -- where nothing was found nothing is read
 pub none_read : {A : Type 0} (Spells : List ℕ → A → Type 0) (at : List ℕ → Option (A × List ℕ)) → IsReader Spells at → (octets : List ℕ) → FindsFront Spells octets None → None ≡ at octets
-none_read Spells at reader octets finds = nothing_read Spells at reader octets (λ front rest x s e. none-some (x, length front) (finds.all front rest x s e))
+none_read Spells at reader octets finds = none_from Spells at reader octets (at octets) refl finds
 
 -- what was found is read, and the octets behind it are left
 pub found_read : {A : Type 0} (Spells : List ℕ → A → Type 0) (at : List ℕ → Option (A × List ℕ)) → IsReader Spells at → (octets : List ℕ) (x : A) (size : ℕ) → FindsFront Spells octets (Some (x, size)) → found_at x (drop size octets) ≡ at octets

@@ -1,297 +1,217 @@
--- Reading items from left to right: what each step leaves behind.
-use Rattle.std.proofs.Common.{◌≡◌, ℕ, zero, suc, ◌-◌, ◌<◌, ◌≤◌, List, [], ◌++◌, length, take, drop, Option, Some, None, refl, sym, ap, subst, ◌∙◌, append_assoc, arith, inl, inr}
-use Rattle.std.proofs.lemmas.List.{append_cancel_left, length-append, drop_at, append-nil, take-append-drop, length-take-le}
-use Rattle.std.specs.Option.{option_map}
-use Rattle.std.proofs.lemmas.Option.{some_pair_parts, none-some}
+-- Reading items from left to right takes whole items, and finds again those that there are, whatever greater depth is allowed.
+use Rattle.std.proofs.Common.{◌≡◌, ℕ, zero, suc, ◌<◌, ◌≤◌, eqb, ltb, List, [], ◌∷◌, ◌++◌, length, take, drop, Option, Some, None, refl, sym, ap, subst, ◌∙◌, append_assoc, arith, inl, inr, Bool, true, false, cond}
+use Rattle.std.proofs.lemmas.Bool.{le-ltb, ltb-false, eqb-true, eq-eqb}
+use Rattle.std.proofs.lemmas.List.{drop_at, length-append, nil_from_length, take-append-drop, length-take-le}
+use Rattle.std.proofs.lemmas.Option.{none-some, same_Some, cond_some}
 use Rattle.bac_wire.specs.declared.tag.Shape.{Shape}
 use Rattle.bac_wire.specs.declared.tag.Shape.TheVariants.{App, Context, Opening, Closing}
 use Rattle.bac_wire.specs.declared.tag.Tag.{Tag}
-use Rattle.bac_wire.specs.Front.{Finds}
 use Rattle.bac_wire.specs.Tag.{SpellsTag}
+use Rattle.bac_wire.specs.Steps.{◌>>=◌}
 use Rattle.bac_wire.specs.TagReading.{tag_at}
-use Rattle.bac_wire.specs.Region.{opening_tag, closing_tag, Counts, none, more, IsItem, IsRegion, IsClosedBy, HasEnded, LeavesRest, LeavesBehind, IsClosedRegion, CountsBehind, FindsRegion}
-use Rattle.bac_wire.proofs.Readers.{found_at, take_front}
-use Rattle.bac_wire.proofs.TagLaws.{tag_reader}
-use Rattle.bac_wire.proofs.RegionLaws.{regrouped, IsInside, Holds, IsTagged, counted_holds, item_tagged, tagged_item, item_opens, one_item}
+use Rattle.bac_wire.specs.ItemReading.{behind_count, closing_of, behind_closing, behind_item, behind_tag, behind_tag_found, behind_items}
+use Rattle.bac_wire.specs.Region.{opening_tag, closing_tag, Counts, IsPrimitive, none, more, IsBracketed, IsItem, IsRegion, IsClosedBy, HasEnded, LeavesRest, LeavesBehind}
+use Rattle.bac_wire.proofs.Readers.{found_at, chosen, unless}
+use Rattle.bac_wire.proofs.TagLaws.{tag_reader, bind_some}
 
 pub no_octets : tag_at [] ≡ None
 unfolding tag_at
 no_octets = refl
 
--- ---- a closing tag
+-- a tag has an octet at least
+pub tag_shorter : (spelling others front rest : List ℕ) (tag : Tag) → SpellsTag spelling tag → front ≡ spelling ++ others → length rest < length (front ++ rest)
+tag_shorter spelling others front rest tag s e = omega (arith, ap length e, ap length s.whole, length-append front rest, length-append spelling others)
+
+pub after_shorter : (octets : List ℕ) (tag : Tag) (after : List ℕ) → tag_at octets ≡ found_at tag after → length after < length octets
+after_shorter octets tag after e =
+    let taken = tag_reader.takes octets tag after e in
+    omega (arith, ap length taken.whole, length-append taken.front after, ap length taken.spelled.whole)
 
 pub tag_parts : (tag : Tag) (number : ℕ) (shape : Shape) → tag.shape ≡ shape → tag.number ≡ number → tag ≡ record { number = number; shape = shape }
 tag_parts tag number shape e f = rw (← e, ← f) refl
 
-pub closed_again : (number : ℕ) (octets rest : List ℕ) → IsClosedBy number octets rest → tag_at octets ≡ found_at (closing_tag number) rest
-closed_again number octets rest c = ap tag_at c.whole ∙ tag_reader.again c.closing (closing_tag number) rest c.closed
+-- a tag and what stands behind it, in front of a rest
+pub tag_again : (front spelling others rest : List ℕ) (tag : Tag) → front ≡ spelling ++ others → SpellsTag spelling tag → tag_at (front ++ rest) ≡ found_at tag (others ++ rest)
+tag_again front spelling others rest tag e s = ap (λ (w : List ℕ). tag_at (w ++ rest)) e ∙ ap tag_at (append_assoc spelling others rest) ∙ tag_reader.again spelling tag (others ++ rest) s
 
-pub closed_since : (tag : Tag) (number : ℕ) (octets rest : List ℕ) → found_at tag rest ≡ tag_at octets → tag.shape ≡ Closing → tag.number ≡ number → IsClosedBy number octets rest
+-- ---- a closing tag
+
+pub closing_read : (number : ℕ) (octets rest : List ℕ) → IsClosedBy number octets rest → tag_at octets ≡ found_at (closing_tag number) rest
+closing_read number octets rest c = ap tag_at c.whole ∙ tag_reader.again c.closing (closing_tag number) rest c.closed
+
+closed_since : (tag : Tag) (number : ℕ) (octets rest : List ℕ) → tag_at octets ≡ found_at tag rest → tag.shape ≡ Closing → tag.number ≡ number → IsClosedBy number octets rest
 closed_since tag number octets rest e shape same =
-    let taken = tag_reader.takes octets tag rest (sym e) in
+    let taken = tag_reader.takes octets tag rest e in
     record { closing = taken.front; closed = subst (SpellsTag taken.front) (tag_parts tag number Closing shape same) taken.spelled; whole = taken.whole }
 
-pub closed_is : (tag : Tag) (number : ℕ) (octets after rest : List ℕ) → found_at tag after ≡ tag_at octets → IsClosedBy number octets rest → (tag.number ≡ number) × (tag.shape ≡ Closing) × (after ≡ rest)
-closed_is tag number octets after rest e c =
-    let same = some_pair_parts tag (closing_tag number) after rest (e ∙ closed_again number octets rest c) in
-    (ap (λ (t : Tag). t.number) same.0, ap (λ (t : Tag). t.shape) same.0, same.1)
-
-pub no_closed : (number : ℕ) (octets rest : List ℕ) → None ≡ tag_at octets → IsClosedBy number octets rest → ⊥
-no_closed number octets rest e c = none-some (closing_tag number, rest) (e ∙ closed_again number octets rest c)
-
--- what a tag says of the end of items
-pub ended_since : (tag : Tag) (octets rest : List ℕ) → found_at tag rest ≡ tag_at octets → tag.shape ≡ Closing → HasEnded octets
+pub ended_since : (tag : Tag) (octets rest : List ℕ) → tag_at octets ≡ found_at tag rest → tag.shape ≡ Closing → HasEnded octets
 ended_since tag octets rest e shape = inr (tag.number, rest, closed_since tag tag.number octets rest e shape refl)
 
-pub ended_is : (tag : Tag) (octets rest : List ℕ) → found_at tag rest ≡ tag_at octets → HasEnded octets → tag.shape ≡ Closing
-ended_is tag octets rest e ended = elim ended [
-  | inl empty ↦ absurd (none-some (tag, rest) (sym (ap tag_at empty ∙ no_octets) ∙ sym e))
-  | inr closed ↦ (closed_is tag closed.0 octets rest closed.1 e closed.2).1
-]
+closing_takes : (number : ℕ) (tag : Tag) (shape : Shape) (after rest : List ℕ) → closing_of number tag shape after ≡ Some rest → (shape ≡ Closing) × (tag.number ≡ number) × (after ≡ rest)
+closing_takes number tag Closing after rest e = let same = cond_some (eqb tag.number number) after rest e in (refl, eqb-true tag.number number same.0, same.1)
+closing_takes number tag _ after rest e = absurd (none-some rest e)
 
-pub ended_empty : (octets : List ℕ) → None ≡ tag_at octets → HasEnded octets → octets ≡ []
-ended_empty octets e ended = elim ended [
-  | inl empty ↦ empty
-  | inr closed ↦ absurd (no_closed closed.0 octets closed.1 e closed.2)
-]
+pub closed_takes : (number : ℕ) (octets rest : List ℕ) → behind_closing number octets ≡ Some rest → IsClosedBy number octets rest
+unfolding behind_closing
+closed_takes number octets rest e =
+    let a = bind_some (tag_at octets) (λ x. closing_of number x.0 x.0.shape x.1) rest e in
+    let same = closing_takes number a.0.0 a.0.0.shape a.0.1 rest a.2 in
+    closed_since a.0.0 number octets rest (a.1 ∙ ap (found_at a.0.0) same.2) same.0 same.1
 
--- ---- an item
+pub closed_again : (number : ℕ) (octets rest : List ℕ) → IsClosedBy number octets rest → behind_closing number octets ≡ Some rest
+unfolding behind_closing
+closed_again number octets rest c = rw (closing_read number octets rest c, eq-eqb number number refl) refl
 
--- the tag that an item at the front begins with is read
-item_read : (depth : ℕ) (octets rest : List ℕ) (l : LeavesBehind depth octets rest) → (t : IsTagged depth l.front) × (tag_at octets ≡ found_at t.tag (t.others ++ rest))
-item_read depth octets rest l =
-    let t = item_tagged depth l.front l.item in
-    (t, ap tag_at (l.whole ∙ regrouped l.front t.spelling t.others rest t.whole) ∙ tag_reader.again t.spelling t.tag (t.others ++ rest) t.tagged)
+-- ---- one step
 
-pub no_tag_all : (depth : ℕ) (octets rest : List ℕ) → None ≡ tag_at octets → LeavesBehind depth octets rest → ⊥
-no_tag_all depth octets rest e l = let t = item_read depth octets rest l in none-some (t.0.tag, t.0.others ++ rest) (e ∙ t.1)
-
--- what an item holds behind this tag
-held_all : (depth : ℕ) (octets : List ℕ) (tag : Tag) (shape : Shape) (after rest : List ℕ) → found_at tag after ≡ tag_at octets → tag.shape ≡ shape → LeavesBehind depth octets rest
-    → (others : List ℕ) × (after ≡ others ++ rest) × Holds depth tag.number shape others
-held_all depth octets tag shape after rest e is l =
-    let t = item_read depth octets rest l in
-    let parts = some_pair_parts tag t.0.tag after (t.0.others ++ rest) (e ∙ t.1) in
-    let held : Holds depth tag.number tag.shape t.0.others = subst (λ (k : Tag). Holds depth k.number k.shape t.0.others) (sym parts.0) t.0.held in
-    (t.0.others, parts.1, subst (λ (s : Shape). Holds depth tag.number s t.0.others) is held)
-
-held_found : (depth : ℕ) (octets : List ℕ) (tag : Tag) (shape : Shape) (after others rest : List ℕ) → found_at tag after ≡ tag_at octets → tag.shape ≡ shape → after ≡ others ++ rest → Holds depth tag.number shape others
-    → LeavesBehind depth octets rest
-held_found depth octets tag shape after others rest e is parts held =
-    let taken = tag_reader.takes octets tag after (sym e) in
-    let here = subst (SpellsTag taken.front) (tag_parts tag tag.number shape is refl) taken.spelled in
-    record {
-      front = taken.front ++ others;
-      item = tagged_item depth tag.number shape taken.front others here held;
-      whole = taken.whole ∙ ap (λ (w : List ℕ). taken.front ++ w) parts ∙ sym (append_assoc taken.front others rest);
-    }
-
--- what stands behind an opening tag that begins an item
-pub record BracketBehind (depth number : ℕ) (after rest : List ℕ) : Type 0 where
-  pub below : ℕ
-  pub deeper : depth ≡ suc below
-  pub mid : List ℕ
-  pub leaves : LeavesRest below after mid
-  pub closed : IsClosedBy number mid rest
-
-inside_leaves : (depth number : ℕ) (after others rest : List ℕ) → after ≡ others ++ rest → Holds depth number Opening others → BracketBehind depth number after rest
-inside_leaves zero number after others rest parts held = absurd held
-inside_leaves (suc depth) number after others rest parts held =
-    let by : IsClosedBy number (held.closing ++ rest) rest = record { closing = held.closing; closed = held.closed; whole = refl } in
-    record {
-      below = depth;
-      deeper = refl;
-      mid = held.closing ++ rest;
-      leaves = record { front = held.items; region = held.region; whole = parts ∙ regrouped others held.items held.closing rest held.whole; ended = inr (number, rest, by) };
-      closed = by;
-    }
-
-pub bracket_all : (depth : ℕ) (octets : List ℕ) (tag : Tag) (after rest : List ℕ) → found_at tag after ≡ tag_at octets → tag.shape ≡ Opening → LeavesBehind depth octets rest → BracketBehind depth tag.number after rest
-bracket_all depth octets tag after rest e is l =
-    let t = held_all depth octets tag Opening after rest e is l in
-    inside_leaves depth tag.number after t.0 rest t.1 t.2
-
--- ---- a sequence of items
-
--- where items have ended nothing is left out
-pub ended_leaves : (depth : ℕ) (octets : List ℕ) → HasEnded octets → LeavesRest depth octets octets
-ended_leaves depth octets ended = record { front = []; region = none; whole = refl; ended = ended }
-
--- an item in front of what leaves a rest
-pub leaves_more : (depth : ℕ) (octets next rest : List ℕ) → LeavesBehind depth octets next → LeavesRest depth next rest → LeavesRest depth octets rest
-leaves_more depth octets next rest i l = record {
-  front = i.front ++ l.front;
-  region = more i.item l.region;
-  whole = i.whole ∙ ap (λ (w : List ℕ). i.front ++ w) l.whole ∙ sym (append_assoc i.front l.front rest);
-  ended = l.ended;
-}
+-- the octets behind the item at the front, where items reads those inside of it
+abbrev pub item_at : (ℕ → List ℕ → Option (List ℕ)) → ℕ → List ℕ → Option (List ℕ)
+item_at items depth octets = tag_at octets >>= λ t. behind_item items depth t.0 t.0.shape t.1
 
 -- no item stands where the items have ended
-pub item_ended : (depth : ℕ) (octets front rest : List ℕ) → HasEnded octets → IsItem depth front → octets ≡ front ++ rest → ⊥
-item_ended depth octets front rest ended i whole =
-    elim ended [
-      | inl empty ↦ no_tag_all depth octets rest (sym (ap tag_at empty ∙ no_octets)) (record { front = front; item = i; whole = whole })
-      | inr closed ↦ item_opens depth front rest closed.2.closing closed.1 closed.0 i closed.2.closed (sym whole ∙ closed.2.whole)
-    ]
-
--- what a region in front of a rest can be, by its first item
-pub data FirstItem (depth : ℕ) (octets rest : List ℕ) : Type 0 where
-  ends : octets ≡ rest → HasEnded octets → FirstItem depth octets rest
-  begins : (next : List ℕ) → LeavesBehind depth octets next → LeavesRest depth next rest → FirstItem depth octets rest
-
-first_of_region : (depth : ℕ) (front octets rest : List ℕ) → IsRegion depth front → octets ≡ front ++ rest → HasEnded rest → FirstItem depth octets rest
-first_of_region depth front octets rest none whole ended = ends whole (subst HasEnded (sym whole) ended)
-first_of_region depth front octets rest (more {first} {rest = others} i s) whole ended =
-    begins (others ++ rest) (record { front = first; item = i; whole = whole ∙ append_assoc first others rest }) (record { front = others; region = s; whole = refl; ended = ended })
-
-pub first_item : (depth : ℕ) (octets rest : List ℕ) → LeavesRest depth octets rest → FirstItem depth octets rest
-first_item depth octets rest l = first_of_region depth l.front octets rest l.region l.whole l.ended
-
--- where the items have ended nothing more is taken
-pub ended_all : (depth : ℕ) (octets rest : List ℕ) → HasEnded octets → LeavesRest depth octets rest → octets ≡ rest
-ended_all depth octets rest ended l = elim (first_item depth octets rest l) [
-  | ends same _ ↦ same
-  | begins next i _ ↦ absurd (item_ended depth octets i.front next ended i.item i.whole)
+pub ended_none : (items : ℕ → List ℕ → Option (List ℕ)) (depth : ℕ) (octets : List ℕ) → HasEnded octets → item_at items depth octets ≡ None
+ended_none items depth octets ended = elim ended [
+  | inl empty ↦ rw (empty, no_octets) refl
+  | inr closed ↦ rw (closing_read closed.0 octets closed.1 closed.2) refl
 ]
 
--- where they have not, what is left is left behind the first item too
-pub item_all : (depth : ℕ) (octets next rest : List ℕ) → LeavesBehind depth octets next → LeavesRest depth octets rest → LeavesRest depth next rest
-item_all depth octets next rest i l = elim (first_item depth octets rest l) [
-  | ends same ended ↦ absurd (item_ended depth octets i.front next ended i.item i.whole)
-  | begins other j m ↦
-      let fronts = one_item depth depth i.front j.front next other i.item j.item (sym i.whole ∙ j.whole) in
-      let same : next ≡ other = append_cancel_left i.front next other (sym i.whole ∙ j.whole ∙ ap (λ (w : List ℕ). w ++ other) (sym fronts)) in
-      subst (λ (w : List ℕ). LeavesRest depth w rest) (sym same) m
+tag_found : (items : ℕ → List ℕ → Option (List ℕ)) (depth : ℕ) (octets : List ℕ) (t : Tag × List ℕ) → behind_tag_found items depth octets (Some t) ≡ behind_tag items depth octets t.0 t.0.shape t.1
+tag_found items depth [] t = refl
+tag_found items depth _ t = refl
+
+pub ended_again : (count depth : ℕ) (octets : List ℕ) → HasEnded octets → behind_items (suc count) depth octets ≡ Some octets
+unfolding behind_items
+ended_again count depth octets ended = elim ended [
+  | inl empty ↦ rw (empty, no_octets) refl
+  | inr closed ↦ rw (closing_read closed.0 octets closed.1 closed.2) (tag_found (behind_items count) depth octets (closing_tag closed.0, closed.1))
 ]
 
--- where neither the items have ended nor an item stands there is no rest
-pub stuck_all : (depth : ℕ) (octets rest : List ℕ) → (HasEnded octets → ⊥) → ((next : List ℕ) → LeavesBehind depth octets next → ⊥) → LeavesRest depth octets rest → ⊥
-stuck_all depth octets rest ended item l = elim (first_item depth octets rest l) [
-  | ends same here ↦ ended here
-  | begins next i _ ↦ item next i
+going_on : (items : ℕ → List ℕ → Option (List ℕ)) (depth : ℕ) (octets : List ℕ) (tag : Tag) (shape : Shape) (after : List ℕ) → (shape ≡ Closing → ⊥) → behind_tag items depth octets tag shape after ≡ (behind_item items depth tag shape after >>= items depth)
+going_on items depth octets tag Closing after going = absurd (going refl)
+going_on items depth octets tag _ after going = refl
+
+-- at a tag that is no closing one, the first item, and then the others
+pub one_step : (count depth : ℕ) (octets : List ℕ) (tag : Tag) (after : List ℕ) → tag_at octets ≡ found_at tag after → (tag.shape ≡ Closing → ⊥) → behind_items (suc count) depth octets ≡ (item_at (behind_items count) depth octets >>= behind_items count depth)
+unfolding behind_items
+one_step count depth octets tag after e going = rw e (tag_found (behind_items count) depth octets (tag, after) ∙ going_on (behind_items count) depth octets tag tag.shape after going)
+
+-- ---- what is read is there
+
+-- what the reading of the items inside of an item does
+abbrev Takes : (ℕ → List ℕ → Option (List ℕ)) → Type 0
+Takes items = (depth : ℕ) (octets rest : List ℕ) → items depth octets ≡ Some rest → LeavesRest depth octets rest
+
+primitive_item : (depth : ℕ) (item : List ℕ) → IsPrimitive item → IsItem depth item
+primitive_item zero item p = p
+primitive_item (suc depth) item p = inl p
+
+counted_behind : (depth : ℕ) (octets : List ℕ) (tag : Tag) (contents rest : List ℕ) → tag_at octets ≡ found_at tag (contents ++ rest) → Counts tag.number tag.shape (length contents) → LeavesBehind depth octets rest
+counted_behind depth octets tag contents rest e counted =
+    let taken = tag_reader.takes octets tag (contents ++ rest) e in
+    let item : IsPrimitive (taken.front ++ contents) = record { tag = tag; spelling = taken.front; contents = contents; whole = refl; tagged = taken.spelled; counted = counted } in
+    record { front = taken.front ++ contents; item = primitive_item depth (taken.front ++ contents) item; whole = taken.whole ∙ sym (append_assoc taken.front contents rest) }
+
+-- so many octets behind the tag
+count_behind : (depth count : ℕ) (octets : List ℕ) (tag : Tag) (after rest : List ℕ) → tag_at octets ≡ found_at tag after → ((n : ℕ) → n ≡ count → Counts tag.number tag.shape n) → behind_count count after ≡ Some rest → LeavesBehind depth octets rest
+count_behind depth count octets tag after rest e counts f =
+    let room = unless (ltb (length after) count) f in
+    let line : after ≡ take count after ++ rest = sym (take-append-drop count after) ∙ ap (λ (w : List ℕ). take count after ++ w) (same_Some (drop count after) rest room.1) in
+    counted_behind depth octets tag (take count after) rest (e ∙ ap (found_at tag) line) (counts (length (take count after)) (length-take-le count after (ltb-false (length after) count room.0)))
+
+item_takes : (items : ℕ → List ℕ → Option (List ℕ)) (depth : ℕ) (octets : List ℕ) (tag : Tag) (shape : Shape) (after rest : List ℕ) → Takes items → tag_at octets ≡ found_at tag after → tag.shape ≡ shape → behind_item items depth tag shape after ≡ Some rest → LeavesBehind depth octets rest
+item_takes items depth octets tag (App n) after rest takes e is f = elim (chosen (eqb tag.number 1) _ _ _ f) [
+  | inl one ↦ counted_behind depth octets tag [] rest (e ∙ ap (found_at tag) (same_Some after rest one.1)) (rw (is, one.0) refl)
+  | inr other ↦ count_behind depth n octets tag after rest e (λ m same. rw (is, other.0) same) other.1
 ]
+item_takes items depth octets tag (Context n) after rest takes e is f = count_behind depth n octets tag after rest e (λ m same. rw is same) f
+item_takes items (suc depth) octets tag Opening after rest takes e is f =
+    let inside = bind_some (items depth after) (behind_closing tag.number) rest f in
+    let l = takes depth after inside.0 inside.1 in
+    let c = closed_takes tag.number inside.0 rest inside.2 in
+    let taken = tag_reader.takes octets tag after e in
+    let opened = subst (SpellsTag taken.front) (tag_parts tag tag.number Opening is refl) taken.spelled in
+    let line : octets ≡ (taken.front ++ (l.front ++ c.closing)) ++ rest = taken.whole ∙ ap (λ (w : List ℕ). taken.front ++ w) (l.whole ∙ ap (λ (w : List ℕ). l.front ++ w) c.whole) ∙ simp append_assoc in
+    record { front = taken.front ++ (l.front ++ c.closing); item = inr (record { number = tag.number; opening = taken.front; inside = l.front; closing = c.closing; whole = refl; opened = opened; parts = l.region; closed = c.closed }); whole = line }
+item_takes items _ octets tag _ after rest takes e is f = absurd (none-some rest f)
 
--- the same rests are left of both
-pub record SameRests (depth : ℕ) (octets rest : List ℕ) : Type 0 where
-  pub onward : (left : List ℕ) → LeavesRest depth octets left → LeavesRest depth rest left
-  pub back : (left : List ℕ) → LeavesRest depth rest left → LeavesRest depth octets left
+pub item_at_takes : (items : ℕ → List ℕ → Option (List ℕ)) (depth : ℕ) (octets rest : List ℕ) → Takes items → item_at items depth octets ≡ Some rest → LeavesBehind depth octets rest
+item_at_takes items depth octets rest takes e =
+    let a = bind_some (tag_at octets) (λ t. behind_item items depth t.0 t.0.shape t.1) rest e in
+    item_takes items depth octets a.0.0 a.0.0.shape a.0.1 rest takes a.1 refl a.2
 
-pub same_rests_more : (depth : ℕ) (octets rest next : List ℕ) → SameRests depth octets rest → LeavesBehind depth rest next → SameRests depth octets next
-same_rests_more depth octets rest next same i = record {
-  onward = λ left l. item_all depth rest next left i (same.onward left l);
-  back = λ left l. same.back left (leaves_more depth rest next left i l);
-}
+ended_leaves : (depth : ℕ) (octets rest : List ℕ) → HasEnded octets → ◌≡◌ {A = Option (List ℕ)} (Some octets) (Some rest) → LeavesRest depth octets rest
+ended_leaves depth octets rest ended e = let same = same_Some octets rest e in record { front = []; region = none; whole = same; ended = subst HasEnded same ended }
 
-pub tag_shorter : (spelling others front rest : List ℕ) (tag : Tag) → SpellsTag spelling tag → front ≡ spelling ++ others → length rest < length (front ++ rest)
-tag_shorter spelling others front rest tag s e = omega (arith, ap length e, ap length s.whole, length-append front rest, length-append spelling others)
+-- the items behind the first one
+more_takes : (items : ℕ → List ℕ → Option (List ℕ)) (depth : ℕ) (octets : List ℕ) (tag : Tag) (shape : Shape) (after rest : List ℕ) → Takes items → tag_at octets ≡ found_at tag after → tag.shape ≡ shape → behind_tag items depth octets tag shape after ≡ Some rest → LeavesRest depth octets rest
+more_takes items depth octets tag Closing after rest takes e is f = ended_leaves depth octets rest (ended_since tag octets after e is) f
+more_takes items depth octets tag shape after rest takes e is f =
+    let a = bind_some (behind_item items depth tag shape after) (items depth) rest f in
+    let i = item_takes items depth octets tag shape after a.0 takes e is a.1 in
+    let l = takes depth a.0 rest a.2 in
+    record { front = i.front ++ l.front; region = more i.item l.region; whole = i.whole ∙ ap (λ (w : List ℕ). i.front ++ w) l.whole ∙ sym (append_assoc i.front l.front rest); ended = l.ended }
 
--- an item has an octet at least
-pub behind_shorter : (depth : ℕ) (octets rest : List ℕ) → LeavesBehind depth octets rest → length rest < length octets
-behind_shorter depth octets rest l =
-    let t = item_tagged depth l.front l.item in
-    rw l.whole (tag_shorter t.spelling t.others l.front rest t.tag t.tagged t.whole)
+found_takes : (items : ℕ → List ℕ → Option (List ℕ)) (depth : ℕ) (octets : List ℕ) (read : Option (Tag × List ℕ)) (rest : List ℕ) → Takes items → tag_at octets ≡ read → behind_tag_found items depth octets read ≡ Some rest → LeavesRest depth octets rest
+found_takes items depth [] None rest takes e f = ended_leaves depth [] rest (inl refl) f
+found_takes items depth (x ∷ xs) None rest takes e f = absurd (none-some rest f)
+found_takes items depth octets (Some t) rest takes e f = more_takes items depth octets t.0 t.0.shape t.1 rest takes e refl f
 
-one_left_region : (depth : ℕ) (front octets rest other : List ℕ) → IsRegion depth front → octets ≡ front ++ rest → HasEnded rest → LeavesRest depth octets other → rest ≡ other
-one_left_region depth front octets rest other none whole ended l = sym whole ∙ ended_all depth octets other (subst HasEnded (sym whole) ended) l
-one_left_region depth front octets rest other (more {first} {rest = others} i s) whole ended l =
-    one_left_region depth others (others ++ rest) rest other s refl ended
-    (item_all depth octets (others ++ rest) other (record { front = first; item = i; whole = whole ∙ append_assoc first others rest }) l)
+pub items_take : (count depth : ℕ) (octets rest : List ℕ) → behind_items count depth octets ≡ Some rest → LeavesRest depth octets rest
+unfolding behind_items
+items_take zero depth octets rest e = absurd (none-some rest e)
+items_take (suc count) depth octets rest e = found_takes (behind_items count) depth octets (tag_at octets) rest (items_take count) refl e
 
--- whole items leave one rest
-pub one_left : (depth : ℕ) (octets rest other : List ℕ) → LeavesRest depth octets rest → LeavesRest depth octets other → rest ≡ other
-one_left depth octets rest other l m = one_left_region depth l.front octets rest other l.region l.whole l.ended m
+-- ---- what is there is read
 
--- ---- what the code finds
+-- what the reading of lists of fewer octets does
+abbrev Again : (ℕ → List ℕ → Option (List ℕ)) → ℕ → Type 0
+Again items most = (depth top : ℕ) (front rest : List ℕ) → depth ≤ top → length (front ++ rest) < most → IsRegion depth front → HasEnded rest → items top (front ++ rest) ≡ Some rest
 
--- octets that a tag counts are an item with it
-held_counts : (depth number : ℕ) (shape : Shape) (count : ℕ) (octets : List ℕ) → Counts number shape count → Holds depth number shape octets → length octets ≡ count
-held_counts depth number (App n) count octets counted held = held ∙ sym counted
-held_counts depth number (Context n) count octets counted held = held ∙ sym counted
-held_counts depth number _ count octets counted held = absurd counted
+count_again : (count : ℕ) (contents rest : List ℕ) → length contents ≡ count → behind_count count (contents ++ rest) ≡ Some rest
+count_again count contents rest e = rw (le-ltb (length (contents ++ rest)) count (omega (arith, e, length-append contents rest)), drop_at contents rest count e) refl
 
-pub counted_since : (depth count : ℕ) (tag : Tag) (shape : Shape) (octets after : List ℕ) (found : Option (List ℕ)) → found_at tag after ≡ tag_at octets → tag.shape ≡ shape → Counts tag.number shape count
-    → Finds (CountsBehind count after) found → Finds (LeavesBehind depth octets) found
-counted_since depth count tag shape octets after None e is counted h = λ rest l.
-    let t = held_all depth octets tag shape after rest e is l in
-    let long = held_counts depth tag.number shape count t.0 counted t.2 in
-    h rest (record { room = omega (arith, ap length t.1, length-append t.0 rest); rest_is = sym (ap (drop count) t.1 ∙ drop_at t.0 rest count long) })
-counted_since depth count tag shape octets after (Some rest) e is counted h =
-    let parts : after ≡ take count after ++ rest = sym (take-append-drop count after) ∙ ap (λ (w : List ℕ). take count after ++ w) (sym h.rest_is) in
-    let counts : Counts tag.number shape (length (take count after)) = rw (length-take-le count after h.room) counted in
-    held_found depth octets tag shape after (take count after) rest e is parts (counted_holds depth tag.number shape (take count after) counts)
+boolean_again : (b : Bool) (n : ℕ) (contents rest : List ℕ) → length contents ≡ cond b 0 n → cond b (Some (contents ++ rest)) (behind_count n (contents ++ rest)) ≡ Some rest
+boolean_again true n contents rest e = rw (nil_from_length contents e) refl
+boolean_again false n contents rest e = count_again n contents rest e
 
--- a counting tag with nothing behind it
-pub none_counted : (after : List ℕ) → Finds (CountsBehind 0 after) (Some after)
-none_counted after = record { room = omega arith; rest_is = refl }
+counted_again : (items : ℕ → List ℕ → Option (List ℕ)) (top : ℕ) (tag : Tag) (shape : Shape) (contents rest : List ℕ) → Counts tag.number shape (length contents) → behind_item items top tag shape (contents ++ rest) ≡ Some rest
+counted_again items top tag (App n) contents rest counted = boolean_again (eqb tag.number 1) n contents rest counted
+counted_again items top tag (Context n) contents rest counted = count_again n contents rest counted
+counted_again items top tag _ contents rest counted = absurd counted
 
-pub opening_since : (depth below : ℕ) (tag : Tag) (octets after mid : List ℕ) (found : Option (List ℕ)) → depth ≡ suc below → found_at tag after ≡ tag_at octets → tag.shape ≡ Opening
-    → LeavesRest below after mid → Finds (IsClosedBy tag.number mid) found → Finds (LeavesBehind depth octets) found
-opening_since depth below tag octets after mid None deeper e is leaves h = λ rest l.
-    let b = bracket_all depth octets tag after rest e is l in
-    let same : b.below ≡ below = omega (arith, b.deeper) in
-    let there : LeavesRest below after b.mid = subst (λ (d : ℕ). LeavesRest d after b.mid) same b.leaves in
-    h rest (subst (λ (w : List ℕ). IsClosedBy tag.number w rest) (one_left below after b.mid mid there leaves) b.closed)
-opening_since depth below tag octets after mid (Some rest) deeper e is leaves h =
-    let inside : IsInside below tag.number (leaves.front ++ h.closing) = record { items = leaves.front; closing = h.closing; whole = refl; region = leaves.region; closed = h.closed } in
-    let parts = leaves.whole ∙ ap (λ (w : List ℕ). leaves.front ++ w) h.whole ∙ sym (append_assoc leaves.front h.closing rest) in
-    rw deeper (held_found (suc below) octets tag Opening after (leaves.front ++ h.closing) rest e is parts inside)
+primitive_again : (items : ℕ → List ℕ → Option (List ℕ)) (top : ℕ) (item rest : List ℕ) → IsPrimitive item → item_at items top (item ++ rest) ≡ Some rest
+primitive_again items top item rest p = rw (tag_again item p.spelling p.contents rest p.tag p.whole p.tagged) (counted_again items top p.tag p.tag.shape p.contents rest p.counted)
 
-pub opening_none : (depth below : ℕ) (tag : Tag) (octets after rest : List ℕ) → depth ≡ suc below → found_at tag after ≡ tag_at octets → tag.shape ≡ Opening
-    → ((mid : List ℕ) → LeavesRest below after mid → ⊥) → LeavesBehind depth octets rest → ⊥
-opening_none depth below tag octets after rest deeper e is h l =
-    let b = bracket_all depth octets tag after rest e is l in
-    let same : b.below ≡ below = omega (arith, b.deeper) in
-    h b.mid (subst (λ (d : ℕ). LeavesRest d after b.mid) same b.leaves)
+bracket_again : (items : ℕ → List ℕ → Option (List ℕ)) (most depth top : ℕ) (item rest : List ℕ) → Again items most → depth ≤ top → length (item ++ rest) < suc most → IsBracketed (IsItem depth) item → item_at items (suc top) (item ++ rest) ≡ Some rest
+bracket_again items most depth top item rest again le short b =
+    let read = tag_again item b.opening (b.inside ++ b.closing) rest (opening_tag b.number) b.whole b.opened in
+    let line = append_assoc b.inside b.closing rest in
+    let c : IsClosedBy b.number (b.closing ++ rest) rest = record { closing = b.closing; closed = b.closed; whole = refl } in
+    let inside = again depth top b.inside (b.closing ++ rest) le (omega (arith, after_shorter (item ++ rest) (opening_tag b.number) ((b.inside ++ b.closing) ++ rest) read, ap length line)) b.parts (inr (b.number, rest, c)) in
+    rw (read, line, inside, closed_again b.number (b.closing ++ rest) rest c) refl
 
-pub opening_deep : (depth : ℕ) (tag : Tag) (octets after rest : List ℕ) → (1 ≤ depth → ⊥) → found_at tag after ≡ tag_at octets → tag.shape ≡ Opening → LeavesBehind depth octets rest → ⊥
-opening_deep depth tag octets after rest none_left e is l = let b = bracket_all depth octets tag after rest e is l in none_left (omega (arith, b.deeper))
+pub item_again : (items : ℕ → List ℕ → Option (List ℕ)) (most depth top : ℕ) (item rest : List ℕ) → Again items most → depth ≤ top → length (item ++ rest) < suc most → IsItem depth item → item_at items top (item ++ rest) ≡ Some rest
+item_again items most zero top item rest again le short p = primitive_again items top item rest p
+item_again items most (suc depth) zero item rest again le short i = absurd (omega arith)
+item_again items most (suc depth) (suc top) item rest again le short i =
+    elim i [ inl p ↦ primitive_again items (suc top) item rest p | inr b ↦ bracket_again items most depth top item rest again (omega arith) short b ]
 
-pub closing_none : (depth : ℕ) (tag : Tag) (octets after rest : List ℕ) → found_at tag after ≡ tag_at octets → tag.shape ≡ Closing → LeavesBehind depth octets rest → ⊥
-closing_none depth tag octets after rest e is l = (held_all depth octets tag Closing after rest e is l).2
+pub item_shorter : (depth : ℕ) (item rest : List ℕ) → IsItem depth item → length rest < length (item ++ rest)
+item_shorter zero item rest p = tag_shorter p.spelling p.contents item rest p.tag p.tagged p.whole
+item_shorter (suc depth) item rest i =
+    elim i [ inl p ↦ tag_shorter p.spelling p.contents item rest p.tag p.tagged p.whole | inr b ↦ tag_shorter b.opening (b.inside ++ b.closing) item rest (opening_tag b.number) b.opened b.whole ]
 
--- the loop's end: the items have ended
-pub same_rests_ended : (depth : ℕ) (octets rest : List ℕ) → SameRests depth octets rest → HasEnded rest → LeavesRest depth octets rest
-same_rests_ended depth octets rest same ended = same.back rest (ended_leaves depth rest ended)
+-- behind an item the others are read
+pub more_again : (count top : ℕ) (octets next : List ℕ) → item_at (behind_items count) top octets ≡ Some next → behind_items (suc count) top octets ≡ behind_items count top next
+more_again count top octets next e =
+    let a = bind_some (tag_at octets) (λ t. behind_item (behind_items count) top t.0 t.0.shape t.1) next e in
+    one_step count top octets a.0.0 a.0.1 a.1 (λ closing. none-some next (rw closing at a.2)) ∙ ap (λ (r : Option (List ℕ)). r >>= behind_items count top) e
 
--- the loop is stuck: no item stands where one must
-pub same_rests_stuck : (depth : ℕ) (octets rest left : List ℕ) → SameRests depth octets rest → (HasEnded rest → ⊥) → ((next : List ℕ) → LeavesBehind depth rest next → ⊥) → LeavesRest depth octets left → ⊥
-same_rests_stuck depth octets rest left same ended item l = stuck_all depth rest left ended item (same.onward left l)
-
-pub ended_nothing : (octets : List ℕ) → octets ≡ [] → HasEnded octets
-ended_nothing octets e = inl e
-
--- ---- the region of a parameter
-
-region_leaves : (depth number : ℕ) (octets front : List ℕ) (r : IsClosedRegion depth number octets front) → LeavesRest depth octets r.behind
-region_leaves depth number octets front r = record { front = front; region = r.region; whole = r.whole; ended = inr (number, r.rest, r.closed) }
-
-pub region_none : (depth number : ℕ) (octets front : List ℕ) → ((rest : List ℕ) → LeavesRest depth octets rest → ⊥) → IsClosedRegion depth number octets front → ⊥
-region_none depth number octets front h r = h r.behind (region_leaves depth number octets front r)
-
--- a region is found where a closing tag stands behind whole items, and not where none stands there
-pub region_finds : (depth number : ℕ) (octets rest : List ℕ) (behind : Option (List ℕ)) → LeavesRest depth octets rest → Finds (IsClosedBy number rest) behind
-    → FindsRegion depth number octets (option_map (λ _. length octets - length rest) behind)
-region_finds depth number octets rest None l h = record {
-  within = tt;
-  found = tt;
-  all = λ front r.
-      let same = one_left depth octets r.behind rest (region_leaves depth number octets front r) l in
-      absurd (h r.rest (subst (λ (w : List ℕ). IsClosedBy number w r.rest) same r.closed));
-}
-region_finds depth number octets rest (Some after) l h = record {
-  within = omega arith;
-  found = rw (take_front octets l.front rest l.whole).2 (record { behind = rest; rest = after; region = l.region; whole = l.whole; closed = h });
-  all = λ front r.
-      let same = one_left depth octets rest r.behind l (region_leaves depth number octets front r) in
-      ap Some (ap (λ (w : List ℕ). length octets - length w) same ∙ (take_front octets front r.behind r.whole).1);
-}
-
-pub whole_region : (depth : ℕ) (octets rest : List ℕ) → LeavesRest depth octets rest → rest ≡ [] → IsRegion depth octets
-whole_region depth octets rest l e = subst (IsRegion depth) (sym (l.whole ∙ ap (λ (w : List ℕ). l.front ++ w) e ∙ append-nil l.front)) l.region
-
-pub region_whole : (depth : ℕ) (octets : List ℕ) → IsRegion depth octets → LeavesRest depth octets []
-region_whole depth octets r = record { front = octets; region = r; whole = sym (append-nil octets); ended = inl refl }
-
--- items have not ended where an opening tag stands
-pub no_ended_opening : (octets : List ℕ) (number : ℕ) (after : List ℕ) → tag_at octets ≡ found_at (opening_tag number) after → HasEnded octets → ⊥
-no_ended_opening octets number after e ended = let shapes : ◌≡◌ {A = Shape} Opening Closing = ended_is (opening_tag number) octets after (sym e) ended in absurd cc
+pub items_again : (count depth top : ℕ) (front rest : List ℕ) → depth ≤ top → length (front ++ rest) < count → IsRegion depth front → HasEnded rest → behind_items count top (front ++ rest) ≡ Some rest
+items_again zero depth top front rest le short r ended = absurd (omega arith)
+items_again (suc count) depth top front rest le short none ended = ended_again count top rest ended
+items_again (suc count) depth top front rest le short (more {first} {rest = others} i s) ended =
+    let line = append_assoc first others rest in
+    let shorter = item_shorter depth first (others ++ rest) i in
+    let read = item_again (behind_items count) count depth top first (others ++ rest) (items_again count) le (rw line at short) i in
+    rw line (more_again count top (first ++ (others ++ rest)) (others ++ rest) read ∙ items_again count depth top others rest le (omega (arith, ap length line)) s ended)

@@ -1,6 +1,5 @@
 -- No spelling of a value has fewer octets than the plain one.
 use Rattle.std.proofs.Common.{◌≡◌, ℕ, ℤ, pos, negsuc, zero, suc, ◌+◌, ◌-◌, ◌*◌, ◌^◌, ◌<◌, ◌≤◌, List, [], ◌∷◌, ◌++◌, length, sym, ap, subst, ◌∙◌, arith, inl, inr}
-use Rattle.std.specs.Prelude.{◌-ℤ◌}
 use Rattle.std.proofs.Math.Nat.{pow-succ'}
 use Rattle.std.proofs.lemmas.Grind.{common_steps}
 use Rattle.std.proofs.lemmas.Int.{ints}
@@ -14,7 +13,7 @@ use Rattle.bac_wire.specs.declared.tag.Shape.TheVariants.{App}
 use Rattle.bac_wire.specs.Front.{AreOctets, IsShortest}
 use Rattle.bac_wire.specs.Tag.{plain_number, plain_length, plain_tag}
 use Rattle.bac_wire.specs.Datum.{Datum, boolean, unsigned, signed, enumerated, tag_number, StandsFor, shape_number, tag_before, Spells, octet_count, signed_count, plain_contents, plain, InRange, IsDatum}
-use Rattle.bac_wire.proofs.PlainTag.{tag_least, behind}
+use Rattle.bac_wire.proofs.TagLaws.{tag_least, behind}
 use Rattle.bac_wire.proofs.PlainDatum.{count_high, plain_spells}
 
 -- ---- the fewest octets of a number
@@ -29,9 +28,6 @@ half_octets k low =
     let next : 8 * k ≡ suc (8 * k - 1) = omega arith in
     sym (pow256 k ∙ ap (λ (j : ℕ). 2 ^ j) next ∙ pow-succ' 2 (8 * k - 1))
 
-negative_is : (x p : ℕ) → x < p → pos x -ℤ pos p ≡ negsuc (p - suc x)
-negative_is x p h = omega (arith, ints)
-
 signed_count_least : (k x : ℕ) (z : ℤ) → 1 ≤ k → x < 256 ^ k → z ≡ twos_complement k x → signed_count z ≤ k
 signed_count_least k x z low fits e =
     let half = half_octets k low in
@@ -41,27 +37,21 @@ signed_count_least k x z low fits e =
           let is : z ≡ pos x = rw (lt-ltb x (2 ^ (8 * k - 1)) small) at e in
           rw is (octet_count_least k (2 * x) low (omega arith))
       | inr large ↦
-          let is : z ≡ pos x -ℤ pos (2 ^ (8 * k)) = rw (le-ltb x (2 ^ (8 * k - 1)) large) at e in
-          rw (is, negative_is x (2 ^ (8 * k)) (omega arith)) (octet_count_least k (2 * (2 ^ (8 * k) - suc x)) low (omega arith))
+          let is : z ≡ negsuc (2 ^ (8 * k) - suc x) = (rw (le-ltb x (2 ^ (8 * k - 1)) large) at e) ∙ omega (arith, ints) in
+          rw is (octet_count_least k (2 * (2 ^ (8 * k) - suc x)) low (omega arith))
     ]
 
 -- ---- the contents
 
-pub number_within : (contents : List ℕ) → AreOctets contents → big_number (length contents) contents < 256 ^ length contents
-number_within contents fit = big_from-lt 0 (length contents) contents fit
-
 unsigned_least : (contents : List ℕ) (n : ℕ) → AreOctets contents → 1 ≤ length contents → n ≡ big_number (length contents) contents → length (big_bytes (octet_count n) n) ≤ length contents
 unsigned_least contents n fit low e =
-    let fits : n < 256 ^ length contents = rw e (number_within contents fit) in
+    let fits : n < 256 ^ length contents = rw e (big_from-lt 0 (length contents) contents fit) in
     rw (length-bytes_high_first (octet_count n) n) (octet_count_least (length contents) n low fits)
-
-signed_least : (contents : List ℕ) (z : ℤ) → AreOctets contents → 1 ≤ length contents → z ≡ twos_complement (length contents) (big_number (length contents) contents) → length (plain_contents (signed z)) ≤ length contents
-signed_least contents z fit low e =
-    rw (length-bytes_high_first (signed_count z) (low_bytes w64 (signed_count z) z)) (signed_count_least (length contents) (big_number (length contents) contents) z low (number_within contents fit) e)
 
 contents_least : (contents : List ℕ) (value : Datum) → AreOctets contents → StandsFor contents value → length (plain_contents value) ≤ length contents
 contents_least contents (unsigned n) fit h = unsigned_least contents n fit h.0 h.2
-contents_least contents (signed z) fit h = signed_least contents z fit h.0 h.2
+contents_least contents (signed z) fit h =
+    rw (length-bytes_high_first (signed_count z) (low_bytes w64 (signed_count z) z)) (signed_count_least (length contents) (big_number (length contents) contents) z h.0 (big_from-lt 0 (length contents) contents fit) h.2)
 contents_least contents (enumerated n) fit h = unsigned_least contents n fit h.0 h.2
 contents_least contents _ fit h = grind (arith, common_steps)
 

@@ -1,16 +1,18 @@
--- What the reader of tags takes is spelled so, and what is spelled so is taken, whatever follows.
-use Rattle.std.proofs.Common.{◌≡◌, ℕ, ◌-◌, ◌/◌, ◌%◌, ◌<◌, ltb, eqb, List, [], ◌∷◌, ◌++◌, Option, Some, None, refl, sym, ap, subst, ◌∙◌, append_assoc, arith, inl, inr}
+-- What the reader of tags takes is spelled so, what is spelled so is taken, and the plain spelling is the shortest.
+use Rattle.std.proofs.Common.{◌≡◌, ℕ, ◌-◌, ◌/◌, ◌%◌, ◌<◌, ltb, eqb, List, [], ◌∷◌, ◌++◌, Option, Some, None, refl, sym, ap, ◌∙◌, append_assoc, arith, inl, inr, suc, ◌+◌, ◌*◌, ◌^◌, ◌≤◌, min, cond, length, subst}
 use Rattle.std.proofs.lemmas.Grind.{common_steps}
 use Rattle.byteorder.specs.Endian.{big_number}
 use Rattle.bac_wire.specs.declared.tag.Shape.{Shape}
 use Rattle.bac_wire.specs.declared.tag.Shape.TheVariants.{App, Context, Opening, Closing}
 use Rattle.bac_wire.specs.declared.tag.Tag.{Tag}
-use Rattle.std.proofs.lemmas.Bool.{ltb-true, ltb-false, eqb-true}
-use Rattle.std.proofs.lemmas.Option.{some_pair_parts}
-use Rattle.bac_wire.proofs.Readers.{IsReader, Took, reader_of, found_at, chosen, only_if, one_front}
-use Rattle.bac_wire.specs.Tag.{SpellsNumber, SpellsLength, SpellsShape, SpellsTag}
+use Rattle.std.proofs.lemmas.Bool.{ltb-true, ltb-false, eqb-true, cond_both}
+use Rattle.bac_wire.proofs.Readers.{IsReader, Took, took, took_as, reader_of, found_at, chosen, only_if, one_front}
+use Rattle.bac_wire.specs.Tag.{SpellsNumber, SpellsLength, SpellsShape, SpellsTag, IsTag, plain_number, plain_length, low_half, shape_octets, plain_tag}
 use Rattle.bac_wire.specs.Steps.{◌>>=◌}
 use Rattle.bac_wire.specs.TagReading.{next_number, tag_number_at, two_at, four_at, long_length_at, length_at, shape_at, tag_at}
+use Rattle.std.proofs.lemmas.List.{length-append}
+use Rattle.byteorder.specs.Numbers.{big_number-reads_back}
+use Rattle.bac_wire.specs.Front.{AreOctets, IsShortest}
 
 -- ---- what is spelled is read again
 
@@ -47,52 +49,35 @@ pub bind_some : {A B : Type 0} (r : Option A) (f : A → Option B) (y : B) → (
 bind_some None f y e = absurd cc
 bind_some (Some x) f y e = (x, refl, e)
 
-next_takes : (octets : List ℕ) (n : ℕ) (rest : List ℕ) → next_number octets ≡ found_at n rest → (n < 255) × (octets ≡ n ∷ rest)
-next_takes [] n rest e = absurd cc
-next_takes (octet ∷ octets) n rest e =
-    let here = only_if (ltb octet 255) e in
-    let same = some_pair_parts octet n octets rest here.1 in
-    (rw same.0 at (ltb-true octet 255 here.0), cc)
+next_takes : (high : ℕ) (octets : List ℕ) (n : ℕ) (rest : List ℕ) → high ≡ 15 → next_number octets ≡ found_at n rest → Took (SpellsNumber high) octets n rest
+next_takes high [] n rest is e = absurd cc
+next_takes high (octet ∷ octets) n rest is e = let here = only_if (ltb octet 255) e in took (SpellsNumber high) (octet ∷ []) octet n octets rest here.1 (is, ltb-true octet 255 here.0, refl)
 
 number_takes : (high : ℕ) (octets : List ℕ) (n : ℕ) (rest : List ℕ) → tag_number_at high octets ≡ found_at n rest → Took (SpellsNumber high) octets n rest
 unfolding tag_number_at
 number_takes high octets n rest e =
     elim (chosen (ltb high 15) _ _ _ e) [
-      | inl here ↦ let same = some_pair_parts high n octets rest here.1 in ([], (ltb-true high 15 here.0, sym same.0), same.1)
-      | inr there ↦
-          let more = only_if (eqb high 15) there.1 in
-          let next = next_takes octets n rest more.1 in
-          (n ∷ [], (eqb-true high 15 more.0, next.0, refl), next.1)
+      | inl here ↦ took (SpellsNumber high) [] high n octets rest here.1 (ltb-true high 15 here.0, refl)
+      | inr there ↦ let more = only_if (eqb high 15) there.1 in next_takes high octets n rest (eqb-true high 15 more.0) more.1
     ]
 
--- the octets of a long length behind the one that tells how many they are
-abbrev Behind : ℕ → List ℕ → ℕ → List ℕ → Type 0
-Behind first octets n rest = Took (λ front n. SpellsLength 5 (first ∷ front) n) octets n rest
+two_takes : (a : ℕ) (octets : List ℕ) (n : ℕ) (rest : List ℕ) → a ≡ 254 → two_at octets ≡ found_at n rest → Took (SpellsLength 5) (a ∷ octets) n rest
+two_takes a (b ∷ c ∷ octets) n rest is e = took (SpellsLength 5) (a ∷ b ∷ c ∷ []) (big_number 2 (b ∷ c ∷ [])) n octets rest e (refl, is, refl)
+two_takes a _ n rest is e = absurd cc
 
-two_takes : (octets : List ℕ) (n : ℕ) (rest : List ℕ) → two_at octets ≡ found_at n rest → Behind 254 octets n rest
-two_takes (b ∷ c ∷ octets) n rest e =
-    let same = some_pair_parts (big_number 2 (b ∷ c ∷ [])) n octets rest e in
-    (b ∷ c ∷ [], (refl, refl, sym same.0), ap (λ (w : List ℕ). b ∷ c ∷ w) same.1)
-two_takes _ n rest e = absurd cc
-
-four_takes : (octets : List ℕ) (n : ℕ) (rest : List ℕ) → four_at octets ≡ found_at n rest → Behind 255 octets n rest
-four_takes (a ∷ b ∷ c ∷ d ∷ octets) n rest e =
-    let same = some_pair_parts (big_number 4 (a ∷ b ∷ c ∷ d ∷ [])) n octets rest e in
-    (a ∷ b ∷ c ∷ d ∷ [], (refl, refl, sym same.0), ap (λ (w : List ℕ). a ∷ b ∷ c ∷ d ∷ w) same.1)
-four_takes _ n rest e = absurd cc
+four_takes : (a : ℕ) (octets : List ℕ) (n : ℕ) (rest : List ℕ) → a ≡ 255 → four_at octets ≡ found_at n rest → Took (SpellsLength 5) (a ∷ octets) n rest
+four_takes a (b ∷ c ∷ d ∷ f ∷ octets) n rest is e = took (SpellsLength 5) (a ∷ b ∷ c ∷ d ∷ f ∷ []) (big_number 4 (b ∷ c ∷ d ∷ f ∷ [])) n octets rest e (refl, is, refl)
+four_takes a _ n rest is e = absurd cc
 
 long_length_takes : (octets : List ℕ) (n : ℕ) (rest : List ℕ) → long_length_at octets ≡ found_at n rest → Took (SpellsLength 5) octets n rest
 unfolding long_length_at
 long_length_takes [] n rest e = absurd cc
 long_length_takes (a ∷ octets) n rest e =
     elim (chosen (ltb a 254) _ _ _ e) [
-      | inl here ↦ let same = some_pair_parts a n octets rest here.1 in (a ∷ [], (refl, ltb-true a 254 here.0, sym same.0), ap (λ (w : List ℕ). a ∷ w) same.1)
+      | inl here ↦ took (SpellsLength 5) (a ∷ []) a n octets rest here.1 (refl, ltb-true a 254 here.0, refl)
       | inr more ↦ elim (chosen (eqb a 254) _ _ _ more.1) [
-        | inl here ↦ let two = two_takes octets n rest here.1 in rw (eqb-true a 254 here.0) (254 ∷ two.0, two.1, ap (λ (w : List ℕ). 254 ∷ w) two.2)
-        | inr most ↦
-            let here = only_if (eqb a 255) most.1 in
-            let four = four_takes octets n rest here.1 in
-            rw (eqb-true a 255 here.0) (255 ∷ four.0, four.1, ap (λ (w : List ℕ). 255 ∷ w) four.2)
+        | inl here ↦ two_takes a octets n rest (eqb-true a 254 here.0) here.1
+        | inr most ↦ let here = only_if (eqb a 255) most.1 in four_takes a octets n rest (eqb-true a 255 here.0) here.1
       ]
     ]
 
@@ -100,7 +85,7 @@ length_takes : (low : ℕ) (octets : List ℕ) (n : ℕ) (rest : List ℕ) → l
 unfolding length_at
 length_takes low octets n rest e =
     elim (chosen (ltb low 5) _ _ _ e) [
-      | inl here ↦ let same = some_pair_parts low n octets rest here.1 in ([], (ltb-true low 5 here.0, sym same.0), same.1)
+      | inl here ↦ took (SpellsLength low) [] low n octets rest here.1 (ltb-true low 5 here.0, refl)
       | inr more ↦ let here = only_if (eqb low 5) more.1 in rw (eqb-true low 5 here.0) (long_length_takes octets n rest here.1)
     ]
 
@@ -110,18 +95,15 @@ shape_takes low octets shape rest e =
     elim (chosen (ltb low 8) _ _ _ e) [
       | inl here ↦
           let parts = bind_some (length_at low octets) (λ n. Some (App n.0, n.1)) (shape, rest) here.1 in
-          let same = some_pair_parts (App parts.0.0) shape parts.0.1 rest parts.2 in
-          let taken = length_takes low octets parts.0.0 parts.0.1 parts.1 in
-          rw (← same.0) (taken.0, taken.1, taken.2 ∙ ap (λ (w : List ℕ). taken.0 ++ w) same.1)
+          took_as (SpellsLength low) (SpellsShape low) octets parts.0.0 (App parts.0.0) shape parts.0.1 rest (length_takes low octets parts.0.0 parts.0.1 parts.1) parts.2 (λ front s. s)
       | inr high ↦ elim (chosen (eqb low 14) _ _ _ high.1) [
-        | inl here ↦ let same = some_pair_parts Opening shape octets rest here.1 in rw (← same.0) ([], (eqb-true low 14 here.0, refl), same.1)
+        | inl here ↦ took (SpellsShape low) [] Opening shape octets rest here.1 (eqb-true low 14 here.0, refl)
         | inr more ↦ elim (chosen (eqb low 15) _ _ _ more.1) [
-          | inl here ↦ let same = some_pair_parts Closing shape octets rest here.1 in rw (← same.0) ([], (eqb-true low 15 here.0, refl), same.1)
+          | inl here ↦ took (SpellsShape low) [] Closing shape octets rest here.1 (eqb-true low 15 here.0, refl)
           | inr most ↦
               let parts = bind_some (length_at (low - 8) octets) (λ n. Some (Context n.0, n.1)) (shape, rest) most.1 in
-              let same = some_pair_parts (Context parts.0.0) shape parts.0.1 rest parts.2 in
               let taken = length_takes (low - 8) octets parts.0.0 parts.0.1 parts.1 in
-              rw (← same.0) (taken.0, (ltb-false low 8 high.0, taken.1), taken.2 ∙ ap (λ (w : List ℕ). taken.0 ++ w) same.1)
+              took_as (SpellsLength (low - 8)) (SpellsShape low) octets parts.0.0 (Context parts.0.0) shape parts.0.1 rest taken parts.2 (λ front s. (ltb-false low 8 high.0, s))
         ]
       ]
     ]
@@ -135,12 +117,12 @@ tag_takes [] tag rest e = absurd cc
 tag_takes (initial ∷ octets) tag rest e =
     let first = bind_some (tag_number_at (initial / 16) octets) (λ number. shape_at (initial % 16) number.1 >>= (λ shape. Some (tag_of number.0 shape.0, shape.1))) (tag, rest) e in
     let second = bind_some (shape_at (initial % 16) first.0.1) (λ shape. Some (tag_of first.0.0 shape.0, shape.1)) (tag, rest) first.2 in
-    let same = some_pair_parts (tag_of first.0.0 second.0.0) tag second.0.1 rest second.2 in
     let number = number_takes (initial / 16) octets first.0.0 first.0.1 first.1 in
     let shape = shape_takes (initial % 16) first.0.1 second.0.0 second.0.1 second.1 in
-    let spelled : SpellsTag (initial ∷ (number.0 ++ shape.0)) (tag_of first.0.0 second.0.0) = record { initial = initial; number_octets = number.0; length_octets = shape.0; whole = refl {a = initial ∷ (number.0 ++ shape.0)}; number = number.1; shape = shape.1 } in
-    let line : octets ≡ (number.0 ++ shape.0) ++ rest = number.2 ∙ ap (λ (w : List ℕ). number.0 ++ w) (shape.2 ∙ ap (λ (w : List ℕ). shape.0 ++ w) same.1) ∙ sym (append_assoc number.0 shape.0 rest) in
-    (initial ∷ (number.0 ++ shape.0), subst (SpellsTag (initial ∷ (number.0 ++ shape.0))) same.0 spelled, ap (λ (w : List ℕ). initial ∷ w) line)
+    let front : List ℕ = initial ∷ (number.0 ++ shape.0) in
+    let line : initial ∷ octets ≡ front ++ second.0.1 = ap (λ (w : List ℕ). initial ∷ w) (number.2 ∙ ap (λ (w : List ℕ). number.0 ++ w) shape.2 ∙ sym (append_assoc number.0 shape.0 second.0.1)) in
+    let spelled : SpellsTag front (tag_of first.0.0 second.0.0) = record { initial = initial; number_octets = number.0; length_octets = shape.0; whole = refl; number = number.1; shape = shape.1 } in
+    rw line (took SpellsTag front (tag_of first.0.0 second.0.0) tag second.0.1 rest second.2 spelled)
 
 pub tag_reader : IsReader SpellsTag tag_at
 tag_reader = reader_of SpellsTag tag_at tag_takes tag_again
@@ -148,3 +130,80 @@ tag_reader = reader_of SpellsTag tag_at tag_takes tag_again
 -- no spelling of a tag begins another
 pub one_tag : (a b u v : List ℕ) (x y : Tag) → SpellsTag a x → SpellsTag b y → a ++ u ≡ b ++ v → (a ≡ b) × (x ≡ y)
 one_tag = one_front SpellsTag tag_at tag_reader
+
+-- ---- the plain spelling
+
+-- what holds of each branch of a test, where it is taken
+by_test : {A : Type 0} (P : A → Type 0) (m n : ℕ) {x y : A} → (m < n → P x) → (n ≤ m → P y) → P (cond (ltb m n) x y)
+by_test P m n below above = cond_both (ltb m n) _ _ P (λ e. below (ltb-true m n e)) (λ e. above (ltb-false m n e))
+
+plain_number_spells : (n : ℕ) → n < 255 → SpellsNumber (min n 15) (plain_number n) n
+plain_number_spells n fits = by_test (λ octets. SpellsNumber (min n 15) octets n) n 15 (λ low. (omega arith, omega arith)) (λ high. (omega arith, omega arith, refl))
+
+plain_length_spells : (n : ℕ) → n < 2 ^ 32 → SpellsLength (min n 5) (plain_length n) n
+plain_length_spells n fits =
+    let Spelled : List ℕ → Type 0 = λ octets. SpellsLength (min n 5) octets n in
+    by_test Spelled n 5 (λ few. (omega arith, omega arith)) (λ more.
+    by_test Spelled n 254 (λ one. (omega arith, omega arith, refl)) (λ most.
+    by_test Spelled n 65536 (λ two. (omega arith, refl, sym (big_number-reads_back 2 n [] two))) (λ four.
+    (omega arith, refl, sym (big_number-reads_back 4 n [] fits)))))
+
+low_half_below : (shape : Shape) → low_half shape < 16
+low_half_below (App n) = omega arith
+low_half_below _ = omega arith
+
+shape_octets_spell : (shape : Shape) (tag : Tag) → tag.shape ≡ shape → IsTag tag → SpellsShape (low_half shape) (shape_octets shape) shape
+shape_octets_spell (App n) tag e fits = let limit : n < 2 ^ 32 = rw e at fits.count in plain_length_spells n limit
+shape_octets_spell (Context n) tag e fits =
+    let limit : n < 2 ^ 32 = rw e at fits.count in
+    let low : (8 + min n 5) - 8 ≡ min n 5 = omega arith in
+    (omega arith, rw low (plain_length_spells n limit))
+shape_octets_spell Opening tag e fits = (refl, refl)
+shape_octets_spell Closing tag e fits = (refl, refl)
+
+pub plain_tag_spells : (tag : Tag) → IsTag tag → SpellsTag (plain_tag tag) tag
+unfolding plain_tag
+plain_tag_spells tag fits =
+    let low = low_half_below tag.shape in
+    let first : ℕ = 16 * min tag.number 15 + low_half tag.shape in
+    let high_is : first / 16 ≡ min tag.number 15 = omega arith in
+    let low_is : first % 16 ≡ low_half tag.shape = omega arith in
+    record {
+      initial = first;
+      number_octets = plain_number tag.number;
+      length_octets = shape_octets tag.shape;
+      whole = refl;
+      number = rw high_is (plain_number_spells tag.number fits.number);
+      shape = rw low_is (shape_octets_spell tag.shape tag refl fits);
+    }
+
+-- ---- no spelling is shorter
+
+number_least : (high : ℕ) (octets : List ℕ) (n : ℕ) → SpellsNumber high octets n → length (plain_number n) ≤ length octets
+number_least high [] n s = grind (arith, common_steps)
+number_least high _ n s = grind (arith, common_steps)
+
+length_least : (low : ℕ) (octets : List ℕ) (n : ℕ) → AreOctets octets → SpellsLength low octets n → length (plain_length n) ≤ length octets
+length_least low (a ∷ b ∷ c ∷ []) n fit s = let first = fit 1 in let second = fit 2 in grind (arith, common_steps)
+length_least low (a ∷ b ∷ c ∷ d ∷ e ∷ []) n fit s = grind (arith, common_steps)
+length_least low _ n fit s = grind (arith, common_steps)
+
+shape_least : (low : ℕ) (octets : List ℕ) (shape : Shape) → AreOctets octets → SpellsShape low octets shape → length (shape_octets shape) ≤ length octets
+shape_least low octets (App n) fit s = length_least low octets n fit s
+shape_least low octets (Context n) fit s = length_least (low - 8) octets n fit s.1
+shape_least low octets _ fit s = omega arith
+
+pub behind : (front rest : List ℕ) → AreOctets (front ++ rest) → AreOctets rest
+behind [] rest fit = fit
+behind (a ∷ front) rest fit = behind front rest (λ i. fit (suc i))
+
+pub tag_least : (octets : List ℕ) (tag : Tag) → AreOctets octets → SpellsTag octets tag → length (plain_tag tag) ≤ length octets
+unfolding plain_tag
+tag_least octets tag fit s =
+    let number = number_least (s.initial / 16) s.number_octets tag.number s.number in
+    let later : AreOctets s.length_octets = behind (s.initial ∷ s.number_octets) s.length_octets (subst AreOctets s.whole fit) in
+    let shape = shape_least (s.initial % 16) s.length_octets tag.shape later s.shape in
+    omega (arith, number, shape, ap length s.whole, length-append s.number_octets s.length_octets, length-append (plain_number tag.number) (shape_octets tag.shape))
+
+pub plain_tag_shortest : (tag : Tag) → IsTag tag → IsShortest SpellsTag (plain_tag tag) tag
+plain_tag_shortest tag fits = record { spelled = plain_tag_spells tag fits; shortest = λ other fit s. tag_least other tag fit s }

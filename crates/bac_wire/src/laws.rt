@@ -75,36 +75,36 @@ pub fn parameters()
 {}
 
 /// Always.
-pub fn same_full(a: &Full, b: &Full) -> bool
-    ensures { IsTrue result ↔ (a.now ≡ b.now) }
+pub fn same_full(full: &Full, other: &Full) -> bool
+    ensures { IsTrue result ↔ (full.now ≡ other.now) }
 {
-    a == b
+    full == other
 }
 
 /// The class, and the length of the contents where it says one.
-pub fn same_shape(a: &Shape, b: &Shape) -> bool
-    ensures { IsTrue result ↔ (a.now ≡ b.now) }
+pub fn same_shape(shape: &Shape, other: &Shape) -> bool
+    ensures { IsTrue result ↔ (shape.now ≡ other.now) }
 {
-    a == b
+    shape == other
 }
 
 /// Number and shape.
-pub fn same_tag(a: &Tag, b: &Tag) -> bool
-    ensures { IsTrue result ↔ (a.now ≡ b.now) }
+pub fn same_tag(tag: &Tag, other: &Tag) -> bool
+    ensures { IsTrue result ↔ (tag.now ≡ other.now) }
 {
-    a == b
+    tag == other
 }
 
 /// Type and instance.
-pub fn same_identifier(a: &ObjectId, b: &ObjectId) -> bool
-    ensures { IsTrue result ↔ (identifier a.now ≡ identifier b.now) }
+pub fn same_identifier(object: &ObjectId, other: &ObjectId) -> bool
+    ensures { IsTrue result ↔ (identifier object.now ≡ identifier other.now) }
 {
-    a == b
+    object == other
 }
 
 /// Kind and contents, wherever borrowed octets lie.
-pub fn same_value(a: &Value<'_>, b: &Value<'_>) -> bool
-    ensures { IsTrue result ↔ (datum a.now ≡ datum b.now) }
+pub fn same_value(value: &Value<'_>, other: &Value<'_>) -> bool
+    ensures { IsTrue result ↔ (datum value.now ≡ datum other.now) }
 {
-    a == b
+    value == other
 }

@@ -3,6 +3,7 @@ use Rattle.std.proofs.Common.{◌≡◌, true, inl, inr, List, [], map, Option, 
 use Rattle.std.specs.Borrow.{Bor}
 use Rattle.std.specs.Option.{option_map}
 use Rattle.clap.specs.Walk.{Row, Rule, Text, texts}
+use Rattle.clap.proofs.WalkLemmas.{first_value-rows}
 use Rattle.clap_laws.specs.Commands.{rules_of}
 use Rattle.clap_laws.specs.Numbers.{FitsWord, bounds_in, is_needed}
 use Rattle.clap_laws.specs.Passes.{IsTaken}
@@ -10,6 +11,9 @@ use Rattle.clap_laws.proofs.Getters.{needed}
 use Rattle.bac_words.specs.Command.{bacrp, bacwp, bacwi}
 use Rattle.bac_words.specs.Job.{IsClient, IsGiven, IsNumber, IsRequest, bounds}
 use Rattle.bac_words.specs.Marks.{unmarked}
+
+-- What the getters of words read.
+pub ruleset first_words = (first_value-rows)
 
 module _ (id : Text) (rows : List Row) where
   pub of_tool : (rules : List Rule) → IsTaken rules rows → bounds_in rules id ≡ bounds id → FitsWord (bounds id) → IsNumber id rows

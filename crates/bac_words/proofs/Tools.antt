@@ -22,8 +22,7 @@ use Rattle.bac_words.specs.Marks.{marked_words}
 use Rattle.clap_laws.specs.Entering.{asks_for_help}
 use Rattle.bac_words.specs.declared.jobs.Job.{Job}
 use Rattle.clap_laws.proofs.Enters.{enters}
-use Rattle.clap_laws.proofs.Found.{when_found}
-use Rattle.clap_laws.proofs.Rows.{level_taken}
+use Rattle.clap_laws.proofs.Rows.{level_taken, when_found}
 
 abbrev AllOf : (Shape → Type 0) → List Shape → Type 0
 AllOf P [] = Unit {0}

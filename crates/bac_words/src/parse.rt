@@ -195,6 +195,7 @@ fn priority(matches: &ArgMatches<'_>) -> Option<u8>
 }
 
 // The peer of `--mac`, which has no route.
+#[tactic(auto, using(crate::proofs::Given::first_words))]
 fn peer(matches: &ArgMatches<'_>) -> Option<Peer>
     ensures { option_map station result ≡ peer_given (rows_of (found_of matches.now)) }
 {
@@ -209,6 +210,7 @@ fn peer_of(word: &str) -> Option<Peer>
 }
 
 // The index of a write, as it was typed.
+#[tactic(auto, using(crate::proofs::Given::first_words))]
 fn index(matches: &ArgMatches<'_>) -> Option<Option<u32>>
     ensures { result ≡ index_given (rows_of (found_of matches.now)) }
 {

@@ -20,8 +20,7 @@ use Rattle.clap.proofs.ValueTestLemmas.{accepts-Accepts}
 use Rattle.clap.proofs.WalkLemmas.{both, one_text-rows}
 use Rattle.clap_laws.specs.Passes.{IsTaken, RowPasses, RowsPass}
 use Rattle.clap_laws.specs.Numbers.{FitsWord, IsWithin, bounds_by, bounds_in, decimal, is_needed, number_of}
-use Rattle.clap_laws.proofs.Found.{when_found}
-use Rattle.clap_laws.proofs.Rows.{any_not}
+use Rattle.clap_laws.proofs.Rows.{any_not, when_found}
 
 -- the entry of an id passed
 entry : (c : List Rule) (id : Text) (rows : List Row) (r : Row) → RowsPass c rows → find (λ r. bytes_eq r.id id) rows ≡ Some r

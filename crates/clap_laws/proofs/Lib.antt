@@ -1,4 +1,3 @@
-pub mod Found
 pub mod Rows
 pub mod Enters
 pub mod Getters

@@ -1,6 +1,6 @@
 -- What a command of one level leaves in its matches, where `clap` takes the words: each value passed
 -- the parser of its argument, and each argument that has an entry has a value.
-use Rattle.std.proofs.Common.{◌≡◌, ◌∙◌, ◌<◌, ◌&&◌, ◌||◌, ℕ, Bool, cond, true, false, not, zero, suc, refl, sym, ap, subst, arith, List, [], ◌∷◌, ◌++◌, length, drop, Option, Some, None, is_some, IfSome, encode_utf8, slice_get, length-append}
+use Rattle.std.proofs.Common.{◌≡◌, ◌∙◌, ◌<◌, ◌&&◌, ◌||◌, ℕ, Bool, cond, true, false, not, zero, suc, refl, sym, ap, subst, arith, List, [], ◌∷◌, ◌++◌, length, drop, Option, Some, None, is_some, IfSome, encode_utf8, slice_get, length-append, codes, if◌then◌else◌}
 use Rattle.std.specs.List.{find, fold, list_all, list_any}
 use Rattle.std.specs.Str.{bytes_eq, chars}
 use Rattle.std.specs.Prelude.{nat_lt}
@@ -23,9 +23,20 @@ use Rattle.clap.specs.declared.builder.action.ArgAction.TheVariants as action
 use Rattle.clap.specs.declared.parser.matches.ValueSource.TheVariants.{CommandLine}
 use Rattle.clap.proofs.WalkLemmas.{both}
 use Rattle.clap.proofs.SimpleLemmas.{is_false}
-use Rattle.clap_laws.proofs.Found.{when_found}
 use Rattle.clap_laws.specs.Passes.{RowPasses, RowsPass}
 use Rattle.clap_laws.specs.Entering.{keeps_values, is_plain_rule, has_distinct_ids, IsPlainLevel, LevelsPass}
+
+-- What holds of the element that a search finds, by induction over the list.
+pub when_found : {X : Type 0} (p : X → Bool) (P : List X → Type 0) (a : X) → ((xs : List X) → p a ≡ true → P (a ∷ xs))
+    → ((x : X) (xs : List X) → p x ≡ false → find p xs ≡ Some a → P xs → P (x ∷ xs)) → (xs : List X) → find p xs ≡ Some a → P xs
+when_found p P a here later [] is = cc
+when_found {X} p P a here later (x ∷ xs) is = go (p x) refl (when_found p P a here later xs) is
+  where
+    go : (b : Bool) → p x ≡ b → (find p xs ≡ Some a → P xs) → cond b (Some x) (find p xs) ≡ Some a → P (x ∷ xs)
+    go true passes rest is =
+        let same : x ≡ a = cc in
+        subst (λ (y : X). P (y ∷ xs)) (sym same) (here xs (subst (λ (y : X). p y ≡ true) same passes))
+    go false fails rest is = later x xs fails is (rest is)
 
 -- ---- a list of kinds that is empty
 
@@ -205,7 +216,7 @@ abbrev pub IsElsewhere : (Text → Type 0) → Step → Type 0
 IsElsewhere P (w.subcommand name) = P name
 IsElsewhere P _ = Unit {0}
 
-pub plain_keeps : (c : List Rule) (waiting : Waiting) (word : Text) (h : Held) (P : Text → Type 0)
+plain_keeps : (c : List Rule) (waiting : Waiting) (word : Text) (h : Held) (P : Text → Type 0)
     → ((plain_word c waiting word h).0.rows ≡ h.rows) × IsElsewhere P (plain_word c waiting word h).1
 plain_keeps c w.idle word h P = (refl, tt)
 plain_keeps c w.positional word h P = (refl, tt)
@@ -215,83 +226,99 @@ plain_keeps c (w.option id) word h P = go (arg_by_id c id)
     go None = (refl, tt)
     go (Some a) = (refl, tt)
 
-pub flag_keeps : (c : List Rule) (waiting : Waiting) (word : Text) (h : Held) (o : Outcome) (P : Text → Type 0)
+flag_keeps : (c : List Rule) (waiting : Waiting) (word : Text) (h : Held) (o : Outcome) (P : Text → Type 0)
     → ((after_flag c waiting word h o).0.rows ≡ h.rows) × IsElsewhere P (after_flag c waiting word h o).1
 flag_keeps c waiting word h w.done P = (refl, tt)
 flag_keeps c waiting word h (w.waits id) P = (refl, tt)
 flag_keeps c waiting word h w.plain P = plain_keeps c waiting word h P
 flag_keeps c waiting word h w.refused P = plain_keeps c waiting word h P
 
-module _ (s : Shape) (level : IsPlainLevel s.rules) where
-  -- Where nothing is wrong, entries that passed stay so.
-  abbrev Leaves : Kinds → Held → Held → Type 0
-  Leaves fault h after = fault ≡ [] → RowsPass s.rules h.rows → RowsPass s.rules after.rows
+-- the name asks for help
+abbrev pub asks : Shape → Text → Bool
+asks s name = bytes_eq name (codes "help") && not s.disable_help_subcommand
 
-  plain_pass : (waiting : Waiting) (word : Text) (h : Held) → RowsPass s.rules h.rows → RowsPass s.rules (plain_word s.rules waiting word h).0.rows
-  plain_pass waiting word h = subst (RowsPass s.rules) (sym (plain_keeps s.rules waiting word h (λ _. Unit {0})).0)
+module _ (s : Shape) where
+  -- Where nothing is wrong, entries that passed stay so, and the word does not ask for help.
+  abbrev Goes : Kinds → Held → Held × Step → Type 0
+  Goes fault h met =
+      fault ≡ [] → (IsPlainLevel s.rules → RowsPass s.rules h.rows → RowsPass s.rules met.0.rows) × IsElsewhere (λ name. asks s name ≡ false) met.1
 
-  flagged_pass : (waiting : Waiting) (word : Text) (met : Held × Outcome) → RowsPass s.rules met.0.rows
-      → RowsPass s.rules (after_flag s.rules waiting word met.0 met.1).0.rows
-  flagged_pass waiting word met = subst (RowsPass s.rules) (sym (flag_keeps s.rules waiting word met.0 met.1 (λ _. Unit {0})).0)
+  either : (b : Bool) (fault : Kinds) (h : Held) (met other : Held × Step) → Goes [] h met → Goes fault h other → Goes (if b then [] else fault) h (if b then met else other)
+  either true fault h met other first second = first
+  either false fault h met other first second = second
 
-  short_word_pass : (waiting : Waiting) (word : Text) (o : Option Text) (h : Held)
-      → Leaves (option_map_or (λ flags. bundle_fault s.rules s.args_override_self flags h) o []) h (short_or_plain s.rules waiting word o h).0
-  short_word_pass waiting word None h none rows = plain_pass waiting word h rows
-  short_word_pass waiting word (Some flags) h none rows =
-      flagged_pass waiting word (bundle s.rules flags h)
-      (bundle_pass s.rules level s.args_override_self (length flags) flags h.skip plain (record h { skip = 0 }) none rows)
+  plain_goes : (waiting : Waiting) (word : Text) (h : Held) → Goes [] h (plain_word s.rules waiting word h)
+  plain_goes waiting word h none =
+      let kept = plain_keeps s.rules waiting word h (λ name. asks s name ≡ false) in
+      (λ level rows. subst (RowsPass s.rules) (sym kept.0) rows, kept.1)
 
-  flag_word_pass : (waiting : Waiting) (word : Text) (o : Option (Text × Option Text)) (h : Held)
-      → Leaves (flag_word_fault s.rules s.args_override_self o word h) h (long_or_other s.rules waiting word o h).0
-  flag_word_pass waiting word None h none rows = short_word_pass waiting word (short_of word) h none rows
-  flag_word_pass waiting word (Some p) h none rows =
-      flagged_pass waiting word (long_met s.rules (arg_by_long s.rules p.0) p.1 h)
-      (long_pass s.rules level s.args_override_self (arg_by_long s.rules p.0) p.1 h
-      (found_own s.rules level s.args_override_self (λ a. not (is_some a.index) && has_long a p.0)) none rows)
+  flag_goes : (fault : Kinds) (waiting : Waiting) (word : Text) (h : Held) (met : Held × Outcome)
+      → (IsPlainLevel s.rules → fault ≡ [] → RowsPass s.rules h.rows → RowsPass s.rules met.0.rows) → Goes fault h (after_flag s.rules waiting word met.0 met.1)
+  flag_goes fault waiting word h met passes none =
+      let kept = flag_keeps s.rules waiting word met.0 met.1 (λ name. asks s name ≡ false) in
+      (λ level rows. subst (RowsPass s.rules) (sym kept.0) (passes level none rows), kept.1)
 
-  other_pass : (o : Option Text) (waiting : Waiting) (position : ℕ) (word : Text) (h : Held)
-      → Leaves (other_fault s o word h) h (subcommand_or_other s.rules o waiting position word h).0
-  other_pass (Some name) waiting position word h none rows = rows
-  other_pass None waiting position word h none rows = grind (arith, flag_word_pass waiting word (long_of word) h)
+  short_goes : (waiting : Waiting) (word : Text) (o : Option Text) (h : Held)
+      → Goes (option_map_or (λ flags. bundle_fault s.rules s.args_override_self flags h) o []) h (short_or_plain s.rules waiting word o h)
+  short_goes waiting word None h = plain_goes waiting word h
+  short_goes waiting word (Some flags) h =
+      flag_goes _ waiting word h (bundle s.rules flags h)
+      (λ level. bundle_pass s.rules level s.args_override_self (length flags) flags h.skip plain (record h { skip = 0 }))
 
-  word_pass : (names : Names) (is_trailing : Bool) (waiting : Waiting) (position : ℕ) (word : Text) (h : Held)
-      → Leaves (word_fault s names is_trailing waiting word h) h (word_met s.rules names is_trailing waiting position word h).0
-  word_pass names is_trailing waiting position word h none rows = grind (arith, other_pass (subcommand_met names waiting word) waiting position word h)
+  long_goes : (waiting : Waiting) (word : Text) (o : Option (Text × Option Text)) (h : Held)
+      → Goes (flag_word_fault s.rules s.args_override_self o word h) h (long_or_other s.rules waiting word o h)
+  long_goes waiting word None h = short_goes waiting word (short_of word) h
+  long_goes waiting word (Some p) h =
+      flag_goes _ waiting word h (long_met s.rules (arg_by_long s.rules p.0) p.1 h)
+      (λ level. long_pass s.rules level s.args_override_self (arg_by_long s.rules p.0) p.1 h
+      (found_own s.rules level s.args_override_self (λ a. not (is_some a.index) && has_long a p.0)))
 
-  step_pass : (word : Text) (walk : Walk) (h : Held) (step : Step) → Leaves (step_fault s walk.position h step) h (after_step s.rules word walk h step).held
-  step_pass word walk h (w.next waiting) none rows = rows
-  step_pass word walk h (w.trailing position) none rows = rows
-  step_pass word walk h (w.subcommand name) none rows = rows
-  step_pass word walk h w.value none rows = go (arg_by_index s.rules walk.position) none
+  other_goes : (o : Option Text) (waiting : Waiting) (position : ℕ) (word : Text) (h : Held)
+      → Goes (other_fault s o word h) h (subcommand_or_other s.rules o waiting position word h)
+  other_goes (Some name) waiting position word h = λ none. (λ level rows. rows, grind arith)
+  other_goes None waiting position word h =
+      either (bytes_eq word (45 ∷ 45 ∷ [])) _ h (h, w.trailing position) _ (λ none. (λ level rows. rows, tt)) (long_goes waiting word (long_of word) h)
+
+  word_goes : (names : Names) (is_trailing : Bool) (waiting : Waiting) (position : ℕ) (word : Text) (h : Held)
+      → Goes (word_fault s names is_trailing waiting word h) h (word_met s.rules names is_trailing waiting position word h)
+  word_goes names is_trailing waiting position word h =
+      either is_trailing _ h (h, w.value) _ (λ none. (λ level rows. rows, tt)) (other_goes (subcommand_met names waiting word) waiting position word h)
+
+  -- ---- the walk
+
+  -- The entries passed, and the subcommand that was met asks for no help.
+  abbrev pub Stands : Walk → Type 0
+  Stands walk = (IsPlainLevel s.rules → RowsPass s.rules walk.held.rows) × IfSome walk.stopped (λ p. asks s p.0 ≡ false)
+
+  step_goes : (word : Text) (walk : Walk) (h : Held) (step : Step) → (IsPlainLevel s.rules → RowsPass s.rules h.rows) → IsElsewhere (λ name. asks s name ≡ false) step
+      → IfSome walk.stopped (λ p. asks s p.0 ≡ false) → step_fault s walk.position h step ≡ [] → Stands (after_step s.rules word walk h step)
+  step_goes word walk h (w.next waiting) rows kept stop none = (rows, stop)
+  step_goes word walk h (w.trailing position) rows kept stop none = (rows, stop)
+  step_goes word walk h (w.subcommand name) rows kept stop none = (rows, kept)
+  step_goes word walk h w.value rows kept stop none = go (arg_by_index s.rules walk.position) none
     where
       go : (o : Option Rule) → option_map_or (λ a. positional_fault s.rules s.args_override_self a h) o (stray_fault s) ≡ []
-          → RowsPass s.rules (to_positional s.rules o word walk h).held.rows
-      go None none = rows
-      go (Some a) none = grind (arith, settled_pass s.rules level s.args_override_self h)
+          → Stands (to_positional s.rules o word walk h)
+      go None none = (rows, stop)
+      go (Some a) none = (λ level. let passed = rows level in grind (arith, settled_pass s.rules level s.args_override_self h), tt)
 
--- ---- the walk
-
--- What holds before the first word, and after each that is met or passed over, holds in the end.
-pub walk_keeps : (s : Shape) (names : Names) (P : Walk → Type 0)
-    → ((walk : Walk) (p : Text × List Text) (more : List Text) → walk.stopped ≡ Some p → P walk → P (record walk { stopped = Some (p.0, more) }))
-    → ((walk : Walk) (word : Text) → walk.stopped ≡ None → word_fault s names walk.is_trailing walk.waiting word walk.held ≡ []
-    → (let met = word_met s.rules names walk.is_trailing walk.waiting walk.position word walk.held in
-    step_fault s walk.position met.0 met.1 ≡ [] → P walk → P (after_step s.rules word walk met.0 met.1)))
-    → (walk : Walk) (words : List Text) → walk_fault s names walk words ≡ [] → P walk → P (fold (walked s.rules names) walk words)
-unfolding walk_fault walked
-walk_keeps s names P passed met walk [] none h = h
-walk_keeps s names P passed met walk (word ∷ rest) none h =
-    let parts = none_fails _ _ none in
-    walk_keeps s names P passed met (walked s.rules names walk word) rest parts.1 (go walk.stopped refl parts.0)
-  where
-    go : (o : Option (Text × List Text)) → walk.stopped ≡ o
-        → (let met = word_met s.rules names walk.is_trailing walk.waiting walk.position word walk.held in
-        cond (is_some o) [] (or_else (word_fault s names walk.is_trailing walk.waiting word walk.held) (step_fault s walk.position met.0 met.1))) ≡ []
-        → P (walked_from s.rules names o walk word)
-    go (Some p) is none = passed walk p (p.1 ++ word ∷ []) is h
-    go None is none =
-        let parts = none_fails _ _ none in
-        met walk word is parts.0 parts.1 h
+  -- What holds before the first word holds after the last.
+  pub walk_goes : (names : Names) (walk : Walk) (words : List Text) → walk_fault s names walk words ≡ [] → Stands walk → Stands (fold (walked s.rules names) walk words)
+  unfolding walk_fault walked
+  walk_goes names walk [] none h = h
+  walk_goes names walk (word ∷ rest) none h =
+      let parts = none_fails _ _ none in
+      walk_goes names (walked s.rules names walk word) rest parts.1 (go walk.stopped refl parts.0)
+    where
+      go : (o : Option (Text × List Text)) → walk.stopped ≡ o
+          → (let met = word_met s.rules names walk.is_trailing walk.waiting walk.position word walk.held in
+          cond (is_some o) [] (or_else (word_fault s names walk.is_trailing walk.waiting word walk.held) (step_fault s walk.position met.0 met.1))) ≡ []
+          → Stands (walked_from s.rules names o walk word)
+      go (Some p) is none = (h.0, rw is at h.1)
+      go None is none =
+          let parts = none_fails _ _ none in
+          let goes = word_goes names walk.is_trailing walk.waiting walk.position word walk.held parts.0 in
+          step_goes word walk _ _ (λ level. goes.0 level (h.0 level)) goes.1 h.1 parts.1
 
 -- ---- after the walk
 
@@ -318,11 +345,7 @@ level_taken s words level negates none =
     let defaults = none_fails (defaults_fault (settled s.rules end).rows s.rules) (check_fault s rows false) settle.1 in
     let missing : Bool = list_any (λ a. a.required && not (is_given a.id rows)) s.rules in
     let check : (not (s.subcommand_negates_reqs && false) && missing) ≡ false = last_check _ _ _ defaults.1 in
-    let walked = walk_keeps s [] (λ walk. RowsPass s.rules walk.held.rows) (λ walk p more is rows. rows)
-    (λ walk word is no_word no_step rows.
-    let met = word_met s.rules [] walk.is_trailing walk.waiting walk.position word walk.held in
-    step_pass s level word walk met.0 met.1 no_step (word_pass s level [] walk.is_trailing walk.waiting walk.position word walk.held no_word rows))
-    (walk_from nothing_held) words all.0 tt in
+    let walked = (walk_goes s [] (walk_from nothing_held) words all.0 ((λ level. tt), tt)).0 level in
     record {
       entries = subst (RowsPass s.rules) (sym (defaults_pass s.rules (settled s.rules end).rows level.plain))
           (settled_pass s.rules level s.args_override_self end settle.0 walked);

@@ -8,6 +8,7 @@ mod tools;
 mod words;
 
 use bac_pdu::Peer;
+use std::alloc::Global;
 use std::process::Abort;
 use std::test::Fail;
 
@@ -21,11 +22,7 @@ const P: Peer = Peer {
 };
 
 /// 127.0.0.1:50000, which asks.
-const Q: Peer = Peer {
-    ip: LOCALHOST,
-    port: 50_000,
-    route: None,
-};
+const Q: Peer = Peer { port: 50_000, ..P };
 
 /// The present value of analog-input 5, as it is answered.
 const VALUE: &[u8] =
@@ -37,14 +34,16 @@ const WHO_IS: &[u8] = b"\x81\x0a\x00\x08\x01\x00\x10\x08";
 const I_AM: &[u8] =
     b"\x81\x0a\x00\x15\x01\x00\x10\x00\xc4\x02\x00\x04\xd2\x22\x05\xc4\x91\x03\x22\x01\x04";
 
-/// Sees that these octets came of the row, as digits.
-fn expect_digits<H: Abort + AllocGlobal>(
-    rt: &H,
-    octets: &[u8],
-    digits: &str,
-    row: &str,
-) -> Result<(), Fail> {
-    let written = hex::encode(rt.alloc(), octets)?;
-    assert_eq!(rt; written.as_str(), digits, "for {row:?}");
-    Ok(())
+/// Whether the octets are these digits.
+fn are_digits(alloc: Global, octets: &[u8], digits: &str) -> bool {
+    match hex::encode(alloc, octets) {
+        Ok(written) => written.as_str() == digits,
+        Err(_) => false,
+    }
+}
+
+/// Whether the room has this text, and is as it was behind it.
+fn is_text(room: &[u8; 96], text: &str) -> bool {
+    let len = text.len();
+    room.get(..len) == Some(text.as_bytes()) && room.get(len..) == [0xff; 96].get(len..)
 }

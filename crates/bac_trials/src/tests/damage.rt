@@ -1,6 +1,7 @@
 //! Each datagram cut, and with each octet behind the first two changed in all 255 ways, those of every length among them.
 
-use crate::tests::datagrams::all_datagrams;
+use crate::tests::datagrams::DATAGRAMS;
+use crate::tests::pdu::datagrams::carries;
 use crate::tests::{
     ASKER, CONTROLLER, asking, is_asking, is_fresh, is_silent, octets, small_device,
 };
@@ -8,7 +9,6 @@ use bac_device::Device;
 use bac_pdu::{open_datagram, read_apdu};
 use bac_tsm::Client;
 use bac_wire::Frame;
-use std::test::Fail;
 
 /// Whether the octets are ignored: they carry nothing, and client and device stay as they were.
 fn is_ignored(client: &mut Client, device: &mut Device, octets: &[u8]) -> bool {
@@ -50,8 +50,7 @@ fn is_reply(octets: &[u8]) -> bool {
     match octets {
         [0x81, 0x0a, _, _, 0x01, 0x00, apdu @ ..] => read_apdu(apdu).is_some(),
         [0x81, 0x0a, _, _, 0x01, 0x20, _, _, count, rest @ ..] => {
-            let behind = usize::from(*count) + 1;
-            let apdu = rest.get(behind..).unwrap_or(&[]);
+            let apdu = rest.get(usize::from(*count) + 1..).unwrap_or(&[]);
             read_apdu(apdu).is_some()
         }
         _ => false,
@@ -60,7 +59,7 @@ fn is_reply(octets: &[u8]) -> bool {
 
 /// Whether the octets are taken with the octet at the place changed in each way. With another length in the link header, octets 2
 /// and 3, they are ignored.
-fn is_taken_when_changed(
+fn is_tolerated(
     client: &mut Client,
     device: &mut Device,
     datagram: &mut [u8],
@@ -86,9 +85,7 @@ fn is_taken_when_changed(
 /// Whether the link header has the datagram's own length.
 fn has_own_length(datagram: &[u8]) -> bool {
     match datagram {
-        [_, _, high, low, ..] => {
-            usize::from(u16::from_be_bytes([*high, *low])) == datagram.len()
-        }
+        [_, _, a, b, ..] => usize::from(u16::from_be_bytes([*a, *b])) == datagram.len(),
         _ => false,
     }
 }
@@ -106,18 +103,27 @@ fn is_survived(datagram: &mut [u8]) -> bool {
         }
     }
     for place in 2..datagram.len() {
-        if !is_taken_when_changed(&mut client, &mut device, datagram, place) {
+        if !is_tolerated(&mut client, &mut device, datagram, place) {
             return false;
         }
     }
     true
 }
 
+/// Whether the datagram has neither source nor destination, and is its sender's, with its APDU behind six octets.
+fn is_plain(datagram: &[u8]) -> bool {
+    matches!(datagram, [0x81, 0x0a, _, _, 0x01, 0x00 | 0x04, ..])
+        && carries(CONTROLLER, datagram, CONTROLLER, false, 6)
+        && carries(ASKER, datagram, ASKER, false, 6)
+}
+
 #[test]
-fn cut_and_changed_datagrams(rt: HostRuntime) -> Result<(), Fail> {
-    for text in all_datagrams(&rt)? {
+fn plain_cut_and_changed_datagrams(rt: HostRuntime) {
+    let mut plain = 0_u8;
+    for text in DATAGRAMS.split(' ') {
         let mut datagram = octets(&rt, text);
+        plain = plain.wrapping_add(u8::from(is_plain(datagram.as_slice())));
         assert!(&rt; is_survived(datagram.as_mut_slice()), "{text}");
     }
-    Ok(())
+    assert!(&rt; plain == 84);
 }

@@ -2,4 +2,4 @@
 
 mod apdus;
 mod bodies;
-mod datagrams;
+pub(crate) mod datagrams;

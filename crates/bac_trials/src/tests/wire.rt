@@ -1,11 +1,10 @@
 //! A frame at its limit, tags, and regions. Values, and what spells none, stand in tests/rows.
 
-use crate::tests::octets;
+use crate::tests::{nested, octets};
 use bac_wire::{Frame, Shape, Tag, Value, is_region, read_tag, region, write_tag, write_value};
-use std::test::Fail;
 
 /// How many octets are appended in turn, whether there is room for them, and how long the frame is then.
-const APPENDED: [(usize, bool, usize); 5] = [
+static APPENDED: [(usize, bool, usize); 5] = [
     (1496, true, 1496),
     (2, false, 1496),
     (1, true, 1497),
@@ -13,61 +12,67 @@ const APPENDED: [(usize, bool, usize); 5] = [
     (1, false, 1497),
 ];
 
+fn is_appended(frame: &mut Frame, count: usize, fits: bool, len: usize) -> bool {
+    let octets = [7; 1497].get(..count).unwrap_or(&[]);
+    frame.append(octets).is_ok() == fits && frame.len() == len
+}
+
 #[test]
 fn a_frame_is_filled_cut_and_cleared(rt: HostRuntime) {
-    let octets = [7; 1497];
     let mut frame = Frame::new();
-    for (count, fits, len) in APPENDED {
-        assert!(&rt; frame.append(&octets[..count]).is_ok() == fits, "{count}");
-        assert!(&rt; frame.len() == len, "{count}");
+    assert!(&rt; frame.is_empty());
+    for (count, fits, len) in &APPENDED {
+        assert!(&rt; is_appended(&mut frame, *count, *fits, *len), "{count}");
     }
-    assert!(&rt; frame.as_slice() == octets.as_slice());
+    assert!(&rt; frame.as_slice() == [7; 1497].as_slice());
+    frame.clear();
+    assert!(&rt; frame.is_empty() && frame.append(&[1, 2, 3]).is_ok() && frame.len() == 3);
     frame.truncate(2);
-    assert!(&rt; frame.as_slice() == [7, 7].as_slice());
+    assert!(&rt; frame.as_slice() == [1, 2].as_slice());
     frame.clear();
     assert!(&rt; frame.is_empty());
 }
 
-/// How many octets of a string are written to an empty frame, whether there is room for them, and how long the frame is then.
-const STRINGS: [(usize, bool, usize); 2] = [(1493, true, 1497), (1494, false, 0)];
-
-#[test]
-fn the_longest_string(rt: HostRuntime) {
-    let zeros = [0; 1494];
-    for (count, fits, len) in STRINGS {
-        let mut frame = Frame::new();
-        let written = write_value(&mut frame, &Value::Octets(&zeros[..count]));
-        assert!(&rt; written.is_ok() == fits && frame.len() == len, "{count}");
-        let front = b"\x65\xfe\x05\xd5";
-        assert!(&rt; frame.is_empty() || frame.as_slice().starts_with(front));
+/// Whether a frame has a string of so many octets behind this front; else it is empty.
+fn is_written(count: usize, front: &[u8]) -> bool {
+    let mut frame = Frame::new();
+    let octets = [0; 1494].get(..count).unwrap_or(&[]);
+    if write_value(&mut frame, &Value::Octets(octets)).is_err() {
+        return front.is_empty() && frame.is_empty();
     }
+    let len = front.len().wrapping_add(count);
+    frame.len() == len && frame.as_slice().starts_with(front) && !front.is_empty()
 }
 
-const UNSOUND: [Value<'static>; 2] = [Value::Bits(8, &[0]), Value::Bits(1, &[])];
-
 #[test]
-fn values_that_can_not_be_spelled(rt: HostRuntime) {
-    for value in UNSOUND {
-        assert!(&rt; !value.sound(), "{value:?}");
-    }
+fn the_longest_string_and_values_that_can_not_be_spelled(rt: HostRuntime) {
+    assert!(&rt; is_written(1493, b"\x65\xfe\x05\xd5") && is_written(1494, b""));
+    assert!(&rt; !Value::Bits(8, &[0]).sound() && !Value::Bits(1, &[]).sound());
+    assert!(&rt; Value::Bits(0, &[]).sound());
 }
 
 /// Octets, and the number and the shape of the tag that they spell.
-const TAGS: [(&str, u8, Shape); 4] = [
+static TAGS: [(&str, u8, Shape); 4] = [
     ("f914", 20, Shape::Context(1)),
     ("f905", 5, Shape::Context(1)),
     ("3e", 3, Shape::Opening),
     ("3f", 3, Shape::Closing),
 ];
 
+fn tag_of(spelled: &[u8]) -> Option<(u8, Shape)> {
+    match read_tag(spelled) {
+        Some((tag, size)) if size == spelled.len() => Some((tag.number, tag.shape)),
+        _ => None,
+    }
+}
+
 #[test]
 fn tags(rt: HostRuntime) {
-    for (text, number, shape) in TAGS {
-        let spelled = octets(&rt, text);
-        let read = Some((Tag { number, shape }, spelled.len()));
-        assert!(&rt; read_tag(spelled.as_slice()) == read, "{text}");
+    for (text, number, shape) in &TAGS {
+        let tag = tag_of(octets(&rt, text).as_slice());
+        assert!(&rt; tag == Some((*number, *shape)), "{text}");
     }
-    for text in ["f9ff", "0605", "06"] {
+    for text in &["f9ff", "0605", "06"] {
         assert!(&rt; read_tag(octets(&rt, text).as_slice()).is_none(), "{text}");
     }
     let mut frame = Frame::new();
@@ -77,7 +82,7 @@ fn tags(rt: HostRuntime) {
 }
 
 /// Octets, how many of them stand before the closing tag 3 that ends the whole items at their front, and whether they are whole items.
-const REGIONS: [(&str, Option<usize>, bool); 8] = [
+static REGIONS: [(&str, Option<usize>, bool); 8] = [
     ("3f", Some(0), false),
     ("003f", Some(1), false),
     ("72003f3f", Some(3), false),
@@ -88,19 +93,20 @@ const REGIONS: [(&str, Option<usize>, bool); 8] = [
     ("0e3f", None, false),
 ];
 
+/// Whether so many brackets inside one another are whole items, and how many octets stand before a closing tag 3 behind them.
+fn ends_nested(depth: usize) -> (bool, Option<usize>) {
+    let mut frame = nested(b"", depth);
+    let is_whole = is_region(frame.as_slice());
+    let _ = frame.append(&[0x3f]);
+    (is_whole, region(frame.as_slice()))
+}
+
 #[test]
-fn regions_and_nesting(rt: HostRuntime) -> Result<(), Fail> {
-    for (text, end, is_whole) in REGIONS {
+fn regions_and_nesting(rt: HostRuntime) {
+    for (text, end, is_whole) in &REGIONS {
         let part = octets(&rt, text);
-        assert!(&rt; region(part.as_slice()) == end, "{text}");
-        assert!(&rt; is_region(part.as_slice()) == is_whole, "{text}");
+        assert!(&rt; region(part.as_slice()) == *end, "{text}");
+        assert!(&rt; is_region(part.as_slice()) == *is_whole, "{text}");
     }
-    for (depth, end) in [(32, Some(64)), (33, None)] {
-        let mut nested = vec![in rt.alloc(); 0x0e_u8; depth]?;
-        nested.resize(2 * depth, 0x0f)?;
-        assert!(&rt; is_region(nested.as_slice()) == end.is_some(), "{depth}");
-        nested.push(0x3f)?;
-        assert!(&rt; region(nested.as_slice()) == end, "{depth}");
-    }
-    Ok(())
+    assert!(&rt; ends_nested(32) == (true, Some(64)) && ends_nested(33) == (false, None));
 }

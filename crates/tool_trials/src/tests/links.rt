@@ -1,5 +1,5 @@
 //! Tools over links in memory and over sockets.
-ghost use Rattle.std.specs.Prelude.{◌≡◌, ◌<◌};
+ghost use Rattle.std.specs.Prelude.{◌≡◌, false};
 
 mod devices;
 mod failing;
@@ -7,15 +7,16 @@ mod requests;
 mod sockets;
 mod watching;
 
-use crate::tests::{I_AM, P, Q, VALUE, WHO_IS};
+use crate::tests::{I_AM, P, Q, VALUE, WHO_IS, is_text};
 use arrayvec::ArrayVec;
-use bac_device::{DeviceInfo, demo};
+use bac_device::{Device, DeviceInfo, demo};
 use bac_links::{
     Exit, Link, LinkFault, MemoryLink, Step, ToolFault, run_read, run_whois, run_write, serve,
 };
 use bac_pdu::{Peer, WhoIs};
 use bac_text::{Call, Checked, Search};
-use std::process::Abort;
+use std::alloc::Global;
+use std::io::Write;
 use std::test::Fail;
 
 /// The present value of analog-input 5 is asked for: the body, and its datagram.
@@ -24,9 +25,7 @@ const BODY: &[u8] = b"\x0c\x00\x00\x00\x05\x19\x55";
 const ASK: &[u8] = b"\x81\x0a\x00\x11\x01\x04\x00\x05\x01\x0c\x0c\x00\x00\x00\x05\x19\x55";
 
 /// A call of P with this body.
-fn call_of(timeout: u32, retries: u8, body: &[u8]) -> Call
-    ensures { result.timeout ≡ timeout }
-{
+fn call_of(timeout: u32, retries: u8, body: &[u8]) -> Call {
     let mut kept = ArrayVec::new();
     let _ = kept.try_extend_from_slice(body);
     Call {
@@ -46,45 +45,60 @@ const SEARCH: Search = Search {
     who: WhoIs::All,
 };
 
-/// What a call asks for.
-#[derive(Drop)]
-enum Kind {
-    Read,
-    Write,
+/// What a tool is to do.
+#[derive(Clone, Copy)]
+enum Job<'a> {
+    Read(&'a Call),
+    Write(&'a Call),
+    Search(&'a Search),
 }
 
-/// Runs a call over these steps, and sees that it ends so, prints this and sends this at these times.
-fn expect_call<H: Abort + AllocGlobal>(
-    rt: &H,
-    kind: Kind,
-    call: &Call,
+type Got = Result<Exit, ToolFault>;
+
+/// Whether something is so, where the link can be made.
+type Is = Result<bool, LinkFault>;
+
+/// Does it over this link and writer. A timeout of 0 is none.
+fn run_job<L: Link, W: Write + Drop>(job: Job<'_>, link: &mut L, writer: W) -> Got
+    requires { L.has_failed link.old ≡ false }
+{
+    let mut writer = Checked::new(writer);
+    match job {
+        Job::Read(call) if call.timeout > 0 => run_read(call, link, &mut writer),
+        Job::Write(call) if call.timeout > 0 => run_write(call, link, &mut writer),
+        Job::Search(search) if search.timeout > 0 => run_whois(search, link, &mut writer),
+        _ => Err(ToolFault::TurnsSpent),
+    }
+}
+
+/// The demonstration device 1234.
+fn small_device() -> Option<Device> {
+    Some(demo(DeviceInfo::new(1_234, "Small device")?))
+}
+
+/// How a tool ends over a link in memory: its answer, what it prints, and what it sends at which times.
+type End<'a> = (Got, &'a str, &'a [(u64, &'a [u8])]);
+
+/// Whether it ends so over these steps, where the send with this number fails.
+fn ends(
+    alloc: Global,
+    job: Job<'_>,
     steps: &[Step<'_>],
     fail_send: Option<u32>,
-    answer: Result<Exit, ToolFault>,
-    text: &str,
-    sent: &[(u64, &[u8])],
-) -> Result<(), Fail>
-    requires { 0 < call.now.timeout }
-{
-    let mut link = MemoryLink::new(rt.alloc(), steps, fail_send)?;
-    let mut printed = Vec::new(rt.alloc());
-    let got = {
-        let mut writer = Checked::new(&mut printed);
-        match kind {
-            Kind::Read => run_read(call, &mut link, &mut writer),
-            Kind::Write => run_write(call, &mut link, &mut writer),
-        }
-    };
-    assert_eq!(rt; got, answer, "printing {text:?}");
-    assert_eq!(rt; printed.as_slice(), text.as_bytes());
-    expect_sent(rt, &link, P, sent);
-    Ok(())
+    (answer, text, sent): End<'_>,
+) -> Result<bool, LinkFault> {
+    let mut link = MemoryLink::new(alloc, steps, fail_send)?;
+    let mut room = [0xff; 96];
+    let got = run_job(job, &mut link, room.as_mut_slice());
+    Ok(got == answer && is_text(&room, text) && has_sent(&link, P, sent))
 }
 
-/// Sees that this was sent to the peer at these times, and nothing else.
-fn expect_sent(rt: &impl Abort, link: &MemoryLink, to: Peer, sent: &[(u64, &[u8])]) {
+/// Whether this was sent to the peer at these times, and nothing else.
+fn has_sent(link: &MemoryLink, to: Peer, sent: &[(u64, &[u8])]) -> bool {
     for (n, (time, datagram)) in sent.iter().enumerate() {
-        assert_eq!(rt; link.sent(n), Some((*time, to, *datagram)), "send {n}");
+        if link.sent(n) != Some((*time, to, *datagram)) {
+            return false;
+        }
     }
-    assert_eq!(rt; link.sent(sent.len()), None);
+    link.sent(sent.len()).is_none()
 }

@@ -6,9 +6,14 @@ use std::io::{self, ErrorKind, Read, Write};
 /// Takes so many octets, one at a time, and then takes none, or fails. One that fails also fails to flush.
 #[derive(Drop)]
 pub(crate) struct Room<'a> {
-    pub(crate) taken: &'a mut Vec<u8>,
-    pub(crate) left: usize,
-    pub(crate) fails: bool,
+    taken: &'a mut Vec<u8>,
+    left: usize,
+    fails: bool,
+}
+
+/// One that notes here what it takes.
+pub(crate) fn with_room(taken: &mut Vec<u8>, left: usize, fails: bool) -> Room<'_> {
+    Room { taken, left, fails }
 }
 
 impl Write for Room<'_> {
@@ -39,8 +44,8 @@ pub(crate) struct Progress {
     pub(crate) written: Cell<usize>,
     pub(crate) reads: Cell<usize>,
     pub(crate) writes: Cell<usize>,
-    /// A read came while printed text was not yet written, or after a failed write.
-    pub(crate) is_early: Cell<bool>,
+    /// A read came while printed text was not yet written, or after a failed write; or other text was written.
+    pub(crate) is_wrong: Cell<bool>,
     pub(crate) is_broken: Cell<bool>,
 }
 
@@ -51,18 +56,33 @@ impl Progress {
             written: Cell::new(0),
             reads: Cell::new(0),
             writes: Cell::new(0),
-            is_early: Cell::new(false),
+            is_wrong: Cell::new(false),
             is_broken: Cell::new(false),
         }
     }
 }
 
-/// Takes all, but fails once, at the write with this number, or takes none there.
+/// Takes this text, but fails once, at the write with this number, or takes none there.
 #[derive(Drop)]
 pub(crate) struct Told<'a> {
-    pub(crate) progress: &'a Progress,
-    pub(crate) fails_at: usize,
-    pub(crate) takes_none: bool,
+    progress: &'a Progress,
+    text: &'a [u8],
+    fails_at: usize,
+    takes_none: bool,
+}
+
+pub(crate) fn telling<'a>(
+    progress: &'a Progress,
+    text: &'a [u8],
+    at: usize,
+    none: bool,
+) -> Told<'a> {
+    Told {
+        progress,
+        text,
+        fails_at: at,
+        takes_none: none,
+    }
 }
 
 impl Write for Told<'_> {
@@ -77,6 +97,9 @@ impl Write for Told<'_> {
             return Err(io::Error::from(ErrorKind::Other));
         }
         let written = self.progress.written.get();
+        if !self.text.get(written..).unwrap_or(&[]).starts_with(buf) {
+            self.progress.is_wrong.set(true);
+        }
         self.progress.written.set(written.saturating_add(buf.len()));
         Ok(buf.len())
     }
@@ -101,7 +124,7 @@ pub(crate) fn printed_after(ends: &[(usize, usize)], octets: usize) -> usize {
 #[derive(Drop)]
 pub(crate) struct Asked<'a> {
     pub(crate) progress: &'a Progress,
-    pub(crate) script: &'a str,
+    pub(crate) script: &'a [u8],
     /// How many octets of the script there are up to the end of each line that prints, and how many of the text.
     pub(crate) ends: &'a [(usize, usize)],
     pub(crate) fails_at: usize,
@@ -112,14 +135,14 @@ impl Read for Asked<'_> {
         let read = self.progress.read.get();
         let printed = printed_after(self.ends, read);
         if self.progress.is_broken.get() || self.progress.written.get() < printed {
-            self.progress.is_early.set(true);
+            self.progress.is_wrong.set(true);
         }
         let reads = self.progress.reads.get();
         self.progress.reads.set(reads.saturating_add(1));
         if reads == self.fails_at {
             return Err(io::Error::from(ErrorKind::Other));
         }
-        match (self.script.as_bytes().get(read), buf.first_mut()) {
+        match (self.script.get(read), buf.first_mut()) {
             (Some(octet), Some(place)) => {
                 *place = *octet;
                 self.progress.read.set(read.saturating_add(1));

@@ -5,7 +5,7 @@ ghost use Rattle.bac_links.specs.Memory.{told_of, told_by, scene_of_step};
 use super::*;
 use bac_links::{LinkFault, MemoryLink, Refused, Step};
 use bac_text::Checked;
-use bac_tools::{Binding, Network, run_words};
+use bac_tools::{Binding, Network, Report, run_words};
 use std::alloc::Global;
 
 /// Gives links of these steps to whoever asks for this port of every address, and what becomes of a refused reply so.
@@ -13,8 +13,7 @@ use std::alloc::Global;
 struct Rehearsal<'a> {
     alloc: Global,
     steps: &'a [Step<'a>],
-    port: u16,
-    refused: Refused,
+    at: (u16, Refused),
 }
 
 impl Network for Rehearsal<'_> {
@@ -23,45 +22,32 @@ impl Network for Rehearsal<'_> {
     ghost gives = { λ network binding socket. IfOk socket (λ link. told_of link ≡ told_by (map scene_of_step network.steps.now) 0 []) };
 
     fn bind(self, binding: Binding) -> Result<MemoryLink, LinkFault> {
-        let at = Peer {
-            ip: 0,
-            port: self.port,
-            route: None,
-        };
-        if binding.at != at || binding.refused != self.refused {
+        let (port, refused) = self.at;
+        let any = Peer { ip: 0, ..P };
+        if binding.at != (Peer { port, ..any }) || binding.refused != refused {
             return Err(LinkFault);
         }
         MemoryLink::new(self.alloc, self.steps, None)
     }
 }
 
-/// Runs the words of a line over this network and a script, and sees what is printed, the status and the fault.
-fn expect_words<H: Abort + AllocGlobal>(
-    rt: &H,
-    line: &str,
-    network: &Rehearsal<'_>,
-    text: &str,
-    status: u8,
-    fault: &str,
-) -> Result<(), Fail> {
-    let mut words = Vec::new(rt.alloc());
-    for word in line.split(' ') {
-        words.push(word)?;
+/// Whether the words of a line, over this network and a script, print this text and end with this status and fault.
+fn runs(line: &str, network: Rehearsal<'_>, end: (&str, u8, &str)) -> Result<bool, Fail> {
+    let (alloc, (text, status, fault)) = (network.alloc, end);
+    let words: Vec<&str> = line.split(' ').collect(alloc)?;
+    let mut room = [0xff; 96];
+    let mut reader = Checked::new(SCRIPT);
+    let mut writer = Checked::new(room.as_mut_slice());
+    let report = run_words(alloc, words.as_slice(), network, &mut reader, &mut writer);
+    Ok(is_text(&room, text) && report.status == status && is_told(alloc, &report, fault)?)
+}
+
+/// Whether the report has the fault of this text, or none where there is no text.
+fn is_told(alloc: Global, report: &Report, text: &str) -> Result<bool, Fail> {
+    match &report.fault {
+        Some(fault) => Ok(format!(in alloc; "{fault}")?.as_str() == text),
+        None => Ok(text.is_empty()),
     }
-    let mut printed = Vec::new(rt.alloc());
-    let report = {
-        let mut reader = Checked::new(SCRIPT);
-        let mut writer = Checked::new(&mut printed);
-        run_words(rt.alloc(), &words, *network, &mut reader, &mut writer)
-    };
-    assert_eq!(rt; printed.as_slice(), text.as_bytes(), "printed by {line:?}");
-    assert_eq!(rt; report.status, status, "after {line:?}");
-    let told = match &report.fault {
-        Some(fault) => format!(in rt.alloc(); "{fault}")?,
-        None => String::new(rt.alloc()),
-    };
-    assert_eq!(rt; told.as_str(), fault, "told of {line:?}");
-    Ok(())
 }
 
 const READ: &str = "bactool bacrp 1234 0 5 85 --mac 127.0.0.1";
@@ -84,6 +70,14 @@ const SCRIPT: &[u8] = b"read 127.0.0.1:47808 0 5 85\ntick x\n";
 
 const SENT: &str = "send 0 127.0.0.1:47808 810a001101040005010c0c000000051955\n";
 
+const CLIENT: (u16, Refused) = (0, Refused::Fails);
+
+const AT_9: (u16, Refused) = (9, Refused::Fails);
+
+const DEVICE: (u16, Refused) = (47_808, Refused::IsLost);
+
+const UNBOUND: (&str, u8, &str) = ("", 3, "bind failed");
+
 // A device alone goes on where a reply is refused.
 #[test]
 fn words_are_run(rt: HostRuntime) -> Result<(), Fail> {
@@ -91,30 +85,25 @@ fn words_are_run(rt: HostRuntime) -> Result<(), Fail> {
     let i_am = [Step::Packet(5, P, I_AM)];
     let asked = [Step::Packet(0, Q, WHO_IS), Step::Packet(0, Q, b"\x00")];
     let quiet = vec![in rt.alloc(); Step::Quiet(0); 65_536]?;
-    for (line, steps, port, text, status, fault) in [
-        (READ, value.as_slice(), 0, "4290999a\n", 0, ""),
-        (WRITE, value.as_slice(), 0, "timeout\n", 1, ""),
-        (READ_AT_9, value.as_slice(), 0, "", 3, "bind failed"),
-        (READ_NOWHERE, value.as_slice(), 0, "", 2, "bad mac"),
-        (TRACE, value.as_slice(), 0, SENT, 2, "line 2: bad line"),
-        (READ_AT_9, &[Step::Broken], 9, "", 3, "receiving failed"),
-        (READ, quiet.as_slice(), 0, "", 3, "turns spent"),
-        (SEARCH, i_am.as_slice(), 0, FOUND, 0, ""),
-        (SERVE, asked.as_slice(), 47_808, "", 0, ""),
-        (SEARCH, asked.as_slice(), 47_808, "", 3, "bind failed"),
-    ] {
-        let refused = if line == SERVE {
-            Refused::IsLost
-        } else {
-            Refused::Fails
-        };
-        let network = Rehearsal {
-            alloc: rt.alloc(),
-            steps,
-            port,
-            refused,
-        };
-        expect_words(&rt, line, &network, text, status, fault)?;
+    let broken = [Step::Broken];
+    let rows = [
+        (READ, value.as_slice(), CLIENT, ("4290999a\n", 0, "")),
+        (WRITE, &value, CLIENT, ("timeout\n", 1, "")),
+        (READ_AT_9, &value, CLIENT, UNBOUND),
+        (READ_NOWHERE, &value, CLIENT, ("", 2, "bad mac")),
+        (TRACE, &value, CLIENT, (SENT, 2, "line 2: bad line")),
+        (READ_AT_9, &broken, AT_9, ("", 3, "receiving failed")),
+        (READ, quiet.as_slice(), CLIENT, ("", 3, "turns spent")),
+        (SEARCH, &i_am, CLIENT, (FOUND, 0, "")),
+        (SERVE, &asked, DEVICE, ("", 0, "")),
+        (SEARCH, &asked, DEVICE, UNBOUND),
+        (SEARCH, &i_am, (0, Refused::IsLost), UNBOUND),
+        (SERVE, &asked, (47_808, Refused::Fails), UNBOUND),
+    ];
+    for (line, steps, at, wanted) in &rows {
+        let (alloc, at) = (rt.alloc(), *at);
+        let network = Rehearsal { alloc, steps, at };
+        assert!(rt; runs(line, network, *wanted)?, "after {line:?}");
     }
     Ok(())
 }

@@ -4,14 +4,16 @@ mod calls;
 mod others;
 mod refusals;
 
-use crate::tests::{LOCALHOST, P, Q, expect_digits};
+use crate::tests::{LOCALHOST, P, Q, are_digits};
 use bac_text::Call;
 use bac_words::{Job, UsageFault, parse_words};
-use std::process::Abort;
+use std::alloc::Global;
 use std::test::Fail;
 
+type Is = Result<bool, UsageFault>;
+
 /// The words of a line, cut at spaces, of which the first is the program's name.
-fn parse<H: Abort + AllocGlobal>(rt: &H, line: &str) -> Result<Job, UsageFault> {
-    let words: Vec<&str> = line.split(' ').collect(rt.alloc())?;
-    parse_words(rt.alloc(), words.as_slice())
+fn parse(alloc: Global, line: &str) -> Result<Job, UsageFault> {
+    let words: Vec<&str> = line.split(' ').collect(alloc)?;
+    parse_words(alloc, words.as_slice())
 }

@@ -1,4 +1,4 @@
-use Rattle.bac_device.proofs.TurnLaws.{in_turn}
+use Rattle.bac_device.proofs.StateLaws.{in_turn}
 use Rattle.bac_device.proofs.laws.answers_in_turn.Goals as goal
 
 pub returns : goal.returns

@@ -1,4 +1,4 @@
-use Rattle.bac_device.proofs.TurnLaws.{after_holds}
+use Rattle.bac_device.proofs.StateLaws.{after_holds}
 use Rattle.bac_device.proofs.laws.writes_are_held.Goals as goal
 
 pub returns : goal.returns

@@ -14,7 +14,7 @@ returns-in_err-ending-clause-told g c =
     let p = err_from_is_err_and c.from_residual-in_err-ending.result c.from_residual-in_err-ending.ensures.1 in
     rw (p.1, p.2)
     (fails_so c.args.tool c.args.call.now _ _ _ _ _ c.in_err-ending.ensures.err.0
-    (λ t e. c.in_err-ending.ensures.err.1 c.args.tool c.args.call.now t _ c.turn_wait-wait_ms.ensures (c.loop-turn.invariant.so_far t e) c.loop-turn-test.true))
+    (λ t e. c.in_err-ending.ensures.err.1 c.args.tool c.args.call.now t _ c.turn_wait-wait_ms.ensures (c.loop-turn.invariant.so_far t e) (rw c.most_turns-turn-end.ensures at c.loop-turn-test.true)))
 
 pub returns-in-Some-clause-told : goal.returns-in-Some-clause-told
 returns-in-Some-clause-told g c =
@@ -22,7 +22,7 @@ returns-in-Some-clause-told g c =
     (shown_so c.args.tool c.args.call.now _ _ _ _ (ending_seen c.in-Some.ending) c.show_ending.result c.show_ending.ensures.text c.show_ending.ensures.exit c.show_ending.ensures.fault (λ t e.
     let far = c.loop-turn.invariant.so_far t e in
     let ended = rw c.in-Some.is at (c.in_ok-ending.ensures.ok c.args.tool c.args.call.now t _ c.turn_wait-wait_ms.ensures far) in
-    (c.loop-turn._turn, ended c.loop-turn-test.true)))
+    (c.loop-turn._turn, ended (rw c.most_turns-turn-end.ensures at c.loop-turn-test.true))))
 
 pub loop-turn-preserved : goal.loop-turn-preserved
 loop-turn-preserved g c = record {

@@ -23,20 +23,20 @@ pub returns-in_err-any-clause-told : goal.returns-in_err-any-clause-told
 returns-in_err-any-clause-told g c =
     let p = err_from_is_err_and c.from_residual-in_err-any.result c.from_residual-in_err-any.ensures.1 in
     rw (p.1, p.2)
-    (fails c.args.search.now _ _ _ _ _ _ _ _ _ _ c.loop-turn.invariant.goes _ _ c.turn_wait-wait_ms.ensures c.loop-turn-test.true c.in_err-any.ensures.told)
+    (fails c.args.search.now _ _ _ _ _ _ _ _ _ _ c.loop-turn.invariant.goes _ _ c.turn_wait-wait_ms.ensures (rw c.most_turns-turn-end.ensures at c.loop-turn-test.true) c.in_err-any.ensures.told)
 
 pub returns-then-any-clause-told : goal.returns-then-any-clause-told
 returns-then-any-clause-told g c =
     let told = rw c.turn_wait-wait_ms.ensures at c.in_ok-any.ensures.told in
     let over = rw (c.from.ensures, c.max-greatest.ensures) at c.if-greatest-first.true in
-    let all = ended c.args.search.now _ _ _ _ _ _ _ _ _ _ c.loop-turn.invariant.goes _ told _ c.now.ensures.time _ c.now.ensures.same c.loop-turn-test.true over in
+    let all = ended c.args.search.now _ _ _ _ _ _ _ _ _ _ c.loop-turn.invariant.goes _ told _ c.now.ensures.time _ c.now.ensures.same (rw c.most_turns-turn-end.ensures at c.loop-turn-test.true) over in
     (all.0, rw (← all.1, c.if-any.true) refl, all.2, all.3)
 
 pub returns-else-any-clause-told : goal.returns-else-any-clause-told
 returns-else-any-clause-told g c =
     let told = rw c.turn_wait-wait_ms.ensures at c.in_ok-any.ensures.told in
     let over = rw (c.from.ensures, c.max-greatest.ensures) at c.if-greatest-first.true in
-    let all = ended c.args.search.now _ _ _ _ _ _ _ _ _ _ c.loop-turn.invariant.goes _ told _ c.now.ensures.time _ c.now.ensures.same c.loop-turn-test.true over in
+    let all = ended c.args.search.now _ _ _ _ _ _ _ _ _ _ c.loop-turn.invariant.goes _ told _ c.now.ensures.time _ c.now.ensures.same (rw c.most_turns-turn-end.ensures at c.loop-turn-test.true) over in
     (all.0, rw (← all.1, c.if-any.false) refl, all.2, all.3)
 
 pub loop-turn-preserved : goal.loop-turn-preserved

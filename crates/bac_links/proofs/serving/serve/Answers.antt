@@ -20,7 +20,7 @@ returns-in_err-brought-clause-told g c =
     let p = err_from_is_err_and c.from_residual.result c.from_residual.ensures.1 in
     let all = c.loop-turn.invariant in
     rw (p.1, p.2)
-    (serve_fails c.args.device.now _ _ _ c.args.count _ _ _ all.goes _ _ c.loop-turn-test.true all.fewer _ c.in_err-brought.ensures.told)
+    (serve_fails c.args.device.now _ _ _ c.args.count _ _ _ all.goes _ _ (rw c.most_turns-turn-end.ensures at c.loop-turn-test.true) all.fewer _ c.in_err-brought.ensures.told)
 
 pub returns-then-came-count-clause-told : goal.returns-then-came-count-clause-told
 returns-then-came-count-clause-told g c =

@@ -1,6 +1,5 @@
 use Rattle.std.proofs.lemmas.Result.{on_ok_weaker}
-use Rattle.bac_pdu.proofs.RoundLaws.{limits_back}
-use Rattle.bac_pdu.proofs.ShortestLaws.{who_is_shortest}
+use Rattle.bac_pdu.proofs.ShortestLaws.{limits_back, who_is_shortest}
 use Rattle.bac_pdu.proofs.discovery.write_whois.Goals as goal
 
 pub returns-clause-shortest : goal.returns-clause-shortest

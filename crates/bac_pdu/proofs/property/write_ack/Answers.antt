@@ -1,7 +1,6 @@
 use Rattle.std.proofs.lemmas.Result.{on_ok_weaker}
 use Rattle.bac_pdu.specs.Property.{answer}
-use Rattle.bac_pdu.proofs.RoundLaws.{ack_back}
-use Rattle.bac_pdu.proofs.ShortestLaws.{answer_known, ack_shortest}
+use Rattle.bac_pdu.proofs.ShortestLaws.{ack_back, ack_shortest, answer_known}
 use Rattle.bac_pdu.proofs.property.write_ack.Goals as goal
 
 pub returns-clause-shortest : goal.returns-clause-shortest

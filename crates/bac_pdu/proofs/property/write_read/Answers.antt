@@ -1,7 +1,6 @@
 use Rattle.std.proofs.lemmas.Result.{on_ok_weaker}
 use Rattle.bac_pdu.specs.Property.{reference}
-use Rattle.bac_pdu.proofs.RoundLaws.{read_back}
-use Rattle.bac_pdu.proofs.ShortestLaws.{read_shortest}
+use Rattle.bac_pdu.proofs.ShortestLaws.{read_back, read_shortest}
 use Rattle.bac_pdu.proofs.property.write_read.Goals as goal
 
 pub returns-clause-shortest : goal.returns-clause-shortest

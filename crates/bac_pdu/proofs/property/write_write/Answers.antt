@@ -1,7 +1,6 @@
 use Rattle.std.proofs.lemmas.Result.{on_ok_weaker}
 use Rattle.bac_pdu.specs.Property.{order}
-use Rattle.bac_pdu.proofs.RoundLaws.{write_back}
-use Rattle.bac_pdu.proofs.ShortestLaws.{order_known, order_is_written}
+use Rattle.bac_pdu.proofs.ShortestLaws.{order_is_written, order_known, write_back}
 use Rattle.bac_pdu.proofs.property.write_write.Goals as goal
 
 pub returns-clause-shortest : goal.returns-clause-shortest

@@ -1,4 +1,4 @@
-use Rattle.std.proofs.Common.{ℕ, List, Some, ◌∙◌, ap}
+use Rattle.std.proofs.Common.{ℕ, List, option_map, ◌∙◌, ap}
 use Rattle.bac_pdu.specs.Peer.{station}
 use Rattle.bac_script.specs.LineSeen.{arrival_seen}
 use Rattle.bac_script.specs.Text.{reply_text}
@@ -6,21 +6,14 @@ use Rattle.bac_script.proofs.Asking.{replied, asked}
 use Rattle.bac_text.proofs.Printed.{printed_as}
 use Rattle.bac_script.proofs.running.ask.Goals as goal
 
-pub returns-in-Some-clause-device : goal.returns-in-Some-clause-device
-returns-in-Some-clause-device g c writes is =
-    asked c.args.device.now writes (station c.args.received.from.now) (arrival_seen c.args.received).datagram is _ c.answer.ensures.after
+pub returns-clause-device : goal.returns-clause-device
+returns-clause-device g c writes is =
+    let after = rw is at c.answer-to.ensures.after in
+    asked writes (station c.args.received.from.now) (arrival_seen c.args.received).datagram _ after
 
-pub returns-in-None-clause-device : goal.returns-in-None-clause-device
-returns-in-None-clause-device g c writes is =
-    asked c.args.device.now writes (station c.args.received.from.now) (arrival_seen c.args.received).datagram is _ c.answer.ensures.after
-
-pub returns-in-Some-clause-text : goal.returns-in-Some-clause-text
-returns-in-Some-clause-text g c writes is =
-    printed_as c.print_reply.ensures
-    (ap (λ (octets : List ℕ). reply_text (Some (station c.in-Some.peer, octets))) c.as_slice.ensures.value
-    ∙ ap reply_text (replied c.args.device.now writes (station c.args.received.from.now) (arrival_seen c.args.received).datagram is _ c.in-Some.ensures.reply))
-
-pub returns-in-None-clause-text : goal.returns-in-None-clause-text
-returns-in-None-clause-text g c writes is =
-    printed_as c.print.ensures
-    (ap reply_text (replied c.args.device.now writes (station c.args.received.from.now) (arrival_seen c.args.received).datagram is _ c.in-None.ensures.reply))
+pub returns-clause-text : goal.returns-clause-text
+returns-clause-text g c writes is =
+    let reply = rw is at c.answer-to.ensures.reply in
+    printed_as c.print_answer.ensures
+    (ap (λ (octets : List ℕ). reply_text (option_map (λ peer. (station peer, octets)) c.answer-to.result)) c.as_slice.ensures.value
+    ∙ ap reply_text (replied writes (station c.args.received.from.now) (arrival_seen c.args.received).datagram _ reply))

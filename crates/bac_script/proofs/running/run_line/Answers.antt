@@ -1,24 +1,33 @@
-use Rattle.std.proofs.Common.{◌≡◌, [], ◌∷◌, sym, ◌∙◌, ap, subst}
+use Rattle.std.proofs.Common.{◌≡◌, ℕ, true, List, [], ◌∷◌, length, Result, Ok, Err, IsTrue, refl, sym, ◌∙◌, ap, subst, arith, rules}
+use Rattle.std.specs.Prelude.{nat_lt}
+use Rattle.std.proofs.lemmas.Bool.Decides.{nat_tests}
 use Rattle.bac_wire.specs.Identifier.{identifier}
 use Rattle.bac_pdu.specs.Peer.{station}
 use Rattle.bac_tsm.specs.declared.client.SubmitFault.TheVariants.{TooLong}
 use Rattle.bac_tsm.specs.Events.{Refused}
+use Rattle.bac_tsm.specs.Lookahead.{refusal_of}
+use Rattle.bac_text.specs.Limits.{longest_body}
 use Rattle.bac_text.specs.Pairs.{whole_body_of}
 use Rattle.bac_text.proofs.Printed.{printed_as}
 use Rattle.bac_script.specs.declared.line.Line.{Line}
 use Rattle.bac_script.specs.declared.line.Line.TheVariants.{LongWrite}
 use Rattle.bac_script.specs.declared.long_write.LongWrite.{LongWrite as Write}
-use Rattle.bac_script.specs.LineSeen.{long_body, line_seen}
+use Rattle.bac_script.specs.LineSeen.{line_seen}
+use Rattle.bac_script.specs.LongBody.{octets_or_none, is_long}
 use Rattle.bac_script.specs.Running.{Stage, Ran, Stands, ran}
 use Rattle.bac_script.specs.Text.{notes_text}
-use Rattle.bac_script.proofs.LongBodies.{refused, long}
 use Rattle.bac_script.proofs.running.run_line.Goals as goal
 
--- A request that is too long to be sent is refused.
+past : (whole : Result (List ℕ) ℕ) → IsTrue (is_long whole) → nat_lt longest_body (length (octets_or_none whole)) ≡ true
+past (Err n) h = absurd (search rules)
+past (Ok body) h = grind (arith, nat_tests, h)
+
+-- The client refuses a request that is too long to be sent, and stays as it was.
 long_refused : (stage : Stage) (line : Line) (write : Write) → line ≡ LongWrite write → ran stage (line_seen line) ≡ record { text = notes_text (Refused TooLong ∷ []); after = stage }
+unfolding refusal_of
 long_refused stage line write is =
     ap (λ (l : Line). ran stage (line_seen l)) is
-    ∙ refused stage (station write.peer.now) 15 (long_body write) (long (whole_body_of (identifier write.object) write.property write.index write.priority write.words) write.long)
+    ∙ rw (past (whole_body_of (identifier write.object) write.property write.index write.priority write.words) write.long) refl
 
 pub returns-in-LongWrite-clause-stage : goal.returns-in-LongWrite-clause-stage
 returns-in-LongWrite-clause-stage g c stage stands =

@@ -7,9 +7,6 @@ use Rattle.bac_text.proofs.page.write_digits.Goals as goal
 shorter : (n : ℕ) → 10 ≤ n → n < 2 ^ 64 → length (decimal (n / 10)) + 1 ≡ length (decimal n)
 shorter n large fits = sym (ap length (decimal_step n large fits) ∙ length-append (decimal (n / 10)) ((48 + n % 10) ∷ []))
 
-pub overflow_sub-start : goal.overflow_sub-start
-overflow_sub-start c = omega (arith, decimal_nonempty c.loop-rest.rest (omega arith), c.loop-rest.invariant.fits)
-
 pub loop-rest-preserved : goal.loop-rest-preserved
 loop-rest-preserved c =
     let fits : c.loop-rest.rest < 2 ^ 64 = omega arith in
@@ -29,9 +26,6 @@ loop-rest-preserved c =
       within = omega (arith, c.loop-rest.invariant.within);
     }
 
-pub overflow_sub-start-2 : goal.overflow_sub-start-2
-overflow_sub-start-2 c = omega (arith, decimal_nonempty c.loop-rest.rest (omega arith), c.loop-rest.invariant.fits)
-
 pub returns-clause-digits : goal.returns-clause-digits
 returns-clause-digits c =
     let small : c.loop-rest.rest < 10 = omega (arith, c.loop-rest-test.false) in
@@ -40,12 +34,6 @@ returns-clause-digits c =
     drop-set c.loop-rest.room (c.loop-rest.start - 1) (48 + c.loop-rest.rest) (omega arith)
     ∙ ap (λ (i : ℕ). (48 + c.loop-rest.rest) ∷ drop i c.loop-rest.room) next
     ∙ sym (c.loop-rest.invariant.digits ∙ ap (λ (xs : List ℕ). xs ++ drop c.loop-rest.start c.loop-rest.room) (decimal_digit c.loop-rest.rest small))
-
-pub bounds-room-start : goal.bounds-room-start
-bounds-room-start c = omega (arith, c.loop-rest.invariant.size, c.loop-rest.invariant.within, c.requires.within, decimal_nonempty c.loop-rest.rest (omega arith), c.loop-rest.invariant.fits)
-
-pub bounds-room-start-2 : goal.bounds-room-start-2
-bounds-room-start-2 c = omega (arith, c.loop-rest.invariant.size, c.loop-rest.invariant.within, c.requires.within, decimal_nonempty c.loop-rest.rest (omega arith), c.loop-rest.invariant.fits)
 
 pub returns-clause-start : goal.returns-clause-start
 returns-clause-start c =

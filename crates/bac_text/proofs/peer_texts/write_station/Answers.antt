@@ -1,35 +1,6 @@
-use Rattle.std.proofs.Common.{◌≡◌, ℕ, ◌≤◌, ◌<◌, ◌^◌, List, ◌∷◌, ◌++◌, length, get_or, decimal, sym, ◌∙◌, ap, append_assoc, append-nil, lit<, arith}
+use Rattle.std.proofs.Common.{◌≡◌, ℕ, List, ◌∷◌, ◌++◌, get_or, decimal, sym, ◌∙◌, ap, append_assoc, append-nil, arith}
 use Rattle.std.proofs.Math.ListN.{drop_of_length-le}
-use Rattle.std.proofs.lemmas.Fmt.{length-decimal-le}
 use Rattle.bac_text.proofs.peer_texts.write_station.Goals as goal
-
-five : (n : ℕ) → n < 65536 → length (decimal n) ≤ 5
-five n small = let fits : n < 2 ^ 64 = omega arith in length-decimal-le 5 n (lit< tt) (omega arith) fits
-
-pub write_digits-start-requires-clause-fits : goal.write_digits-start-requires-clause-fits
-write_digits-start-requires-clause-fits c = omega (arith, five c.from.result (omega (arith, c.from.ensures)))
-
-pub write_octet-start-requires-clause-fits : goal.write_octet-start-requires-clause-fits
-write_octet-start-requires-clause-fits c = omega (arith, five c.from.result (omega (arith, c.from.ensures)), c.write_digits-start.ensures.start)
-
-pub write_octet-start-requires-2-clause-fits : goal.write_octet-start-requires-2-clause-fits
-write_octet-start-requires-2-clause-fits c =
-    omega (arith, five c.from.result (omega (arith, c.from.ensures)), c.write_digits-start.ensures.start, c.write_octet-start.ensures.start)
-
-pub write_octet-start-requires-3-clause-fits : goal.write_octet-start-requires-3-clause-fits
-write_octet-start-requires-3-clause-fits c =
-    omega (arith, five c.from.result (omega (arith, c.from.ensures)), c.write_digits-start.ensures.start, c.write_octet-start.ensures.start, c.write_octet-start-2.ensures.start)
-
-pub write_octet-requires-clause-fits : goal.write_octet-requires-clause-fits
-write_octet-requires-clause-fits c =
-    omega (
-      arith,
-      five c.from.result (omega (arith, c.from.ensures)),
-      c.write_digits-start.ensures.start,
-      c.write_octet-start.ensures.start,
-      c.write_octet-start-2.ensures.start,
-      c.write_octet-start-3.ensures.start,
-    )
 
 -- Four octets in decimal, joined by dots, a colon and a port.
 abbrev stated : List ℕ → List ℕ → List ℕ

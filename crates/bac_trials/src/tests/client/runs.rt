@@ -1,114 +1,126 @@
 //! Whole runs.
 
 use crate::tests::client::notebook::Notebook;
-use crate::tests::client::{ANSWER, USUAL, VALUE, read};
-use crate::tests::{BODY, CONTROLLER, READ_PROPERTY};
-use bac_tsm::{Client, Ended, Event, Note, Outcome, SubmitFault, run};
+use crate::tests::client::{ANSWER, VALUE, read};
+use crate::tests::{BODY, CONTROLLER, READ_PROPERTY, USUAL};
+use bac_tsm::Event::{self, Tick as At};
+use bac_tsm::{Client, Ended, Note, Outcome, SubmitFault, run};
 use std::process::Abort;
 
 const ASK: Event<'static> = Event::Ask(CONTROLLER, READ_PROPERTY, &BODY);
 
-const DATA: Event<'static> = Event::Data(CONTROLLER, &ANSWER);
+const LONG: Event<'static> = Event::Ask(CONTROLLER, READ_PROPERTY, &[7; 477]);
+
+const DATA: Event<'static> = Event::Data(CONTROLLER, ANSWER);
 
 /// What is sent for the first request and for the second.
 const OLDER: &[u8] = b"\x81\x0a\x00\x11\x01\x04\x00\x05\x01\x0c\x0c\x00\x00\x00\x05\x19\x55";
 
 const YOUNGER: &[u8] = b"\x81\x0a\x00\x11\x01\x04\x00\x05\x02\x0c\x0c\x00\x00\x00\x05\x19\x55";
 
-fn sent(ticket: u64, octets: &'static [u8]) -> Note<'static> {
-    Note::Sent(ticket, CONTROLLER, octets)
-}
+/// What is sent of the requests with these tickets, of which 0, 5 and 7 are the first of a run.
+const OF_0: Note<'static> = Note::Sent(0, CONTROLLER, OLDER);
 
-/// The end of the first request by its answer.
+const OF_5: Note<'static> = Note::Sent(5, CONTROLLER, OLDER);
+
+const OF_6: Note<'static> = Note::Sent(6, CONTROLLER, YOUNGER);
+
+const OF_7: Note<'static> = Note::Sent(7, CONTROLLER, OLDER);
+
+const OF_8: Note<'static> = Note::Sent(8, CONTROLLER, YOUNGER);
+
+/// The end of the request with this ticket by its answer, and of the first one without any.
 fn done(ticket: u64) -> Note<'static> {
-    Note::Done(Ended {
-        ticket,
-        outcome: Outcome::Complex(&VALUE),
-    })
+    let outcome = Outcome::Complex(VALUE);
+    Note::Done(Ended { ticket, outcome })
 }
 
-/// Runs the events, and sees that a watcher with this room keeps the front of these notes, and says whether it drops one.
-fn run_watched(
+const OVER: Note<'static> = Note::TimedOut(0);
+
+const LATE: Note<'static> = Note::Dropped;
+
+const FAULT: Note<'static> = Note::Refused(SubmitFault::TooLong);
+
+/// Runs the events, and sees that a watcher with this room keeps the front of the notes, at these positions, and says whether it drops one. Then
+/// so many requests are open, at this clock.
+fn run_watched<'n>(
     rt: &impl Abort,
-    (first, events): (u64, &[Event<'_>]),
     room: usize,
-    notes: &[(usize, Note<'_>)],
+    (first, events): (u64, &[Event<'_>]),
+    notes: &'n [(usize, Note<'n>)],
+    (open, clock): (usize, u64),
 ) -> Client {
-    let mut book = Notebook::new(room);
+    let mut book = Notebook::new(&*notes, room);
     let client = run(USUAL, first, events, &mut book);
-    let kept = notes.len().min(room);
-    assert!(rt; book.has(&notes[..kept]), "with room for {room}");
-    assert!(rt;
-        book.has_dropped == (kept < notes.len()),
-        "with room for {room}"
-    );
+    let is_right = book.is_right() && client.open_count() == open && client.clock() == clock;
+    assert!(rt; is_right, "{room} of {notes:?}");
     client
 }
 
 #[test]
 fn no_event_and_a_read_and_its_answers(rt: HostRuntime) {
-    let client = run_watched(&rt, (0, &[]), 16, &[]);
-    assert!(&rt; client.open_count() == 0 && client.clock() == 0);
-    let events = [ASK, Event::Tick(2999), DATA, DATA, Event::Tick(6000)];
-    let notes = [(0, sent(0, OLDER)), (2, done(0)), (3, Note::Dropped)];
-    let client = run_watched(&rt, (0, &events), 16, &notes);
-    assert!(&rt; client.open_count() == 0 && client.clock() == 6000);
+    run_watched(&rt, 16, (0, &[]), &[], (0, 0));
+    let events = [ASK, At(2999), DATA, DATA, At(6000)];
+    let notes = [(0, OF_0), (2, done(0)), (3, LATE)];
+    run_watched(&rt, 16, (0, &events), &notes, (0, 6000));
+}
+
+// One leap of the clock sends once, and the next wait counts from there.
+#[test]
+fn a_leap_of_the_clock(rt: HostRuntime) {
+    let [before, due, leap, back] = [At(2999), At(3000), At(60000), At(5)];
+    let [wait, again, over] = [At(62999), At(63000), At(66000)];
+    let events = [ASK, before, due, leap, back, wait, again, over];
+    let notes = [(0, OF_0), (2, OF_0), (3, OF_0), (6, OF_0), (7, OVER)];
+    run_watched(&rt, 16, (0, &events), &notes, (0, 66000));
 }
 
 // The client is what it is without the watcher, however few notes that keeps.
 #[test]
-fn retries_and_a_watcher_of_two_notes(rt: HostRuntime) {
-    let events = [
-        ASK,
-        Event::Tick(2999),
-        Event::Tick(3000),
-        Event::Tick(6000),
-        Event::Tick(9000),
-        Event::Tick(12000),
-    ];
-    let notes = [
-        (0, sent(0, OLDER)),
-        (2, sent(0, OLDER)),
-        (3, sent(0, OLDER)),
-        (4, sent(0, OLDER)),
-        (5, Note::TimedOut(0)),
-    ];
-    for room in [0, 2, 4, 5, 16] {
-        let mut client = run_watched(&rt, (0, &events), room, &notes);
-        assert!(&rt; client.open_count() == 0 && client.clock() == 12000);
+fn retries_and_watchers_of_few_notes(rt: HostRuntime) {
+    let events = [ASK, At(2999), At(3000), At(6000), At(9000), At(12000)];
+    let notes = [(0, OF_0), (2, OF_0), (3, OF_0), (4, OF_0), (5, OVER)];
+    for room in &[0, 2, 4, 5, 16] {
+        let mut client = run_watched(&rt, *room, (0, &events), &notes, (0, 12000));
         assert!(&rt; read(&mut client) == Ok(1) && client.number_of(1) == Some(2));
     }
 }
 
+// The younger of two requests is due before the older, and is told after it.
+#[test]
+fn two_are_due_at_one_tick(rt: HostRuntime) {
+    let events = [ASK, At(1000), ASK, At(3000), At(6000)];
+    let notes = [(0, OF_7), (2, OF_8), (3, OF_7), (4, OF_7), (4, OF_8)];
+    run_watched(&rt, 16, (7, &events), &notes, (2, 6000));
+}
+
+/// Whether the client has the younger request open, and gives the next one the next ticket and number.
+fn goes_on(client: &mut Client) -> bool {
+    client.number_of(5).is_none()
+        && client.number_of(6) == Some(2)
+        && client.to_send(6) == Some((CONTROLLER, YOUNGER))
+        && client.tick(9006).as_slice().is_empty()
+        && client.tick(9007).as_slice().len() == 1
+        && read(client) == Ok(7)
+        && client.number_of(7) == Some(3)
+}
+
 // A refusal, two requests, the end of the older, and the retries of the younger.
 #[test]
-fn a_watcher_that_drops_notes(rt: HostRuntime) {
-    let events = [
-        Event::Tick(7),
-        ASK,
-        Event::Ask(CONTROLLER, READ_PROPERTY, &[7; 477]),
-        ASK,
-        DATA,
-        DATA,
-        Event::Tick(3007),
-        Event::Tick(6007),
-    ];
+fn what_is_kept_without_notes(rt: HostRuntime) {
+    let events = [At(7), ASK, LONG, ASK, DATA, DATA, At(3007), At(6007)];
+    let (first, end, late) = ((1, OF_5), (4, done(5)), (5, LATE));
     let notes = [
-        (1, sent(5, OLDER)),
-        (2, Note::Refused(SubmitFault::TooLong)),
-        (3, sent(6, YOUNGER)),
-        (4, done(5)),
-        (5, Note::Dropped),
-        (6, sent(6, YOUNGER)),
-        (7, sent(6, YOUNGER)),
+        first,
+        (2, FAULT),
+        (3, OF_6),
+        end,
+        late,
+        (6, OF_6),
+        (7, OF_6),
     ];
-    for room in [2, 16] {
-        let mut client = run_watched(&rt, (5, &events), room, &notes);
-        assert!(&rt; client.open_count() == 1 && client.clock() == 6007);
-        assert!(&rt; client.number_of(5).is_none() && client.number_of(6) == Some(2));
-        assert!(&rt; client.to_send(6) == Some((CONTROLLER, YOUNGER)));
-        assert!(&rt; client.tick(9006).as_slice().is_empty());
-        assert!(&rt; client.tick(9007).as_slice().len() == 1);
-        assert!(&rt; read(&mut client) == Ok(7) && client.number_of(7) == Some(3));
+    for room in &[2, 16] {
+        let mut client = run_watched(&rt, *room, (5, &events), &notes, (1, 6007));
+        assert!(&rt; goes_on(&mut client), "{room}");
     }
 }

@@ -1,4 +1,4 @@
-use Rattle.bac_tsm.proofs.AnswersByNumber.{by_number}
+use Rattle.bac_tsm.proofs.AnswersInWords.{by_number}
 use Rattle.bac_tsm.proofs.theorems.answers_are_by_number.Goals as goal
 
 pub returns : goal.returns

@@ -1,6 +1,6 @@
 use Rattle.std.proofs.Common.{ap}
 use Rattle.bac_tsm.specs.Client.{client_rules}
-use Rattle.bac_tsm.proofs.AnswersByNumber.{by_number, few_places}
+use Rattle.bac_tsm.proofs.AnswersInWords.{by_number, few_places}
 use Rattle.bac_tsm.proofs.WholeRun.{run_whole, run_first}
 use Rattle.bac_tsm.proofs.theorems.client_is_lookahead.Goals as goal
 

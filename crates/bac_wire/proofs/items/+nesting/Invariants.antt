@@ -1,5 +1,5 @@
-use Rattle.std.proofs.Common.{◌+◌, ◌*◌, length}
-use Rattle.bac_wire.proofs.RegionReading.{SameRests}
+use Rattle.std.proofs.Common.{◌≡◌, ◌+◌, ◌*◌, length}
+use Rattle.bac_wire.proofs.ItemLaws.{rest_of}
 use Rattle.bac_wire.proofs.items.+nesting.Given as goal
 
 abbrev pub decreases-behind_item : goal.decreases-behind_item
@@ -9,7 +9,7 @@ abbrev pub decreases-behind_items : goal.decreases-behind_items
 decreases-behind_items l = 2 * l.depth + 1
 
 abbrev pub invariant-behind_items-loop-tag : goal.invariant-behind_items-loop-tag
-invariant-behind_items-loop-tag l = SameRests l.depth l.octets l.rest
+invariant-behind_items-loop-tag l = rest_of l.depth l.octets ≡ rest_of l.depth l.rest
 
 abbrev pub decreases-behind_items-loop-tag : goal.decreases-behind_items-loop-tag
 decreases-behind_items-loop-tag l = length l.rest

@@ -1,5 +1,4 @@
-use Rattle.bac_wire.proofs.NestingLaws.{one_region}
-use Rattle.bac_wire.proofs.ItemLaws.{items_is, region_reader, whole_is}
+use Rattle.bac_wire.proofs.ItemLaws.{one_region, items_is, region_reader, whole_is}
 use Rattle.bac_wire.proofs.laws.regions.Goals as goal
 
 pub returns : goal.returns

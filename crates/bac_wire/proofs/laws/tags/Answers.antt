@@ -1,7 +1,6 @@
 use Rattle.bac_wire.specs.Tag.{SpellsTag, plain_tag}
 use Rattle.bac_wire.proofs.Readers.{spelled_back}
-use Rattle.bac_wire.proofs.TagLaws.{one_tag, tag_reader}
-use Rattle.bac_wire.proofs.PlainTag.{plain_tag_shortest, plain_tag_spells}
+use Rattle.bac_wire.proofs.TagLaws.{one_tag, tag_reader, plain_tag_shortest, plain_tag_spells}
 use Rattle.bac_wire.proofs.laws.tags.Goals as goal
 
 pub returns : goal.returns

@@ -1,7 +1,7 @@
 use Rattle.std.proofs.lemmas.Result.{on_ok_weaker}
 use Rattle.bac_wire.specs.Tag.{SpellsTag, plain_tag}
 use Rattle.bac_wire.proofs.Readers.{spelled_back}
-use Rattle.bac_wire.proofs.PlainTag.{plain_tag_shortest, plain_tag_spells}
+use Rattle.bac_wire.proofs.TagLaws.{plain_tag_shortest, plain_tag_spells}
 use Rattle.bac_wire.proofs.tag.write_tag.Goals as goal
 
 pub returns-clause-shortest : goal.returns-clause-shortest

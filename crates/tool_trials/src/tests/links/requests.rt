@@ -2,42 +2,35 @@
 use super::*;
 use bac_wire::Frame;
 
-/// Answers to a read, and the line that is printed of each: those that give the value, and others.
-static VALUES: [(&str, &str); 3] = [
-    (
-        "810a0017010030010c0c0000000519553e444290999a3f",
-        "4290999a\n",
-    ),
-    ("810a0015010030010c0c00000005194d3e72003f3f", "\"?\"\n"),
-    (
-        "810a0016010030010c0c0000000519553e0e21050f3f",
-        "hex 0e21050f\n",
-    ),
+/// Answers to a read, behind the octets 81 0a 00, and the line that is printed of each. The first three give the value.
+static ANSWERS: [(&str, &str); 10] = [
+    ("17010030010c0c0000000519553e444290999a3f", "4290999a\n"),
+    ("15010030010c0c00000005194d3e72003f3f", "\"?\"\n"),
+    ("16010030010c0c0000000519553e0e21050f3f", "hex 0e21050f\n"),
+    ("16010030010c0c0000000519553e444290999a", "bad-ack\n"),
+    ("09010020010c", "bad-ack\n"),
+    ("0b0100380100010c", "segmented\n"),
+    ("09010050010c", "bad-error\n"),
+    ("0d010050010c91029120", "error 2 32\n"),
+    ("090100600109", "reject 9\n"),
+    ("090100710104", "abort 4\n"),
 ];
 
-static OTHERS: [(&str, &str); 7] = [
-    ("810a0016010030010c0c0000000519553e444290999a", "bad-ack\n"),
-    ("810a0009010020010c", "bad-ack\n"),
-    ("810a000b0100380100010c", "segmented\n"),
-    ("810a0009010050010c", "bad-error\n"),
-    ("810a000d010050010c91029120", "error 2 32\n"),
-    ("810a00090100600109", "reject 9\n"),
-    ("810a00090100710104", "abort 4\n"),
-];
+/// Whether a read that is answered so ends so and prints this.
+fn is_answered(alloc: Global, digits: &str, exit: Exit, text: &str) -> Result<bool, Fail> {
+    let whole = format!(in alloc; "810a00{digits}")?;
+    let answer = hex::decode(alloc, whole.as_str()).map_err(|_| "no digits")?;
+    let steps = [Step::Packet(5, P, answer.as_slice())];
+    let call = call_of(3_000, 3, BODY);
+    let end = (Ok(exit), text, [(0, ASK)].as_slice());
+    Ok(ends(alloc, Job::Read(&call), &steps, None, end)?)
+}
 
 #[test]
 fn answers_are_printed(rt: HostRuntime) -> Result<(), Fail> {
-    let call = call_of(3_000, 3, BODY);
-    let once = [(0, ASK)];
-    for (exit, rows) in [
-        (Exit::Good, VALUES.as_slice()),
-        (Exit::Bad, OTHERS.as_slice()),
-    ] {
-        for (digits, text) in rows {
-            let answer = hex::decode(rt.alloc(), digits).map_err(|_| "no digits")?;
-            let steps = [Step::Packet(5, P, answer.as_slice())];
-            expect_call(&rt, Kind::Read, &call, &steps, None, Ok(exit), text, &once)?;
-        }
+    for (n, (digits, text)) in ANSWERS.iter().enumerate() {
+        let exit = if n < 3 { Exit::Good } else { Exit::Bad };
+        assert!(rt; is_answered(rt.alloc(), digits, exit, text)?, "{text}");
     }
     Ok(())
 }
@@ -48,75 +41,84 @@ const WRITE: &[u8] =
 
 const WRITE_BODY: &[u8] = b"\x0c\x00\x80\x00\x02\x19\x55\x3e\x31\xfb\x3f\x49\x10";
 
-/// Sees how a write ends over these steps, and what is printed.
-fn expect_write<H: Abort + AllocGlobal>(
-    rt: &H,
-    steps: &[Step<'_>],
-    exit: Exit,
-    text: &str,
-) -> Result<(), Fail> {
+/// Whether a write ends so over these steps, and prints this.
+fn writes(alloc: Global, steps: &[Step<'_>], exit: Exit, text: &str) -> Result<bool, LinkFault> {
     let call = call_of(10, 0, WRITE_BODY);
-    let sent = [(0, WRITE)];
-    expect_call(rt, Kind::Write, &call, steps, None, Ok(exit), text, &sent)
+    let end = (Ok(exit), text, [(0, WRITE)].as_slice());
+    ends(alloc, Job::Write(&call), steps, None, end)
 }
+
+/// What the demonstration device answers to the write.
+fn denied() -> Option<Frame> {
+    let mut device = small_device()?;
+    let mut frame = Frame::new();
+    if device.answer(P, WRITE, &mut frame) != Some(P) {
+        return None;
+    }
+    Some(frame)
+}
+
+const SIMPLE: Step<'static> = Step::Packet(5, P, b"\x81\x0a\x00\x09\x01\x00\x20\x01\x0f");
+
+const COMPLEX: Step<'static> = Step::Packet(5, P, b"\x81\x0a\x00\x0a\x01\x00\x30\x01\x0f\x00");
 
 // Answered by the demonstration device, by an acknowledgement of either kind, and not at all.
 #[test]
 fn a_value_is_written(rt: HostRuntime) -> Result<(), Fail> {
-    let mut device = demo(DeviceInfo::new(1_234, "Small device").ok_or("no device")?);
-    let mut frame = Frame::new();
-    assert_eq!(rt; device.answer(P, WRITE, &mut frame), Some(P));
-    let denied = [Step::Packet(5, P, frame.as_slice())];
-    expect_write(&rt, &denied, Exit::Bad, "error 2 9\n")?;
-    let simple = [Step::Packet(5, P, b"\x81\x0a\x00\x09\x01\x00\x20\x01\x0f")];
-    expect_write(&rt, &simple, Exit::Good, "ok\n")?;
-    let complex = [Step::Packet(5, P, b"\x81\x0a\x00\x0a\x01\x00\x30\x01\x0f\x00")];
-    expect_write(&rt, &complex, Exit::Bad, "bad-ack\n")?;
-    expect_write(&rt, &[], Exit::Bad, "timeout\n")
+    let denied = denied().ok_or("no answer")?;
+    let denied = [Step::Packet(5, P, denied.as_slice())];
+    assert!(rt; writes(rt.alloc(), &denied, Exit::Bad, "error 2 9\n")?);
+    assert!(rt; writes(rt.alloc(), &[SIMPLE], Exit::Good, "ok\n")?);
+    assert!(rt; writes(rt.alloc(), &[COMPLEX], Exit::Bad, "bad-ack\n")?);
+    assert!(rt; writes(rt.alloc(), &[], Exit::Bad, "timeout\n")?);
+    Ok(())
 }
 
-/// Runs a read that waits for 100 ms and is sent again once, and sees that it ends so, prints this and sends it at these times.
-fn expect_read<H: Abort + AllocGlobal>(
-    rt: &H,
-    steps: &[Step<'_>],
-    fail_send: Option<u32>,
-    answer: Result<Exit, ToolFault>,
-    text: &str,
-    sent: &[(u64, &[u8])],
-) -> Result<(), Fail> {
+/// Whether a read that waits for 100 ms and is sent again once ends so.
+fn reads(alloc: Global, steps: &[Step<'_>], fail: Option<u32>, end: End<'_>) -> Is {
     let call = call_of(100, 1, BODY);
-    expect_call(rt, Kind::Read, &call, steps, fail_send, answer, text, sent)
+    ends(alloc, Job::Read(&call), steps, fail, end)
 }
 
-// Answers of others and to others are not heard; a long datagram is not; and the request is sent again in time.
+const ONCE: &[(u64, &[u8])] = &[(0, ASK)];
+
+const TWICE: &[(u64, &[u8])] = &[(0, ASK), (100, ASK)];
+
+const LATER: &[(u64, &[u8])] = &[(0, ASK), (120, ASK)];
+
+const LONG: &[u8] = &[0; 2_048];
+
+/// Answers of others and to others, a long datagram, and the answer.
+const HEARD: [Step<'static>; 4] = [
+    Step::Packet(5, Q, VALUE),
+    Step::Packet(6, P, LONG),
+    Step::Packet(120, P, &[0; 9]),
+    Step::Packet(130, P, VALUE),
+];
+
+// What is not to be heard is not, and the request is sent again in time.
 #[test]
 fn a_request_is_sent_again(rt: HostRuntime) -> Result<(), Fail> {
-    let twice = [(0, ASK), (100, ASK)];
-    expect_read(&rt, &[], None, Ok(Exit::Bad), "timeout\n", &twice)?;
-    let long = [0; 2_048];
-    let steps = [
-        Step::Packet(5, Q, VALUE),
-        Step::Packet(6, P, &long),
-        Step::Packet(120, P, &long[..9]),
-        Step::Packet(130, P, VALUE),
-    ];
-    let later = [(0, ASK), (120, ASK)];
-    expect_read(&rt, &steps, None, Ok(Exit::Good), "4290999a\n", &later)
+    let silence = (Ok(Exit::Bad), "timeout\n", TWICE);
+    assert!(rt; reads(rt.alloc(), &[], None, silence)?);
+    let value = (Ok(Exit::Good), "4290999a\n", LATER);
+    assert!(rt; reads(rt.alloc(), &HEARD, None, value)?);
+    Ok(())
 }
 
 #[test]
 fn calls_fail(rt: HostRuntime) -> Result<(), Fail> {
-    let once = [(0, ASK)];
     let unsent = Err(ToolFault::SendFailed);
-    expect_read(&rt, &[], Some(0), unsent, "", &[])?;
-    expect_read(&rt, &[], Some(1), unsent, "", &once)?;
-    let deaf = Err(ToolFault::ReceiveFailed);
+    assert!(rt; reads(rt.alloc(), &[], Some(0), (unsent, "", &[]))?);
+    assert!(rt; reads(rt.alloc(), &[], Some(1), (unsent, "", ONCE))?);
     for broken in 0..3 {
         let mut steps = [Step::Quiet(1), Step::Quiet(2), Step::Packet(5, P, VALUE)];
         steps[broken] = Step::Broken;
-        expect_read(&rt, &steps, None, deaf, "", &once)?;
+        let deaf = (Err(ToolFault::ReceiveFailed), "", ONCE);
+        assert!(rt; reads(rt.alloc(), &steps, None, deaf)?, "{broken}");
     }
     let quiet = vec![in rt.alloc(); Step::Quiet(0); 65_536]?;
-    let spent = Err(ToolFault::TurnsSpent);
-    expect_read(&rt, quiet.as_slice(), None, spent, "", &once)
+    let spent = (Err(ToolFault::TurnsSpent), "", ONCE);
+    assert!(rt; reads(rt.alloc(), quiet.as_slice(), None, spent)?);
+    Ok(())
 }

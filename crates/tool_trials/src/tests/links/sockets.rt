@@ -2,36 +2,42 @@
 ghost use Rattle.std.specs.Prelude.{◌≡◌, false, is_err, OnOk};
 
 use super::*;
-use bac_device::Device;
 use bac_links::{Datagram, Refused, UdpLink};
 
-/// What a link hears within a second, and from whom.
-fn hear<L: Link>(rt: &impl Abort, link: &mut L, from: Peer, octets: &[u8]) -> Result<(), LinkFault>
+/// Whether a link hears this within a second, from this peer.
+fn hears<L: Link>(link: &mut L, from: Peer, octets: &[u8]) -> Result<bool, LinkFault>
     requires { L.has_failed link.old ≡ false }
     ensures { L.has_failed link.new ≡ is_err result }
 {
     let mut datagram = Datagram::new();
     let peer = link.receive(1_000, &mut datagram)?;
-    assert_eq!(rt; peer, Some(from));
-    assert!(rt; datagram.as_slice() == octets);
-    Ok(())
+    Ok(peer == Some(from) && datagram.as_slice() == octets)
 }
 
-/// The desk asks, and waits for a millisecond. The field hears it afterwards, and then both hear nothing more.
-fn times_out<L: Link>(rt: &impl Abort, desk: &mut L, field: &mut L) -> Result<(), LinkFault>
+/// How long a receive with this wait takes, by the link's own time. None if it hears something.
+fn silence<L: Link>(link: &mut L, wait_ms: u32) -> Result<Option<u64>, LinkFault>
+    requires { L.has_failed link.old ≡ false }
+    ensures { OnOk result (L.has_failed link.new ≡ false) }
+{
+    let mut datagram = Datagram::new();
+    let before = link.now();
+    if link.receive(wait_ms, &mut datagram)?.is_some() || !datagram.as_slice().is_empty() {
+        return Ok(None);
+    }
+    Ok(link.now().checked_sub(before))
+}
+
+/// Whether the desk, which waits for a millisecond, ends without an answer, and the field hears it afterwards. Then both hear nothing more.
+fn times_out<L: Link>(desk: &mut L, field: &mut L) -> Result<bool, LinkFault>
     requires { (L.has_failed desk.old ≡ false) × (L.has_failed field.old ≡ false) }
 {
-    let mut room = [0; 8];
-    let mut writer = Checked::new(room.as_mut_slice());
-    let got = run_read(&call_of(1, 0, BODY), desk, &mut writer);
-    assert_eq!(rt; got, Ok(Exit::Bad));
-    assert!(rt; !desk.failed());
-    assert_eq!(rt; room.as_slice(), b"timeout\n".as_slice());
-    hear(rt, field, Q, ASK)?;
-    let mut datagram = Datagram::new();
-    assert_eq!(rt; field.receive(1, &mut datagram)?, None);
-    assert_eq!(rt; desk.receive(1, &mut datagram)?, None);
-    Ok(())
+    let mut room = [0xff; 96];
+    let got = run_job(Job::Read(&call_of(1, 0, BODY)), desk, room.as_mut_slice());
+    if got != Ok(Exit::Bad) || desk.failed() {
+        return Ok(false);
+    }
+    let is_heard = is_text(&room, "timeout\n") && hears(field, Q, ASK)?;
+    Ok(is_heard && silence(field, 1)?.is_some() && silence(desk, 1)?.is_some())
 }
 
 #[test]
@@ -39,40 +45,20 @@ fn two_sockets(rt: HostRuntime) -> Result<(), Fail> {
     let mut field = UdpLink::bind(&rt, rt.alloc(), P)?;
     let mut desk = UdpLink::bind(&rt, rt.alloc(), Q)?;
     assert!(rt; UdpLink::bind(&rt, rt.alloc(), Q).is_err());
-    times_out(&rt, &mut desk, &mut field)?;
+    assert!(rt; times_out(&mut desk, &mut field)?);
     Ok(())
 }
 
-/// Sends a datagram from one socket to the other, and says from whom it comes there, if it does. What comes is the whole.
-fn carries<L: Link>(
-    rt: &impl Abort,
-    from: &mut L,
-    to: &mut L,
-    at: Peer,
-    octets: &[u8],
-) -> Result<Option<Peer>, LinkFault>
+/// Where octets are sent from, and where to.
+type Way = (Peer, Peer);
+
+/// Sends octets from here, and says whether they come there whole.
+fn carries<L: Link>(from: &mut L, to: &mut L, way: Way, octets: &[u8]) -> Is
     requires { (L.has_failed from.old ≡ false) × (L.has_failed to.old ≡ false) }
     ensures { OnOk result ((L.has_failed from.new ≡ false) × (L.has_failed to.new ≡ false)) }
 {
-    let mut datagram = Datagram::new();
-    from.send(at, octets)?;
-    let came = to.receive(1_000, &mut datagram)?;
-    let wanted = if came.is_some() { octets } else { &[] };
-    assert!(rt; datagram.as_slice() == wanted);
-    Ok(came)
-}
-
-/// How long a receive with this wait takes that hears nothing, by the link's own time.
-fn silence<L: Link>(rt: &impl Abort, link: &mut L, wait_ms: u32) -> Result<u64, LinkFault>
-    requires { L.has_failed link.old ≡ false }
-    ensures { OnOk result (L.has_failed link.new ≡ false) }
-{
-    let mut datagram = Datagram::new();
-    let before = link.now();
-    assert_eq!(rt; link.receive(wait_ms, &mut datagram)?, None);
-    let passed = link.now().checked_sub(before);
-    assert!(rt; passed.is_some());
-    Ok(passed.unwrap_or(0))
+    from.send(way.1, octets)?;
+    hears(to, way.0, octets)
 }
 
 /// One octet more than a datagram may have, each its place.
@@ -84,29 +70,24 @@ fn counted_octets() -> [u8; 2_048] {
     octets
 }
 
-/// The longest datagram comes whole and from where it was sent, and a longer one does not come; then nothing is left. A wait
-/// that hears nothing takes as long as it was asked for, and one of 0 is one of 1.
-fn carries_up_to_the_longest<L: Link>(
-    rt: &impl Abort,
-    near: &mut L,
-    far: &mut L,
-    here: Peer,
-    there: Peer,
-) -> Result<(), LinkFault>
+/// Whether the longest datagram comes whole and from where it was sent, and a longer one does not come; then nothing is left. A wait that
+/// hears nothing takes as long as it was asked for, and one of 0 is one of 1.
+fn carries_up_to_the_longest<L: Link>(near: &mut L, far: &mut L, way: Way) -> Is
     requires { (L.has_failed near.old ≡ false) × (L.has_failed far.old ≡ false) }
     ensures { OnOk result ((L.has_failed near.new ≡ false) × (L.has_failed far.new ≡ false)) }
 {
     let octets = counted_octets();
-    let Some(most) = octets.get(..2_047) else {
-        panic!(rt; "too short");
-    };
-    assert_eq!(rt; carries(rt, near, far, there, &[0])?, Some(here));
-    assert_eq!(rt; carries(rt, near, far, there, most)?, Some(here));
-    assert_eq!(rt; carries(rt, near, far, there, &octets)?, None);
-    assert!(rt; silence(rt, far, 0)? < 2_000);
-    let waited = silence(rt, near, 200)?;
-    assert!(rt; (150..2_000).contains(&waited), "waited {waited} ms");
-    Ok(())
+    let most = octets.get(..2_047).unwrap_or(&[]);
+    let are_heard = carries(near, far, way, &[0])? && carries(near, far, way, most)?;
+    near.send(way.1, &octets)?;
+    let long = silence(far, 1_000)?;
+    let short = silence(far, 0)?;
+    let waited = silence(near, 200)?;
+    Ok(are_heard && long.is_some() && is_within(short, 0, 2_000) && is_within(waited, 150, 2_000))
+}
+
+fn is_within(passed: Option<u64>, least: u64, below: u64) -> bool {
+    matches!(passed, Some(passed) if least <= passed && passed < below)
 }
 
 #[test]
@@ -115,8 +96,8 @@ fn long_datagrams(rt: HostRuntime) -> Result<(), Fail> {
     let there = Peer { port: 47_811, ..P };
     let mut near = UdpLink::bind(&rt, rt.alloc(), here)?;
     let mut far = UdpLink::bind(&rt, rt.alloc(), there)?;
-    carries_up_to_the_longest(&rt, &mut near, &mut far, here, there)?;
-    carries_up_to_the_longest(&rt, &mut far, &mut near, there, here)?;
+    assert!(rt; carries_up_to_the_longest(&mut near, &mut far, (here, there))?);
+    assert!(rt; carries_up_to_the_longest(&mut far, &mut near, (there, here))?);
     Ok(())
 }
 
@@ -127,22 +108,31 @@ const FROM_ALL: &[u8] = b"\x81\x04\x00\x0e\xff\xff\xff\xff\xba\xc0\x01\x00\x10\x
 
 const FROM_NOWHERE: &[u8] = b"\x81\x04\x00\x0e\x00\x00\x00\x00\x00\x00\x01\x00\x10\x08";
 
-/// The desk asks, the device serves for so many datagrams, and the desk hears the value.
+/// The desk asks, and the device serves for so many datagrams: whether the desk hears the value.
 fn answers<L: Link>(
-    rt: &impl Abort,
     desk: &mut L,
     field: &mut L,
     device: &mut Device,
     server: Peer,
     count: u32,
-) -> Result<(), LinkFault>
+) -> Result<bool, LinkFault>
     requires { (L.has_failed desk.old ≡ false) × (L.has_failed field.old ≡ false) }
-    ensures { OnOk result ((L.has_failed desk.new ≡ false) × (L.has_failed field.new ≡ false)) }
+    ensures { OnOk result (L.has_failed desk.new ≡ false) }
 {
     desk.send(server, ASK)?;
-    assert_eq!(rt; serve(field, device, count), Ok(count));
-    assert!(rt; !field.failed());
-    hear(rt, desk, server, VALUE)
+    let got = serve(field, device, count);
+    Ok(got == Ok(count) && !field.failed() && hears(desk, server, VALUE)?)
+}
+
+/// Whether a device that serves ends so where no reply can be sent, and its link has failed.
+fn is_stopped<L: Link>(desk: &mut L, field: &mut L, device: &mut Device, server: Peer) -> Is
+    requires { L.has_failed desk.old ≡ false }
+{
+    if field.failed() {
+        return Ok(false);
+    }
+    desk.send(server, FROM_PORT_0)?;
+    Ok(serve(field, device, 1) == Err(ToolFault::SendFailed) && field.failed())
 }
 
 // Whoever makes a device answer where nothing can be sent does not stop it; a link that was bound without this fails.
@@ -150,18 +140,15 @@ fn answers<L: Link>(
 fn refused_replies_are_lost(rt: HostRuntime) -> Result<(), Fail> {
     let server = Peer { port: 47_813, ..P };
     let strict = Peer { port: 47_814, ..P };
-    let mut device = demo(DeviceInfo::new(1_234, "Small device").ok_or("no device")?);
+    let mut device = small_device().ok_or("no device")?;
     let mut desk = UdpLink::bind(&rt, rt.alloc(), Peer { port: 47_812, ..P })?;
     let mut field = UdpLink::bind_with(&rt, rt.alloc(), server, Refused::IsLost)?;
     desk.send(server, FROM_PORT_0)?;
     desk.send(server, FROM_ALL)?;
     desk.send(server, FROM_NOWHERE)?;
-    answers(&rt, &mut desk, &mut field, &mut device, server, 4)?;
+    assert!(rt; answers(&mut desk, &mut field, &mut device, server, 4)?);
     let mut brittle = UdpLink::bind(&rt, rt.alloc(), strict)?;
-    answers(&rt, &mut desk, &mut brittle, &mut device, strict, 1)?;
-    desk.send(strict, FROM_PORT_0)?;
-    let answer = serve(&mut brittle, &mut device, 1);
-    assert_eq!(rt; answer, Err(ToolFault::SendFailed));
-    assert!(rt; brittle.failed());
+    assert!(rt; answers(&mut desk, &mut brittle, &mut device, strict, 1)?);
+    assert!(rt; is_stopped(&mut desk, &mut brittle, &mut device, strict)?);
     Ok(())
 }

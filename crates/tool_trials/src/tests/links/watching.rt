@@ -1,10 +1,9 @@
 //! What has gone out before a tool waits, and how often it asks for the time.
-ghost use Rattle.std.specs.Prelude.{◌≡◌, ◌<◌, false, None, IfOk};
+ghost use Rattle.std.specs.Prelude.{◌≡◌, false, None, IfOk};
 
 use super::*;
-use crate::tests::streams::{Progress, Told};
+use crate::tests::streams::{Progress, telling};
 use bac_links::Datagram;
-use std::alloc::Global;
 use std::cell::Cell;
 
 /// A link that notes at each receive how long it waits and how many octets were written before it, and counts how often it is asked for the
@@ -18,12 +17,10 @@ struct Watching<'a> {
     asked: u32,
 }
 
+type Watched<'a> = Result<Watching<'a>, LinkFault>;
+
 /// Watches a link of these steps.
-fn watch<'a>(
-    alloc: Global,
-    steps: &[Step<'_>],
-    written: &'a Cell<usize>,
-) -> Result<Watching<'a>, LinkFault>
+fn watch<'a>(alloc: Global, steps: &[Step<'_>], written: &'a Cell<usize>) -> Watched<'a>
     ensures { IfOk result (λ watching. ⟦<MemoryLink as Link>⟧.has_failed watching.link ≡ false) }
 {
     Ok(Watching {
@@ -44,14 +41,10 @@ impl Link for Watching<'_> {
         self.link.send(to, octets)
     }
 
-    fn receive(
-        &mut self,
-        wait_ms: u32,
-        datagram: &mut Datagram,
-    ) -> Result<Option<Peer>, LinkFault> {
+    fn receive(&mut self, wait: u32, datagram: &mut Datagram) -> Result<Option<Peer>, LinkFault> {
         let _ = self.before.push(self.written.get());
-        let _ = self.waits.push(wait_ms);
-        self.link.receive(wait_ms, datagram)
+        let _ = self.waits.push(wait);
+        self.link.receive(wait, datagram)
     }
 
     fn now(&mut self) -> u64 {
@@ -64,6 +57,9 @@ impl Link for Watching<'_> {
     }
 }
 
+const LINES: &[u8] =
+    b"1234 127.0.0.1:47808 1476 3 260\n1234 127.0.0.1:47808 1476 3 260\n1234 127.0.0.1:47808 1476 3 260\n";
+
 // Each line of 32 octets is out before the next wait, and each turn asks for the time once.
 #[test]
 fn lines_go_out_before_the_next_wait(rt: HostRuntime) -> Result<(), Fail> {
@@ -71,43 +67,39 @@ fn lines_go_out_before_the_next_wait(rt: HostRuntime) -> Result<(), Fail> {
     let steps = [heard, Step::Quiet(6), heard, heard, Step::Quiet(3_000)];
     let progress = Progress::new();
     let mut link = watch(rt.alloc(), &steps, &progress.written)?;
-    let mut writer = Checked::new(Told {
-        progress: &progress,
-        fails_at: usize::MAX,
-        takes_none: false,
-    });
-    assert_eq!(rt; run_whois(&SEARCH, &mut link, &mut writer), Ok(Exit::Good));
-    assert_eq!(rt; link.before.as_slice(), [0, 32, 32, 64, 96].as_slice());
-    assert_eq!(rt; link.asked, 6);
+    let writer = telling(&progress, LINES, usize::MAX, false);
+    assert!(rt; run_job(Job::Search(&SEARCH), &mut link, writer) == Ok(Exit::Good));
+    assert!(rt; link.before.as_slice() == [0, 32, 32, 64, 96].as_slice() && link.asked == 6);
+    assert!(rt; !progress.is_wrong.get());
     Ok(())
 }
 
-/// Sees that a read with this timeout waits so long at each of two receives.
-fn expect_waits<H: Abort + AllocGlobal>(rt: &H, timeout: u32, wait: u32) -> Result<(), Fail>
-    requires { 0 < timeout }
-{
+/// Whether a read with this timeout waits so long at each of two receives.
+fn reads_waiting(alloc: Global, timeout: u32, wait: u32) -> Result<bool, LinkFault> {
     let written = Cell::new(0);
     let steps = [Step::Quiet(1), Step::Packet(5, P, VALUE)];
-    let mut link = watch(rt.alloc(), &steps, &written)?;
-    let mut room = [0; 9];
-    let mut writer = Checked::new(room.as_mut_slice());
-    let got = run_read(&call_of(timeout, 3, BODY), &mut link, &mut writer);
-    assert_eq!(rt; got, Ok(Exit::Good));
-    assert_eq!(rt; link.waits.as_slice(), [wait, wait].as_slice());
-    Ok(())
+    let mut link = watch(alloc, &steps, &written)?;
+    let call = call_of(timeout, 3, BODY);
+    let got = run_job(Job::Read(&call), &mut link, [0; 9].as_mut_slice());
+    Ok(got == Ok(Exit::Good) && link.waits.as_slice() == [wait, wait].as_slice())
+}
+
+/// Whether a device waits so long at each of two receives.
+fn serves_waiting(alloc: Global, device: &mut Device, wait: u32) -> Result<bool, LinkFault> {
+    let written = Cell::new(0);
+    let steps = [Step::Quiet(1_000), Step::Packet(1_500, Q, ASK)];
+    let mut link = watch(alloc, &steps, &written)?;
+    let got = serve(&mut link, device, 1);
+    Ok(got == Ok(1) && link.waits.as_slice() == [wait, wait].as_slice())
 }
 
 // A call waits for 50 ms at a time, or for its timeout where that is shorter, and a device for a second.
 #[test]
 fn waits(rt: HostRuntime) -> Result<(), Fail> {
-    expect_waits(&rt, 3_000, 50)?;
-    expect_waits(&rt, 51, 50)?;
-    expect_waits(&rt, 10, 10)?;
-    let written = Cell::new(0);
-    let steps = [Step::Quiet(1_000), Step::Packet(1_500, Q, ASK)];
-    let mut link = watch(rt.alloc(), &steps, &written)?;
-    let mut device = demo(DeviceInfo::new(1_234, "Small device").ok_or("no device")?);
-    assert_eq!(rt; serve(&mut link, &mut device, 1), Ok(1));
-    assert_eq!(rt; link.waits.as_slice(), [1_000, 1_000].as_slice());
+    for (timeout, wait) in &[(3_000, 50), (51, 50), (10, 10)] {
+        assert!(rt; reads_waiting(rt.alloc(), *timeout, *wait)?, "{timeout}");
+    }
+    let mut device = small_device().ok_or("no device")?;
+    assert!(rt; serves_waiting(rt.alloc(), &mut device, 1_000)?);
     Ok(())
 }

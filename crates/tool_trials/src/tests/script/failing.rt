@@ -1,133 +1,198 @@
 //! Readers and writers that fail, one operation after another.
-use crate::tests::streams::{Asked, Progress, Room, Told, printed_after};
+use crate::tests::streams::{Asked, Progress, printed_after, telling, with_room};
+use arrayvec::ArrayVec;
 use bac_script::{TraceEnd, TraceFault, trace};
 use bac_text::Checked;
+use std::alloc::Global;
 use std::io::{self, ErrorKind, Read};
-use std::process::Abort;
-use std::test::Fail;
 
-const SCRIPT: &str =
-    "read 127.0.0.1:47808 0 5 85\ntick 2999\ntick 3000\ntick 6000\ntick 9000\ntick 12000\n";
-
-const READ: &str = "read 127.0.0.1:47808 0 5 85\n";
-
-/// The answer to the first read.
-const VALUE: &str = "data 127.0.0.1:47808 810a0017010030010c0c0000000519553e444290999a3f\n";
+const SCRIPT: &[u8] =
+    b"read 127.0.0.1:47808 0 5 85\ntick 2999\ntick 3000\ntick 6000\ntick 9000\ntick 12000\n";
 
 /// What the script prints.
-const PRINTED: &str = "send 0 127.0.0.1:47808 810a001101040005010c0c000000051955\n\
+const PRINTED: &[u8] = b"send 0 127.0.0.1:47808 810a001101040005010c0c000000051955\n\
     send 0 127.0.0.1:47808 810a001101040005010c0c000000051955\n\
     send 0 127.0.0.1:47808 810a001101040005010c0c000000051955\n\
     send 0 127.0.0.1:47808 810a001101040005010c0c000000051955\n\
     timeout 0\n";
 
+const WHOLE: Result<TraceEnd, TraceFault> = Ok(TraceEnd { lines: 6 });
+
 // Script and text may stand in fixed room: a run asks for no memory, as its signature says.
 #[test]
 fn a_text_in_fixed_room(rt: HostRuntime) {
     let mut room = [0; PRINTED.len()];
-    let got = trace(
-        &mut Checked::new(SCRIPT.as_bytes()),
-        &mut Checked::new(room.as_mut_slice()),
-    );
-    assert_eq!(rt; got, Ok(TraceEnd { lines: 6 }));
-    assert_eq!(rt; room.as_slice(), PRINTED.as_bytes());
+    let mut writer = Checked::new(room.as_mut_slice());
+    assert!(rt; trace(&mut Checked::new(SCRIPT), &mut writer) == WHOLE);
+    assert!(rt; room.as_slice() == PRINTED);
+}
+
+/// Whether a writer that takes so many octets has this front of the text, and the script tells that writing failed.
+fn leaves_front(alloc: Global, left: usize, fails: bool) -> bool {
+    let mut taken = Vec::new(alloc);
+    let mut writer = Checked::new(with_room(&mut taken, left, fails));
+    let got = trace(&mut Checked::new(SCRIPT), &mut writer);
+    got == Err(TraceFault::WriteFailed) && PRINTED.get(..left) == Some(taken.as_slice())
 }
 
 #[test]
 fn writes_fail_in_turn(rt: HostRuntime) {
-    let text = PRINTED.as_bytes();
-    for left in 0..text.len() {
-        for fails in [true, false] {
-            let mut taken = Vec::new(rt.alloc());
-            let got = {
-                let room = Room {
-                    taken: &mut taken,
-                    left,
-                    fails,
-                };
-                trace(
-                    &mut Checked::new(SCRIPT.as_bytes()),
-                    &mut Checked::new(room),
-                )
-            };
-            assert_eq!(rt; got, Err(TraceFault::WriteFailed), "after {left}");
-            assert_eq!(rt; taken.as_slice(), &text[..left], "after {left}");
+    for left in 0..PRINTED.len() {
+        for fails in &[true, false] {
+            assert!(rt; leaves_front(rt.alloc(), left, *fails), "after {left}");
         }
     }
 }
 
-/// How many octets of the script there are up to the end of each line that prints, and how many of the text.
-const ENDS: [(usize, usize); 5] = [(28, 58), (48, 116), (58, 174), (68, 232), (79, 242)];
+/// A script, what it prints, and how many octets of the one there are up to the end of each line that prints, and how many of the other.
+#[derive(Drop)]
+struct Worked<'a> {
+    script: &'a [u8],
+    text: &'a [u8],
+    ends: &'a [(usize, usize)],
+}
 
-/// Sees that a reader that gives one octet at a time, and fails at whichever read, leaves the text of the whole lines before.
-fn expect_reads_fail<H: Abort + AllocGlobal>(
-    rt: &H,
-    script: &str,
-    text: &str,
-    ends: &[(usize, usize)],
-) {
-    for reads in 0..=script.len() {
-        let progress = Progress::new();
-        let mut written = Vec::new(rt.alloc());
-        let got = {
-            let mut reader = Checked::new(Asked {
-                progress: &progress,
-                script,
-                ends: &[],
-                fails_at: reads,
-            });
-            trace(&mut reader, &mut Checked::new(&mut written))
-        };
-        assert_eq!(rt; got, Err(TraceFault::ReadFailed), "after {reads}");
-        let printed = text.as_bytes().get(..printed_after(ends, reads));
-        assert_eq!(rt; Some(written.as_slice()), printed, "after {reads}");
+const RETRIES: Worked<'static> = Worked {
+    script: SCRIPT,
+    text: PRINTED,
+    ends: &[(28, 58), (48, 116), (58, 174), (68, 232), (79, 242)],
+};
+
+/// Runs a script where the read and the write with these numbers fail: how many reads and writes there were, and how many octets were
+/// written. None if it doesn't end so, writes another text, or reads before it has written what is printed.
+fn counts(
+    worked: &Worked<'_>,
+    (read, write, takes_none): (usize, usize, bool),
+    answer: Result<TraceEnd, TraceFault>,
+) -> Option<(usize, usize, usize)> {
+    let progress = Progress::new();
+    let mut reader = Checked::new(Asked {
+        progress: &progress,
+        script: worked.script,
+        ends: worked.ends,
+        fails_at: read,
+    });
+    let mut writer = Checked::new(telling(&progress, worked.text, write, takes_none));
+    let got = trace(&mut reader, &mut writer);
+    let is_right = got == answer
+        && reader.failed() == (got == Err(TraceFault::ReadFailed))
+        && writer.failed() == (got == Err(TraceFault::WriteFailed));
+    if !is_right || progress.is_wrong.get() {
+        return None;
+    }
+    let (reads, writes) = (progress.reads.get(), progress.writes.get());
+    Some((reads, writes, progress.written.get()))
+}
+
+/// Whether a reader that gives one octet at a time, and fails at this read, is not asked again, and leaves the text of the whole lines before.
+fn fails_at(worked: &Worked<'_>, read: usize) -> bool {
+    let fails = (read, usize::MAX, false);
+    let wanted = printed_after(worked.ends, read);
+    match counts(worked, fails, Err(TraceFault::ReadFailed)) {
+        Some((reads, _, written)) => reads == read.wrapping_add(1) && written == wanted,
+        None => false,
     }
 }
 
-// Sixty-four requests are sent, and the sixty-fifth finds no place until the first is answered.
+// At each read all that was printed before is written.
 #[test]
-fn reads_fail_in_turn(rt: HostRuntime) -> Result<(), Fail> {
-    expect_reads_fail(&rt, SCRIPT, PRINTED, &ENDS);
-    let mut script = String::new(rt.alloc());
-    let mut text = String::new(rt.alloc());
-    let mut ends = Vec::new(rt.alloc());
+fn nobody_waits_for_text(rt: HostRuntime) {
+    let found = counts(&RETRIES, (usize::MAX, usize::MAX, false), WHOLE);
+    assert!(rt; found == Some((SCRIPT.len() + 1, 5, PRINTED.len())));
+}
+
+// A reader that fails once is not asked again. Nor is a writer that fails once, or takes nothing once, and nothing is read after that.
+#[test]
+fn what_failed_is_not_asked_again(rt: HostRuntime) {
+    for read in 0..=SCRIPT.len() {
+        assert!(rt; fails_at(&RETRIES, read), "at {read}");
+    }
+    for write in 0..5 {
+        for takes_none in &[true, false] {
+            let fails = (usize::MAX, write, *takes_none);
+            let found = counts(&RETRIES, fails, Err(TraceFault::WriteFailed));
+            let is_right = matches!(found, Some((_, writes, _)) if writes == write + 1);
+            assert!(rt; is_right, "at {write}");
+        }
+    }
+}
+
+/// A script of many requests, with its text.
+#[derive(Drop)]
+struct Requests {
+    script: ArrayVec<u8, 2048>,
+    text: ArrayVec<u8, 4096>,
+    ends: ArrayVec<(usize, usize), 80>,
+}
+
+impl Requests {
+    fn add(&mut self, line: &[u8], printed: &[&[u8]]) {
+        let _ = self.script.try_extend_from_slice(line);
+        for part in printed {
+            let _ = self.text.try_extend_from_slice(part);
+        }
+        let _ = self.ends.try_push((self.script.len(), self.text.len()));
+    }
+}
+
+const READ: &[u8] = b"read 127.0.0.1:47808 0 5 85\n";
+
+/// The answer to the first read.
+const VALUE: &[u8] = b"data 127.0.0.1:47808 810a0017010030010c0c0000000519553e444290999a3f\n";
+
+/// The digit of a number below 16, of base 16.
+fn digit(number: u8) -> &'static [u8] {
+    let place = usize::from(number);
+    b"0123456789abcdef".get(place..=place).unwrap_or(b"")
+}
+
+// Sixty-four requests are sent, and the sixty-fifth finds no place until the first is answered.
+fn sixty_five() -> Requests {
+    let mut all = Requests {
+        script: ArrayVec::new(),
+        text: ArrayVec::new(),
+        ends: ArrayVec::new(),
+    };
+    let (to, rest) = (b" 127.0.0.1:47808 810a001101040005", b"0c0c000000051955\n");
     for ticket in 0..64_u8 {
-        let number = hex::encode(rt.alloc(), &[ticket + 1])?;
-        script.push_str(READ)?;
-        let sent = format!(in rt.alloc();
-            "send {ticket} 127.0.0.1:47808 810a001101040005{number}0c0c000000051955\n"
-        )?;
-        text.push_str(sent.as_str())?;
-        ends.push((script.len(), text.len()))?;
+        let tens = if ticket < 10 { b"" } else { digit(ticket / 10) };
+        let number = ticket + 1;
+        let (high, low) = (digit(number / 16), digit(number % 16));
+        let ones = digit(ticket % 10);
+        all.add(READ, &[b"send ", tens, ones, to, high, low, rest]);
     }
-    for (line, printed) in [
-        (READ, "full\n"),
-        (VALUE, "done 0 value 4290999a\n"),
-        (
-            READ,
-            "send 64 127.0.0.1:47808 810a001101040005410c0c000000051955\n",
-        ),
-    ] {
-        script.push_str(line)?;
-        text.push_str(printed)?;
-        ends.push((script.len(), text.len()))?;
+    all.add(READ, &[b"full\n"]);
+    all.add(VALUE, &[b"done 0 value 4290999a\n"]);
+    all.add(READ, &[b"send 64", to, b"41", rest]);
+    all
+}
+
+#[test]
+fn reads_fail_in_turn(rt: HostRuntime) {
+    let all = sixty_five();
+    let worked = Worked {
+        script: all.script.as_slice(),
+        text: all.text.as_slice(),
+        ends: all.ends.as_slice(),
+    };
+    assert!(rt; worked.script.len() == 1_916 && worked.ends.len() == 67);
+    for read in 0..=worked.script.len() {
+        assert!(rt; fails_at(&worked, read), "at {read}");
     }
-    expect_reads_fail(&rt, script.as_str(), text.as_str(), ends.as_slice());
-    Ok(())
 }
 
 /// Gives a script at once and then nothing, once. Whoever asks again has a failure or the script once more.
 #[derive(Drop)]
 struct EndedOnce<'a> {
     script: &'a [u8],
-    asked: usize,
+    at: usize,
     fails: bool,
 }
 
 impl Read for EndedOnce<'_> {
     fn read(&mut self, buf: &mut [u8]) -> io::Result<usize> {
-        let asked = self.asked;
-        self.asked = asked.saturating_add(1);
+        let asked = self.at;
+        self.at = asked.saturating_add(1);
         if asked == 1 {
             return Ok(0);
         }
@@ -140,89 +205,21 @@ impl Read for EndedOnce<'_> {
     }
 }
 
+/// Whether such a reader is read twice, ends once and has not failed.
+fn is_read_twice(script: &[u8], fails: bool) -> bool {
+    let at = 0;
+    let mut reader = Checked::new(EndedOnce { script, at, fails });
+    let mut room = [0; PRINTED.len()];
+    let got = trace(&mut reader, &mut Checked::new(room.as_mut_slice()));
+    let is_ended = reader.ends() == 1 && reader.ended() && !reader.failed();
+    got == WHOLE && room.as_slice() == PRINTED && reader.reads() == 2 && is_ended
+}
+
 // A read that gave nothing is the last, whether or not a line feed stands before it.
 #[test]
 fn what_has_ended_is_not_asked_again(rt: HostRuntime) {
-    for left_out in 0..2 {
-        for fails in [true, false] {
-            let script = SCRIPT.as_bytes();
-            let mut reader = Checked::new(EndedOnce {
-                script: &script[..script.len() - left_out],
-                asked: 0,
-                fails,
-            });
-            let mut written = Vec::new(rt.alloc());
-            let got = trace(&mut reader, &mut Checked::new(&mut written));
-            assert_eq!(rt; got, Ok(TraceEnd { lines: 6 }), "without {left_out}");
-            assert_eq!(rt; written.as_slice(), PRINTED.as_bytes());
-            assert_eq!(rt; reader.reads(), 2);
-            assert_eq!(rt; reader.ends(), 1);
-            assert!(rt; reader.ended() && !reader.failed());
-        }
-    }
-}
-
-/// Runs the script where the read and the write with these numbers fail, and sees how it ends, and that no read came early.
-fn expect_watched(
-    rt: &impl Abort,
-    progress: &Progress,
-    fails: (usize, usize, bool),
-    answer: Result<TraceEnd, TraceFault>,
-) {
-    let (read, write, takes_none) = fails;
-    let mut reader = Checked::new(Asked {
-        progress,
-        script: SCRIPT,
-        ends: &ENDS,
-        fails_at: read,
-    });
-    let mut writer = Checked::new(Told {
-        progress,
-        fails_at: write,
-        takes_none,
-    });
-    let got = trace(&mut reader, &mut writer);
-    assert_eq!(rt; got, answer, "where {read} and {write} fail");
-    assert_eq!(rt;
-        reader.failed(),
-        answer == Err(TraceFault::ReadFailed),
-        "at read {read}"
-    );
-    assert_eq!(rt;
-        writer.failed(),
-        answer == Err(TraceFault::WriteFailed),
-        "at write {write}"
-    );
-    assert!(rt; !progress.is_early.get(), "where {read} and {write} fail");
-}
-
-// At each read all that was printed before is written.
-#[test]
-fn nobody_waits_for_text(rt: HostRuntime) {
-    let progress = Progress::new();
-    let never = (usize::MAX, usize::MAX, false);
-    expect_watched(&rt, &progress, never, Ok(TraceEnd { lines: 6 }));
-    assert_eq!(rt; progress.written.get(), PRINTED.len());
-    assert_eq!(rt; progress.reads.get(), SCRIPT.len() + 1);
-    assert_eq!(rt; progress.writes.get(), 5);
-}
-
-// A reader that fails once is not asked again. Nor is a writer that fails once, or takes nothing once, and nothing is read after
-// that.
-#[test]
-fn what_failed_is_not_asked_again(rt: HostRuntime) {
-    for read in 0..SCRIPT.len() + 1 {
-        let progress = Progress::new();
-        let fails = (read, usize::MAX, false);
-        expect_watched(&rt, &progress, fails, Err(TraceFault::ReadFailed));
-        assert_eq!(rt; progress.reads.get(), read.saturating_add(1), "at {read}");
-    }
-    for write in 0..5 {
-        for takes_none in [true, false] {
-            let progress = Progress::new();
-            let fails = (usize::MAX, write, takes_none);
-            expect_watched(&rt, &progress, fails, Err(TraceFault::WriteFailed));
-            assert_eq!(rt; progress.writes.get(), write + 1, "at {write}");
-        }
+    for fails in &[true, false] {
+        assert!(rt; is_read_twice(SCRIPT, *fails));
+        assert!(rt; is_read_twice(&SCRIPT[..SCRIPT.len() - 1], *fails));
     }
 }

@@ -5,10 +5,8 @@ use Rattle.bac_device.proofs.device.Device.accepted.Goals as goal
 
 pub returns-then-is_some-2 : goal.returns-then-is_some-2
 returns-then-is_some-2 c =
-    let named = accepted_at c.args.self.now (order c.args.request.now) c.in-Some.point.now (sym c.in-Some.ensures) in
-    rw (named, ← c.if-is_some-2.ensures) refl
+    rw (accepted_at c.args.self.now (order c.args.request.now) c.in-Some.point.now _ (sym c.in-Some.ensures.point) c.in-Some.ensures.property, ← c.if-is_some-2.ensures) refl
 
 pub returns : goal.returns
 returns c =
-    let named = accepted_at c.args.self.now (order c.args.request.now) c.in-Some.point.now (sym c.in-Some.ensures) in
-    rw (named, ← c.if-is_some-2.ensures) c.ordered.ensures
+    rw (accepted_at c.args.self.now (order c.args.request.now) c.in-Some.point.now _ (sym c.in-Some.ensures.point) c.in-Some.ensures.property, ← c.if-is_some-2.ensures) c.ordered.ensures

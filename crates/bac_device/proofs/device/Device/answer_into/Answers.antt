@@ -3,7 +3,7 @@ use Rattle.std.specs.Option.{option_map}
 use Rattle.bac_pdu.specs.Peer.{station, network_address}
 use Rattle.bac_pdu.specs.Datagram.{delivery}
 use Rattle.bac_pdu.proofs.DatagramLaws.{carried_is, wrapped_short}
-use Rattle.bac_device.proofs.ReplyLaws.{carried_routable}
+use Rattle.bac_device.proofs.SizeLaws.{carried_routable}
 use Rattle.bac_device.proofs.device.Device.answer_into.Goals as goal
 
 pub unreachable-requires : goal.unreachable-requires

@@ -1,7 +1,6 @@
 use Rattle.std.proofs.Common.{◌≡◌, false, arith}
 use Rattle.std.specs.Prelude.{◌==◌}
 use Rattle.std.proofs.lemmas.Bool.Decides.{nat_tests}
-use Rattle.bac_text.proofs.Printed.{◌⨾◌}
 use Rattle.bac_text.proofs.ValueTexts.{printed_in_braces, printed_octets}
 use Rattle.bac_text.proofs.page.Page.print_region.Goals as goal
 
@@ -11,4 +10,4 @@ returns-in-Some g c =
     printed_in_braces c.args.region.now c.in-Some.field-0 c.in-Some.ensures several c.print.ensures c.print_values-in-Some.ensures c.print-in-Some.ensures
 
 pub returns-in-None : goal.returns-in-None
-returns-in-None g c = printed_octets c.args.region.now c.in-None.ensures (c.print-in-None.ensures ⨾ c.print_hex.ensures)
+returns-in-None g c = printed_octets c.args.region.now c.in-None.ensures c.print-in-None.ensures c.print_hex.ensures

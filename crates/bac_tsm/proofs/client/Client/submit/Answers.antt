@@ -1,8 +1,8 @@
 use Rattle.std.proofs.Common.{◌<◌, length, sym, subst, arith}
 use Rattle.bac_tsm.specs.Client.{Client}
 use Rattle.bac_tsm.specs.Limits.{table_size}
-use Rattle.bac_tsm.proofs.AnswersByNumber.{few_places}
-use Rattle.bac_tsm.proofs.SubmitStep.{number_unused}
+use Rattle.bac_tsm.proofs.AnswersInWords.{few_places}
+use Rattle.bac_tsm.proofs.FreeNumber.{number_unused}
 use Rattle.bac_tsm.proofs.client.Client.submit.Goals as goal
 
 pub open-requires-clause-number : goal.open-requires-clause-number

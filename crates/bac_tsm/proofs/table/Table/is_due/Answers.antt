@@ -1,19 +1,16 @@
 use Rattle.std.proofs.Common.{◌∙◌}
 use Rattle.bac_tsm.specs.Client.{client_rules}
-use Rattle.bac_tsm.proofs.PassDue.{front_below, front_listed, some_due}
+use Rattle.bac_tsm.proofs.PassDue.{front_below, some_due}
 use Rattle.bac_tsm.proofs.TableReads.{rising}
 use Rattle.bac_tsm.proofs.table.Table.is_due.Goals as goal
 
-pub listed : goal.listed
-listed c = front_listed c.self.invariant.0 c.self.invariant.1 _ c.self.view_is c.deref.result.now c.deref.ensures.0 c.in-Some.place.now c.in-Some.ensures.value _ c.from.ensures
-
-pub bounds-self-inside-from : goal.bounds-self-inside-from
-bounds-self-inside-from c = front_below c.self.invariant.0 c.self.invariant.1 _ c.self.view_is c.deref.result.now c.deref.ensures.0 c.in-Some.place.now c.in-Some.ensures.value _ c.from.ensures
+pub held-requires : goal.held-requires
+held-requires c = front_below c.self.invariant.0 c.self.invariant.1 _ c.self.view_is c.deref.result.now c.deref.ensures.0 c.in-Some.place.now c.in-Some.ensures.value
 
 pub returns-in-Some-clause-due : goal.returns-in-Some-clause-due
 returns-in-Some-clause-due c =
     c.is_due.ensures ∙ some_due c.self.invariant.0 c.self.invariant.1 _ c.self.view_is c.deref.result.now c.deref.ensures.0 c.in-Some.place.now c.in-Some.ensures.value
-    (client_rules c.args.config.timeout c.args.config.retries) c.args.clock _ c.from.ensures _
+    (client_rules c.args.config.timeout c.args.config.retries) c.args.clock _ c.held.ensures
 
 pub returns-in-Some-clause-rising : goal.returns-in-Some-clause-rising
 returns-in-Some-clause-rising c = rising c.self.invariant.0 _ c.self.view_is

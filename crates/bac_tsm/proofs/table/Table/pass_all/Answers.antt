@@ -19,12 +19,12 @@ pass-entry-requires-clause-past c = c.loop-is_due.invariant.ticked.past
 pub pass-entry-requires-clause-due : goal.pass-entry-requires-clause-due
 pass-entry-requires-clause-due c = sym c.loop-is_due.invariant.due ∙ c.loop-is_due-test.true
 
-pub push-requires : goal.push-requires
-push-requires c =
+pub put_last-requires : goal.put_last-requires
+put_last-requires c =
     let less = (fewer (client_rules c.args.config.timeout c.args.config.retries) c.args.clock c.args.config.positive c.loop-is_due.invariant.ticked c.pass-entry.result _ c.pass-entry.ensures).0 in
     let most = few_due (client_rules c.args.config.timeout c.args.config.retries) c.args.clock c.args.self.now in
     let few = c.requires.few in
-    (omega arith, omega arith)
+    omega arith
 
 pub loop-is_due-smaller : goal.loop-is_due-smaller
 loop-is_due-smaller c = (fewer (client_rules c.args.config.timeout c.args.config.retries) c.args.clock c.args.config.positive c.loop-is_due.invariant.ticked c.pass-entry.result _ c.pass-entry.ensures).1
@@ -32,7 +32,7 @@ loop-is_due-smaller c = (fewer (client_rules c.args.config.timeout c.args.config
 pub loop-is_due-preserved : goal.loop-is_due-preserved
 loop-is_due-preserved c = record {
   ticked =
-      rw c.push.ensures.items (passed (client_rules c.args.config.timeout c.args.config.retries) c.args.clock c.args.config.positive c.loop-is_due.invariant.ticked c.pass-entry.result _ c.pass-entry.ensures);
+      rw c.put_last.ensures (passed (client_rules c.args.config.timeout c.args.config.retries) c.args.clock c.args.config.positive c.loop-is_due.invariant.ticked c.pass-entry.result _ c.pass-entry.ensures);
   due = c.is_due-is_due.ensures.due;
 }
 

@@ -1,16 +1,13 @@
-use Rattle.std.proofs.Common.{◌≡◌, ℕ, List, length, get_or, Option, Some, None, true, nat_eq, nat_lt, ap, sym, ◌∙◌}
+use Rattle.std.proofs.Common.{◌≡◌, ℕ, List, length, get_or, Option, Some, None, nat_lt, ap, sym, ◌∙◌, arith}
 use Rattle.std.specs.Prelude.{IfSome}
 use Rattle.std.specs.List.{slice_get}
 use Rattle.std.specs.Borrow.{Bor}
-use Rattle.std.specs.Option.{is_some, option_copied, option_eq}
-use Rattle.std.proofs.lemmas.Bool.{eqb-true, ltb-true, false≢true}
+use Rattle.std.specs.Option.{is_some, option_copied}
+use Rattle.std.proofs.lemmas.Bool.{ltb-true}
+use Rattle.std.proofs.lemmas.Bool.Decides.{nat_tests}
 use Rattle.std.proofs.lemmas.Option.{none-some, same_Some, slice_get-get_or}
 use Rattle.bac_tsm.proofs.TableReads.{likely_turn, searched_turn}
 use Rattle.bac_tsm.proofs.table.Table.turn_of.Goals as goal
-
-the_one : (o : Option ℕ) (ticket : ℕ) → option_eq nat_eq o (Some ticket) ≡ true → o ≡ Some ticket
-the_one None ticket e = absurd (false≢true e)
-the_one (Some x) ticket e = ap Some (eqb-true x ticket e)
 
 got : (r : Option (Bor ℕ)) (xs : List ℕ) (i ticket : ℕ) → is_some r ≡ nat_lt i (length xs) → IfSome r (λ x. x.now ≡ get_or xs i x.now) →
     option_copied r ≡ Some ticket → slice_get xs i ≡ Some ticket
@@ -20,9 +17,10 @@ got (Some x) xs i ticket within there is =
 
 pub returns-then-eq : goal.returns-then-eq
 returns-then-eq c =
+    let is : c.copied.result ≡ Some c.args.ticket = grind (arith, nat_tests, sym c.eq.ensures ∙ c.if-eq.true) in
     likely_turn c.self.invariant.0 _ c.self.view_is c.args.ticket _ c.deref-2.ensures.0 _
     (got c.get.result c.deref-2.result.now _ c.args.ticket c.get.ensures.lookup.0 c.get.ensures.lookup.1
-    (sym c.copied.ensures ∙ the_one c.copied.result c.args.ticket (sym c.eq.ensures ∙ c.if-eq.true)))
+    (sym c.copied.ensures ∙ is))
 
 pub returns : goal.returns
 returns c = rw c.ok.ensures.value (searched_turn c.self.invariant.0 _ c.self.view_is c.args.ticket _ c.as_slice.ensures.value _ c.binary_search.ensures.position)

@@ -1,5 +1,0 @@
-use Rattle.bac_text.proofs.Printed.{◌⨾◌}
-use Rattle.bac_text.proofs.page.Page.print_quoted.Goals as goal
-
-pub returns : goal.returns
-returns g c = c.print.ensures ⨾ c.print_quoted_octets.ensures ⨾ c.print-2.ensures
