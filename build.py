@@ -21,9 +21,9 @@ import time
 PROGRAM = "bactool"
 ROOMS = "out/build"
 CRATE_MEMORY = 2 << 30  # what a crate takes while it is proved, in octets
-COST = """From nothing this takes some 28 minutes of processor time: 12 minutes on a quiet machine with four processors, and 25 with two where
-others are at other work. Memory: some 2 GB for each crate at work. Disk: 3.2 GB, which are kept, so that the next build proves only what has
-changed."""
+COST = """From nothing this takes 18 to 39 minutes of processor time, as fast as the machine is: 8 to 14 minutes of the clock with four
+processors, up to 25 with two. Memory: some 2 GB for each crate at work. Disk: 3.2 GB, which are kept, so that the next build proves only what
+has changed."""
 
 
 def needed():
@@ -43,13 +43,8 @@ def all_below(crate, crates):
 
 
 def size(crate):
-    """The octets of its sources: a measure of how long it takes to prove."""
-    return sum(
-        os.path.getsize(os.path.join(folder, name))
-        for part in ("src", "specs", "proofs")
-        for folder, _, names in os.walk(f"crates/{crate}/{part}")
-        for name in names
-    )
+    """The octets of its code: a measure of how long it takes to prove. Lemmas take little."""
+    return sum(os.path.getsize(os.path.join(folder, name)) for folder, _, names in os.walk(f"crates/{crate}/src") for name in names)
 
 
 def processors():
@@ -157,12 +152,13 @@ def build(crates, screen):
     """Answers whether each crate was proved."""
     left, done, working, long = dict(crates), set(), [], chains(crates)
     places = min(processors(), room())
+    jobs = places + processors()  # more than there are processors, so that none stands idle when a crate ends beside another
     try:
         while left or working:
             ready = sorted((crate for crate in left if left[crate] <= done), key=long.get, reverse=True)
-            idle, among = processors() - sum(work.jobs for work in working), sum(map(long.get, ready))
+            free, among = jobs - sum(work.jobs for work in working), sum(map(long.get, ready))
             for crate in ready[: places - len(working)]:
-                share = round(idle * long[crate] / among)
+                share = min(round(free * long[crate] / among), processors())
                 working.append(Work(crate, all_below(crate, crates), max(share, 1)))
                 del left[crate]
             time.sleep(0.5)

@@ -1,6 +1,7 @@
 /* Loaded in front of the C library, it has one call of a program to the system fail: that with the number FAILED, from 1, among the calls
-   that open a socket, send, receive, read and write. It says on the descriptor 3, where that is open, which call it was. Where ONE_OCTET is
-   set, a read gives at most one octet. */
+   that open a socket, send, receive, read and write. It says on the descriptor 3, where that is open, which call it was. Where SHORT is set, a
+   send that fails sends all, and says that it sent an octet less. Where EACH is set, each call is said, and of a wait that is set its
+   microseconds. Where ONE_OCTET is set, a read gives at most one octet. */
 #define _GNU_SOURCE
 #include <dlfcn.h>
 #include <errno.h>
@@ -8,6 +9,7 @@
 #include <stdlib.h>
 #include <string.h>
 #include <sys/socket.h>
+#include <sys/time.h>
 #include <unistd.h>
 
 static long calls;
@@ -28,6 +30,10 @@ static int fails(const char *name)
         failed = number ? atol(number) : 0;
     }
     calls++;
+    if (getenv("EACH")) {
+        say(name);
+        say(" ");
+    }
     if (calls != failed)
         return 0;
     say(name);
@@ -52,13 +58,23 @@ int bind(int fd, const struct sockaddr *address, socklen_t length)
 int setsockopt(int fd, int level, int name, const void *value, socklen_t length)
 {
     NEXT("setsockopt", int(int, int, int, const void *, socklen_t));
-    return fails("setsockopt") ? -1 : next(fd, level, name, value, length);
+    if (fails("setsockopt"))
+        return -1;
+    if (getenv("EACH") && level == SOL_SOCKET && name == SO_RCVTIMEO) {
+        const struct timeval *wait = value;
+        char text[40];
+        snprintf(text, sizeof text, "%ld ", (long)(wait->tv_sec * 1000000 + wait->tv_usec));
+        say(text);
+    }
+    return next(fd, level, name, value, length);
 }
 
 ssize_t sendto(int fd, const void *octets, size_t count, int flags, const struct sockaddr *to, socklen_t length)
 {
     NEXT("sendto", ssize_t(int, const void *, size_t, int, const struct sockaddr *, socklen_t));
-    return fails("sendto") ? -1 : next(fd, octets, count, flags, to, length);
+    if (fails("sendto"))
+        return getenv("SHORT") ? next(fd, octets, count, flags, to, length) - 1 : -1;
+    return next(fd, octets, count, flags, to, length);
 }
 
 ssize_t recvfrom(int fd, void *octets, size_t count, int flags, struct sockaddr *from, socklen_t *length)

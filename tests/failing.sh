@@ -1,6 +1,7 @@
 #!/bin/sh
 # Has each call of the program to the system fail, one in each run: opening a socket, sending, receiving, reading, writing. Every such run has
-# to end with status 3 and the line of its fault, after a front of what it prints otherwise. A device that can't send a reply goes on.
+# to end with status 3 and the line of its fault, after a front of what it prints otherwise. A device that can't send a reply goes on. Where none
+# fails, the program makes the calls that are wanted, and no others.
 # Usage: tests/failing.sh PROGRAM; it needs cc, and says so where there is none.
 set -eu
 program=$(realpath "$1")
@@ -76,6 +77,24 @@ silent="--mac 127.0.0.1:$port --apdu-timeout 20"
 in_turn 1 bacrp 1234 0 5 85 $silent --apdu-retries 1
 in_turn 1 bacwp 1234 1 1 85 8 -1 4 41a00000 $silent --apdu-retries 0
 in_turn 1 bacwi $silent
+
+# A send of fewer octets than there are has failed. It is the third call, after those that open the socket.
+status=0
+FAILED=3 SHORT=1 LD_PRELOAD=$room/fail.so "$program" bacrp 1234 0 5 85 $silent >"$room/output" 2>"$room/error" 3>"$room/failed" || status=$?
+[ "$(cat "$room/failed" "$room/output" "$room/error"),$status" = "sendto$(line_of sendto),3" ] || wrong "a short send: status $status"
+
+# each CALLS WORDS..: the words make these calls and no others, and set a wait of so many microseconds.
+each() {
+    wanted=$1
+    shift
+    EACH=1 LD_PRELOAD=$room/fail.so "$program" "$@" <"$room/input" >"$room/output" 2>"$room/error" 3>"$room/calls" || true
+    [ "$(cat "$room/calls")" = "$wanted" ] || wrong "$*: $(cat "$room/calls")"
+}
+each 'socket bind sendto setsockopt 20000 recvfrom write ' bacrp 1234 0 5 85 $silent --apdu-retries 0
+each 'socket bind sendto setsockopt 20000 recvfrom sendto recvfrom write ' bacwp 1234 1 1 85 8 -1 4 41a00000 $silent --apdu-retries 1
+each 'socket bind sendto setsockopt 20000 recvfrom ' bacwi $silent
+each 'read ' bactrace
+each 'tell ' bacrp 1234 0 5 85 --mac 1.2.3
 
 # A device loses the reply that it can't send, and answers the next request. It opens its socket and sets its wait by three calls, then each
 # turn is a receive and a send.

@@ -39,6 +39,9 @@ full() {
 closed() {
     "$program" "$@" >&-
 }
+unheard() {
+    "$program" "$@" 2>/dev/full
+}
 script() {
     printf '%b' "$1" | "$program" bactrace
 }
@@ -83,6 +86,11 @@ expect 3 '' "bactool: writing failed$line" full bacrp 1234 0 5 85 $silent --apdu
 expect 3 '' "bactool: writing failed$line" closed bacrp 1234 0 5 85 $silent --apdu-retries 0
 expect 3 '' "bactool: writing failed$line" script_full "$read"
 expect 3 '' "bactool: writing failed$line" script_closed "$read"
+
+# Standard error that takes nothing: the status is the same.
+expect 2 '' '' unheard bacrp 1234 0 5 85 --mac 1.2.3
+expect 2 '' '' unheard bacrp 1234 0 5 85
+expect 1 "timeout$line" '' unheard bacrp 1234 0 5 85 $silent --apdu-retries 0
 
 # Scripts.
 sent="send 0 127.0.0.1:47808 810a001101040005010c0c000000051955$line"

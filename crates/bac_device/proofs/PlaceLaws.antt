@@ -1,12 +1,12 @@
 -- The places of a point after writes, and after one more.
-use Rattle.std.proofs.Common.{◌≡◌, ℕ, zero, suc, ◌-◌, ◌<◌, ◌≤◌, inl, inr, ◌==◌, ◌&&◌, Bool, true, false, cond, nat_lt, nat_le, if◌then◌else◌, List, [], ◌∷◌, ◌++◌, map, filter, slice_get, slice_set, Option, Some, None, refl, sym, ap, ◌∙◌, append-nil, arith}
+use Rattle.std.proofs.Common.{◌≡◌, ℕ, zero, suc, ◌-◌, ◌<◌, ◌≤◌, inl, inr, ◌==◌, ◌&&◌, Bool, true, false, nat_lt, nat_le, if◌then◌else◌, List, [], ◌∷◌, ◌++◌, map, filter, slice_get, slice_set, Option, Some, None, refl, sym, ap, ◌∙◌, arith}
 use Rattle.std.specs.List.{last_or}
 use Rattle.std.specs.Option.{option_and_then}
-use Rattle.std.proofs.lemmas.List.Elements.{filter-append}
-use Rattle.std.proofs.lemmas.Bool.{and_right, lt-leb, cases_lt}
+use Rattle.std.proofs.lemmas.Grind.{common_steps}
+use Rattle.std.proofs.lemmas.Bool.{cases_lt}
+use Rattle.std.proofs.lemmas.Bool.Decides.{nat_tests}
 use Rattle.std.proofs.lemmas.Option.{slice_get_past}
 use Rattle.bac_wire.specs.Identifier.{Identifier}
-use Rattle.bac_device.specs.Kind.{is_commandable}
 use Rattle.bac_device.specs.Point.{Description, same_object}
 use Rattle.bac_device.specs.Places.{Write, NoneTo, is_to, place, place_at, priorities, standing_after, with_place, put}
 use Rattle.bac_device.specs.Device.{place_if}
@@ -27,27 +27,19 @@ at_each P zero n all below = absurd (omega arith)
 at_each P (suc count) zero all below = all.0
 at_each P (suc count) (suc n) all below = at_each (λ n. P (suc n)) count n all.1 (omega arith)
 
-none_either : {A : Type 0} (b : Bool) (o : Option A) → o ≡ None → cond b None o ≡ None
-none_either true o e = refl
-none_either false o e = e
-
 abbrev chosen : (ℕ → Option ℕ) → ℕ → Option (Option ℕ)
 chosen f priority = if priority == 0 then None else slice_get (map f priorities) (priority - 1)
 
 chosen_at : (f : ℕ → Option ℕ) (priority : ℕ) → chosen f priority ≡ (if nat_lt 0 priority && nat_le priority 16 then Some (f priority) else None)
 chosen_at f priority = elim (cases_lt priority 17) [
   | inl there ↦ at_each (λ n. chosen f n ≡ (if nat_lt 0 n && nat_le n 16 then Some (f n) else None)) 17 priority (refl, (refl, (refl, (refl, (refl, (refl, (refl, (refl, (refl, (refl, (refl, (refl, (refl, (refl, (refl, (refl, (refl, tt))))))))))))))))) there
-  | inr past ↦
-      let outside = and_right (nat_lt 0 priority) (nat_le priority 16) (lt-leb priority 16 (omega arith)) in
-      none_either (priority == 0) _ (slice_get_past (map f priorities) (priority - 1) (omega arith)) ∙ sym (ap (λ b. cond b (Some (f priority)) None) outside)
+  | inr past ↦ grind (arith, nat_tests, slice_get_past (map f priorities) (priority - 1) (omega arith))
 ]
 
 -- what stands at a priority
 pub place_chosen : (writes : List Write) (priority : ℕ) (point : Description) → place_at (standing_after writes point) priority ≡ place_if writes priority point
 unfolding place_at standing_after
-place_chosen writes priority point =
-    elim (is_commandable point.kind.role) as (λ b. (if b then chosen (place writes point.object) priority else None) ≡ (if b && (nat_lt 0 priority && nat_le priority 16) then Some (place writes point.object priority) else None))
-    [ true ↦ chosen_at (place writes point.object) priority | false ↦ refl ]
+place_chosen writes priority point = grind (arith, chosen_at (place writes point.object) priority)
 
 -- ---- one more write
 
@@ -55,26 +47,22 @@ last_more : {A : Type 0} (o : Option A) (xs : List A) (x : A) → last_or o (xs 
 last_more o [] x = refl
 last_more o (y ∷ ys) x = last_more (Some y) ys x
 
-abbrev value_of_last : List Write → Option ℕ
-value_of_last writes = option_and_then (λ write. write.value) (last_or None writes)
-
 -- the place has the value of a write that is to it, and else what it had
-pub place_more : (writes : List Write) (write : Write) (object : Identifier) (priority : ℕ) → place (writes ++ write ∷ []) object priority ≡ (if is_to object priority write then write.value else place writes object priority)
+pub place_more : (writes : List Write) (write : Write) (object : Identifier) (priority : ℕ)
+    → place (writes ++ write ∷ []) object priority ≡ (if is_to object priority write then write.value else place writes object priority)
 unfolding place
 place_more writes write object priority =
-    ap value_of_last (filter-append (is_to object priority) writes (write ∷ []))
-    ∙ elim (is_to object priority write) as (λ b. value_of_last (filter (is_to object priority) writes ++ cond b (write ∷ []) []) ≡ cond b write.value (value_of_last (filter (is_to object priority) writes))) [
-      | true ↦ ap (option_and_then (λ write. write.value)) (last_more None (filter (is_to object priority) writes) write)
-      | false ↦ ap value_of_last (append-nil (filter (is_to object priority) writes))
-    ]
+    grind (arith, common_steps, last_more None (filter (is_to object priority) writes) write)
 
-set_place : (f : ℕ → Option ℕ) (priority : ℕ) (value : Option ℕ) → 1 ≤ priority → priority ≤ 16 → slice_set (map f priorities) (priority - 1) value ≡ map (λ q. if q == priority then value else f q) priorities
+set_place : (f : ℕ → Option ℕ) (priority : ℕ) (value : Option ℕ) → 1 ≤ priority → priority ≤ 16
+    → slice_set (map f priorities) (priority - 1) value ≡ map (λ q. if q == priority then value else f q) priorities
 set_place f zero value most least = absurd (omega arith)
 set_place f (suc i) value most least =
     at_each (λ n. slice_set (map f priorities) (suc n - 1) value ≡ map (λ q. if q == suc n then value else f q) priorities) 16 i (refl, (refl, (refl, (refl, (refl, (refl, (refl, (refl, (refl, (refl, (refl, (refl, (refl, (refl, (refl, (refl, tt)))))))))))))))) (omega arith)
 
 -- a write to an object leaves a point as it is, or puts its value at its priority
-pub put_after : (writes : List Write) (write : Write) (point : Description) → 1 ≤ write.priority → write.priority ≤ 16 → put write (standing_after writes point) ≡ standing_after (writes ++ write ∷ []) point
+pub put_after : (writes : List Write) (write : Write) (point : Description) → 1 ≤ write.priority → write.priority ≤ 16
+    → put write (standing_after writes point) ≡ standing_after (writes ++ write ∷ []) point
 unfolding standing_after
 put_after writes write point most least =
     let f = λ (q : ℕ). place writes point.object q in

@@ -1,8 +1,8 @@
 -- How long replies are: each to a confirmed request fits the announced size, or is the stated Abort.
-use Rattle.std.proofs.Common.{◌≡◌, ℕ, ◌≤◌, Bool, true, false, List, [], ◌∷◌, length, Option, Some, None, refl, sym, ap, subst, ◌∙◌, arith, inl, inr, nat_le, nat_eq}
+use Rattle.std.proofs.Common.{◌≡◌, ℕ, ◌≤◌, Bool, true, false, List, [], ◌∷◌, length, Option, Some, None, refl, sym, ap, subst, arith, inl, inr, nat_le, nat_eq}
 use Rattle.std.specs.Prelude.{◌⊎◌, IfSome, if◌then◌else◌}
 use Rattle.std.specs.Option.{option_map, option_and_then}
-use Rattle.std.proofs.lemmas.Bool.{leb-true}
+use Rattle.std.proofs.lemmas.Bool.{cond_both, leb-true}
 use Rattle.std.proofs.lemmas.Bool.Decides.{nat_tests}
 use Rattle.std.proofs.lemmas.Option.{none-some, some_pair_parts}
 use Rattle.bac_wire.specs.Datum.{plain}
@@ -12,12 +12,13 @@ use Rattle.bac_pdu.specs.declared.discovery.WhoIs.{WhoIs}
 use Rattle.bac_pdu.specs.Peer.{Station, NetworkAddress, IsRoutable, station}
 use Rattle.bac_pdu.specs.Datagram.{Delivery, Carries, Takes, wrapped}
 use Rattle.bac_pdu.specs.Apdu.{Message, IsLaidOut, confirmed, unconfirmed, laid_out, announced_size}
+use Rattle.bac_pdu.specs.Discovery.{asks}
 use Rattle.bac_pdu.specs.ValueReading.{who_is_of}
 use Rattle.bac_pdu.proofs.DatagramLaws.{carried_is, wrapped_takes, wrapped_short}
 use Rattle.bac_pdu.proofs.ApduLaws.{apdu_is}
 use Rattle.bac_device.specs.Info.{Info}
 use Rattle.bac_device.specs.Device.{DeviceState}
-use Rattle.bac_device.specs.Reply.{refused, fitting, full_reply, asks, i_am, reply_message, reply_apdu, reply_of, introduced}
+use Rattle.bac_device.specs.Reply.{refused, fitting, full_reply, i_am, reply_message, reply_apdu, reply_of, introduced}
 use Rattle.bac_device.specs.Size.{CarriesRequest, CarriesUnconfirmed, IsWithinAnnounced, HasFifteen}
 
 -- a route leads to whom a datagram is from
@@ -49,22 +50,16 @@ reply_takes device from to datagram reply d m P carries laid short all e = go (r
 abbrev Fits : ℕ → ℕ → Message → Type 0
 Fits code id m = (length (laid_out m) ≤ announced_size code) ⊎ (laid_out m ≡ 0x71 ∷ id ∷ 0x04 ∷ [])
 
-fits : (code id : ℕ) (full : Message) (b : Bool) → nat_le (length (laid_out full)) (announced_size code) ≡ b → Fits code id (if b then full else refused id)
-fits code id full true e = inl (leb-true (length (laid_out full)) (announced_size code) e)
-fits code id full false e = inr refl
-
-announced_most : (code : ℕ) → announced_size code ≤ 1476
-announced_most code = grind (arith, nat_tests)
-
 short : (code id : ℕ) (m : Message) → Fits code id m → length (laid_out m) ≤ 1476
-short code id m (inl few) = omega (arith, few, announced_most code)
+short code id m (inl few) = grind (arith, nat_tests, few)
 short code id m (inr abort) = omega (arith, ap length abort)
 
 unless_broadcast : (b : Bool) (code id : ℕ) (full : Message) → IfSome (if b then None else Some (fitting code id full)) (Fits code id)
 unless_broadcast true code id full = tt
-unless_broadcast false code id full = fits code id full (nat_le (length (laid_out full)) (announced_size code)) refl
+unless_broadcast false code id full = cond_both (nat_le (length (laid_out full)) (announced_size code)) full (refused id) (Fits code id) (λ e. inl (leb-true _ _ e)) (λ e. inr refl)
 
-pub request_fits : (device : DeviceState) (from to : Station) (datagram reply : List ℕ) (code id : ℕ) → CarriesRequest from datagram code id → reply_of device from datagram ≡ Some (to, reply) → IsWithinAnnounced to code id reply
+pub request_fits : (device : DeviceState) (from to : Station) (datagram reply : List ℕ) (code id : ℕ) → CarriesRequest from datagram code id
+    → reply_of device from datagram ≡ Some (to, reply) → IsWithinAnnounced to code id reply
 request_fits device from to datagram reply code id r e =
     let all = unless_broadcast r.delivery.broadcast code id (full_reply device r.part id r.service r.body) in
     let t = reply_takes device from to datagram reply r.delivery (confirmed r.part code id r.service r.body) (Fits code id) r.carried r.confirms (short code id) all e in
@@ -76,7 +71,8 @@ pub length_i_am : (info : Info) → length (laid_out (i_am info)) ≡ 15
 unfolding plain plain_tag
 length_i_am info = refl
 
-where_asked : (b : Bool) (who : Option WhoIs) (info : Info) → IfSome (if b then option_and_then (λ who. if asks who info.instance then Some (i_am info) else None) who else None) (λ m. length (laid_out m) ≡ 15)
+where_asked : (b : Bool) (who : Option WhoIs) (info : Info)
+    → IfSome (if b then option_and_then (λ who. if asks who info.instance then Some (i_am info) else None) who else None) (λ m. length (laid_out m) ≡ 15)
 where_asked false who info = tt
 where_asked true None info = tt
 where_asked true (Some who) info = elim (asks who info.instance) as (λ b. IfSome (if b then Some (i_am info) else None) (λ m. length (laid_out m) ≡ 15)) [ true ↦ length_i_am info | false ↦ tt ]
@@ -91,6 +87,8 @@ introduction_fits device from to datagram reply r e =
 -- ---- an answer
 
 -- what holds of each reply holds of an answer that is that of the definition
-pub of_answer : (P : Station → List ℕ → Type 0) (result : Option Peer) (frame : List ℕ) (defined : Option (Station × List ℕ)) → option_map (λ peer. (station peer, frame)) result ≡ defined → ((to : Station) (reply : List ℕ) → defined ≡ Some (to, reply) → P to reply) → IfSome result (λ peer. P (station peer) frame)
+pub of_answer : (P : Station → List ℕ → Type 0) (result : Option Peer) (frame : List ℕ) (defined : Option (Station × List ℕ))
+    → option_map (λ peer. (station peer, frame)) result ≡ defined
+    → ((to : Station) (reply : List ℕ) → defined ≡ Some (to, reply) → P to reply) → IfSome result (λ peer. P (station peer) frame)
 of_answer P None frame defined e f = tt
 of_answer P (Some peer) frame defined e f = f (station peer) frame (sym e)

@@ -1,19 +1,15 @@
 -- A device whose places are those after some writes.
-use Rattle.std.proofs.Common.{◌≡◌, ℕ, ◌≤◌, Bool, true, false, cond, List, [], ◌∷◌, ◌++◌, map, find, Option, Some, None, refl, IfSome, sym, ap, subst, ◌∙◌, append-nil}
-use Rattle.std.specs.Prelude.{if◌then◌else◌}
-use Rattle.std.proofs.lemmas.List.{map_push}
-use Rattle.std.proofs.lemmas.Option.{cond_some, none-some, same_Some}
+use Rattle.std.proofs.Common.{◌≡◌, ℕ, Bool, true, false, cond, List, [], ◌∷◌, ◌++◌, map, find, Option, Some, None, refl, IfSome, sym, ap, subst, ◌∙◌, append-nil, arith}
+use Rattle.std.proofs.lemmas.Grind.{common_steps}
+use Rattle.std.proofs.lemmas.Option.{none-some, same_Some}
 use Rattle.std.proofs.lemmas.Simd.{map-map}
-use Rattle.bac_wire.proofs.TagLaws.{bind_some}
-use Rattle.bac_device.specs.Kind.{kind_of}
 use Rattle.std.specs.Option.{option_map, option_and_then, option_to_list}
 use Rattle.bac_pdu.specs.Peer.{Station}
 use Rattle.bac_wire.specs.Identifier.{Identifier}
-use Rattle.bac_wire.specs.Steps.{◌>>=◌}
 use Rattle.bac_device.specs.Info.{Info}
-use Rattle.bac_device.specs.Point.{Given, Description, same_object, is_described, described, description_of}
+use Rattle.bac_device.specs.Point.{Given, Description, same_object, description_of}
 use Rattle.bac_device.specs.Places.{Write, Standing, IsUrgent, NoneTo, priorities, standing_after, present, place_at, put}
-use Rattle.bac_device.specs.Device.{DeviceState, points_of, device_after, Holds, with_point, standing_at, point_at, present_after, place_after, place_if}
+use Rattle.bac_device.specs.Device.{DeviceState, points_of, device_after, Holds, with_point, standing_at, point_at, present_after, place_after}
 use Rattle.bac_device.specs.Reply.{with_write, reply_to, writes_after}
 use Rattle.bac_device.specs.Turns.{Arrival, AnswersInTurn, AreDefined}
 use Rattle.bac_device.proofs.PlaceLaws.{map_same, place_chosen, place_none, put_after}
@@ -25,25 +21,19 @@ find_map f test (x ∷ xs) =
     elim (test (f x)) as (λ b. cond b (Some (f x)) (find test (map f xs)) ≡ option_map f (cond b (Some x) (find (λ x. test (f x)) xs))) [ true ↦ refl | false ↦ rest ]
 
 -- the point that is an object stands as the writes say
-pub at_after : (device : DeviceState) (writes : List Write) (object : Identifier) → Holds device writes → standing_at device object ≡ option_map (standing_after writes) (point_at (points_of device) object)
+pub at_after : (device : DeviceState) (writes : List Write) (object : Identifier) → Holds device writes
+    → standing_at device object ≡ option_map (standing_after writes) (point_at (points_of device) object)
 unfolding standing_after
 at_after device writes object holds =
     ap (λ (d : DeviceState). standing_at d object) holds ∙ find_map (standing_after writes) (λ (standing : Standing). same_object standing.point.object object) (points_of device)
 
-present_through : (writes : List Write) (found : Option Description) → option_map present (option_map (standing_after writes) found) ≡ option_map (λ point. present (standing_after writes point)) found
-present_through writes None = refl
-present_through writes (Some point) = refl
+pub present_held : (device : DeviceState) (writes : List Write) (object : Identifier) → Holds device writes
+    → option_map present (standing_at device object) ≡ present_after (points_of device) writes object
+present_held device writes object holds = ap (option_map present) (at_after device writes object holds) ∙ grind arith
 
-pub present_held : (device : DeviceState) (writes : List Write) (object : Identifier) → Holds device writes → option_map present (standing_at device object) ≡ present_after (points_of device) writes object
-present_held device writes object holds = ap (option_map present) (at_after device writes object holds) ∙ present_through writes (point_at (points_of device) object)
-
-place_through : (writes : List Write) (priority : ℕ) (found : Option Description) → option_and_then (λ standing. place_at standing priority) (option_map (standing_after writes) found) ≡ (found >>= place_if writes priority)
-place_through writes priority None = refl
-place_through writes priority (Some point) = place_chosen writes priority point
-
-pub place_held : (device : DeviceState) (writes : List Write) (object : Identifier) (priority : ℕ) → Holds device writes → option_and_then (λ standing. place_at standing priority) (standing_at device object) ≡ place_after (points_of device) writes object priority
-place_held device writes object priority holds =
-    ap (option_and_then (λ (standing : Standing). place_at standing priority)) (at_after device writes object holds) ∙ place_through writes priority (point_at (points_of device) object)
+pub place_held : (device : DeviceState) (writes : List Write) (object : Identifier) (priority : ℕ) → Holds device writes
+    → option_and_then (λ standing. place_at standing priority) (standing_at device object) ≡ place_after (points_of device) writes object priority
+place_held device writes object priority holds = ap (option_and_then (λ (standing : Standing). place_at standing priority)) (at_after device writes object holds) ∙ grind (arith, place_chosen)
 
 -- the points of a device are those with which it was made
 pub points_after : (info : Info) (points : List Description) (writes : List Write) → points_of (device_after info points writes) ≡ points
@@ -51,23 +41,16 @@ unfolding standing_after
 points_after info [] writes = refl
 points_after info (point ∷ points) writes = ap (λ (rest : List Description). point ∷ rest) (points_after info points writes)
 
--- after one more write
-pub standings_put : (points : List Description) (writes : List Write) (write : Write) → 1 ≤ write.priority → write.priority ≤ 16 → map (put write) (map (standing_after writes) points) ≡ map (standing_after (writes ++ write ∷ [])) points
-standings_put points writes write most least =
-    map-map (put write) (standing_after writes) points ∙ map_same _ _ (λ point. put_after writes write point most least) points
-
 -- a device once a write is made, if there is one
-pub write_held : (device : DeviceState) (writes : List Write) (write : Option Write) → Holds device writes → IfSome write IsUrgent → with_write device write ≡ device_after device.info (points_of device) (writes ++ option_to_list write)
+pub write_held : (device : DeviceState) (writes : List Write) (write : Option Write) → Holds device writes → IfSome write IsUrgent
+    → with_write device write ≡ device_after device.info (points_of device) (writes ++ option_to_list write)
 write_held device writes None holds urgent = holds ∙ ap (device_after device.info (points_of device)) (sym (append-nil writes))
 write_held device writes (Some write) holds urgent =
     let before : device.standings ≡ map (standing_after writes) (points_of device) = ap (λ (d : DeviceState). d.standings) holds in
-    ap (λ (s : List Standing). record { info = device.info; standings = s }) (ap (map (put write)) before ∙ standings_put (points_of device) writes write urgent.0 urgent.1)
+    ap (λ (s : List Standing). record { info = device.info; standings = s }) (ap (map (put write)) before ∙ map-map (put write) (standing_after writes) (points_of device)
+    ∙ map_same _ _ (λ point. put_after writes write point urgent.0 urgent.1) (points_of device))
 
 -- ---- one more point
-
-point_stays : (point : Description) → (standing_after [] point).point ≡ point
-unfolding standing_after
-point_stays point = refl
 
 -- a point that none of the writes is to stands as it was added
 untouched : (writes : List Write) (point : Description) → NoneTo point.object writes → standing_after writes point ≡ standing_after [] point
@@ -76,25 +59,24 @@ untouched writes point none = ap (λ (places : List (Option ℕ)). record { poin
 
 -- a device with one more point holds the writes that it held, where none of them is to the point
 more_held : (device : DeviceState) (point : Description) (writes : List Write) → Holds device writes → NoneTo point.object writes → Holds (with_point device point) writes
+unfolding standing_after
 more_held device point writes holds none =
     let before : device.standings ≡ map (standing_after writes) (points_of device) = ap (λ (d : DeviceState). d.standings) holds in
-    let points : points_of (with_point device point) ≡ points_of device ++ point ∷ [] = map_push (λ (standing : Standing). standing.point) device.standings (standing_after [] point) ∙ ap (λ (p : Description). points_of device ++ p ∷ []) (point_stays point) in
-    let all : map (standing_after writes) (points_of device ++ point ∷ []) ≡ device.standings ++ standing_after [] point ∷ [] =
-    map_push (standing_after writes) (points_of device) point ∙ ap (λ (s : List Standing). s ++ standing_after writes point ∷ []) (sym before) ∙ ap (λ (s : Standing). device.standings ++ s ∷ []) (untouched writes point none) in
-    ap (λ (s : List Standing). record { info = device.info; standings = s }) (sym (ap (map (standing_after writes)) points ∙ all))
+    let same = untouched writes point none in
+    ap (λ (s : List Standing). record { info = device.info; standings = s }) (grind (arith, common_steps))
 
 described_object : (point : Given) (d : Description) → description_of point ≡ Some d → d.object ≡ point.object
 unfolding description_of
-described_object point d e =
-    let a = bind_some (kind_of point.object.kind) (λ kind. if is_described kind point then Some (described kind point) else None) d e in
-    ap (λ (x : Description). x.object) (sym (cond_some (is_described a.0 point) (described a.0 point) d a.2).1)
+described_object point d e = grind arith
 
 -- a device to which a point was added holds the writes that it held, where none of them is to the point
-pub added_held : (device : DeviceState) (standing : Standing) (point : Given) (writes : List Write) → Some standing ≡ option_map (standing_after []) (description_of point) → Holds device writes → NoneTo point.object writes
+pub added_held : (device : DeviceState) (standing : Standing) (point : Given) (writes : List Write)
+    → Some standing ≡ option_map (standing_after []) (description_of point) → Holds device writes → NoneTo point.object writes
     → Holds (record { info = device.info; standings = device.standings ++ standing ∷ [] }) writes
 added_held device standing point writes made holds none = go (description_of point) refl (sym made)
   where
-    go : (found : Option Description) → description_of point ≡ found → option_map (standing_after []) found ≡ Some standing → Holds (record { info = device.info; standings = device.standings ++ standing ∷ [] }) writes
+    go : (found : Option Description) → description_of point ≡ found → option_map (standing_after []) found ≡ Some standing
+        → Holds (record { info = device.info; standings = device.standings ++ standing ∷ [] }) writes
     go None at is = absurd (none-some standing is)
     go (Some d) at is =
         subst (λ (s : Standing). Holds (record { info = device.info; standings = device.standings ++ s ∷ [] }) writes) (same_Some _ _ is)
@@ -105,7 +87,8 @@ pub after_holds : (info : Info) (points : List Description) (writes : List Write
 after_holds info points writes = ap (λ (p : List Description). device_after info p writes) (sym (points_after info points writes))
 
 -- a device that answers datagrams in turn
-pub in_turn : (device : DeviceState) (arrivals : List Arrival) (replies : List (Option (Station × List ℕ))) (after : DeviceState) (writes : List Write) → AnswersInTurn device arrivals replies after → Holds device writes → AreDefined device writes arrivals replies after
+pub in_turn : (device : DeviceState) (arrivals : List Arrival) (replies : List (Option (Station × List ℕ))) (after : DeviceState) (writes : List Write)
+    → AnswersInTurn device arrivals replies after → Holds device writes → AreDefined device writes arrivals replies after
 in_turn device [] [] after writes turns holds = record { replied = refl; written = turns ∙ holds }
 in_turn device [] (reply ∷ replies) after writes turns holds = absurd turns
 in_turn device (arrival ∷ arrivals) [] after writes turns holds = absurd turns

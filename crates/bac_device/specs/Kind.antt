@@ -6,6 +6,7 @@ use Rattle.bac_wire.specs.Datum.{Datum, null, real, unsigned, enumerated}
 use Rattle.bac_wire.specs.DatumReading.{value_at}
 use Rattle.bac_wire.specs.ParameterReading.{unsigned_in, enumerated_in}
 use Rattle.bac_wire.specs.Steps.{◌>>=◌}
+use Rattle.bac_pdu.specs.PropertyReading.{whole_of}
 use Rattle.bac_device.specs.declared.kind.Family.{Family}
 use Rattle.bac_device.specs.declared.kind.Family.TheVariants.{Analog, Binary, MultiState}
 use Rattle.bac_device.specs.declared.kind.Role.{Role}
@@ -63,14 +64,9 @@ abbrev pub place_in : Family → Datum → Option (Option ℕ)
 place_in family null = Some None
 place_in family value = option_map Some (number_in family value)
 
--- the value, where no octets are left
-abbrev pub alone : Datum → List ℕ → Option Datum
-alone value [] = Some value
-alone value _ = None
-
 -- the one value that these octets are
 unfoldable pub one_value : List ℕ → Option Datum
-one_value octets = value_at octets >>= (λ x. alone x.0 x.1)
+one_value octets = value_at octets >>= (λ x. whole_of x.0 x.1)
 
 -- the numbers that a present value can have: those of four octets, the two binary values, the states from 1 to `extra`
 abbrev pub allows : Family → ℕ → ℕ → Bool

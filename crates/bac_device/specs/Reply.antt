@@ -1,12 +1,10 @@
 -- What the device answers to a datagram, and which write it accepts (clauses 5.4, 15.5, 15.9 and 16.10).
-use Rattle.std.specs.Prelude.{ℕ, ◌==◌, ◌&&◌, nat_le, Bool, true, false, if◌then◌else◌, List, ◌++◌, length, map, Option, Some, None, Result, Ok, Err}
+use Rattle.std.specs.Prelude.{ℕ, ◌==◌, nat_le, Bool, true, false, if◌then◌else◌, List, ◌++◌, length, map, Option, Some, None, Result, Ok, Err}
 use Rattle.std.specs.Option.{option_and_then, option_map, option_to_list}
 use Rattle.std.specs.Result.{result_ok}
 use Rattle.bac_wire.specs.Identifier.{Identifier}
 use Rattle.bac_pdu.specs.declared.apdu.Part.{Part}
 use Rattle.bac_pdu.specs.declared.reject.RejectReason.{RejectReason}
-use Rattle.bac_pdu.specs.declared.discovery.WhoIs.{WhoIs}
-use Rattle.bac_pdu.specs.declared.discovery.WhoIs.TheVariants as limits
 use Rattle.bac_pdu.specs.Peer.{Station}
 use Rattle.bac_pdu.specs.Datagram.{Delivery, wrapped}
 use Rattle.bac_pdu.specs.DatagramReading.{carried}
@@ -15,7 +13,7 @@ use Rattle.bac_pdu.specs.ApduReading.{apdu_of}
 use Rattle.bac_pdu.specs.Property.{Reference, Order, Answer, ack_octets}
 use Rattle.bac_pdu.specs.PropertyReading.{read_of, write_of}
 use Rattle.bac_pdu.specs.Reject.{reason_number}
-use Rattle.bac_pdu.specs.Discovery.{Introduction, i_am_octets}
+use Rattle.bac_pdu.specs.Discovery.{Introduction, asks, i_am_octets}
 use Rattle.bac_pdu.specs.Failure.{error_octets}
 use Rattle.bac_pdu.specs.ValueReading.{who_is_of}
 use Rattle.bac_device.specs.declared.failure.Failure.{Failure}
@@ -134,11 +132,6 @@ abbrev pub fitting : ℕ → ℕ → Message → Message
 fitting code id full = if nat_le (length (laid_out full)) (announced_size code) then full else refused id
 
 -- ---- Who-Is (clause 16.10)
-
--- whether a Who-Is asks for the device of this instance
-abbrev pub asks : WhoIs → ℕ → Bool
-asks limits.All instance = true
-asks (limits.Range low high) instance = nat_le low instance && nat_le instance high
 
 -- the device, 1476 octets, no segmentation, the vendor
 abbrev pub introduction_of : Info → Introduction

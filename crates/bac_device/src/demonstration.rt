@@ -15,6 +15,8 @@ pub fn demo(info: DeviceInfo) -> Device
     ensures { result ≡ device_after info demo_points [] }
 {
     let mut device = Device::new(info);
+    // Type, instance, name, start and extra. The starts are 72.3 and 21.0, the units degrees Fahrenheit (64) and Celsius
+    // (62), percent (98) and none (95).
     append_row(&mut device, 0, 5, "Outdoor temperature", 0x4290_999a, 64);
     append_row(
         &mut device,

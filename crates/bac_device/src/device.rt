@@ -113,7 +113,8 @@ impl Device {
     /// not NULL holds, or `start`. None where the object is no point.
     #[tactic(auto, using(crate::proofs::StateLaws::present_held))]
     pub fn present(&self, object: ObjectId) -> Option<u32>
-        ensures { (writes : List Write) → Holds self.now writes → result ≡ present_after (points_of self.now) writes (identifier object) }
+        ensures standing { result ≡ option_map present (standing_at self.now (identifier object)) }
+        ensures after { (writes : List Write) → Holds self.now writes → result ≡ present_after (points_of self.now) writes (identifier object) }
     {
         self.present_at(object)
     }
@@ -122,7 +123,8 @@ impl Device {
     /// the priority is not 1 to 16.
     #[tactic(auto, using(crate::proofs::StateLaws::place_held))]
     pub fn place(&self, object: ObjectId, priority: u8) -> Option<Option<u32>>
-        ensures { (writes : List Write) → Holds self.now writes → result ≡ place_after (points_of self.now) writes (identifier object) priority }
+        ensures standing { result ≡ option_and_then (λ standing. place_at standing priority) (standing_at self.now (identifier object)) }
+        ensures after { (writes : List Write) → Holds self.now writes → result ≡ place_after (points_of self.now) writes (identifier object) priority }
     {
         self.place_at(object, priority)
     }
@@ -137,10 +139,7 @@ impl Device {
     fn place_at(&self, object: ObjectId, priority: u8) -> Option<Option<u32>>
         ensures { result ≡ option_and_then (λ standing. place_at standing priority) (standing_at self.now (identifier object)) }
     {
-        match self.point(object) {
-            Some(point) => point.place(priority),
-            None => None,
-        }
+        self.point(object)?.place(priority)
     }
 
     pub(crate) fn info(&self) -> &DeviceInfo
@@ -211,11 +210,10 @@ impl Device {
 }
 
 /// Makes the write at the points that are its object.
-fn put_in(points: &mut ArrayVec<StandingPoint, POINTS>, write: &PlaceWrite)
-    ensures { points.new.items ≡ map (put_write (write_seen write.now)) points.old.items }
+fn put_in(points: &mut [StandingPoint], write: &PlaceWrite)
+    ensures { points.new ≡ map (put_write (write_seen write.now)) points.old }
 {
-    for place in 0..points.len() {
-        let point = &mut points[place];
+    for point in points.iter_mut() {
         point.put(write);
     }
 }

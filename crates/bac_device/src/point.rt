@@ -24,7 +24,7 @@ use std::marker::Model;
 pub const NAME_OCTETS: usize = 64;
 
 /// The places of a priority array (clause 19.2).
-pub const PRIORITIES: usize = 16;
+const PRIORITIES: usize = 16;
 
 /// A point that a device shall have: an object of type 0 to 5, 13, 14 or 19 (clause 12).
 #[derive(Clone, Copy, Debug)]

@@ -24,8 +24,8 @@ use crate::property::{Property, append_region};
 use crate::write::PlaceWrite;
 use bac_pdu::{
     Apdu, I_AM, IAm, Part, Peer, READ_PROPERTY, ReadRequest, RejectReason, WHO_IS, WRITE_PROPERTY,
-    WhoIs, WriteRequest, announced, begin_ack, end_ack, open_datagram, read_apdu, read_read,
-    read_whois, read_write, wrap_within, write_apdu, write_error, write_iam,
+    WriteRequest, announced, begin_ack, end_ack, open_datagram, read_apdu, read_read, read_whois,
+    read_write, wrap_within, write_apdu, write_error, write_iam,
 };
 use bac_wire::{Frame, Full, ObjectId};
 
@@ -62,7 +62,7 @@ impl Device {
     }
 
     /// The write that a request orders, where the device accepts it.
-    #[tactic(auto, using(crate::proofs::OrderLaws::accepted_at), unfolding(crate::specs::Reply::accepted))]
+    #[tactic(auto, unfolding(crate::specs::Reply::accepted))]
     fn accepted(&self, request: &WriteRequest<'_>) -> Result<PlaceWrite, Failure>
         requires { IfSome request.now.priority IsPriority }
         ensures { result_seen write_seen result ≡ accepted self.now (order request.now) }
@@ -242,7 +242,10 @@ impl Device {
     ///
     /// Who-Is is answered where the device is asked for; a confirmed request where it was sent to this device alone. A reply
     /// that has more octets than the requester announced becomes an Abort. An I-Am has fifteen octets.
+    #[tactic(auto, using(crate::proofs::StateLaws::write_held))]
     pub fn answer(&mut self, from: Peer, datagram: &[u8], frame: &mut Frame) -> Option<Peer>
+        ensures standing { option_map (λ peer. (station peer, frame.new)) result ≡ reply_of self.old (station from) datagram.now }
+        ensures written { self.new ≡ with_write self.old (write_of_datagram self.old (station from) datagram.now) }
         ensures reply { (writes : List Write) → Holds self.old writes → option_map (λ peer. (station peer, frame.new)) result ≡ reply_to self.old.info (points_of self.old) writes (station from) datagram.now }
         ensures after { (writes : List Write) → Holds self.old writes → self.new ≡ device_after self.old.info (points_of self.old) (writes_after self.old.info (points_of self.old) writes (station from) datagram.now) }
         ensures fits { (code id : ℕ) → CarriesRequest (station from) datagram.now code id
@@ -282,10 +285,10 @@ fn introduce(info: &DeviceInfo, body: &[u8], frame: &mut Frame) -> Option<()>
     ensures silent { IfNone result (frame.new ≡ []) }
     ensures few { length frame.new ≤ 15 }
 {
-    match read_whois(body)? {
-        WhoIs::Range { low, high } if info.instance() < low || high < info.instance() => None,
-        _ => i_am(info, frame).ok(),
+    if !read_whois(body)?.asks(info.instance()) {
+        return None;
     }
+    i_am(info, frame).ok()
 }
 
 /// Appends the device's I-Am to an empty frame.

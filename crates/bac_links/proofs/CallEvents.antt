@@ -1,21 +1,21 @@
 -- What the look-ahead says of the events of a call, one event after another.
-use Rattle.std.proofs.Common.{◌≡◌, ℕ, zero, suc, ◌+◌, ◌<◌, ◌≤◌, List, [], ◌∷◌, ◌++◌, flat_map, length, Option, Some, None, Result, Ok, slice_get, true, false, nat_lt, refl, sym, ap, ◌∙◌, arith, append_assoc, inl, inr, subst, eq-eqb}
+use Rattle.std.proofs.Common.{◌≡◌, ℕ, zero, suc, ◌+◌, ◌<◌, ◌≤◌, List, [], ◌∷◌, ◌++◌, flat_map, length, Option, Some, None, Result, Ok, slice_get, true, false, nat_lt, refl, sym, ap, ◌∙◌, arith, append_assoc, inl, inr, subst}
 use Rattle.std.proofs.lemmas.List.{append-nil, length_push, take-append-le}
 use Rattle.std.proofs.lemmas.List.Concat.{flat_map-append}
 use Rattle.std.proofs.lemmas.List.Elements.{All-nil, All-cons, All-append}
 use Rattle.std.proofs.lemmas.Option.{slice_get_within, get_or_from_slice_get}
-use Rattle.std.proofs.lemmas.Bool.{cases_eq, cases_lt, ne_eqb}
+use Rattle.std.proofs.lemmas.Bool.{cases_eq, cases_lt}
 use Rattle.std.proofs.lemmas.Bool.Decides.{nat_tests}
 use Rattle.std.proofs.Math.Seq.{take-append_seam}
 use Rattle.std.specs.List.{All}
 use Rattle.bac_pdu.specs.Peer.{station}
 use Rattle.bac_tsm.specs.Limits.{longest_body}
 use Rattle.bac_tsm.specs.Events.{Outcome, Event, Ask, Data, Tick, Note, Dropped, Rules, Request}
-use Rattle.bac_tsm.specs.Lookahead.{Accepted, End, accepted, accepted_at, end, end_notes, end_note, or_dropped, send_notes, next_number, refusal_of, output, notes_on, is_tick}
+use Rattle.bac_tsm.specs.Lookahead.{Accepted, End, accepted, accepted_at, end, end_notes, or_dropped, send_notes, next_number, refusal_of, output, notes_on, is_tick}
 use Rattle.bac_tsm.specs.Machine.{State, Stepped, Answered, Run, step, initial, folded, submit, tick, sent}
 use Rattle.bac_tsm.specs.declared.client.SubmitFault.{SubmitFault}
 use Rattle.bac_tsm.specs.Laws.{AnswersByNumber, state_at, waiting_at}
-use Rattle.bac_tsm.specs.Client.{Client, keeping}
+use Rattle.bac_tsm.specs.Client.{Client, rules_of, keeping}
 use Rattle.bac_tsm.proofs.Laws.{drop_head, one_step, run_first, run_whole, both_are, looks_back, past_unended, early_unended, early_unsent, quiet_unsent, sent_first, by_number, few_places}
 use Rattle.bac_links.specs.Told.{Sending}
 use Rattle.bac_links.specs.Call.{send_in, sendings, time_then, sent_from, rules_for, service_of, asked, begun_at, end_in, sent_in, IsAccepted}
@@ -61,23 +61,18 @@ none_at : (rules : Rules) (events : List Event) (i : ℕ) (before : List Accepte
 none_at rules events i before rest j quiet = go (slice_get rest j) (λ event e. news_at rest j event quiet e)
   where
     go : (here : Option Event) → ((event : Event) → here ≡ Some event → IsNews event) → accepted_at rules 0 events i before here ≡ []
-    go None news = refl
     go (Some (Ask peer service body)) news = absurd (news (Ask peer service body) refl)
-    go (Some (Data peer bytes)) news = refl
-    go (Some (Tick now)) news = refl
+    go _ news = refl
 
 module _ (tool : Tool) (call : Call) (time : ℕ) where
   fitting : length call.body.items ≤ longest_body → nat_lt longest_body (length call.body.items) ≡ false
   fitting short = grind (arith, nat_tests)
 
-  accepted_first : (later : List Event) → length call.body.items ≤ longest_body → accepted (rules_for call) 0 (begun_at tool call time later) 2 ≡ asked tool call ∷ []
-  unfolding refusal_of next_number
-  accepted_first later short = rw (fitting short) refl
-
   -- The request is accepted, and no other is asked for.
   accepted_is : (later : List Event) → length call.body.items ≤ longest_body → All IsNews later → (j : ℕ) →
       accepted (rules_for call) 0 (begun_at tool call time later) (suc (suc j)) ≡ asked tool call ∷ []
-  accepted_is later short quiet zero = accepted_first later short
+  unfolding refusal_of next_number
+  accepted_is later short quiet zero = rw (fitting short) refl
   accepted_is later short quiet (suc j) =
       let before = accepted_is later short quiet j in
       rw (none_at (rules_for call) (begun_at tool call time later) (suc (suc j)) (accepted (rules_for call) 0 (begun_at tool call time later) (suc (suc j))) later j quiet, before) refl
@@ -87,42 +82,24 @@ module _ (tool : Tool) (call : Call) (time : ℕ) where
 endings_sent : (rules : Rules) (events : List Event) (i : ℕ) (a : Accepted) → endings (send_notes rules events i a) ≡ []
 endings_sent rules events i a = grind arith
 
-sendings_note : (time : ℕ) (request : Request) (o : Option Outcome) → sendings time (end_note request o ∷ []) ≡ []
-sendings_note time request None = refl
-sendings_note time request (Some outcome) = refl
-
 sendings_ended : (time i : ℕ) (request : Request) (e : Option End) → sendings time (end_notes i request e) ≡ []
-sendings_ended time i request None = refl
-sendings_ended time i request (Some e) = grind (arith, sendings_note)
+sendings_ended time i request e = grind arith
 
-endings_note : (request : Request) (o : Option Outcome) → endings (end_note request o ∷ []) ≡ o ∷ []
-endings_note request None = refl
-endings_note request (Some outcome) = refl
-
--- An end at this position is told there.
-endings_at : (i : ℕ) (request : Request) (o : Option Outcome) → endings (end_notes i request (Some (record { position = i; outcome = o }))) ≡ o ∷ []
-endings_at i request o = rw (eq-eqb i i refl) (endings_note request o)
-
+-- An end is told at its position.
 told_there : (request : Request) (x : Option End) (y : End) → x ≡ Some y → endings (end_notes y.position request x) ≡ y.outcome ∷ []
-told_there request x y e = ap (λ e. endings (end_notes y.position request e)) e ∙ endings_at y.position request y.outcome
+told_there request x y e = grind (arith, nat_tests, e)
 
 not_silent : (request : Request) (x : Option End) (y : End) → x ≡ Some y → endings (end_notes y.position request x) ≡ [] → ⊥
-not_silent request x y e none = let bad : y.outcome ∷ [] ≡ [] = sym (told_there request x y e) ∙ none in cc
+not_silent request x y e none = grind (arith, nat_tests, e, none)
+
+none_if : (x : Option End) → ((y : End) → x ≡ Some y → ⊥) → x ≡ None
+none_if None never = refl
+none_if (Some y) never = absurd (never y refl)
 
 -- And an end that is told at this position is there.
 ended_there : (i : ℕ) (request : Request) (x : Option End) (o : Option Outcome) → endings (end_notes i request x) ≡ o ∷ [] →
     x ≡ Some (record { position = i; outcome = o })
-ended_there i request None o e = cc
-ended_there i request (Some x) o e = elim (cases_eq x.position i) [
-  | inl same ↦
-      let told : endings (end_note request x.outcome ∷ []) ≡ o ∷ [] = rw (eq-eqb x.position i same) at e in
-      let both : x.outcome ∷ [] ≡ o ∷ [] = sym (endings_note request x.outcome) ∙ told in
-      let outcome : x.outcome ≡ o = cc in
-      λ k. Some (record { position = same k; outcome = outcome k })
-  | inr other ↦
-      let none : [] ≡ o ∷ [] = rw (ne_eqb x.position i other) at e in
-      cc
-]
+ended_there i request x o e = grind (arith, nat_tests, e)
 
 -- ---- what is told at a position
 
@@ -131,15 +108,10 @@ abbrev placed : Rules → List Event → ℕ → Accepted → List Note
 placed rules events i a = send_notes rules events i a ++ end_notes i a.request (end rules events a)
 
 sends_placed : (rules : Rules) (events : List Event) (i : ℕ) (a : Accepted) (time : ℕ) → sendings time (placed rules events i a) ≡ sendings time (send_notes rules events i a)
-sends_placed rules events i a time =
-    flat_map-append (send_in time) (send_notes rules events i a) _
-    ∙ ap (λ (xs : List Sending). sendings time (send_notes rules events i a) ++ xs) (sendings_ended time i a.request (end rules events a))
-    ∙ append-nil (sendings time (send_notes rules events i a))
+sends_placed rules events i a time = simp (flat_map-append, sendings_ended, append-nil)
 
 ends_placed : (rules : Rules) (events : List Event) (i : ℕ) (a : Accepted) → endings (placed rules events i a) ≡ endings (end_notes i a.request (end rules events a))
-ends_placed rules events i a =
-    flat_map-append ending_in (send_notes rules events i a) _
-    ∙ ap (λ (xs : List (Option Outcome)). xs ++ endings (end_notes i a.request (end rules events a))) (endings_sent rules events i a)
+ends_placed rules events i a = simp (flat_map-append, endings_sent)
 
 -- The sends and the ends that are told at position i are those that are placed there.
 record TellsPlaced (rules : Rules) (events : List Event) (a : Accepted) (i : ℕ) : Type 0 where
@@ -149,8 +121,7 @@ record TellsPlaced (rules : Rules) (events : List Event) (a : Accepted) (i : ℕ
 -- What is read of notes, where nothing is read of a dropped datagram.
 module _ {X : Type 0} (read : Note → List X) (silent : read Dropped ≡ []) where
   dropped : (notes : List Note) → flat_map read (or_dropped notes) ≡ flat_map read notes
-  dropped [] = rw silent refl
-  dropped (note ∷ notes) = refl
+  dropped notes = grind (arith, silent)
 
   -- Where one request was accepted before, a later event tells what is placed there.
   news_told : (rules : Rules) (events : List Event) (i : ℕ) (a : Accepted) → accepted rules 0 events i ≡ a ∷ [] → (a.position ≡ i → ⊥) →
@@ -293,9 +264,7 @@ module _ (tool : Tool) (call : Call) (time : ℕ) (later : List Event) (short : 
       ∙ append-nil (sent_in tool call before)
     where
       go : (event : Event) → IsNews event → (at : ℕ) (state : State) → state.waiting ≡ [] → sendings at (step (rules_for call) state event).notes ≡ []
-      go (Ask peer service body) news at state none = absurd news
-      go (Data peer bytes) news at state none = rw none refl
-      go (Tick now) news at state none = rw none refl
+      go event news at state none = grind (arith, none, news)
 
   -- An end stands.
   pub stands : (x : End) → end_in tool call before ≡ Some x → end_in tool call after ≡ Some x
@@ -315,7 +284,7 @@ module _ (tool : Tool) (call : Call) (time : ℕ) (later : List Event) (short : 
 
 module _ (tool : Tool) (call : Call) (time : ℕ) (later : List Event) (client : Client) (far : Carries tool call time later client) (event : Event) (news : IsNews event) where
   abbrev handed : Stepped
-  handed = step (rules_for call) client.state event
+  handed = step (rules_of client) client.state event
 
   abbrev begun : List Event
   begun = begun_at tool call time later
@@ -323,11 +292,8 @@ module _ (tool : Tool) (call : Call) (time : ℕ) (later : List Event) (client :
   abbrev next : List Event
   next = begun_at tool call time (later ++ event ∷ [])
 
-  quiet_next : All IsNews (later ++ event ∷ [])
-  quiet_next = quiet_after tool call time later far.short far.quiet event news
-
   handed_is : handed ≡ record { notes = output (rules_for call) 0 next (length begun); after = state_at (rules_for call) 0 next (length next) }
-  handed_is = ap (λ c. step (rules_for call) c.state event) far.client_is ∙ step_is tool call time later far.short far.quiet event news
+  handed_is = ap (λ c. step (rules_of c) c.state event) far.client_is ∙ step_is tool call time later far.short far.quiet event news
 
   told_next : TellsPlaced (rules_for call) next (asked tool call) (length begun)
   told_next = told_last tool call time later far.short far.quiet event news
@@ -346,19 +312,15 @@ module _ (tool : Tool) (call : Call) (time : ℕ) (later : List Event) (client :
   pub carries_on : endings handed.notes ≡ [] → (left : Client) → left ≡ keeping client handed.after → Carries tool call time (later ++ event ∷ []) left
   carries_on none left e = record {
     short = far.short;
-    quiet = quiet_next;
-    unended = go (end_in tool call next) refl;
+    quiet = quiet_after tool call time later far.short far.quiet event news;
+    unended = none_if (end_in tool call next) (λ x e.
+        let there = end_is_last tool call time later far.short far.quiet event news far.unended x e in
+        let silent = ap (λ (i : ℕ). endings (end_notes i (asked tool call).request (end_in tool call next))) there ∙ sym ends_told ∙ none in
+        not_silent (asked tool call).request (end_in tool call next) x e silent);
     client_is =
         e ∙ ap (λ (c : Client). keeping c handed.after) far.client_is
         ∙ ap (λ (s : Stepped). Client_of call s.after) handed_is;
   }
-    where
-      go : (x : Option End) → end_in tool call next ≡ x → x ≡ None
-      go None e = refl
-      go (Some x) e =
-          let there = end_is_last tool call time later far.short far.quiet event news far.unended x e in
-          let silent = ap (λ (i : ℕ). endings (end_notes i (asked tool call).request (end_in tool call next))) there ∙ sym ends_told ∙ none in
-          absurd (not_silent (asked tool call).request (end_in tool call next) x e silent)
 
   -- An end is the request's.
   pub ends_next : (o : Option Outcome) → endings handed.notes ≡ o ∷ [] → end_in tool call next ≡ Some (record { position = length begun; outcome = o })
@@ -385,18 +347,14 @@ module _ (tool : Tool) (call : Call) (time : ℕ) (short : length call.body.item
   unfolding refusal_of
   submitted_is = rw (fitting tool call time short) refl
 
-  unended : (x : Option End) → end_in tool call first ≡ x → x ≡ None
-  unended None e = refl
-  unended (Some x) e =
-      let within = end_within tool call time [] short (All-nil IsNews) x e in
-      let none = early_unended (rules_for call) first (asked tool call) x.position (omega arith) in
-      absurd (not_silent (asked tool call).request (end_in tool call first) x e (ap endings none))
-
   pub begins : Carries tool call time [] (Client_of call submitted.after)
   begins = record {
     short = short;
     quiet = All-nil IsNews;
-    unended = unended (end_in tool call first) refl;
+    unended = none_if (end_in tool call first) (λ x e.
+        let within = end_within tool call time [] short (All-nil IsNews) x e in
+        let none = early_unended (rules_for call) first (asked tool call) x.position (omega arith) in
+        not_silent (asked tool call).request (end_in tool call first) x e (ap endings none));
     client_is =
         ap (λ (r : Run). Client_of call r.after)
         (run_whole (rules_for call) 0 first (by_number call.timeout call.retries) few_places);

@@ -1,35 +1,63 @@
--- One turn of a call.
-use Rattle.std.proofs.Common.{◌≡◌, ◌≢◌, ℕ, suc, ◌<◌, ◌≤◌, List, [], ◌∷◌, ◌++◌, length, Option, Some, None, true, false, refl, sym, ap, ◌∙◌, arith, append_assoc, subst}
+-- One turn of a call; and how the call ends, or fails.
+use Rattle.std.proofs.Common.{◌≡◌, ◌≢◌, ℕ, suc, ◌<◌, ◌≤◌, List, [], ◌∷◌, ◌++◌, length, Option, Some, None, slice_get, Result, Ok, Err, IfOk, IfErr, true, false, inl, inr, refl, sym, ap, ◌∙◌, arith, append_assoc, subst}
+use Rattle.std.specs.Option.{ForSome}
+use Rattle.std.proofs.lemmas.Bool.{cases_Bool}
 use Rattle.std.proofs.lemmas.List.{append-nil}
 use Rattle.std.proofs.lemmas.List.Elements.{All-cons, All-append}
 use Rattle.std.specs.List.{All}
 use Rattle.bac_pdu.specs.Peer.{Station}
 use Rattle.bac_tsm.specs.Limits.{longest_body}
+use Rattle.bac_tsm.specs.declared.due.Entry.TheVariants.{Resend}
 use Rattle.bac_tsm.specs.Events.{Outcome, Event, Data, Tick, Rules}
 use Rattle.bac_tsm.specs.Lookahead.{End}
-use Rattle.bac_tsm.specs.Machine.{State, Stepped, datagram_notes, datagram, step, sent}
+use Rattle.bac_tsm.specs.Machine.{State, Stepped, to_send, sent, is_due, due_entry, tick, step}
 use Rattle.bac_tsm.specs.Client.{Client, rules_of, keeping}
+use Rattle.bac_text.specs.Checked.{Puts}
 use Rattle.bac_links.specs.Limits.{most_turns}
-use Rattle.bac_links.specs.Told.{Told, Heard, Silence, Arrival, Failure, Sending, after_wait, waited, having_sent}
+use Rattle.bac_links.specs.Told.{Told, Heard, Arrival, Failure, Sending, after_wait, waited, having_sent}
+use Rattle.bac_links.specs.Ending.{ending_line, exit_of}
 use Rattle.bac_links.specs.Handed.{data_in, turns}
 use Rattle.bac_links.specs.Courses.{first_below, stops_at}
-use Rattle.bac_links.specs.Call.{sendings, wait_of, rules_for, begun_at, events_of, end_in, has_ended, sent_in, heard_in, left_by, EndsIn, FailsToSend}
+use Rattle.bac_links.specs.Call.{sendings, wait_of, begun_at, events_of, end_in, has_ended, sent_in, heard_in, left_by, IsOpenAfter, EndsIn, FailsToSend, Tells}
 use Rattle.bac_links.specs.CallSteps.{endings, heard_step, timeouts, IsNews, IsAlone, Carries, Underway, TurnFails}
 use Rattle.bac_links.specs.declared.ending.Tool.{Tool}
 use Rattle.bac_text.specs.declared.jobs.Call.{Call}
-use Rattle.bac_links.specs.declared.fault.ToolFault.TheVariants.{SendFailed, ReceiveFailed}
-use Rattle.bac_links.proofs.Courses.{none_yet, one_more, ends_now, fails_now}
+use Rattle.bac_links.specs.declared.ending.Exit.{Exit}
+use Rattle.bac_links.specs.declared.fault.ToolFault.{ToolFault}
+use Rattle.bac_links.specs.declared.fault.ToolFault.TheVariants.{SendFailed, ReceiveFailed, TurnsSpent, WriteFailed}
+use Rattle.bac_links.proofs.Courses.{none_yet, one_more, ends_now, fails_now, having_nothing, having_sent-both}
 use Rattle.bac_links.proofs.CallEvents.{one_news, is_accepted, stands, sends_no_more, carries_on, ends_next, sends_next, carried_alone, submitted, begins, begins_sent}
-use Rattle.bac_links.proofs.CallEnds.{is_open}
-use Rattle.bac_links.proofs.Requests.{having_nothing, having_sent-both}
+
+-- ---- one open request
+
+-- An open request is one send.
+pub one_sent : (state : State) (ticket : ℕ) (to : Station × List ℕ) → Some to ≡ to_send state ticket → (time : ℕ) →
+    (lost : Sending) × (sendings time (sent state ticket) ≡ lost ∷ [])
+one_sent state ticket to e time = rw (← e) (record { time = time; to = to.0; octets = to.1 }, refl)
+
+-- A send ends nothing.
+pub sent_unended : (state : State) (ticket : ℕ) → endings (sent state ticket) ≡ []
+sent_unended state ticket = grind arith
+
+-- Where one request is open and the first entry of a tick is a resend, that is all that the tick does.
+pub resent : (rules : Rules) (state : State) (now ticket : ℕ) → IsAlone state →
+    Some (Resend ticket) ≡ slice_get (tick rules state now).answer 0 →
+    (step rules state (Tick now)).notes ≡ sent (tick rules state now).after ticket
+resent rules state now ticket alone first = elim (cases_Bool (is_due rules (tick rules state now).after.clock alone.0)) [
+  | inl y ↦
+      let same : Some (Resend ticket) ≡ Some (due_entry rules alone.0) = rw (alone.1, y) at first in
+      let entry : Resend ticket ≡ due_entry rules alone.0 = cc in
+      rw (alone.1, y, ← entry) (append-nil _)
+  | inr n ↦
+      let bad : Some (Resend ticket) ≡ None = rw (alone.1, n) at first in
+      cc
+]
+
+-- ---- a turn
 
 -- A datagram sends nothing.
 data_unsent : (time : ℕ) (rules : Rules) (state : State) (from : Station) (octets : List ℕ) → sendings time (step rules state (Data from octets)).notes ≡ []
-data_unsent time rules state from octets = go (datagram rules state from octets).answer
-  where
-    go : (o : Option (ℕ × Outcome)) → sendings time (datagram_notes o) ≡ []
-    go None = refl
-    go (Some done) = refl
+data_unsent time rules state from octets = grind arith
 
 -- What is heard in a call whose request stays open.
 record Hears (tool : Tool) (call : Call) (time : ℕ) (later next : List Event) (client : Client) : Type 0 where
@@ -37,50 +65,41 @@ record Hears (tool : Tool) (call : Call) (time : ℕ) (later next : List Event) 
   unsent : sent_in tool call (begun_at tool call time next) ≡ sent_in tool call (begun_at tool call time later)
 
 module _ (tool : Tool) (call : Call) (time : ℕ) (later : List Event) (client : Client) (far : Carries tool call time later client) where
-  rules_are : rules_of client ≡ rules_for call
-  rules_are = ap rules_of far.client_is
-
   data_sends : (from : Station) (octets : List ℕ) → sent_in tool call (begun_at tool call time (later ++ Data from octets ∷ [])) ≡ sent_in tool call (begun_at tool call time later)
   data_sends from octets =
       sends_next tool call time later client far (Data from octets) tt
-      ∙ ap (λ (xs : List Sending). sent_in tool call (begun_at tool call time later) ++ xs) (data_unsent _ (rules_for call) client.state from octets)
+      ∙ ap (λ (xs : List Sending). sent_in tool call (begun_at tool call time later) ++ xs) (data_unsent _ (rules_of client) client.state from octets)
       ∙ append-nil (sent_in tool call (begun_at tool call time later))
-
-  nothing_on : (left : Client) → left ≡ client → Hears tool call time later (later ++ []) left
-  nothing_on left e = record {
-    carried = subst (λ (later : List Event). Carries tool call time later left) (sym (append-nil later)) (subst (Carries tool call time later) (sym e) far);
-    unsent = ap (λ (later : List Event). sent_in tool call (begun_at tool call time later)) (append-nil later);
-  }
 
   heard_on : (heard : Heard) (left : Client) → endings (heard_step (rules_of client) client.state heard).notes ≡ [] →
       left ≡ keeping client (heard_step (rules_of client) client.state heard).after → Hears tool call time later (later ++ data_in heard) left
-  heard_on Silence left none e = nothing_on left e
-  heard_on (Arrival from octets) left none e = record {
-    carried =
-        carries_on tool call time later client far (Data from octets) tt (ap (λ r. endings (step r client.state (Data from octets)).notes) (sym rules_are) ∙ none) left
-        (e ∙ ap (λ r. keeping client (step r client.state (Data from octets)).after) rules_are);
-    unsent = data_sends from octets;
-  }
-  heard_on Failure left none e = nothing_on left e
+  heard_on (Arrival from octets) left none e =
+      record { carried = carries_on tool call time later client far (Data from octets) tt none left e; unsent = data_sends from octets }
+  heard_on _ left none e = rw (e, append-nil later) (record { carried = far; unsent = refl })
 
   -- An answer ends the request, and the time after it changes nothing.
   heard_end : (heard : Heard) (outcome : Outcome) (now : ℕ) → endings (heard_step (rules_of client) client.state heard).notes ≡ Some outcome ∷ [] →
       (position : ℕ) × (end_in tool call (begun_at tool call time (later ++ (data_in heard ++ Tick now ∷ []))) ≡ Some (record { position = position; outcome = Some outcome }))
       × (sent_in tool call (begun_at tool call time (later ++ (data_in heard ++ Tick now ∷ []))) ≡ sent_in tool call (begun_at tool call time later))
-  heard_end Silence outcome now one = cc
   heard_end (Arrival from octets) outcome now one =
       let x : End = record { position = length (begun_at tool call time later); outcome = Some outcome } in
       let answered = later ++ Data from octets ∷ [] in
       let quiet = All-append IsNews later (Data from octets ∷ []) far.quiet (one_news (Data from octets) tt) in
-      let ended =
-      ends_next tool call time later client far (Data from octets) tt (Some outcome) (ap (λ r. endings (step r client.state (Data from octets)).notes) (sym rules_are) ∙ one) in
+      let ended = ends_next tool call time later client far (Data from octets) tt (Some outcome) one in
       let same = sym (append_assoc later (Data from octets ∷ []) (Tick now ∷ [])) in (
         x.position,
         ap (λ (later : List Event). end_in tool call (begun_at tool call time later)) same ∙ stands tool call time answered far.short quiet (Tick now) tt x ended,
         ap (λ (later : List Event). sent_in tool call (begun_at tool call time later)) same
             ∙ sends_no_more tool call time answered far.short quiet (Tick now) tt x ended ∙ data_sends from octets,
       )
-  heard_end Failure outcome now one = cc
+  heard_end _ outcome now one = cc
+
+-- A call before turn n, with its request open.
+pub is_open : (tool : Tool) (call : Call) (t : Told) (link : Option Told) (client : Client) (n : ℕ) → Underway tool call t link client n → IsOpenAfter tool call t n
+is_open tool call t link client n far = record {
+  request = is_accepted tool call (t.time []) (turns (wait_of call) t n) far.carried.short far.carried.quiet;
+  goes_on = record { passed = far.passed; unended = rw far.carried.unended refl };
+}
 
 module _ (tool : Tool) (call : Call) (t : Told) (link : Option Told) (client : Client) (n : ℕ) (far : Underway tool call t link client n) where
   abbrev here : Told
@@ -105,9 +124,8 @@ module _ (tool : Tool) (call : Call) (t : Told) (link : Option Told) (client : C
   quiet_next = All-append IsNews later (data_in heard ++ Tick time_then ∷ []) far.carried.quiet (go heard)
     where
       go : (heard : Heard) → All IsNews (data_in heard ++ Tick time_then ∷ [])
-      go Silence = one_news (Tick time_then) tt
       go (Arrival from octets) = All-cons IsNews (Data from octets) (Tick time_then ∷ []) tt (one_news (Tick time_then) tt)
-      go Failure = one_news (Tick time_then) tt
+      go _ = one_news (Tick time_then) tt
 
   passed_next : heard ≢ Failure → first_below (stops_at (heard_in call t) (has_ended tool call t)) (suc n) ≡ None
   passed_next received = one_more (heard_in call t) (has_ended tool call t) n (is_open tool call t link client n far).goes_on received
@@ -156,9 +174,6 @@ module _ (tool : Tool) (call : Call) (t : Told) (link : Option Told) (client : C
     abbrev ticked : Stepped
     ticked = step (rules_of middle) middle.state (Tick time_then)
 
-    ticked_is : ticked ≡ step (rules_for call) middle.state (Tick time_then)
-    ticked_is = ap (λ r. step r middle.state (Tick time_then)) (rules_are tool call (t.time []) heard_so middle hears.carried)
-
     next_is : next ≡ heard_so ++ Tick time_then ∷ []
     next_is = sym (append_assoc later (data_in heard) (Tick time_then ∷ []))
 
@@ -166,14 +181,12 @@ module _ (tool : Tool) (call : Call) (t : Told) (link : Option Told) (client : C
     sends_then =
         ap (λ (later : List Event). sent_in tool call (begun_at tool call (t.time []) later)) next_is
         ∙ sends_next tool call (t.time []) heard_so middle hears.carried (Tick time_then) tt
-        ∙ ap (λ (xs : List Sending). xs ++ sendings time_then (step (rules_for call) middle.state (Tick time_then)).notes) hears.unsent
-        ∙ ap (λ (s : Stepped). sent_yet ++ sendings time_then s.notes) (sym ticked_is)
+        ∙ ap (λ (xs : List Sending). xs ++ sendings time_then ticked.notes) hears.unsent
 
     carries_then : endings ticked.notes ≡ [] → (after : Client) → after ≡ keeping middle ticked.after → Carries tool call (t.time []) next after
     carries_then none_then after e =
         subst (λ (later : List Event). Carries tool call (t.time []) later after) (sym next_is)
-        (carries_on tool call (t.time []) heard_so middle hears.carried (Tick time_then) tt (ap (λ (s : Stepped). endings s.notes) (sym ticked_is) ∙ none_then) after
-        (e ∙ ap (λ (s : Stepped). keeping middle s.after) ticked_is))
+        (carries_on tool call (t.time []) heard_so middle hears.carried (Tick time_then) tt none_then after e)
 
     abbrev Sends : Option Told → Type 0
     Sends left = left ≡ Some (having_sent (sendings time_then ticked.notes) (after_wait (wait_of call) (having_sent sent_yet here)))
@@ -197,7 +210,7 @@ module _ (tool : Tool) (call : Call) (t : Told) (link : Option Told) (client : C
     timed_out left one e within =
         ends_so left (length (begun_at tool call (t.time []) heard_so)) None received within
         (ap (λ (later : List Event). end_in tool call (begun_at tool call (t.time []) later)) next_is
-        ∙ ends_next tool call (t.time []) heard_so middle hears.carried (Tick time_then) tt None (ap (λ (s : Stepped). endings s.notes) (sym ticked_is) ∙ one))
+        ∙ ends_next tool call (t.time []) heard_so middle hears.carried (Tick time_then) tt None one)
         (sent_then left e)
 
     -- The request could not be sent again.
@@ -247,3 +260,21 @@ module _ (tool : Tool) (call : Call) (t : Told) (link : Option Told) (short : le
     owed = sent_first ∙ one;
     link_left = e ∙ ap Some (having_nothing t);
   }
+
+-- ---- the end
+
+module _ (tool : Tool) (call : Call) (before after : Option (List ℕ)) (told left : Option Told) where
+  -- A turn that fails ends the call so.
+  pub fails_so : (fault : ToolFault) → fault ≢ WriteFailed → ForSome told (λ t. TurnFails tool call t left fault) →
+      Tells tool call before after told left (Err fault)
+  fails_so TurnsSpent other failed = λ t e. absurd (failed t e)
+  fails_so WriteFailed other failed = absurd (other refl)
+  fails_so _ other failed = failed
+
+  -- What is shown of an end is what the call tells.
+  pub shown_so : (ending : Option Outcome) (result : Result Exit ToolFault) → Puts before after (ending_line tool ending) result →
+      IfOk result (λ exit. exit ≡ exit_of tool ending) → IfErr result (λ fault. fault ≡ WriteFailed) →
+      ForSome told (λ t. (n : ℕ) × EndsIn tool call t left ending n) → Tells tool call before after told left result
+  shown_so ending (Ok exit) puts good bad ends = (ending, good, puts, ends)
+  shown_so ending (Err fault) puts good bad ends =
+      subst (λ (fault : ToolFault). Tells tool call before after told left (Err fault)) (sym bad) (ending, puts, ends)

@@ -1,9 +1,6 @@
-mod Requests
 mod Courses
 mod CallEvents
-mod CallEnds
 mod CallTurns
-mod Room
 mod Searches
 mod Servings
 mod Progress

@@ -1,20 +1,19 @@
 -- A call whose turns are prompt ends in time.
-use Rattle.std.proofs.Common.{◌≡◌, ℕ, zero, suc, ◌+◌, ◌*◌, ◌<◌, ◌≤◌, max, List, [], ◌∷◌, ◌++◌, length, Option, Some, None, Result, Ok, Err, IsSomeAnd, is_some, false, subst, arith, refl, ap, sym, ◌∙◌, inl, inr}
+use Rattle.std.proofs.Common.{◌≡◌, ℕ, zero, suc, ◌+◌, ◌*◌, ◌<◌, ◌≤◌, max, List, [], ◌∷◌, ◌++◌, length, Option, Some, Result, Ok, Err, IsSomeAnd, false, subst, arith, refl, ap, sym, ◌∙◌, inl, inr}
 use Rattle.std.proofs.lemmas.List.{take_all, take-append-le}
 use Rattle.std.proofs.lemmas.Bool.{cases_lt}
 use Rattle.bac_tsm.specs.Positions.{greatest_tick}
-use Rattle.bac_tsm.specs.Events.{Outcome, Event, Ask, Data, Tick}
-use Rattle.bac_tsm.specs.Lookahead.{End, clock}
+use Rattle.bac_tsm.specs.Events.{Outcome, Event, Tick}
+use Rattle.bac_tsm.specs.Lookahead.{clock}
 use Rattle.bac_tsm.proofs.Progress.{clock_rises, open_soon, never_due}
-use Rattle.bac_links.specs.Told.{Told, Heard, Silence, Arrival, Failure, waited}
-use Rattle.bac_links.specs.Handed.{data_in}
-use Rattle.bac_links.specs.Call.{rules_for, wait_of, heard_in, asked, end_in, events_of, has_ended, left_by, EndsIn, Tells}
+use Rattle.bac_links.specs.Told.{Told, waited}
+use Rattle.bac_links.specs.Call.{rules_for, wait_of, heard_in, asked, events_of, has_ended, left_by, EndsIn, Tells}
 use Rattle.bac_links.proofs.Courses.{was_due}
 use Rattle.bac_links.specs.Progress.{IsPrompt}
 use Rattle.bac_links.specs.declared.ending.Tool.{Tool}
 use Rattle.bac_links.specs.declared.ending.Exit.{Exit}
 use Rattle.bac_links.specs.declared.fault.ToolFault.{ToolFault}
-use Rattle.bac_links.specs.declared.fault.ToolFault.TheVariants.{SendFailed, ReceiveFailed, TurnsSpent, WriteFailed}
+use Rattle.bac_links.specs.declared.fault.ToolFault.TheVariants.{ReceiveFailed, WriteFailed}
 use Rattle.bac_text.specs.declared.jobs.Call.{Call}
 
 all_by : (events : List Event) (j : ℕ) → length events ≤ j → clock events j ≡ greatest_tick events
@@ -41,17 +40,7 @@ greatest_tick-append : (first next : List Event) → greatest_tick (first ++ nex
 greatest_tick-append [] next = omega arith
 greatest_tick-append (Tick now ∷ first) next =
     let h : greatest_tick (first ++ next) ≡ max (greatest_tick first) (greatest_tick next) = greatest_tick-append first next in omega arith
-greatest_tick-append (Ask peer service body ∷ first) next = greatest_tick-append first next
-greatest_tick-append (Data peer bytes ∷ first) next = greatest_tick-append first next
-
-turn_greatest : (time : ℕ) (heard : Heard) → greatest_tick (data_in heard ++ Tick time ∷ []) ≡ time
-turn_greatest time Silence = omega arith
-turn_greatest time (Arrival from octets) = omega arith
-turn_greatest time Failure = omega arith
-
-is_none : (x : Option End) → is_some x ≡ false → x ≡ None
-is_none None e = refl
-is_none (Some x) e = cc
+greatest_tick-append (_ ∷ first) next = greatest_tick-append first next
 
 module _ (tool : Tool) (call : Call) (t : Told) (longest : ℕ) (prompt : IsPrompt longest (wait_of call) t) where
   abbrev time_after : ℕ → ℕ
@@ -59,7 +48,7 @@ module _ (tool : Tool) (call : Call) (t : Told) (longest : ℕ) (prompt : IsProm
 
   greatest_next : (n : ℕ) → greatest_tick (events_of tool call t (suc n)) ≡ max (greatest_tick (events_of tool call t n)) (time_after (suc n))
   greatest_next n =
-      greatest_tick-append (events_of tool call t n) _ ∙ ap (max (greatest_tick (events_of tool call t n))) (turn_greatest (time_after (suc n)) (heard_in call t n))
+      greatest_tick-append (events_of tool call t n) _ ∙ ap (max (greatest_tick (events_of tool call t n))) (grind arith)
 
   reached : (n : ℕ) → time_after n ≤ greatest_tick (events_of tool call t n)
   reached zero = omega arith
@@ -78,7 +67,7 @@ module _ (tool : Tool) (call : Call) (t : Told) (longest : ℕ) (prompt : IsProm
       let all = events_of tool call t n in
       let soon : clock all (length all) ≤ clock all 2 + call.retries * (call.timeout + longest) + call.timeout =
       open_soon (rules_for call) all 1 longest call.retries (length all) (steady n)
-      (never_due (rules_for call) all (asked tool call) (is_none (end_in tool call all) still)) in
+      (never_due (rules_for call) all (asked tool call) (grind (arith, still))) in
       omega (arith, reached n, all_by all (length all) (omega arith), soon)
 
   -- The link that is left tells a time within the bound.
@@ -98,7 +87,6 @@ module _ (tool : Tool) (call : Call) (t : Told) (longest : ℕ) (prompt : IsProm
   pub left_in_time : (before after : Option (List ℕ)) (left : Option Told) (result : Result Exit ToolFault) →
       Tells tool call before after (Some t) left result → LeftInTime left
   left_in_time before after left (Ok exit) tells = let h = tells.3 t refl in left_at_end left tells.0 h.0 h.1
-  left_in_time before after left (Err SendFailed) tells = let h = tells t refl in subst LeftInTime (sym h.1.link_left) (left_open h.0 h.1.before.goes_on.unended)
   left_in_time before after left (Err ReceiveFailed) tells = let h = tells t refl in subst LeftInTime (sym h.1.link_left) (left_ended h.0 h.1.stops.unended)
-  left_in_time before after left (Err TurnsSpent) tells = let h = tells t refl in subst LeftInTime (sym h.1.link_left) (left_open h.0 h.1.before.goes_on.unended)
   left_in_time before after left (Err WriteFailed) tells = let h = tells.2 t refl in left_at_end left tells.0 h.0 h.1
+  left_in_time before after left _ tells = let h = tells t refl in subst LeftInTime (sym h.1.link_left) (left_open h.0 h.1.before.goes_on.unended)

@@ -1,38 +1,40 @@
 -- A search, turn by turn.
-use Rattle.std.proofs.Common.{◌≡◌, ◌≢◌, ℕ, suc, ◌-◌, ◌<◌, ◌≤◌, max, List, [], ◌∷◌, ◌++◌, Option, Some, None, Ok, Err, Bool, false, ◌||◌, refl, sym, ◌∙◌, arith, subst}
+use Rattle.std.proofs.Common.{◌≡◌, ℕ, suc, ◌-◌, ◌<◌, ◌≤◌, max, List, [], ◌∷◌, ◌++◌, Option, Some, None, Ok, Err, Bool, false, ◌||◌, refl, sym, ◌∙◌, arith, subst}
 use Rattle.std.specs.Option.{ForSome}
 use Rattle.std.proofs.lemmas.List.{append-nil}
 use Rattle.std.proofs.lemmas.Bool.{le-leb, lt-leb}
 use Rattle.std.proofs.lemmas.List.Concat.{flat_map-append}
 use Rattle.std.specs.Io.KnownBytes.{Appends}
-use Rattle.bac_pdu.specs.declared.discovery.WhoIs.{WhoIs}
-use Rattle.bac_pdu.specs.Peer.{Station}
 use Rattle.bac_text.proofs.Known.{Appends-none, Appends-more}
 use Rattle.bac_links.specs.Limits.{most_turns}
-use Rattle.bac_links.specs.Told.{Told, Heard, Arrival, Failure, having_sent}
-use Rattle.bac_links.specs.Search.{Found, has_found, found_of, found_by, found_line, found_lines, found_after, greatest_time, passed, searched, who_is_sending, search_wait, search_hears, is_late, SearchEnds, Searched}
-use Rattle.bac_links.specs.Courses.{first_below, stops_at}
+use Rattle.bac_links.specs.Told.{Told, having_sent}
+use Rattle.bac_links.specs.Search.{Found, has_found, found_line, found_lines, found_after, greatest_time, passed, searched, who_is_sending, search_wait, search_hears, is_late, SearchEnds, Searched}
+use Rattle.bac_links.specs.Courses.{GoesOn, first_below, stops_at}
 use Rattle.bac_links.proofs.Courses.{none_yet, one_more, ends_now, fails_now}
-use Rattle.bac_links.specs.SearchSteps.{Listens, SearchesSo, SearchGoes}
+use Rattle.bac_links.specs.SearchSteps.{Listens}
 use Rattle.bac_text.specs.declared.jobs.Search.{Search}
 use Rattle.bac_links.specs.declared.fault.ToolFault.{ToolFault}
-use Rattle.bac_links.specs.declared.fault.ToolFault.TheVariants.{SendFailed, ReceiveFailed, TurnsSpent, WriteFailed}
+use Rattle.bac_links.specs.declared.fault.ToolFault.TheVariants.{ReceiveFailed, TurnsSpent, WriteFailed}
 
--- ---- what a wait finds
+-- A search after n turns, over what the link told.
+pub record SearchesSo (search : Search) (t : Told) (link : Option Told) (first greatest : ℕ) (found : List Found) (n : ℕ) : Type 0 where
+  pub began : first ≡ t.time []
+  pub time : greatest ≡ greatest_time search t n
+  pub before : GoesOn (search_hears search t) (is_late search t) n
+  pub finds : found ≡ found_after search t n
+  pub link_left : link ≡ searched search t n
 
-pub finds_one : (who : WhoIs) (heard : Heard) (from : Station) (octets : List ℕ) (found : Found) → heard ≡ Arrival from octets →
-    Some found ≡ found_of who from octets → (heard ≢ Failure) × (found_by who heard ≡ found ∷ [])
-finds_one who heard from octets found e one = rw (e, ← one) ((λ q. cc), refl)
-
-pub finds_none : (who : WhoIs) (heard : Heard) (from : Station) (octets : List ℕ) → heard ≡ Arrival from octets →
-    None ≡ found_of who from octets → (heard ≢ Failure) × ([] ≡ found_by who heard)
-finds_none who heard from octets e none = rw (e, ← none) ((λ q. cc), refl)
+-- A search after n turns.
+pub record SearchGoes (search : Search) (before after : Option (List ℕ)) (told link : Option Told) (first greatest : ℕ) (any : Bool) (n : ℕ) : Type 0 where
+  pub found : List Found
+  pub any_is : any ≡ has_found found
+  pub printed : Appends before after (found_lines found)
+  pub so_far : ForSome told (λ t. SearchesSo search t link first greatest found n)
 
 -- ---- lists of devices
 
 has_found-append : (xs ys : List Found) → has_found (xs ++ ys) ≡ (has_found xs || has_found ys)
-has_found-append [] ys = refl
-has_found-append (x ∷ xs) ys = refl
+has_found-append xs ys = grind arith
 
 -- ---- a turn
 
@@ -97,19 +99,17 @@ module _ (search : Search) (before middle after : Option (List ℕ)) (told mid l
     )
 
   -- A wait that fails.
-  failed : (fault : ToolFault) → n < most_turns → Listens search.who (search_wait search) middle after mid left (Err fault) →
+  pub fails : (fault : ToolFault) (wait : ℕ) → wait ≡ search_wait search → n < most_turns → Listens search.who wait middle after mid left (Err fault) →
       Searched search before after told left (Err fault)
-  failed SendFailed within listens = absurd listens
-  failed ReceiveFailed within listens = (
+  fails ReceiveFailed wait same within listens = (
     goes.found,
     subst (Appends before after) (append-nil (found_lines goes.found)) (Appends-more before middle after (found_lines goes.found) [] goes.printed listens.0),
     λ t e.
         let far = goes.so_far t e in
-        let heard = listens.1 _ far.link_left in
+        let heard = rw same at (listens.1 _ far.link_left) in
         (n, record { stops = fails_now (search_hears search t) (is_late search t) n far.before heard.0 within; finds = far.finds; link_left = heard.1 }),
   )
-  failed TurnsSpent within listens = absurd listens
-  failed WriteFailed within listens = (
+  fails WriteFailed wait same within listens = (
     goes.found,
     listens.0,
     listens.1,
@@ -118,13 +118,10 @@ module _ (search : Search) (before middle after : Option (List ℕ)) (told mid l
     Appends-more before middle after (found_lines goes.found) listens.1 goes.printed listens.4,
     λ t e.
         let far = goes.so_far t e in
-        let heard = listens.5 _ far.link_left in
+        let heard = rw same at (listens.5 _ far.link_left) in
         (n, record { within = within; before = far.before; finds = far.finds; heard = heard.0; link_left = heard.1 }),
   )
-
-  pub fails : (fault : ToolFault) (wait : ℕ) → wait ≡ search_wait search → n < most_turns → Listens search.who wait middle after mid left (Err fault) →
-      Searched search before after told left (Err fault)
-  fails fault wait e within listens = failed fault within (subst (λ (w : ℕ). Listens search.who w middle after mid left (Err fault)) e listens)
+  fails _ wait same within listens = absurd listens
 
 -- A search begins with its Who-Is sent.
 pub begun : (search : Search) (before : Option (List ℕ)) (told link : Option Told) (first : ℕ) → 0 < search.timeout →

@@ -1,7 +1,7 @@
 -- A device that serves, wait by wait.
-use Rattle.std.proofs.Common.{◌≡◌, ◌≢◌, ℕ, suc, ◌+◌, ◌<◌, ◌≤◌, List, [], ◌∷◌, ◌++◌, flat_map, length, length-append, Option, Some, Ok, Err, refl, sym, ap, ◌∙◌, arith, append_assoc, subst}
-use Rattle.std.specs.Option.{option_to_list}
-use Rattle.std.proofs.lemmas.List.{append-nil, length-map, map-append}
+use Rattle.std.proofs.Common.{◌≡◌, ℕ, suc, ◌+◌, ◌<◌, ◌≤◌, List, [], ◌∷◌, ◌++◌, length, length-append, Option, Some, None, Ok, Err, refl, sym, ap, ◌∙◌, arith, append_assoc, subst}
+use Rattle.std.specs.Option.{ForSome}
+use Rattle.std.proofs.lemmas.List.{length-map, map-append}
 use Rattle.std.proofs.lemmas.List.Concat.{flat_map-append}
 use Rattle.std.proofs.lemmas.Bool.{le-leb, lt-leb}
 use Rattle.bac_pdu.specs.Peer.{Station}
@@ -9,60 +9,54 @@ use Rattle.bac_device.specs.Device.{DeviceState, device_after, points_of}
 use Rattle.bac_device.specs.Info.{Info}
 use Rattle.bac_device.specs.Places.{Write}
 use Rattle.bac_device.specs.Point.{Description}
-use Rattle.bac_device.specs.Reply.{reply_to, writes_after}
+use Rattle.bac_device.specs.Reply.{writes_after}
 use Rattle.bac_device.specs.Turns.{Arrival as Came, AnswersInTurn, replies_to}
 use Rattle.bac_device.proofs.SizeLaws.{introduction_fits, request_fits}
 use Rattle.bac_device.proofs.StateLaws.{in_turn}
 use Rattle.bac_links.specs.Limits.{most_turns, serve_wait}
-use Rattle.bac_links.specs.Told.{Told, Heard, Silence, Arrival, Failure, Sending, waited, having_sent}
-use Rattle.bac_links.specs.Serve.{Delivery, arrivals_of, delivery_at, brought, deliveries, reply_sendings, sent_for, reply_count, AnswersAll, RepliesFit, ReplyFits, serve_hears, all_came, Serves}
-use Rattle.bac_links.specs.Courses.{stops_at, GoesOn}
-use Rattle.bac_links.proofs.Courses.{none_yet, one_more, ends_now, fails_now}
-use Rattle.bac_links.specs.ServeSteps.{came_in, replied_in, ServesOne, ServesOver, ServeGoes}
-use Rattle.bac_links.proofs.Requests.{having_nothing, having_sent-both}
+use Rattle.bac_links.specs.Told.{Told, Heard, Arrival, Sending, waited, having_sent}
+use Rattle.bac_links.specs.Serve.{Delivery, arrivals_of, delivery_at, brought, deliveries, reply_sendings, sent_for, reply_count, AnswersAll, RepliesFit, serve_hears, all_came, ServesSo, Serves}
+use Rattle.bac_links.specs.Courses.{first_below, stops_at, GoesOn}
+use Rattle.bac_links.proofs.Courses.{none_yet, one_more, ends_now, fails_now, having_nothing, having_sent-both}
+use Rattle.bac_links.specs.ServeSteps.{came_in, replied_in, ServesOne}
 use Rattle.bac_links.specs.declared.serving.Brought.{Brought}
 use Rattle.bac_links.specs.declared.fault.ToolFault.{ToolFault}
-use Rattle.bac_links.specs.declared.fault.ToolFault.TheVariants.{SendFailed, ReceiveFailed, TurnsSpent, WriteFailed}
+use Rattle.bac_links.specs.declared.fault.ToolFault.TheVariants.{SendFailed, ReceiveFailed, TurnsSpent}
 
--- ---- one datagram
+-- A server after n waits, over what the link told: none of them failed, and before each fewer datagrams had come than were asked for.
+pub record ServesOver (t : Told) (link : Option Told) (arrivals : List Came) (replies : List (Option (Station × List ℕ))) (count n : ℕ) : Type 0 where
+  pub passed : first_below (stops_at (serve_hears t) (all_came count t)) n ≡ None
+  pub so : ServesSo t link arrivals replies n
 
-pub one_came : (t : Told) (from : Station) (octets : List ℕ) → t.heard [] serve_wait ≡ Arrival from octets →
-    (t.heard [] serve_wait ≢ Failure) × (record { from = from; datagram = octets } ∷ [] ≡ arrivals_of (brought t))
-    × ((reply : Option (Station × List ℕ)) → reply_sendings (t.time (serve_wait ∷ [])) reply ≡ sent_for (brought t) (reply ∷ []))
-one_came t from octets e = rw e ((λ q. cc), refl, λ reply. sym (append-nil (reply_sendings (t.time (serve_wait ∷ [])) reply)))
-
-pub none_came : (t : Told) → t.heard [] serve_wait ≡ Silence → (t.heard [] serve_wait ≢ Failure) × ([] ≡ arrivals_of (brought t)) × ([] ≡ sent_for (brought t) [])
-none_came t e = rw e ((λ q. cc), refl, refl)
-
-pub left_as_it_is : (left : Option Told) (t : Told) (none : List Sending) → [] ≡ none → left ≡ Some t → left ≡ Some (having_sent none t)
-left_as_it_is left t none e same = same ∙ ap Some (having_nothing t) ∙ ap (λ (xs : List Sending). Some (having_sent xs t)) e
+-- A server after n waits.
+pub record ServeGoes (before device : DeviceState) (told link : Option Told) (count came replied n : ℕ) : Type 0 where
+  pub arrivals : List Came
+  pub replies : List (Option (Station × List ℕ))
+  pub in_turn : AnswersInTurn before arrivals replies device
+  pub came_is : came ≡ length arrivals
+  pub replied_is : replied ≡ reply_count replies
+  pub so_far : ForSome told (λ t. ServesOver t link arrivals replies count n)
 
 -- ---- datagrams one after another
 
 turns-append : (before middle after : DeviceState) (xs ys : List Came) (rs ss : List (Option (Station × List ℕ))) →
     AnswersInTurn before xs rs middle → AnswersInTurn middle ys ss after → AnswersInTurn before (xs ++ ys) (rs ++ ss) after
 turns-append before middle after [] ys [] ss first second = subst (λ (d : DeviceState). AnswersInTurn d ys ss after) first second
-turns-append before middle after [] ys (r ∷ rs) ss first second = absurd first
-turns-append before middle after (x ∷ xs) ys [] ss first second = absurd first
 turns-append before middle after (x ∷ xs) ys (r ∷ rs) ss (next, one, rest) second = (next, one, turns-append next middle after xs ys rs ss rest second)
+turns-append before middle after _ ys _ ss first second = absurd first
 
 same_length : (before after : DeviceState) (xs : List Came) (rs : List (Option (Station × List ℕ))) → AnswersInTurn before xs rs after → length xs ≡ length rs
 same_length before after [] [] turns = refl
-same_length before after [] (r ∷ rs) turns = absurd turns
-same_length before after (x ∷ xs) [] turns = absurd turns
 same_length before after (x ∷ xs) (r ∷ rs) (next, one, rest) = ap suc (same_length next after xs rs rest)
-
-reply_fits : (info : Info) (points : List Description) (writes : List Write) (x : Came) (to : Station) (reply : List ℕ) →
-    reply_to info points writes x.from x.datagram ≡ Some (to, reply) → ReplyFits x to reply
-reply_fits info points writes x to reply e = record {
-  confirmed = λ code id carried. request_fits (device_after info points writes) x.from to x.datagram reply code id carried e;
-  introduced = λ carried. introduction_fits (device_after info points writes) x.from to x.datagram reply carried e;
-}
+same_length before after _ _ turns = absurd turns
 
 replies_fit : (info : Info) (points : List Description) (writes : List Write) (xs : List Came) → RepliesFit xs (replies_to info points writes xs)
 replies_fit info points writes [] = refl
 replies_fit info points writes (x ∷ xs) = (
-  λ r e. reply_fits info points writes x r.0 r.1 e,
+  λ r e. record {
+    confirmed = λ code id carried. request_fits (device_after info points writes) x.from r.0 x.datagram r.1 code id carried e;
+    introduced = λ carried. introduction_fits (device_after info points writes) x.from r.0 x.datagram r.1 carried e;
+  },
   replies_fit info points (writes_after info points writes x.from x.datagram) xs,
 )
 
@@ -74,24 +68,21 @@ defined before after xs rs turns = λ writes holds.
 sent_for-append : (xs ys : List Delivery) (rs ss : List (Option (Station × List ℕ))) → length xs ≡ length rs →
     sent_for (xs ++ ys) (rs ++ ss) ≡ sent_for xs rs ++ sent_for ys ss
 sent_for-append [] ys [] ss e = refl
-sent_for-append [] ys (r ∷ rs) ss e = absurd (omega (arith, e))
-sent_for-append (x ∷ xs) ys [] ss e = absurd (omega (arith, e))
 sent_for-append (x ∷ xs) ys (r ∷ rs) ss e =
     ap (λ (zs : List Sending). reply_sendings x.time r ++ zs) (sent_for-append xs ys rs ss (omega (arith, e)))
     ∙ sym (append_assoc (reply_sendings x.time r) (sent_for xs rs) (sent_for ys ss))
+sent_for-append _ ys _ ss e = absurd (omega (arith, e))
 
 count-append : (rs ss : List (Option (Station × List ℕ))) → reply_count (rs ++ ss) ≡ reply_count rs + reply_count ss
-count-append rs ss =
-    ap length (flat_map-append option_to_list rs ss) ∙ length-append (flat_map option_to_list rs) (flat_map option_to_list ss)
+count-append rs ss = simp (flat_map-append, length-append)
 
 -- ---- a wait
 
 -- One reply is one send.
 one_lost : (time : ℕ) (heard : Heard) (reply : Station × List ℕ) → length (arrivals_of (delivery_at time heard)) ≡ 1 →
     (lost : Sending) × (sent_for (delivery_at time heard) (Some reply ∷ []) ≡ lost ∷ [])
-one_lost time Silence reply e = absurd (omega (arith, e))
 one_lost time (Arrival from octets) reply e = (record { time = time; to = reply.0; octets = reply.1 }, refl)
-one_lost time Failure reply e = absurd (omega (arith, e))
+one_lost time _ reply e = absurd (omega (arith, e))
 
 pub serves_none : (device : DeviceState) (told : Option Told) (count : ℕ) → ServeGoes device device told told count 0 0 0
 serves_none device told count = record {
@@ -170,7 +161,8 @@ module _ (before device : DeviceState) (told mid : Option Told) (count came repl
         };
   }
 
-  pub serve_fails : (after : DeviceState) (left : Option Told) → n < most_turns → came < count → (fault : ToolFault) → ServesOne device after mid left (Err fault) → Serves count before after told left (Err fault)
+  pub serve_fails : (after : DeviceState) (left : Option Told) → n < most_turns → came < count → (fault : ToolFault)
+      → ServesOne device after mid left (Err fault) → Serves count before after told left (Err fault)
   serve_fails after left within fewer SendFailed one = (
     goes.arrivals ++ one.0,
     goes.replies ++ Some one.1 ∷ [],
@@ -201,5 +193,4 @@ module _ (before device : DeviceState) (told mid : Option Told) (count came repl
         let heard = one.1 _ (far t e).so.link_left in
         (n, record { stops = fails_now (serve_hears t) (all_came count t) n (waits_on t e fewer) heard.0 within; came = (far t e).so.came; link_left = heard.1 }),
   )
-  serve_fails after left within fewer TurnsSpent one = absurd one
-  serve_fails after left within fewer WriteFailed one = absurd one
+  serve_fails after left within fewer _ one = absurd one

@@ -1,5 +1,5 @@
 -- A call over what its link tells: one request, what it sends, and how it ends.
-use Rattle.std.specs.Prelude.{◌≡◌, ℕ, suc, ◌≤◌, min, List, [], ◌∷◌, ◌++◌, length, Bool, is_some, Option, Some, Result, Ok, Err}
+use Rattle.std.specs.Prelude.{◌≡◌, ℕ, suc, ◌≤◌, List, [], ◌∷◌, ◌++◌, length, Bool, is_some, Option, Some, Result, Ok, Err}
 use Rattle.std.specs.List.{flat_map}
 use Rattle.std.specs.Option.{ForSome}
 use Rattle.std.specs.Io.KnownBytes.{Appends}
@@ -7,21 +7,18 @@ use Rattle.bac_pdu.specs.Peer.{station}
 use Rattle.bac_tsm.specs.Events.{Outcome, Event, Ask, Data, Tick, Note, Sent, Refused, Done, Dropped, TimedOut, Rules, request_of}
 use Rattle.bac_tsm.specs.Lookahead.{Accepted, End, accepted, end, send_notes}
 use Rattle.bac_tsm.specs.Client.{client_rules}
-use Rattle.bac_links.specs.Limits.{longest_wait, most_turns}
+use Rattle.bac_links.specs.Limits.{most_turns, turn_wait}
 use Rattle.bac_links.specs.Told.{Told, Heard, Sending, waited, having_sent}
 use Rattle.bac_links.specs.Handed.{turns}
 use Rattle.bac_links.specs.Courses.{GoesOn, EndsAfter, FailsAfter}
 use Rattle.bac_links.specs.declared.ending.Tool.{Tool}
 use Rattle.bac_links.specs.declared.ending.Tool.TheVariants.{Reading, Writing}
 use Rattle.bac_text.specs.declared.jobs.Call.{Call}
+use Rattle.bac_text.specs.Checked.{TakesFront}
 use Rattle.bac_links.specs.declared.ending.Exit.{Exit}
 use Rattle.bac_links.specs.Ending.{exit_of, ending_line}
 use Rattle.bac_links.specs.declared.fault.ToolFault.{ToolFault}
 use Rattle.bac_links.specs.declared.fault.ToolFault.TheVariants.{SendFailed, ReceiveFailed, TurnsSpent, WriteFailed}
-
--- A front of the text was appended.
-abbrev pub AppendsFront : Option (List ℕ) → Option (List ℕ) → List ℕ → Type 0
-AppendsFront before after text = (taken rest : List ℕ) × (text ≡ taken ++ rest) × Appends before after taken
 
 -- The service choices of ReadProperty and WriteProperty (clause 21, BACnetConfirmedServiceChoice).
 abbrev pub service_of : Tool → ℕ
@@ -56,7 +53,7 @@ sent_from rules events a time i (event ∷ later) =
 
 -- How long a turn waits.
 abbrev pub wait_of : Call → ℕ
-wait_of call = min call.timeout longest_wait
+wait_of call = turn_wait call.timeout
 
 -- What turn n hears.
 abbrev pub heard_in : Call → Told → ℕ → Heard
@@ -143,7 +140,7 @@ Tells tool call before after told left (Err SendFailed) = ForSome told (λ t. (n
 Tells tool call before after told left (Err ReceiveFailed) = ForSome told (λ t. (n : ℕ) × FailsToReceive tool call t left n)
 Tells tool call before after told left (Err TurnsSpent) = ForSome told (λ t. (n : ℕ) × RunsOut tool call t left n)
 Tells tool call before after told left (Err WriteFailed) =
-    (ending : Option Outcome) × AppendsFront before after (ending_line tool ending)
+    (ending : Option Outcome) × TakesFront before after (ending_line tool ending)
     × ForSome told (λ t. (n : ℕ) × EndsIn tool call t left ending n)
 
 -- What a read tells, and what a write.

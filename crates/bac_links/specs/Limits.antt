@@ -1,5 +1,5 @@
 -- The limits of links and tools. The code has constants of the same numbers.
-use Rattle.std.specs.Prelude.{ℕ}
+use Rattle.std.specs.Prelude.{ℕ, min}
 
 -- The octets of the longest datagram that a link receives.
 abbrev pub longest_datagram : ℕ
@@ -8,6 +8,10 @@ longest_datagram = 2047
 -- The longest wait of a turn, in milliseconds.
 abbrev pub longest_wait : ℕ
 longest_wait = 50
+
+-- How long a turn of a call or a search with this timeout waits.
+abbrev pub turn_wait : ℕ → ℕ
+turn_wait timeout = min timeout longest_wait
 
 -- How long a server waits for a datagram, in milliseconds.
 abbrev pub serve_wait : ℕ

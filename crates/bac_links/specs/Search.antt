@@ -1,5 +1,5 @@
 -- A search for devices over what its link tells: what it sends, which devices it finds, what it prints, and when it ends.
-use Rattle.std.specs.Prelude.{◌≡◌, ℕ, zero, suc, ◌-◌, ◌<◌, nat_le, min, max, ◌==◌, Bool, true, false, List, [], ◌∷◌, ◌++◌, decimal, if◌then◌else◌, Option, Some, None, Result, Ok, Err}
+use Rattle.std.specs.Prelude.{◌≡◌, ℕ, zero, suc, ◌-◌, ◌<◌, nat_le, max, ◌==◌, Bool, true, false, List, [], ◌∷◌, ◌++◌, decimal, if◌then◌else◌, Option, Some, None, Result, Ok, Err}
 use Rattle.std.specs.Option.{ForSome, option_to_list, option_and_then}
 use Rattle.std.specs.List.{flat_map}
 use Rattle.std.specs.Io.KnownBytes.{Appends}
@@ -9,11 +9,10 @@ use Rattle.bac_pdu.specs.Apdu.{Message, laid_out, confirmed, unconfirmed, simple
 use Rattle.bac_pdu.specs.ApduReading.{apdu_of}
 use Rattle.bac_pdu.specs.Datagram.{Delivery, wrapped}
 use Rattle.bac_pdu.specs.DatagramReading.{carried}
-use Rattle.bac_pdu.specs.Discovery.{Introduction, introduction, who_is_octets}
+use Rattle.bac_pdu.specs.Discovery.{Introduction, asks, introduction, who_is_octets}
 use Rattle.bac_pdu.specs.ValueReading.{introduction_of}
-use Rattle.bac_device.specs.Reply.{asks}
 use Rattle.bac_text.specs.PeerTexts.{peer_text}
-use Rattle.bac_links.specs.Limits.{longest_wait, most_turns}
+use Rattle.bac_links.specs.Limits.{most_turns, turn_wait}
 use Rattle.bac_links.specs.Told.{Told, Heard, Silence, Arrival, Failure, Sending, waited, having_sent}
 use Rattle.bac_links.specs.Courses.{GoesOn, EndsAfter, FailsAfter}
 use Rattle.bac_links.specs.declared.ending.Exit.{Exit}
@@ -83,7 +82,7 @@ abbrev pub search_exit : List Found → Exit
 search_exit found = if has_found found then Good else Bad
 
 abbrev pub search_wait : Search → ℕ
-search_wait search = min search.timeout longest_wait
+search_wait search = turn_wait search.timeout
 
 -- What turn n hears.
 abbrev pub search_hears : Search → Told → ℕ → Heard

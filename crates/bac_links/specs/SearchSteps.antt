@@ -4,9 +4,7 @@ use Rattle.std.specs.Option.{ForSome}
 use Rattle.std.specs.Io.KnownBytes.{Appends}
 use Rattle.bac_pdu.specs.declared.discovery.WhoIs.{WhoIs}
 use Rattle.bac_links.specs.Told.{Told, Failure, after_wait}
-use Rattle.bac_links.specs.Search.{Found, has_found, found_by, found_line, found_lines, search_hears, is_late, found_after, greatest_time, searched}
-use Rattle.bac_links.specs.Courses.{GoesOn}
-use Rattle.bac_text.specs.declared.jobs.Search.{Search}
+use Rattle.bac_links.specs.Search.{Found, has_found, found_by, found_line, found_lines}
 use Rattle.bac_links.specs.declared.fault.ToolFault.{ToolFault}
 use Rattle.bac_links.specs.declared.fault.ToolFault.TheVariants.{SendFailed, ReceiveFailed, TurnsSpent, WriteFailed}
 
@@ -22,18 +20,3 @@ Listens who wait before after told left (Err TurnsSpent) = ⊥
 Listens who wait before after told left (Err WriteFailed) =
     (last : Found) × (taken rest : List ℕ) × (found_line last ≡ taken ++ rest) × Appends before after taken
     × ForSome told (λ t. (found_by who (t.heard [] wait) ≡ last ∷ []) × (left ≡ Some (after_wait wait t)))
-
--- A search after n turns, over what the link told.
-pub record SearchesSo (search : Search) (t : Told) (link : Option Told) (first greatest : ℕ) (found : List Found) (n : ℕ) : Type 0 where
-  pub began : first ≡ t.time []
-  pub time : greatest ≡ greatest_time search t n
-  pub before : GoesOn (search_hears search t) (is_late search t) n
-  pub finds : found ≡ found_after search t n
-  pub link_left : link ≡ searched search t n
-
--- A search after n turns.
-pub record SearchGoes (search : Search) (before after : Option (List ℕ)) (told link : Option Told) (first greatest : ℕ) (any : Bool) (n : ℕ) : Type 0 where
-  pub found : List Found
-  pub any_is : any ≡ has_found found
-  pub printed : Appends before after (found_lines found)
-  pub so_far : ForSome told (λ t. SearchesSo search t link first greatest found n)

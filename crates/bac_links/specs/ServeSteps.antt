@@ -6,8 +6,7 @@ use Rattle.bac_device.specs.Device.{DeviceState}
 use Rattle.bac_device.specs.Turns.{Arrival as Came, AnswersInTurn}
 use Rattle.bac_links.specs.Limits.{serve_wait}
 use Rattle.bac_links.specs.Told.{Told, Failure, after_wait, having_sent}
-use Rattle.bac_links.specs.Serve.{arrivals_of, brought, sent_for, reply_count, serve_hears, all_came, ServesSo}
-use Rattle.bac_links.specs.Courses.{first_below, stops_at}
+use Rattle.bac_links.specs.Serve.{arrivals_of, brought, sent_for, reply_count}
 use Rattle.bac_links.specs.declared.fault.ToolFault.{ToolFault}
 use Rattle.bac_links.specs.declared.fault.ToolFault.TheVariants.{SendFailed, ReceiveFailed, TurnsSpent, WriteFailed}
 use Rattle.bac_links.specs.declared.serving.Brought.{Brought}
@@ -38,17 +37,3 @@ ServesOne before after told left (Err ReceiveFailed) =
     (after ≡ before) × ForSome told (λ t. (t.heard [] serve_wait ≡ Failure) × (left ≡ Some (after_wait serve_wait t)))
 ServesOne before after told left (Err TurnsSpent) = ⊥
 ServesOne before after told left (Err WriteFailed) = ⊥
-
--- A server after n waits, over what the link told: none of them failed, and before each fewer datagrams had come than were asked for.
-pub record ServesOver (t : Told) (link : Option Told) (arrivals : List Came) (replies : List (Option (Station × List ℕ))) (count n : ℕ) : Type 0 where
-  pub passed : first_below (stops_at (serve_hears t) (all_came count t)) n ≡ None
-  pub so : ServesSo t link arrivals replies n
-
--- A server after n waits.
-pub record ServeGoes (before device : DeviceState) (told link : Option Told) (count came replied n : ℕ) : Type 0 where
-  pub arrivals : List Came
-  pub replies : List (Option (Station × List ℕ))
-  pub in_turn : AnswersInTurn before arrivals replies device
-  pub came_is : came ≡ length arrivals
-  pub replied_is : replied ≡ reply_count replies
-  pub so_far : ForSome told (λ t. ServesOver t link arrivals replies count n)

@@ -1,7 +1,9 @@
 -- What a link makes of a socket's addresses and errors.
-use Rattle.std.specs.Prelude.{◌≡◌, ℕ, Bool, true, false, List, length, nat_le, Option, Some, None, if◌then◌else◌}
+use Rattle.std.specs.Prelude.{◌≡◌, ℕ, ◌/◌, ◌-◌, ◌^◌, min, Bool, true, false, List, length, nat_le, Option, Some, None, Result, Ok, Err, if◌then◌else◌}
+use Rattle.std.specs.Duration.{as_nanos}
 use Rattle.std.specs.Net.Addr.{ipv4_bits, IsIpv4OfBits}
 use Rattle.std.specs.Net.Socket.{v4_ip, v4_port}
+use Rattle.std.specs.declared.time.Duration.{Duration}
 use Rattle.std.specs.declared.io.ErrorKind.{ErrorKind}
 use Rattle.std.specs.declared.io.ErrorKind.TheVariants.{WouldBlock, TimedOut, Interrupted, ConnectionRefused, ConnectionReset, HostUnreachable, NetworkUnreachable}
 use Rattle.std.specs.declared.net.socket_addr.SocketAddr.{SocketAddr}
@@ -24,6 +26,12 @@ peer_at (V6 address) = None
 -- The peer that is heard, where these octets came from there: there is none where they are too many.
 abbrev pub heard_from : SocketAddr → List ℕ → Option Peer
 heard_from address octets = if nat_le (length octets) longest_datagram then peer_at address else None
+
+-- The time of a link, by what its clock says has passed since it was made: so many whole milliseconds, up to the greatest number. Where the
+-- clock failed it is the time before.
+abbrev pub time_by : {E : Type 0} → Result Duration E → ℕ → ℕ
+time_by (Ok passed) before = min (as_nanos passed / 1_000_000) (2 ^ 64 - 1)
+time_by (Err fault) before = before
 
 abbrev pub is_lost : Refused → Bool
 is_lost Fails = false

@@ -1,12 +1,12 @@
 //! One request to one peer, and its end.
-ghost use Rattle.std.specs.Prelude.{◌≡◌, ◌≢◌, ◌<◌, ℕ, suc, false, min, is_err, [], ◌∷◌, ◌++◌, Bool, List, Option, Some, MatchOption, IfOk, IfErr, OnOk, map};
+ghost use Rattle.std.specs.Prelude.{◌≡◌, ◌≢◌, ◌<◌, ℕ, suc, false, is_err, [], ◌∷◌, ◌++◌, Bool, List, Option, Some, MatchOption, IfOk, IfErr, OnOk, map};
 ghost use Rattle.std.specs.Option.{ForSome, option_map, option_to_list};
 ghost use Rattle.bac_pdu.specs.Peer.{station};
 ghost use Rattle.bac_tsm.specs.Events.{Outcome as How, Tick};
 ghost use Rattle.bac_tsm.specs.Machine.{step, sent};
 ghost use Rattle.bac_tsm.specs.Client.{rules_of, keeping, outcome_seen};
 ghost use Rattle.bac_text.specs.Checked.{inner_of, has_failed, Puts};
-ghost use Rattle.bac_links.specs.Limits.{longest_wait, most_turns};
+ghost use Rattle.bac_links.specs.Limits.{most_turns, turn_wait};
 ghost use Rattle.bac_links.specs.Told.{Told, Sending, Failure, after_wait, having_sent};
 ghost use Rattle.bac_links.specs.Fault.{is_link_fault, is_write_fault};
 ghost use Rattle.bac_links.specs.Ending.{ending_seen, ending_line, exit_of};
@@ -26,8 +26,8 @@ use std::io::Write;
 /// The longest wait of a turn, in milliseconds.
 const LONGEST_WAIT: u32 = 50;
 
-/// The turns after which a tool gives up.
-pub(crate) fn most_turns() -> u32
+/// The turns after which a tool gives up. A function and no constant, so that its clause says the number.
+pub(crate) const fn most_turns() -> u32
     ensures { result ≡ most_turns }
 {
     65_536
@@ -35,7 +35,7 @@ pub(crate) fn most_turns() -> u32
 
 /// How long a turn of a call or a search with this timeout waits, in milliseconds.
 pub(crate) fn turn_wait(timeout: u32) -> u32
-    ensures { result ≡ min timeout longest_wait }
+    ensures { result ≡ turn_wait timeout }
 {
     timeout.min(LONGEST_WAIT)
 }

@@ -8,7 +8,7 @@ ghost use Rattle.bac_links.specs.Ending.{ending_seen, ending_text, ending_line, 
 
 use crate::fault::ToolFault;
 use bac_outcomes::print_outcome;
-use bac_pdu::read_ack;
+use bac_pdu::{READ_PROPERTY, WRITE_PROPERTY, read_ack};
 use bac_text::{Checked, Page};
 use bac_tsm::Outcome;
 use std::io::Write;
@@ -37,18 +37,19 @@ pub(crate) enum Ending<'d> {
 }
 
 impl Tool {
-    /// The service choice of the request (clause 21, BACnetConfirmedServiceChoice).
+    /// The service of the request.
     pub(crate) fn service(self) -> u8
         ensures { result ≡ service_of self }
     {
         match self {
-            Tool::Reading => 12,
-            Tool::Writing => 15,
+            Tool::Reading => READ_PROPERTY,
+            Tool::Writing => WRITE_PROPERTY,
         }
     }
 }
 
 /// Prints the line that tells how the request ended.
+#[tactic(auto, unfolding(bac_text::specs::Page::Wrote))]
 pub(crate) fn show_ending<W: Write>(
     tool: Tool,
     ending: Ending<'_>,
@@ -67,6 +68,7 @@ pub(crate) fn show_ending<W: Write>(
     Ok(exit)
 }
 
+// Prints how the request ended, and tells whether that is good.
 fn print_ending<W: Write>(page: &mut Page<'_, W>, tool: Tool, ending: Ending<'_>) -> Exit
     ensures text { Prints W.contents page.old page.new (ending_text tool (ending_seen ending.entry)) }
     ensures exit { result ≡ exit_of tool (ending_seen ending.entry) }
@@ -86,6 +88,7 @@ fn print_ending<W: Write>(page: &mut Page<'_, W>, tool: Tool, ending: Ending<'_>
     Exit::Bad
 }
 
+// Prints the value of an acknowledgement, or that there is none to read.
 fn print_value<W: Write>(page: &mut Page<'_, W>, body: &[u8]) -> Exit
     ensures text { Prints W.contents page.old page.new (value_text (ack_of body.now)) }
     ensures exit { result ≡ (if is_some (ack_of body.now) then Exit.Good else Exit.Bad) }

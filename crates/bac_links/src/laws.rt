@@ -27,6 +27,7 @@ pub fn a_server_keeps_its_points()
 
 /// No call waits for ever: where no turn takes longer than so long, by the times that the link tells, it ends within the timeout and so
 /// long, for each time that the request is sent, of its first time (clause 5.4.4).
+#[tactic(auto, using(crate::proofs::Progress::left_in_time))]
 pub fn a_call_ends_in_time()
     ensures { (tool : Tool) (call : Call) (before after : Option (List ℕ)) (t : Told) (left : Option Told) (result : Result Ended Fault) (longest : ℕ)
         → IsPrompt longest (wait_of call) t → Tells tool call before after (Some t) left result

@@ -22,6 +22,7 @@ pub enum Step<'a> {
     Broken,
 }
 
+// A step with octets of its own.
 #[derive(Drop)]
 enum Kept<A: Allocator> {
     Quiet(u64),
@@ -75,6 +76,7 @@ impl<A: Allocator + Copy> MemoryLink<A> {
         })
     }
 
+    // Notes a datagram as sent.
     fn record(&mut self, to: Peer, octets: &[u8]) -> Result<(), AllocError>
         ensures steps { self.new.steps ≡ self.old.steps }
         ensures time { self.new.time ≡ self.old.time }
@@ -94,6 +96,7 @@ impl<A: Allocator + Copy> MemoryLink<A> {
     }
 }
 
+// The step with a copy of its octets.
 fn keep<A: Allocator>(alloc: A, step: &Step<'_>) -> Result<Kept<A>, AllocError>
     ensures { IfOk result (λ kept. scene_of_kept kept ≡ scene_of_step step.now) }
 {

@@ -4,7 +4,6 @@ ghost use Rattle.std.specs.Option.{ForSome, option_map, option_to_list};
 ghost use Rattle.bac_pdu.specs.Peer.{station};
 ghost use Rattle.bac_text.specs.Checked.{inner_of, has_failed, Puts};
 ghost use Rattle.bac_text.specs.Page.{Prints};
-ghost use Rattle.bac_device.specs.Reply.{asks};
 ghost use Rattle.bac_links.specs.Told.{Told, Failure, after_wait, having_sent};
 ghost use Rattle.bac_links.specs.Fault.{is_link_fault, is_write_fault};
 ghost use Rattle.bac_links.specs.Search.{Found as Device, found_seen, found_of, found_by, found_line, who_is_datagram, who_is_sending, Searched};
@@ -16,17 +15,12 @@ use crate::ending::Exit;
 use crate::fault::ToolFault;
 use crate::link::Link;
 use bac_pdu::{
-    Apdu, IAm, Peer, WhoIs, open_datagram, read_apdu, read_iam, wrap_within, write_apdu,
-    write_whois,
+    Apdu, I_AM, IAm, Peer, WHO_IS, WhoIs, open_datagram, read_apdu, read_iam, wrap_within,
+    write_apdu, write_whois,
 };
 use bac_text::{Checked, Page, Search};
 use bac_wire::Frame;
 use std::io::Write;
-
-// The service choices of I-Am and Who-Is (clause 21, BACnetUnconfirmedServiceChoice).
-const I_AM: u8 = 0;
-
-const WHO_IS: u8 = 8;
 
 /// A device that introduced itself, and where it is.
 #[derive(Clone, Copy)]
@@ -52,16 +46,6 @@ fn who_is(to: Peer, who: WhoIs) -> Frame
     frame
 }
 
-// Whether the device with this instance is asked to answer.
-fn is_asked(who: WhoIs, instance: u32) -> bool
-    ensures { result ≡ asks who instance }
-{
-    match who {
-        WhoIs::All => true,
-        WhoIs::Range { low, high } => low <= instance && instance <= high,
-    }
-}
-
 // The device that introduces itself in a datagram, where it is one that is asked.
 #[tactic(auto, unfolding(crate::specs::Search::found_of))]
 fn read_found(who: WhoIs, from: Peer, octets: &[u8]) -> Option<Found>
@@ -76,7 +60,7 @@ fn read_found(who: WhoIs, from: Peer, octets: &[u8]) -> Option<Found>
         return None;
     };
     let device = read_iam(body)?;
-    if !is_asked(who, device.device.instance()) {
+    if !who.asks(device.device.instance()) {
         return None;
     }
     Some(Found {
@@ -86,6 +70,7 @@ fn read_found(who: WhoIs, from: Peer, octets: &[u8]) -> Option<Found>
 }
 
 // Prints the line of a device.
+#[tactic(auto, unfolding(bac_text::specs::Page::Wrote))]
 fn show_found<W: Write>(found: Found, writer: &mut Checked<W>) -> Result<(), ToolFault>
     requires { has_failed writer.old ≡ false }
     ensures text { Puts (W.contents (inner_of writer.old)) (W.contents (inner_of writer.new)) (found_line (found_seen found)) result }
@@ -98,6 +83,7 @@ fn show_found<W: Write>(found: Found, writer: &mut Checked<W>) -> Result<(), Too
     Ok(())
 }
 
+// Prints a device on a page.
 fn print_found<W: Write>(page: &mut Page<'_, W>, found: Found)
     ensures { Prints W.contents page.old page.new (found_line (found_seen found)) }
 {

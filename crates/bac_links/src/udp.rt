@@ -1,7 +1,8 @@
 //! A link over a UDP socket.
-ghost use Rattle.std.specs.Prelude.{◌≡◌, ◌+◌, None, IfOk, IfSome, MatchOption, MatchResult, OnOk, OnErr, false, max, vec_len};
+ghost use Rattle.std.specs.Prelude.{◌≡◌, ◌+◌, ◌*◌, None, IfOk, IfSome, MatchOption, MatchResult, OnOk, OnErr, Ok, false, is_err, max, vec_len};
+ghost use Rattle.std.specs.Duration.{as_nanos};
 ghost use Rattle.bac_links.specs.Limits.{longest_datagram};
-ghost use Rattle.bac_links.specs.Socket.{IsAddressOf, heard_from, is_quiet, peer_at};
+ghost use Rattle.bac_links.specs.Socket.{IsAddressOf, heard_from, is_quiet, peer_at, time_by};
 
 use crate::datagram::{DATAGRAM_OCTETS, Datagram};
 use crate::link::{Link, LinkFault};
@@ -13,7 +14,7 @@ use std::net::{Ipv4Addr, Net, SocketAddr, SocketAddrV4, UdpSocket};
 use std::time::{Clock, Duration, Instant};
 
 // One octet more than a datagram may have, so that a longer one is seen.
-const BUFFER: usize = DATAGRAM_OCTETS + 1;
+const BUFFER_OCTETS: usize = DATAGRAM_OCTETS + 1;
 
 /// What becomes of a datagram that the system refuses to send: one to port 0, say, or to where there is no way.
 #[derive(Clone, Copy, Debug, PartialEq, Eq)]
@@ -47,7 +48,9 @@ impl<R: Net + Clock + Clone + Drop> UdpLink<R> {
     ///
     /// `LinkFault` where there is no such socket to be had, no memory, or no clock.
     pub fn bind(rt: &R, alloc: Global, at: Peer) -> Result<Self, LinkFault>
-        ensures { IfOk result (λ link. ⟦<UdpLink<R> as Link>⟧.has_failed link ≡ false) }
+        ensures sound { IfOk result (λ link. ⟦<UdpLink<R> as Link>⟧.has_failed link ≡ false) }
+        ensures refused { IfOk result (λ link. link.refused ≡ Refused.Fails) }
+        ensures begun { IfOk result (λ link. (link.time ≡ 0) × (link.wait_ms ≡ 0)) }
     {
         Self::bind_with(rt, alloc, at, Refused::Fails)
     }
@@ -58,14 +61,16 @@ impl<R: Net + Clock + Clone + Drop> UdpLink<R> {
     ///
     /// `LinkFault` where there is no such socket to be had, no memory, or no clock.
     pub fn bind_with(rt: &R, alloc: Global, at: Peer, refused: Refused) -> Result<Self, LinkFault>
-        ensures { IfOk result (λ link. ⟦<UdpLink<R> as Link>⟧.has_failed link ≡ false) }
+        ensures sound { IfOk result (λ link. ⟦<UdpLink<R> as Link>⟧.has_failed link ≡ false) }
+        ensures refused { IfOk result (λ link. link.refused ≡ refused) }
+        ensures begun { IfOk result (λ link. (link.time ≡ 0) × (link.wait_ms ≡ 0)) }
     {
         let socket = UdpSocket::bind(rt, address_of(at)).map_err(|_| LinkFault)?;
         let made = Instant::now(rt).map_err(|_| LinkFault)?;
         Ok(UdpLink {
             rt: rt.clone().map_err(|_| LinkFault)?,
             socket,
-            buffer: vec![in alloc; 0; BUFFER].map_err(|_| LinkFault)?,
+            buffer: vec![in alloc; 0; BUFFER_OCTETS].map_err(|_| LinkFault)?,
             made,
             time: 0,
             wait_ms: 0,
@@ -82,8 +87,7 @@ impl<R: Clock + Drop> UdpLink<R> {
         ensures err { OnErr result (self.new ≡ self.old) }
     {
         if wait_ms != self.wait_ms {
-            let wait = Duration::from_millis(u64::from(wait_ms));
-            self.socket.set_read_timeout(Some(wait))?;
+            self.socket.set_read_timeout(Some(wait_of(wait_ms)))?;
             self.wait_ms = wait_ms;
         }
         Ok(())
@@ -92,6 +96,7 @@ impl<R: Clock + Drop> UdpLink<R> {
     // The next datagram within the wait, where there is one that a `Datagram` holds.
     fn next_datagram(&mut self, wait_ms: u32, datagram: &mut Datagram) -> io::Result<Option<Peer>>
         ensures failed { self.new.failed ≡ self.old.failed }
+        ensures left { (self.new.refused ≡ self.old.refused) × (self.new.made ≡ self.old.made) × (self.new.time ≡ self.old.time) }
         ensures limited { OnOk result (self.new.wait_ms ≡ max wait_ms 1) }
         ensures plain { IfOk result (λ heard. IfSome heard (λ from. from.route ≡ None)) }
         ensures kept { MatchResult result (λ heard. heard ≡ None → datagram.new ≡ datagram.old) (λ fault. datagram.new ≡ datagram.old) }
@@ -102,6 +107,23 @@ impl<R: Clock + Drop> UdpLink<R> {
             Err(e) if is_quiet(self.refused, e.kind()) => Ok(None),
             Err(e) => Err(e),
         }
+    }
+}
+
+// So many milliseconds.
+fn wait_of(wait_ms: u32) -> Duration
+    ensures { as_nanos result ≡ wait_ms * 1_000_000 }
+{
+    Duration::from_millis(u64::from(wait_ms))
+}
+
+// The time of the link, by what its clock says has passed.
+fn time_by(passed: io::Result<Duration>, before: u64) -> u64
+    ensures { result ≡ time_by passed before }
+{
+    match passed {
+        Ok(passed) => u64::try_from(passed.as_millis()).unwrap_or(u64::MAX),
+        Err(_) => before,
     }
 }
 
@@ -133,12 +155,14 @@ fn is_quiet(refused: Refused, kind: ErrorKind) -> bool
     }
 }
 
+// Where a peer is on the network: a route has no part in it.
 fn address_of(peer: Peer) -> SocketAddr
     ensures { IsAddressOf peer result }
 {
     SocketAddr::V4(SocketAddrV4::new(Ipv4Addr::from_bits(peer.ip), peer.port))
 }
 
+// The peer at an IPv4 address.
 fn peer_of(address: SocketAddr) -> Option<Peer>
     ensures { result ≡ peer_at address }
 {
@@ -157,7 +181,12 @@ impl<R: Clock + Drop> Link for UdpLink<R> {
 
     ghost has_failed = { λ link. link.failed };
 
-    fn send(&mut self, to: Peer, octets: &[u8]) -> Result<(), LinkFault> {
+    fn send(&mut self, to: Peer, octets: &[u8]) -> Result<(), LinkFault>
+        requires { self.old.failed ≡ false }
+        ensures fault { self.new.failed ≡ is_err result }
+        ensures lost { self.old.refused ≡ Refused.IsLost → result ≡ Ok tt }
+        ensures left { self.new ≡ record self.old { failed = is_err result } }
+    {
         match self.socket.send_to(octets, address_of(to)) {
             Ok(sent) if sent == octets.len() => Ok(()),
             _ if self.refused == Refused::IsLost => Ok(()),
@@ -168,11 +197,14 @@ impl<R: Clock + Drop> Link for UdpLink<R> {
         }
     }
 
-    fn receive(
-        &mut self,
-        wait_ms: u32,
-        datagram: &mut Datagram,
-    ) -> Result<Option<Peer>, LinkFault> {
+    fn receive(&mut self, wait_ms: u32, datagram: &mut Datagram) -> Result<Option<Peer>, LinkFault>
+        requires { self.old.failed ≡ false }
+        ensures fault { self.new.failed ≡ is_err result }
+        ensures plain { IfOk result (λ heard. IfSome heard (λ from. from.route ≡ None)) }
+        ensures kept { MatchResult result (λ heard. heard ≡ None → datagram.new ≡ datagram.old) (λ fault. datagram.new ≡ datagram.old) }
+        ensures limited { OnOk result (self.new.wait_ms ≡ max wait_ms 1) }
+        ensures left { (self.new.refused ≡ self.old.refused) × (self.new.made ≡ self.old.made) × (self.new.time ≡ self.old.time) }
+    {
         match self.next_datagram(wait_ms, datagram) {
             Ok(from) => Ok(from),
             Err(_) => {
@@ -182,10 +214,10 @@ impl<R: Clock + Drop> Link for UdpLink<R> {
         }
     }
 
-    fn now(&mut self) -> u64 {
-        if let Ok(passed) = self.made.elapsed(&self.rt) {
-            self.time = u64::try_from(passed.as_millis()).unwrap_or(u64::MAX);
-        }
+    fn now(&mut self) -> u64
+        ensures { self.new ≡ record self.old { time = result } }
+    {
+        self.time = time_by(self.made.elapsed(&self.rt), self.time);
         self.time
     }
 

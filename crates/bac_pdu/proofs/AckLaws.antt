@@ -2,7 +2,7 @@
 use Rattle.std.proofs.Common.{◌≡◌, ◌+◌, ◌++◌, length, sym, ap, ◌∙◌, append_assoc, length-append, arith}
 use Rattle.bac_wire.specs.Tag.{plain_tag}
 use Rattle.bac_wire.specs.Region.{opening_tag}
-use Rattle.bac_pdu.proofs.Written.{ack_written}
+use Rattle.bac_pdu.proofs.ShortestLaws.{ack_written}
 use Rattle.bac_pdu.specs.Property.{Answer, read_octets, ack_octets, ack_front, ack_end}
 
 -- an answer is what stands before its value, the value, and what stands behind it

@@ -64,7 +64,8 @@ unconfirmed_takes first [] m kind e = absurd (none-some m e)
 unconfirmed_takes first (service ∷ body) m kind e = rw (← same_Some (unconfirmed service body) m e) (first, kind, refl)
 
 -- an invoke id and one octet more
-numbered_laid : (first : ℕ) (made : ℕ → ℕ → List ℕ → Message) (octets : List ℕ) (m : Message) → numbered_of made octets ≡ Some m → ((id octet : ℕ) (rest : List ℕ) → IsLaidOut (first ∷ id ∷ octet ∷ rest) (made id octet rest)) → IsLaidOut (first ∷ octets) m
+numbered_laid : (first : ℕ) (made : ℕ → ℕ → List ℕ → Message) (octets : List ℕ) (m : Message) → numbered_of made octets ≡ Some m
+    → ((id octet : ℕ) (rest : List ℕ) → IsLaidOut (first ∷ id ∷ octet ∷ rest) (made id octet rest)) → IsLaidOut (first ∷ octets) m
 numbered_laid first made (id ∷ octet ∷ rest) m e laid = subst (IsLaidOut (first ∷ id ∷ octet ∷ rest)) (same_Some (made id octet rest) m e) (laid id octet rest)
 numbered_laid first made _ m e laid = absurd (none-some m e)
 

@@ -72,7 +72,8 @@ hops_again true front rest s = rw s.1 refl
 behind_all : (a b c rest : List ℕ) → (a ++ (b ++ c)) ++ rest ≡ a ++ (b ++ (c ++ rest))
 behind_all a b c rest = simp append_assoc
 
-control_takes : (control : ℕ) (octets : List ℕ) (header : NetworkHeader) (rest : List ℕ) → bit 7 control ≡ false → behind_control control octets ≡ found_at header rest → Took SpellsHeader (1 ∷ control ∷ octets) header rest
+control_takes : (control : ℕ) (octets : List ℕ) (header : NetworkHeader) (rest : List ℕ) → bit 7 control ≡ false
+    → behind_control control octets ≡ found_at header rest → Took SpellsHeader (1 ∷ control ∷ octets) header rest
 control_takes control octets header rest carries e =
     let a = bind_some _ _ _ e in
     let b = bind_some _ _ _ a.2 in
@@ -116,7 +117,9 @@ pub record IsWrittenHeader (to : Option NetworkAddress) (expect : Bool) : Type 0
   pub expected : bit 2 spelled.control ≡ expect
 
 -- a header with no source
-abbrev without_source : (to : Option NetworkAddress) (control : ℕ) (destination hops : List ℕ) → bit 7 control ≡ false → bit 3 control ≡ false → SpellsAnnounced (bit 5 control) destination to → SpellsHops (bit 5 control) hops → SpellsHeader (1 ∷ control ∷ (destination ++ hops)) (record { destination = to; source = None })
+abbrev without_source : (to : Option NetworkAddress) (control : ℕ) (destination hops : List ℕ) → bit 7 control ≡ false
+    → bit 3 control ≡ false → SpellsAnnounced (bit 5 control) destination to → SpellsHops (bit 5 control) hops
+    → SpellsHeader (1 ∷ control ∷ (destination ++ hops)) (record { destination = to; source = None })
 without_source to control destination hops seven three destined hopped = record { control = control; destination = destination; source = []; hops = hops; whole = refl; carries = seven; destined = destined; sent = rw three refl; hopped = hopped }
 
 -- what is written is a header with this destination and no source
@@ -168,7 +171,8 @@ origin_takes function from octets x rest e =
       ]
     ]
 
-origin_again : (from : Station) (function : ℕ) (front : List ℕ) (sender : Station) (to_all : Bool) (rest : List ℕ) → SpellsOrigin from function front sender to_all → origin_at function from (front ++ rest) ≡ found_at (sender, to_all) rest
+origin_again : (from : Station) (function : ℕ) (front : List ℕ) (sender : Station) (to_all : Bool) (rest : List ℕ)
+    → SpellsOrigin from function front sender to_all → origin_at function from (front ++ rest) ≡ found_at (sender, to_all) rest
 origin_again from function front sender to_all rest unicast = refl
 origin_again from function front sender to_all rest broadcast = refl
 origin_again from function front sender to_all rest (forwarded a b c d e f) = refl
@@ -182,7 +186,8 @@ delivered_as sender to_all header apdu = record { peer = record { ip = sender.ip
 abbrev heeded_as : Station → Bool → NetworkHeader → List ℕ → Option Delivery
 heeded_as sender to_all header apdu = cond (is_for_all header.destination) (cond (is_answerable header.source) (Some (delivered_as sender to_all header apdu)) None) None
 
-heeded_takes : (sender : Station) (to_all : Bool) (header : NetworkHeader) (apdu : List ℕ) (d : Delivery) → heeded_as sender to_all header apdu ≡ Some d → IsHeeded header × (delivered_as sender to_all header apdu ≡ d)
+heeded_takes : (sender : Station) (to_all : Bool) (header : NetworkHeader) (apdu : List ℕ) (d : Delivery)
+    → heeded_as sender to_all header apdu ≡ Some d → IsHeeded header × (delivered_as sender to_all header apdu ≡ d)
 heeded_takes sender to_all header apdu d e =
     let all = only_if (is_for_all header.destination) e in
     let source = cond_some (is_answerable header.source) (delivered_as sender to_all header apdu) d all.1 in
@@ -221,7 +226,9 @@ carried_takes from (kind ∷ function ∷ high ∷ low ∷ octets) d e =
     })
 carried_takes from _ d e = absurd (none-some d e)
 
-carried_again_at : (from : Station) (function high low : ℕ) (origin header apdu : List ℕ) (sender : Station) (to_all : Bool) (network : NetworkHeader) → big_number 2 (high ∷ low ∷ []) ≡ 4 + length (origin ++ (header ++ apdu)) → SpellsOrigin from function origin sender to_all → SpellsHeader header network → IsHeeded network
+carried_again_at : (from : Station) (function high low : ℕ) (origin header apdu : List ℕ) (sender : Station) (to_all : Bool) (network : NetworkHeader)
+    → big_number 2 (high ∷ low ∷ []) ≡ 4 + length (origin ++ (header ++ apdu)) → SpellsOrigin from function origin sender to_all
+    → SpellsHeader header network → IsHeeded network
     → carried from (129 ∷ function ∷ high ∷ low ∷ (origin ++ (header ++ apdu))) ≡ Some (delivered_as sender to_all network apdu)
 unfolding carried link_at
 carried_again_at from function high low origin header apdu sender to_all network counted sent headed heeded =
@@ -282,7 +289,8 @@ pub count_wrapped : (to : Option NetworkAddress) (expect : Bool) (apdu : List �
 count_wrapped to expect apdu = length_wrapped to expect apdu ∙ ap (λ (n : ℕ). n + length apdu) (length_front to expect (length apdu))
 
 -- the six octets before an APDU for a station of this network
-pub local_front : (expect : Bool) (size : ℕ) (header : List ℕ) → size ≤ 1497 → header ≡ plain_header None expect → 129 ∷ 10 ∷ (6 + size) / 256 ∷ (6 + size) % 256 ∷ slice_index_or header 0 0 ∷ slice_index_or header 1 0 ∷ [] ≡ front_octets None expect size
+pub local_front : (expect : Bool) (size : ℕ) (header : List ℕ) → size ≤ 1497 → header ≡ plain_header None expect
+    → 129 ∷ 10 ∷ (6 + size) / 256 ∷ (6 + size) % 256 ∷ slice_index_or header 0 0 ∷ slice_index_or header 1 0 ∷ [] ≡ front_octets None expect size
 unfolding front_octets
 local_front expect size header few is =
     let high : (6 + size) / 256 ≡ (4 + (2 + size)) / 256 % 256 = omega arith in
@@ -295,7 +303,9 @@ single Spells read again octets x y s t =
     let same : ◌≡◌ {A = Option _} (Some x) (Some y) = sym (again octets x s) ∙ again octets y t in cc
 
 -- an APDU behind its front takes it to the station
-pub put_front_takes : {T E : Type 0} (result : Result T E) (to : Option NetworkAddress) (expect : Bool) (apdu : List ℕ) (size : ℕ) (front frame : List ℕ) → IfSome to IsRoutable → size ≡ length apdu → front ≡ front_octets to expect size → OnOk result (frame ≡ front ++ apdu) → OnOk result (length front + length apdu ≤ 1497) → OnOk result (Takes to expect apdu frame)
+pub put_front_takes : {T E : Type 0} (result : Result T E) (to : Option NetworkAddress) (expect : Bool) (apdu : List ℕ) (size : ℕ) (front frame : List ℕ)
+    → IfSome to IsRoutable → size ≡ length apdu → front ≡ front_octets to expect size → OnOk result (frame ≡ front ++ apdu)
+    → OnOk result (length front + length apdu ≤ 1497) → OnOk result (Takes to expect apdu frame)
 put_front_takes (Ok x) to expect apdu size front frame routable all is e fits =
     let same : frame ≡ wrapped to expect apdu = e ∙ ap (λ (f : List ℕ). f ++ apdu) (is ∙ ap (front_octets to expect) all) ∙ front_before to expect apdu in
     let short : length (wrapped to expect apdu) < 65536 = omega (arith, count_wrapped to expect apdu, length_front to expect size, ap length is, fits) in
@@ -303,7 +313,8 @@ put_front_takes (Ok x) to expect apdu size front frame routable all is e fits =
 put_front_takes (Err x) to expect apdu size front frame routable all is e fits = tt
 
 -- what takes an APDU to a station of this network is carried to it
-pub taken_carries : (from : Station) (expect : Bool) (apdu datagram : List ℕ) → Takes None expect apdu datagram → carried from datagram ≡ Some (record { peer = record { ip = from.ip; port = from.port; route = None }; broadcast = false; apdu = apdu })
+pub taken_carries : (from : Station) (expect : Bool) (apdu datagram : List ℕ) → Takes None expect apdu datagram
+    → carried from datagram ≡ Some (record { peer = record { ip = from.ip; port = from.port; route = None }; broadcast = false; apdu = apdu })
 taken_carries from expect apdu datagram t =
     let counted : big_number 2 (t.high ∷ t.low ∷ []) ≡ 4 + length (t.header ++ apdu) = t.counted ∙ ap length t.whole ∙ omega arith in
     ap (carried from) t.whole ∙ carried_again_at from 10 t.high t.low [] t.header apdu from false (record { destination = None; source = None }) counted unicast t.headed (record { destined = tt; answerable = tt })

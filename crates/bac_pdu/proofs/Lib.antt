@@ -7,7 +7,6 @@ pub mod RejectLaws
 pub mod ReadLaws
 pub mod WriteLaws
 pub mod DiscoveryLaws
-pub mod Written
 pub mod ShortestLaws
 pub mod LengthLaws
 pub mod AckLaws

@@ -31,14 +31,19 @@ priority_step = reader_step priority (number_reader 4) (λ front x s. s) (λ fro
 
 -- ---- a number that may be there
 
-optional_begins_at : (number : ℕ) (made : ℕ → Parameter) → IsStep SpellsParameter made (number_at number) → (octets : List ℕ) (read : Option (ℕ × List ℕ)) → number_at number octets ≡ read → SpellsTo SpellsParameter octets (optional made (or_none octets read).0) (or_none octets read).1
+optional_begins_at : (number : ℕ) (made : ℕ → Parameter) → IsStep SpellsParameter made (number_at number)
+    → (octets : List ℕ) (read : Option (ℕ × List ℕ)) → number_at number octets ≡ read
+    → SpellsTo SpellsParameter octets (optional made (or_none octets read).0) (or_none octets read).1
 optional_begins_at number made step octets None e = refl
 optional_begins_at number made step octets (Some x) e = (x.1, step.takes octets x.0 x.1 e, refl)
 
 -- what was read of a number that may be there is spelled
-pub optional_begins : (number : ℕ) (made : ℕ → Parameter) → IsStep SpellsParameter made (number_at number) → (octets : List ℕ) → SpellsTo SpellsParameter octets (optional made (optional_at number octets).0) (optional_at number octets).1
+pub optional_begins : (number : ℕ) (made : ℕ → Parameter) → IsStep SpellsParameter made (number_at number) → (octets : List ℕ)
+    → SpellsTo SpellsParameter octets (optional made (optional_at number octets).0) (optional_at number octets).1
 optional_begins number made step octets = optional_begins_at number made step octets (number_at number octets) refl
 
-pub optional_read : (number : ℕ) (made : ℕ → Parameter) → IsStep SpellsParameter made (number_at number) → (octets : List ℕ) (i : Option ℕ) (rest : List ℕ) → SpellsTo SpellsParameter octets (optional made i) rest → (i ≡ None → number_at number rest ≡ None) → optional_at number octets ≡ (i, rest)
+pub optional_read : (number : ℕ) (made : ℕ → Parameter) → IsStep SpellsParameter made (number_at number)
+    → (octets : List ℕ) (i : Option ℕ) (rest : List ℕ) → SpellsTo SpellsParameter octets (optional made i) rest
+    → (i ≡ None → number_at number rest ≡ None) → optional_at number octets ≡ (i, rest)
 optional_read number made step octets None rest s none = rw (ap (number_at number) s ∙ none refl) (ap (λ (w : List ℕ). (None, w)) s)
 optional_read number made step octets (Some n) rest s none = rw (step.again octets n s.0 s.1) (ap (λ (w : List ℕ). (Some n, w)) s.2)

@@ -20,7 +20,8 @@ same_octets a b h k e =
     let behind : drop a.count a.octets ≡ drop b.count b.octets = h.unused ∙ ap (λ (n : ℕ). replicate (8 - n) 0) count ∙ sym k.unused in
     (count, sym (take-append-drop a.count a.octets) ∙ ap (λ (l : List ℕ). l ++ drop a.count a.octets) address ∙ ap (λ (l : List ℕ). take b.count b.octets ++ l) behind ∙ take-append-drop b.count b.octets)
 
-route_decides : (a b : Route) → IsKept a → IsKept b → (route_eq.it a b ≡ true → network_address a ≡ network_address b) × (network_address a ≡ network_address b → route_eq.it a b ≡ true)
+-- equal routes lead to the same station
+pub route_decides : (a b : Route) → IsKept a → IsKept b → (route_eq.it a b ≡ true → network_address a ≡ network_address b) × (network_address a ≡ network_address b → route_eq.it a b ≡ true)
 route_decides a b h k = (
   (λ e.
       let first = and_parts _ _ e in
@@ -32,7 +33,8 @@ route_decides a b h k = (
       rw (eq-eqb a.network b.network (ap (λ (n : NetworkAddress). n.network) e), eq-eqb a.count b.count same.0) ((bytes_decides a.octets b.octets).1 same.1)),
 )
 
-routes_decide : (a b : Option Route) → IfSome a IsKept → IfSome b IsKept → (option_eq route_eq.it a b ≡ true → option_map network_address a ≡ option_map network_address b) × (option_map network_address a ≡ option_map network_address b → option_eq route_eq.it a b ≡ true)
+routes_decide : (a b : Option Route) → IfSome a IsKept → IfSome b IsKept
+    → (option_eq route_eq.it a b ≡ true → option_map network_address a ≡ option_map network_address b) × (option_map network_address a ≡ option_map network_address b → option_eq route_eq.it a b ≡ true)
 routes_decide None None h k = ((λ e. refl), (λ e. refl))
 routes_decide None (Some b) h k = ((λ e. absurd (false≢true e)), (λ e. absurd (none-some (network_address b) e)))
 routes_decide (Some a) None h k = ((λ e. absurd (false≢true e)), (λ e. absurd (none-some (network_address a) (sym e))))

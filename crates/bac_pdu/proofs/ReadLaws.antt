@@ -29,7 +29,8 @@ reference_takes body x e =
     subst (λ (y : Reference × List ℕ). SpellsTo SpellsParameter body (reference_parameters y.0) y.1) same
     (a.0.1, object_step.takes body a.0.0 a.0.1 (needs_takes body (object_at 0 body) a.0 a.1), (b.0.1, property_step.takes a.0.1 b.0.0 b.0.1 (needs_takes a.0.1 (number_at 1 a.0.1) b.0 b.1), optional_begins 2 index index_step b.0.1))
 
-pub reference_again : (body : List ℕ) (r : Reference) (rest : List ℕ) → SpellsTo SpellsParameter body (reference_parameters r) rest → (r.index ≡ None → number_at 2 rest ≡ None) → reference_at body ≡ Ok (r, rest)
+pub reference_again : (body : List ℕ) (r : Reference) (rest : List ℕ) → SpellsTo SpellsParameter body (reference_parameters r) rest
+    → (r.index ≡ None → number_at 2 rest ≡ None) → reference_at body ≡ Ok (r, rest)
 unfolding reference_at
 reference_again body r rest s none = rw (step_ok object_step (no_object 0) _ _ _ s.1, step_ok property_step (no_number 1) _ _ _ s.2.1, optional_read _ _ index_step s.2.0 r.index rest s.2.2 none) refl
 
@@ -96,7 +97,9 @@ read_is = outcome_is read_judge
 
 -- ---- a reference and a value
 
-pub value_takes : (body x v rest last : List ℕ) (r : Reference) (others : List Parameter) → reference_at body ≡ Ok (r, x) → enclosed_at 3 x ≡ Some (v, rest) → SpellsTo SpellsParameter rest others last → SpellsTo SpellsParameter body (reference_parameters r ++ value v ∷ others) last
+pub value_takes : (body x v rest last : List ℕ) (r : Reference) (others : List Parameter) → reference_at body ≡ Ok (r, x)
+    → enclosed_at 3 x ≡ Some (v, rest) → SpellsTo SpellsParameter rest others last
+    → SpellsTo SpellsParameter body (reference_parameters r ++ value v ∷ others) last
 value_takes body x v rest last r others e f s = then_to SpellsParameter body x last (reference_parameters r) (value v ∷ others) (reference_takes body (r, x) e) (rest, value_step.takes x v rest f, s)
 
 pub value_again : (body v last : List ℕ) (r : Reference) (others : List Parameter) → SpellsTo SpellsParameter body (reference_parameters r ++ value v ∷ others) last

@@ -15,7 +15,8 @@ pub and_then_ok : {A B : Type 0} (r : Result A RejectReason) (f : A → Result B
 and_then_ok (Ok x) f y e = (x, refl, e)
 and_then_ok (Err reason) f y e = absurd cc
 
-pub and_then_err : {A B : Type 0} (r : Result A RejectReason) (f : A → Result B RejectReason) (reason : RejectReason) → and_then r f ≡ Err reason → (r ≡ Err reason) ⊎ ((x : A) × (r ≡ Ok x) × (f x ≡ Err reason))
+pub and_then_err : {A B : Type 0} (r : Result A RejectReason) (f : A → Result B RejectReason) (reason : RejectReason)
+    → and_then r f ≡ Err reason → (r ≡ Err reason) ⊎ ((x : A) × (r ≡ Ok x) × (f x ≡ Err reason))
 and_then_err (Ok x) f reason e = inr (x, refl, e)
 and_then_err (Err other) f reason e = let same : other ≡ reason = cc in inl (ap Err same)
 
@@ -24,7 +25,8 @@ needs_ok [] found x none e = absurd (none-some x (sym (none refl) ∙ e))
 needs_ok (o ∷ os) found x none e = rw e refl
 
 -- what a step reads, where octets are left
-pub step_ok : {A P : Type 0} {Spells : List ℕ → P → Type 0} {made : A → P} {at : List ℕ → Option (A × List ℕ)} → IsStep Spells made at → at [] ≡ None → (octets : List ℕ) (x : A) (rest : List ℕ) → Begins Spells octets (made x) rest
+pub step_ok : {A P : Type 0} {Spells : List ℕ → P → Type 0} {made : A → P} {at : List ℕ → Option (A × List ℕ)} → IsStep Spells made at
+    → at [] ≡ None → (octets : List ℕ) (x : A) (rest : List ℕ) → Begins Spells octets (made x) rest
     → unless_missing octets (at octets) ≡ Ok (x, rest)
 step_ok {at = at} step none octets x rest b = needs_ok octets (at octets) (x, rest) (λ e. ap at e ∙ none) (step.again octets x rest b)
 
@@ -33,7 +35,8 @@ needs_takes [] found x e = absurd cc
 needs_takes (o ∷ os) None x e = absurd cc
 needs_takes (o ∷ os) (Some y) x e = let same : y ≡ x = cc in ap Some same
 
-pub needs_fails : {A : Type 0} (octets : List ℕ) (found : Option A) (reason : RejectReason) → unless_missing octets found ≡ Err reason → ((reason ≡ MissingParameter) × (octets ≡ [])) ⊎ ((reason ≡ InvalidTag) × (found ≡ None) × (octets ≡ [] → ⊥))
+pub needs_fails : {A : Type 0} (octets : List ℕ) (found : Option A) (reason : RejectReason) → unless_missing octets found ≡ Err reason
+    → ((reason ≡ MissingParameter) × (octets ≡ [])) ⊎ ((reason ≡ InvalidTag) × (found ≡ None) × (octets ≡ [] → ⊥))
 needs_fails [] found reason e = inl (cc, refl)
 needs_fails (o ∷ os) None reason e = inr (cc, refl, λ h. absurd cc)
 needs_fails (o ∷ os) (Some y) reason e = absurd cc
@@ -70,7 +73,8 @@ pub record IsJudge {A : Type 0} (IsWhole : List ℕ → A → Type 0) (HasFault 
 one_reason : {A : Type 0} (r : Result A RejectReason) (a b : RejectReason) → r ≡ Err a → r ≡ Err b → a ≡ b
 one_reason r a b e f = let two : Err a ≡ Err b = sym e ∙ f in cc
 
-rejected : {A : Type 0} {IsWhole : List ℕ → A → Type 0} {HasFault : List ℕ → RejectReason → Type 0} {of : List ℕ → Result A RejectReason} → IsJudge IsWhole HasFault of → (body : List ℕ) (reason : RejectReason) → of body ≡ Err reason → IsRejectReason HasFault body reason
+rejected : {A : Type 0} {IsWhole : List ℕ → A → Type 0} {HasFault : List ℕ → RejectReason → Type 0} {of : List ℕ → Result A RejectReason}
+    → IsJudge IsWhole HasFault of → (body : List ℕ) (reason : RejectReason) → of body ≡ Err reason → IsRejectReason HasFault body reason
 rejected judge body OutOfRange e = inl (judge.fault body OutOfRange e, refl)
 rejected {of = of} judge body TooMany e = inr (λ h. let two = one_reason (of body) OutOfRange TooMany (judge.range body h) e in cc, inl (judge.fault body TooMany e, refl))
 rejected {of = of} judge body MissingParameter e =
@@ -95,15 +99,19 @@ rejected {of = of} judge body InvalidTag e =
 rejected judge body UnknownService e = absurd (judge.unknown body (judge.fault body UnknownService e))
 
 -- what is read is the outcome
-outcome_found : {A : Type 0} {IsWhole : List ℕ → A → Type 0} {HasFault : List ℕ → RejectReason → Type 0} {of : List ℕ → Result A RejectReason} → IsJudge IsWhole HasFault of → (body : List ℕ) (o : Result A RejectReason) → of body ≡ o → IsOutcome IsWhole HasFault body o
+outcome_found : {A : Type 0} {IsWhole : List ℕ → A → Type 0} {HasFault : List ℕ → RejectReason → Type 0} {of : List ℕ → Result A RejectReason}
+    → IsJudge IsWhole HasFault of → (body : List ℕ) (o : Result A RejectReason) → of body ≡ o → IsOutcome IsWhole HasFault body o
 outcome_found judge body (Ok x) e = record { whole = judge.takes body x e; all = λ y s. sym e ∙ judge.again body y s; rejected = tt }
 outcome_found judge body (Err reason) e = record { whole = tt; all = λ y s. sym e ∙ judge.again body y s; rejected = rejected judge body reason e }
 
-outcome_read : {A : Type 0} {IsWhole : List ℕ → A → Type 0} {HasFault : List ℕ → RejectReason → Type 0} {of : List ℕ → Result A RejectReason} → IsJudge IsWhole HasFault of → (body : List ℕ) (read o : Result A RejectReason) → of body ≡ read → IsOutcome IsWhole HasFault body o → read ≡ o
+outcome_read : {A : Type 0} {IsWhole : List ℕ → A → Type 0} {HasFault : List ℕ → RejectReason → Type 0} {of : List ℕ → Result A RejectReason}
+    → IsJudge IsWhole HasFault of → (body : List ℕ) (read o : Result A RejectReason) → of body ≡ read → IsOutcome IsWhole HasFault body o
+    → read ≡ o
 outcome_read judge body read (Ok x) e is = sym e ∙ judge.again body x is.whole
 outcome_read judge body (Ok y) (Err reason) e is = let two = is.all y (judge.takes body y e) in absurd cc
 outcome_read {HasFault = HasFault} judge body (Err other) (Err reason) e is = ap Err (one_first (HasFault body) (OutOfRange ∷ TooMany ∷ MissingParameter ∷ InvalidTag ∷ []) other reason (rejected judge body other e) is.rejected)
 
 -- a body has one outcome
-pub outcome_is : {A : Type 0} {IsWhole : List ℕ → A → Type 0} {HasFault : List ℕ → RejectReason → Type 0} {of : List ℕ → Result A RejectReason} → IsJudge IsWhole HasFault of → (body : List ℕ) (o : Result A RejectReason) → (of body ≡ o) ↔ IsOutcome IsWhole HasFault body o
+pub outcome_is : {A : Type 0} {IsWhole : List ℕ → A → Type 0} {HasFault : List ℕ → RejectReason → Type 0} {of : List ℕ → Result A RejectReason}
+    → IsJudge IsWhole HasFault of → (body : List ℕ) (o : Result A RejectReason) → (of body ≡ o) ↔ IsOutcome IsWhole HasFault body o
 outcome_is {of = of} judge body o = (λ e. outcome_found judge body o e, outcome_read judge body (of body) o refl)

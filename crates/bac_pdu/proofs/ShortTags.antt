@@ -14,7 +14,8 @@ short_context number contents low short =
     rw (lt-ltb number 15 low, lt-ltb (length contents) 5 short) (ap (λ (first : ℕ). first ∷ contents) same)
 
 -- four octets
-pub four_context : (number : ℕ) (contents : List ℕ) → number < 15 → length contents ≡ 4 → (16 * number + 12) ∷ slice_index_or contents 0 0 ∷ slice_index_or contents 1 0 ∷ slice_index_or contents 2 0 ∷ slice_index_or contents 3 0 ∷ [] ≡ context_octets number contents
+pub four_context : (number : ℕ) (contents : List ℕ) → number < 15 → length contents ≡ 4
+    → (16 * number + 12) ∷ slice_index_or contents 0 0 ∷ slice_index_or contents 1 0 ∷ slice_index_or contents 2 0 ∷ slice_index_or contents 3 0 ∷ [] ≡ context_octets number contents
 four_context number (a ∷ b ∷ c ∷ d ∷ []) low four = sym (short_context number (a ∷ b ∷ c ∷ d ∷ []) low (omega arith))
 four_context number _ low four = absurd (omega (arith, four))
 

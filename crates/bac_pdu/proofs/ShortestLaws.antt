@@ -1,12 +1,12 @@
 -- What is written of a body spells it, no other spelling has fewer octets, and it is read back.
-use Rattle.std.proofs.Common.{◌≡◌, ℕ, ◌+◌, ◌^◌, ◌<◌, ◌≤◌, List, [], ◌∷◌, ◌++◌, length, Option, Some, None, Ok, refl, ap, subst, arith}
+use Rattle.std.proofs.Common.{◌≡◌, ℕ, ◌+◌, ◌^◌, ◌<◌, ◌≤◌, List, [], ◌∷◌, ◌++◌, length, Option, Some, None, Ok, refl, sym, ap, subst, ◌∙◌, append_assoc, arith}
 use Rattle.std.specs.Prelude.{IfSome}
 use Rattle.std.specs.List.{AllByRecursion}
 use Rattle.std.proofs.lemmas.Bool.{lt-ltb}
 use Rattle.std.proofs.lemmas.List.{append-nil, length-append}
 use Rattle.byteorder.specs.Endian.{big_bytes}
 use Rattle.byteorder.specs.Numbers.{big_from-lt, length-bytes_high_first}
-use Rattle.bac_wire.specs.Identifier.{Identifier, number_of}
+use Rattle.bac_wire.specs.Identifier.{Identifier, IsIdentifier, number_of}
 use Rattle.bac_wire.specs.Front.{AreOctets, IsShortest, SpellsTo, SpellsAll}
 use Rattle.bac_wire.specs.Tag.{plain_number, plain_tag}
 use Rattle.bac_wire.specs.Region.{IsRegion, opening_tag, closing_tag}
@@ -19,17 +19,46 @@ use Rattle.bac_wire.proofs.ShortestDatum.{octet_count_least, ahead}
 use Rattle.bac_wire.proofs.ParameterLaws.{number_spells, object_spells, enclosed_spells}
 use Rattle.bac_pdu.specs.declared.discovery.WhoIs.{WhoIs}
 use Rattle.bac_pdu.specs.declared.discovery.WhoIs.TheVariants as limits
-use Rattle.bac_pdu.specs.Parameter.{Parameter, object, property, index, value, priority, IsParameter, SpellsParameter, optional, plain_parameter, plain_all}
+use Rattle.bac_pdu.specs.Parameter.{Parameter, object, property, index, value, priority, IsParameter, SpellsParameter, optional, optional_octets, plain_parameter, plain_all}
 use Rattle.bac_pdu.specs.Property.{Reference, Answer, Order, reference_parameters, answer_parameters, order_parameters, IsPriority, IsReadBody, IsAckBody, IsWriteBody, read_octets, ack_octets, write_octets}
 use Rattle.bac_pdu.specs.PropertyReading.{read_of, write_of, ack_of}
 use Rattle.bac_pdu.specs.Discovery.{SpellsNumbered, HasLimits, Introduction, introduction_values, IsWhoIsBody, IsIAmBody, who_is_octets, i_am_octets}
 use Rattle.bac_pdu.specs.Failure.{IsErrorBody, error_octets}
 use Rattle.bac_pdu.specs.ValueReading.{who_is_of, introduction_of, error_of}
 use Rattle.bac_pdu.proofs.SequenceLaws.{all_spell, whole_spell}
-use Rattle.bac_pdu.proofs.Written.{optional_is}
 use Rattle.bac_pdu.proofs.ReadLaws.{read_again, ack_is}
 use Rattle.bac_pdu.proofs.WriteLaws.{write_again}
 use Rattle.bac_pdu.proofs.DiscoveryLaws.{who_is_is, introduction_is, error_is}
+
+-- ---- the parameters of a body, in their order
+
+plain_append : (ps qs : List Parameter) → plain_all plain_parameter (ps ++ qs) ≡ plain_all plain_parameter ps ++ plain_all plain_parameter qs
+plain_append [] qs = refl
+plain_append (p ∷ ps) qs = ap (λ (rest : List ℕ). plain_parameter p ++ rest) (plain_append ps qs) ∙ sym (append_assoc (plain_parameter p) (plain_all plain_parameter ps) (plain_all plain_parameter qs))
+
+optional_plain : (made : ℕ → Parameter) (number : ℕ) → ((n : ℕ) → plain_parameter (made n) ≡ number_octets number n) → (i : Option ℕ)
+    → plain_all plain_parameter (optional made i) ≡ optional_octets number i
+optional_plain made number is None = refl
+optional_plain made number is (Some n) = append-nil (plain_parameter (made n)) ∙ is n
+
+pub read_written : (r : Reference) → object_octets 0 r.object ++ (number_octets 1 r.property ++ optional_octets 2 r.index) ≡ read_octets r
+unfolding plain_parameter
+read_written r = rw (optional_plain index 2 (λ n. refl) r.index) refl
+
+pub ack_written : (a : Answer) → read_octets a.reference ++ enclosed_octets 3 a.value ≡ ack_octets a
+unfolding plain_parameter
+ack_written a = sym (plain_append (reference_parameters a.reference) (value a.value ∷ []) ∙ ap (λ (rest : List ℕ). read_octets a.reference ++ rest) (append-nil (enclosed_octets 3 a.value)))
+
+pub write_written : (o : Order) → read_octets o.reference ++ (enclosed_octets 3 o.value ++ optional_octets 4 o.priority) ≡ write_octets o
+unfolding plain_parameter
+write_written o = sym (plain_append (reference_parameters o.reference) (value o.value ∷ optional priority o.priority) ∙ ap (λ (rest : List ℕ). read_octets o.reference ++ (enclosed_octets 3 o.value ++ rest)) (optional_plain priority 4 (λ n. refl) o.priority))
+
+pub optional_is : (number : ℕ → Parameter) (i : Option ℕ) → ((n : ℕ) → n < 2 ^ 32 → IsParameter (number n)) → IfSome i (λ n. n < 2 ^ 32) → AllByRecursion IsParameter (optional number i)
+optional_is number None is h = tt
+optional_is number (Some n) is h = (is n h, tt)
+
+pub reference_known : (r : Reference) → IsIdentifier r.object → r.property < 2 ^ 32 → IfSome r.index (λ n. n < 2 ^ 32) → AllByRecursion IsParameter (reference_parameters r)
+reference_known r is fits index_fits = (is, (fits, optional_is index r.index (λ n less. less) index_fits))
 
 -- ---- a parameter
 
@@ -38,7 +67,8 @@ short_tag : (number count : ℕ) → count < 5 → length (plain_tag (context_ta
 unfolding plain_tag
 short_tag number count short = rw (lt-ltb count 5 short) (omega (arith, length-append (plain_number number) []))
 
-context_least : (number : ℕ) (octets contents least : List ℕ) → AreOctets octets → SpellsContext number octets contents → length contents < 5 → length least ≤ length contents → length (context_octets number least) ≤ length octets
+context_least : (number : ℕ) (octets contents least : List ℕ) → AreOctets octets → SpellsContext number octets contents → length contents < 5
+    → length least ≤ length contents → length (context_octets number least) ≤ length octets
 context_least number octets contents least fit s short le =
     let tags = tag_least s.tag (context_tag number (length contents)) (ahead s.tag contents (subst AreOctets s.whole fit)) s.tagged in
     let one = short_tag number (length contents) short in
@@ -75,7 +105,9 @@ parameter_shortest (value region) h = record { spelled = enclosed_spells 3 regio
 -- ---- one after the other
 
 -- things of which each is written in the fewest octets
-all_least : {A : Type 0} (Spells : List ℕ → A → Type 0) (plain : A → List ℕ) (Is : A → Type 0) → ((x : A) → Is x → IsShortest Spells (plain x) x) → (xs : List A) (octets rest : List ℕ) → AllByRecursion Is xs → AreOctets octets → SpellsTo Spells octets xs rest
+all_least : {A : Type 0} (Spells : List ℕ → A → Type 0) (plain : A → List ℕ) (Is : A → Type 0)
+    → ((x : A) → Is x → IsShortest Spells (plain x) x) → (xs : List A) (octets rest : List ℕ) → AllByRecursion Is xs → AreOctets octets
+    → SpellsTo Spells octets xs rest
     → length (plain_all plain xs) + length rest ≤ length octets
 all_least Spells plain Is each [] octets rest h fit s = omega (arith, ap length s)
 all_least Spells plain Is each (x ∷ xs) octets rest h fit s =
@@ -84,7 +116,9 @@ all_least Spells plain Is each (x ∷ xs) octets rest h fit s =
     let others = all_least Spells plain Is each xs s.0 rest h.1 (behind s.1.front s.0 fits) s.2 in
     omega (arith, ap length s.1.whole, length-append s.1.front s.0, length-append (plain x) (plain_all plain xs))
 
-all_shortest : {A : Type 0} (Spells : List ℕ → A → Type 0) (plain : A → List ℕ) (Is : A → Type 0) → ((x : A) → Is x → IsShortest Spells (plain x) x) → (xs : List A) → AllByRecursion Is xs → IsShortest (SpellsAll Spells) (plain_all plain xs) xs
+all_shortest : {A : Type 0} (Spells : List ℕ → A → Type 0) (plain : A → List ℕ) (Is : A → Type 0)
+    → ((x : A) → Is x → IsShortest Spells (plain x) x) → (xs : List A) → AllByRecursion Is xs
+    → IsShortest (SpellsAll Spells) (plain_all plain xs) xs
 all_shortest Spells plain Is each xs h = record {
   spelled = whole_spell Spells plain Is (λ x is. (each x is).spelled) xs h;
   shortest = λ octets fit s. let all = all_least Spells plain Is each xs octets [] h fit s in omega arith;
@@ -133,7 +167,8 @@ limits_back w h = (who_is_is (who_is_octets w) w).1 (who_is_shortest w h).spelle
 pub who_is_back : (low high : ℕ) → low < 2 ^ 32 → high < 2 ^ 32 → who_is_of (who_is_octets (limits.Range low high)) ≡ Some (limits.Range low high)
 who_is_back low high l h = limits_back (limits.Range low high) (l, h)
 
-pub i_am_shortest : (i : Introduction) → i.device.kind ≡ 8 → IsWritten (values.object i.device) → IsWritten (unsigned i.max_apdu) → IsWritten (enumerated i.segmentation) → IsWritten (unsigned i.vendor) → IsShortest IsIAmBody (i_am_octets i) i
+pub i_am_shortest : (i : Introduction) → i.device.kind ≡ 8 → IsWritten (values.object i.device) → IsWritten (unsigned i.max_apdu)
+    → IsWritten (enumerated i.segmentation) → IsWritten (unsigned i.vendor) → IsShortest IsIAmBody (i_am_octets i) i
 i_am_shortest i device a b c d =
     let all = all_shortest Spells plain IsWritten (λ x is. is) (introduction_values i) (a, (b, (c, (d, tt)))) in
     record { spelled = record { device = device; spelled = all.spelled }; shortest = λ other fit s. all.shortest other fit s.spelled }
@@ -151,7 +186,8 @@ error_shortest class code a b = record {
 }
 
 -- what is written of an error is read back, whatever follows
-error_again : (Is : Datum → Type 0) → ((x : Datum) → Is x → Spells (plain x) x) → (class code : ℕ) (rest : List ℕ) → AllByRecursion Is (enumerated class ∷ enumerated code ∷ []) → error_of (error_octets class code ++ rest) ≡ Some (class, code)
+error_again : (Is : Datum → Type 0) → ((x : Datum) → Is x → Spells (plain x) x) → (class code : ℕ) (rest : List ℕ)
+    → AllByRecursion Is (enumerated class ∷ enumerated code ∷ []) → error_of (error_octets class code ++ rest) ≡ Some (class, code)
 error_again Is spell class code rest h = (error_is (error_octets class code ++ rest) (class, code)).1 (rest, all_spell Spells plain Is spell (enumerated class ∷ enumerated code ∷ []) rest h)
 
 pub error_back : (class code : ℕ) (rest : List ℕ) → AllByRecursion IsDatum (enumerated class ∷ enumerated code ∷ []) → error_of (error_octets class code ++ rest) ≡ Some (class, code)

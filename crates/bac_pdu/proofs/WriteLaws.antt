@@ -52,7 +52,9 @@ out_of_range true o reason e = absurd cc
 out_of_range false o reason e = (refl, cc)
 
 -- what was read, with nothing behind the priority
-order_takes : (body x v rest : List ℕ) (r : Reference) (p : Option ℕ) → reference_at body ≡ Ok (r, x) → unless_missing x (enclosed_at 3 x) ≡ Ok (v, rest) → ended (optional_at 4 rest).0 (optional_at 4 rest).1 ≡ Ok p → SpellsAll SpellsParameter body (reference_parameters r ++ value v ∷ optional priority p)
+order_takes : (body x v rest : List ℕ) (r : Reference) (p : Option ℕ) → reference_at body ≡ Ok (r, x)
+    → unless_missing x (enclosed_at 3 x) ≡ Ok (v, rest) → ended (optional_at 4 rest).0 (optional_at 4 rest).1 ≡ Ok p
+    → SpellsAll SpellsParameter body (reference_parameters r ++ value v ∷ optional priority p)
 order_takes body x v rest r p named valued e =
     let end = ended_ok (optional_at 4 rest).0 p (optional_at 4 rest).1 e in
     let last = rw (end.0, end.1) at (optional_begins 4 priority priority_step rest) in

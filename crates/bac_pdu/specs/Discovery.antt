@@ -1,5 +1,5 @@
 -- The bodies of Who-Is and I-Am (clauses 16.10 and 21).
-use Rattle.std.specs.Prelude.{◌≡◌, ℕ, ◌^◌, ◌<◌, List, [], ◌∷◌, ◌++◌}
+use Rattle.std.specs.Prelude.{◌≡◌, ℕ, ◌^◌, ◌<◌, nat_le, Bool, true, ◌&&◌, List, [], ◌∷◌, ◌++◌}
 use Rattle.bac_wire.specs.Identifier.{Identifier, identifier}
 use Rattle.bac_wire.specs.Datum.{Datum, unsigned, enumerated, Spells, plain}
 use Rattle.bac_wire.specs.Datum as values
@@ -23,6 +23,11 @@ IsWhoIsBody body (limits.Range low high) = SpellsAll SpellsNumbered body ((0, lo
 abbrev pub HasLimits : WhoIs → Type 0
 HasLimits limits.All = Unit {0}
 HasLimits (limits.Range low high) = (low < 2 ^ 32) × (high < 2 ^ 32)
+
+-- whether a Who-Is asks for the device of this instance
+abbrev pub asks : WhoIs → ℕ → Bool
+asks limits.All instance = true
+asks (limits.Range low high) instance = nat_le low instance && nat_le instance high
 
 -- a device, the APDU that it takes, its segmentation and its vendor
 pub record Introduction : Type 0 where

@@ -14,7 +14,9 @@ use bac_wire::{Frame, Full};
 pub struct Part {
     /// Whether more parts follow.
     pub more: bool,
+    /// The number of this part, in a cycle of 256.
     pub sequence: u8,
+    /// How many parts the sender would send before it waits for a SegmentACK.
     pub window: u8,
 }
 

@@ -19,6 +19,7 @@ pub struct Carried<'a> {
     pub peer: Peer,
     /// Whether it was sent to more than one station.
     pub broadcast: bool,
+    /// The octets behind both headers.
     pub apdu: &'a [u8],
 }
 

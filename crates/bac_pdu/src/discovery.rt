@@ -3,7 +3,7 @@ ghost use Rattle.std.specs.Option.{option_map};
 ghost use Rattle.bac_wire.specs.Front.{IsShortest};
 ghost use Rattle.bac_wire.specs.Writing.{Appends, AppendsFront};
 ghost use Rattle.bac_wire.specs.Identifier.{identifier};
-ghost use Rattle.bac_pdu.specs.Discovery.{HasLimits, introduction, IsWhoIsBody, IsIAmBody, who_is_octets, i_am_octets};
+ghost use Rattle.bac_pdu.specs.Discovery.{HasLimits, asks, introduction, IsWhoIsBody, IsIAmBody, who_is_octets, i_am_octets};
 ghost use Rattle.bac_pdu.specs.ValueReading.{who_is_of, introduction_of};
 
 use crate::parameter::{append_number, number_and_rest};
@@ -26,6 +26,18 @@ const HIGH_LIMIT: u8 = 1;
 pub enum WhoIs {
     All,
     Range { low: u32, high: u32 },
+}
+
+impl WhoIs {
+    /// Whether it asks the device with this instance.
+    pub fn asks(self, instance: u32) -> bool
+        ensures { result ≡ asks self instance }
+    {
+        match self {
+            WhoIs::All => true,
+            WhoIs::Range { low, high } => low <= instance && instance <= high,
+        }
+    }
 }
 
 /// What a device says of itself (clause 16.10).

@@ -2,7 +2,7 @@ ghost use Rattle.std.specs.Prelude.{◌≡◌, ◌≤◌, length, IfSome, None};
 ghost use Rattle.std.specs.Option.{option_map};
 ghost use Rattle.bac_pdu.specs.Peer.{IsRoutable, network_address};
 ghost use Rattle.bac_pdu.specs.Header.{address_seen, header_seen, plain_header};
-ghost use Rattle.bac_pdu.specs.DatagramReading.{counted_at, address_at, announced_at, behind_hops, header_at};
+ghost use Rattle.bac_pdu.specs.DatagramReading.{address_at, announced_at, behind_hops, header_at};
 
 use crate::bits::has_bit;
 use crate::route::Route;
@@ -35,7 +35,7 @@ const SOURCE: u8 = 3;
 // The control octets that are written.
 const EXPECTS_REPLY: u8 = 0x04;
 
-const DESTINED: u8 = 0x20;
+const DESTINED: u8 = 1 << DESTINATION;
 
 /// The hop count of a datagram that no router has passed on.
 const HOPS: u8 = 255;
@@ -80,27 +80,17 @@ fn announced_and_rest(announced: bool, octets: &[u8]) -> Option<(Option<Address<
     Some((Some(address), rest))
 }
 
-/// A network and an address in it, and the octets behind.
+/// A network and an address in it, of as many octets as the one before it says, and the octets behind.
 #[tactic(auto, unfolding(crate::specs::DatagramReading::address_at))]
 fn address_and_rest(octets: &[u8]) -> Option<(Address<'_>, &[u8])>
     ensures { option_map (λ x. (address_seen x.0, x.1.now)) result ≡ address_at octets.now }
 {
-    let [high, low, rest @ ..] = octets else {
+    let [high, low, count, rest @ ..] = octets else {
         return None;
     };
     let network = BigEndian::read_u16(&[*high, *low]);
-    let (address, rest) = counted_and_rest(rest)?;
+    let (address, rest) = rest.split_at_checked(usize::from(*count))?;
     Some((Address { network, address }, rest))
-}
-
-/// As many octets as the first one says, and those behind.
-fn counted_and_rest(octets: &[u8]) -> Option<(&[u8], &[u8])>
-    ensures { option_map (λ x. (x.0.now, x.1.now)) result ≡ counted_at octets.now }
-{
-    let [count, rest @ ..] = octets else {
-        return None;
-    };
-    rest.split_at_checked(usize::from(*count))
 }
 
 /// The octets behind the hop count that stands where a destination does.

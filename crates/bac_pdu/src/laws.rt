@@ -1,5 +1,5 @@
 //! What holds of the definitions that the contracts cite. Each function has an empty body, and its clause is the law; those at
-//! the end are `==` of a type, and say what it compares.
+//! the end are `clone` or `==` of types, and say what a clone is, or what is compared.
 
 ghost use Rattle.std.specs.Prelude.{IsTrue, ◌≡◌, ◌↔◌, ◌+◌, ◌<◌, ◌≤◌, ◌^◌, ◌++◌, ℕ, Bool, false, List, [], ◌∷◌, length, Option, Some, None, IfSome, Result, Ok};
 ghost use Rattle.std.specs.List.{AllByRecursion};
@@ -7,7 +7,7 @@ ghost use Rattle.bac_wire.specs.Datum.{IsDatum, enumerated};
 ghost use Rattle.bac_pdu.specs.declared.discovery.WhoIs.{WhoIs as AnyWhoIs};
 ghost use Rattle.bac_pdu.specs.declared.discovery.WhoIs.TheVariants.{Range};
 ghost use Rattle.bac_pdu.specs.declared.reject.RejectReason.{RejectReason as AnyReason};
-ghost use Rattle.bac_pdu.specs.Peer.{Station, NetworkAddress, IsRoutable};
+ghost use Rattle.bac_pdu.specs.Peer.{Station, NetworkAddress, IsRoutable, network_address};
 ghost use Rattle.bac_wire.specs.Front.{IsSingle};
 ghost use Rattle.bac_pdu.specs.Datagram.{Delivery, Carries, Takes, front_count, wrapped};
 ghost use Rattle.bac_pdu.specs.DatagramReading.{carried};
@@ -22,9 +22,14 @@ ghost use Rattle.bac_pdu.specs.Failure.{IsErrorBody, error_octets};
 ghost use Rattle.bac_pdu.specs.ValueReading.{who_is_of, introduction_of, error_of};
 
 use crate::apdu::{Apdu, Part};
-use crate::discovery::{IAm, WhoIs};
+use crate::datagram::Carried;
+use crate::discovery::{DEVICE, IAm, WhoIs};
+use crate::peer::{Peer, told};
 use crate::property::{Ack, ReadRequest, WriteRequest};
 use crate::reject::RejectReason;
+use crate::route::{ADDRESS_OCTETS, Route};
+use crate::service::{I_AM, READ_PROPERTY, WHO_IS, WRITE_PROPERTY};
+use std::alloc::AllocError;
 
 /// The function that reads each kind of octets finds what the standard says that they are, and nothing else.
 pub fn in_words()
@@ -87,6 +92,76 @@ pub fn one_record()
     ensures i_am { IsSingle IsIAmBody }
     ensures error { IsSingle IsErrorBody }
 {}
+
+/// The numbers that the code names: of the services and of the object type of devices, as the standard has them (clause 21), and
+/// how many octets an address has at most.
+pub fn numbers()
+    ensures read_property { READ_PROPERTY ≡ 12 }
+    ensures write_property { WRITE_PROPERTY ≡ 15 }
+    ensures i_am { I_AM ≡ 0 }
+    ensures who_is { WHO_IS ≡ 8 }
+    ensures device { DEVICE ≡ 8 }
+    ensures address { ADDRESS_OCTETS ≡ 7 }
+{}
+
+/// A clone is what it was cloned from, and takes no memory.
+pub fn clones_of_datagrams<'a>(
+    peer: &Peer,
+    route: &Route,
+    carried: &Carried<'a>,
+    part: &Part,
+    apdu: &Apdu<'a>,
+) -> Result<(Peer, Route, Carried<'a>, Part, Apdu<'a>), AllocError>
+    ensures { result ≡ Ok (peer.now, route.now, carried.now, part.now, apdu.now) }
+{
+    Ok((
+        peer.clone()?,
+        route.clone()?,
+        carried.clone()?,
+        part.clone()?,
+        apdu.clone()?,
+    ))
+}
+
+/// The same of what bodies say.
+pub fn clones_of_bodies<'a>(
+    limits: &WhoIs,
+    i_am: &IAm,
+    read: &ReadRequest,
+    ack: &Ack<'a>,
+    write: &WriteRequest<'a>,
+    reason: &RejectReason,
+) -> Result<
+    (
+        WhoIs,
+        IAm,
+        ReadRequest,
+        Ack<'a>,
+        WriteRequest<'a>,
+        RejectReason,
+    ),
+    AllocError,
+>
+    ensures { result ≡ Ok (limits.now, i_am.now, read.now, ack.now, write.now, reason.now) }
+{
+    Ok((
+        limits.clone()?,
+        i_am.clone()?,
+        read.clone()?,
+        ack.clone()?,
+        write.clone()?,
+        reason.clone()?,
+    ))
+}
+
+/// The network and the address.
+pub fn same_route(route: &Route, other: &Route) -> bool
+    ensures { IsTrue result ↔ (network_address route.now ≡ network_address other.now) }
+{
+    told(Some(*route));
+    told(Some(*other));
+    route == other
+}
 
 /// All three fields.
 pub fn same_part(part: &Part, other: &Part) -> bool

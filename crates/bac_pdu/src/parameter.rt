@@ -4,7 +4,7 @@ ghost use Rattle.bac_wire.specs.Limits.{value_tag};
 ghost use Rattle.bac_wire.specs.Identifier.{IsIdentifier, identifier};
 ghost use Rattle.bac_wire.specs.Tag.{plain_tag};
 ghost use Rattle.bac_wire.specs.Region.{opening_tag, closing_tag};
-ghost use Rattle.bac_wire.specs.ItemReading.{behind_closing, region_at};
+ghost use Rattle.bac_wire.specs.ItemReading.{behind_closing};
 ghost use Rattle.bac_wire.specs.Parameter.{context_octets, number_octets, object_octets, enclosed_octets};
 ghost use Rattle.bac_wire.specs.ParameterReading.{context_at, number_of_contents, number_at, object_at, behind_opening, enclosed_at};
 ghost use Rattle.bac_wire.specs.Writing.{Appends, AppendsFront};
@@ -75,11 +75,10 @@ pub(crate) fn object_and_rest(number: u8, octets: &[u8]) -> Option<(ObjectId, &[
     ensures { option_map (λ x. (identifier x.0, x.1.now)) result ≡ object_at number octets.now }
 {
     let (contents, rest) = context_and_rest(number, octets)?;
-    let [a, b, c, d] = contents else {
+    if contents.len() != 4 {
         return None;
-    };
-    let bits = BigEndian::read_u32(&[*a, *b, *c, *d]);
-    let object = ObjectId::new((bits >> 22) as u16, bits % (1 << 22))?;
+    }
+    let object = ObjectId::of_number(BigEndian::read_u32(contents));
     Some((object, rest))
 }
 
@@ -88,7 +87,10 @@ pub(crate) fn object_and_rest(number: u8, octets: &[u8]) -> Option<(ObjectId, &[
 pub(crate) fn enclosed_and_rest(octets: &[u8]) -> Option<(&[u8], &[u8])>
     ensures { option_map (λ x. (x.0.now, x.1.now)) result ≡ enclosed_at value_tag octets.now }
 {
-    region_and_rest(rest_behind_opening(octets)?)
+    let inside = rest_behind_opening(octets)?;
+    let (items, rest) = inside.split_at(region(inside)?);
+    let rest = rest_behind_closing(rest)?;
+    Some((items, rest))
 }
 
 #[tactic(auto, unfolding(bac_wire::specs::ParameterReading::behind_opening))]
@@ -100,15 +102,6 @@ fn rest_behind_opening(octets: &[u8]) -> Option<&[u8]>
         Shape::Opening if tag.number == VALUE => Some(rest),
         _ => None,
     }
-}
-
-/// The whole items up to a closing tag 3.
-fn region_and_rest(octets: &[u8]) -> Option<(&[u8], &[u8])>
-    ensures { option_map (λ x. (x.0.now, x.1.now)) result ≡ region_at value_tag octets.now }
-{
-    let (items, rest) = octets.split_at(region(octets)?);
-    let rest = rest_behind_closing(rest)?;
-    Some((items, rest))
 }
 
 #[tactic(auto, unfolding(bac_wire::specs::ItemReading::behind_closing))]
@@ -179,10 +172,7 @@ pub(crate) fn append_object(body: &mut Frame, number: u8, id: ObjectId) -> Resul
     ensures known { IsIdentifier (identifier id) }
 {
     let mut contents = [0; 4];
-    BigEndian::write_u32(
-        &mut contents,
-        u32::from(id.kind()) * (1 << 22) + id.instance(),
-    );
+    BigEndian::write_u32(&mut contents, id.number());
     append_four(body, number, &contents)
 }
 

@@ -14,7 +14,7 @@ pub struct Peer {
 }
 
 impl Peer {
-    /// Whether both are the same station: address, port and route. So does `==`.
+    /// Whether both are the same station: address, port and route. `==` says the same.
     pub fn is_same(&self, other: &Peer) -> bool
         ensures { IsTrue result ↔ (station self.now ≡ station other.now) }
     {
@@ -25,7 +25,7 @@ impl Peer {
 }
 
 /// Nothing. What the type of a route says, for the caller's proof.
-fn told(route: Option<Route>)
+pub(crate) fn told(route: Option<Route>)
     ensures { IfSome route IsKept }
 {
     let _route = route;

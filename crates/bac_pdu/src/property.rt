@@ -23,6 +23,7 @@ use bac_wire::{Frame, Full, ObjectId};
 #[derive(Clone, Copy, Debug, PartialEq, Eq)]
 pub struct ReadRequest {
     pub object: ObjectId,
+    /// The number of the property (clause 21, BACnetPropertyIdentifier).
     pub property: u32,
     /// The element of an array, from 1; 0 is how many there are.
     pub index: Option<u32>,
@@ -32,7 +33,9 @@ pub struct ReadRequest {
 #[derive(Clone, Copy, Debug, PartialEq, Eq)]
 pub struct WriteRequest<'a> {
     pub object: ObjectId,
+    /// As in [`ReadRequest`].
     pub property: u32,
+    /// As in [`ReadRequest`].
     pub index: Option<u32>,
     /// Whole items, as they are on the wire.
     pub value: &'a [u8],
@@ -44,7 +47,9 @@ pub struct WriteRequest<'a> {
 #[derive(Clone, Copy, Debug, PartialEq, Eq)]
 pub struct Ack<'a> {
     pub object: ObjectId,
+    /// As in [`ReadRequest`].
     pub property: u32,
+    /// As in [`ReadRequest`].
     pub index: Option<u32>,
     /// Whole items, as they are on the wire.
     pub value: &'a [u8],
@@ -58,11 +63,15 @@ fn reference_and_rest(body: &[u8]) -> Result<(ReadRequest, &[u8]), RejectReason>
     if body.is_empty() {
         return Err(RejectReason::MissingParameter);
     }
-    let (object, rest) = object_and_rest(OBJECT, body).ok_or(RejectReason::InvalidTag)?;
+    let Some((object, rest)) = object_and_rest(OBJECT, body) else {
+        return Err(RejectReason::InvalidTag);
+    };
     if rest.is_empty() {
         return Err(RejectReason::MissingParameter);
     }
-    let (property, rest) = number_and_rest(PROPERTY, rest).ok_or(RejectReason::InvalidTag)?;
+    let Some((property, rest)) = number_and_rest(PROPERTY, rest) else {
+        return Err(RejectReason::InvalidTag);
+    };
     let (index, rest) = optional_and_rest(INDEX, rest);
     let request = ReadRequest {
         object,
@@ -101,7 +110,9 @@ pub fn read_write(body: &[u8]) -> Result<WriteRequest<'_>, RejectReason>
     if rest.is_empty() {
         return Err(RejectReason::MissingParameter);
     }
-    let (value, rest) = enclosed_and_rest(rest).ok_or(RejectReason::InvalidTag)?;
+    let Some((value, rest)) = enclosed_and_rest(rest) else {
+        return Err(RejectReason::InvalidTag);
+    };
     let (priority, rest) = optional_and_rest(PRIORITY, rest);
     if !rest.is_empty() {
         return Err(RejectReason::TooMany);
@@ -125,7 +136,9 @@ pub fn read_write(body: &[u8]) -> Result<WriteRequest<'_>, RejectReason>
 pub fn read_ack(body: &[u8]) -> Option<Ack<'_>>
     ensures value { option_map answer result ≡ ack_of body.now }
 {
-    let (request, rest) = reference_and_rest(body).ok()?;
+    let Ok((request, rest)) = reference_and_rest(body) else {
+        return None;
+    };
     let (value, []) = enclosed_and_rest(rest)? else {
         return None;
     };

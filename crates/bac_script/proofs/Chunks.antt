@@ -1,12 +1,13 @@
 -- The octets of a chunk: a range of its room, of which a front was searched for a line feed.
-use Rattle.std.proofs.Common.{◌≡◌, ℕ, ◌+◌, ◌-◌, ◌<◌, ◌≤◌, List, [], ◌∷◌, ◌++◌, length, take, drop, Option, Some, None, refl, sym, ◌∙◌, ap, subst, inl, inr, append_assoc, append-nil, arith, length-drop}
+use Rattle.std.proofs.Common.{◌≡◌, ℕ, ◌+◌, ◌-◌, ◌<◌, ◌≤◌, List, [], ◌∷◌, ◌++◌, length, take, drop, Option, Some, None, refl, sym, ◌∙◌, ap, subst, inl, inr, append-nil, arith, length-drop}
 use Rattle.std.specs.Prelude.{◌==◌, min, position}
 use Rattle.std.specs.List.{slice_range, copy_within}
 use Rattle.std.specs.Io.KnownBytes.{Consumes, Keeps}
+use Rattle.std.proofs.lemmas.Grind.{common_steps}
 use Rattle.std.proofs.Math.Seq.{take-add, take-append-add}
 use Rattle.std.proofs.lemmas.List.{drop-drop, drop-append-le, length-take-le, take-append-drop, take-append-le, take-take, take_all}
 use Rattle.std.proofs.lemmas.List.Edits.{take-paste}
-use Rattle.std.proofs.lemmas.Slice.{between_is, take-put_mid, take-put_mid_below}
+use Rattle.std.proofs.lemmas.Slice.{between_is, take-put_mid}
 use borrow.Rule.Slice.PartMut.{put_mid}
 use Rattle.bac_text.specs.declared.checked.Checked.{Checked}
 use Rattle.bac_text.specs.Checked.{inner_of}
@@ -57,8 +58,7 @@ module _ (xs : List ℕ) (start count limit end : ℕ) (is : limit ≡ min end (
       let there : count + place + 1 ≤ limit - start = omega (arith, f.within, length-drop count front, long) in
       let all : count + place + 1 ≡ count + (place + 1) = omega arith in
       let whole : take (count + place + 1) held ≡ (take count front ++ take place rest) ++ 10 ∷ [] =
-      sym (take-take (count + place + 1) (limit - start) held there) ∙ ap (λ (n : ℕ). take n front) all ∙ take-add count (place + 1) front
-      ∙ ap (λ (ys : List ℕ). take count front ++ ys) f.ended ∙ sym (append_assoc (take count front) (take place rest) (10 ∷ [])) in
+      sym (take-take (count + place + 1) (limit - start) held there) ∙ ap (λ (n : ℕ). take n front) all ∙ grind (arith, common_steps, take-add count (place + 1) front, f.ended) in
       (omega (arith, size, there, is), inl (take count front ++ take place rest, no_feed_on (take count front) (take place rest) searched f.before, whole))
 
   -- There is no line feed up to where was searched.
@@ -80,10 +80,7 @@ module _ (xs : List ℕ) (start count limit end : ℕ) (is : limit ≡ min end (
 moved_held : (xs moved held : List ℕ) (start end : ℕ) → slice_range xs start end ≡ held → moved ≡ copy_within xs start end 0 → start ≤ end → end ≤ length xs →
     slice_range moved 0 (end - start) ≡ held
 moved_held xs moved held start end is copied low high =
-    let all : end - start - 0 ≡ end - start = omega arith in
-    let whole : end - start ≡ 0 + (end - start) = omega arith in
-    ap (λ (n : ℕ). take n moved) (all ∙ whole) ∙ ap (take (0 + (end - start))) copied
-    ∙ take-paste xs 0 (drop start xs) (end - start) (omega arith) (omega (arith, length-drop start xs)) ∙ is
+    grind (arith, common_steps, take-paste xs 0 (drop start xs) (end - start) (omega arith) (omega (arith, length-drop start xs)))
 
 -- A chunk with room behind what is held.
 pub record Placed (xs : List ℕ) (start end searched : ℕ) (held : List ℕ) : Type 0 where
@@ -125,8 +122,7 @@ module _ {xs : List ℕ} {start end searched : ℕ} {held : List ℕ} (p : Place
       ∙ ap (λ (zs : List ℕ). zs ++ take count ys) (sym (between_is xs start end) ∙ p.is)
 
   pub still_held : slice_range room start end ≡ held
-  still_held =
-      between_is room start end ∙ ap (drop start) (take-put_mid_below end k xs ys end (omega arith) (omega (arith, p.room, p.size))) ∙ sym (between_is xs start end) ∙ p.is
+  still_held = let e : end + 0 ≡ end = omega arith in rw (e, append-nil) at (more 0 (omega arith))
 
   pub still_before : HasNoFeed (take searched (slice_range room start end))
   still_before = subst (λ (zs : List ℕ). HasNoFeed (take searched zs)) (p.is ∙ sym still_held) p.before

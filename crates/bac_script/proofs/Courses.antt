@@ -1,7 +1,8 @@
 -- The course of a script, line after line.
-use Rattle.std.proofs.Common.{◌≡◌, ℕ, ◌+◌, Bool, true, false, List, [], ◌∷◌, ◌++◌, length, Option, Some, None, Result, Ok, Err, refl, sym, ◌∙◌, ap, subst, append_assoc, arith}
+use Rattle.std.proofs.Common.{◌≡◌, ℕ, ◌+◌, Bool, true, List, [], ◌∷◌, ◌++◌, length, Option, Some, None, Result, Ok, Err, refl, sym, ◌∙◌, ap, subst, append_assoc, arith}
 use Rattle.std.specs.Prelude.{◌&&◌, slice_get, option_map, MatchOption}
 use Rattle.std.specs.List.{list_all}
+use Rattle.std.proofs.Math.Bool.{and_assoc, and-true}
 use Rattle.bac_script.specs.declared.input.Reading.{Reading}
 use Rattle.bac_script.specs.declared.line.LineFault.{LineFault}
 use Rattle.bac_script.specs.declared.tracing.TraceEnd.{TraceEnd}
@@ -51,14 +52,6 @@ record IsCourse (stage : Stage) (is_first : Bool) (count : ℕ) (all : List (Lis
       c.fault ≡ option_map (λ line. fault_at number (said still line)) (slice_get all (length says))
   counted : c.fault ≡ None → c.count ≡ count + length all
 
-and_both : (a b c : Bool) → (a && (b && c)) ≡ ((a && b) && c)
-and_both true b c = refl
-and_both false b c = refl
-
-and_true : (b : Bool) → (b && true) ≡ b
-and_true true = refl
-and_true false = refl
-
 is_course : (all : List (List ℕ)) (stage : Stage) (is_first : Bool) (count : ℕ) → IsCourse stage is_first count all (said_from is_first all) (course stage is_first count all)
 is_course [] stage is_first count = record { text = refl; fault = λ number still n b. refl; counted = λ none. omega arith }
 is_course (line ∷ later) stage is_first count =
@@ -70,7 +63,7 @@ is_course (line ∷ later) stage is_first count =
         IsCourse stage is_first count (line ∷ later) (and_then s (said_from (is_first && is_silent s) later)) (and_on stage count s (course_on stage is_first count later))
     go (Ok one) is h = record {
       text = ap (λ (xs : List ℕ). (ran stage one).text ++ xs) (h one).text;
-      fault = λ number still n b. (h one).fault number still (omega arith) (b ∙ and_both is_first (is_nothing one) _);
+      fault = λ number still n b. (h one).fault number still (omega arith) (b ∙ sym (and_assoc is_first (is_nothing one) _));
       counted = λ none. let more = (h one).counted none in omega (arith, more);
     }
     go (Err fault) is h = record {
@@ -78,12 +71,16 @@ is_course (line ∷ later) stage is_first count =
       fault = λ number still n b.
           let here : count + 1 ≡ number = omega arith in
           ap (λ (k : ℕ). Some (fault_at k (Err fault))) here
-          ∙ ap (λ (s : Result Said LineFault). Some (fault_at number s)) (sym (ap (λ (first : Bool). said first line) (b ∙ and_true is_first) ∙ is));
+          ∙ ap (λ (s : Result Said LineFault). Some (fault_at number s)) (sym (ap (λ (first : Bool). said first line) (b ∙ and-true is_first) ∙ is));
       counted = λ none. absurd (cc);
     }
 
 pub runs_text : (all : List (List ℕ)) → (whole all).text ≡ text_of (all_said all)
 runs_text all = (is_course all first_stage true 0).text ∙ sym (text_is (all_said all) (settings_first all))
+
+-- The fault of a script is that of its course.
+pub fault_is : (all : List (List ℕ)) → (whole all).fault ≡ first_fault all
+fault_is all = (is_course all first_stage true 0).fault (length (all_said all) + 1) (list_all is_nothing (all_said all)) (omega arith) refl
 
 -- A script whose course is this.
 pub runs_as : (octets : List ℕ) (reading : Reading) (one : Course) (answer : Result TraceEnd TraceFault) → whole (lines octets reading) ≡ one →
@@ -91,8 +88,7 @@ pub runs_as : (octets : List ℕ) (reading : Reading) (one : Course) (answer : R
 runs_as octets reading one answer is ends =
     let all = lines octets reading in
     let faults : one.fault ≡ first_fault all =
-    ap (λ (c : Course). c.fault) (sym is)
-    ∙ (is_course all first_stage true 0).fault (length (all_said all) + 1) (list_all is_nothing (all_said all)) (omega arith) refl in
+    ap (λ (c : Course). c.fault) (sym is) ∙ fault_is all in
     record {
       wrote = ap (λ (c : Course). c.text) (sym is) ∙ runs_text all;
       answered =

@@ -1,11 +1,11 @@
 -- Where the octets of a script are cut.
-use Rattle.std.proofs.Common.{◌≡◌, ◌≢◌, ℕ, ◌-◌, ◌<◌, Bool, true, false, List, [], ◌∷◌, ◌++◌, length, take, get_or, refl, sym, ◌∙◌, ap, append_assoc, arith, Err}
-use Rattle.std.specs.Prelude.{◌||◌, nat_lt, cond, filter}
+use Rattle.std.proofs.Common.{◌≡◌, ◌≢◌, ℕ, ◌<◌, Bool, true, false, List, [], ◌∷◌, ◌++◌, length, get_or, refl, sym, ◌∙◌, ap, append_assoc, arith, Err}
+use Rattle.std.specs.Prelude.{◌||◌, nat_lt, filter}
 use Rattle.std.specs.List.{onto_first}
-use Rattle.std.proofs.lemmas.List.{append-nil, length-append, length-take-le}
+use Rattle.std.proofs.lemmas.List.{append-nil, length-append}
+use Rattle.std.proofs.lemmas.Grind.{common_steps}
 use Rattle.std.proofs.lemmas.Bool.{ne_eqb}
 use Rattle.std.proofs.lemmas.Bool.Decides.{nat_tests}
-use Rattle.std.proofs.Math.Seq.{get_or-append_seam}
 use Rattle.bac_text.specs.Limits.{longest_line}
 use Rattle.bac_script.specs.Limits.{line_room}
 use Rattle.bac_script.specs.declared.input.Reading.{Reading}
@@ -47,14 +47,10 @@ last_no_feed x (y ∷ ys) h = last_no_feed y ys h.1
 
 pub ends_with_feed-none : (line : List ℕ) → HasNoFeed line → ends_with_feed line ≡ false
 ends_with_feed-none [] h = refl
-ends_with_feed-none (x ∷ xs) h =
-    let at : length (x ∷ xs) - 1 ≡ length xs = omega arith in
-    rw (at) (ne_eqb (get_or (x ∷ xs) (length xs) 0) 10 (last_no_feed x xs h))
+ends_with_feed-none (x ∷ xs) h = grind (arith, common_steps, last_no_feed x xs h)
 
 pub ends_with_feed-push : (text : List ℕ) → ends_with_feed (text ++ 10 ∷ []) ≡ true
-ends_with_feed-push text =
-    let at : length (text ++ 10 ∷ []) - 1 ≡ length text = omega (arith, length-append text (10 ∷ [])) in
-    rw (at, get_or-append_seam text 10 [] 0) refl
+ends_with_feed-push text = grind (arith, common_steps)
 
 is_line-sure : (reading : Reading) (line : List ℕ) → (ends_with_feed line || nat_lt longest_line (length line)) ≡ true → is_line reading line ≡ true
 is_line-sure AtEnd line h = refl
@@ -72,18 +68,15 @@ lines-rest (x ∷ xs) h short =
     let e : nat_lt longest_line (length (x ∷ xs)) ≡ false = grind (arith, nat_tests) in
     rw (pieces-open x xs h, ends_with_feed-none (x ∷ xs) h, e) refl
 
-pub lines-last : (x : ℕ) (xs : List ℕ) → HasNoFeed (x ∷ xs) → lines (x ∷ xs) AtEnd ≡ (x ∷ xs) ∷ []
-lines-last x xs h = rw (pieces-open x xs h) refl
+pub lines-last : (line : List ℕ) → HasNoFeed line → 0 < length line → lines line AtEnd ≡ line ∷ []
+lines-last [] h some = absurd (omega arith)
+lines-last (x ∷ xs) h some = rw (pieces-open x xs h) refl
 
 -- A line is as long without its line feed as it is, or one shorter
 without_feed_long : (line front : List ℕ) → HasNoFeed line → length line ≡ line_room → longest_line < length (without_feed (line ++ front))
 without_feed_long line [] h long =
     rw (append-nil line, ends_with_feed-none line h) (omega arith)
-without_feed_long line (x ∷ xs) h long = shorter (ends_with_feed (line ++ x ∷ xs)) (line ++ x ∷ xs) (omega (arith, length-append line (x ∷ xs)))
-  where
-    shorter : (b : Bool) (all : List ℕ) → line_room < length all → longest_line < length (cond b (take (length all - 1) all) all)
-    shorter true all p = rw (length-take-le (length all - 1) all (omega arith)) (omega arith)
-    shorter false all p = omega arith
+without_feed_long line (x ∷ xs) h long = grind (arith, common_steps, length-append line (x ∷ xs))
 
 pub said-long : (is_first : Bool) (line : List ℕ) → longest_line < length (without_feed line) → said is_first line ≡ Err TooLong
 said-long is_first line h =
@@ -114,8 +107,7 @@ pub next_ended : (text held : List ℕ) (reading : Reading) → HasNoFeed text �
 next_ended text held reading h = record { whole = text ++ 10 ∷ []; others = lines held reading; split = lines-ended text held reading h; same = λ is_first. refl }
 
 pub next_last : (line : List ℕ) → HasNoFeed line → 0 < length line → NextLine line [] AtEnd
-next_last [] h some = absurd (omega arith)
-next_last (x ∷ xs) h some = record { whole = x ∷ xs; others = []; split = ap (λ zs. lines zs AtEnd) (append-nil (x ∷ xs)) ∙ lines-last x xs h; same = λ is_first. refl }
+next_last line h some = record { whole = line; others = []; split = ap (λ zs. lines zs AtEnd) (append-nil line) ∙ lines-last line h some; same = λ is_first. refl }
 
 pub said-whole_long : (is_first : Bool) (line : List ℕ) → HasNoFeed line → length line ≡ line_room → said is_first line ≡ Err TooLong
 said-whole_long is_first line h long = said-long is_first line (rw (ends_with_feed-none line h) (omega arith))

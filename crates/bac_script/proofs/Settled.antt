@@ -1,6 +1,7 @@
 -- Settings are said by nothing but the first line that says something.
 use Rattle.std.proofs.Common.{ℕ, Bool, true, false, List, [], ◌∷◌, Option, Some, None, Result, Ok, Err}
-use Rattle.std.specs.Prelude.{ok_or, option_map, cond, bytes_eq, codes, slice_index, ◌==◌, if◌then◌else◌, IfSome, IfOk}
+use Rattle.std.proofs.lemmas.Bool.{cond_both}
+use Rattle.std.specs.Prelude.{ok_or, option_map, bytes_eq, codes, slice_index, ◌==◌, if◌then◌else◌, IfSome, IfOk}
 use Rattle.std.specs.Str.{is_utf8}
 use Rattle.bac_script.specs.declared.line.LineFault.{LineFault}
 use Rattle.bac_script.specs.declared.line.LineFault.TheVariants.{Bad}
@@ -37,10 +38,8 @@ found_other (Some one) fault h = h
 
 text_other : (r : Result (List ℕ) LineFault) → IfOk (said_in false r) IsOther
 text_other (Err fault) = tt
-text_other (Ok text) = elim (is_utf8 text) as (λ b. IfOk (cond b (ok_or (said_by false (words_of text)) Bad) (Err Bad)) IsOther) [
-  | true ↦ found_other (said_by false (words_of text)) Bad (words_other (words_of text))
-  | false ↦ tt
-]
+text_other (Ok text) =
+    cond_both (is_utf8 text) (ok_or (said_by false (words_of text)) Bad) (Err Bad) (λ r. IfOk r IsOther) (λ e. found_other (said_by false (words_of text)) Bad (words_other (words_of text))) (λ e. tt)
 
 other_then : (s : Result Said LineFault) (later : List Said) → IfOk s IsOther → NoSettings later → NoSettings (and_then s later)
 other_then (Err fault) later h rest = tt

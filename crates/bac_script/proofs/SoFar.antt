@@ -1,8 +1,7 @@
 -- What holds between two lines of a script, and where it stops.
-use Rattle.std.proofs.Common.{◌≡◌, ◌≢◌, ℕ, ◌+◌, ◌<◌, ◌≤◌, Bool, true, false, List, [], ◌∷◌, ◌++◌, length, take, drop, Option, Some, Result, Ok, Err, refl, sym, ◌∙◌, ap, subst, inl, inr, append_assoc, arith}
+use Rattle.std.proofs.Common.{◌≡◌, ◌≢◌, ℕ, ◌+◌, ◌<◌, ◌≤◌, Bool, true, false, List, [], ◌∷◌, ◌++◌, length, take, drop, Option, Some, None, Result, Ok, Err, refl, sym, ◌∙◌, ap, subst, inl, inr, append_assoc, arith}
 use Rattle.std.specs.Prelude.{◌&&◌}
 use Rattle.std.proofs.lemmas.List.{append-nil, length-append, take-append-drop}
-use Rattle.bac_script.specs.Limits.{line_room}
 use Rattle.bac_tsm.specs.Client.{Client}
 use Rattle.bac_device.specs.Device.{DeviceState}
 use Rattle.bac_text.specs.declared.checked.Checked.{Checked}
@@ -15,20 +14,21 @@ use Rattle.bac_script.specs.declared.tracing.TraceEnd.{TraceEnd}
 use Rattle.bac_script.specs.declared.tracing.TraceFault.{TraceFault}
 use Rattle.bac_script.specs.declared.tracing.TraceFault.TheVariants.{BadLine, LineTooLong, ReadFailed, WriteFailed}
 use Rattle.bac_text.specs.Checked.{inner_of, has_failed, ends_with, reads_of}
+use Rattle.bac_script.specs.Input.{Takes, HasNotEnded, IsSpared, ReadForLine, StandsAs, over, IsCutAs}
 use Rattle.bac_script.specs.Feeds.{HasNoFeed}
-use Rattle.bac_script.specs.Input.{Takes, HasNotEnded, IsSpared, StandsAs, over, IsCutAs}
+use Rattle.bac_script.specs.Limits.{line_room}
 use Rattle.bac_script.specs.Line.{Said, said}
 use Rattle.bac_script.specs.Running.{Stage, Stands, new_client, device_with, ran}
-use Rattle.bac_script.specs.Script.{lines, is_nothing, fault_at, RunsWhole, Runs}
+use Rattle.bac_script.specs.Script.{lines, is_nothing, fault_at, first_fault, RunsWhole, Runs}
 use Rattle.bac_text.specs.Page.{held, writer_of, Writes, Prints}
-use Rattle.bac_script.specs.Tracing.{Traces, RunsOn}
+use Rattle.bac_script.specs.Tracing.{IsNeeded, Traces, RunsOn}
 use Rattle.bac_script.proofs.Pieces.{NextLine, next_ended, next_long, next_last, lines-rest, lines-last, lines-ended, said-whole_long}
 use Rattle.bac_script.proofs.Taken.{Takes-more, Takes-front}
 use Rattle.bac_text.proofs.Printed.{◌⨾◌, prints_nothing}
 use Rattle.bac_text.proofs.Known.{Consumes-none}
 use Rattle.bac_text.proofs.Shown.{finished, all_written}
 use Rattle.bac_script.proofs.Machine.{first_stage}
-use Rattle.bac_script.proofs.Courses.{Course, behind, behind_both, and_on, course, course_on, whole, runs_text, runs_as}
+use Rattle.bac_script.proofs.Courses.{Course, behind, behind_both, and_on, course, course_on, whole, runs_text, fault_is, runs_as}
 
 -- The course of each script that begins with these octets: this text, and then the course from this stage on.
 abbrev GoesOn : List ℕ → List ℕ → Stage → Bool → ℕ → Type 0
@@ -43,6 +43,7 @@ pub record SoFar {R W : Type 0} (remaining : R → Option (List ℕ)) (contents 
   pub stage : Stage
   pub taken : Takes remaining reader reader' [] held octets
   pub asked : reads_of reader' ≤ reads_of reader + length taken.given
+  pub needed : IsNeeded (reads_of reader) (reads_of reader') taken.given
   pub sound : has_failed reader' ≡ false
   pub unended : HasNotEnded reader reader'
   pub spared : IsSpared reader reader'
@@ -93,14 +94,6 @@ fault_runs : (octets : List ℕ) (reading : Reading) (text : List ℕ) (number :
 fault_runs octets reading text number Bad runs = runs
 fault_runs octets reading text number TooLong runs = runs
 
--- The lines that are left where reading is over.
-left_failed : (line held : List ℕ) → HasNoFeed line → length line < line_room → held ≡ [] → lines (line ++ held) Failed ≡ []
-left_failed line held h short none = rw (none, append-nil line) (lines-rest line h short)
-
-left_last : (line held : List ℕ) → HasNoFeed line → 0 < length line → held ≡ [] → lines (line ++ held) AtEnd ≡ line ∷ []
-left_last [] held h some none = absurd (omega arith)
-left_last (x ∷ xs) held h some none = rw (none, append-nil xs) (lines-last x xs h)
-
 -- An empty line is cut only at the end.
 at_end : (reading : Reading) (line : List ℕ) → IsCutAs reading line → reading ≢ Failed → length line ≡ 0 → reading ≡ AtEnd
 at_end Open line (inl c) going none = absurd (let size = ap length c.2 in omega (arith, none, simp length-append at size))
@@ -117,7 +110,7 @@ module _ {R W : Type 0} {remaining : R → Option (List ℕ)} {contents : W → 
     {page between kept : Page W} {count : ℕ} {is_first : Bool} {client : Client} {device : DeviceState} (reading : Reading) (n : ℕ)
     (s : SoFar remaining contents reader middle held page between count is_first client device) (q : Takes remaining middle reader' held now [])
     (stands : StandsAs remaining reading middle reader' (drop n now)) (asked : reads_of reader' + length held ≤ reads_of middle + length now + over reading)
-    (spared : IsSpared middle reader') (handed : Prints contents between kept []) where
+    (need : ReadForLine (reads_of middle) (reads_of reader') held now) (spared : IsSpared middle reader') (handed : Prints contents between kept []) where
   abbrev line : List ℕ
   line = take n now
 
@@ -134,6 +127,37 @@ module _ {R W : Type 0} {remaining : R → Option (List ℕ)} {contents : W → 
       let cut : length (line ++ rest) ≡ length now = ap length (take-append-drop n now) in
       omega (arith, s.asked, asked, length-append {A = ℕ})
 
+  -- What the reader gave: the lines so far, and what is held now.
+  given_is : taken.given ≡ s.octets ++ now
+  given_is = taken.order ∙ append_assoc s.octets line rest ∙ ap (λ (zs : List ℕ). s.octets ++ zs) (take-append-drop n now)
+
+  -- Where no line is held, the lines so far are all, and none has a fault.
+  no_fault : (more : List ℕ) → HasNoFeed more → length more < line_room → first_fault (lines (s.octets ++ more) Open) ≡ None
+  no_fault more none short =
+      sym (fault_is (lines (s.octets ++ more) Open)) ∙ ap (λ (c : Course). c.fault) (s.goes_on more Open)
+      ∙ ap (λ (all : List (List ℕ)). (behind s.text (course s.stage is_first count all)).fault) (lines-rest more none short)
+
+  -- The last read was needed.
+  needed : IsNeeded (reads_of reader) (reads_of reader') taken.given
+  needed = elim need [
+    | inl same ↦ record {
+      before = s.needed.before;
+      last = s.needed.last;
+      order = given_is ∙ ap (λ (zs : List ℕ). s.octets ++ zs) same.1 ∙ sym s.taken.order ∙ s.needed.order;
+      asked = omega (arith, same.0, s.needed.asked);
+      going = s.needed.going;
+    }
+    | inr r ↦ record {
+      before = s.octets ++ (held ++ r.before);
+      last = r.last;
+      order = given_is ∙ ap (λ (zs : List ℕ). s.octets ++ zs) r.order ∙ sym (append_assoc s.octets (held ++ r.before) r.last);
+      asked =
+          let size : length s.taken.given ≡ length (s.octets ++ held) = ap length s.taken.order in
+          omega (arith, r.asked, s.asked, simp length-append at size, length-append s.octets (held ++ r.before), length-append held r.before);
+      going = no_fault (held ++ r.before) r.no_feed r.short;
+    }
+  ]
+
   -- The course where these lines are left.
   left : (all : List (List ℕ)) → lines (line ++ rest) reading ≡ all → whole (lines ((s.octets ++ line) ++ rest) reading) ≡ behind s.text (course s.stage is_first count all)
   left all are = goes_to s.octets line rest s.text s.stage is_first count reading all s.goes_on are
@@ -148,7 +172,7 @@ module _ {R W : Type 0} {remaining : R → Option (List ℕ)} {contents : W → 
     read = record {
       gave = taken.gave;
       stopped = stands_more remaining reading reader middle reader' rest s.unended stands;
-      asked = omega (arith, reads, over_one reading);
+      needed = needed;
       spared = omega (arith, s.spared, spared);
     };
     prints = prints;
@@ -168,7 +192,7 @@ module _ {R W : Type 0} {remaining : R → Option (List ℕ)} {contents : W → 
       let c = rw is at cut in
       let h = rw is at stands in
       stops (Err ReadFailed) (s.printed ⨾ handed)
-      (runs_as _ reading (behind s.text (course s.stage is_first count [])) (Err ReadFailed) (left [] (rw is (left_failed line rest c.0 c.1 h.0))) (rw is refl))
+      (runs_as _ reading (behind s.text (course s.stage is_first count [])) (Err ReadFailed) (left [] (rw (is, h.0, append-nil line) (lines-rest line c.0 c.1))) (rw is refl))
 
   -- The input ends after a line feed.
   pub to_end : reading ≢ Failed → IsCutAs reading line → n ≡ 0 → RunsOn remaining contents reader reader' page kept (Ok (record { lines = count }))
@@ -199,7 +223,7 @@ module _ {R W : Type 0} {remaining : R → Option (List ℕ)} {contents : W → 
       let h = rw is at stands in
       stops (Ok (record { lines = count + 1 })) (s.printed ⨾ handed ⨾ printed ⨾ prints_nothing last)
       (runs_as _ reading (behind s.text (behind (ran s.stage one).text (course_on s.stage is_first count [] one))) (Ok (record { lines = count + 1 }))
-      (left (line ∷ []) (rw is (left_last line rest c.0 some h.0))
+      (left (line ∷ []) (rw (is, h.0, append-nil line) (lines-last line c.0 some))
       ∙ ap (λ (r : Result Said LineFault). behind s.text (and_on s.stage count r (course_on s.stage is_first count []))) ok) (rw is refl))
 
   -- One more line was run.
@@ -215,6 +239,7 @@ module _ {R W : Type 0} {remaining : R → Option (List ℕ)} {contents : W → 
         stage = (ran s.stage one).after;
         taken = taken;
         asked = let none = ap over is in omega (arith, none, reads);
+        needed = needed;
         sound = h.0;
         unended = h.1 ∙ s.unended;
         spared = omega (arith, s.spared, spared);
@@ -232,6 +257,7 @@ SoFar-none remaining contents reader held page client device sound none fresh un
   stage = first_stage;
   taken = record { given = []; gave = Consumes-none (remaining (inner_of reader)); order = sym none };
   asked = omega arith;
+  needed = record { before = []; last = []; order = refl; asked = omega arith; going = refl };
   sound = sound;
   unended = refl;
   spared = omega arith;

@@ -1,16 +1,16 @@
 -- What is taken in several steps.
-use Rattle.std.proofs.Common.{◌≡◌, ℕ, ◌+◌, ◌<◌, ◌≤◌, zero, suc, Bool, true, false, cond, List, [], ◌∷◌, ◌++◌, length, take, drop, get_or, Option, Some, None, refl, sym, ◌∙◌, ap, subst, append_assoc, arith}
-use Rattle.std.specs.Prelude.{◌==◌, position, nat_lt, not}
-use Rattle.std.specs.List.{position_or_len}
-use Rattle.std.proofs.lemmas.Bool.{eqb-false, eqb-true, not-true}
+use Rattle.std.proofs.Common.{◌≡◌, ℕ, ◌+◌, ◌<◌, ◌≤◌, zero, suc, Bool, false, List, [], ◌∷◌, ◌++◌, length, take, drop, get_or, Option, Some, None, sym, ◌∙◌, ap, subst, inr, append_assoc, length-append, arith}
+use Rattle.std.specs.Prelude.{◌==◌, position}
+use Rattle.std.proofs.lemmas.Bool.{eqb-false, eqb-true}
 use Rattle.std.proofs.lemmas.Bool.Decides.{nat_tests}
 use Rattle.std.proofs.lemmas.List.{take-append-drop, take_all, take_more}
-use Rattle.std.proofs.lemmas.List.Sums.{prefix_len_passes}
+use Rattle.std.proofs.lemmas.List.Sums.{fails_before_first}
 use Rattle.std.proofs.lemmas.List.Quantifiers.{position-Some}
 use Rattle.bac_text.specs.declared.checked.Checked.{Checked}
-use Rattle.bac_text.specs.Checked.{inner_of}
+use Rattle.bac_text.specs.Checked.{inner_of, reads_of}
 use Rattle.bac_script.specs.Feeds.{HasNoFeed}
-use Rattle.bac_script.specs.Input.{Takes}
+use Rattle.bac_script.specs.Limits.{line_room}
+use Rattle.bac_script.specs.Input.{Takes, ReadForLine}
 use Rattle.bac_text.proofs.Known.{Consumes-more}
 
 pub Takes-more : {R : Type 0} {remaining : R → Option (List ℕ)} {a b c : Checked R} {held mid kept xs ys : List ℕ} → Takes remaining a b held mid xs → Takes remaining b c mid kept ys →
@@ -27,6 +27,19 @@ pub Takes-front : {R : Type 0} {remaining : R → Option (List ℕ)} {a b : Chec
     Takes remaining a b held (drop n mid) (take n mid)
 Takes-front {mid = mid} n p = record { given = p.given; gave = p.gave; order = p.order ∙ sym (take-append-drop n mid) }
 
+-- One more read, where no line is held.
+pub read_for_line : {R : Type 0} {remaining : R → Option (List ℕ)} {a b c : Checked R} {held now later : List ℕ} → Takes remaining a b held now [] →
+    reads_of b + length held ≤ reads_of a + length now → HasNoFeed now → length now < line_room → Takes remaining b c now later [] → reads_of c ≤ reads_of b + 1 →
+    ReadForLine (reads_of a) (reads_of c) held later
+read_for_line {held = held} p asked none short q once = inr (record {
+  before = p.given;
+  last = q.given;
+  order = sym q.order ∙ ap (λ zs. zs ++ q.given) (sym p.order);
+  asked = let size = ap length p.order in omega (arith, asked, once, size, length-append held p.given);
+  no_feed = subst HasNoFeed (sym p.order) none;
+  short = subst (λ (zs : List ℕ). length zs < line_room) (sym p.order) short;
+})
+
 -- ---- line feeds
 
 no_feed_below : (xs : List ℕ) (i : ℕ) → ((k : ℕ) → k < i → (get_or xs k 0 == 10) ≡ false) → HasNoFeed (take i xs)
@@ -41,11 +54,7 @@ no_feed_on (x ∷ xs) ys h k = (h.0, no_feed_on xs ys h.1 k)
 
 -- Where none was found that passes, each fails.
 pub none_passes : (p : ℕ → Bool) (xs : List ℕ) → position p xs ≡ None → (k : ℕ) → k < length xs → p (get_or xs k 0) ≡ false
-none_passes p xs none k within = not-true _ (prefix_len_passes (λ x. not (p x)) xs k 0 (omega (arith, within, past (nat_lt (position_or_len p xs) (length xs)) refl none)))
-  where
-    past : (b : Bool) → nat_lt (position_or_len p xs) (length xs) ≡ b → cond b (Some (position_or_len p xs)) None ≡ None → length xs ≤ position_or_len p xs
-    past true e h = absurd (let bad : Some (position_or_len p xs) ≡ None = h in cc)
-    past false e h = grind (arith, nat_tests)
+none_passes p xs none k within = fails_before_first p xs k 0 (grind (arith, nat_tests))
 
 pub no_feed : (xs : List ℕ) → position (λ octet. octet == 10) xs ≡ None → HasNoFeed xs
 no_feed xs none = subst HasNoFeed (take_all (length xs) xs (omega arith)) (no_feed_below xs (length xs) (none_passes (λ octet. octet == 10) xs none))

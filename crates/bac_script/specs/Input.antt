@@ -43,6 +43,20 @@ AreSpent reader = most_reads ≤ reads_of reader
 abbrev pub IsSpared : {R : Type 0} → Checked R → Checked R → Type 0
 IsSpared before after = reads_of after ≤ max (reads_of before) most_reads
 
+-- Of what is held since then so much was there before the last read, and no line was among it. There was at most one read for each
+-- octet that the reads before it gave, and one more.
+pub record LastRead (reads reads' : ℕ) (held now : List ℕ) : Type 0 where
+  pub before : List ℕ
+  pub last : List ℕ
+  pub order : now ≡ (held ++ before) ++ last
+  pub asked : reads' ≤ reads + length before + 1
+  pub no_feed : HasNoFeed (held ++ before)
+  pub short : length (held ++ before) < line_room
+
+-- nothing was read since then, or the last read was made where no line was held
+abbrev pub ReadForLine : ℕ → ℕ → List ℕ → List ℕ → Type 0
+ReadForLine reads reads' held now = ((reads' ≡ reads) × (now ≡ held)) ⊎ LastRead reads reads' held now
+
 -- the reader is as it is said to stand, and where reading is over nothing is held
 abbrev pub StandsAs : {R : Type 0} → (R → Option (List ℕ)) → Reading → Checked R → Checked R → List ℕ → Type 0
 StandsAs remaining Open before after held = (has_failed after ≡ false) × HasNotEnded before after

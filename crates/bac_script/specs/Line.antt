@@ -7,7 +7,8 @@ use Rattle.bac_device.specs.Turns.{Arrival}
 use Rattle.bac_script.specs.declared.line.LineFault.{LineFault}
 use Rattle.bac_script.specs.declared.line.LineFault.TheVariants.{Bad, TooLong}
 use Rattle.bac_text.specs.Limits.{longest_line}
-use Rattle.bac_text.specs.Words.{◌>>=◌, words_of, number_up_to, octets_of, next_as, at_end}
+use Rattle.bac_wire.specs.Steps.{◌>>=◌}
+use Rattle.bac_text.specs.Words.{words_of, number_up_to, octets_of, next_as, at_end}
 use Rattle.bac_text.specs.Parameters.{priority_from, write_index_of}
 use Rattle.bac_text.specs.Address.{plain_peer_of, peer_of}
 use Rattle.bac_pdu.specs.Property.{Reference, read_octets}

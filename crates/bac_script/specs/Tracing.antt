@@ -1,8 +1,9 @@
 -- What a run read, and what it wrote and answered.
-use Rattle.std.specs.Prelude.{List, [], ℕ, ◌+◌, ◌≤◌, length, Option, Result, Ok, Err}
+use Rattle.std.specs.Prelude.{◌≡◌, List, [], ◌++◌, ℕ, ◌+◌, ◌≤◌, length, Option, None, Result, Ok, Err}
 use Rattle.std.specs.Io.KnownBytes.{Consumes, Appends}
 use Rattle.bac_text.specs.declared.checked.Checked.{Checked}
 use Rattle.bac_script.specs.declared.input.Reading.{Reading}
+use Rattle.bac_script.specs.declared.input.Reading.TheVariants.{Open}
 use Rattle.bac_script.specs.declared.tracing.TraceEnd.{TraceEnd}
 use Rattle.bac_script.specs.declared.tracing.TraceFault.{TraceFault}
 use Rattle.bac_script.specs.declared.tracing.TraceFault.TheVariants.{BadLine, LineTooLong, ReadFailed, WriteFailed}
@@ -10,14 +11,22 @@ use Rattle.bac_text.specs.declared.page.Page.{Page}
 use Rattle.bac_text.specs.Checked.{inner_of, reads_of}
 use Rattle.bac_script.specs.Input.{StandsAs, IsSpared}
 use Rattle.bac_text.specs.Page.{Prints}
-use Rattle.bac_script.specs.Script.{Runs}
+use Rattle.bac_script.specs.Script.{lines, first_fault, Runs}
 
--- The reader gave these octets, and reading stopped so. It was asked once for each octet at most, and once more where that gave
--- nothing.
+-- No line with a fault was among the octets that the reader gave before its last read: so that read was needed. It was asked at most
+-- once for each of those octets, and once more.
+pub record IsNeeded (reads reads' : ℕ) (given : List ℕ) : Type 0 where
+  pub before : List ℕ
+  pub last : List ℕ
+  pub order : given ≡ before ++ last
+  pub asked : reads' ≤ reads + length before + 1
+  pub going : first_fault (lines before Open) ≡ None
+
+-- The reader gave these octets, and reading stopped so.
 pub record HasRead {R : Type 0} (remaining : R → Option (List ℕ)) (reader reader' : Checked R) (given : List ℕ) (reading : Reading) : Type 0 where
   pub gave : Consumes (remaining (inner_of reader)) (remaining (inner_of reader')) given
   pub stopped : StandsAs remaining reading reader reader' []
-  pub asked : reads_of reader' ≤ reads_of reader + length given + 1
+  pub needed : IsNeeded (reads_of reader) (reads_of reader') given
   pub spared : IsSpared reader reader'
 
 -- What was written and answered is that of the script of the octets that the reader gave, and of how reading stopped

@@ -3,21 +3,21 @@ ghost use Rattle.std.specs.Prelude.{◌≡◌, ◌≢◌, ◌==◌, ◌+◌, ◌
 ghost use Rattle.bac_text.specs.Checked.{has_failed, reads_of};
 ghost use Rattle.bac_text.specs.Page.{held, writer_of, Prints};
 ghost use Rattle.bac_script.specs.Feeds.{HasNoFeed};
-ghost use Rattle.bac_script.specs.Input.{may_come, may_read, over, Takes, StandsAs, IsSpared, IsCutAs, IsNext};
+ghost use Rattle.bac_script.specs.Input.{may_come, may_read, over, Takes, StandsAs, IsSpared, ReadForLine, IsCutAs, IsNext};
 
 use bac_text::{Checked, End, LONGEST_LINE, Page, WriteFailed, place_of_end};
 use std::io::{Read, Write};
 use std::marker::Model;
 
 /// Room for what is held: a line that isn't whole yet, and what a read gives behind it.
-const CHUNK: usize = 32_768;
+const CHUNK_ROOM: usize = 32_768;
 
 /// The octets of the longest line with its line feed. So many without a line feed among them are a line that is too long.
 const LINE_ROOM: usize = LONGEST_LINE + 1;
 
 /// How reading stands.
 #[derive(Clone, Copy, PartialEq, Eq)]
-pub enum Reading {
+pub(crate) enum Reading {
     /// More may come.
     Open,
     /// A read gave nothing.
@@ -28,15 +28,15 @@ pub enum Reading {
 
 /// The next line: so many of the first octets that are held. Where reading is over, they are all that was left.
 #[derive(Clone, Copy)]
-pub struct Next {
-    pub reading: Reading,
-    pub length: usize,
+pub(crate) struct Next {
+    pub(crate) reading: Reading,
+    pub(crate) length: usize,
 }
 
 /// Octets that were read and not yet taken.
 #[derive(Drop)]
-pub struct Chunk {
-    octets: [u8; CHUNK],
+pub(crate) struct Chunk {
+    octets: [u8; CHUNK_ROOM],
     start: usize,
     end: usize,
     /// Among so many of the first octets that are held there is no line feed.
@@ -57,11 +57,12 @@ impl Model for Chunk {
 }
 
 impl Chunk {
-    pub fn new() -> Self
+    /// A chunk that holds nothing.
+    pub(crate) fn new() -> Self
         ensures { result ≡ [] }
     {
         Chunk {
-            octets: [0; CHUNK],
+            octets: [0; CHUNK_ROOM],
             start: 0,
             end: 0,
             searched: 0,
@@ -76,7 +77,7 @@ impl Chunk {
     }
 
     /// The first octets that are held.
-    pub fn front(&self, count: usize) -> &[u8]
+    pub(crate) fn front(&self, count: usize) -> &[u8]
         requires { count ≤ length self.now }
         ensures { result.now ≡ take count self.now }
     {
@@ -84,7 +85,8 @@ impl Chunk {
     }
 
     /// Takes the first octets away.
-    pub fn skip(&mut self, count: usize)
+    #[tactic(auto, using(crate::proofs::Chunks::range_skipped))]
+    pub(crate) fn skip(&mut self, count: usize)
         requires { count ≤ length self.old }
         ensures { self.new ≡ drop count self.old }
     {
@@ -98,7 +100,8 @@ impl Chunk {
     /// # Errors
     ///
     /// `WriteFailed` where the page has failed before a read that would be needed.
-    pub fn next_line<R: Read, W: Write>(
+    #[tactic(auto, using(crate::proofs::Taken::read_for_line), unfolding(bac_text::specs::Page::Wrote))]
+    pub(crate) fn next_line<R: Read, W: Write>(
         &mut self,
         reader: &mut Checked<R>,
         page: &mut Page<'_, W>,
@@ -113,6 +116,7 @@ impl Chunk {
         ensures asked { MatchResult result
             (λ next. reads_of reader.new + length self.old ≤ reads_of reader.old + length self.new + over next.reading)
             (λ _. reads_of reader.new + length self.old ≤ reads_of reader.old + length self.new) }
+        ensures needed { ReadForLine (reads_of reader.old) (reads_of reader.new) self.old self.new }
         ensures spared { IsSpared reader.old reader.new }
         ensures room { may_come reader.new self.new ≤ may_come reader.old self.old }
     {
@@ -162,6 +166,7 @@ impl Chunk {
         ensures given { Takes R.remaining reader.old reader.new self.old self.new [] }
         ensures stands { StandsAs R.remaining result reader.old reader.new [] }
         ensures asked { reads_of reader.new + length self.old ≤ reads_of reader.old + length self.new + over result }
+        ensures once { reads_of reader.new ≤ reads_of reader.old + 1 }
         ensures spared { IsSpared reader.old reader.new }
         ensures room { may_come reader.new self.new ≤ may_come reader.old self.old }
         ensures more { result ≡ Reading.Open → may_read reader.new < may_read reader.old }
@@ -170,7 +175,7 @@ impl Chunk {
         if reader.reads() == u32::MAX {
             return Reading::Failed;
         }
-        if self.end > CHUNK - LINE_ROOM {
+        if self.end > CHUNK_ROOM - LINE_ROOM {
             self.octets.copy_within(self.start..self.end, 0);
             self.end -= self.start;
             self.start = 0;

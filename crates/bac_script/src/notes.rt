@@ -1,12 +1,14 @@
 //! What is printed of a client's notes, and of a device's replies.
-ghost use Rattle.std.specs.Prelude.{◌≡◌, false, is_err, option_map, IfErr, Some};
+ghost use Rattle.std.specs.Prelude.{◌≡◌, [], ◌∷◌, ◌++◌, false, is_err, option_map, IfErr};
 ghost use Rattle.std.specs.List.{flat_map};
+ghost use Rattle.hex.specs.Hex.{encode_lower};
 ghost use Rattle.bac_pdu.specs.Peer.{station};
 ghost use Rattle.bac_tsm.specs.Events.{Done, Refused, TimedOut};
 ghost use Rattle.bac_tsm.specs.Machine.{sent, due_notes};
 ghost use Rattle.bac_tsm.specs.Client.{end_seen, outcome_seen};
 ghost use Rattle.bac_text.specs.Checked.{inner_of, has_failed, Puts};
 ghost use Rattle.bac_text.specs.Page.{Prints};
+ghost use Rattle.bac_text.specs.PeerTexts.{peer_text};
 ghost use Rattle.bac_text.specs.Values.{region_text};
 ghost use Rattle.bac_outcomes.specs.Outcomes.{outcome_text};
 ghost use Rattle.bac_script.specs.Text.{note_text, notes_text, reply_text};
@@ -51,6 +53,7 @@ pub fn show_value<W: Write>(region: &[u8], writer: &mut Checked<W>) -> Result<()
 }
 
 /// Prints what the client sends under the ticket, where the request is open.
+#[tactic(auto, using(bac_text::proofs::Printed::printing, std::proofs::lemmas::Grind::common_steps))]
 pub(crate) fn print_sent<W: Write>(page: &mut Page<'_, W>, client: &Client, ticket: u64)
     ensures { Prints W.contents page.old page.new (notes_text (sent client.now.state ticket)) }
 {
@@ -58,10 +61,7 @@ pub(crate) fn print_sent<W: Write>(page: &mut Page<'_, W>, client: &Client, tick
         page.print(b"send ");
         page.print_number(ticket);
         page.print(b" ");
-        page.print_peer(peer);
-        page.print(b" ");
-        page.print_hex(octets);
-        page.print(b"\n");
+        print_datagram(page, peer, octets);
     }
 }
 
@@ -89,6 +89,7 @@ pub(crate) fn print_end<W: Write>(page: &mut Page<'_, W>, ended: Ended<'_>)
 }
 
 /// Prints what became of the requests that were due, in their order.
+#[tactic(auto, using(bac_text::proofs::Printed::printing, std::proofs::lemmas::Grind::common_steps, std::proofs::lemmas::List::take_more))]
 pub(crate) fn print_due<W: Write>(page: &mut Page<'_, W>, client: &Client, due: &[Entry])
     ensures { Prints W.contents page.old page.new (notes_text (flat_map (due_notes client.now.state) due.now)) }
 {
@@ -116,19 +117,25 @@ fn print_timeout<W: Write>(page: &mut Page<'_, W>, ticket: u64)
 }
 
 /// Prints what the device answers: its reply, or that it is silent.
+#[tactic(auto, using(bac_text::proofs::Printed::printing))]
 pub(crate) fn print_answer<W: Write>(page: &mut Page<'_, W>, to: Option<Peer>, octets: &[u8])
     ensures { Prints W.contents page.old page.new (reply_text (option_map (λ peer. (station peer, octets.now)) to)) }
 {
     match to {
-        Some(peer) => print_reply(page, peer, octets),
+        Some(peer) => {
+            page.print(b"reply ");
+            print_datagram(page, peer, octets);
+        }
         None => page.print(b"silent\n"),
     }
 }
 
-fn print_reply<W: Write>(page: &mut Page<'_, W>, peer: Peer, octets: &[u8])
-    ensures { Prints W.contents page.old page.new (reply_text (Some (station peer, octets.now))) }
+// Prints whom a datagram is for, and its octets.
+#[inline(always)]
+#[tactic(auto, using(bac_text::proofs::Printed::printing))]
+fn print_datagram<W: Write>(page: &mut Page<'_, W>, peer: Peer, octets: &[u8])
+    ensures { Prints W.contents page.old page.new (peer_text (station peer) ++ 32 ∷ (encode_lower octets.now ++ 10 ∷ [])) }
 {
-    page.print(b"reply ");
     page.print_peer(peer);
     page.print(b" ");
     page.print_hex(octets);

@@ -30,6 +30,7 @@ pub(crate) fn small_device() -> Device
 }
 
 /// Runs a line on the client and the device, and prints what comes of it. The device's reply is put into the frame.
+#[tactic(auto, using(bac_text::proofs::Printed::no_print))]
 pub(crate) fn run_line<W: Write>(
     client: &mut Client,
     device: &mut Device,

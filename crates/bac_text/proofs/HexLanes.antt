@@ -18,7 +18,7 @@ use Rattle.hex.proofs.HexLemmas.{length-encode_with}
 use Rattle.bac_text.specs.HexLanes.{number_by_lane, octets_by_lanes}
 use Rattle.bac_text.proofs.HexText.{same_digits, others_refused}
 use Rattle.bac_text.proofs.Lanes.{lane_is}
-use Rattle.bac_text.proofs.Printed.{encode_lower-append}
+use Rattle.bac_text.proofs.Printed.{encode_with-append}
 
 -- Functions with the same values up to here.
 same_below : {X : Type 0} (d : X) (f g : ℕ → X) (k n : ℕ) → map f (range_with_len 0 k) ≡ map g (range_with_len 0 k) → n < k → f n ≡ g n
@@ -59,7 +59,7 @@ pub written_on : (octets digits : List ℕ) (at start : ℕ) → at ≤ start �
 written_on octets digits at start before within room size written =
     let twice = λ (xs : List ℕ). length-encode_with lower_digits xs in
     let place : 2 * (at + 8) ≡ 2 * at + 16 = omega arith in
-    rw place (one_more encode_lower octets digits at start 8 (2 * at) (2 * start) 16 before (omega arith) (encode_lower-append (take at octets))
+    rw place (one_more encode_lower octets digits at start 8 (2 * at) (2 * start) 16 before (omega arith) (encode_with-append lower_digits (take at octets))
     (omega (arith, twice (take at octets), length-take-le at octets (omega arith)))
     (omega (arith, twice (chunk at 8 octets), length-chunk at 8 octets room)) (omega arith) written)
 

@@ -1,5 +1,5 @@
 -- Numbers that are read digit by digit.
-use Rattle.std.proofs.Common.{decimal, lit<, ◌≡◌, ℕ, ◌+◌, ◌-◌, ◌*◌, ◌^◌, ◌<◌, ◌≤◌, Bool, true, false, List, [], ◌∷◌, length, take, get_or, Some, None, refl, ◌∙◌, ap, arith}
+use Rattle.std.proofs.Common.{decimal, lit<, ◌≡◌, ℕ, ◌+◌, ◌-◌, ◌*◌, ◌^◌, ◌<◌, ◌≤◌, true, false, List, [], ◌∷◌, length, take, get_or, Some, None, refl, ◌∙◌, ap, arith}
 use Rattle.std.specs.Prelude.{◌&&◌}
 use Rattle.std.specs.List.{list_all}
 use Rattle.std.specs.Char.{is_ascii_digit, digit_value}
@@ -33,7 +33,8 @@ digits_next word i h all one = all_tested (take (i + 1) word) ∙ list_all_more 
 value_of_digit : (c : ℕ) → is_ascii_digit c ≡ true → digit_value c ≡ c - 48
 value_of_digit c h = grind (arith, nat_tests)
 
-pub value_next : (word : List ℕ) (i number : ℕ) → i < length word → is_ascii_digit (get_or word i 0) ≡ true → number ≡ digits_value 10 (take i word) → number * 10 + (get_or word i 0 - 48) ≡ digits_value 10 (take (i + 1) word)
+pub value_next : (word : List ℕ) (i number : ℕ) → i < length word → is_ascii_digit (get_or word i 0) ≡ true
+    → number ≡ digits_value 10 (take i word) → number * 10 + (get_or word i 0 - 48) ≡ digits_value 10 (take (i + 1) word)
 value_next word i number h one e = grind (arith, value_of_digit, digits_value_more)
 
 -- A word that is no number, since one of its octets is no digit.
@@ -43,7 +44,8 @@ not_number most word e = grind arith
 pub number_up_to-too_big : (word : List ℕ) (i : ℕ) → 2 ^ 64 ≤ digits_value 10 (take i word) → number_up_to (2 ^ 64 - 1) word ≡ None
 number_up_to-too_big word i big = let more = digits_value-take-le 10 word i (omega arith) in grind (arith, nat_tests)
 
-pub number_up_to-whole : (word : List ℕ) (i number : ℕ) → length word ≤ i → 0 < length word → all_ascii_digits (take i word) ≡ true → number ≡ digits_value 10 (take i word) → number < 2 ^ 64 → number_up_to (2 ^ 64 - 1) word ≡ Some number
+pub number_up_to-whole : (word : List ℕ) (i number : ℕ) → length word ≤ i → 0 < length word → all_ascii_digits (take i word) ≡ true
+    → number ≡ digits_value 10 (take i word) → number < 2 ^ 64 → number_up_to (2 ^ 64 - 1) word ≡ Some number
 number_up_to-whole word i number h some all e fits = let whole = take_all i word h in grind (arith, nat_tests)
 
 -- How many digits a number of one, two or eight octets has.

@@ -1,6 +1,7 @@
 -- The words of pairs, from their front, and the region that they write.
-use Rattle.std.proofs.Common.{◌≡◌, ℕ, ◌+◌, ◌*◌, ◌<◌, ◌≤◌, ◌-◌, Bool, true, false, List, [], ◌∷◌, ◌++◌, length, Option, Some, None, Result, Ok, Err, refl, sym, ◌∙◌, ap, arith, append-nil, append_assoc, length-append}
+use Rattle.std.proofs.Common.{◌≡◌, ℕ, ◌+◌, ◌*◌, ◌<◌, ◌≤◌, ◌-◌, Bool, true, false, List, [], ◌∷◌, ◌++◌, length, drop, Option, Some, None, Result, Ok, Err, refl, sym, ◌∙◌, ap, arith, append-nil, append_assoc, length-append}
 use Rattle.std.proofs.lemmas.Bool.Decides.{nat_tests}
+use Rattle.std.proofs.lemmas.List.{drop-drop, drop_all}
 use Rattle.bac_wire.specs.Datum.{Datum, plain}
 use Rattle.bac_wire.specs.Tag.{plain_tag}
 use Rattle.bac_pdu.specs.Parameter.{plain_all}
@@ -34,6 +35,7 @@ pub record Progress (all left : List (List ℕ)) (number : ℕ) (region : List �
   pub said : pairs_from 1 all ≡ then_values values (pairs_from number left)
   pub counted : length all ≡ 2 * (number - 1) + length left
   pub some : 1 ≤ number
+  pub behind : left ≡ drop (2 * (number - 1)) all
   pub stands : Stands is_too_long region values
 
 first_pair : (n : ℕ) (tag word : List ℕ) (left : List (List ℕ)) (value : Datum) → value_in tag word ≡ Some value →
@@ -57,15 +59,31 @@ stands-long : (b : Bool) (region : List ℕ) (values : List Datum) (value : Datu
     1497 < length (plain_all plain (values ++ value ∷ []))
 stands-long b region values value stands e = let more = plain_all-more values value in grind (arith, nat_tests, length-append)
 
+-- No pair was taken yet.
+pub progress-first : (all : List (List ℕ)) → Progress all all 1 [] false
+progress-first all = record { values = []; said = grind arith; counted = omega arith; some = omega arith; behind = refl; stands = (refl, omega arith) }
+
+-- The words behind the pair that is next.
+pub pair_behind : (all words left : List (List ℕ)) (n : ℕ) (tag word region : List ℕ) (b : Bool) → Progress all words n region b → words ≡ tag ∷ word ∷ left →
+    left ≡ drop (2 * n) all
+pair_behind all words left n tag word region b p is =
+    let two : 2 * (n - 1) + 2 ≡ 2 * n = omega (arith, p.some) in
+    ap (λ (zs : List (List ℕ)). drop 2 zs) (sym is ∙ p.behind) ∙ drop-drop 2 (2 * (n - 1)) all ∙ ap (λ (k : ℕ). drop k all) two
+
+-- No word is behind a lone tag.
+pub none_behind : (all left : List (List ℕ)) (n : ℕ) (region : List ℕ) (b : Bool) → Progress all left n region b → length left ≡ 1 → [] ≡ drop (2 * n) all
+none_behind all left n region b p few = sym (drop_all (2 * n) all (omega (arith, p.counted, p.some, few)))
+
 progress-on : {all left : List (List ℕ)} {n : ℕ} {tag word region new : List ℕ} {b later : Bool} (value : Datum) →
     Progress all (tag ∷ word ∷ left) n region b →
     value_in tag word ≡ Some value → ((values : List Datum) → Stands b region values → Stands later new (values ++ value ∷ [])) →
     Progress all left (n + 1) new later
-progress-on {all} {left} {n} {tag} {word} value p is on = record {
+progress-on {all} {left} {n} {tag} {word} {region} {new} {b} {later} value p is on = record {
   values = p.values ++ value ∷ [];
   said = said-more all left n tag word p.values value p.said is;
   counted = omega (arith, p.counted, p.some);
   some = omega arith;
+  behind = let same : 2 * n ≡ 2 * (n + 1 - 1) = omega arith in pair_behind all (tag ∷ word ∷ left) left n tag word region b p refl ∙ ap (λ (k : ℕ). drop k all) same;
   stands = on p.values p.stands;
 }
 
@@ -101,18 +119,21 @@ plain_some value others = omega arith
 none_first : (n : ℕ) (found : Option Datum) (more : Result (List Datum) ℕ) → value_before n found more ≡ Ok [] → ⊥
 none_first n found more e = grind arith
 
-values_in-empty : (words : List (List ℕ)) → pairs_from 1 words ≡ Ok [] → region_of words ≡ Err (Bad 1)
-values_in-empty [] e = refl
-values_in-empty (tag ∷ []) e = absurd (cc)
-values_in-empty (tag ∷ word ∷ left) e = absurd (none_first 1 (value_in tag word) (pairs_from 2 left) e)
+none_said : (words : List (List ℕ)) → pairs_from 1 words ≡ Ok [] → words ≡ []
+none_said [] e = refl
+none_said (tag ∷ []) e = absurd (cc)
+none_said (tag ∷ word ∷ left) e = absurd (none_first 1 (value_in tag word) (pairs_from 2 left) e)
 
 -- No value is spelled by nothing, so where nothing was appended there was no pair.
-pub progress-empty : (all left : List (List ℕ)) (n : ℕ) (region : List ℕ) → Progress all left n region false → left ≡ [] → region ≡ [] → region_of all ≡ Err (Bad 1)
-progress-empty all left n region p e none = go p.values (p.said ∙ said-all p.values n left e) (sym p.stands.0 ∙ none)
+pub progress-none : (all left : List (List ℕ)) (n : ℕ) (region : List ℕ) → Progress all left n region false → left ≡ [] → region ≡ [] → all ≡ []
+progress-none all left n region p e none = go p.values (p.said ∙ said-all p.values n left e) (sym p.stands.0 ∙ none)
   where
-    go : (values : List Datum) → pairs_from 1 all ≡ Ok values → plain_all plain values ≡ [] → region_of all ≡ Err (Bad 1)
-    go [] said same = values_in-empty all said
+    go : (values : List Datum) → pairs_from 1 all ≡ Ok values → plain_all plain values ≡ [] → all ≡ []
+    go [] said same = none_said all said
     go (value ∷ others) said same = absurd (let size = ap length same in let some = plain_some value others in omega arith)
+
+pub progress-empty : (all left : List (List ℕ)) (n : ℕ) (region : List ℕ) → Progress all left n region false → left ≡ [] → region ≡ [] → region_of all ≡ Err (Bad 1)
+progress-empty all left n region p e none = ap region_of (progress-none all left n region p e none)
 
 pub progress-end : (all left : List (List ℕ)) (n : ℕ) (region : List ℕ) → Progress all left n region false → left ≡ [] → (region ≡ [] → ⊥) → region_of all ≡ Ok region
 progress-end all left n region p e some = go p.values (p.said ∙ said-all p.values n left e) p.stands
@@ -124,4 +145,4 @@ progress-end all left n region p e some = go p.values (p.said ∙ said-all p.val
         let size = ap length stands.0 in
         rw is (grind (arith, nat_tests))
 
-pub ruleset progress = (progress-more, progress-long, progress-empty, progress-end)
+pub ruleset progress = (progress-first, progress-more, progress-long, progress-empty, progress-end, none_behind)

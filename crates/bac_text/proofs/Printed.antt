@@ -1,5 +1,5 @@
 -- What several prints in a row come to.
-use Rattle.std.proofs.Common.{◌≡◌, ℕ, List, [], ◌∷◌, ◌++◌, Option, Result, Ok, Err, is_err, true, refl, sym, ◌∙◌, ap, append_assoc, subst, inl, inr}
+use Rattle.std.proofs.Common.{◌≡◌, ℕ, List, [], ◌∷◌, ◌++◌, Option, Result, Ok, Err, is_err, true, arith, refl, sym, ◌∙◌, ap, append_assoc, subst, inl, inr}
 use Rattle.std.proofs.lemmas.List.{append-nil, take-append-drop}
 use Rattle.std.proofs.lemmas.Bool.Decides.{nat_tests}
 use Rattle.std.proofs.lemmas.Bool.{cases_Bool, false≢true}
@@ -7,16 +7,13 @@ use Rattle.bac_text.specs.declared.checked.Checked.{Checked}
 use Rattle.bac_text.specs.declared.page.Page.{Page}
 use Rattle.bac_text.specs.Checked.{inner_of, has_failed}
 use Rattle.hex.specs.Hex.{encode_with, encode_lower, lower_digits}
-use Rattle.bac_text.specs.Page.{held, writer_of, Writes, Prints}
+use Rattle.bac_text.specs.Page.{held, writer_of, Writes, Wrote, Prints}
 use Rattle.bac_text.proofs.Known.{Appends-none, Appends-more}
 
 pub encode_with-append : (t xs ys : List ℕ) → encode_with t (xs ++ ys) ≡ encode_with t xs ++ encode_with t ys
 unfolding encode_with
 encode_with-append t [] ys = refl
 encode_with-append t (x ∷ xs) ys = rw (encode_with-append t xs ys) refl
-
-pub encode_lower-append : (xs ys : List ℕ) → encode_lower (xs ++ ys) ≡ encode_lower xs ++ encode_lower ys
-encode_lower-append xs ys = encode_with-append lower_digits xs ys
 
 -- All of the octets before the rest were printed in hexadecimal.
 pub record PrintsHex {W : Type 0} (contents : W → Option (List ℕ)) (before after : Page W) (octets rest : List ℕ) : Type 0 where
@@ -25,17 +22,6 @@ pub record PrintsHex {W : Type 0} (contents : W → Option (List ℕ)) (before a
   pub printed : Prints contents before after (encode_lower front)
 
 module _ {W : Type 0} {contents : W → Option (List ℕ)} where
-  -- Text that is held and not yet written.
-  pub held_on : (writer : Checked W) (held kept text : List ℕ) → kept ≡ held ++ text → Writes contents writer writer held kept text
-  held_on writer held kept text e = record {
-    taken = [];
-    rest = kept;
-    took = Appends-none (contents (inner_of writer));
-    whole = sym e;
-    sound = λ h. (h, refl);
-    stopped = λ h. (h, refl);
-  }
-
   -- One text written after another.
   pub writes_more : {before middle after : Checked W} {held between kept text more : List ℕ} →
       Writes contents before middle held between text → Writes contents middle after between kept more →
@@ -47,9 +33,9 @@ module _ {W : Type 0} {contents : W → Option (List ℕ)} where
           taken = first.taken;
           rest = first.rest ++ more;
           took = let both = Appends-more _ _ _ _ _ first.took second.took in rw (lost.1, append-nil first.taken) at both;
-          whole = sym (append_assoc held text more) ∙ ap (λ (xs : List ℕ). xs ++ more) first.whole ∙ append_assoc first.taken first.rest more;
-          sound = λ h. absurd (false≢true (sym h ∙ lost.0));
-          stopped = λ h. (lost.0, (first.stopped h).1);
+          whole = grind (arith, append_assoc);
+          sound = λ h. absurd (false≢true (sym h ∙ ap (λ (w : Checked W). has_failed w) lost.0 ∙ bad));
+          stopped = λ h. (lost.0 ∙ (first.stopped h).0, (first.stopped h).1);
         }
     | inr good ↦
         let gone = first.sound good in
@@ -57,31 +43,40 @@ module _ {W : Type 0} {contents : W → Option (List ℕ)} where
           taken = first.taken ++ second.taken;
           rest = second.rest;
           took = Appends-more _ _ _ _ _ first.took second.took;
-          whole =
-              sym (append_assoc held text more) ∙ ap (λ (xs : List ℕ). xs ++ more) (first.whole ∙ ap (λ (xs : List ℕ). first.taken ++ xs) gone.1)
-              ∙ append_assoc first.taken between more ∙ ap (λ (xs : List ℕ). first.taken ++ xs) second.whole
-              ∙ sym (append_assoc first.taken second.taken second.rest);
+          whole = grind (arith, append_assoc);
           sound = λ h. (gone.0, (second.sound h).1);
-          stopped = λ h. absurd (false≢true (sym good ∙ (first.stopped h).0));
+          stopped = λ h. absurd (false≢true (sym good ∙ ap (λ (w : Checked W). has_failed w) (first.stopped h).0 ∙ h));
         }
   ]
 
   -- What finds no room is written after what was held.
-  pub written_past : {before middle after : Checked W} {held handed between text : List ℕ} → handed ≡ held → between ≡ [] →
-      Writes contents before middle handed between [] → Writes contents middle after [] [] text → Writes contents before after held between text
-  written_past {before} {middle} {after} {held} {handed} {between} {text} same empty first second =
-      subst (λ (xs : List ℕ). Writes contents before after xs between text) same
-      (subst (λ (xs : List ℕ). Writes contents before after handed xs text) (sym empty)
-      (writes_more (subst (λ (xs : List ℕ). Writes contents before middle handed xs []) empty first) second))
+  pub written_past : {before middle after : Checked W} {held between text : List ℕ} → between ≡ [] → Writes contents before middle held between [] →
+      Writes contents middle after [] [] text → Writes contents before after held between text
+  written_past empty first second = rw empty (writes_more (rw empty at first) second)
 
   -- Nothing printed, and nothing changed.
+  pub no_print : (page : Page W) {said : List ℕ} → [] ≡ said → Prints contents page page said
+  unfolding Wrote
+  no_print page none = record {
+    same = refl;
+    wrote = record {
+      taken = [];
+      rest = held page;
+      took = Appends-none (contents (inner_of (writer_of page)));
+      whole = rw (← none) (append-nil (held page));
+      sound = λ h. (h, refl);
+      stopped = λ h. (refl, refl);
+    };
+  }
+
   pub prints_nothing : (page : Page W) → Prints contents page page []
-  prints_nothing page = record { same = refl; wrote = held_on (writer_of page) (held page) (held page) [] (sym (append-nil (held page))) }
+  prints_nothing page = no_print page refl
 
   -- One print after another.
   infixr 9 ◌⨾◌
   pub ◌⨾◌ : {before middle after : Page W} {text more : List ℕ} → Prints contents before middle text → Prints contents middle after more →
       Prints contents before after (text ++ more)
+  unfolding Wrote
   first ⨾ second = record { same = second.same ∙ first.same; wrote = writes_more first.wrote second.wrote }
 
   -- The text that was printed, said otherwise.
@@ -112,9 +107,9 @@ module _ {W : Type 0} {contents : W → Option (List ℕ)} where
   hex_more part later so_far cut more = record {
     front = so_far.front ++ part;
     parts = so_far.parts ∙ ap (λ (xs : List ℕ). so_far.front ++ xs) cut ∙ sym (append_assoc so_far.front part later);
-    printed = printed_as (so_far.printed ⨾ more) (sym (encode_lower-append so_far.front part));
+    printed = printed_as (so_far.printed ⨾ more) (sym (encode_with-append lower_digits so_far.front part));
   }
 
-pub ruleset printing = (then_prints, three_prints, four_prints, prints_nothing, nat_tests)
+pub ruleset printing = (then_prints, three_prints, four_prints, no_print, nat_tests)
 
 pub ruleset printing_hex = (hex_none, hex_more, take-append-drop)

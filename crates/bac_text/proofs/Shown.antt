@@ -6,13 +6,14 @@ use Rattle.std.proofs.lemmas.List.{append-nil}
 use Rattle.bac_text.specs.declared.checked.Checked.{Checked}
 use Rattle.bac_text.specs.declared.page.Page.{Page}
 use Rattle.bac_text.specs.Checked.{inner_of, has_failed, Puts}
-use Rattle.bac_text.specs.Page.{held, writer_of, Writes, Prints}
+use Rattle.bac_text.specs.Page.{held, writer_of, Writes, Wrote, Prints}
 use Rattle.bac_text.proofs.Printed.{writes_more}
 
 module _ {W : Type 0} {contents : W → Option (List ℕ)} where
   -- What was printed on an empty page that was finished was written, as far as the writer didn't fail.
   pub finished : {writer after : Checked W} {first last : Page W} {text : List ℕ} → writer_of first ≡ writer → held first ≡ [] →
       Prints contents first last text → Writes contents (writer_of last) after (held last) [] [] → Writes contents writer after [] [] text
+  unfolding Wrote
   finished {writer} {after} {first} {last} {text} same empty printed gone =
       subst (λ (before : Checked W). Writes contents before after [] [] text) same
       (subst (λ (xs : List ℕ). Writes contents (writer_of first) after xs [] text) empty

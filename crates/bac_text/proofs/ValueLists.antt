@@ -9,7 +9,7 @@ use Rattle.bac_wire.proofs.DatumLaws.{value_reader}
 use Rattle.bac_wire.proofs.RegionReading.{tag_shorter}
 use Rattle.bac_wire.specs.Front.{SpellsAll}
 use Rattle.bac_pdu.proofs.SequenceLaws.{begins, begins_read}
-use Rattle.bac_text.specs.Words.{◌>>=◌}
+use Rattle.bac_wire.specs.Steps.{◌>>=◌}
 use Rattle.bac_text.specs.ValuesInWords.{AreSpelled}
 use Rattle.bac_text.specs.Values.{values_within, values_of}
 

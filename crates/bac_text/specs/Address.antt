@@ -1,8 +1,10 @@
 -- A peer as it is written: four numbers joined by dots, a port after a colon, and a route after a slash.
-use Rattle.std.specs.Prelude.{ℕ, ◌+◌, ◌-◌, ◌*◌, ◌==◌, ◌&&◌, nat_lt, nat_le, List, length, take, drop, Option, Some, None, option_map, position, if◌then◌else◌}
+use Rattle.std.specs.Prelude.{ℕ, ◌+◌, ◌-◌, ◌*◌, ◌==◌, nat_le, List, length, take, drop, Option, Some, None, option_map, position, if◌then◌else◌}
 use Rattle.std.specs.Char.{is_ascii_digit}
 use Rattle.bac_pdu.specs.Peer.{NetworkAddress, Station}
-use Rattle.bac_text.specs.Words.{◌>>=◌, number_up_to, octets_of}
+use Rattle.bac_pdu.specs.DatagramReading.{is_routable}
+use Rattle.bac_wire.specs.Steps.{◌>>=◌}
+use Rattle.bac_text.specs.Words.{number_up_to, octets_of}
 
 -- What stands before and after the first such octet, if there is one.
 abbrev pub cut_at : ℕ → List ℕ → Option (List ℕ × List ℕ)
@@ -55,8 +57,7 @@ plain_peer_of text = station_cut text (cut_at 58 text)
 -- A network 1 to 65534 and an address of one to seven octets in it.
 abbrev pub routable : ℕ → List ℕ → Option NetworkAddress
 routable network address =
-    if nat_lt 0 network && nat_lt network 65535 && nat_lt 0 (length address) && nat_lt (length address) 8
-    then Some (record { network = network; address = address }) else None
+    if is_routable (record { network = network; address = address }) then Some (record { network = network; address = address }) else None
 
 -- The number of the network, a slash (47) and the address in hexadecimal digits.
 abbrev pub route_of : List ℕ → Option NetworkAddress

@@ -20,6 +20,10 @@ ends_of checked = checked.ends
 abbrev pub reads_of : {T : Type 0} → Checked T → ℕ
 reads_of checked = checked.reads
 
+-- what is known of its reads is as before
+abbrev pub HasNotRead : {T : Type 0} → Checked T → Checked T → Type 0
+HasNotRead before after = (has_ended after ≡ has_ended before) × (ends_of after ≡ ends_of before) × (reads_of after ≡ reads_of before)
+
 -- as it is made
 abbrev pub fresh : {T : Type 0} → T → Checked T
 fresh inner = record { inner = inner; failed = false; ended = false; ends = 0; reads = 0 }
@@ -38,7 +42,11 @@ abbrev pub is_failed_write : {E : Type 0} → Result ℕ E → List ℕ → Bool
 is_failed_write (Ok taken) text = taken == 0 && nat_lt 0 (length text)
 is_failed_write (Err e) text = true
 
+-- the writer took a front of the text
+abbrev pub TakesFront : Option (List ℕ) → Option (List ℕ) → List ℕ → Type 0
+TakesFront before after text = (taken rest : List ℕ) × (text ≡ taken ++ rest) × Appends before after taken
+
 -- the writer took the text, or, where it failed, a front of it
 abbrev pub Puts : {A E : Type 0} → Option (List ℕ) → Option (List ℕ) → List ℕ → Result A E → Type 0
 Puts before after text (Ok done) = Appends before after text
-Puts before after text (Err e) = (taken rest : List ℕ) × (text ≡ taken ++ rest) × Appends before after taken
+Puts before after text (Err e) = TakesFront before after text

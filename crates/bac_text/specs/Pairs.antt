@@ -1,5 +1,5 @@
 -- The words of a property's value: tags and values in turn, and the body of the request that writes them.
-use Rattle.std.specs.Prelude.{ℕ, ◌+◌, List, [], ◌∷◌, Option, Some, None, Result, Ok, Err}
+use Rattle.std.specs.Prelude.{ℕ, ◌+◌, ◌*◌, List, [], ◌∷◌, drop, Option, Some, None, Result, Ok, Err}
 use Rattle.bac_wire.specs.Datum.{Datum, plain}
 use Rattle.bac_wire.specs.Identifier.{Identifier}
 use Rattle.bac_pdu.specs.Parameter.{plain_all}
@@ -32,6 +32,12 @@ values_in (tag ∷ others) = pairs_from 1 (tag ∷ others)
 abbrev pub region_with : Result (List Datum) ℕ → Result (List ℕ) PairFault
 region_with (Ok values) = at_most TooLong frame_room (plain_all plain values)
 region_with (Err n) = Err (Bad n)
+
+-- The words that are left of these: none, or those behind the first pair that has no value.
+abbrev pub words_behind : {A : Type 0} → Result A PairFault → List (List ℕ) → List (List ℕ)
+words_behind (Ok it) words = []
+words_behind (Err TooLong) words = []
+words_behind (Err (Bad n)) words = drop (2 * n) words
 
 abbrev pub region_of : List (List ℕ) → Result (List ℕ) PairFault
 region_of words = region_with (values_in words)

@@ -9,7 +9,8 @@ use Rattle.bac_wire.specs.Identifier.{Identifier}
 use Rattle.bac_wire.specs.Limits.{frame_room}
 use Rattle.bac_text.specs.declared.value_words.ValueFault.{ValueFault}
 use Rattle.bac_text.specs.declared.value_words.ValueFault.TheVariants.{Bad, TooLong}
-use Rattle.bac_text.specs.Words.{◌>>=◌, number_up_to}
+use Rattle.bac_wire.specs.Steps.{◌>>=◌}
+use Rattle.bac_text.specs.Words.{number_up_to}
 use Rattle.bac_text.specs.Address.{cut_at}
 
 -- The words true and 1, or false and 0.

@@ -8,7 +8,7 @@ use Rattle.bac_wire.specs.DatumReading.{value_at}
 use Rattle.bac_wire.specs.Identifier.{Identifier}
 use Rattle.bac_pdu.specs.Property.{Answer}
 use Rattle.bac_pdu.specs.PropertyReading.{ack_of}
-use Rattle.bac_text.specs.Words.{◌>>=◌}
+use Rattle.bac_wire.specs.Steps.{◌>>=◌}
 
 -- A quotation mark (34) or a backslash (92).
 abbrev pub is_escaped : ℕ → Bool

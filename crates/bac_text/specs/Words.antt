@@ -7,12 +7,6 @@ use Rattle.std.specs.Result.{result_ok, result_unwrap_or}
 use Rattle.hex.specs.Hex.{decode_of}
 use Rattle.bac_text.specs.Limits.{longest_line}
 
--- One reading after another.
-infixl 10 ◌>>=◌
-abbrev pub ◌>>=◌ : {A B : Type 0} → Option A → (A → Option B) → Option B
-Some x >>= f = f x
-None >>= f = None
-
 -- A space or a tab.
 abbrev pub is_blank : ℕ → Bool
 is_blank octet = octet == 32 || octet == 9

@@ -3,7 +3,7 @@ ghost use Rattle.std.specs.Prelude.{◌≡◌, ◌≤◌, length, IfSome, IfOk, 
 ghost use Rattle.bac_wire.specs.Identifier.{identifier};
 ghost use Rattle.bac_pdu.specs.Property.{IsPriority, reference, read_octets};
 ghost use Rattle.bac_text.specs.Limits.{longest_body};
-ghost use Rattle.bac_text.specs.Pairs.{body_of};
+ghost use Rattle.bac_text.specs.Pairs.{body_of, words_behind};
 
 use crate::pairs::{PairFault, read_pairs};
 use crate::words::WordSource;
@@ -40,7 +40,8 @@ impl BodyRoom {
         self.body.as_slice()
     }
 
-    /// The body of the WriteProperty request that gives a property the values of the words (clause 15.9).
+    /// The body of the WriteProperty request that gives a property the values of the words (clause 15.9). They are all taken, or
+    /// those up to the first pair that is bad.
     ///
     /// # Errors
     ///
@@ -59,6 +60,7 @@ impl BodyRoom {
             (λ body. body_of (identifier object) property index priority (S.left words.old) ≡ Ok body.now)
             (λ fault. body_of (identifier object) property index priority (S.left words.old) ≡ Err fault) }
         ensures short { IfOk result (λ body. length body.now ≤ longest_body) }
+        ensures left { S.left words.new ≡ words_behind result (S.left words.old) }
     {
         read_pairs(words, &mut self.values)?;
         let request = WriteRequest {
@@ -98,9 +100,10 @@ pub fn read_write_body<'a, S: WordSource<'a>>(
     words: &mut S,
 ) -> Result<ArrayVec<u8, LONGEST_BODY>, PairFault>
     requires { IfSome priority IsPriority }
-    ensures { MatchResult result
+    ensures body { MatchResult result
         (λ body. body_of (identifier object) property index priority (S.left words.old) ≡ Ok body.items)
         (λ fault. body_of (identifier object) property index priority (S.left words.old) ≡ Err fault) }
+    ensures left { S.left words.new ≡ words_behind result (S.left words.old) }
 {
     let mut room = BodyRoom::new();
     let body = room.write_body(object, property, index, priority, words)?;

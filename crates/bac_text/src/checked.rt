@@ -2,7 +2,7 @@
 ghost use Rattle.std.specs.Prelude.{◌≡◌, ◌+◌, ◌-◌, ◌^◌, ◌||◌, min, false, is_err};
 ghost use Rattle.std.specs.Io.{ReadsAtMost, WritesAtMost};
 ghost use Rattle.std.specs.Io.KnownBytes.{ReadConsumes, WriteAppends, Keeps};
-ghost use Rattle.bac_text.specs.Checked.{inner_of, has_failed, has_ended, ends_of, reads_of, fresh, is_end, ends_with, is_failed_write, Puts};
+ghost use Rattle.bac_text.specs.Checked.{inner_of, has_failed, has_ended, ends_of, reads_of, HasNotRead, fresh, is_end, ends_with, is_failed_write, Puts};
 
 use std::io::{self, Read, Write};
 
@@ -95,6 +95,7 @@ impl<W: Write> Write for Checked<W> {
         ensures bound { WritesAtMost result buf.now }
         ensures bytes { WriteAppends (W.contents (inner_of self.old)) (W.contents (inner_of self.new)) result buf.now }
         ensures failed { has_failed self.new ≡ (has_failed self.old || is_failed_write result buf.now) }
+        ensures reads { HasNotRead self.old self.new }
     {
         let outcome = self.inner.write(buf);
         match outcome {
@@ -108,6 +109,7 @@ impl<W: Write> Write for Checked<W> {
     fn flush(&mut self) -> io::Result<()>
         ensures bytes { Keeps (W.contents (inner_of self.old)) (W.contents (inner_of self.new)) }
         ensures failed { has_failed self.new ≡ has_failed self.old }
+        ensures reads { HasNotRead self.old self.new }
     {
         self.inner.flush()
     }
@@ -120,6 +122,7 @@ impl<W: Write> Checked<W> {
         requires { has_failed self.old ≡ false }
         ensures text { Puts (W.contents (inner_of self.old)) (W.contents (inner_of self.new)) text.now result }
         ensures failed { has_failed self.new ≡ is_err result }
+        ensures reads { HasNotRead self.old self.new }
     {
         let mut rest = text;
         while !rest.is_empty() {

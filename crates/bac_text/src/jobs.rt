@@ -6,9 +6,11 @@ use bac_pdu::{Peer, WhoIs};
 /// One request to a device.
 #[derive(Drop)]
 pub struct Call {
+    /// Whom it is sent to.
     pub to: Peer,
     /// The milliseconds after which the request is sent again, at least 1.
     pub timeout: u32,
+    /// How often it is sent again.
     pub retries: u8,
     /// The port that the request is sent from; 0 is any.
     pub port: u16,
@@ -19,10 +21,12 @@ pub struct Call {
 /// A search for devices.
 #[derive(Drop)]
 pub struct Search {
+    /// Whom it is sent to.
     pub to: Peer,
     /// The milliseconds for which answers are waited for, at least 1.
     pub timeout: u32,
     /// The port that is asked from and listened at; 0 is any.
     pub port: u16,
+    /// Which devices are asked.
     pub who: WhoIs,
 }

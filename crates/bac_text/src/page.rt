@@ -77,6 +77,7 @@ impl<'w, W: Write> Page<'w, W> {
     }
 
     /// Hands the writer what the page holds.
+    #[tactic(auto, unfolding(crate::specs::Page::Wrote))]
     pub fn turn_in(&mut self)
         ensures printed { Prints W.contents self.old self.new [] }
         ensures empty { held self.new ≡ [] }
@@ -104,6 +105,7 @@ impl<'w, W: Write> Page<'w, W> {
 
     /// Prints the text.
     #[inline(always)]
+    #[tactic(auto, unfolding(crate::specs::Page::Wrote))]
     pub fn print(&mut self, text: &[u8])
         ensures { Prints W.contents self.old self.new text.now }
     {
@@ -123,6 +125,7 @@ impl<'w, W: Write> Page<'w, W> {
     }
 
     // Holds the text, or writes it where no page has room for it.
+    #[tactic(auto, unfolding(crate::specs::Page::Wrote))]
     fn hold_or_write(&mut self, text: &[u8])
         ensures { Prints W.contents self.old self.new text.now }
     {

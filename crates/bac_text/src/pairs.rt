@@ -1,7 +1,7 @@
 //! The words of a property's value: tags and values in turn.
 ghost use Rattle.std.specs.Prelude.{◌≡◌, ◌∷◌, [], length, MatchResult, MatchOption, Ok, Err};
 ghost use Rattle.bac_text.specs.declared.pairs.PairFault.TheVariants.{Bad};
-ghost use Rattle.bac_text.specs.Pairs.{region_of};
+ghost use Rattle.bac_text.specs.Pairs.{region_of, words_behind};
 
 use crate::value_words::{ValueFault, append_pair};
 use crate::words::WordSource;
@@ -28,9 +28,10 @@ pub(crate) fn read_pairs<'a, S: WordSource<'a>>(
     words: &mut S,
     region: &mut Frame,
 ) -> Result<(), PairFault>
-    ensures { MatchResult result
+    ensures value { MatchResult result
         (λ _. region_of (S.left words.old) ≡ Ok region.new)
         (λ fault. region_of (S.left words.old) ≡ Err fault) }
+    ensures left { S.left words.new ≡ words_behind result (S.left words.old) }
 {
     words.are_countable();
     region.clear();
@@ -60,9 +61,9 @@ fn next_pair<'a, S: WordSource<'a>>(
     number: u64,
 ) -> Result<Option<(&'a [u8], &'a [u8])>, PairFault>
     ensures { MatchResult result
-        (λ found. MatchOption found (S.left words.old ≡ [])
+        (λ found. MatchOption found ((S.left words.old ≡ []) × (S.left words.new ≡ []))
         (λ pair. S.left words.old ≡ pair.0.now ∷ pair.1.now ∷ S.left words.new))
-        (λ fault. (fault ≡ Bad number) × (length (S.left words.old) ≡ 1)) }
+        (λ fault. (fault ≡ Bad number) × (length (S.left words.old) ≡ 1) × (S.left words.new ≡ [])) }
 {
     let Some(tag) = words.next_word() else {
         return Ok(None);

@@ -13,7 +13,7 @@ ghost use Rattle.bac_text.specs.Values.{is_escaped, is_printable, bit_digit, sep
 use crate::checked::{Checked, WriteFailed};
 use crate::page::Page;
 use bac_pdu::read_ack;
-use bac_wire::{ObjectId, Value, read_value};
+use bac_wire::{ObjectId, Value};
 use std::io::Write;
 
 /// Writes the text of a region: of one value its text, of none or several their texts in braces, and of anything else
@@ -79,6 +79,7 @@ impl<W: Write> Page<'_, W> {
     }
 
     // Prints a comma, where octets follow.
+    #[tactic(auto, using(crate::proofs::Printed::no_print))]
     fn print_separator(&mut self, behind: &[u8])
         ensures { Prints W.contents self.old self.new (separator behind.now) }
     {
@@ -124,10 +125,8 @@ impl<W: Write> Page<'_, W> {
     {
         if number < 0 {
             self.print(b"-");
-            self.print_number(number.unsigned_abs());
-        } else {
-            self.print_number(number.unsigned_abs());
         }
+        self.print_number(number.unsigned_abs());
     }
 
     #[tactic(auto, using(crate::proofs::Printed::printing))]
@@ -148,20 +147,16 @@ impl<W: Write> Page<'_, W> {
         self.print_hex(octets);
         self.print(b"'");
     }
-}
 
-impl<W: Write> Page<'_, W> {
     #[tactic(auto, using(crate::proofs::Printed::printing))]
     fn print_string(&mut self, set: u8, text: &[u8])
         ensures { Prints W.contents self.old self.new (string_text set text.now) }
     {
-        if set == 0 {
-            self.print_quoted(text);
-        } else {
+        if set != 0 {
             self.print_number(u64::from(set));
             self.print(b":");
-            self.print_quoted(text);
         }
+        self.print_quoted(text);
     }
 
     #[tactic(auto, using(crate::proofs::Printed::printing))]
@@ -206,7 +201,7 @@ impl<W: Write> Page<'_, W> {
     }
 
     // Prints the bits of the octets but for the last ones, which are unused.
-    #[tactic(auto, using(crate::proofs::Printed::printing, crate::proofs::ValueTexts::bits_last))]
+    #[tactic(auto, using(crate::proofs::Printed::printing, crate::proofs::ValueTexts::bits_last, std::proofs::lemmas::List::nil_from_length))]
     fn print_used_bits(&mut self, unused: u8, octets: &[u8])
         ensures { Prints W.contents self.old self.new (bits_text unused octets.now) }
     {
@@ -285,6 +280,6 @@ fn value_and_rest(octets: &[u8]) -> Option<(Value<'_>, &[u8])>
     ensures value { option_map (λ x. (datum x.0, x.1.now)) result ≡ value_at octets.now }
     ensures shorter { IfSome result (λ x. length x.1.now < length octets.now) }
 {
-    let (value, size) = read_value(octets)?;
-    Some((value, &octets[size..]))
+    let (value, rest) = bac_wire::value_and_rest(octets)?;
+    Some((value, rest))
 }

@@ -1,5 +1,5 @@
 //! Words that are taken one after another.
-ghost use Rattle.std.specs.Prelude.{◌≡◌, ◌<◌, ◌≤◌, ◌^◌, ℕ, List, [], ◌∷◌, length, not, position, None, Some, IfSome, MatchOption};
+ghost use Rattle.std.specs.Prelude.{◌≡◌, ◌<◌, ◌≤◌, ◌^◌, ℕ, List, [], ◌∷◌, length, drop, not, position, None, Some, IfSome, MatchOption};
 ghost use Rattle.bac_text.specs.Words.{is_blank, words_of, number_up_to, next_as, IsFirstNumber};
 
 use crate::numbers::{leading_number, read_number};
@@ -43,11 +43,13 @@ impl<'a> Words<'a> {
         Words { rest: text }
     }
 
-    /// Takes the next word and reads it as a number, if it is one of decimal digits and at most `most`.
+    /// Takes the next word and reads it as a number, if it is one of decimal digits and at most `most`. What is no such number is
+    /// taken too.
     pub fn next_number(&mut self, most: u64) -> Option<u64>
         ensures value { MatchOption result (next_as (number_up_to most) self.old ≡ None)
             (λ number. next_as (number_up_to most) self.old ≡ Some (number, self.new)) }
         ensures most { IfSome result (λ number. number ≤ most) }
+        ensures taken { self.new ≡ drop 1 self.old }
     {
         if let Some((number, rest)) = first_number(self.rest) {
             self.rest = rest;

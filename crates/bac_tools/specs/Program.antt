@@ -4,8 +4,10 @@ use Rattle.clap.specs.Words.{Text}
 use Rattle.bac_text.specs.declared.checked.Checked.{Checked}
 use Rattle.bac_links.specs.Told.{Told}
 use Rattle.bac_links.specs.declared.link.LinkFault.{LinkFault}
+use Rattle.bac_words.specs.Called.{words_called}
 use Rattle.bac_words.specs.Line.{Answers, IsRefused}
 use Rattle.bac_words.specs.declared.faults.UsageFault.{UsageFault}
+use Rattle.bac_words.specs.declared.faults.UsageFault.TheVariants.{Memory}
 use Rattle.bac_words.specs.declared.jobs.Job.{Job}
 use Rattle.bac_tools.specs.Binding.{binding_of}
 use Rattle.bac_tools.specs.Report.{usage_report}
@@ -39,3 +41,17 @@ module _ {N L R W : Type 0} (gives : N → Binding → Result L LinkFault → Ty
 
   abbrev pub Program : Type 0
   Program = Refuses ⊎ Obeys
+
+module _ {N L R W : Type 0} (gives : N → Binding → Result L LinkFault → Type 0) (tells : L → Option Told) (failed : L → Bool) (remaining : R → Option (List ℕ)) (contents : W → Option (List ℕ)) (report : Report) (typed : List Text) where
+  -- A program that was called with these words: over some network, reader and writer this is its report.
+  pub record Called : Type 0 where
+    pub network : N
+    pub reader : Checked R
+    pub reader' : Checked R
+    pub writer : Checked W
+    pub writer' : Checked W
+    pub program : Program gives tells failed remaining contents network reader reader' writer writer' report (words_called typed)
+
+  -- Or there was no memory for them.
+  abbrev pub IsCalled : Type 0
+  IsCalled = Called ⊎ (report ≡ usage_report Memory)

@@ -1,5 +1,5 @@
 -- The status with which the program ends, and the fault that it tells of.
-use Rattle.std.specs.Prelude.{◌≡◌, ◌≤◌, ℕ, Option, Some, None, Result, Ok, Err}
+use Rattle.std.specs.Prelude.{◌≡◌, ◌≤◌, ℕ, ⊤, Option, Some, None, Result, Ok, Err}
 use Rattle.std.specs.declared.io.ErrorKind.{ErrorKind}
 use Rattle.std.specs.declared.io.ErrorKind.TheVariants.{OutOfMemory}
 use Rattle.bac_links.specs.Ending.{status_of}
@@ -12,7 +12,7 @@ use Rattle.bac_script.specs.declared.tracing.TraceEnd.{TraceEnd}
 use Rattle.bac_script.specs.declared.tracing.TraceFault.{TraceFault}
 use Rattle.bac_words.specs.Fault.{usage_status_of}
 use Rattle.bac_words.specs.declared.faults.UsageFault.{UsageFault}
-use Rattle.bac_words.specs.declared.faults.UsageFault.TheVariants.{Memory}
+use Rattle.bac_words.specs.declared.faults.UsageFault.TheVariants.{Memory, Help}
 use Rattle.bac_tools.specs.declared.report.Fault.{Fault}
 use Rattle.bac_tools.specs.declared.report.Fault.TheVariants as faults
 use Rattle.bac_tools.specs.declared.report.Report.{Report}
@@ -35,6 +35,11 @@ IsStatusOf (Some fault) status = status ≡ fault_status fault
 abbrev pub fault_of : {A E : Type 0} → (E → Fault) → Result A E → Option Fault
 fault_of as_fault (Ok x) = None
 fault_of as_fault (Err e) = Some (as_fault e)
+
+-- What is told is help, which was asked for.
+abbrev pub IsHelp : Option Fault → Type 0
+IsHelp (Some (faults.Usage (Help text))) = ⊤
+IsHelp _ = ⊥
 
 -- After a tool over a link.
 abbrev pub tool_report : Result Exit ToolFault → Report

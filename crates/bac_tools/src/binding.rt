@@ -9,7 +9,9 @@ use bac_words::Job;
 /// Where a socket is to be, and what becomes of a datagram that the system refuses to send from it.
 #[derive(Clone, Copy, Debug)]
 pub struct Binding {
+    /// The address and the port; the port 0 is any.
     pub at: Peer,
+    /// What becomes of such a datagram.
     pub refused: Refused,
 }
 

@@ -35,7 +35,7 @@ pub trait Network {
 
 /// Runs what the words ask for, the first of which is the program's name.
 ///
-/// Words that give no job are told in the report: help, what `clap` refuses, or the first of the five faults; nothing is read, printed or
+/// Words that give no job are told in the report: help, what `clap` refuses, or their first fault; nothing is read, printed or
 /// sent then. Any other words ask for a job, which is run over the reader and the writer, and over the one socket that it asks for, where
 /// it asks for one. However that goes, the status is that of the fault that is told, and 0 or 1 where none is.
 pub fn run_words<N: Network + Drop, R: Read, W: Write>(

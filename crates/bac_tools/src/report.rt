@@ -32,7 +32,9 @@ pub enum Fault {
 /// The status with which the program ends, and the fault that it tells of.
 #[derive(Debug, Drop)]
 pub struct Report {
+    /// 0 to 4.
     pub status: u8,
+    /// None where there is nothing to tell.
     pub fault: Option<Fault>,
 }
 

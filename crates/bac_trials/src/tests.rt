@@ -24,9 +24,8 @@ const CONTROLLER: Peer = Peer {
 
 /// 127.0.0.1:50000, which asks the device.
 const ASKER: Peer = Peer {
-    ip: 0x7f00_0001,
     port: 50000,
-    route: None,
+    ..CONTROLLER
 };
 
 /// The same station behind a router.

@@ -25,9 +25,6 @@ module _ {A : Type 0} (key : A → ℕ) where
   pub times_other : (n : ℕ) (x : A) → (key x ≡ n → ⊥) → times key n (x ∷ []) ≡ 0
   times_other n x e = rw (ne_eqb (key x) n e) refl
 
-  pub times_of_one : (n : ℕ) (x : A) → times key n (x ∷ []) ≤ 1
-  times_of_one n x = grind arith
-
   pub times-remove : (n : ℕ) (xs : List A) (i : ℕ) (d : A) → i < length xs →
       times key n (remove xs i) + times key n (get_or xs i d ∷ []) ≡ times key n xs
   times-remove n xs i d lt =

@@ -1,7 +1,5 @@
 mod AnswersInWords
 mod CallNotes
-mod FirstAfter
-mod FreeNumber
 mod Held
 pub mod Laws
 mod LookaheadSteps
@@ -12,8 +10,6 @@ mod PassDue
 mod Placed
 pub mod Progress
 mod RequestLife
-mod Runs
-mod SendQueue
 mod TableEdits
 mod TableReads
 mod CallSteps

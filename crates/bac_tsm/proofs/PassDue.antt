@@ -2,7 +2,7 @@
 use Rattle.std.proofs.Common.{◌≡◌, ℕ, suc, ◌-◌, ◌<◌, ◌≤◌, List, [], ◌∷◌, ◌++◌, take, drop, length, set, get_or, Option, Some, None, true, false, nat_le, nat_lt, All, refl, ap, sym, subst, ◌∙◌, inl, inr, arith}
 use Rattle.std.specs.Prelude.{remove}
 use Rattle.std.specs.List.{slice_get, list_any}
-use Rattle.std.proofs.lemmas.Bool.{cases_Bool, leb-false, ltb-true, false≢true}
+use Rattle.std.proofs.lemmas.Bool.{cases_Bool, leb-false, false≢true}
 use Rattle.std.proofs.lemmas.Option.{slice_get-get_or, slice_get_within, get_or_from_slice_get}
 use Rattle.std.proofs.lemmas.List.{length-map, get_or_default, set_split}
 use Rattle.std.proofs.lemmas.List.Folds.{list_any_at, list_any_none}
@@ -14,9 +14,8 @@ use Rattle.bac_tsm.specs.Machine.{Waiting, is_due, due_entry, kept}
 use Rattle.bac_tsm.specs.Table.{held_at, times_of_place, open_places, waiting_in, IsTable, IsTurnOf, IsPassed, AreBySend}
 use Rattle.bac_tsm.specs.Waiting.{nothing, sent_at, ticket_in}
 use Rattle.bac_tsm.proofs.Held.{itself, held_got, times_got}
-use Rattle.bac_tsm.proofs.SendQueue.{all_opened, queue-again}
 use Rattle.bac_tsm.proofs.TableReads.{times_split, turn, turn_lt, stands, open_below, open_read, one_turn, as_many, count}
-use Rattle.bac_tsm.proofs.TableEdits.{changed_by}
+use Rattle.bac_tsm.proofs.TableEdits.{changed_by, all_opened, queue-again}
 
 younger : (timeout clock early late : ℕ) → nat_le timeout (clock - early) ≡ false → early ≤ late → nat_le timeout (clock - late) ≡ false
 younger timeout clock early late young le = let less = leb-false timeout (clock - early) young in grind (arith, nat_tests)
@@ -76,9 +75,6 @@ module _ {places : List Waiting} {numbers : List (Option ℕ)} {order tickets se
       | inl due ↦ due ∙ sym (list_any_at (is_due rules clock) ws i nothing (turn_lt t ws view place some) (ap (is_due rules clock) (sym read) ∙ due))
       | inr young ↦ young ∙ sym (list_any_none (is_due rules clock) ws (none_due young))
     ]
-
-    pub count_left : (ticket : ℕ) → due_entry rules w ≡ Resend ticket → (get_or places place nothing).count < rules.retries
-    count_left ticket again = let less = ltb-true _ _ (is_again rules clock w ticket again) in let f = ap (λ (u : Waiting). u.count) reads in omega arith
 
     pub not_found : (ticket : ℕ) → due_entry rules w ≡ Expired ticket → IsTurnOf ticket ws None → ⊥
     not_found ticket over none = none i nothing (turn_lt t ws view place some) (ap ticket_in (sym read) ∙ (is_over rules clock w ticket over).1)

@@ -1,14 +1,13 @@
 -- A request that waits is due, and ends, as timeouts pass; and how far the clock comes meanwhile.
-use Rattle.std.proofs.Common.{◌≡◌, ℕ, zero, suc, ◌+◌, ◌-◌, ◌*◌, ◌<◌, ◌≤◌, Bool, true, false, List, [], ◌∷◌, length, Option, Some, None, slice_get, IsSomeAnd, subst, arith, refl, ◌∙◌, sym, inl, inr}
+use Rattle.std.proofs.Common.{◌≡◌, ℕ, zero, suc, ◌+◌, ◌-◌, ◌*◌, ◌<◌, ◌≤◌, Bool, true, false, List, [], ◌∷◌, length, Option, Some, None, IsSomeAnd, subst, arith, refl, ◌∙◌, sym, inl, inr}
 use Rattle.std.proofs.Math.Nat.{mul-le-mul_right}
 use Rattle.std.proofs.lemmas.Bool.{cases_Bool, cases_lt}
 use Rattle.std.proofs.lemmas.Bool.Decides.{nat_tests}
 use Rattle.std.proofs.lemmas.Option.{none-some, same_Some, slice_get_past}
-use Rattle.bac_tsm.specs.Events.{Event, Outcome, Rules}
-use Rattle.bac_tsm.specs.Lookahead.{first_within, first_after, clock, is_tick, has_waited, due, Accepted, outcome_at, answered_at, end}
+use Rattle.bac_tsm.specs.Events.{Event, Rules}
+use Rattle.bac_tsm.specs.Lookahead.{first_within, first_after, clock, has_waited, due, Accepted, end}
 use Rattle.bac_tsm.specs.Progress.{last_of, TimeoutsPass}
-use Rattle.bac_tsm.proofs.FirstAfter.{first_after_from, first_least, none_within}
-use Rattle.bac_tsm.proofs.RequestLife.{end_of, step_back, due_next}
+use Rattle.bac_tsm.proofs.RequestLife.{step_back, due_next, first_after_from, first_least, none_within}
 use Rattle.bac_tsm.proofs.Turns.{clock_quiet}
 
 pub clock_rises : (events : List Event) (i j : ℕ) → i ≤ j → clock events i ≤ clock events j
@@ -23,29 +22,23 @@ found_by : (test : ℕ → Bool) (i n m : ℕ) → i ≤ m → m < i + n → tes
 found_by test i zero m low high t = absurd (omega arith)
 found_by test i (suc n) m low high t = grind (arith, nat_tests, found_by test (suc i) n m, t)
 
--- A tick is one of the events.
-tick_within : (events : List Event) (j : ℕ) → is_tick (slice_get events j) ≡ true → j < length events
-tick_within events j e = grind (arith, slice_get_past events j, e)
-
 some_with : {A : Type 0} (P : A → Type 0) (o : Option A) → IsSomeAnd o P → (x : A) × (o ≡ Some x) × P x
 some_with P None h = absurd h
 some_with P (Some x) h = (x, refl, h)
 
 module _ (rules : Rules) (events : List Event) where
-  waited_enough : (i j : ℕ) → has_waited rules events i j ≡ true →
-      (is_tick (slice_get events j) ≡ true) × (rules.timeout ≤ clock events (suc j) - clock events (suc i))
-  waited_enough i j e = (grind (arith, nat_tests, e), grind (arith, nat_tests, e))
-
-  has_waited_since : (d i j : ℕ) → d ≤ i → has_waited rules events i j ≡ true → has_waited rules events d j ≡ true
-  has_waited_since d i j le e = grind (arith, nat_tests, e, clock_rises events (suc d) (suc i) (omega arith))
+  -- A tick is one of the events.
+  waited_within : (i j : ℕ) → has_waited rules events i j ≡ true → j < length events
+  waited_within i j e = grind (arith, nat_tests, slice_get_past events j, e)
 
   -- What is due by position i is due again by the next tick that comes a timeout later.
   due_again : (a k d i j : ℕ) → due rules events a k ≡ Some d → d ≤ i → i < j → has_waited rules events i j ≡ true →
       IsSomeAnd (due rules events a (suc k)) (λ e. e ≤ j)
   due_again a k d i j is le lt waited =
-      let within : j < length events = tick_within events j (waited_enough i j waited).0 in
+      let within = waited_within i j waited in
       subst (λ (o : Option ℕ). IsSomeAnd o (λ e. e ≤ j)) (sym (due_next rules events a k d is))
-      (found_by (has_waited rules events d) (suc d) (length events - suc d) j (omega arith) (omega arith) (has_waited_since d i j le waited))
+      (found_by (has_waited rules events d) (suc d) (length events - suc d) j (omega arith) (omega arith)
+      (grind (arith, nat_tests, waited, clock_rises events (suc d) (suc i) (omega arith))))
 
   pub due_in_turn : (a k n d i : ℕ) (ticks : List ℕ) → n ≡ k + length ticks → due rules events a k ≡ Some d → d ≤ i →
       TimeoutsPass rules events i ticks → IsSomeAnd (due rules events a n) (λ e. e ≤ last_of i ticks)
@@ -54,12 +47,9 @@ module _ (rules : Rules) (events : List Event) where
       let next = some_with (λ e. e ≤ j) (due rules events a (suc k)) (due_again a k d i j is le pass.0 pass.1) in
       due_in_turn a (suc k) n next.0 j later (omega arith) next.1 next.2 pass.2
 
-  ends_by : (outcome : ℕ → Option Outcome) (x y : Option ℕ) (m : ℕ) → IsSomeAnd y (λ j. j ≤ m) → IsSomeAnd (end_of outcome x y) (λ e. e.position ≤ m)
-  ends_by outcome x y m late = grind (arith, nat_tests, late)
-
   pub ends_in_turn : (a : Accepted) (m : ℕ) → IsSomeAnd (due rules events a.position (suc rules.retries)) (λ j. j ≤ m) →
       IsSomeAnd (end rules events a) (λ e. e.position ≤ m)
-  ends_in_turn a m = ends_by (outcome_at rules events a) (answered_at rules events a) (due rules events a.position (suc rules.retries)) m
+  ends_in_turn a m late = grind (arith, nat_tests, late)
 
   -- As long as no tick has come a timeout after position p, the clock is within a timeout of it.
   quiet_until : (p n : ℕ) → p < n → ((j : ℕ) → p < j → j < n → has_waited rules events p j ≡ false) →
@@ -112,7 +102,7 @@ module _ (rules : Rules) (events : List Event) where
             quiet_until last.1 n behind (λ m low high. elim (cases_Bool (has_waited rules events last.1 m)) [
               | inr not_yet ↦ not_yet
               | inl enough ↦
-                  let within : m < length events = tick_within events m (waited_enough last.1 m enough).0 in
+                  let within = waited_within last.1 m enough in
                   none_within (has_waited rules events last.1) (suc last.1) (length events - suc last.1) m over (omega arith) (omega arith)
             ]) in
             omega (arith, soon.1, few)
@@ -121,9 +111,6 @@ module _ (rules : Rules) (events : List Event) where
             omega (arith, soon.1, few)
       ]
 
-  unended : (outcome : ℕ → Option Outcome) (x y : Option ℕ) → end_of outcome x y ≡ None → y ≡ None
-  unended outcome x y e = grind (arith, nat_tests, e, none-some)
-
   -- A request without an end is not due once more than the retries.
   pub never_due : (a : Accepted) → end rules events a ≡ None → due rules events a.position (suc rules.retries) ≡ None
-  never_due a = unended (outcome_at rules events a) (answered_at rules events a) _
+  never_due a e = grind (arith, nat_tests, e, none-some)

@@ -1,5 +1,5 @@
 -- What is read of the table of open requests.
-use Rattle.std.proofs.Common.{◌≡◌, ℕ, zero, suc, nat_lt, ◌+◌, ◌<◌, ◌≤◌, List, [], ◌∷◌, length, map, take, drop, get_or, Option, Some, None, Result, Ok, Err, Bool, true, false, not, nat_eq, if◌then◌else◌, refl, ap, sym, subst, ◌∙◌, arith}
+use Rattle.std.proofs.Common.{◌≡◌, ℕ, zero, suc, nat_lt, ◌+◌, ◌<◌, ◌≤◌, List, [], ◌∷◌, length, map, take, drop, get_or, Option, Some, None, Result, Ok, Err, Bool, true, false, not, nat_eq, if◌then◌else◌, refl, ap, sym, subst, ◌∙◌, arith, ◌%◌, unwrap_or, below_more}
 use Rattle.std.specs.Prelude.{remove, position, MatchResult}
 use Rattle.std.specs.List.{filter, find, list_any, slice_get, position_or_len}
 use Rattle.std.proofs.lemmas.Option.{slice_get_within, get_or_from_slice_get}
@@ -7,7 +7,7 @@ use Rattle.std.specs.Option.{is_some}
 use Rattle.std.specs.Result.{result_ok}
 use Rattle.std.specs.Ordering.{nat_cmp}
 use Rattle.std.specs.List.Sorted.{IsBinarySearchResult}
-use Rattle.std.proofs.lemmas.Bool.{and_parts, eqb-true, eq-eqb, ne_eqb, lt-ltb}
+use Rattle.std.proofs.lemmas.Bool.{and_parts, eqb-true, eq-eqb, ne_eqb, lt-ltb, ltb-false}
 use Rattle.std.proofs.lemmas.List.{length-map, length-take, take-append-drop, get_or-take, get_or-map}
 use Rattle.std.proofs.lemmas.List.Sums.{passes_at_first}
 use Rattle.std.proofs.lemmas.List.Sorted.{searched}
@@ -19,16 +19,14 @@ use Rattle.bac_tsm.specs.Table.{times, held_at, times_of_place, open_places, wai
 use Rattle.bac_tsm.specs.Waiting.{ticket_in, number_in, nothing}
 use Rattle.bac_tsm.proofs.CallNotes.{TicketsRise, by_ticket, pairs_tail}
 use Rattle.bac_tsm.proofs.Held.{itself, held_got, times-append, times_got, none_passes, one_passes}
+use Rattle.bac_tsm.specs.Lookahead.{first_within, next_number}
+use Rattle.bac_tsm.proofs.RequestLife.{NotBefore, first_from, first_at}
+use Rattle.bac_tsm.proofs.NumberCycle.{is_free, a_step}
 
 -- A number is found among these where one of them has it.
 pub any_number : (number : ℕ) (ws : List Waiting) → list_any (λ w. nat_eq number w.request.number) ws ≡ nat_lt 0 (times number_in number ws)
 any_number number [] = refl
 any_number number (w ∷ ws) = grind (arith, nat_tests, any_number number ws)
-
--- An answer is only to a request with its number.
-only_to : (answer : Answer) (w : Waiting) → is_answer_to w.request answer ≡ true → w.request.number ≡ answer.number
-unfolding is_answer_to
-only_to answer w e = eqb-true _ _ (and_parts _ _ (and_parts _ _ e).1).0
 
 -- Where a place is among these, it stands at a turn, and the first such turn is found.
 pub record StandsAt (place : ℕ) (order : List ℕ) (i : ℕ) : Type 0 where
@@ -196,7 +194,8 @@ module _ {places : List Waiting} {numbers : List (Option ℕ)} {order tickets : 
     Ends tickets after = (tickets ≡ map ticket_in (filter ends ws)) × (after ≡ filter (λ w. not (ends w)) ws)
 
     says : (w : Waiting) → ends w ≡ true → w.request.number ≡ number
-    says w e = only_to answer w e ∙ sym its
+    unfolding is_answer_to
+    says w e = eqb-true _ _ (and_parts _ _ (and_parts _ _ e).1).0 ∙ sym its
 
     pub closed_none : get_or numbers number None ≡ None → Ends [] ws
     closed_none is =
@@ -236,3 +235,53 @@ module _ {places : List Waiting} {numbers : List (Option ℕ)} {order tickets : 
           closed_that passes j its after to =
               let both = rw passes at found in
               rw (named, to, one_turn ws view j i its.0 (turn_lt ws view place some) (its.1 ∙ named ∙ ap ticket_in read)) (sym (ap (map ticket_in) both.0), sym both.1)
+
+-- ---- the look for a free number, one step at a time
+
+list_any-map : {A : Type 0} (f : A → ℕ) (p : ℕ → Bool) (xs : List A) → list_any p (map f xs) ≡ list_any (λ x. p (f x)) xs
+list_any-map f p [] = refl
+list_any-map f p (x ∷ xs) = grind (arith, list_any-map f p xs)
+
+module _ (last : ℕ) (ws : List Waiting) where
+  abbrev is_taken : ℕ → Bool
+  is_taken d = list_any (λ w. nat_eq ((last + d) % 256) w.request.number) ws
+
+  abbrev first : Option ℕ
+  first = first_within (is_free last (map number_in ws)) 1 256
+
+  -- The numbers after the last one are taken, up to the d-th.
+  abbrev pub TakenBefore : ℕ → Type 0
+  TakenBefore d = (k : ℕ) → k < d → 1 ≤ k → is_taken k ≡ true
+
+  pub taken_on : (d : ℕ) → TakenBefore d → is_taken d ≡ true → TakenBefore (d + 1)
+  taken_on d before here = below_more (λ k. 1 ≤ k → is_taken k ≡ true) d before (λ low. here)
+
+  not_before : (d : ℕ) → TakenBefore d → NotBefore d first
+  not_before d before j e =
+      let found = first_from (is_free last (map number_in ws)) 1 256 j e in
+      grind (arith, nat_tests, found, list_any-map number_in (nat_eq ((last + j) % 256)) ws, before j)
+
+  pub free_is : (d : ℕ) → TakenBefore d → 1 ≤ d → d < 257 → is_taken d ≡ false → (last + d) % 256 ≡ next_number last (map number_in ws)
+  unfolding next_number
+  free_is d before low high free =
+      rw (first_at (is_free last (map number_in ws)) 1 256 d low high (rw (list_any-map number_in _ ws, free) refl) (not_before d before)) refl
+
+  -- Where all others are taken, the last one is given again.
+  pub last_is : last < 256 → TakenBefore 256 → last ≡ next_number last (map number_in ws)
+  unfolding next_number
+  last_is fits before = go first refl
+    where
+      go : (o : Option ℕ) → first ≡ o → last ≡ (last + unwrap_or o 0) % 256
+      go None e = omega arith
+      go (Some j) e =
+          let most = not_before 256 before j e in
+          let small = (first_from (is_free last (map number_in ws)) 1 256 j e).2 in
+          omega arith
+
+-- No open request has the next number.
+pub number_unused : (last number : ℕ) (ws : List Waiting) → number ≡ next_number last (map number_in ws) → length ws < 256 → times number_in number ws ≡ 0
+number_unused last number ws is few =
+    let step = a_step last (map number_in ws) (rw length-map few) in
+    let n : ℕ = (last + step.0) % 256 in
+    let none = ltb-false 0 (times number_in n ws) (sym (any_number n ws) ∙ sym (list_any-map number_in (nat_eq n) ws) ∙ step.1.free) in
+    rw (is, step.1.next) (omega arith)

@@ -5,7 +5,7 @@ use Rattle.std.specs.List.Sorted.{IsPermutation, IsNonDecreasingBy}
 use Rattle.std.proofs.lemmas.Bool.{false≢true}
 use Rattle.std.proofs.lemmas.List.{length-append, length-map, append-nil, append_assoc, take_all, drop_all, take-append-drop, drop_more, get_or_default, same_lists}
 use Rattle.std.proofs.lemmas.List.Elements.{All-append, All-take, All-drop, Contains-get_or}
-use Rattle.std.proofs.lemmas.List.Sorted.{length_permutation, IsPermutation-refl, IsPermutation-trans, IsPermutation-append_right, IsPermutation-middle, Contains-permutation, sum_by-IsPermutation}
+use Rattle.std.proofs.lemmas.List.Sorted.{length_permutation, IsPermutation-trans, IsPermutation-append_right, IsPermutation-middle, Contains-permutation, sum_by-IsPermutation}
 use Rattle.std.proofs.lemmas.List.Folds.{list_any_none}
 use Rattle.std.proofs.lemmas.Grind.{flat_map-append}
 use Rattle.std.proofs.lemmas.List.Kept.{AllPairs-filter}
@@ -77,9 +77,6 @@ module _ (rules : Rules) (clock : ℕ) where
     pub stay : kept_of ws ≡ kept_in_all
     pub past : All (λ w. w.base ≤ clock) ws
 
-  pub not_yet : (entries : List Entry) → entries ≡ [] → (ws : List Waiting) → All (λ w. w.base ≤ clock) ws → HasTicked (due_of ws) (kept_of ws) entries ws
-  not_yet entries none ws past = rw none (record { told = IsPermutation-refl _; stay = refl; past = past })
-
   pub nothing_due : (ws : List Waiting) → list_any (is_due rules clock) ws ≡ false → (due_of ws ≡ []) × (kept_of ws ≡ ws)
   nothing_due [] young = (refl, refl)
   nothing_due (w ∷ ws) young = grind (arith, nothing_due ws, young)
@@ -97,17 +94,12 @@ module _ (rules : Rules) (clock : ℕ) where
   pub few_due : (ws : List Waiting) → length (due_of ws) ≤ length ws
   few_due ws = rw (due_is ws, length-map, length-filter) (count_by-le-length (is_due rules clock) ws)
 
-  ticket_due : (w : Waiting) → ticket_of (due_entry rules w) ≡ w.request.ticket
-  ticket_due w = grind arith
-
   pub rise_due : (ws : List Waiting) → TicketsRise ws → Rise ticket_of (due_of ws)
   rise_due ws rise =
       rw (due_is ws)
       (pairs_map (λ a b. ticket_of a < ticket_of b) (due_entry rules) (filter (is_due rules clock) ws) (λ i j d less lt.
-      let e = ticket_due (get_or (filter (is_due rules clock) ws) i d) in
-      let f = ticket_due (get_or (filter (is_due rules clock) ws) j d) in
       let g = AllPairs-filter (λ v w. v.request.ticket < w.request.ticket) (is_due rules clock) ws rise i j d less lt in
-      omega arith))
+      grind arith))
 
   module _ (some : 0 < rules.timeout) {all : List Entry} {kept_in_all : List Waiting} {entries : List Entry} {ws : List Waiting} (h : HasTicked all kept_in_all entries ws) where
     -- One more has gone on.

@@ -86,6 +86,7 @@ impl Client {
     ///
     /// A request that is refused leaves the client as it was. The first fault in the order of [`SubmitFault`] is
     /// answered.
+    #[tactic(auto, using(crate::proofs::TableReads::number_unused))]
     pub fn submit(&mut self, peer: Peer, service: u8, body: &[u8]) -> Result<u64, SubmitFault>
         ensures { let step = submit (rules_of self.old) self.old.state (station peer) service body.now in
             (result ≡ step.answer) × (self.new ≡ keeping self.old step.after) }
@@ -190,6 +191,7 @@ impl Client {
         }
     }
 
+    // The open request with this ticket.
     fn find(&self, ticket: u64) -> Option<&OpenRequest>
         ensures { option_copied result ≡ open_under self.now.state ticket }
     {

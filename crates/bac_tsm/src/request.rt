@@ -14,7 +14,6 @@ use crate::answer::Answer;
 use crate::config::Config;
 use crate::datagram::{Datagram, write_request};
 use crate::due::Entry;
-use crate::limits::LONGEST_BODY;
 use bac_pdu::Peer;
 use bac_wire::Frame;
 use std::marker::Model;
@@ -96,12 +95,14 @@ impl OpenRequest {
         write_request(&mut self.datagram, asked, body, frame);
     }
 
+    // Its ticket.
     pub(crate) fn ticket(&self) -> u64
         ensures { result ≡ self.now.request.ticket }
     {
         self.ticket
     }
 
+    // Its number.
     pub(crate) fn number(&self) -> u8
         ensures { result ≡ self.now.request.number }
     {
@@ -135,6 +136,7 @@ impl OpenRequest {
         self.count += 1;
     }
 
+    // The answer is to this request.
     #[tactic(auto, unfolding(crate::specs::Answers::is_answer_to))]
     pub(crate) fn is_answered_by(&self, answer: &Answer<'_>) -> bool
         ensures { result ≡ is_answer_to self.now.request (answer_seen answer.now) }
@@ -142,6 +144,7 @@ impl OpenRequest {
         self.is_to(&answer.peer) && self.number == answer.number && self.is_for(answer.service)
     }
 
+    // The request went to this peer.
     #[tactic(auto, using(crate::proofs::AnswersInWords::same_station_is, crate::proofs::AnswersInWords::same_station_refl))]
     fn is_to(&self, peer: &Peer) -> bool
         ensures { result ≡ same_station self.now.request.peer (station peer.now) }

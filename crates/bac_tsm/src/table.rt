@@ -16,7 +16,7 @@ ghost use Rattle.bac_tsm.specs.Waiting.{begun, sent_at, nothing, ticket_in, numb
 use crate::answer::Answer;
 use crate::config::Config;
 use crate::due::{Entries, Entry, sort_by_ticket};
-use crate::limits::{LONGEST_BODY, PLACES};
+use crate::limits::PLACES;
 use crate::request::{Asked, OpenRequest};
 use arrayvec::ArrayVec;
 use bac_wire::Frame;
@@ -52,6 +52,7 @@ impl Model for Table {
 }
 
 impl Table {
+    // A table with no request open.
     pub(crate) fn new() -> Self
         ensures { result ≡ [] }
     {
@@ -65,6 +66,7 @@ impl Table {
         }
     }
 
+    // How many requests are open.
     pub(crate) fn len(&self) -> usize
         ensures count { result ≡ length self.now }
         ensures few { result ≤ table_size }
@@ -95,6 +97,7 @@ impl Table {
     }
 
     // The request at this turn.
+    #[tactic(auto, using(crate::proofs::TableReads::read_within, crate::proofs::TableReads::read_held, crate::proofs::TableReads::turn_within))]
     fn at(&self, turn: usize) -> &OpenRequest
         requires { turn < length self.now }
         ensures { result.now ≡ get_or self.now turn nothing }
@@ -103,6 +106,7 @@ impl Table {
     }
 
     // The first number of the cycle after the last one that no open request has.
+    #[tactic(auto, using(crate::proofs::TableReads::free_is, crate::proofs::TableReads::taken_on, crate::proofs::TableReads::last_is))]
     pub(crate) fn free_number(&self, last: u8) -> u8
         ensures { result ≡ next_number last (map (λ w. w.request.number) self.now) }
     {
@@ -115,6 +119,7 @@ impl Table {
         last
     }
 
+    // Some open request has this number.
     fn is_taken(&self, number: u8) -> bool
         ensures { result ≡ list_any (λ w. nat_eq number w.request.number) self.now }
     {
@@ -256,6 +261,7 @@ fn send_again_at(places: &mut [OpenRequest; PLACES], place: u8, clock: u64, conf
     places[usize::from(place)].send_again(clock, config);
 }
 
+// Puts the item behind the others.
 fn put_last<T: Copy + Default>(items: &mut ArrayVec<T, PLACES>, item: T)
     requires { length items.old.items < table_size }
     ensures { items.new.items ≡ items.old.items ++ item ∷ [] }
@@ -263,6 +269,7 @@ fn put_last<T: Copy + Default>(items: &mut ArrayVec<T, PLACES>, item: T)
     items.push(item);
 }
 
+// A blank request at each place.
 fn no_requests() -> [OpenRequest; PLACES]
     ensures { length result ≡ table_size }
 {
@@ -281,12 +288,14 @@ fn take_out(places: &mut ArrayVec<u8, PLACES>, place: u8, likely: usize)
     }
 }
 
+// The first turn at which the place stands.
 fn turn_of_place(places: &[u8], place: u8) -> Option<usize>
     ensures { result ≡ position (λ other. nat_eq other place) places.now }
 {
     places.iter().position(|other| *other == place)
 }
 
+// No entry for any number.
 fn no_numbers() -> [Option<u8>; 256]
     ensures { result ≡ replicate 256 None }
 {

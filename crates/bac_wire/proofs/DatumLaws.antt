@@ -52,7 +52,8 @@ mapped : {A B : Type 0} (f : A → B) (o : Option A) (y : B) → option_map f o 
 mapped f None y e = absurd cc
 mapped f (Some x) y e = (x, refl, same_Some (f x) y e)
 
-number_takes : (number most : ℕ) (make : List ℕ → ℕ → Datum) → ((contents : List ℕ) (n : ℕ) → (1 ≤ length contents) × (length contents ≤ most) × (n ≡ big_number (length contents) contents) → Holding number contents (make contents n))
+number_takes : (number most : ℕ) (make : List ℕ → ℕ → Datum)
+    → ((contents : List ℕ) (n : ℕ) → (1 ≤ length contents) × (length contents ≤ most) × (n ≡ big_number (length contents) contents) → Holding number contents (make contents n))
     → (contents : List ℕ) (value : Datum) → option_map (make contents) (number_within most contents) ≡ Some value → Holding number contents value
 number_takes number most make holds contents value e =
     let m = mapped (make contents) (number_within most contents) value e in

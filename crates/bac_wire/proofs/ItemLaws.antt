@@ -32,7 +32,8 @@ pub region_leaves : (depth number : ℕ) (octets front : List ℕ) (r : IsClosed
 region_leaves depth number octets front r = record { front = front; region = r.region; whole = r.whole; ended = inr (number, r.rest, r.closed) }
 
 -- an item in front of a rest is read, where as many octets are allowed
-pub item_read : (count depth top : ℕ) (octets item rest : List ℕ) → depth ≤ top → length octets < suc count → IsItem depth item → octets ≡ item ++ rest → item_at (behind_items count) top octets ≡ Some rest
+pub item_read : (count depth top : ℕ) (octets item rest : List ℕ) → depth ≤ top → length octets < suc count → IsItem depth item
+    → octets ≡ item ++ rest → item_at (behind_items count) top octets ≡ Some rest
 item_read count depth top octets item rest le short i e = ap (item_at (behind_items count) top) e ∙ item_again (behind_items count) count depth top item rest (items_again count) le (rw e at short) i
 
 -- no item begins another, whatever depth is allowed to either
@@ -70,7 +71,9 @@ no_ended_opening octets number after e ended = elim ended [
 ]
 
 -- the items inside of an item
-inside_of : (count depth number : ℕ) (after next : List ℕ) → behind_item (behind_items count) depth (opening_tag number) Opening after ≡ Some next → (below : ℕ) × (depth ≡ suc below) × (mid : List ℕ) × LeavesRest below after mid
+inside_of : (count depth number : ℕ) (after next : List ℕ)
+    → behind_item (behind_items count) depth (opening_tag number) Opening after ≡ Some next
+    → (below : ℕ) × (depth ≡ suc below) × (mid : List ℕ) × LeavesRest below after mid
 inside_of count zero number after next e = absurd (none-some next e)
 inside_of count (suc depth) number after next e = let a = bind_some (behind_items count depth after) (behind_closing number) next e in (depth, refl, a.0, items_take count depth after a.0 a.1)
 
@@ -164,7 +167,8 @@ pub behind_shorter : (depth : ℕ) (octets rest : List ℕ) → LeavesBehind dep
 behind_shorter depth octets rest l = rw l.whole (item_shorter depth l.front rest l.item)
 
 -- an item was found, or none
-pub rest_step : (depth : ℕ) (octets : List ℕ) (tag : Tag) (after : List ℕ) (found : Option (List ℕ)) → found_at tag after ≡ tag_at octets → (tag.shape ≡ Closing → ⊥) → Finds (LeavesBehind depth octets) found
+pub rest_step : (depth : ℕ) (octets : List ℕ) (tag : Tag) (after : List ℕ) (found : Option (List ℕ)) → found_at tag after ≡ tag_at octets
+    → (tag.shape ≡ Closing → ⊥) → Finds (LeavesBehind depth octets) found
     → rest_of depth octets ≡ (found >>= rest_of depth)
 rest_step depth octets tag after None e going finds =
     one_step (length octets) depth octets tag after (sym e) going ∙ rw (found_by _ None (item_reads (length octets) depth octets (omega arith)) finds) refl
@@ -174,7 +178,8 @@ rest_step depth octets tag after (Some next) e going finds =
     ∙ rw (found_by _ (Some next) (item_reads (length octets) depth octets (omega arith)) finds) (found_by _ _ reads (rest_found depth next (rest_of depth next) refl))
 
 -- what the tag leaves, as it is read
-pub item_found : (depth : ℕ) (octets : List ℕ) (tag : Tag) (shape : Shape) (after : List ℕ) (found : Option (List ℕ)) → found_at tag after ≡ tag_at octets → tag.shape ≡ shape → behind_item (behind_items (length octets)) depth tag shape after ≡ found
+pub item_found : (depth : ℕ) (octets : List ℕ) (tag : Tag) (shape : Shape) (after : List ℕ) (found : Option (List ℕ))
+    → found_at tag after ≡ tag_at octets → tag.shape ≡ shape → behind_item (behind_items (length octets)) depth tag shape after ≡ found
     → Finds (LeavesBehind depth octets) found
 item_found depth octets tag shape after found e is f =
     let here = subst (λ (s : Shape). behind_item (behind_items (length octets)) depth tag s after ≡ found) (sym is) f in
@@ -182,7 +187,8 @@ item_found depth octets tag shape after found e is f =
     subst (Finds (LeavesBehind depth octets)) read (finds_by (item_at (behind_items (length octets)) depth octets) (item_reads (length octets) depth octets (omega arith)))
 
 -- the items inside of an item were found, or none
-pub opening_found : (depth below : ℕ) (octets : List ℕ) (tag : Tag) (after : List ℕ) (inside found : Option (List ℕ)) → depth ≡ suc below → found_at tag after ≡ tag_at octets → tag.shape ≡ Opening → Finds (LeavesRest below after) inside
+pub opening_found : (depth below : ℕ) (octets : List ℕ) (tag : Tag) (after : List ℕ) (inside found : Option (List ℕ)) → depth ≡ suc below
+    → found_at tag after ≡ tag_at octets → tag.shape ≡ Opening → Finds (LeavesRest below after) inside
     → (inside >>= behind_closing tag.number) ≡ found → Finds (LeavesBehind depth octets) found
 opening_found depth below octets tag after inside found deeper e is finds f =
     let within = found_by (behind_items (length octets) below after) inside (items_read (length octets) below after (after_shorter octets tag after (sym e))) finds in
@@ -232,7 +238,8 @@ pub no_region : (number : ℕ) (octets : List ℕ) → FindsRegion 32 number oct
 no_region number octets finds = none_read number octets (region_at number octets) refl finds
 
 -- a region that was found is read, and the octets behind its closing tag
-pub region_found : (number k : ℕ) (octets front back : List ℕ) → front ≡ take k octets → back ≡ drop k octets → FindsRegion 32 number octets (Some k) → region_at number octets ≡ (behind_closing number back >>= found_at front)
+pub region_found : (number k : ℕ) (octets front back : List ℕ) → front ≡ take k octets → back ≡ drop k octets
+    → FindsRegion 32 number octets (Some k) → region_at number octets ≡ (behind_closing number back >>= found_at front)
 region_found number k octets front back f b finds =
     let r : IsClosedRegion 32 number octets front = subst (IsClosedRegion 32 number octets) (sym f) finds.found in
     let same = b ∙ ap (drop k) r.whole ∙ drop_at front r.behind k (ap length f ∙ length-take-le k octets finds.within) in

@@ -1,5 +1,4 @@
 pub mod Readers
-pub mod Reading
 pub mod Writing
 pub mod TagLaws
 pub mod DatumLaws

@@ -29,7 +29,8 @@ use Rattle.bac_wire.proofs.ItemLaws.{region_reader}
 
 -- ---- the contents under a context tag
 
-counted_takes : (number : ℕ) (octets : List ℕ) (tag : Tag) (shape : Shape) (after contents rest : List ℕ) → tag_at octets ≡ found_at tag after → tag.shape ≡ shape → counted_of number tag shape after ≡ found_at contents rest
+counted_takes : (number : ℕ) (octets : List ℕ) (tag : Tag) (shape : Shape) (after contents rest : List ℕ)
+    → tag_at octets ≡ found_at tag after → tag.shape ≡ shape → counted_of number tag shape after ≡ found_at contents rest
     → (front : List ℕ) × SpellsContext number front contents × (octets ≡ front ++ rest)
 counted_takes number octets tag (Context n) after contents rest e is f =
     let same = only_if (eqb tag.number number) f in
@@ -70,7 +71,9 @@ object_again contents id s = rw (eq-eqb (length contents) 4 s.0) (ap Some (same_
 
 -- ---- numbers and objects
 
-in_reader : {A : Type 0} (Stands : List ℕ → A → Type 0) (of : List ℕ → Option A) → ((contents : List ℕ) (x : A) → of contents ≡ Some x → Stands contents x) → ((contents : List ℕ) (x : A) → Stands contents x → of contents ≡ Some x)
+in_reader : {A : Type 0} (Stands : List ℕ → A → Type 0) (of : List ℕ → Option A)
+    → ((contents : List ℕ) (x : A) → of contents ≡ Some x → Stands contents x)
+    → ((contents : List ℕ) (x : A) → Stands contents x → of contents ≡ Some x)
     → (number : ℕ) → IsReader (SpellsIn Stands number) (λ octets. context_at number octets >>= (λ c. of c.0 >>= (λ a. found_at a c.1)))
 in_reader Stands of taken_as again_as number = record {
   takes = λ octets x rest e.
@@ -144,7 +147,9 @@ pub record IsStep {A P : Type 0} (Spells : List ℕ → P → Type 0) (made : A 
   pub takes : (octets : List ℕ) (x : A) (rest : List ℕ) → at octets ≡ found_at x rest → Begins Spells octets (made x) rest
   pub again : (octets : List ℕ) (x : A) (rest : List ℕ) → Begins Spells octets (made x) rest → at octets ≡ found_at x rest
 
-kind_step : {A : Type 0} (made : A → Datum) (in_kind : Datum → Option A) → ((value : Datum) (x : A) → in_kind value ≡ Some x → value ≡ made x) → ((x : A) → in_kind (made x) ≡ Some x) → IsStep Spells made (kind_at in_kind)
+kind_step : {A : Type 0} (made : A → Datum) (in_kind : Datum → Option A)
+    → ((value : Datum) (x : A) → in_kind value ≡ Some x → value ≡ made x) → ((x : A) → in_kind (made x) ≡ Some x)
+    → IsStep Spells made (kind_at in_kind)
 unfolding kind_at
 kind_step made in_kind takes again = record {
   takes = λ octets x rest e.

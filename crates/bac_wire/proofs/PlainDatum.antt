@@ -88,7 +88,8 @@ short_tagged number contents low short =
     rw (lt-ltb number 15 low, lt-ltb (length contents) 5 short) (ap (λ (first : ℕ). first ∷ contents) same)
 
 -- the tag of four octets, and these
-pub four_tagged : (number : ℕ) (contents : List ℕ) → number < 15 → length contents ≡ 4 → (16 * number + 4) ∷ slice_index_or contents 0 0 ∷ slice_index_or contents 1 0 ∷ slice_index_or contents 2 0 ∷ slice_index_or contents 3 0 ∷ [] ≡ tagged number contents
+pub four_tagged : (number : ℕ) (contents : List ℕ) → number < 15 → length contents ≡ 4
+    → (16 * number + 4) ∷ slice_index_or contents 0 0 ∷ slice_index_or contents 1 0 ∷ slice_index_or contents 2 0 ∷ slice_index_or contents 3 0 ∷ [] ≡ tagged number contents
 four_tagged number (a ∷ b ∷ c ∷ d ∷ []) low four = sym (short_tagged number (a ∷ b ∷ c ∷ d ∷ []) low (omega arith))
 four_tagged number _ low four = absurd (omega (arith, four))
 

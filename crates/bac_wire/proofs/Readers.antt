@@ -18,7 +18,9 @@ pub took : {A : Type 0} (Spells : List ℕ → A → Type 0) (front : List ℕ) 
 took Spells front x y after rest e s = let same = some_pair_parts x y after rest e in (front, subst (Spells front) same.0 s, ap (λ (w : List ℕ). front ++ w) same.1)
 
 -- a front that was taken as one thing, and spells another one
-pub took_as : {A B : Type 0} (As : List ℕ → A → Type 0) (Spells : List ℕ → B → Type 0) (octets : List ℕ) (a : A) (x y : B) (after rest : List ℕ) → Took As octets a after → found_at x after ≡ found_at y rest → ((front : List ℕ) → As front a → Spells front x) → Took Spells octets y rest
+pub took_as : {A B : Type 0} (As : List ℕ → A → Type 0) (Spells : List ℕ → B → Type 0) (octets : List ℕ) (a : A) (x y : B) (after rest : List ℕ)
+    → Took As octets a after → found_at x after ≡ found_at y rest → ((front : List ℕ) → As front a → Spells front x)
+    → Took Spells octets y rest
 took_as As Spells octets a x y after rest t e to = rw t.2 (took Spells t.0 x y after rest e (to t.0 t.1))
 
 pub reader_of : {A : Type 0} (Spells : List ℕ → A → Type 0) (at : List ℕ → Option (A × List ℕ)) → ((octets : List ℕ) (x : A) (rest : List ℕ) → at octets ≡ Some (x, rest) → Took Spells octets x rest)
@@ -29,7 +31,8 @@ reader_of Spells at takes again = record {
 }
 
 -- a front, by the length of what stands behind it
-pub take_front : (octets front rest : List ℕ) → octets ≡ front ++ rest → (length rest ≤ length octets) × (length octets - length rest ≡ length front) × (take (length octets - length rest) octets ≡ front)
+pub take_front : (octets front rest : List ℕ) → octets ≡ front ++ rest
+    → (length rest ≤ length octets) × (length octets - length rest ≡ length front) × (take (length octets - length rest) octets ≡ front)
 take_front octets front rest e =
     let long : length octets - length rest ≡ length front = omega (arith, ap length e, length-append front rest) in
     (omega (arith, ap length e, length-append front rest), long, ap (λ (k : ℕ). take k octets) long ∙ rw e (take_at front rest (length front) refl))

@@ -86,12 +86,15 @@ ended_again count depth octets ended = elim ended [
   | inr closed ↦ rw (closing_read closed.0 octets closed.1 closed.2) (tag_found (behind_items count) depth octets (closing_tag closed.0, closed.1))
 ]
 
-going_on : (items : ℕ → List ℕ → Option (List ℕ)) (depth : ℕ) (octets : List ℕ) (tag : Tag) (shape : Shape) (after : List ℕ) → (shape ≡ Closing → ⊥) → behind_tag items depth octets tag shape after ≡ (behind_item items depth tag shape after >>= items depth)
+going_on : (items : ℕ → List ℕ → Option (List ℕ)) (depth : ℕ) (octets : List ℕ) (tag : Tag) (shape : Shape) (after : List ℕ)
+    → (shape ≡ Closing → ⊥) → behind_tag items depth octets tag shape after ≡ (behind_item items depth tag shape after >>= items depth)
 going_on items depth octets tag Closing after going = absurd (going refl)
 going_on items depth octets tag _ after going = refl
 
 -- at a tag that is no closing one, the first item, and then the others
-pub one_step : (count depth : ℕ) (octets : List ℕ) (tag : Tag) (after : List ℕ) → tag_at octets ≡ found_at tag after → (tag.shape ≡ Closing → ⊥) → behind_items (suc count) depth octets ≡ (item_at (behind_items count) depth octets >>= behind_items count depth)
+pub one_step : (count depth : ℕ) (octets : List ℕ) (tag : Tag) (after : List ℕ) → tag_at octets ≡ found_at tag after
+    → (tag.shape ≡ Closing → ⊥)
+    → behind_items (suc count) depth octets ≡ (item_at (behind_items count) depth octets >>= behind_items count depth)
 unfolding behind_items
 one_step count depth octets tag after e going = rw e (tag_found (behind_items count) depth octets (tag, after) ∙ going_on (behind_items count) depth octets tag tag.shape after going)
 
@@ -105,20 +108,24 @@ primitive_item : (depth : ℕ) (item : List ℕ) → IsPrimitive item → IsItem
 primitive_item zero item p = p
 primitive_item (suc depth) item p = inl p
 
-counted_behind : (depth : ℕ) (octets : List ℕ) (tag : Tag) (contents rest : List ℕ) → tag_at octets ≡ found_at tag (contents ++ rest) → Counts tag.number tag.shape (length contents) → LeavesBehind depth octets rest
+counted_behind : (depth : ℕ) (octets : List ℕ) (tag : Tag) (contents rest : List ℕ) → tag_at octets ≡ found_at tag (contents ++ rest)
+    → Counts tag.number tag.shape (length contents) → LeavesBehind depth octets rest
 counted_behind depth octets tag contents rest e counted =
     let taken = tag_reader.takes octets tag (contents ++ rest) e in
     let item : IsPrimitive (taken.front ++ contents) = record { tag = tag; spelling = taken.front; contents = contents; whole = refl; tagged = taken.spelled; counted = counted } in
     record { front = taken.front ++ contents; item = primitive_item depth (taken.front ++ contents) item; whole = taken.whole ∙ sym (append_assoc taken.front contents rest) }
 
 -- so many octets behind the tag
-count_behind : (depth count : ℕ) (octets : List ℕ) (tag : Tag) (after rest : List ℕ) → tag_at octets ≡ found_at tag after → ((n : ℕ) → n ≡ count → Counts tag.number tag.shape n) → behind_count count after ≡ Some rest → LeavesBehind depth octets rest
+count_behind : (depth count : ℕ) (octets : List ℕ) (tag : Tag) (after rest : List ℕ) → tag_at octets ≡ found_at tag after
+    → ((n : ℕ) → n ≡ count → Counts tag.number tag.shape n) → behind_count count after ≡ Some rest → LeavesBehind depth octets rest
 count_behind depth count octets tag after rest e counts f =
     let room = unless (ltb (length after) count) f in
     let line : after ≡ take count after ++ rest = sym (take-append-drop count after) ∙ ap (λ (w : List ℕ). take count after ++ w) (same_Some (drop count after) rest room.1) in
     counted_behind depth octets tag (take count after) rest (e ∙ ap (found_at tag) line) (counts (length (take count after)) (length-take-le count after (ltb-false (length after) count room.0)))
 
-item_takes : (items : ℕ → List ℕ → Option (List ℕ)) (depth : ℕ) (octets : List ℕ) (tag : Tag) (shape : Shape) (after rest : List ℕ) → Takes items → tag_at octets ≡ found_at tag after → tag.shape ≡ shape → behind_item items depth tag shape after ≡ Some rest → LeavesBehind depth octets rest
+item_takes : (items : ℕ → List ℕ → Option (List ℕ)) (depth : ℕ) (octets : List ℕ) (tag : Tag) (shape : Shape) (after rest : List ℕ)
+    → Takes items → tag_at octets ≡ found_at tag after → tag.shape ≡ shape → behind_item items depth tag shape after ≡ Some rest
+    → LeavesBehind depth octets rest
 item_takes items depth octets tag (App n) after rest takes e is f = elim (chosen (eqb tag.number 1) _ _ _ f) [
   | inl one ↦ counted_behind depth octets tag [] rest (e ∙ ap (found_at tag) (same_Some after rest one.1)) (rw (is, one.0) refl)
   | inr other ↦ count_behind depth n octets tag after rest e (λ m same. rw (is, other.0) same) other.1
@@ -143,7 +150,9 @@ ended_leaves : (depth : ℕ) (octets rest : List ℕ) → HasEnded octets → �
 ended_leaves depth octets rest ended e = let same = same_Some octets rest e in record { front = []; region = none; whole = same; ended = subst HasEnded same ended }
 
 -- the items behind the first one
-more_takes : (items : ℕ → List ℕ → Option (List ℕ)) (depth : ℕ) (octets : List ℕ) (tag : Tag) (shape : Shape) (after rest : List ℕ) → Takes items → tag_at octets ≡ found_at tag after → tag.shape ≡ shape → behind_tag items depth octets tag shape after ≡ Some rest → LeavesRest depth octets rest
+more_takes : (items : ℕ → List ℕ → Option (List ℕ)) (depth : ℕ) (octets : List ℕ) (tag : Tag) (shape : Shape) (after rest : List ℕ)
+    → Takes items → tag_at octets ≡ found_at tag after → tag.shape ≡ shape → behind_tag items depth octets tag shape after ≡ Some rest
+    → LeavesRest depth octets rest
 more_takes items depth octets tag Closing after rest takes e is f = ended_leaves depth octets rest (ended_since tag octets after e is) f
 more_takes items depth octets tag shape after rest takes e is f =
     let a = bind_some (behind_item items depth tag shape after) (items depth) rest f in
@@ -151,7 +160,8 @@ more_takes items depth octets tag shape after rest takes e is f =
     let l = takes depth a.0 rest a.2 in
     record { front = i.front ++ l.front; region = more i.item l.region; whole = i.whole ∙ ap (λ (w : List ℕ). i.front ++ w) l.whole ∙ sym (append_assoc i.front l.front rest); ended = l.ended }
 
-found_takes : (items : ℕ → List ℕ → Option (List ℕ)) (depth : ℕ) (octets : List ℕ) (read : Option (Tag × List ℕ)) (rest : List ℕ) → Takes items → tag_at octets ≡ read → behind_tag_found items depth octets read ≡ Some rest → LeavesRest depth octets rest
+found_takes : (items : ℕ → List ℕ → Option (List ℕ)) (depth : ℕ) (octets : List ℕ) (read : Option (Tag × List ℕ)) (rest : List ℕ)
+    → Takes items → tag_at octets ≡ read → behind_tag_found items depth octets read ≡ Some rest → LeavesRest depth octets rest
 found_takes items depth [] None rest takes e f = ended_leaves depth [] rest (inl refl) f
 found_takes items depth (x ∷ xs) None rest takes e f = absurd (none-some rest f)
 found_takes items depth octets (Some t) rest takes e f = more_takes items depth octets t.0 t.0.shape t.1 rest takes e refl f
@@ -174,7 +184,8 @@ boolean_again : (b : Bool) (n : ℕ) (contents rest : List ℕ) → length conte
 boolean_again true n contents rest e = rw (nil_from_length contents e) refl
 boolean_again false n contents rest e = count_again n contents rest e
 
-counted_again : (items : ℕ → List ℕ → Option (List ℕ)) (top : ℕ) (tag : Tag) (shape : Shape) (contents rest : List ℕ) → Counts tag.number shape (length contents) → behind_item items top tag shape (contents ++ rest) ≡ Some rest
+counted_again : (items : ℕ → List ℕ → Option (List ℕ)) (top : ℕ) (tag : Tag) (shape : Shape) (contents rest : List ℕ)
+    → Counts tag.number shape (length contents) → behind_item items top tag shape (contents ++ rest) ≡ Some rest
 counted_again items top tag (App n) contents rest counted = boolean_again (eqb tag.number 1) n contents rest counted
 counted_again items top tag (Context n) contents rest counted = count_again n contents rest counted
 counted_again items top tag _ contents rest counted = absurd counted
@@ -182,7 +193,8 @@ counted_again items top tag _ contents rest counted = absurd counted
 primitive_again : (items : ℕ → List ℕ → Option (List ℕ)) (top : ℕ) (item rest : List ℕ) → IsPrimitive item → item_at items top (item ++ rest) ≡ Some rest
 primitive_again items top item rest p = rw (tag_again item p.spelling p.contents rest p.tag p.whole p.tagged) (counted_again items top p.tag p.tag.shape p.contents rest p.counted)
 
-bracket_again : (items : ℕ → List ℕ → Option (List ℕ)) (most depth top : ℕ) (item rest : List ℕ) → Again items most → depth ≤ top → length (item ++ rest) < suc most → IsBracketed (IsItem depth) item → item_at items (suc top) (item ++ rest) ≡ Some rest
+bracket_again : (items : ℕ → List ℕ → Option (List ℕ)) (most depth top : ℕ) (item rest : List ℕ) → Again items most → depth ≤ top
+    → length (item ++ rest) < suc most → IsBracketed (IsItem depth) item → item_at items (suc top) (item ++ rest) ≡ Some rest
 bracket_again items most depth top item rest again le short b =
     let read = tag_again item b.opening (b.inside ++ b.closing) rest (opening_tag b.number) b.whole b.opened in
     let line = append_assoc b.inside b.closing rest in
@@ -190,7 +202,8 @@ bracket_again items most depth top item rest again le short b =
     let inside = again depth top b.inside (b.closing ++ rest) le (omega (arith, after_shorter (item ++ rest) (opening_tag b.number) ((b.inside ++ b.closing) ++ rest) read, ap length line)) b.parts (inr (b.number, rest, c)) in
     rw (read, line, inside, closed_again b.number (b.closing ++ rest) rest c) refl
 
-pub item_again : (items : ℕ → List ℕ → Option (List ℕ)) (most depth top : ℕ) (item rest : List ℕ) → Again items most → depth ≤ top → length (item ++ rest) < suc most → IsItem depth item → item_at items top (item ++ rest) ≡ Some rest
+pub item_again : (items : ℕ → List ℕ → Option (List ℕ)) (most depth top : ℕ) (item rest : List ℕ) → Again items most → depth ≤ top
+    → length (item ++ rest) < suc most → IsItem depth item → item_at items top (item ++ rest) ≡ Some rest
 item_again items most zero top item rest again le short p = primitive_again items top item rest p
 item_again items most (suc depth) zero item rest again le short i = absurd (omega arith)
 item_again items most (suc depth) (suc top) item rest again le short i =

@@ -10,7 +10,8 @@ front {old = old} {octets = octets} {r = Ok x} w = record { ok = w.ok; fits = w.
 front {old = old} {r = Err e} w = record { ok = tt; fits = tt; full = w.full; long = omega (arith, ap length w.err); kept = rw w.err (take_all (length old) old (omega arith)) }
 
 -- then a second writer, behind what the first one wrote
-pub then_appends : {A B E F : Type 0} {old first mid second new : List ℕ} {x : A} {r : Result B F} → AppendsFront {E = E} old first mid (Ok x) → AppendsFront mid second new r → AppendsFront old (first ++ second) new r
+pub then_appends : {A B E F : Type 0} {old first mid second new : List ℕ} {x : A} {r : Result B F}
+    → AppendsFront {E = E} old first mid (Ok x) → AppendsFront mid second new r → AppendsFront old (first ++ second) new r
 then_appends {old = old} {first = first} {mid = mid} {second = second} {r = Ok y} v w =
     let long : length mid ≡ length old + length first = ap length v.ok ∙ length-append old first in
     let whole = w.ok ∙ ap (λ (l : List ℕ). l ++ second) v.ok ∙ append_assoc old first second in

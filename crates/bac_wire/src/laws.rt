@@ -1,9 +1,9 @@
 //! What holds of the definitions that the contracts cite. Each function has an empty body, and its clause is the law; those at
-//! the end are `==` of a type, and say what it compares.
+//! the end are `clone` or `==` of types, and say what a clone is, or what is compared.
 
 ghost use Rattle.bac_wire.specs.declared.tag.Tag.{Tag as AnyTag};
-ghost use Rattle.std.specs.Prelude.{IsTrue, ◌≡◌, ℕ, ◌+◌, ◌^◌, ◌<◌, ◌≤◌, ◌↔◌, List, [], ◌++◌, length, Some};
-ghost use Rattle.bac_wire.specs.Limits.{deepest};
+ghost use Rattle.std.specs.Prelude.{IsTrue, ◌≡◌, ℕ, ◌+◌, ◌^◌, ◌<◌, ◌≤◌, ◌↔◌, List, [], ◌++◌, length, Some, Ok};
+ghost use Rattle.bac_wire.specs.Limits.{frame_room, deepest};
 ghost use Rattle.bac_wire.specs.Front.{IsPrefixFree, IsReadBack, IsReader, IsShortest};
 ghost use Rattle.bac_wire.specs.Tag.{SpellsTag, IsTag, plain_tag};
 ghost use Rattle.bac_wire.specs.TagReading.{tag_at};
@@ -15,10 +15,12 @@ ghost use Rattle.bac_wire.specs.ItemReading.{behind_items, region_at};
 ghost use Rattle.bac_wire.specs.Parameter.{SpellsContext, SpellsIn, SpellsEnclosed, IsNumber, IsObject, number_octets, object_octets, enclosed_octets};
 ghost use Rattle.bac_wire.specs.ParameterReading.{context_at, number_at, object_at, enclosed_at};
 
-use crate::frame::Full;
+use crate::frame::{FRAME_OCTETS, Full};
+use crate::items::NESTING;
 use crate::object_id::ObjectId;
 use crate::tag::{Shape, Tag};
 use crate::value::Value;
+use std::alloc::AllocError;
 
 /// Tags: no spelling begins another, what `write_tag` appends is the shortest and is read back whatever follows, and `tag_at`
 /// reads from left to right what spells a tag, and nothing else.
@@ -73,6 +75,31 @@ pub fn parameters()
     ensures of_region { (number : ℕ) (region : List ℕ) → number < 255 → IsRegion deepest region
         → SpellsEnclosed number (enclosed_octets number region) region }
 {}
+
+/// The limits that the code names are those of the definitions.
+pub fn limits()
+    ensures frame { FRAME_OCTETS ≡ frame_room }
+    ensures nesting { NESTING ≡ deepest }
+{}
+
+/// A clone is what it was cloned from, and takes no memory.
+pub fn clones<'a>(
+    full: &Full,
+    shape: &Shape,
+    tag: &Tag,
+    object: &ObjectId,
+    value: &Value<'a>,
+) -> Result<(Full, Shape, Tag, ObjectId, Value<'a>), AllocError>
+    ensures { result ≡ Ok (full.now, shape.now, tag.now, object.now, value.now) }
+{
+    Ok((
+        full.clone()?,
+        shape.clone()?,
+        tag.clone()?,
+        object.clone()?,
+        value.clone()?,
+    ))
+}
 
 /// Always.
 pub fn same_full(full: &Full, other: &Full) -> bool

@@ -46,8 +46,8 @@ impl ObjectId {
         self.instance
     }
 
-    /// The type in the ten high bits and the instance in the 22 low ones.
-    pub(crate) fn number(self) -> u32
+    /// The number that the identifier is on the wire: the type in its ten high bits, the instance in the 22 low ones.
+    pub fn number(self) -> u32
         ensures value { result ≡ number_of (identifier self) }
         ensures fits { IsIdentifier (identifier self) }
     {
@@ -55,12 +55,12 @@ impl ObjectId {
         u32::from(kind) * INSTANCES + instance
     }
 
-    /// The identifier that the number's bits give.
-    pub(crate) fn of_number(number: u32) -> Self
+    /// The identifier that this number is on the wire.
+    pub fn of_number(number: u32) -> Self
         ensures { identifier result ≡ identifier_of number }
     {
         ObjectId {
-            kind: (number >> 22) as u16,
+            kind: (number / INSTANCES) as u16,
             instance: number % INSTANCES,
         }
     }

@@ -5,7 +5,7 @@ ghost use Rattle.bac_wire.specs.Tag.{SpellsTag, IsTag, plain_tag, plain_length};
 ghost use Rattle.bac_wire.specs.TagReading.{tag_number_at, long_length_at, length_at, shape_at, tag_at};
 ghost use Rattle.bac_wire.specs.Writing.{Appends};
 
-use crate::frame::{FRAME_OCTETS, Frame, Full};
+use crate::frame::{Frame, Full};
 use arrayvec::ArrayVec;
 use byteorder::{BigEndian, ByteOrder};
 
@@ -27,6 +27,7 @@ pub enum Shape {
 pub struct Tag {
     /// 0 to 254. In the application class it is the kind of the value, else the place among the parameters.
     pub number: u8,
+    /// Its class, and what it says of the octets behind it.
     pub shape: Shape,
 }
 
@@ -162,17 +163,20 @@ fn push_length(octets: &mut Head, count: u32)
     ensures items { octets.new.items ≡ octets.old.items ++ plain_length count }
     ensures short { length octets.new.items ≤ length octets.old.items + 5 }
 {
-    if count < 5 {} else if count < 254 {
-        octets.push(count as u8);
-    } else if count < 65536 {
-        let mut two = [0; 2];
-        BigEndian::write_u16(&mut two, count as u16);
-        octets.push(254);
-        let _ = octets.try_extend_from_slice(&two);
-    } else {
-        let mut four = [0; 4];
-        BigEndian::write_u32(&mut four, count);
-        octets.push(255);
-        let _ = octets.try_extend_from_slice(&four);
+    match count {
+        0..5 => {}
+        5..254 => octets.push(count as u8),
+        254..0x1_0000 => {
+            let mut two = [0; 2];
+            BigEndian::write_u16(&mut two, count as u16);
+            octets.push(254);
+            let _ = octets.try_extend_from_slice(&two);
+        }
+        _ => {
+            let mut four = [0; 4];
+            BigEndian::write_u32(&mut four, count);
+            octets.push(255);
+            let _ = octets.try_extend_from_slice(&four);
+        }
     }
 }

@@ -13,7 +13,7 @@ ghost use Rattle.bac_wire.specs.Writing.{Appends};
 
 use crate::frame::{FRAME_OCTETS, Frame, Full};
 use crate::object_id::ObjectId;
-use crate::tag::{Shape, Tag, shortest, tag_and_rest, write_tag};
+use crate::tag::{Shape, Tag, shortest, tag_and_rest};
 use byteorder::{BigEndian, ByteOrder};
 
 /// A value that stands behind an application tag (ANSI/ASHRAE 135, 20.2.2 to 20.2.14). Borrowed parts are slices of

@@ -1,3 +1,4 @@
+pub mod Called
 pub mod Command
 pub mod Fault
 pub mod Marks

@@ -1,7 +1,7 @@
 //! The command that `clap` reads the words by.
 ghost use Rattle.std.specs.Prelude.{◌≡◌, false, IfOk, codes, map};
 ghost use Rattle.std.specs.List.{list_any};
-ghost use Rattle.clap.specs.Words.{App, new_app, new_rule, rule_of};
+ghost use Rattle.clap.specs.Words.{App, new_app, new_rule, rule_of, with_subcommand};
 ghost use Rattle.clap_laws.specs.Commands.{IsCommand, number, needed, by_name, several, with_rules};
 ghost use Rattle.bac_words.specs.Command.{own_instance, mac, timeout, retries, port, bacrp, bacwp, bacwi, bacdev, bactrace, bactool};
 
@@ -200,15 +200,25 @@ fn bactrace<'a>(alloc: Global) -> Command<'a>
     named(alloc, "bactrace", help::TRACES, help::TRACE_LINES)
 }
 
+// A command with one more tool, where there is memory for it.
+fn with_tool<'a>(
+    command: Command<'a>,
+    tool: Result<Command<'a>, AllocError>,
+) -> Result<Command<'a>, AllocError>
+    ensures { (app added : App) → IsCommand command.entry app → IfOk tool.entry (λ t. IsCommand t added)
+        → IfOk result (λ c. IsCommand c (with_subcommand app added.top)) }
+{
+    command.subcommand(tool?)
+}
+
 /// The program, with a subcommand for each tool.
 pub fn bactool<'a>(alloc: Global) -> Result<Command<'a>, AllocError>
     ensures { IfOk result (λ c. IsCommand c bactool) }
 {
-    named(alloc, "bactool", help::ABOUT, help::TYPICAL)
-        .subcommand_required(true)
-        .subcommand(bacrp(alloc)?)?
-        .subcommand(bacwp(alloc)?)?
-        .subcommand(bacwi(alloc)?)?
-        .subcommand(bacdev(alloc)?)?
-        .subcommand(bactrace(alloc))
+    let command = named(alloc, "bactool", help::ABOUT, help::TYPICAL).subcommand_required(true);
+    let command = with_tool(command, bacrp(alloc))?;
+    let command = with_tool(command, bacwp(alloc))?;
+    let command = with_tool(command, bacwi(alloc))?;
+    let command = with_tool(command, bacdev(alloc))?;
+    with_tool(command, Ok(bactrace(alloc)))
 }

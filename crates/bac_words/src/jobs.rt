@@ -20,7 +20,9 @@ pub enum Job {
 /// A device to be run.
 #[derive(Drop)]
 pub struct Serve {
+    /// Its instance and its name.
     pub info: DeviceInfo,
+    /// The port that it listens at; 0 is any.
     pub port: u16,
     /// The datagrams after which it ends, at least 1.
     pub count: u32,

@@ -1,6 +1,7 @@
 //! The command line of `bactool`: what its words ask for.
 #![tactic(auto)]
 
+mod called;
 mod command;
 mod faults;
 mod help;
@@ -9,9 +10,8 @@ mod marks;
 mod parse;
 mod typed;
 
-pub use bac_text::{Call, Search};
+pub use called::words_of;
 pub use command::bactool;
 pub use faults::{UsageFault, usage_status};
 pub use jobs::{Job, Serve};
-pub use marks::marked_words;
 pub use parse::parse_words;

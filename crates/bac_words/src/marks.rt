@@ -28,7 +28,7 @@ fn marked(alloc: Global, word: &str) -> Result<String, AllocError>
 }
 
 /// Each word after the program's name is marked.
-pub fn marked_words(alloc: Global, words: &[&str]) -> Result<Vec<String>, AllocError>
+pub(crate) fn marked_words(alloc: Global, words: &[&str]) -> Result<Vec<String>, AllocError>
     ensures { IfOk result (λ v. map string_bytes v.items ≡ marked_words (texts words.now)) }
 {
     let mut seen = Vec::new(alloc);

@@ -1,29 +1,43 @@
 //! The program: its words, UDP sockets, standard input and output.
 #![tactic(auto)]
 
-ghost use Rattle.std.specs.Prelude.{◌≡◌, ◌⊎◌, Err, ⊤};
+ghost use Rattle.std.specs.Prelude.{◌≡◌, ◌⊎◌, Err, IfOk, map};
+ghost use Rattle.std.specs.String.{string_bytes};
 ghost use Rattle.bac_links.specs.declared.fault.ToolFault.TheVariants.{WriteFailed};
-ghost use Rattle.bac_tools.specs.Report.{tool_report};
-
-mod called;
+ghost use Rattle.bac_tools.specs.Program.{IsCalled};
+ghost use Rattle.bac_tools.specs.Report.{IsHelp, tool_report};
 
 use bac_tools::{
-    Binding, Checked, Fault, LinkFault, Network, Report, ToolFault, UdpLink, UsageFault, run_words,
+    Binding, Checked, Fault, Link, LinkFault, Network, Report, ToolFault, UdpLink, UsageFault,
+    run_words, words_of,
 };
+use std::env;
 use std::fmt::Display;
+use std::io::{self, Read, Stdin, Stdout, Write};
 use std::process::ExitCode;
 
 fn main(rt: HostRuntime) -> ExitCode {
-    let report = match called::typed_words(&rt) {
+    let report = match typed_words(&rt) {
         Ok(typed) => run(&rt, &typed),
         Err(error) => Report::from(error),
     };
     ExitCode::from(told(&rt, report).status)
 }
 
+// The words as they were typed; the program's name is first.
+fn typed_words(rt: &HostRuntime) -> io::Result<Vec<String>> {
+    let mut typed = Vec::new(rt.alloc());
+    for word in env::args(rt)? {
+        typed.push(word)?;
+    }
+    Ok(typed)
+}
+
 // Runs what the words ask for.
-fn run(rt: &HostRuntime, typed: &[String]) -> Report {
-    let words = match called::words_of(rt.alloc(), typed) {
+fn run(rt: &HostRuntime, typed: &[String]) -> Report
+    ensures { IsCalled ⟦<Sockets<'static> as Network>⟧.gives ⟦<UdpLink<HostRuntime> as Link>⟧.told ⟦<UdpLink<HostRuntime> as Link>⟧.has_failed ⟦<Stdin as Read>⟧.remaining ⟦<Stdout as Write>⟧.contents result (map string_bytes typed.now) }
+{
+    let words = match words_of(rt.alloc(), typed) {
         Ok(words) => words,
         Err(error) => return Report::from(UsageFault::from(error)),
     };
@@ -42,7 +56,7 @@ struct Sockets<'r> {
 impl Network for Sockets<'_> {
     type Socket = UdpLink<HostRuntime>;
 
-    ghost gives = { λ _ _ _. ⊤ };
+    ghost gives = { λ _ binding socket. IfOk socket (λ link. link.refused ≡ binding.refused) };
 
     fn bind(self, binding: Binding) -> Result<UdpLink<HostRuntime>, LinkFault> {
         UdpLink::bind_with(self.rt, self.rt.alloc(), binding.at, binding.refused)
@@ -51,7 +65,7 @@ impl Network for Sockets<'_> {
 
 // Prints help, or the line of a fault, and hands the report on. Where help can't be printed, that is what is reported.
 fn told(rt: &HostRuntime, report: Report) -> Report
-    ensures { (result ≡ report) ⊎ (result ≡ tool_report (Err WriteFailed)) }
+    ensures { (result ≡ report) ⊎ ((result ≡ tool_report (Err WriteFailed)) × IsHelp report.fault) }
 {
     match &report.fault {
         None => {}

@@ -1,24 +1,16 @@
 -- A command grows by one argument or one tool, and stays the one that the rules say.
-use Rattle.std.proofs.Common.{◌≡◌, ◌∙◌, ◌||◌, ap, ap₂, subst, refl, map, List, [], ◌∷◌, false, true, Option, Result, IfOk}
-use Rattle.std.proofs.lemmas.Result.{IfOk-weaker}
+use Rattle.std.proofs.Common.{◌≡◌, ◌∙◌, ◌||◌, ap, ap₂, subst, refl, map, List, [], ◌∷◌, false, true, Option}
+use Rattle.std.proofs.lemmas.Bool.{or_parts}
 use Rattle.clap.specs.declared.builder.command.Command.TheViews.{out-Command}
 use Rattle.clap.specs.declared.builder.command.Command.TheOpen.{Command-F}
 use Rattle.clap.specs.Simple.{app_of_fields}
 use Rattle.std.specs.Borrow.{Bor}
 use Rattle.clap.specs.Walk.{Text}
-use Rattle.clap.specs.Words.{AddsArg, AddsInTurn, AddsSubcommand, App, Rule, rule_of, with_rule, with_subcommand}
+use Rattle.clap.specs.Words.{AddsArg, AddsInTurn, AddsSubcommand, App, rule_of, with_rule, with_subcommand}
 use Rattle.clap.specs.declared.builder.arg.Arg.{Arg}
 use Rattle.clap.specs.declared.builder.command.Command.{Command}
 use Rattle.clap_laws.specs.Commands.{IsCommand, wanting, with_rules}
-use Rattle.clap_laws.proofs.Rows.{neither}
 use Rattle.std.specs.List.{list_any}
-
-pub more : {app : App} {r : Rule} (old new : Command) (a : Arg) → IsCommand old app → rule_of a ≡ r → a.global ≡ false → AddsArg old a new
-    → IsCommand new (with_rule app r)
-more old new a is rule local added = record {
-  shape = added.shape local ∙ ap₂ with_rule is.shape rule;
-  local = added.globals ∙ ap₂ (λ x y. x || y) is.local local;
-}
 
 pub with_tool : {app tool : App} (old new sub : Command) → IsCommand old app → IsCommand sub tool → AddsSubcommand old sub new
     → IsCommand new (with_subcommand app tool.top)
@@ -32,12 +24,12 @@ pub in_turn : (args : List Arg) (app : App) (old new : Command) → IsCommand ol
     → IsCommand new (with_rules app (map rule_of args))
 in_turn [] app old new is local same = subst (λ c. IsCommand c app) same is
 in_turn (a ∷ rest) app old new is local chain =
-    let parts = neither a.global (list_any (λ a. a.global) rest) local in
-    in_turn rest (with_rule app (rule_of a)) chain.0 new (more old chain.0 a is refl parts.0 chain.1) parts.1 chain.2
-
-pub all_in_turn : {E : Type 0} (result : Result Command E) (args : List Arg) (app : App) (old : Command) → IsCommand old app → list_any (λ a. a.global) args ≡ false
-    → IfOk result (λ new. AddsInTurn AddsArg old args new) → IfOk result (λ new. IsCommand new (with_rules app (map rule_of args)))
-all_in_turn result args app old is local added = IfOk-weaker result _ _ (λ new h. in_turn args app old new is local h) added
+    let parts = or_parts a.global (list_any (λ a. a.global) rest) local in
+    let next : IsCommand chain.0 (with_rule app (rule_of a)) = record {
+      shape = chain.1.shape parts.0 ∙ ap (λ (app : App). with_rule app (rule_of a)) is.shape;
+      local = chain.1.globals ∙ rw (is.local, parts.0) refl;
+    } in
+    in_turn rest (with_rule app (rule_of a)) chain.0 new next parts.1 chain.2
 
 -- help leaves the rules as they are
 pub helped : {app : App} {about after : Option (Bor Text)} (first second third : Command) → IsCommand first app → out-Command second ≡ record (out-Command first) { about = about }
@@ -54,7 +46,3 @@ wanting_is old new is same = record {
   shape = ap app_of_fields same ∙ ap wanting is.shape;
   local = ap (λ (f : Command-F Command). f.has_globals) same ∙ is.local;
 }
-
-pub last_tool : {E : Type 0} {app tool : App} (old : Command) (result : Result Command E) (sub : Command) → IsCommand old app → IsCommand sub tool
-    → IfOk result (λ new. AddsSubcommand old sub new) → IfOk result (λ new. IsCommand new (with_subcommand app tool.top))
-last_tool old result sub is tool_is added = IfOk-weaker result _ _ (λ new h. with_tool old new sub is tool_is h) added

@@ -1,10 +1,11 @@
 -- From the rules that the words passed to what the getters of the matches read.
-use Rattle.std.proofs.Common.{◌≡◌, ◌∙◌, ◌<◌, ◌&&◌, ℕ, Bool, pos, true, false, not, refl, sym, ap, subst, arith, List, [], ◌∷◌, length, Option, Some, None, Result, is_some, IfSome, slice_get}
+use Rattle.std.proofs.Common.{◌≡◌, ◌∙◌, ◌<◌, ◌&&◌, ℕ, pos, true, false, not, refl, sym, ap, subst, arith, List, [], ◌∷◌, length, Option, Some, None, Result, is_some, IfSome, slice_get}
 use Rattle.std.specs.List.{find, list_all}
 use Rattle.std.specs.Option.{option_and_then, option_map, option_map_or}
 use Rattle.std.specs.Str.{bytes_eq}
 use Rattle.std.specs.Str.Parse.{ExplainsUnsignedError, HasUnsignedDigitsIfOk, ParsesUnsigned}
 use Rattle.std.specs.declared.num.ParseIntError.{ParseIntError}
+use Rattle.std.proofs.lemmas.Bool.{not-false}
 use Rattle.std.proofs.lemmas.Slice.Eq.{bytes_eq-Decides}
 use Rattle.clap.specs.Facts.{explicit_source, parser_of_value}
 use Rattle.clap.specs.Values.{Accepts, read_as, reading_of}
@@ -92,18 +93,13 @@ pub needed : (c : List Rule) (id : Text) (rows : List Row) → IsTaken c rows �
 needed c id rows taken is = at_rule (arg_by_id c id) refl is
   where
     some_number : (o : Option Text) → is_some o ≡ true → is_some (option_map decimal o) ≡ true
-    some_number None e = e
-    some_number (Some t) e = refl
-
-    is_true : (b : Bool) → not b ≡ false → b ≡ true
-    is_true true e = refl
-    is_true false e = sym e
+    some_number o e = grind (arith, e)
 
     at_rule : (o : Option Rule) → arg_by_id c id ≡ o → option_map_or (λ a. a.required && bytes_eq a.id id) o false ≡ true → is_some (number_of id rows) ≡ true
     at_rule None found is = cc
     at_rule (Some a) found is =
         let parts = both a.required (bytes_eq a.id id) is in
         let missing = any_not (λ a. a.required && not (is_given a.id rows)) (λ a. bytes_eq a.id id) c a taken.complete found in
-        let given : is_given a.id rows ≡ true = is_true _ (rw parts.0 at missing) in
+        let given : is_given a.id rows ≡ true = not-false _ (rw parts.0 at missing) in
         some_number (one_of id rows) ((text_of c a id rows taken.entries found).1
         (subst (λ (t : Text). is_given t rows ≡ true) ((bytes_eq-Decides a.id id).0 parts.1) given))

@@ -5,7 +5,7 @@ use Rattle.std.specs.List.{find, fold, list_all, list_any}
 use Rattle.std.specs.Str.{bytes_eq, chars}
 use Rattle.std.specs.Prelude.{nat_lt}
 use Rattle.std.proofs.lemmas.Slice.Eq.{bytes_eq-Decides}
-use Rattle.std.proofs.lemmas.Bool.{eqb-true}
+use Rattle.std.proofs.lemmas.Bool.{or_parts}
 use Rattle.std.proofs.lemmas.List.Folds.{list_all-append}
 use Rattle.clap.specs.Lexer.{long_of, short_of}
 use Rattle.clap.specs.Facts.{unwrap_or_range}
@@ -41,18 +41,14 @@ when_found {X} p P a here later (x ∷ xs) is = go (p x) refl (when_found p P a 
 -- ---- a list of kinds that is empty
 
 pub none_fails : (a b : Kinds) → or_else a b ≡ [] → (a ≡ []) × (b ≡ [])
-none_fails [] b e = (refl, e)
-none_fails (k ∷ ks) b e = cc
+none_fails a b e = grind (arith, e)
 
 -- ---- the rules of a level
 
-pub neither : (a b : Bool) → (a || b) ≡ false → (a ≡ false) × (b ≡ false)
-neither a b e = grind arith
-
 pub any_not : (q p : Rule → Bool) (c : List Rule) (a : Rule) → list_any q c ≡ false → find p c ≡ Some a → q a ≡ false
 any_not q p c a none is =
-    when_found p (λ c. list_any q c ≡ false → q a ≡ false) a (λ xs passes none. (neither (q a) (list_any q xs) none).0)
-    (λ x xs fails is rest none. rest (neither (q x) (list_any q xs) none).1) c is none
+    when_found p (λ c. list_any q c ≡ false → q a ≡ false) a (λ xs passes none. (or_parts (q a) (list_any q xs) none).0)
+    (λ x xs fails is rest none. rest (or_parts (q x) (list_any q xs) none).1) c is none
 
 -- a plain rule, and the one of its id
 record IsOwn (c : List Rule) (a : Rule) : Type 0 where
@@ -84,12 +80,7 @@ at_row_pass : (c : List Rule) (id : Text) (change : Row → List Row) (missing :
     → (rows : List Row) → RowsPass c rows → RowsPass c (at_row id change missing rows)
 at_row_pass c id change missing changed added [] h = added
 at_row_pass c id change missing changed added (r ∷ rs) h =
-    go (bytes_eq r.id id) refl (at_row_pass c id change missing changed added rs h.1)
-  where
-    go : (b : Bool) → bytes_eq r.id id ≡ b → RowsPass c (at_row id change missing rs)
-        → RowsPass c (cond b (change r ++ rs) (r ∷ at_row id change missing rs))
-    go true e later = append_pass c (change r) rs (changed r e h.0) h.1
-    go false e later = (h.0, later)
+    grind (arith, at_row_pass c id change missing changed added rs h.1, changed r, append_pass c (change r) rs, h.0, h.1)
 
 with_values_pass : (c : List Rule) (a : Rule) (vs : List Text) (rows : List Row) → arg_by_id c a.id ≡ Some a → values_pass a vs ≡ true → 0 < length vs
     → RowsPass c rows → RowsPass c (with_values a.id (reading_by a) CommandLine vs rows)
@@ -124,17 +115,11 @@ used_as_pass : (c : List Rule) (a : Rule) (again : Bool) (x : ArgAction) (wants 
 used_as_pass c a again action.Set wants vs rows is kept filled none h =
     with_values_pass c a vs _ is (values_taken a vs (none_fails _ _ none).1) (filled kept) (at_row_pass c a.id (λ _. []) [] (λ r same h. tt) tt rows h)
 used_as_pass c a again action.Append wants vs rows is kept filled none h = with_values_pass c a vs rows is (values_taken a vs none) (filled kept) h
-used_as_pass c a again action.SetTrue wants vs rows is kept filled none h = cc
-used_as_pass c a again action.SetFalse wants vs rows is kept filled none h = cc
-used_as_pass c a again action.Count wants vs rows is kept filled none h = cc
-used_as_pass c a again _ wants vs rows is kept filled none h = h
+used_as_pass c a again _ wants vs rows is kept filled none h = grind (arith, h)
 
 filled_by : (a : Rule) (least most : ℕ) (values : List Text) → range_kinds least most (length values) ≡ [] → nat_lt 0 least ≡ true
     → 0 < length (values_or_missing a values)
-filled_by a least most [] none wants =
-    let bad = rw wants at none in
-    cc bad
-filled_by a least most (v ∷ vs) none wants = omega arith
+filled_by a least most values none wants = grind (arith, none, wants)
 
 -- ---- a level: its rules, and whether a second use replaces the first
 
@@ -151,17 +136,7 @@ module _ (c : List Rule) (level : IsPlainLevel c) (again : Bool) where
       (both (is_empty a.defaults) _ is.plain).1 (filled_by a (unwrap_or_range a.range).start_inclusive (most_values a) values parts.0) parts.1 h
 
   settled_pass : (h : Held) → Keeps (settle_fault c again h) h (settled c h)
-  settled_pass h none rows = go h.pending none
-    where
-      by_id : (p : Text × List Text) (o : Option Rule) → arg_by_id c p.0 ≡ o → option_map_or (λ a. use_fault again a p.1 h.rows) o [] ≡ []
-          → RowsPass c (used_by_id o p.1 h.rows)
-      by_id p None found none = rows
-      by_id p (Some a) found none = used_pass a p.1 h.rows (owned _ c a found level.plain level.distinct) none rows
-
-      go : (o : Option (Text × List Text)) → option_map_or (λ p. option_map_or (λ a. use_fault again a p.1 h.rows) (arg_by_id c p.0) []) o [] ≡ []
-          → RowsPass c (settled_rows c o h.rows)
-      go None none = rows
-      go (Some p) none = by_id p (arg_by_id c p.0) refl none
+  settled_pass h none rows = grind (arith, none, rows, owned, used_pass, level.plain, level.distinct)
 
   reacted_pass : (a : Rule) (values : List Text) (h : Held) → IsOwn c a → Keeps (react_fault c again a values h) h (reacted c a values h)
   reacted_pass a values h is none rows =
@@ -171,8 +146,7 @@ module _ (c : List Rule) (level : IsPlainLevel c) (again : Bool) where
   -- a use as an option with this value, or what else the word comes to
   option_or : (a : Rule) (v : Option Text) (h : Held) (fault : Kinds) (other : Held × Outcome) → IsOwn c a → Keeps fault h other.0
       → Keeps (cond (takes_values a) (option_fault c again a v h) fault) h (cond (takes_values a) (option_met c a v h) other).0
-  option_or a None h fault other is keeps none rows = grind (arith, settled_pass h)
-  option_or a (Some v) h fault other is keeps none rows = grind (arith, reacted_pass a (v ∷ []) h is)
+  option_or a v h fault other is keeps none rows = grind (arith, settled_pass h, λ (word : Text). reacted_pass a (word ∷ []) h is)
 
   long_pass : (o : Option Rule) (v : Option Text) (h : Held) → IfSome o (IsOwn c) → Keeps (long_fault c again o v h) h (long_met c o v h).0
   long_pass None v h is none rows = rows
@@ -188,11 +162,7 @@ module _ (c : List Rule) (level : IsPlainLevel c) (again : Bool) where
       goes (reacted c a [] h) parts.1 (reacted_pass a [] h is parts.0 rows))
 
   found_own : (p : Rule → Bool) → IfSome (find p c) (IsOwn c)
-  found_own p = go (find p c) refl
-    where
-      go : (o : Option Rule) → find p c ≡ o → IfSome o (IsOwn c)
-      go None found = tt
-      go (Some a) found = owned p c a found level.plain level.distinct
+  found_own p = grind (arith, owned p c, level.plain, level.distinct)
 
   bundle_pass : (k : ℕ) (flags : Text) (skip : ℕ) (so_far : Outcome) (h : Held) → Keeps (flags_fault c again k flags skip h) h (bundle_met c k flags skip so_far h).0
   unfolding bundle_met flags_fault
@@ -218,20 +188,13 @@ IsElsewhere P _ = Unit {0}
 
 plain_keeps : (c : List Rule) (waiting : Waiting) (word : Text) (h : Held) (P : Text → Type 0)
     → ((plain_word c waiting word h).0.rows ≡ h.rows) × IsElsewhere P (plain_word c waiting word h).1
-plain_keeps c w.idle word h P = (refl, tt)
-plain_keeps c w.positional word h P = (refl, tt)
-plain_keeps c (w.option id) word h P = go (arg_by_id c id)
-  where
-    go : (o : Option Rule) → ((option_word o id word h).0.rows ≡ h.rows) × Unit {0}
-    go None = (refl, tt)
-    go (Some a) = (refl, tt)
+plain_keeps c waiting word h P = grind arith
 
 flag_keeps : (c : List Rule) (waiting : Waiting) (word : Text) (h : Held) (o : Outcome) (P : Text → Type 0)
     → ((after_flag c waiting word h o).0.rows ≡ h.rows) × IsElsewhere P (after_flag c waiting word h o).1
 flag_keeps c waiting word h w.done P = (refl, tt)
 flag_keeps c waiting word h (w.waits id) P = (refl, tt)
-flag_keeps c waiting word h w.plain P = plain_keeps c waiting word h P
-flag_keeps c waiting word h w.refused P = plain_keeps c waiting word h P
+flag_keeps c waiting word h _ P = plain_keeps c waiting word h P
 
 -- the name asks for help
 abbrev pub asks : Shape → Text → Bool
@@ -329,8 +292,7 @@ defaults_pass (a ∷ rest) rows all =
     ap (λ r. fold with_default r rest) (go a.defaults (has_row a.id rows) (both (is_empty a.defaults) _ parts.0).0) ∙ defaults_pass rest rows parts.1
   where
     go : (ds : List Text) (b : Bool) → is_empty ds ≡ true → cond b rows (default_rows a.id (reading_by a) ds rows) ≡ rows
-    go [] b empty = grind arith
-    go (d ∷ ds) b empty = absurd (omega (arith, eqb-true _ _ empty))
+    go ds b empty = grind (arith, empty)
 
 last_check : (wants_help wants_subcommand wants_argument : Bool) → check_kinds wants_help wants_subcommand wants_argument ≡ [] → wants_argument ≡ false
 last_check wants_help wants_subcommand wants_argument none = grind arith

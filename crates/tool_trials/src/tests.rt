@@ -10,7 +10,6 @@ mod words;
 use bac_pdu::Peer;
 use std::alloc::Global;
 use std::process::Abort;
-use std::test::Fail;
 
 const LOCALHOST: u32 = 0x7f00_0001;
 

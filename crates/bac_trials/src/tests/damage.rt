@@ -57,20 +57,15 @@ fn is_reply(octets: &[u8]) -> bool {
     }
 }
 
-/// Whether the octets are taken with the octet at the place changed in each way. With another length in the link header, octets 2
+/// Whether the octets are taken with the octet at this place changed in each way. With another length in the link header, octets 2
 /// and 3, they are ignored.
-fn is_tolerated(
-    client: &mut Client,
-    device: &mut Device,
-    datagram: &mut [u8],
-    place: usize,
-) -> bool {
-    let Some(octet) = datagram.get(place).copied() else {
+fn is_tolerated(client: &mut Client, device: &mut Device, datagram: &mut [u8], at: usize) -> bool {
+    let Some(octet) = datagram.get(at).copied() else {
         return false;
     };
     for change in 1..=255_u8 {
-        datagram[place] = octet ^ change;
-        let is_well = match place {
+        datagram[at] = octet ^ change;
+        let is_well = match at {
             2 | 3 if !has_own_length(datagram) => is_ignored(client, device, datagram),
             _ => is_taken(client, datagram) && is_answered(device, datagram),
         };
@@ -78,7 +73,7 @@ fn is_tolerated(
             return false;
         }
     }
-    datagram[place] = octet;
+    datagram[at] = octet;
     true
 }
 

@@ -17,6 +17,7 @@ use bac_pdu::{Peer, WhoIs};
 use bac_text::{Call, Checked, Search};
 use std::alloc::Global;
 use std::io::Write;
+use std::process::Abort;
 use std::test::Fail;
 
 /// The present value of analog-input 5 is asked for: the body, and its datagram.
@@ -80,17 +81,18 @@ fn small_device() -> Option<Device> {
 type End<'a> = (Got, &'a str, &'a [(u64, &'a [u8])]);
 
 /// Whether it ends so over these steps, where the send with this number fails.
-fn ends(
-    alloc: Global,
-    job: Job<'_>,
-    steps: &[Step<'_>],
-    fail_send: Option<u32>,
-    (answer, text, sent): End<'_>,
-) -> Result<bool, LinkFault> {
-    let mut link = MemoryLink::new(alloc, steps, fail_send)?;
+fn ends(alloc: Global, job: Job<'_>, steps: &[Step<'_>], fail: Option<u32>, end: End<'_>) -> bool {
+    let Ok(mut link) = MemoryLink::new(alloc, steps, fail) else {
+        return false;
+    };
     let mut room = [0xff; 96];
     let got = run_job(job, &mut link, room.as_mut_slice());
-    Ok(got == answer && is_text(&room, text) && has_sent(&link, P, sent))
+    got == end.0 && is_text(&room, end.1) && has_sent(&link, P, end.2)
+}
+
+/// The steps of a link on which nothing comes until all turns are spent.
+pub(crate) fn quiet<H: Abort + AllocGlobal>(rt: &H) -> Vec<Step<'static>> {
+    vec![in rt.alloc(); Step::Quiet(0); 65_536].expect(rt, "memory")
 }
 
 /// Whether this was sent to the peer at these times, and nothing else.

@@ -38,7 +38,7 @@ impl Write for Room<'_> {
 }
 
 /// How far a run has come, as its reader and its writer see it.
-#[derive(Drop)]
+#[derive(Default, Drop)]
 pub(crate) struct Progress {
     pub(crate) read: Cell<usize>,
     pub(crate) written: Cell<usize>,
@@ -49,39 +49,21 @@ pub(crate) struct Progress {
     pub(crate) is_broken: Cell<bool>,
 }
 
-impl Progress {
-    pub(crate) fn new() -> Self {
-        Progress {
-            read: Cell::new(0),
-            written: Cell::new(0),
-            reads: Cell::new(0),
-            writes: Cell::new(0),
-            is_wrong: Cell::new(false),
-            is_broken: Cell::new(false),
-        }
-    }
-}
-
 /// Takes this text, but fails once, at the write with this number, or takes none there.
 #[derive(Drop)]
 pub(crate) struct Told<'a> {
     progress: &'a Progress,
     text: &'a [u8],
-    fails_at: usize,
-    takes_none: bool,
-}
-
-pub(crate) fn telling<'a>(
-    progress: &'a Progress,
-    text: &'a [u8],
     at: usize,
     none: bool,
-) -> Told<'a> {
+}
+
+pub fn telling<'a>(progress: &'a Progress, text: &'a [u8], at: usize, none: bool) -> Told<'a> {
     Told {
         progress,
         text,
-        fails_at: at,
-        takes_none: none,
+        at,
+        none,
     }
 }
 
@@ -89,9 +71,9 @@ impl Write for Told<'_> {
     fn write(&mut self, buf: &[u8]) -> io::Result<usize> {
         let writes = self.progress.writes.get();
         self.progress.writes.set(writes.saturating_add(1));
-        if writes == self.fails_at {
+        if writes == self.at {
             self.progress.is_broken.set(true);
-            if self.takes_none {
+            if self.none {
                 return Ok(0);
             }
             return Err(io::Error::from(ErrorKind::Other));

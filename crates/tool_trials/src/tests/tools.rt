@@ -3,25 +3,29 @@ ghost use Rattle.std.specs.Prelude.{◌≡◌, [], map, IfOk};
 ghost use Rattle.bac_links.specs.Memory.{told_of, told_by, scene_of_step};
 
 use super::*;
+use crate::tests::links::quiet;
 use bac_links::{LinkFault, MemoryLink, Refused, Step};
 use bac_text::Checked;
 use bac_tools::{Binding, Network, Report, run_words};
 use std::alloc::Global;
+use std::cell::Cell;
 
-/// Gives links of these steps to whoever asks for this port of every address, and what becomes of a refused reply so.
+/// Gives links of these steps to whoever asks for this port of every address, and what becomes of a refused reply so. Counts who asks.
 #[derive(Clone, Copy)]
-struct Rehearsal<'a> {
+struct Rehearsal<'a, 'c> {
     alloc: Global,
     steps: &'a [Step<'a>],
     at: (u16, Refused),
+    asked: &'c Cell<u32>,
 }
 
-impl Network for Rehearsal<'_> {
+impl Network for Rehearsal<'_, '_> {
     type Socket = MemoryLink;
 
     ghost gives = { λ network binding socket. IfOk socket (λ link. told_of link ≡ told_by (map scene_of_step network.steps.now) 0 []) };
 
     fn bind(self, binding: Binding) -> Result<MemoryLink, LinkFault> {
+        self.asked.set(self.asked.get().saturating_add(1));
         let (port, refused) = self.at;
         let any = Peer { ip: 0, ..P };
         if binding.at != (Peer { port, ..any }) || binding.refused != refused {
@@ -31,22 +35,25 @@ impl Network for Rehearsal<'_> {
     }
 }
 
-/// Whether the words of a line, over this network and a script, print this text and end with this status and fault.
-fn runs(line: &str, network: Rehearsal<'_>, end: (&str, u8, &str)) -> Result<bool, Fail> {
-    let (alloc, (text, status, fault)) = (network.alloc, end);
-    let words: Vec<&str> = line.split(' ').collect(alloc)?;
+/// Whether the words, over this network and a script, print this text and end with this status and fault.
+fn runs(
+    words: &[&str],
+    network: Rehearsal<'_, '_>,
+    (text, status, fault): (&str, u8, &str),
+) -> bool {
+    let alloc = network.alloc;
     let mut room = [0xff; 96];
     let mut reader = Checked::new(SCRIPT);
     let mut writer = Checked::new(room.as_mut_slice());
-    let report = run_words(alloc, words.as_slice(), network, &mut reader, &mut writer);
-    Ok(is_text(&room, text) && report.status == status && is_told(alloc, &report, fault)?)
+    let report = run_words(alloc, words, network, &mut reader, &mut writer);
+    is_text(&room, text) && report.status == status && is_told(alloc, &report, fault)
 }
 
 /// Whether the report has the fault of this text, or none where there is no text.
-fn is_told(alloc: Global, report: &Report, text: &str) -> Result<bool, Fail> {
+fn is_told(alloc: Global, report: &Report, text: &str) -> bool {
     match &report.fault {
-        Some(fault) => Ok(format!(in alloc; "{fault}")?.as_str() == text),
-        None => Ok(text.is_empty()),
+        Some(fault) => matches!(format!(in alloc; "{fault}"), Ok(told) if told.as_str() == text),
+        None => text.is_empty(),
     }
 }
 
@@ -60,8 +67,6 @@ const WRITE: &str = "bactool bacwp 1234 1 1 85 16 -1 4 41a00000 --mac 127.0.0.1 
 
 const SEARCH: &str = "bactool bacwi --mac 127.0.0.1";
 
-const FOUND: &str = "1234 127.0.0.1:47808 1476 3 260\n";
-
 const SERVE: &str = "bactool bacdev 1234 --count 2";
 
 const TRACE: &str = "bactool bactrace";
@@ -72,38 +77,61 @@ const SENT: &str = "send 0 127.0.0.1:47808 810a001101040005010c0c000000051955\n"
 
 const CLIENT: (u16, Refused) = (0, Refused::Fails);
 
-const AT_9: (u16, Refused) = (9, Refused::Fails);
-
 const DEVICE: (u16, Refused) = (47_808, Refused::IsLost);
 
 const UNBOUND: (&str, u8, &str) = ("", 3, "bind failed");
 
-// A device alone goes on where a reply is refused.
-#[test]
-fn words_are_run(rt: HostRuntime) -> Result<(), Fail> {
-    let value = [Step::Packet(5, P, VALUE)];
-    let i_am = [Step::Packet(5, P, I_AM)];
-    let asked = [Step::Packet(0, Q, WHO_IS), Step::Packet(0, Q, b"\x00")];
-    let quiet = vec![in rt.alloc(); Step::Quiet(0); 65_536]?;
-    let broken = [Step::Broken];
-    let rows = [
-        (READ, value.as_slice(), CLIENT, ("4290999a\n", 0, "")),
-        (WRITE, &value, CLIENT, ("timeout\n", 1, "")),
-        (READ_AT_9, &value, CLIENT, UNBOUND),
-        (READ_NOWHERE, &value, CLIENT, ("", 2, "bad mac")),
-        (TRACE, &value, CLIENT, (SENT, 2, "line 2: bad line")),
-        (READ_AT_9, &broken, AT_9, ("", 3, "receiving failed")),
-        (READ, quiet.as_slice(), CLIENT, ("", 3, "turns spent")),
-        (SEARCH, &i_am, CLIENT, (FOUND, 0, "")),
-        (SERVE, &asked, DEVICE, ("", 0, "")),
-        (SEARCH, &asked, DEVICE, UNBOUND),
-        (SEARCH, &i_am, (0, Refused::IsLost), UNBOUND),
-        (SERVE, &asked, (47_808, Refused::Fails), UNBOUND),
-    ];
-    for (line, steps, at, wanted) in &rows {
+/// The words of a line, which port of a network they are to ask for; and what is printed, the status and the fault.
+type Row<'a> = (&'a str, (u16, Refused), (&'a str, u8, &'a str));
+
+/// Lines over a network that answers a read.
+static ANSWERED: [Row<'static>; 5] = [
+    (READ, CLIENT, ("4290999a\n", 0, "")),
+    (WRITE, CLIENT, ("timeout\n", 1, "")),
+    (READ_AT_9, CLIENT, UNBOUND),
+    (READ_NOWHERE, CLIENT, ("", 2, "bad mac")),
+    (TRACE, CLIENT, (SENT, 2, "line 2: bad line")),
+];
+
+/// Lines over one where a device introduces itself.
+static FOUND: [Row<'static>; 2] = [
+    (SEARCH, CLIENT, ("1234 127.0.0.1:47808 1476 3 260\n", 0, "")),
+    (SEARCH, (0, Refused::IsLost), UNBOUND),
+];
+
+/// Lines over one where a device is asked. A device alone goes on where a reply is refused.
+static ASKED: [Row<'static>; 3] = [
+    (SERVE, DEVICE, ("", 0, "")),
+    (SEARCH, DEVICE, UNBOUND),
+    (SERVE, (47_808, Refused::Fails), UNBOUND),
+];
+
+/// Sees that the lines end so over a network of these steps, and that one socket is asked for, and none for a script or without a job.
+fn all_run<'a, H: Abort + AllocGlobal>(rt: &H, steps: &'a [Step<'a>], rows: &[Row<'_>]) {
+    for (line, at, end) in rows {
         let (alloc, at) = (rt.alloc(), *at);
-        let network = Rehearsal { alloc, steps, at };
-        assert!(rt; runs(line, network, *wanted)?, "after {line:?}");
+        let asked = &Cell::new(0);
+        let network = Rehearsal {
+            alloc,
+            steps,
+            at,
+            asked,
+        };
+        let words: Vec<&str> = line.split(' ').collect(alloc).expect(rt, "memory");
+        assert!(rt; runs(words.as_slice(), network, *end), "{line}");
+        let has_socket = *line != TRACE && *line != READ_NOWHERE;
+        assert!(rt; asked.get() == u32::from(has_socket), "{line}");
     }
-    Ok(())
+}
+
+#[test]
+fn words_are_run(rt: HostRuntime) {
+    all_run(&rt, &[Step::Packet(5, P, VALUE)], &ANSWERED);
+    all_run(&rt, &[Step::Packet(5, P, I_AM)], &FOUND);
+    let asked = [Step::Packet(0, Q, WHO_IS), Step::Packet(0, Q, b"\x00")];
+    all_run(&rt, &asked, &ASKED);
+    let broken = [(READ_AT_9, (9, Refused::Fails), ("", 3, "receiving failed"))];
+    all_run(&rt, &[Step::Broken], &broken);
+    let spent = [(READ, CLIENT, ("", 3, "turns spent"))];
+    all_run(&rt, quiet(&rt).as_slice(), &spent);
 }

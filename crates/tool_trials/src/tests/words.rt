@@ -8,9 +8,6 @@ use crate::tests::{LOCALHOST, P, Q, are_digits};
 use bac_text::Call;
 use bac_words::{Job, UsageFault, parse_words};
 use std::alloc::Global;
-use std::test::Fail;
-
-type Is = Result<bool, UsageFault>;
 
 /// The words of a line, cut at spaces, of which the first is the program's name.
 fn parse(alloc: Global, line: &str) -> Result<Job, UsageFault> {

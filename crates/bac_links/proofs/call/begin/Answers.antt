@@ -1,4 +1,4 @@
-use Rattle.std.proofs.Common.{◌≡◌, [], refl, sym, ◌∙◌}
+use Rattle.std.proofs.Common.{◌≡◌, [], refl, ◌∙◌}
 use Rattle.std.proofs.lemmas.Result.{err_from_is_err_and}
 use Rattle.bac_links.proofs.CallEvents.{submitted_is}
 use Rattle.bac_links.proofs.CallTurns.{begun, unbegun}
@@ -7,14 +7,13 @@ use Rattle.bac_links.proofs.call.begin.Goals as goal
 pub unwrap-ticket-requires : goal.unwrap-ticket-requires
 unwrap-ticket-requires g c =
     let short = rw c.as_slice.ensures.value at c.as_slice.ensures.fits in
-    let answer = rw (c.tick.ensures.1, c.new-client.ensures, c.service.ensures, c.as_slice.ensures.value) at c.submit.ensures.0 in
-    rw (answer ∙ submitted_is c.args.tool c.args.call.now c.now.result short) refl
+    let answer = rw (c.tick.ensures.1, c.new-client.ensures, c.service.ensures, c.as_slice.ensures.value, submitted_is c.args.tool c.args.call.now c.now.result short) at c.submit.ensures.0 in
+    rw answer refl
 
 pub returns-clause-ok : goal.returns-clause-ok
 returns-clause-ok g c t e =
     let short = rw c.as_slice.ensures.value at c.as_slice.ensures.fits in
-    let answer = rw (c.tick.ensures.1, c.new-client.ensures, c.service.ensures, c.as_slice.ensures.value) at c.submit.ensures.0 in
-    let ok = sym c.unwrap-ticket.ensures ∙ answer ∙ submitted_is c.args.tool c.args.call.now c.now.result short in
+    let answer = rw (c.tick.ensures.1, c.new-client.ensures, c.service.ensures, c.as_slice.ensures.value, submitted_is c.args.tool c.args.call.now c.now.result short) at c.submit.ensures.0 in
     let first : c.unwrap-ticket.result ≡ 0 = cc in
     let client = rw (c.tick.ensures.1, c.new-client.ensures, c.service.ensures, c.as_slice.ensures.value, c.now.ensures.time t e) at c.submit.ensures.1 in
     begun c.args.tool c.args.call.now t _ short c.submit.new.self client (rw first at (c.in_ok-send_request.ensures.ok t (c.now.ensures.same ∙ e)))
@@ -27,8 +26,7 @@ returns-in_err-send_request-clause-err g c =
       failed.0,
       λ t e.
           let short = rw c.as_slice.ensures.value at c.as_slice.ensures.fits in
-          let answer = rw (c.tick.ensures.1, c.new-client.ensures, c.service.ensures, c.as_slice.ensures.value) at c.submit.ensures.0 in
-          let ok = sym c.unwrap-ticket.ensures ∙ answer ∙ submitted_is c.args.tool c.args.call.now c.now.result short in
+          let answer = rw (c.tick.ensures.1, c.new-client.ensures, c.service.ensures, c.as_slice.ensures.value, submitted_is c.args.tool c.args.call.now c.now.result short) at c.submit.ensures.0 in
           let first : c.unwrap-ticket.result ≡ 0 = cc in
           let client = rw (c.tick.ensures.1, c.new-client.ensures, c.service.ensures, c.as_slice.ensures.value, c.now.ensures.time t e) at c.submit.ensures.1 in
           let lost = rw first at (failed.2 (t.time [])) in

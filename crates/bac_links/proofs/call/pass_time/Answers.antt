@@ -1,6 +1,6 @@
 use Rattle.std.proofs.Common.{[], ◌∙◌}
 use Rattle.std.proofs.lemmas.Result.{err_from_is_err_and}
-use Rattle.bac_links.proofs.Requests.{resent, sent_unended}
+use Rattle.bac_links.proofs.CallTurns.{resent, sent_unended}
 use Rattle.bac_tsm.specs.Client.{rules_of}
 use Rattle.bac_tsm.specs.Machine.{tick}
 use Rattle.bac_links.proofs.call.pass_time.Goals as goal

@@ -1,7 +1,7 @@
 use Rattle.std.proofs.Common.{add-one, arith}
 use Rattle.std.proofs.lemmas.Result.{err_from_is_err_and}
 use Rattle.bac_links.specs.Ending.{ending_seen}
-use Rattle.bac_links.proofs.CallEnds.{is_open, fails_so, shown_so}
+use Rattle.bac_links.proofs.CallTurns.{is_open, fails_so, shown_so}
 use Rattle.bac_links.proofs.call.run.Goals as goal
 
 pub returns-in_err-client-clause-told : goal.returns-in_err-client-clause-told

@@ -1,5 +1,5 @@
 use Rattle.std.proofs.Common.{refl, rules}
-use Rattle.bac_links.proofs.Requests.{one_sent}
+use Rattle.bac_links.proofs.CallTurns.{one_sent}
 use Rattle.bac_links.proofs.call.send_request.Goals as goal
 
 pub returns-then-is_err-clause-err : goal.returns-then-is_err-clause-err

@@ -1,9 +1,8 @@
-use Rattle.std.proofs.Common.{[], ◌∷◌, refl, sym}
+use Rattle.std.proofs.Common.{[], ◌∷◌, refl}
 use Rattle.std.proofs.lemmas.List.{append-nil}
 use Rattle.std.proofs.lemmas.Result.{err_from_is_err_and}
 use Rattle.bac_text.proofs.Known.{Appends-none}
 use Rattle.bac_links.specs.Search.{found_seen}
-use Rattle.bac_links.proofs.Searches.{finds_one, finds_none}
 use Rattle.bac_links.proofs.search.listen.Goals as goal
 
 pub returns-in_ok-show_found-in-Some-clause-told : goal.returns-in_ok-show_found-in-Some-clause-told
@@ -13,8 +12,7 @@ returns-in_ok-show_found-in-Some-clause-told g c = (
   rw append-nil c.in_ok-show_found-in-Some.ensures.text,
   λ t e.
       let heard = rw (c.in-Ok-Some.field-0-is, ← c.as_slice.ensures.value) at (c.in-Ok-Some.ensures.heard t e) in
-      let found = finds_one c.args.who _ _ _ (found_seen c.in-Some.found) heard c.in-Some.ensures in
-      (found.0, sym found.1, c.in-Ok-Some.ensures.goes_on t e),
+      rw (heard, ← c.in-Some.ensures) ((λ q. cc), refl, c.in-Ok-Some.ensures.goes_on t e),
 )
 
 pub returns-in_err-show_found-in-Some-clause-told : goal.returns-in_err-show_found-in-Some-clause-told
@@ -29,8 +27,7 @@ returns-in_err-show_found-in-Some-clause-told g c =
       text.3,
       λ t e.
           let heard = rw (c.in-Ok-Some.field-0-is, ← c.as_slice.ensures.value) at (c.in-Ok-Some.ensures.heard t e) in
-          let found = finds_one c.args.who _ _ _ (found_seen c.in-Some.found) heard c.in-Some.ensures in
-          (found.1, c.in-Ok-Some.ensures.goes_on t e),
+          rw (heard, ← c.in-Some.ensures) (refl, c.in-Ok-Some.ensures.goes_on t e),
     )
 
 pub returns-in-None-clause-told : goal.returns-in-None-clause-told
@@ -40,8 +37,7 @@ returns-in-None-clause-told g c = (
   Appends-none _,
   λ t e.
       let heard = rw (c.in-Ok-Some.field-0-is, ← c.as_slice.ensures.value) at (c.in-Ok-Some.ensures.heard t e) in
-      let found = finds_none c.args.who _ _ _ heard c.in-None.ensures in
-      (found.0, found.1, c.in-Ok-Some.ensures.goes_on t e),
+      rw (heard, ← c.in-None.ensures) ((λ q. cc), refl, c.in-Ok-Some.ensures.goes_on t e),
 )
 
 pub returns-in-Ok-None-clause-told : goal.returns-in-Ok-None-clause-told

@@ -1,6 +1,6 @@
 use Rattle.std.proofs.Common.{◌≡◌, ◌≤◌, false}
 use Rattle.bac_text.specs.Checked.{inner_of, has_failed}
-use Rattle.bac_links.specs.SearchSteps.{SearchGoes}
+use Rattle.bac_links.proofs.Searches.{SearchGoes}
 use Rattle.bac_links.proofs.search.run_whois.Given as goal
 
 abbrev pub invariant-loop-turn : goal.invariant-loop-turn

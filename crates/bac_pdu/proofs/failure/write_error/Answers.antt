@@ -1,4 +1,4 @@
-use Rattle.std.proofs.Common.{append-nil, sym}
+use Rattle.std.proofs.Common.{append-nil, sym, arith}
 use Rattle.std.proofs.lemmas.Result.{on_ok_weaker}
 use Rattle.bac_wire.proofs.Writing.{front, stops_whole, then_appends, written_as}
 use Rattle.bac_pdu.proofs.ShortestLaws.{error_shortest, error_is_back}
@@ -6,6 +6,9 @@ use Rattle.bac_pdu.proofs.failure.write_error.Goals as goal
 
 pub returns-in_err-write_value-clause-appended : goal.returns-in_err-write_value-clause-appended
 returns-in_err-write_value-clause-appended c = stops_whole _ c.from_residual.ensures.0 c.in_err-write_value.ensures.appended
+
+pub whole_or_nothing-requires : goal.whole_or_nothing-requires
+whole_or_nothing-requires c = omega (arith, (front c.in_ok-write_value.ensures.appended).long, (front c.write_value-appended.ensures.appended).long)
 
 pub returns-clause-appended : goal.returns-clause-appended
 returns-clause-appended c = c.whole_or_nothing.ensures.whole _ _ c.len-start.ensures.value (then_appends (front c.in_ok-write_value.ensures.appended) (written_as (sym (append-nil _)) (front c.write_value-appended.ensures.appended)))

@@ -1,6 +1,6 @@
 use Rattle.bac_wire.proofs.Writing.{stops, then_appends, written_as}
 use Rattle.bac_pdu.specs.Property.{answer}
-use Rattle.bac_pdu.proofs.Written.{ack_written}
+use Rattle.bac_pdu.proofs.ShortestLaws.{ack_written}
 use Rattle.bac_pdu.proofs.property.append_ack.Goals as goal
 
 pub returns-in_err-append_reference-clause-appended : goal.returns-in_err-append_reference-clause-appended

@@ -2,7 +2,7 @@ use Rattle.std.proofs.Common.{◌≡◌, arith}
 use Rattle.std.proofs.lemmas.Grind.{common_steps}
 use Rattle.bac_wire.proofs.Writing.{front, stops, then_appends, written_as}
 use Rattle.bac_pdu.specs.Property.{order}
-use Rattle.bac_pdu.proofs.Written.{write_written}
+use Rattle.bac_pdu.proofs.ShortestLaws.{write_written}
 use Rattle.bac_pdu.proofs.property.append_order.Goals as goal
 
 pub returns-in_err-append_reference-clause-appended : goal.returns-in_err-append_reference-clause-appended

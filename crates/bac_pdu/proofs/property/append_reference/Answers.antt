@@ -2,7 +2,7 @@ use Rattle.std.proofs.lemmas.Result.{on_ok_weaker}
 use Rattle.bac_wire.proofs.Writing.{front, stops, then_appends, written_as}
 use Rattle.bac_pdu.specs.Parameter.{plain_parameter}
 use Rattle.bac_pdu.specs.Property.{reference}
-use Rattle.bac_pdu.proofs.Written.{read_written, reference_known}
+use Rattle.bac_pdu.proofs.ShortestLaws.{read_written, reference_known}
 use Rattle.bac_pdu.proofs.property.append_reference.Goals as goal
 
 pub returns-in_err-append_object-clause-appended : goal.returns-in_err-append_object-clause-appended

@@ -1,6 +1,7 @@
-use Rattle.std.proofs.Common.{◌≡◌, Option, Some, None, option_map, sym, ◌∙◌, ap, refl}
+use Rattle.std.proofs.Common.{◌≡◌, Option, Some, None, option_map, ap, refl, arith}
 use Rattle.std.specs.Prelude.{ok_or}
-use Rattle.bac_script.specs.Line.{Said, said_by, said_in}
+use Rattle.std.proofs.lemmas.Grind.{common_steps}
+use Rattle.bac_script.specs.Line.{said_by, said_in}
 use Rattle.bac_script.specs.LineSeen.{line_seen, result_seen}
 use Rattle.bac_script.specs.declared.line.Line.{Line}
 use Rattle.bac_script.specs.declared.line.LineFault.{LineFault}
@@ -8,17 +9,11 @@ use Rattle.bac_script.specs.declared.line.LineFault.TheVariants.{Bad}
 use Rattle.bac_script.proofs.line.read_line.Goals as goal
 
 pub returns-then-not-is_text : goal.returns-then-not-is_text
-returns-then-not-is_text c =
-    let bad = sym c.is_text.ensures ∙ c.if-not-is_text.true in
-    sym (ap (said_in c.args.is_first) c.in_ok-text.ensures ∙ rw bad refl)
+returns-then-not-is_text c = grind (arith, common_steps, ap (said_in c.args.is_first) c.in_ok-text.ensures)
 
 seen-ok_or : (found : Option Line) (fault : LineFault) → result_seen (ok_or found fault) ≡ ok_or (option_map line_seen found) fault
 seen-ok_or None fault = refl
 seen-ok_or (Some line) fault = refl
 
 pub returns : goal.returns
-returns c =
-    let good = sym c.is_text.ensures ∙ c.if-not-is_text.false in
-    ap result_seen c.ok_or.ensures.value ∙ seen-ok_or c.read_words.result Bad
-    ∙ ap (λ (found : Option Said). ok_or found Bad) (c.read_words.ensures ∙ ap (said_by c.args.is_first) c.new.ensures)
-    ∙ sym (ap (said_in c.args.is_first) c.in_ok-text.ensures ∙ rw good refl)
+returns c = grind (arith, common_steps, ap (said_in c.args.is_first) c.in_ok-text.ensures, seen-ok_or c.read_words.result Bad, ap (said_by c.args.is_first) c.new.ensures)

@@ -2,7 +2,6 @@ use Rattle.std.proofs.Common.{◌≡◌, ℕ, true, List, [], ◌∷◌, length,
 use Rattle.std.specs.Prelude.{nat_lt}
 use Rattle.std.proofs.lemmas.Bool.Decides.{nat_tests}
 use Rattle.bac_wire.specs.Identifier.{identifier}
-use Rattle.bac_pdu.specs.Peer.{station}
 use Rattle.bac_tsm.specs.declared.client.SubmitFault.TheVariants.{TooLong}
 use Rattle.bac_tsm.specs.Events.{Refused}
 use Rattle.bac_tsm.specs.Lookahead.{refusal_of}

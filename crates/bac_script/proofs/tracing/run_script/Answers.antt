@@ -19,25 +19,25 @@ loop-next-init g c = record {
 
 pub returns-in_err-next-clause-script : goal.returns-in_err-next-clause-script
 returns-in_err-next-clause-script g c =
-    unwritten Open 0 c.loop-next.invariant.so_far c.next_line.ensures.given c.in_err-next.ensures.next (omega (arith, c.in_err-next.ensures.asked)) c.next_line.ensures.spared c.next_line.ensures.printed _ (search rules)
+    unwritten Open 0 c.loop-next.invariant.so_far c.next_line.ensures.given c.in_err-next.ensures.next (omega (arith, c.in_err-next.ensures.asked)) c.next_line.ensures.needed c.next_line.ensures.spared c.next_line.ensures.printed _ (search rules)
 
 pub returns-then-eq-clause-script : goal.returns-then-eq-clause-script
 returns-then-eq-clause-script g c =
     let n = c.in_ok-next.ensures.next in
-    unread _ _ c.loop-next.invariant.so_far c.next_line.ensures.given n.stands c.in_ok-next.ensures.asked c.next_line.ensures.spared c.next_line.ensures.printed
+    unread _ _ c.loop-next.invariant.so_far c.next_line.ensures.given n.stands c.in_ok-next.ensures.asked c.next_line.ensures.needed c.next_line.ensures.spared c.next_line.ensures.printed
     (same_true the_type (search rules) _ _ (sym c.if-eq.ensures)) n.cut
 
 pub returns-then-next-eq0-clause-script : goal.returns-then-next-eq0-clause-script
 returns-then-next-eq0-clause-script g c =
     let n = c.in_ok-next.ensures.next in
-    to_end _ _ c.loop-next.invariant.so_far c.next_line.ensures.given n.stands c.in_ok-next.ensures.asked c.next_line.ensures.spared c.next_line.ensures.printed
+    to_end _ _ c.loop-next.invariant.so_far c.next_line.ensures.given n.stands c.in_ok-next.ensures.asked c.next_line.ensures.needed c.next_line.ensures.spared c.next_line.ensures.printed
     (λ e. absurd (let bad = rw e at c.if-eq.ensures in cc)) n.cut c.if-next-eq0.true
 
 pub returns-in-Err-clause-script : goal.returns-in-Err-clause-script
 returns-in-Err-clause-script g c =
     let n = c.in_ok-next.ensures.next in
     rw c.fault_in_line.ensures
-    (faulty _ _ c.loop-next.invariant.so_far c.next_line.ensures.given n.stands c.in_ok-next.ensures.asked c.next_line.ensures.spared c.next_line.ensures.printed
+    (faulty _ _ c.loop-next.invariant.so_far c.next_line.ensures.given n.stands c.in_ok-next.ensures.asked c.next_line.ensures.needed c.next_line.ensures.spared c.next_line.ensures.printed
     c.in-Err.fault (λ e. absurd (let bad = rw e at c.if-eq.ensures in cc)) n.cut
     (omega (arith, length-take-le c.in_ok-next.next.length c.next_line.new.self n.within, c.if-next-eq0.false))
     (ap (said c.loop-next.is_first) (sym c.front.ensures) ∙ sym c.read_line.ensures ∙ ap result_seen c.in-Err.is))
@@ -46,7 +46,7 @@ pub returns-then-eq-2-clause-script : goal.returns-then-eq-2-clause-script
 returns-then-eq-2-clause-script g c =
     let s = c.loop-next.invariant.so_far in
     let n = c.in_ok-next.ensures.next in
-    to_last _ _ s c.next_line.ensures.given n.stands c.in_ok-next.ensures.asked c.next_line.ensures.spared c.next_line.ensures.printed
+    to_last _ _ s c.next_line.ensures.given n.stands c.in_ok-next.ensures.asked c.next_line.ensures.needed c.next_line.ensures.spared c.next_line.ensures.printed
     (line_seen c.in-Ok.line) (same_true the_type (search rules) _ _ (sym c.if-eq-2.ensures)) n.cut
     (omega (arith, length-take-le c.in_ok-next.next.length c.next_line.new.self n.within, c.if-next-eq0.false))
     (ap (said c.loop-next.is_first) (sym c.front.ensures) ∙ sym c.read_line.ensures ∙ ap result_seen c.in-Ok.is) (c.run_line.ensures.text s.stage s.kept)
@@ -63,7 +63,7 @@ loop-next-preserved g c =
     rw c.skip.ensures
     (record {
       so_far =
-          goes_on _ _ s c.next_line.ensures.given n.stands c.in_ok-next.ensures.asked c.next_line.ensures.spared c.next_line.ensures.printed (line_seen c.in-Ok.line)
+          goes_on _ _ s c.next_line.ensures.given n.stands c.in_ok-next.ensures.asked c.next_line.ensures.needed c.next_line.ensures.spared c.next_line.ensures.printed (line_seen c.in-Ok.line)
           (λ e. absurd (let bad = rw e at c.if-eq.ensures in cc)) (λ e. absurd (let bad = rw e at c.if-eq-2.ensures in cc)) n.cut
           (ap (said c.loop-next.is_first) (sym c.front.ensures) ∙ sym c.read_line.ensures ∙ ap result_seen c.in-Ok.is) first (c.run_line.ensures.stage s.stage s.kept)
           (c.run_line.ensures.text s.stage s.kept);

@@ -10,25 +10,14 @@ use bac_tsm::{Note, Watcher};
 /// Takes so many notes, and says so where it drops one. What it was told is as many notes as it has taken.
 #[derive(Drop)]
 pub(crate) struct Notebook<'a> {
-    wanted: &'a [(usize, Note<'a>)],
-    room: usize,
-    taken: usize,
-    has_others: bool,
-    has_dropped: bool,
+    pub(crate) wanted: &'a [(usize, Note<'a>)],
+    pub(crate) room: usize,
+    pub(crate) taken: usize,
+    pub(crate) has_others: bool,
+    pub(crate) has_dropped: bool,
 }
 
-impl<'a> Notebook<'a> {
-    /// A notebook with room for so many notes, which are to be these, at these positions.
-    pub(crate) fn new(wanted: &'a [(usize, Note<'a>)], room: usize) -> Self {
-        Notebook {
-            wanted,
-            room,
-            taken: 0,
-            has_others: false,
-            has_dropped: false,
-        }
-    }
-
+impl Notebook<'_> {
     /// Whether it took the wanted notes that it has room for and no others, and says if it dropped one.
     pub(crate) fn is_right(&self) -> bool {
         let count = self.wanted.len();

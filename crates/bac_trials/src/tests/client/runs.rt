@@ -5,7 +5,6 @@ use crate::tests::client::{ANSWER, VALUE, read};
 use crate::tests::{BODY, CONTROLLER, READ_PROPERTY, USUAL};
 use bac_tsm::Event::{self, Tick as At};
 use bac_tsm::{Client, Ended, Note, Outcome, SubmitFault, run};
-use std::process::Abort;
 
 const ASK: Event<'static> = Event::Ask(CONTROLLER, READ_PROPERTY, &BODY);
 
@@ -41,28 +40,34 @@ const LATE: Note<'static> = Note::Dropped;
 
 const FAULT: Note<'static> = Note::Refused(SubmitFault::TooLong);
 
-/// Runs the events, and sees that a watcher with this room keeps the front of the notes, at these positions, and says whether it drops one. Then
-/// so many requests are open, at this clock.
+/// Runs the events. None if a watcher with this room doesn't keep the front of the notes, at these positions, or says wrongly whether it drops
+/// one, or if not so many requests are open afterwards, at this clock.
 fn run_watched<'n>(
-    rt: &impl Abort,
     room: usize,
     (first, events): (u64, &[Event<'_>]),
     notes: &'n [(usize, Note<'n>)],
     (open, clock): (usize, u64),
-) -> Client {
-    let mut book = Notebook::new(&*notes, room);
+) -> Option<Client> {
+    let mut book = Notebook {
+        wanted: notes,
+        room,
+        taken: 0,
+        has_others: false,
+        has_dropped: false,
+    };
     let client = run(USUAL, first, events, &mut book);
-    let is_right = book.is_right() && client.open_count() == open && client.clock() == clock;
-    assert!(rt; is_right, "{room} of {notes:?}");
-    client
+    if !book.is_right() || client.open_count() != open || client.clock() != clock {
+        return None;
+    }
+    Some(client)
 }
 
 #[test]
 fn no_event_and_a_read_and_its_answers(rt: HostRuntime) {
-    run_watched(&rt, 16, (0, &[]), &[], (0, 0));
+    assert!(&rt; run_watched(16, (0, &[]), &[], (0, 0)).is_some());
     let events = [ASK, At(2999), DATA, DATA, At(6000)];
     let notes = [(0, OF_0), (2, done(0)), (3, LATE)];
-    run_watched(&rt, 16, (0, &events), &notes, (0, 6000));
+    assert!(&rt; run_watched(16, (0, &events), &notes, (0, 6000)).is_some());
 }
 
 // One leap of the clock sends once, and the next wait counts from there.
@@ -72,7 +77,15 @@ fn a_leap_of_the_clock(rt: HostRuntime) {
     let [wait, again, over] = [At(62999), At(63000), At(66000)];
     let events = [ASK, before, due, leap, back, wait, again, over];
     let notes = [(0, OF_0), (2, OF_0), (3, OF_0), (6, OF_0), (7, OVER)];
-    run_watched(&rt, 16, (0, &events), &notes, (0, 66000));
+    assert!(&rt; run_watched(16, (0, &events), &notes, (0, 66000)).is_some());
+}
+
+/// Whether the client takes a read, under the ticket 1 and the number 2.
+fn takes_another(client: Option<Client>) -> bool {
+    let Some(mut client) = client else {
+        return false;
+    };
+    read(&mut client) == Ok(1) && client.number_of(1) == Some(2)
 }
 
 // The client is what it is without the watcher, however few notes that keeps.
@@ -81,8 +94,8 @@ fn retries_and_watchers_of_few_notes(rt: HostRuntime) {
     let events = [ASK, At(2999), At(3000), At(6000), At(9000), At(12000)];
     let notes = [(0, OF_0), (2, OF_0), (3, OF_0), (4, OF_0), (5, OVER)];
     for room in &[0, 2, 4, 5, 16] {
-        let mut client = run_watched(&rt, *room, (0, &events), &notes, (0, 12000));
-        assert!(&rt; read(&mut client) == Ok(1) && client.number_of(1) == Some(2));
+        let client = run_watched(*room, (0, &events), &notes, (0, 12000));
+        assert!(&rt; takes_another(client), "{room}");
     }
 }
 
@@ -91,17 +104,20 @@ fn retries_and_watchers_of_few_notes(rt: HostRuntime) {
 fn two_are_due_at_one_tick(rt: HostRuntime) {
     let events = [ASK, At(1000), ASK, At(3000), At(6000)];
     let notes = [(0, OF_7), (2, OF_8), (3, OF_7), (4, OF_7), (4, OF_8)];
-    run_watched(&rt, 16, (7, &events), &notes, (2, 6000));
+    assert!(&rt; run_watched(16, (7, &events), &notes, (2, 6000)).is_some());
 }
 
 /// Whether the client has the younger request open, and gives the next one the next ticket and number.
-fn goes_on(client: &mut Client) -> bool {
+fn goes_on(client: Option<Client>) -> bool {
+    let Some(mut client) = client else {
+        return false;
+    };
     client.number_of(5).is_none()
         && client.number_of(6) == Some(2)
         && client.to_send(6) == Some((CONTROLLER, YOUNGER))
         && client.tick(9006).as_slice().is_empty()
         && client.tick(9007).as_slice().len() == 1
-        && read(client) == Ok(7)
+        && read(&mut client) == Ok(7)
         && client.number_of(7) == Some(3)
 }
 
@@ -109,18 +125,11 @@ fn goes_on(client: &mut Client) -> bool {
 #[test]
 fn what_is_kept_without_notes(rt: HostRuntime) {
     let events = [At(7), ASK, LONG, ASK, DATA, DATA, At(3007), At(6007)];
-    let (first, end, late) = ((1, OF_5), (4, done(5)), (5, LATE));
-    let notes = [
-        first,
-        (2, FAULT),
-        (3, OF_6),
-        end,
-        late,
-        (6, OF_6),
-        (7, OF_6),
-    ];
+    let (first, fault, younger) = ((1, OF_5), (2, FAULT), (3, OF_6));
+    let (end, late, again, last) = ((4, done(5)), (5, LATE), (6, OF_6), (7, OF_6));
+    let notes = [first, fault, younger, end, late, again, last];
     for room in &[2, 16] {
-        let mut client = run_watched(&rt, *room, (5, &events), &notes, (1, 6007));
-        assert!(&rt; goes_on(&mut client), "{room}");
+        let client = run_watched(*room, (5, &events), &notes, (1, 6007));
+        assert!(&rt; goes_on(client), "{room}");
     }
 }

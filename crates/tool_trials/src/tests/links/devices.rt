@@ -26,7 +26,7 @@ fn searches(
     steps: &[Step<'_>],
     fail_send: Option<u32>,
     (answer, text): (Got, &str),
-) -> Result<bool, LinkFault> {
+) -> bool {
     let search = Search { who, ..SEARCH };
     let asked = [(0, asks)];
     let sent = asked.get(..usize::from(fail_send.is_none())).unwrap_or(&[]);
@@ -42,56 +42,58 @@ const HEARD: Step<'static> = Step::Packet(5, P, I_AM);
 
 const LATE: Step<'static> = Step::Packet(3_000, P, I_AM);
 
-// What comes when the time is up is still heard; what comes later is not. The time may go back, and stays spent.
-#[test]
-fn devices_are_found(rt: HostRuntime) -> Result<(), Fail> {
-    let twice = [HEARD, HEARD];
-    let in_time = [LATE, HEARD];
-    let back = [Step::Quiet(2_999), Step::Quiet(0), HEARD, LATE];
-    let far = [Step::Packet(1, P, FAR)];
-    let some = (between(1_000, 1_234), SOME);
-    let other = (between(1_235, 1_235), OTHER);
-    let rows = [
-        (some, &twice[..1], Exit::Good, LINE),
-        (some, &twice, Exit::Good, TWICE),
-        (other, &twice[..1], Exit::Bad, ""),
-        (ALL, &twice[..0], Exit::Bad, ""),
-        (ALL, &in_time, Exit::Good, LINE),
-        (ALL, &back, Exit::Good, TWICE),
-        (some, &far, Exit::Good, AT_07),
-    ];
-    for (asked, steps, exit, text) in &rows {
-        let is_right = searches(rt.alloc(), *asked, steps, None, (Ok(*exit), text))?;
-        assert!(rt; is_right, "{text:?}");
-    }
-    Ok(())
+/// Whether a search that goes well ends so over these steps.
+fn finds(alloc: Global, asked: (WhoIs, &[u8]), steps: &[Step<'_>], exit: Exit, text: &str) -> bool {
+    searches(alloc, asked, steps, None, (Ok(exit), text))
 }
 
 #[test]
-fn searches_fail(rt: HostRuntime) -> Result<(), Fail> {
+fn devices_are_found(rt: HostRuntime) {
+    let some = (between(1_000, 1_234), SOME);
+    let other = (between(1_235, 1_235), OTHER);
+    let far = [Step::Packet(1, P, FAR)];
+    assert!(rt; finds(rt.alloc(), some, &[HEARD], Exit::Good, LINE));
+    assert!(rt; finds(rt.alloc(), some, &[HEARD, HEARD], Exit::Good, TWICE));
+    assert!(rt; finds(rt.alloc(), other, &[HEARD], Exit::Bad, ""));
+    assert!(rt; finds(rt.alloc(), some, &far, Exit::Good, AT_07));
+}
+
+// What comes when the time is up is still heard; what comes later is not. The time may go back, and stays spent.
+#[test]
+fn a_search_ends_in_time(rt: HostRuntime) {
+    let back = [Step::Quiet(2_999), Step::Quiet(0), HEARD, LATE];
+    assert!(rt; finds(rt.alloc(), ALL, &[], Exit::Bad, ""));
+    assert!(rt; finds(rt.alloc(), ALL, &[LATE, HEARD], Exit::Good, LINE));
+    assert!(rt; finds(rt.alloc(), ALL, &back, Exit::Good, TWICE));
+}
+
+#[test]
+fn searches_fail(rt: HostRuntime) {
     let unsent = (Err(ToolFault::SendFailed), "");
-    assert!(rt; searches(rt.alloc(), ALL, &[HEARD], Some(0), unsent)?);
+    assert!(rt; searches(rt.alloc(), ALL, &[HEARD], Some(0), unsent));
     let deaf = (Err(ToolFault::ReceiveFailed), LINE);
-    assert!(rt; searches(rt.alloc(), ALL, &[HEARD, Step::Broken], None, deaf)?);
-    let quiet = vec![in rt.alloc(); Step::Quiet(0); 65_536]?;
+    assert!(rt; searches(rt.alloc(), ALL, &[HEARD, Step::Broken], None, deaf));
     let spent = (Err(ToolFault::TurnsSpent), "");
-    assert!(rt; searches(rt.alloc(), ALL, quiet.as_slice(), None, spent)?);
-    Ok(())
+    assert!(rt; searches(rt.alloc(), ALL, quiet(&rt).as_slice(), None, spent));
 }
 
 /// Lets the demonstration device serve over these steps for so many datagrams: whether it ends so and sent this to Q.
 fn serves(
     alloc: Global,
     steps: &[Step<'_>],
-    fail_send: Option<u32>,
+    fail: Option<u32>,
     count: u32,
     (answer, sent): (Result<u32, ToolFault>, &[(u64, &[u8])]),
-) -> Result<bool, Fail> {
-    let mut device = small_device().ok_or("no device")?;
-    let mut link = MemoryLink::new(alloc, steps, fail_send)?;
+) -> bool {
+    let Some(mut device) = small_device() else {
+        return false;
+    };
+    let Ok(mut link) = MemoryLink::new(alloc, steps, fail) else {
+        return false;
+    };
     let got = serve(&mut link, &mut device, count);
     let is_lost = matches!(got, Err(ToolFault::SendFailed | ToolFault::ReceiveFailed));
-    Ok(got == answer && link.failed() == is_lost && has_sent(&link, Q, sent))
+    got == answer && link.failed() == is_lost && has_sent(&link, Q, sent)
 }
 
 const ASKED: Step<'static> = Step::Packet(0, Q, ASK);
@@ -102,16 +104,18 @@ const COMES: [Step<'static>; 3] = [ASKED, Step::Packet(0, Q, WHO_IS), Step::Pack
 const REPLIES: &[(u64, &[u8])] = &[(0, VALUE), (0, I_AM)];
 
 #[test]
-fn a_device_serves(rt: HostRuntime) -> Result<(), Fail> {
-    let value = &REPLIES[..1];
-    assert!(rt; serves(rt.alloc(), &COMES, None, 3, (Ok(2), REPLIES))?);
-    let unsent = (Err(ToolFault::SendFailed), value);
-    assert!(rt; serves(rt.alloc(), &COMES, Some(1), 3, unsent)?);
-    let deaf = (Err(ToolFault::ReceiveFailed), value);
-    assert!(rt; serves(rt.alloc(), &[ASKED, Step::Broken], None, 3, deaf)?);
-    assert!(rt; serves(rt.alloc(), &[Step::Broken], None, 0, (Ok(0), &[]))?);
-    let quiet = vec![in rt.alloc(); Step::Quiet(0); 65_536]?;
+fn a_device_serves(rt: HostRuntime) {
+    assert!(rt; serves(rt.alloc(), &COMES, None, 3, (Ok(2), REPLIES)));
+    assert!(rt; serves(rt.alloc(), &[Step::Broken], None, 0, (Ok(0), &[])));
     let spent = (Err(ToolFault::TurnsSpent), [].as_slice());
-    assert!(rt; serves(rt.alloc(), quiet.as_slice(), None, 1, spent)?);
-    Ok(())
+    assert!(rt; serves(rt.alloc(), quiet(&rt).as_slice(), None, 1, spent));
+}
+
+#[test]
+fn a_server_fails(rt: HostRuntime) {
+    let value = &REPLIES[..1];
+    let unsent = (Err(ToolFault::SendFailed), value);
+    assert!(rt; serves(rt.alloc(), &COMES, Some(1), 3, unsent));
+    let deaf = (Err(ToolFault::ReceiveFailed), value);
+    assert!(rt; serves(rt.alloc(), &[ASKED, Step::Broken], None, 3, deaf));
 }

@@ -3,6 +3,12 @@ ghost use Rattle.std.specs.Prelude.{◌≡◌, false, is_err, OnOk};
 
 use super::*;
 use bac_links::{Datagram, Refused, UdpLink};
+use std::alloc::AllocError;
+use std::cell::Cell;
+use std::io;
+use std::io::ErrorKind;
+use std::net::{Net, SocketAddr, UdpSocket};
+use std::time::{Clock, Duration};
 
 /// Whether a link hears this within a second, from this peer.
 fn hears<L: Link>(link: &mut L, from: Peer, octets: &[u8]) -> Result<bool, LinkFault>
@@ -70,15 +76,17 @@ fn counted_octets() -> [u8; 2_048] {
     octets
 }
 
-/// Whether the longest datagram comes whole and from where it was sent, and a longer one does not come; then nothing is left. A wait that
-/// hears nothing takes as long as it was asked for, and one of 0 is one of 1.
+/// Whether the shortest and the longest datagram come whole and from where they were sent, and a longer one does not come; then nothing is
+/// left. A wait that hears nothing takes as long as it was asked for, and one of 0 is one of 1.
 fn carries_up_to_the_longest<L: Link>(near: &mut L, far: &mut L, way: Way) -> Is
     requires { (L.has_failed near.old ≡ false) × (L.has_failed far.old ≡ false) }
     ensures { OnOk result ((L.has_failed near.new ≡ false) × (L.has_failed far.new ≡ false)) }
 {
     let octets = counted_octets();
     let most = octets.get(..2_047).unwrap_or(&[]);
-    let are_heard = carries(near, far, way, &[0])? && carries(near, far, way, most)?;
+    let are_heard = carries(near, far, way, &[])?
+        && carries(near, far, way, &[0])?
+        && carries(near, far, way, most)?;
     near.send(way.1, &octets)?;
     let long = silence(far, 1_000)?;
     let short = silence(far, 0)?;
@@ -101,6 +109,97 @@ fn long_datagrams(rt: HostRuntime) -> Result<(), Fail> {
     Ok(())
 }
 
+// A socket has one address, and leaves the port to others at the rest.
+#[test]
+fn one_port_of_two_addresses(rt: HostRuntime) -> Result<(), Fail> {
+    let here = Peer { port: 47_815, ..P };
+    let there = Peer {
+        ip: 0x7f00_0002,
+        ..here
+    };
+    let mut near = UdpLink::bind(&rt, rt.alloc(), here)?;
+    let mut far = UdpLink::bind(&rt, rt.alloc(), there)?;
+    assert!(rt; carries(&mut near, &mut far, (here, there), ASK)?);
+    Ok(())
+}
+
+/// A network whose clock tells this, or fails where there is nothing to tell.
+struct Timed<'a, N> {
+    net: &'a N,
+    told: &'a Cell<Option<Duration>>,
+}
+
+impl<N> Clone for Timed<'_, N> {
+    fn clone(&self) -> Result<Self, AllocError> {
+        Ok(*self)
+    }
+}
+
+impl<N> Copy for Timed<'_, N> {}
+
+impl<N: Net> Net for Timed<'_, N> {
+    type Stream = N::Stream;
+
+    type Listener = N::Listener;
+
+    fn bind(&self, at: SocketAddr) -> io::Result<N::Listener> {
+        self.net.bind(at)
+    }
+
+    fn connect(&self, to: SocketAddr) -> io::Result<N::Stream> {
+        self.net.connect(to)
+    }
+
+    fn bind_udp(&self, at: SocketAddr) -> io::Result<UdpSocket> {
+        self.net.bind_udp(at)
+    }
+}
+
+impl<N> Clock for Timed<'_, N> {
+    fn monotonic(&self) -> io::Result<Duration> {
+        match self.told.get() {
+            Some(time) => Ok(time),
+            None => Err(io::Error::from(ErrorKind::Other)),
+        }
+    }
+
+    fn since_1970(&self) -> io::Result<Duration> {
+        Err(io::Error::from(ErrorKind::Other))
+    }
+}
+
+/// So many seconds and nanoseconds.
+fn after((seconds, nanos): (u64, u64)) -> Duration {
+    Duration::from_secs(seconds).saturating_add(Duration::from_nanos(nanos))
+}
+
+/// What a clock tells that was at 7 seconds when a link was made, and the time of the link then.
+static TIMES: [(Option<(u64, u64)>, u64); 6] = [
+    (Some((7, 999_999)), 0),
+    (Some((8, 1_999_999)), 1_001),
+    (None, 1_001),
+    (Some((4_294_974, 296_000_000)), 4_294_967_296),
+    (Some((20_000_000_000_000_000, 0)), u64::MAX),
+    (Some((6, 0)), 0),
+];
+
+// The time of a socket is in whole milliseconds since it was made, by the clock that does not go back; where that fails, it stays.
+#[test]
+fn time_of_a_socket(rt: HostRuntime) -> Result<(), Fail> {
+    let told = Cell::new(Some(after((7, 0))));
+    let timed = Timed {
+        net: &rt,
+        told: &told,
+    };
+    let mut link = UdpLink::bind(&timed, rt.alloc(), Peer { port: 47_816, ..P })?;
+    assert!(rt; link.now() == 0);
+    for (time, now) in &TIMES {
+        told.set(time.map(after));
+        assert!(rt; link.now() == *now, "{now}");
+    }
+    Ok(())
+}
+
 /// A Who-Is that was forwarded from port 0, from the address of all, and from no address. No reply can be sent there.
 const FROM_PORT_0: &[u8] = b"\x81\x04\x00\x0e\x7f\x00\x00\x01\x00\x00\x01\x00\x10\x08";
 
@@ -109,26 +208,31 @@ const FROM_ALL: &[u8] = b"\x81\x04\x00\x0e\xff\xff\xff\xff\xba\xc0\x01\x00\x10\x
 const FROM_NOWHERE: &[u8] = b"\x81\x04\x00\x0e\x00\x00\x00\x00\x00\x00\x01\x00\x10\x08";
 
 /// The desk asks, and the device serves for so many datagrams: whether the desk hears the value.
-fn answers<L: Link>(
-    desk: &mut L,
-    field: &mut L,
-    device: &mut Device,
-    server: Peer,
-    count: u32,
-) -> Result<bool, LinkFault>
+fn answers<L: Link>(desk: &mut L, field: &mut L, device: &mut Device, to: Peer, count: u32) -> Is
     requires { (L.has_failed desk.old ≡ false) × (L.has_failed field.old ≡ false) }
     ensures { OnOk result (L.has_failed desk.new ≡ false) }
 {
-    desk.send(server, ASK)?;
+    desk.send(to, ASK)?;
     let got = serve(field, device, count);
-    Ok(got == Ok(count) && !field.failed() && hears(desk, server, VALUE)?)
+    Ok(got == Ok(count) && !field.failed() && hears(desk, to, VALUE)?)
 }
 
-/// Whether a device that serves ends so where no reply can be sent, and its link has failed.
-fn is_stopped<L: Link>(desk: &mut L, field: &mut L, device: &mut Device, server: Peer) -> Is
-    requires { L.has_failed desk.old ≡ false }
+/// Whether a device that was asked from where no reply can be sent hears the desk afterwards.
+fn goes_on<L: Link>(desk: &mut L, field: &mut L, device: &mut Device, server: Peer) -> Is
+    requires { (L.has_failed desk.old ≡ false) × (L.has_failed field.old ≡ false) }
+    ensures { OnOk result (L.has_failed desk.new ≡ false) }
 {
-    if field.failed() {
+    desk.send(server, FROM_PORT_0)?;
+    desk.send(server, FROM_ALL)?;
+    desk.send(server, FROM_NOWHERE)?;
+    answers(desk, field, device, server, 4)
+}
+
+/// Whether a device answers the desk, and its link then fails where no reply can be sent.
+fn is_stopped<L: Link>(desk: &mut L, field: &mut L, device: &mut Device, server: Peer) -> Is
+    requires { (L.has_failed desk.old ≡ false) × (L.has_failed field.old ≡ false) }
+{
+    if !answers(desk, field, device, server, 1)? || field.failed() {
         return Ok(false);
     }
     desk.send(server, FROM_PORT_0)?;
@@ -143,12 +247,8 @@ fn refused_replies_are_lost(rt: HostRuntime) -> Result<(), Fail> {
     let mut device = small_device().ok_or("no device")?;
     let mut desk = UdpLink::bind(&rt, rt.alloc(), Peer { port: 47_812, ..P })?;
     let mut field = UdpLink::bind_with(&rt, rt.alloc(), server, Refused::IsLost)?;
-    desk.send(server, FROM_PORT_0)?;
-    desk.send(server, FROM_ALL)?;
-    desk.send(server, FROM_NOWHERE)?;
-    assert!(rt; answers(&mut desk, &mut field, &mut device, server, 4)?);
+    assert!(rt; goes_on(&mut desk, &mut field, &mut device, server)?);
     let mut brittle = UdpLink::bind(&rt, rt.alloc(), strict)?;
-    assert!(rt; answers(&mut desk, &mut brittle, &mut device, strict, 1)?);
     assert!(rt; is_stopped(&mut desk, &mut brittle, &mut device, strict)?);
     Ok(())
 }

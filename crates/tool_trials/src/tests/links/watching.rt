@@ -62,44 +62,45 @@ const LINES: &[u8] =
 
 // Each line of 32 octets is out before the next wait, and each turn asks for the time once.
 #[test]
-fn lines_go_out_before_the_next_wait(rt: HostRuntime) -> Result<(), Fail> {
+fn lines_go_out_before_the_next_wait(rt: HostRuntime) {
     let heard = Step::Packet(5, P, I_AM);
     let steps = [heard, Step::Quiet(6), heard, heard, Step::Quiet(3_000)];
-    let progress = Progress::new();
-    let mut link = watch(rt.alloc(), &steps, &progress.written)?;
+    let progress = Progress::default();
+    let mut link = watch(rt.alloc(), &steps, &progress.written).expect(&rt, "a link");
     let writer = telling(&progress, LINES, usize::MAX, false);
     assert!(rt; run_job(Job::Search(&SEARCH), &mut link, writer) == Ok(Exit::Good));
     assert!(rt; link.before.as_slice() == [0, 32, 32, 64, 96].as_slice() && link.asked == 6);
     assert!(rt; !progress.is_wrong.get());
-    Ok(())
 }
 
-/// Whether a read with this timeout waits so long at each of two receives.
-fn reads_waiting(alloc: Global, timeout: u32, wait: u32) -> Result<bool, LinkFault> {
+/// Whether a read with this timeout waits so long at each of two receives, and asks for the time as it begins and after the first.
+fn reads_waiting(alloc: Global, timeout: u32, wait: u32) -> bool {
     let written = Cell::new(0);
     let steps = [Step::Quiet(1), Step::Packet(5, P, VALUE)];
-    let mut link = watch(alloc, &steps, &written)?;
+    let Ok(mut link) = watch(alloc, &steps, &written) else {
+        return false;
+    };
     let call = call_of(timeout, 3, BODY);
     let got = run_job(Job::Read(&call), &mut link, [0; 9].as_mut_slice());
-    Ok(got == Ok(Exit::Good) && link.waits.as_slice() == [wait, wait].as_slice())
+    got == Ok(Exit::Good) && link.waits.as_slice() == [wait, wait].as_slice() && link.asked == 2
 }
 
 /// Whether a device waits so long at each of two receives.
-fn serves_waiting(alloc: Global, device: &mut Device, wait: u32) -> Result<bool, LinkFault> {
+fn serves_waiting(alloc: Global, wait: u32) -> bool {
     let written = Cell::new(0);
     let steps = [Step::Quiet(1_000), Step::Packet(1_500, Q, ASK)];
-    let mut link = watch(alloc, &steps, &written)?;
-    let got = serve(&mut link, device, 1);
-    Ok(got == Ok(1) && link.waits.as_slice() == [wait, wait].as_slice())
+    let (Some(mut device), Ok(mut link)) = (small_device(), watch(alloc, &steps, &written)) else {
+        return false;
+    };
+    let got = serve(&mut link, &mut device, 1);
+    got == Ok(1) && link.waits.as_slice() == [wait, wait].as_slice()
 }
 
 // A call waits for 50 ms at a time, or for its timeout where that is shorter, and a device for a second.
 #[test]
-fn waits(rt: HostRuntime) -> Result<(), Fail> {
+fn waits(rt: HostRuntime) {
     for (timeout, wait) in &[(3_000, 50), (51, 50), (10, 10)] {
-        assert!(rt; reads_waiting(rt.alloc(), *timeout, *wait)?, "{timeout}");
+        assert!(rt; reads_waiting(rt.alloc(), *timeout, *wait), "{timeout}");
     }
-    let mut device = small_device().ok_or("no device")?;
-    assert!(rt; serves_waiting(rt.alloc(), &mut device, 1_000)?);
-    Ok(())
+    assert!(rt; serves_waiting(rt.alloc(), 1_000));
 }

@@ -65,7 +65,7 @@ fn counts(
     (read, write, takes_none): (usize, usize, bool),
     answer: Result<TraceEnd, TraceFault>,
 ) -> Option<(usize, usize, usize)> {
-    let progress = Progress::new();
+    let progress = Progress::default();
     let mut reader = Checked::new(Asked {
         progress: &progress,
         script: worked.script,

@@ -5,7 +5,7 @@ use std::io::{Read, Write};
 
 #[test]
 fn a_fresh_reader_has_not_failed(rt: HostRuntime) {
-    let progress = Progress::new();
+    let progress = Progress::default();
     let mut reader = Checked::new(Asked {
         progress: &progress,
         script: b"aa",
@@ -32,7 +32,7 @@ fn a_full_writer_has_failed_and_a_flush_has_not(rt: HostRuntime) {
 // A write that takes none is not made again, though the writer would take it then.
 #[test]
 fn a_write_is_made_once(rt: HostRuntime) {
-    let progress = Progress::new();
+    let progress = Progress::default();
     let mut writer = Checked::new(telling(&progress, b"x", 0, true));
     assert!(rt; writer.write(b"x").ok() == Some(0) && writer.failed());
     assert!(rt; progress.writes.get() == 1);

@@ -1,5 +1,7 @@
 //! Requests to read and to write.
 use super::*;
+use std::process::Abort;
+use std::test::Fail;
 
 /// Words behind `bacrp`, and the body of the request.
 static READS: [(&str, &str); 5] = [
@@ -38,29 +40,29 @@ static WRITES: [(&str, &str); 13] = [
 ];
 
 /// Whether the words of a line ask for a request to 127.0.0.1 at the port 47808, with the usual settings and this body.
-fn asks(alloc: Global, line: &str, body: &str) -> Is {
-    let (Job::Read(call) | Job::Write(call)) = parse(alloc, line)? else {
-        return Ok(false);
+fn asks(alloc: Global, line: &str, body: &str) -> bool {
+    let Ok(Job::Read(call) | Job::Write(call)) = parse(alloc, line) else {
+        return false;
     };
     let is_usual = call.to == P && call.timeout == 3_000 && call.retries == 3 && call.port == 0;
-    Ok(is_usual && are_digits(alloc, call.body.as_slice(), body))
+    is_usual && are_digits(alloc, call.body.as_slice(), body)
+}
+
+/// Sees that the words of each row, between these, ask for their body.
+fn all_ask<H: Abort + AllocGlobal>(rt: &H, front: &str, rows: &[(&str, &str)], back: &str) {
+    for (words, body) in rows {
+        let line = format!(in rt.alloc(); "{front} {words}{back}").expect(rt, "memory");
+        assert!(rt; asks(rt.alloc(), line.as_str(), body), "{words}");
+    }
 }
 
 #[test]
-fn reads_and_writes(rt: HostRuntime) -> Result<(), Fail> {
-    for (words, body) in &READS {
-        let line = format!(in rt.alloc(); "bactool bacrp {words}")?;
-        assert!(rt; asks(rt.alloc(), line.as_str(), body)?, "{words}");
-    }
-    for (words, body) in WRITES.iter().chain(&MARKED) {
-        let line = format!(in rt.alloc(); "bactool bacwp --mac 127.0.0.1 1234 {words}")?;
-        assert!(rt; asks(rt.alloc(), line.as_str(), body)?, "{words}");
-    }
-    for (words, body) in &WRITES {
-        let line = format!(in rt.alloc(); "bactool bacwp 1234 {words} --mac 127.0.0.1")?;
-        assert!(rt; asks(rt.alloc(), line.as_str(), body)?, "{words}");
-    }
-    Ok(())
+fn reads_and_writes(rt: HostRuntime) {
+    let marked = "bactool bacwp --mac 127.0.0.1 1234";
+    all_ask(&rt, "bactool bacrp", &READS, "");
+    all_ask(&rt, marked, &WRITES, "");
+    all_ask(&rt, marked, &MARKED, "");
+    all_ask(&rt, "bactool bacwp 1234", &WRITES, " --mac 127.0.0.1");
 }
 
 /// How long the body is of a write of so many reals.
@@ -87,12 +89,12 @@ fn the_longest_body(rt: HostRuntime) -> Result<(), Fail> {
 }
 
 /// Whether the words ask for a request to 127.0.0.1:1 with the settings of the options.
-fn has_settings(alloc: Global, line: &str) -> Is {
-    let (Job::Read(call) | Job::Write(call)) = parse(alloc, line)? else {
-        return Ok(false);
+fn has_settings(alloc: Global, line: &str) -> bool {
+    let Ok(Job::Read(call) | Job::Write(call)) = parse(alloc, line) else {
+        return false;
     };
     let is_to = call.to.ip == LOCALHOST && call.to.port == 1;
-    Ok(is_to && call.timeout == 100 && call.retries == 1 && call.port == 50_000)
+    is_to && call.timeout == 100 && call.retries == 1 && call.port == 50_000
 }
 
 /// Words in front of options, and words behind them.
@@ -106,12 +108,11 @@ static PARTED: [(&str, &str); 6] = [
 ];
 
 #[test]
-fn settings(rt: HostRuntime) -> Result<(), Fail> {
+fn settings(rt: HostRuntime) {
     let options = "--apdu-timeout 100 --apdu-retries 1 --port 50000 --mac=127.0.0.1:1";
-    for (before, behind) in &PARTED {
-        let line = format!(in rt.alloc(); "bactool {before} {options} {behind}")?;
+    for (front, back) in &PARTED {
+        let line = format!(in rt.alloc(); "bactool {front} {options} {back}").expect(&rt, "memory");
         let line = line.as_str().trim_end();
-        assert!(rt; has_settings(rt.alloc(), line)?, "{line:?}");
+        assert!(rt; has_settings(rt.alloc(), line), "{front}");
     }
-    Ok(())
 }

@@ -4,58 +4,57 @@ use bac_device::demo;
 use bac_pdu::WhoIs;
 use bac_wire::Frame;
 
-/// Words behind `bacwi`, and the limits of the devices that are asked, if there are any.
+/// Words that ask for a search, and the limits of the devices that are asked, if there are any.
 static SEARCHES: [(&str, Option<(u32, u32)>); 4] = [
-    ("1000 1234 --mac 127.0.0.1", Some((1000, 1234))),
-    ("1235 --mac 127.0.0.1", Some((1235, 1235))),
-    ("--mac 127.0.0.1", None),
-    ("--mac 127.0.0.1 5 3", Some((5, 3))),
+    (
+        "bactool bacwi 1000 1234 --mac 127.0.0.1",
+        Some((1000, 1234)),
+    ),
+    ("bactool bacwi 1235 --mac 127.0.0.1", Some((1235, 1235))),
+    ("bactool bacwi --mac 127.0.0.1", None),
+    ("bactool bacwi --mac 127.0.0.1 5 3", Some((5, 3))),
 ];
 
 const SET: &str = "bactool bacwi --mac 127.0.0.1 --apdu-timeout 60000 --port 47808";
 
 /// Whether the words ask for a search at 127.0.0.1 for these devices, with this timeout and port.
-fn searches(alloc: Global, line: &str, limits: Option<(u32, u32)>, set: (u32, u16)) -> Is {
-    let Job::WhoIs(search) = parse(alloc, line)? else {
-        return Ok(false);
+fn searches(alloc: Global, line: &str, limits: Option<(u32, u32)>, set: (u32, u16)) -> bool {
+    let Ok(Job::WhoIs(search)) = parse(alloc, line) else {
+        return false;
     };
     let who = match limits {
         Some((low, high)) => WhoIs::Range { low, high },
         None => WhoIs::All,
     };
     let is_set = (search.timeout, search.port) == set;
-    Ok(search.who == who && search.to.ip == LOCALHOST && is_set)
+    search.who == who && search.to.ip == LOCALHOST && is_set
 }
 
 #[test]
-fn searches_for_devices(rt: HostRuntime) -> Result<(), Fail> {
-    for (words, limits) in &SEARCHES {
-        let line = format!(in rt.alloc(); "bactool bacwi {words}")?;
-        let is_right = searches(rt.alloc(), line.as_str(), *limits, (3_000, 0))?;
-        assert!(rt; is_right, "{words}");
+fn searches_for_devices(rt: HostRuntime) {
+    for (line, limits) in &SEARCHES {
+        assert!(rt; searches(rt.alloc(), line, *limits, (3_000, 0)), "{line}");
     }
-    assert!(rt; searches(rt.alloc(), SET, None, (60_000, 47_808))?);
-    Ok(())
+    assert!(rt; searches(rt.alloc(), SET, None, (60_000, 47_808)));
 }
 
 /// Whether the words ask for a device at this port, for so many datagrams, which answers a Who-Is for 1000 to 1234 so.
-fn plays(alloc: Global, line: &str, set: (u16, u32), digits: &str) -> Is {
-    let Job::Device(serve) = parse(alloc, line)? else {
-        return Ok(false);
+fn plays(alloc: Global, line: &str, set: (u16, u32), digits: &str) -> bool {
+    let Ok(Job::Device(serve)) = parse(alloc, line) else {
+        return false;
     };
     let is_set = (serve.port, serve.count) == set;
     let mut reply = Frame::new();
     let who_is = b"\x81\x0a\x00\x0e\x01\x00\x10\x08\x0a\x03\xe8\x1a\x04\xd2";
     let _ = demo(serve.info).answer(Q, who_is, &mut reply);
-    Ok(is_set && are_digits(alloc, reply.as_slice(), digits))
+    is_set && are_digits(alloc, reply.as_slice(), digits)
 }
 
 #[test]
-fn devices_and_a_trace(rt: HostRuntime) -> Result<(), Fail> {
+fn devices_and_a_trace(rt: HostRuntime) {
     let i_am = "810a001501001000c4020004d22205c49103220104";
-    assert!(rt; plays(rt.alloc(), "bactool bacdev 1234", (47_808, 65_535), i_am)?);
+    assert!(rt; plays(rt.alloc(), "bactool bacdev 1234", (47_808, 65_535), i_am));
     let last = "bactool bacdev 4194302 --port 1 --count 1";
-    assert!(rt; plays(rt.alloc(), last, (1, 1), "")?);
-    assert!(rt; matches!(parse(rt.alloc(), "bactool bactrace")?, Job::Trace));
-    Ok(())
+    assert!(rt; plays(rt.alloc(), last, (1, 1), ""));
+    assert!(rt; matches!(parse(rt.alloc(), "bactool bactrace"), Ok(Job::Trace)));
 }

@@ -1,7 +1,28 @@
-use Rattle.bac_pdu.specs.Property.{order}
-use Rattle.std.proofs.Common.{refl, sym}
-use Rattle.bac_device.proofs.OrderLaws.{accepted_at}
+use Rattle.std.proofs.Common.{◌≡◌, ℕ, Option, Some, None, Result, Ok, Err, refl, sym, is_some}
+use Rattle.std.specs.Prelude.{if◌then◌else◌}
+use Rattle.bac_wire.specs.Datum.{Datum}
+use Rattle.bac_pdu.specs.Property.{Order, order}
+use Rattle.bac_device.specs.declared.failure.Failure.{Failure}
+use Rattle.bac_device.specs.declared.failure.Failure.TheVariants.{NotAnArray}
+use Rattle.bac_device.specs.Steps.{◌>>=◌, needs}
+use Rattle.bac_device.specs.Property.{single}
+use Rattle.bac_device.specs.Places.{Standing}
+use Rattle.bac_device.specs.Device.{DeviceState}
+use Rattle.bac_device.specs.Reply.{property_of, takes_index, commanded, ordered, accepted}
 use Rattle.bac_device.proofs.device.Device.accepted.Goals as goal
+
+-- An index stands at no single value.
+no_index : {A : Type 0} (value : Datum) (index : Option ℕ) (rest : Result A Failure)
+    → (needs NotAnArray (if takes_index (single value) index then Some (single value) else None) >>= (λ _. rest)) ≡ if is_some index then Err NotAnArray else rest
+no_index value None rest = refl
+no_index value (Some index) rest = refl
+
+-- What an order comes to that names the present value of a point.
+accepted_at : (device : DeviceState) (o : Order) (standing : Standing) (value : Datum) → commanded device o.reference ≡ Some standing
+    → property_of device o.reference.object o.reference.property ≡ Ok (single value)
+    → accepted device o ≡ if is_some o.reference.index then Err NotAnArray else ordered standing o
+unfolding accepted
+accepted_at device o standing value found property = rw (property, found) (no_index value o.reference.index (ordered standing o))
 
 pub returns-then-is_some-2 : goal.returns-then-is_some-2
 returns-then-is_some-2 c =

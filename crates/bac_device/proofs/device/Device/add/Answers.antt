@@ -1,4 +1,3 @@
-use Rattle.std.proofs.Common.{sym}
 use Rattle.bac_device.specs.Point.{given}
 use Rattle.bac_device.proofs.StateLaws.{added_held}
 use Rattle.bac_device.proofs.device.Device.add.Goals as goal

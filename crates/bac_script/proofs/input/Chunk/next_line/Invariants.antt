@@ -1,7 +1,7 @@
 use Rattle.std.proofs.Common.{◌≡◌, ◌≤◌, ◌+◌, [], false, length}
 use Rattle.bac_text.specs.Checked.{has_failed, reads_of}
 use Rattle.bac_text.specs.Page.{Prints}
-use Rattle.bac_script.specs.Input.{Takes, HasNotEnded, IsSpared, may_read, may_come}
+use Rattle.bac_script.specs.Input.{Takes, HasNotEnded, IsSpared, ReadForLine, may_read, may_come}
 use Rattle.bac_script.proofs.input.Chunk.next_line.Given as goal
 
 abbrev pub invariant-loop-length : goal.invariant-loop-length
@@ -11,6 +11,7 @@ invariant-loop-length g l = record {
   sound : has_failed l.reader ≡ false;
   unended : HasNotEnded l.fn.reader l.reader;
   asked : reads_of l.reader + length l.fn.self ≤ reads_of l.fn.reader + length l.self;
+  needed : ReadForLine (reads_of l.fn.reader) (reads_of l.reader) l.fn.self l.self;
   spared : IsSpared l.fn.reader l.reader;
   room : may_come l.reader l.self ≤ may_come l.fn.reader l.fn.self;
 }

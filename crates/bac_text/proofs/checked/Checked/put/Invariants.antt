@@ -1,5 +1,5 @@
 use Rattle.std.proofs.Common.{◌≡◌, false, length}
-use Rattle.bac_text.specs.Checked.{inner_of, has_failed}
+use Rattle.bac_text.specs.Checked.{inner_of, has_failed, HasNotRead}
 use Rattle.bac_text.proofs.Known.{Sent}
 use Rattle.bac_text.proofs.checked.Checked.put.Given as goal
 
@@ -7,6 +7,7 @@ abbrev pub invariant-loop-rest : goal.invariant-loop-rest
 invariant-loop-rest g l = record {
   sent : Sent (g.W.Write.contents (inner_of l.fn.self)) (g.W.Write.contents (inner_of l.self)) l.text l.rest;
   sound : has_failed l.self ≡ false;
+  reads : HasNotRead l.fn.self l.self;
 }
 
 abbrev pub decreases-loop-rest : goal.decreases-loop-rest

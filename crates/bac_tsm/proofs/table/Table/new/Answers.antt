@@ -1,5 +1,4 @@
-use Rattle.bac_tsm.proofs.SendQueue.{empty_queue}
-use Rattle.bac_tsm.proofs.TableEdits.{empty_table}
+use Rattle.bac_tsm.proofs.TableEdits.{empty_table, empty_queue}
 use Rattle.bac_tsm.proofs.table.Table.new.Goals as goal
 
 pub invariant_of-result : goal.invariant_of-result

@@ -7,12 +7,7 @@ pub begin_at-requires-clause-within : goal.begin_at-requires-clause-within
 begin_at-requires-clause-within c = rw (c.deref.ensures.0, c.len.ensures.value) (next_free c.self.invariant.0 _ c.self.view_is c.requires.room)
 
 pub put_last-requires : goal.put_last-requires
-put_last-requires c =
-    let all = c.self.invariant.1.all in
-    let same = as_many c.self.invariant.0 in
-    let e = count c.self.invariant.0 _ c.self.view_is in
-    let room = c.requires.room in
-    omega arith
+put_last-requires c = omega (arith, c.self.invariant.1.all, as_many c.self.invariant.0, count c.self.invariant.0 _ c.self.view_is, c.requires.room)
 
 pub invariant_of-self : goal.invariant_of-self
 invariant_of-self c =

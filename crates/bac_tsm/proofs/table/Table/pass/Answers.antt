@@ -1,7 +1,7 @@
 use Rattle.std.proofs.Common.{sym, subst, ◌∙◌}
 use Rattle.bac_tsm.specs.Client.{client_rules}
 use Rattle.bac_tsm.specs.Table.{IsTurnOf}
-use Rattle.bac_tsm.proofs.PassDue.{front_below, first_sent, count_left, sent_again, not_found, ended}
+use Rattle.bac_tsm.proofs.PassDue.{front_below, first_sent, sent_again, not_found, ended}
 use Rattle.bac_tsm.proofs.table.Table.pass.Goals as goal
 
 pub held-requires : goal.held-requires
@@ -9,9 +9,6 @@ held-requires c = front_below c.self.invariant.0 c.self.invariant.1 _ c.self.vie
 
 pub send_again_at-requires-clause-within : goal.send_again_at-requires-clause-within
 send_again_at-requires-clause-within c = front_below c.self.invariant.0 c.self.invariant.1 _ c.self.view_is c.deref.result.now c.deref.ensures.0 _ (first_sent c.self.invariant.0 c.self.invariant.1 _ c.self.view_is (client_rules c.args.config.timeout c.args.config.retries) c.args.clock c.requires.due _ c.deref.ensures.0)
-
-pub send_again_at-requires-clause-left : goal.send_again_at-requires-clause-left
-send_again_at-requires-clause-left c = count_left c.self.invariant.0 c.self.invariant.1 _ c.self.view_is c.deref.result.now c.deref.ensures.0 _ (first_sent c.self.invariant.0 c.self.invariant.1 _ c.self.view_is (client_rules c.args.config.timeout c.args.config.retries) c.args.clock c.requires.due _ c.deref.ensures.0) (client_rules c.args.config.timeout c.args.config.retries) c.args.clock _ c.held.ensures _ (sym c.due_entry-entry.ensures ∙ c.in-Resend.is)
 
 pub invariant_of-self : goal.invariant_of-self
 invariant_of-self c =

@@ -1,23 +1,10 @@
 use Rattle.std.proofs.Common.{List, length, ap, sym, subst, ◌∙◌, arith}
-use Rattle.std.specs.List.Sorted.{IsPermutation, IsNonDecreasingBy}
+use Rattle.std.specs.List.Sorted.{IsPermutation}
 use Rattle.std.proofs.lemmas.List.Sorted.{IsPermutation-trans, length_permutation}
 use Rattle.bac_tsm.specs.declared.due.Entry.{Entry}
 use Rattle.bac_tsm.specs.Client.{client_rules}
-use Rattle.bac_tsm.specs.Machine.{ticket_of}
-use Rattle.bac_tsm.proofs.TableTick.{few_due, not_yet, passed, fewer, all_passed, refilled}
+use Rattle.bac_tsm.proofs.TableTick.{few_due, passed, fewer, all_passed, refilled}
 use Rattle.bac_tsm.proofs.table.Table.pass_all.Goals as goal
-
-pub loop-is_due-init : goal.loop-is_due-init
-loop-is_due-init c = record {
-  ticked = not_yet (client_rules c.args.config.timeout c.args.config.retries) c.args.clock _ c.requires.empty c.args.self.now c.requires.past;
-  due = sym c.requires.due;
-}
-
-pub pass-entry-requires-clause-past : goal.pass-entry-requires-clause-past
-pass-entry-requires-clause-past c = c.loop-is_due.invariant.ticked.past
-
-pub pass-entry-requires-clause-due : goal.pass-entry-requires-clause-due
-pass-entry-requires-clause-due c = sym c.loop-is_due.invariant.due ∙ c.loop-is_due-test.true
 
 pub put_last-requires : goal.put_last-requires
 put_last-requires c =
@@ -41,11 +28,6 @@ returns-clause-told c =
     rw (refilled c.loop-is_due.entries.items c.sort_by_ticket.new.entries (length_permutation _ _ c.sort_by_ticket.ensures.same ∙ ap length c.as_mut_slice.ensures.value))
     (IsPermutation-trans _ _ _ (all_passed (client_rules c.args.config.timeout c.args.config.retries) c.args.clock c.args.config.positive c.loop-is_due.invariant.ticked (sym c.loop-is_due.invariant.due ∙ c.loop-is_due-test.false)).0
     (subst (λ (es : List Entry). IsPermutation es c.sort_by_ticket.new.entries) c.as_mut_slice.ensures.value c.sort_by_ticket.ensures.same))
-
-pub returns-clause-by_ticket : goal.returns-clause-by_ticket
-returns-clause-by_ticket c =
-    subst (IsNonDecreasingBy ticket_of) (sym (refilled c.loop-is_due.entries.items c.sort_by_ticket.new.entries (length_permutation _ _ c.sort_by_ticket.ensures.same ∙ ap length c.as_mut_slice.ensures.value)))
-    c.sort_by_ticket.ensures.by_ticket
 
 pub returns-clause-kept : goal.returns-clause-kept
 returns-clause-kept c = (all_passed (client_rules c.args.config.timeout c.args.config.retries) c.args.clock c.args.config.positive c.loop-is_due.invariant.ticked (sym c.loop-is_due.invariant.due ∙ c.loop-is_due-test.false)).1
