@@ -21,7 +21,7 @@ import time
 PROGRAM = "bactool"
 ROOMS = "out/build"
 CRATE_MEMORY = 2 << 30  # what a crate takes while it is proved, in octets
-COST = """From nothing this takes 18 to 39 minutes of processor time, as fast as the machine is: 8 to 14 minutes of the clock with four
+COST = """From nothing this takes 18 to 40 minutes of processor time, as fast as the machine is: 8 to 15 minutes of the clock with four
 processors, up to 25 with two. Memory: some 2 GB for each crate at work. Disk: 3.2 GB, which are kept, so that the next build proves only what
 has changed."""
 
