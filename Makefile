@@ -1,15 +1,23 @@
+# make, make help: lists these targets with what they cost, and builds nothing
 # make try: runs a first script by the toolchain's runner, in a minute or two; nothing is proved yet
-# make demo: proves and builds the program, and shows what it does, with a small device on this machine
+# make program: proves and builds the program: 8 to 15 minutes the first time, then only what has changed
+# make demo: the same, and shows what it does, with a small device on this machine
 # make check: proves every crate, without tests and wrong bodies, over what earlier checks kept; for daily work
-# make test: the gate: proves every crate from nothing, and runs its tests, the program, the examples, the guide and the wrong bodies
-# make examples: runs each script of examples/, the demonstration and the program's own tests, and compares what they write
+# make test: over what make demo keeps: the tests of the crates, the examples, rows and guide, and some wrong bodies of
+#     each crate; 5 to 10 minutes
+# make gate: what a change has to pass: proves every crate and its tests from nothing, tries every wrong body, and runs
+#     everything; one to two hours
+# make examples: runs each script of examples/, the demonstration, the program's own tests and the guide, and compares
+#     what they write. Half a minute
 # make forget: takes away what the prover keeps, 3.2 GB, but not the program; the next check proves from nothing
-# packaging.mk has install, uninstall, deb, lint and guide; measuring.mk has bench, soak and interop
+# make reading: writes docs/reading/ anew, and the sizes of its lists in README.md. Seconds
+# All but try, check, test, forget and reading build the program first, where it is not as the sources.
+# packaging.mk has install, uninstall, deb, lint and guide; measuring.mk has bench, soak, interop and holes
 
 PROGRAM = crates/bactool/out/bactool
 SOURCES := $(shell find crates -name out -prune -o \( -name '*.rt' -o -name '*.antt' \) -print) crates.txt
 
-.PHONY: try demo check test examples forget program documents
+.PHONY: try demo check test gate examples forget program documents reading
 
 program: $(PROGRAM)
 
@@ -26,12 +34,11 @@ demo: program
 check:
 	rt all check
 
-test:
-	rt ci
-	./build.py
-	$(MAKE) examples
-	@tests/allocation.sh
-	@tests/wrong_bodies.py
+test: program
+	@tests/parts.py test
+
+gate:
+	@tests/parts.py gate
 
 examples: program
 	@for script in examples/*.trace; do \
@@ -53,5 +60,24 @@ lint: documents
 
 documents:
 	@tests/documents.py
+	@tests/reading.py
+	@tests/pins.py
+
+reading:
+	@tests/reading.py --write
+
+.DEFAULT_GOAL := help
+.PHONY: help kit
+
+help:
+	@sed -n 's/^# \(make[ ,].*\)/\1/p; s/^#\(     .*\)/\1/p' Makefile packaging.mk measuring.mk
+
+try check test gate bench: kit
+
+kit:
+	@command -v rt >/dev/null || { \
+	    echo "This needs rt, a command of the Rattle kit, which is not in the PATH; README.md says where it comes from." >&2; \
+	    exit 1; \
+	}
 
 include packaging.mk measuring.mk

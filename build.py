@@ -1,5 +1,9 @@
 #!/usr/bin/env python3
-"""Proves the crates that the program rests on, and builds the program. Usage: ./build.py
+"""Proves the crates that the program rests on, and builds the program. Usage: ./build.py [--tests]
+
+With --tests it runs the tests of the trials, over what is kept of the crates below, and says how many passed. Those
+of bac_trials are proved first. To prove those of tool_trials takes 12 to 19 minutes of processor time: so they are
+run as the sources stand, by `rt try`, until `rt test` was run there.
 
 Crates that don't rest on one another are proved side by side, as many as there are processors and memory for; RT_JOBS is another number
 of processors to use. On a terminal one line moves; elsewhere there is a line for each crate, and one each minute. What the prover says of
@@ -19,6 +23,7 @@ import sys
 import time
 
 PROGRAM = "bactool"
+TRIALS = ["bac_trials", "tool_trials"]
 ROOMS = "out/build"
 CRATE_MEMORY = 2 << 30  # what a crate takes while it is proved, in octets
 COST = """From nothing this takes 18 to 40 minutes of processor time, as fast as the machine is: 8 to 15 minutes of the clock with four
@@ -26,11 +31,11 @@ processors, up to 25 with two. Memory: some 2 GB for each crate at work. Disk: 3
 has changed."""
 
 
-def needed():
-    """The crates that the program rests on, and itself: each with those of the repository that it rests on."""
+def needed(tops):
+    """The crates that these rest on, and themselves: each with those of the repository that it rests on."""
     with open("crates.txt", encoding="utf-8") as lines:
         below = dict(line.split(":") for line in lines if line.strip())
-    found, more = {}, [PROGRAM]
+    found, more = {}, list(tops)
     while more:
         crate = more.pop()
         found[crate] = {name for name in below[crate].split() if name in below}
@@ -68,8 +73,10 @@ class Work:
         self.held = os.open(self.home, os.O_RDONLY)
         fcntl.flock(self.held, fcntl.LOCK_EX)  # as rt does, so that it waits
         self.enter(below)
-        command = ["rt", "run" if crate == PROGRAM else "lib", "--jobs", str(jobs)]
+        self.is_proved = crate != "tool_trials" or os.path.isfile(f"{self.room}/{self.home}/out/{crate}_tests")
+        command = ["rt", "run" if crate == PROGRAM else "test" if crate in TRIALS else "lib", "--jobs", str(jobs)]
         command += ["--", "--help"] if crate == PROGRAM else []
+        command = command if self.is_proved else ["rt", "try", "--test", "--seconds", "900"]
         with open(self.log, "w", encoding="utf-8") as log:
             self.process = subprocess.Popen(
                 command, cwd=f"{self.room}/{self.home}", stdin=subprocess.DEVNULL, stdout=log, stderr=log, start_new_session=True
@@ -96,6 +103,13 @@ class Work:
     def said(self):
         with open(self.log, encoding="utf-8", errors="replace") as log:
             return log.read()
+
+    def came(self):
+        """What came of it, once it has ended; "" where it is not well."""
+        tests = re.findall(r"^test result: ok\. (\d+) passed; 0 failed", self.said(), re.M)
+        if self.status != 0 or (self.crate in TRIALS and not tests):
+            return ""
+        return f"{tests[-1]} tests passed{', not proved' * (not self.is_proved)}" if tests else "proved"
 
     def progress(self):
         counts = re.findall(r"(?:^so far: |, )(\d+) of (\d+)(?: functions|$)", self.said(), re.M)
@@ -148,9 +162,10 @@ def chains(crates):
     return found
 
 
-def build(crates, screen):
-    """Answers whether each crate was proved."""
-    left, done, working, long = dict(crates), set(), [], chains(crates)
+def build(crates, screen, is_done):
+    """Answers whether each crate was proved. Those of which is_done says so are left as they are."""
+    done = set(filter(is_done, crates))
+    left, working, kept, long = {it: crates[it] for it in crates if it not in done}, [], len(done), chains(crates)
     places = min(processors(), room())
     jobs = places + processors()  # more than there are processors, so that none stands idle when a crate ends beside another
     try:
@@ -165,29 +180,35 @@ def build(crates, screen):
             for work in [work for work in working if work.has_ended()]:
                 working.remove(work)
                 work.stop()
-                if work.status != 0:
-                    screen.line(f"{work.crate} is not proved ({screen.passed()}); the end of {work.log}:")
+                if not work.came():
+                    what = "has a test that is not proved, or failed" if work.crate in TRIALS else "is not proved"
+                    screen.line(f"{work.crate} {what} ({screen.passed()}); the end of {work.log}:")
                     print("\n".join(work.said().splitlines()[-20:]))
                     return False
                 done.add(work.crate)
                 took = f"{work.seconds:.0f} s of processor time"
-                screen.line(f"{len(done):2} of {screen.crates}  {work.crate:12} proved  {screen.passed()}  {took}")
+                screen.line(f"{len(done) - kept:2} of {screen.crates}  {work.crate:12} {work.came()}  {screen.passed()}  {took}")
             if working:
-                screen.go_on(len(done), working)
+                screen.go_on(len(done) - kept, working)
         return True
     finally:
         for work in working:
             work.stop()
 
 
-def main():
+def main(wants_tests):
     os.chdir(os.path.dirname(os.path.abspath(__file__)))
+    if not shutil.which("rt"):
+        print("This needs rt, a command of the Rattle kit, which is not in the PATH; README.md says where it comes from.", file=sys.stderr)
+        return 1
     os.makedirs(ROOMS, exist_ok=True)
-    crates = needed()
-    print(f"Proving {len(crates)} crates, the last of which is the program.")
+    crates = needed(TRIALS if wants_tests else [PROGRAM])
+    if wants_tests:
+        return 0 if build(crates, Screen(len(TRIALS)), lambda crate: crate not in TRIALS) else 1
+    print(f"Proving {len(crates)} crates, the last of which is the program.", flush=True)
     if not all(os.path.isdir(f"crates/{crate}/out") for crate in crates):
-        print(COST)
-    if not build(crates, Screen(len(crates))):
+        print(COST, flush=True)
+    if not build(crates, Screen(len(crates)), lambda crate: False):
         return 1
     os.utime(f"crates/{PROGRAM}/out/{PROGRAM}")  # make compares its time with those of the sources
     return 0
@@ -197,7 +218,7 @@ if __name__ == "__main__":
     for number in (signal.SIGINT, signal.SIGTERM):
         signal.signal(number, signal.default_int_handler)
     try:
-        sys.exit(main())
+        sys.exit(main(sys.argv[1:] == ["--tests"]))
     except KeyboardInterrupt:
         print("\nstopped; the crates that are proved are kept")
         sys.exit(130)

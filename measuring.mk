@@ -1,18 +1,22 @@
 # What measures and tries the built program from outside. None of it is in the gate. docs/SPEED.md has what was measured.
 #
-# make bench: what the program costs. Over 127.0.0.1: bacdev beside a bare echo server, bacrp beside a bare client, memory;
-#     then a script of a million lines, and replies and values in memory, whose benchmarks are proved first (some minutes,
-#     kept in ROOM for the next time). ROUNDS=15 ROOM=~/.cache/bactool-bench
+# make bench: what the program costs. Over 127.0.0.1: bacdev beside a bare echo server, bacrp beside a bare client,
+#     memory; then a script of a million lines, and replies and values in memory, whose benchmarks are proved first (some
+#     minutes, kept in ROOM for the next time). ROUNDS=15 ROOM=~/.cache/bactool-bench
 # make bench-loopback: its first part alone
-# make soak: random datagrams against bacdev, a random script through bactrace. DATAGRAMS=1000000 LINES=10000000
-# make interop: nmap and tshark against the device and the tools (tests/interop.sh)
+# make soak: random datagrams against bacdev, a random script through bactrace. DATAGRAMS=1000000 LINES=10000000, which
+#     take some two minutes
+# make interop: nmap and tshark against the device and the tools (tests/interop.sh); it installs both. Under a minute
+# make holes: wrong bodies that no contract can refuse, each with the test that has to fail. A minute or two of processor
+#     time each, and 24 of them. JOBS=1
 
 ROUNDS ?= 15
 ROOM ?= $(HOME)/.cache/bactool-bench
 DATAGRAMS ?= 1000000
 LINES ?= 10000000
+JOBS ?= 1
 
-.PHONY: bench bench-loopback soak interop
+.PHONY: bench bench-loopback soak interop holes
 
 bench: bench-loopback
 	@bench/lines.sh
@@ -27,3 +31,6 @@ soak: program
 
 interop: program
 	@tests/interop.sh
+
+holes:
+	@tests/holes.py --jobs $(JOBS)

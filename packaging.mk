@@ -1,12 +1,17 @@
 # Puts the built program where a Unix expects it, takes it away again, and packs it.
 #
-# make install PREFIX=/usr/local DESTDIR=: the program, links of the tools' names to it, manual pages, completions. What is there and
-#     was not put by it, such as another vendor's bacrp, is named and not replaced, unless FORCE=1 says so
-# make uninstall: takes away what make install put, where it is still as it was put, with the same PREFIX and DESTDIR
-# make lint: the manual pages by mandoc and against the help, the numbers against Wireshark's names, the completions in bash, zsh and fish,
-#     and make install in a folder of its own. What mandoc, tshark and a shell would look at is left out where it is not installed
-# make guide: runs every command of docs/GUIDE.md, and compares what comes out; make examples runs it too. It needs perl
-# make deb: a Debian package in crates/bactool/out; needs dpkg-deb and binutils
+# make install PREFIX=/usr/local DESTDIR=: the program, links of the tools' names to it, manual pages, completions,
+#     documents and examples. What is there and was not put by it, such as another vendor's bacrp, is named and not
+#     replaced, unless FORCE=1 says so. A second
+# make uninstall: takes away what make install put, where it is still as it was put, with the same PREFIX and DESTDIR.
+#     It builds nothing. A second
+# make lint: the manual pages by mandoc and against the help, the numbers against Wireshark's names, the completions in
+#     bash, zsh and fish, make install in a folder of its own, the documents against the tree, that something reads each
+#     row of the rules back, and what make says at first. What mandoc, tshark and a shell would look at is left out where
+#     it is not installed. Up to a minute
+# make guide: runs every command of docs/GUIDE.md and the scripts of examples/, and compares what comes out; make
+#     examples runs it too. It needs perl. Half a minute
+# make deb: a Debian package in crates/bactool/out, of the same octets each time; needs dpkg-deb and binutils. A second
 
 PREFIX ?= /usr/local
 DESTDIR ?=
@@ -26,10 +31,12 @@ lint: program
 	@tests/numbers.sh
 	@tests/completions.sh
 	@tests/install.sh $(PROGRAM)
+	@tests/targets.sh
 
 examples: guide
 
 guide: program
+	@tests/scripts.sh
 	@BACTOOL=$(PROGRAM) tests/guide.sh
 
 deb: program

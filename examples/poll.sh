@@ -1,13 +1,15 @@
 #!/bin/sh
-# Reads a list of points of many controllers, and prints a table: time, point, value, reason, with a tab between them. A `-` stands for a
-# value that is missing, and for the reason where the value is there. The status is 0 where each point has its value, else 1.
+# Reads a list of points of many controllers, and prints a table: time, point, value, reason, with a tab between them. A
+# `-` stands for a value that is missing, and for the reason where the value is there. The status is 0 where each point
+# has its value, 1 where one has not, and 2 where the words are wrong, or the list can't be read or has no point.
 #
-# Usage: poll.sh LIST [AT_ONCE]. A line of LIST is: POINT ADDRESS FORM TYPE INSTANCE PROPERTY [INDEX]. FORM is `real` for a Real, which is
-# printed as a decimal number, and else `plain`. Empty lines and those that begin with # are skipped.
+# Usage: poll.sh LIST [AT_ONCE]. LIST is a file or a pipe. A line of it is: POINT ADDRESS FORM TYPE INSTANCE PROPERTY
+# [INDEX]. FORM is `real` for a Real, which is printed as a decimal number, and else `plain`. Empty lines and those that
+# begin with # are skipped.
 #
-# AT_ONCE controllers, 32 by default, are asked at the same time, and the points of each one after another. Once a controller hasn't
-# answered, its other points are `not asked`. So a dead one costs a second: 500 ms, twice.
-set -eu
+# AT_ONCE controllers, 32 by default, are asked at the same time, and the points of each one after another. Once a
+# controller hasn't answered, its other points are `not asked`. So a dead one costs a second: 500 ms, twice.
+set -euf
 here=$(dirname "$0")
 . "$here/reals.sh"
 
@@ -28,8 +30,8 @@ ask() {
         reason=${reason:-no line}
     elif [ "$form" = plain ]; then
         value=$answer
-    elif ! value=$(from_real "$answer" 2>/dev/null); then
-        value=- reason="no Real: $answer"
+    elif ! value=$(from_real "$answer" 2>&1); then
+        reason=$value value=-
     fi
 }
 
@@ -37,7 +39,6 @@ ask() {
 controller() {
     dead=no
     while read -r point address form words; do
-        case $point in '' | '#'*) continue ;; esac
         [ "${address:--}" = "$2" ] || continue
         case $form in
             real | plain) ;;
@@ -55,12 +56,20 @@ controller() {
     done <"$1"
 }
 
-list=${1:?usage: poll.sh LIST [AT_ONCE]}
-if [ "$list" = --controller ]; then
-    controller "$2" "$3"
-    exit
-fi
-[ -r "$list" ] || { echo "poll.sh: cannot read $list" >&2; exit 1; }
-awk '!/^[ \t]*(#|$)/ { print ((NF > 1) ? $2 : "-") }' "$list" | sort -u | sed 's/[^A-Za-z0-9.:]/\\&/g' |
-    xargs -r -P "${2:-32}" -n 1 sh "$0" --controller "$list" |
-    awk -F '\t' '{ print; fflush() } $4 != "-" { missing = 1 } END { exit missing }'
+case $#.${1:-} in
+    3.--controller) controller "$2" "$3"; exit ;;
+    1.?* | 2.?*) ;;
+    *) echo 'usage: poll.sh LIST [AT_ONCE]' >&2; exit 2 ;;
+esac
+# A copy of the points alone, since a pipe can be read once. Each line of it ends with a line feed; what another system
+# puts in front of the first line (a mark of UTF-8) or at the end of each (a carriage return) is dropped.
+points=$(mktemp)
+trap 'rm -f "$points"' EXIT
+trap 'exit 130' INT TERM
+[ -r "$1" ] || { echo "poll.sh: cannot read $1" >&2; exit 2; }
+awk 'NR == 1 { sub(/^\357\273\277/, "") } { sub(/\r$/, "") } !/^[ \t]*(#|$)/' "$1" >"$points" || exit 2
+count=$(awk 'END { print NR }' "$points")
+[ "$count" -gt 0 ] || { echo "poll.sh: no point in $1" >&2; exit 2; }
+awk '{ print ((NF > 1) ? $2 : "-") }' "$points" | sort -u | sed 's/[^A-Za-z0-9.:]/\\&/g' |
+    xargs -r -P "${2:-32}" -n 1 sh "$0" --controller "$points" |
+    awk -F '\t' -v count="$count" '{ print; fflush() } $4 != "-" { missing = 1 } END { exit missing || NR != count }'

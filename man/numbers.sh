@@ -56,7 +56,7 @@ awk -F ' [|] ' '
     BEGIN {
         rows_count = 0
         print ".\\\" Made from man/numbers.txt by man/numbers.sh: change it there."
-        print ".Dd November 23, 2026\n.Dt BACTOOL-NUMBERS 7\n.Os\n.Sh NAME\n.Nm bactool-numbers"
+        print ".Dd November 24, 2026\n.Dt BACTOOL-NUMBERS 7\n.Os\n.Sh NAME\n.Nm bactool-numbers"
         print ".Nd the numbers of BACnet that one meets with bactool\n.Sh DESCRIPTION"
         print "The tools of\n.Xr bactool 1\ntake and print the numbers that stand in the datagrams."
         print "These are the ones that one meets, from the enumerations of the standard."

@@ -1,6 +1,8 @@
 #!/usr/bin/env bash
-# Packs the built program as a Debian package. Usage: packaging/deb.sh PROGRAM FOLDER, which gets bactool_VERSION_ARCH.deb.
-# The version is that of the program's help (packaging/version.sh). MAINTAINER names the one who makes the package.
+# Packs the built program as a Debian package. Usage: packaging/deb.sh PROGRAM FOLDER, which gets
+# bactool_VERSION_ARCH.deb. The version is that of the program's help (packaging/version.sh), and all times are the day
+# that CHANGELOG.md gives to it: the same program and files give the same octets. MAINTAINER, as `Name <address>`, names
+# the one who makes the package; without it no address stands there.
 set -euo pipefail
 program=$(realpath "$1")
 folder=$(realpath "$2")
@@ -8,7 +10,9 @@ cd "$(dirname "$0")/.."
 version=$(packaging/version.sh "$program")
 date=$(sed -n "s/^## $version (\\(.*\\))\$/\\1/p" CHANGELOG.md)
 [ -n "$date" ] || { echo "packaging/deb.sh: CHANGELOG.md has no date of the version $version" >&2; exit 1; }
-maintainer=${MAINTAINER:-bactool authors <maintainers@bactool.invalid>}
+SOURCE_DATE_EPOCH=$(date -u -d "$date" +%s)
+export SOURCE_DATE_EPOCH
+maintainer=${MAINTAINER:-bactool authors}
 architecture=$(dpkg --print-architecture)
 room=$(mktemp -d)
 trap 'rm -r "$room"' EXIT
@@ -21,12 +25,7 @@ rm -r "$root/usr/share/bactool"
 strip --strip-unneeded --remove-section=.comment --remove-section=.note "$root/usr/bin/bactool"
 gzip -9n "$root"/usr/share/man/man[17]/*.[17]
 
-# The documents in the folders that they have in the repository, so that their links lead on. README.md names no other.
-install -d "$doc/docs" "$doc/examples" "$root/DEBIAN"
-install -m 644 ./*.md LICENSE "$doc"
-install -m 644 docs/*.md "$doc/docs"
-install -m 644 examples/* "$doc/examples"
-sed -i 's|/usr/local/bin|/usr/bin|' "$doc/examples/bacdev.service"
+install -d "$root/DEBIAN"
 grep -o ']([^)#]*' README.md | sed 's|^](||' | grep -v '^[a-z]*:' | grep . | while read -r link; do
     [ -e "$doc/$link" ] || { echo "packaging/deb.sh: the package lacks what README.md names: $link" >&2; exit 1; }
 done
@@ -39,7 +38,8 @@ done
         while read -r line; do
             fold -s -w 74 <<<"$line" | sed '1s/^/  * /; 2,$s/^/    /; s/ *$//'
         done
-    printf '\n -- %s  %s\n' "$maintainer" "$(LC_ALL=C date -u -d "$date" '+%a, %d %b %Y %H:%M:%S +0000')"
+    case $maintainer in *'<'*) signed=$maintainer ;; *) signed="$maintainer <>" ;; esac
+    printf '\n -- %s  %s\n' "$signed" "$(LC_ALL=C date -u -d "$date" '+%a, %d %b %Y %H:%M:%S +0000')"
 } | gzip -9n >"$doc/changelog.gz"
 {
     printf 'Format: https://www.debian.org/doc/packaging-manuals/copyright-format/1.0/\nUpstream-Name: bactool\n\n'
@@ -49,6 +49,10 @@ done
     sed -n '/^Permission/,/^SOFTWARE\.$/p' LICENSE | sed 's/^$/./; s/^/ /'
 } >"$doc/copyright"
 
+# How a fault is reported, as SECURITY.md says it.
+report=$(sed -n '/^Report a fault/,$p' SECURITY.md | tr '\n' ' ' | sed 's/ Send the words.*//')
+[ -n "$report" ] || { echo "packaging/deb.sh: SECURITY.md does not say how a fault is reported" >&2; exit 1; }
+
 # The C library of the least version that has what the program calls.
 libc=$(objdump -T "$root/usr/bin/bactool" | sed -n 's/.*GLIBC_\([0-9.]*\).*/\1/p' | sort -V | tail -n 1)
 cat >"$root/DEBIAN/control" <<CONTROL
@@ -56,7 +60,7 @@ Package: bactool
 Version: $version
 Architecture: $architecture
 Maintainer: $maintainer
-Installed-Size: $(du -sk "$root/usr" | cut -f1)
+Installed-Size: $(find "$root/usr" -printf '%y %s\n' | awk '{ size += $1 == "f" ? int(($2 + 1023) / 1024) : 1 } END { print size }')
 Depends: libc6${libc:+ (>= $libc)}
 Section: net
 Priority: optional
@@ -65,7 +69,11 @@ Description: BACnet/IP tools whose behaviour is proved
  devices (bacwi), plays a small device (bacdev), and runs scripts of requests
  and datagrams with no network (bactrace). The protocol is ANSI/ASHRAE 135.
  .
- Each function of the program has a contract that is proved.
+ What the program does is proved, by contracts: README.md says what is not.
+ The guide and scripts for monitoring are in /usr/share/doc/bactool.
+ .
+$(fold -s -w 78 <<<"$report" | sed 's/^/ /; s/ *$//')
 CONTROL
 (cd "$root" && find usr -type f -print0 | LC_ALL=C sort -z | xargs -0 md5sum) >"$root/DEBIAN/md5sums"
-dpkg-deb --build --root-owner-group "$root" "$folder/bactool_${version}_$architecture.deb"
+find "$root" -exec touch -h -d "@$SOURCE_DATE_EPOCH" {} +
+dpkg-deb --build --root-owner-group -Zgzip "$root" "$folder/bactool_${version}_$architecture.deb"

@@ -1,11 +1,13 @@
 #!/bin/sh
-# Puts the built program, links of the tools' names, manual pages and completions below PREFIX, or takes them away again.
-# Usage: packaging/install.sh PROGRAM, or packaging/install.sh --remove. From the environment: PREFIX (/usr/local), DESTDIR, which stands in
-# front of all paths, and ZSH_COMPLETIONS (PREFIX/share/zsh/site-functions).
+# Puts the built program, links of the tools' names, manual pages, completions, documents and examples below PREFIX, or
+# takes them away again. Usage: packaging/install.sh PROGRAM, or packaging/install.sh --remove. From the environment:
+# PREFIX (/usr/local), DESTDIR, which stands in front of all paths, and ZSH_COMPLETIONS
+# (PREFIX/share/zsh/site-functions), which has to lie below PREFIX.
 #
-# PREFIX/share/bactool/installed lists what was put, with a sum of each. A file that is there and is not in this list as it stands, such as
-# another vendor's bacrp, is not replaced: all of these are named, and nothing is put. FORCE=1 replaces them. What is taken away is what
-# the list has, where it is still as it was put.
+# PREFIX/share/bactool/installed lists what was put, by its path behind PREFIX, with a sum of each. A file that is there
+# and is not in this list as it stands, such as another vendor's bacrp, is not replaced: all of these are named, and
+# nothing is put. FORCE=1 replaces them. What is taken away is what the list has, where it is still as it was put, and
+# nothing that is not below PREFIX.
 set -eu
 umask 022
 DESTDIR=${DESTDIR:-}
@@ -15,12 +17,29 @@ case $PREFIX in
     /*) ;;
     *) PREFIX=$PWD/$PREFIX ;;
 esac
-zsh=${ZSH_COMPLETIONS:-$PREFIX/share/zsh/site-functions}
-list=$PREFIX/share/bactool/installed
+PREFIX=${PREFIX%/}
+root=$DESTDIR$PREFIX
+list=share/bactool/installed
+doc=share/doc/bactool
 tools='bacrp bacwp bacwi bacdev bactrace'
 room=$(mktemp -d)
 trap 'rm -r "$room"' EXIT
 tree=$room/tree
+
+# The list of what was put, as it is to be read: an earlier version wrote whole paths, of which the first part is what
+# stands in front of bin/bactool. A path that is not below PREFIX then, or leads out of it, is not touched.
+: >"$room/had"
+: >"$room/outside"
+if [ -f "$root/$list" ]; then
+    before=$(sed -n 's|^[^ ]* \(/.*\)/bin/bactool$|\1/|p' "$root/$list" | head -n 1)
+    while read -r sum path; do
+        path=${path#"$before"}
+        case /$path/ in
+            //* | */../*) echo "$path" >>"$room/outside" ;;
+            *) echo "$sum $path" >>"$room/had" ;;
+        esac
+    done <"$root/$list"
+fi
 
 # What a path has: the sum of a file, or where a link leads.
 sum() {
@@ -34,60 +53,77 @@ sum() {
 }
 
 is_there() {
-    [ -e "$DESTDIR$1" ] || [ -L "$DESTDIR$1" ]
+    [ -e "$root/$1" ] || [ -L "$root/$1" ]
 }
 
 # Whether a path is as the list has it.
 is_ours() {
-    [ -f "$DESTDIR$list" ] && grep -Fqx "$(sum "$DESTDIR$1") $1" "$DESTDIR$list"
+    grep -Fqx "$(sum "$root/$1") $1" "$room/had"
 }
 
 remove() {
-    if [ ! -f "$DESTDIR$list" ]; then
-        echo "make install put nothing below $PREFIX: there is no $list" >&2
+    if [ ! -f "$root/$list" ]; then
+        echo "make install put nothing below $PREFIX: there is no $PREFIX/$list" >&2
         exit 1
     fi
     while read -r _ path; do
         if is_ours "$path"; then
-            rm "$DESTDIR$path"
+            rm "$root/$path"
         elif is_there "$path"; then
-            echo "left there, since it is not as it was put: $path"
+            echo "left there, since it is not as it was put: $PREFIX/$path"
         fi
-    done <"$DESTDIR$list"
-    rm "$DESTDIR$list"
-    rmdir "$DESTDIR${list%/*}"
+    done <"$room/had"
+    sed "s|^|left there, since it is not below $PREFIX: |" "$room/outside"
+    rm "$root/$list"
+    # The folders that only its own files were in.
+    for folder in ${list%/*} $(sed -n "s|^[^ ]* \\($doc.*\\)/[^/]*\$|\\1|p" "$room/had" | sort -ru); do
+        rmdir "$root/$folder" 2>/dev/null || true
+    done
     echo "taken away from $PREFIX"
 }
 
-# put SOURCE MODE PATH, in the tree.
+# put SOURCE MODE PATH, in the tree. What names a place below /usr/local names the one below PREFIX there.
 put() {
-    mkdir -p "$tree${3%/*}"
-    cp "$1" "$tree$3"
-    chmod "$2" "$tree$3"
+    mkdir -p "$tree/${3%/*}"
+    case $3 in
+        share/man/*) sed "s/^\.Os\$/.Os bactool $version/; s|/usr/local/share|$PREFIX/share|" "$1" >"$tree/$3" ;;
+        *.service) sed "s|/usr/local/bin|$PREFIX/bin|" "$1" >"$tree/$3" ;;
+        *) cp "$1" "$tree/$3" ;;
+    esac
+    chmod "$2" "$tree/$3"
 }
 
 link() {
-    mkdir -p "$tree${2%/*}"
-    ln -s "$1" "$tree$2"
+    mkdir -p "$tree/${2%/*}"
+    ln -s "$1" "$tree/$2"
 }
 
-# All that is to be put, as a tree. The manual pages name the version at their foot.
+# All that is to be put, as a tree. The manual pages name the version at their foot. The documents are in the folders
+# that they have in the repository, so that their links lead on.
 lay_out() {
-    bash=$PREFIX/share/bash-completion/completions
-    fish=$PREFIX/share/fish/vendor_completions.d
+    bash=share/bash-completion/completions
+    fish=share/fish/vendor_completions.d
+    zsh=${ZSH_COMPLETIONS:-$PREFIX/share/zsh/site-functions}
+    case $zsh in
+        "$PREFIX"/*) zsh=${zsh#"$PREFIX"/} ;;
+        *) echo "packaging/install.sh: ZSH_COMPLETIONS is not below $PREFIX: $zsh" >&2; exit 1 ;;
+    esac
     version=$(packaging/version.sh "$program")
-    put "$program" 755 "$PREFIX/bin/bactool"
+    put "$program" 755 bin/bactool
     for page in man/*.[17]; do
-        sed "s/^\.Os\$/.Os bactool $version/" "$page" >"$room/page"
-        put "$room/page" 644 "$PREFIX/share/man/man${page##*.}/${page##*/}"
+        put "$page" 644 "share/man/man${page##*.}/${page##*/}"
     done
-    put completions/bactool.bash 644 "$bash/bactool"
+    put completions/bactool.bash 644 $bash/bactool
     put completions/_bactool 644 "$zsh/_bactool"
-    put completions/bactool.fish 644 "$fish/bactool.fish"
+    put completions/bactool.fish 644 $fish/bactool.fish
     for tool in $tools; do
-        link bactool "$PREFIX/bin/$tool"
+        link bactool "bin/$tool"
         link bactool "$bash/$tool"
         link bactool.fish "$fish/$tool.fish"
+    done
+    for file in *.md LICENSE $(find docs -name '*.md') examples/*; do
+        [ -x "$file" ] && mode=755 || mode=644
+        put "$file" "$mode" "$doc/$file"
     done
 }
 
@@ -98,12 +134,12 @@ case $1 in
 esac
 cd "$(dirname "$0")/.."
 lay_out
-(cd "$tree" && find . ! -type d | sed 's/^\.//' | LC_ALL=C sort) >"$room/paths"
+(cd "$tree" && find . ! -type d | sed 's|^\./||' | LC_ALL=C sort) >"$room/paths"
 
 : >"$room/foreign"
 while read -r path; do
-    if is_there "$path" && ! is_ours "$path" && [ "$(sum "$DESTDIR$path")" != "$(sum "$tree$path")" ]; then
-        echo "$path" >>"$room/foreign"
+    if is_there "$path" && ! is_ours "$path" && [ "$(sum "$root/$path")" != "$(sum "$tree/$path")" ]; then
+        echo "$PREFIX/$path" >>"$room/foreign"
     fi
 done <"$room/paths"
 if [ -s "$room/foreign" ]; then
@@ -116,19 +152,18 @@ if [ -s "$room/foreign" ]; then
     fi
 fi
 # What an earlier version put and this one does not have.
-if [ -f "$DESTDIR$list" ]; then
-    while read -r _ path; do
-        if ! grep -Fqx "$path" "$room/paths" && is_ours "$path"; then
-            rm "$DESTDIR$path"
-        fi
-    done <"$DESTDIR$list"
-fi
+while read -r _ path; do
+    if ! grep -Fqx "$path" "$room/paths" && is_ours "$path"; then
+        rm "$root/$path"
+    fi
+done <"$room/had"
+sed "s|^|left there, since it is not below $PREFIX: |" "$room/outside"
 while read -r path; do
-    mkdir -p "$DESTDIR${path%/*}"
-    rm -f "$DESTDIR$path"
-    cp -P -p "$tree$path" "$DESTDIR$path"
-    echo "$(sum "$tree$path") $path" >>"$room/list"
+    mkdir -p "$(dirname "$root/$path")"
+    rm -f "$root/$path"
+    cp -P -p "$tree/$path" "$root/$path"
+    echo "$(sum "$tree/$path") $path" >>"$room/list"
 done <"$room/paths"
-mkdir -p "$DESTDIR${list%/*}"
-cp "$room/list" "$DESTDIR$list"
+mkdir -p "$root/${list%/*}"
+cp "$room/list" "$root/$list"
 echo "bactool $version and $(($(wc -l <"$room/list") - 1)) files and links beside it are below $PREFIX"

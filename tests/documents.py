@@ -5,10 +5,13 @@
   tables below a heading name each file of src/ (column Code), specs/ (Definitions) and proofs/ (Proofs), and none that isn't there; lists
   of modules (lib.rt, Lib.antt) and the answers to single functions are left out. `Beside the crates` names each other folder and file at
   the top, and each file of docs/, tests/ and bench/.
+- Each file of src/ begins with a line `//!` that says what it has.
 - docs/PROOFS.md: each name in backquotes stands in the code or is a file of it, and each law is a function; the headline's parts are the
   README's sentence.
+- Functions that have no contract: docs/PROOFS.md names those of the code, and it and README.md count them rightly.
 - README.md: what it shows of a script and of the demonstration is what examples/ has.
 - docs/PROTOCOL.md: the texts of faults are those of the code.
+- docs/GUIDE.md: the table that says which script does what has the scripts of examples/, but for what the demonstration needs.
 - Links within the repository lead somewhere, and lines have at most 140 columns, but for tables and what is printed.
 """
 import glob
@@ -93,10 +96,16 @@ def map_beside_the_crates(section):
     named = {name for row in rows(section) for name in names(row["Folder or file"])}
     tops = {name + "/" if os.path.isdir(name) else name for name in os.listdir(".") if name not in WELL_KNOWN}
     compare("beside the crates", {name for name in named if "/" not in name.rstrip("/")}, tops)
-    for row in rows(section):
-        for folder in sorted(set(names(row["Folder or file"])) & set(WHOLE)):
-            said = {name for name in names(row["What it has"]) if re.fullmatch(r"[\w-]+\.\w+", name)}
-            compare(folder, said, {name for name in os.listdir(folder) if os.path.isfile(folder + name)})
+    for folder in WHOLE:
+        told = [row["What it has"] for row in rows(section) if folder in names(row["Folder or file"])]
+        said = {name for text in told for name in names(text) if re.fullmatch(r"[\w-]+\.\w+", name)}
+        compare(folder, said, {name for name in os.listdir(folder) if os.path.isfile(folder + name)})
+
+
+def heads_of_sources():
+    for file in sorted(glob.glob("crates/*/src/**/*.rt", recursive=True)):
+        if not text_of(file).startswith("//! "):
+            DIFFERENCES.append(f"{file}: its first line is no `//!` that says what it has")
 
 
 def names_of_proofs(text):
@@ -119,9 +128,39 @@ def what_stands_twice(readme, proofs):
     if headline not in " ".join(readme.split()):
         DIFFERENCES.append("README.md: the headline is not that of docs/PROOFS.md, part by part")
     shown = re.findall(r"```\n(.*?)```", readme, re.S)
-    for block, file in zip(shown, ["examples/first.out", "examples/demo.out"]):
-        if block not in text_of(file):
-            DIFFERENCES.append(f"README.md: what it shows is not in {file}")
+    for begin, file in [("send 0 ", "examples/first.out"), ("# The present value", "examples/demo.out")]:
+        if not [block for block in shown if block.startswith(begin) and block in text_of(file)]:
+            DIFFERENCES.append(f"README.md: it does not show what is in {file}")
+
+
+def functions_without_a_contract(readme, section):
+    """A function of a trait's impl has the trait's contract; any other one has what stands at it."""
+    every, bare, none = 0, 0, set()
+    for file in glob.glob("crates/*/src/**/*.rt", recursive=True):
+        crate = file.split("/")[1]
+        if crate.endswith("_trials"):
+            continue
+        owner = ""
+        for part in re.split(r"(?=\bfn \w+)|(?=^impl\b)|(?=^\}$)", re.sub(r"//.*", "", text_of(file)), flags=re.M):
+            if part.startswith("impl"):
+                owner = part[: part.index("{")].strip()
+            elif part.startswith("}"):
+                owner = ""
+            elif part.startswith("fn "):
+                every += 1
+                if not re.search(r"^\s*ensures\b", part, re.M):
+                    bare += 1
+                    of_type = re.fullmatch(r"impl(?:<.*?>)? (\w+).*", owner, re.S)
+                    name = re.match(r"fn (\w+)", part)[1]
+                    if " for " not in owner:
+                        none.add((crate, f"{of_type[1]}::{name}" if of_type else name))
+    said = {(names(row["Crate"])[0], names(row["Function"])[0]) for row in rows(section)}
+    DIFFERENCES.extend(f"docs/PROOFS.md: {crate}: {name} has a contract, or is missing there" for crate, name in sorted(said ^ none))
+    counts = f"{bare} of the {every} functions"
+    if counts not in section:
+        DIFFERENCES.append(f"docs/PROOFS.md: {counts} have no clause of their own")
+    if f"the program's {every} functions" not in " ".join(readme.split()):
+        DIFFERENCES.append(f"README.md: the program has {every} functions")
 
 
 def texts_of_faults(section):
@@ -130,6 +169,12 @@ def texts_of_faults(section):
         texts |= {text.replace("{0}", "N") for text in re.findall(r'#\[error\("(.*?)"\)\]', text_of(file))}
     told = set(names(section[section.index("A fault is") :].split(". ")[0])) - {"bactool: "}
     DIFFERENCES.extend(f"docs/PROTOCOL.md: the fault {text} is told in one place alone" for text in sorted(told ^ (texts - {"N"})))
+
+
+def scripts_of_the_guide(section):
+    said = {names(row["Script"])[0] for row in rows(section)}
+    there = {os.path.basename(file) for file in glob.glob("examples/*.sh")} - {"demo.sh", "free-port.sh"}
+    DIFFERENCES.extend(f"docs/GUIDE.md: the table of scripts and examples/ differ in {name}" for name in sorted(said ^ there))
 
 
 def links_and_lines():
@@ -154,9 +199,13 @@ def main():
     parts = sections(text_of("docs/CODE.md"))
     map_of_crates(parts)
     map_beside_the_crates(parts["Beside the crates"])
+    heads_of_sources()
     names_of_proofs(text_of("docs/PROOFS.md"))
-    what_stands_twice(text_of("README.md"), sections(text_of("docs/PROOFS.md")))
+    proofs = sections(text_of("docs/PROOFS.md"))
+    what_stands_twice(text_of("README.md"), proofs)
+    functions_without_a_contract(text_of("README.md"), proofs["Functions without a clause"])
     texts_of_faults(sections(text_of("docs/PROTOCOL.md"))["Statuses and faults"])
+    scripts_of_the_guide(sections(text_of("docs/GUIDE.md"))["Which script does what"])
     links_and_lines()
     print("\n".join(DIFFERENCES) or "the documents agree with the tree")
     return 1 if DIFFERENCES else 0

@@ -73,7 +73,7 @@ FAILED=3 LD_PRELOAD=$room/fail.so "$program" bactrace <"$room/input" >"$room/out
 [ "$(cat "$room/failed"),$status" = read,3 ] || wrong "a last line without its line feed: $(cat "$room/failed"), status $status"
 head -n 1 "$room/whole" | cmp -s - "$room/output" || wrong "a last line without its line feed: output"
 : >"$room/input"
-silent="--mac 127.0.0.1:$port --apdu-timeout 20"
+silent="--mac 127.0.0.1:$port --apdu-timeout 7"
 in_turn 1 bacrp 1234 0 5 85 $silent --apdu-retries 1
 in_turn 1 bacwp 1234 1 1 85 8 -1 4 41a00000 $silent --apdu-retries 0
 in_turn 1 bacwi $silent
@@ -90,11 +90,18 @@ each() {
     EACH=1 LD_PRELOAD=$room/fail.so "$program" "$@" <"$room/input" >"$room/output" 2>"$room/error" 3>"$room/calls" || true
     [ "$(cat "$room/calls")" = "$wanted" ] || wrong "$*: $(cat "$room/calls")"
 }
-each 'socket bind sendto setsockopt 20000 recvfrom write ' bacrp 1234 0 5 85 $silent --apdu-retries 0
-each 'socket bind sendto setsockopt 20000 recvfrom sendto recvfrom write ' bacwp 1234 1 1 85 8 -1 4 41a00000 $silent --apdu-retries 1
-each 'socket bind sendto setsockopt 20000 recvfrom ' bacwi $silent
+each 'socket bind sendto setsockopt 7000 recvfrom write ' bacrp 1234 0 5 85 $silent --apdu-retries 0
+each 'socket bind sendto setsockopt 7000 recvfrom sendto recvfrom write ' bacwp 1234 1 1 85 8 -1 4 41a00000 $silent --apdu-retries 1
+each 'socket bind sendto setsockopt 7000 recvfrom ' bacwi $silent
 each 'read ' bactrace
 each 'tell ' bacrp 1234 0 5 85 --mac 1.2.3
+
+# A device waits for a second at a time, and ends where it can't receive: its fourth call, after those that open the socket and set its wait.
+status=0
+timeout 10 env EACH=1 FAILED=4 LD_PRELOAD="$room/fail.so" "$program" bacdev 1234 --port "$port" --count 1 \
+    >"$room/output" 2>"$room/error" 3>"$room/calls" || status=$?
+[ "$(cat "$room/calls" "$room/error"),$status" = "socket bind setsockopt 1000000 recvfrom recvfromtell $(line_of recvfrom),3" ] ||
+    wrong "bacdev: $(cat "$room/calls"), status $status"
 
 # A device loses the reply that it can't send, and answers the next request. It opens its socket and sets its wait by three calls, then each
 # turn is a receive and a send.

@@ -33,6 +33,9 @@ doc=/usr/share/doc/bactool
 for file in /usr/share/man/man7/bactool-numbers.7.gz $doc/README.md $doc/docs/GUIDE.md $doc/docs/NUMBERS.md $doc/examples/poll.sh; do
     grep -qx "$file" "$root/tmp/demo/files" || { echo "not there: $file"; exit 1; }
 done
+# From 4290999a to 72.3, as the page says.
+line=$(gzip -dc "$root/usr/share/man/man1/bacrp.1.gz" | sed -n 's|^\$ \(\. /.*/reals\.sh\)$|\1|p')
+[ "$(chroot "$root" sh -c "$line"'; from_real 4290999a')" = 72.3 ] || { echo "not as the page of bacrp says: $line"; exit 1; }
 chroot "$root" bacdev --help | head -n 1
 chroot "$root" dpkg -P bactool
 [ -z "$(find "$root/usr" -name '*bactool*')" ] || { echo "left behind"; exit 1; }

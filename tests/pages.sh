@@ -1,6 +1,7 @@
 #!/usr/bin/env bash
 # Compares the manual pages with the program that they are of: words, options, ranges and defaults with each tool's help, faults with the
-# code's texts, statuses and version with each other. Then mandoc reads them, where it is installed. Usage: tests/pages.sh PROGRAM
+# code's texts, and with help and documents what has to be said twice: statuses, version, the warnings, how a fault is reported. Then mandoc
+# reads them, where it is installed. Usage: tests/pages.sh PROGRAM
 set -euo pipefail
 program=$(realpath "$1")
 cd "$(dirname "$0")/.."
@@ -117,6 +118,38 @@ for tool in $tools; do
     fi
 done
 
+# What each status means, docs/PROTOCOL.md says too.
+exit_status bactool | sed -n '/^\.Bl/,/^\.El/p' | awk '/^\.It/ { printf "%s%s", end, $2; end = "\n"; next } /^[^.]/ { printf " %s", $0 } END { print "" }' \
+    >"$room/meanings in man bactool"
+sed -n '/^## Statuses and faults/,$s/^| \([0-9]\) | \(.*\) |$/\1 \2/p' docs/PROTOCOL.md >"$room/meanings in PROTOCOL.md"
+same 'meanings of statuses' 'meanings in man bactool' 'meanings in PROTOCOL.md'
+
+# says TEXT COMMAND..: what a command prints has the text, however its lines break; marks of pages and documents are left out.
+says() {
+    "${@:2}" | sed 's/^\.[A-Z][a-z] //; s/ :$/:/; s/\*\*//g; s/^- //' | tr -s ' \n' ' ' | grep -qiF -- "$1" || wrong "'${*:2}' does not say: $1"
+}
+# What a fixed port may bring, in help and page.
+for tool in bacrp bacwp bacwi; do
+    "$program" $tool --help | sed -n '/^ *--port/,/^$/p' | tr -s ' \n' ' ' | sed 's/.*; at a fixed/at a fixed/; s/ \(-h\|--help\).*//; s/ *$//' \
+        >"$room/warning of $tool"
+    [ -s "$room/warning of $tool" ] || wrong "help of $tool says nothing of a fixed port"
+    says "$(cat "$room/warning of $tool")" cat man/$tool.1
+done
+# After a write that failed, and where a fault goes.
+doubt='After any status but 0, and after Ctrl-C, the write may have been made: read the property back.'
+says "$doubt" "$program" bacwp --help
+says "$doubt" cat man/bacwp.1
+for document in SECURITY.md docs/GUIDE.md; do
+    says 'After any status but 0 of `bacwp`, and after Ctrl-C, the write may have been made: read the p' cat $document
+done
+report=$(awk '/^\.Sh/ { inside = /BUGS/; next } inside' man/bactool.1 | tr '\n' ' ')
+says "${report% }" cat SECURITY.md
+
+# The lines of a script: help and page have the same first words.
+"$program" bactrace --help | sed -n '/^Lines of a script/,/^A line/s/^  \([a-z]*\) [A-Z].*/\1/p' | sort >"$room/lines in help"
+sed -n '/^\.Sh DESCRIPTION/,/^\.Sh EXIT/s/^\.It Li \([a-z]*\) Ar.*/\1/p' man/bactrace.1 | sort >"$room/lines in man bactrace"
+same 'lines of a script' 'lines in help' 'lines in man bactrace'
+
 # Each text of a fault in the code is in the page.
 grep -rhoE '#\[error\("[a-z][^"]*"' crates/*/src | sed 's/.*"\([^"]*\)"/\1/; s/{0}/N/' | sort -u >"$room/faults of the code"
 awk '/^\.Sh/ { inside = /DIAGNOSTICS/ } /^\.Pp/ { inside = 0 } inside && /^\.It/ {
@@ -135,6 +168,7 @@ done
 changes=$(sed -n 's/^## \([0-9][0-9.]*\).*/\1/p' CHANGELOG.md | head -n 1)
 version=$(packaging/version.sh "$program")
 [ "$version" = "$changes" ] || wrong "the program is $version, and CHANGELOG.md has $changes"
+grep -q "/bactool_${version}_" README.md || wrong "README.md installs another version than $version"
 
 if command -v mandoc >/dev/null; then
     (cd man && mandoc -Tlint ./*.[17]) || wrong "mandoc finds fault with the pages"

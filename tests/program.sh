@@ -57,7 +57,7 @@ read='read 127.0.0.1:47808 0 5 85\n'
 
 # Help, all ways to ask for it, and no words.
 for words in --help -h help; do
-    expect 0 "bactool 0.2.0: reads and writes properties*Usage: bactool *" '' tool $words
+    expect 0 "bactool 0.3.0: reads and writes properties*Usage: bactool *" '' tool $words
 done
 for name in bacrp bacwp bacwi bacdev bactrace; do
     expect 0 "*Usage: bactool $name*$line" '' tool $name --help

@@ -1,7 +1,8 @@
 #!/usr/bin/env python3
 """Runs the scripts and the command lines of tests/rows/ by the built program, and compares what it prints and how it ends.
 
-Usage: tests/rows.py PROGRAM. Each script is run twice: whole, and with one octet at each read, which needs cc.
+Usage: tests/rows.py PROGRAM [FILE..]: all that there is, or the rows of these files alone. Each script is run twice: whole, and with one octet
+at each read, which needs cc.
 
 Rows are parted by blank lines. The mark at the front of a line says what the rest of it is:
 
@@ -220,9 +221,10 @@ def tell(case, ending, how):
     print(f"    came:   status {ending.status}, error {ending.error[:300]!a}, output from {start} on {came!a}")
 
 
-def main(program):
-    rows = [case for path in sorted(glob.glob(os.path.relpath(HERE) + "/rows/*.rows")) for case in row_cases(path)]
-    cases = [*rows, *answers_under_each_number(), *damaged_answers(), errors_under_other_tags(), *full_tables(), open_number(), retries()]
+def main(program, files):
+    rows = [case for path in files or sorted(glob.glob(os.path.relpath(HERE) + "/rows/*.rows")) for case in row_cases(path)]
+    more = [*answers_under_each_number(), *damaged_answers(), errors_under_other_tags(), *full_tables(), open_number(), retries()]
+    cases = rows if files else [*rows, *more]
     scripts = [case for case in cases if case.words == ["bactrace"]]
     wrong, texts = set(), {}
     with tempfile.TemporaryDirectory() as room, ThreadPoolExecutor() as pool:
@@ -243,4 +245,4 @@ def main(program):
 
 
 if __name__ == "__main__":
-    sys.exit(main(os.path.abspath(sys.argv[1])) if len(sys.argv) == 2 else __doc__)
+    sys.exit(main(os.path.abspath(sys.argv[1]), sys.argv[2:]) if len(sys.argv) > 1 else __doc__)

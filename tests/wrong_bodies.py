@@ -11,11 +11,11 @@ A wrong body is a file NAME.edit in crates/CRATE/must-fail or crates/CRATE/wrong
     answer: TEXT    only an answer refuses this body, and TEXT says why it is kept all the same
     hole: TEXT      no contract can refuse this body: TEXT says why, and names the file of the test that does. It must be proved
 
-The bodies of a crate stand together in one copy of it, over the proofs that its last check or build kept: a caller is proved from the contracts of
-what it calls, which no edit changes. Bodies of one function, and of functions that call one another, go into different rounds. What is refused for
-nothing but a callee is tried again. A function that no edit touches must stay proved, but for its callees, and so must one with a twin. An edit of a
-constant or a type may stand in must-fail alone, and is left to `rt must-fail`, since each would need a check of the whole crate. A body is refused
-by a
+Many bodies of a crate stand together in one copy of it, over the proofs that its last check or build kept: a caller is proved from the contracts of
+what it calls, which no edit changes. Bodies of one function, and of functions that call one another, go into different rounds, which are about as
+large as one another and go side by side. What is refused for nothing but a callee, or was not tried since a callee was not, is tried again. A
+function that no edit touches must stay proved, but for its callees, and so must one with a twin. An edit of a constant or a type may stand in
+must-fail alone, and is left to `rt must-fail`, since each would need a check of the whole crate. A body is refused by a
 
     clause  of the function, or its type's invariant; false: there are values at which it does not hold; open: no proof is found; limit: none in time
     safety  a callee's `requires`, an index, a sum, a cast
@@ -28,20 +28,24 @@ its twin is proved or a line says why), and each twin and each known hole is pro
 import argparse
 import collections
 import concurrent.futures
+import contextlib
 import functools
 import glob
 import os
 import re
 import shutil
+import signal
 import subprocess
 import sys
 import tempfile
+import time
 
 ROOT = os.path.dirname(os.path.dirname(os.path.abspath(__file__)))
 KINDS = ["clause", "safety", "step", "name", "PROVED", "bad"]
 STRENGTHS = ["false", "open", "limit"]
 # What a check takes of the machine's memory, in MB.
 CHECK_MEMORY = 3000
+SAMPLE = 10
 # The layout is rt fmt's: a function ends at the first line that is its indent and a bracket.
 HEAD = re.compile(r"( *)(?:pub(?:\([^)]*\))? )?(?:const |unsafe )*fn (\w+)")
 IMPL = re.compile(r"impl(?:<.*?>)? (?:(\w+)(<.*>)? for )?(?:\w+::)*(\w+)")
@@ -49,6 +53,11 @@ CYCLE = re.compile(r" *#\[cycle\((\w+)\)\]")
 # What a check prints of a goal, of an answer, of a function, and of a text that it does not take as a program.
 NOTE = re.compile(r"note: src/\S+ .*not proved.*?\(`(\S+)`\)(.*)")
 ANSWER = re.compile(r"(?:\./)?proofs/(\S+)/\w+\.antt:\d+:\d+: error: (?:`(\S+)`: )?(.*)")
+# What rt ci says of an edit that it refuses for a goal: in the code, or one that an answer searches for.
+TRIED = re.compile(
+    r"(?m)^rt: must-fail (\S+)\.edit: refused, as it must be: "
+    r"(?:note: src/\S+ .*?not proved.*?\(|(?:\./)?proofs/\S+ error: (?=`\S+`: `(?:search|grind|omega)`))`([\w-]+)"
+)
 VERDICT = re.compile(r"fn (\S+): (proved|not proved|no proof|could not tell)(.*)")
 REFUSED = re.compile(r"(?m)^(?:\./)?(src/\S+?):(\d+):\d+: error.*")
 NAMES = re.compile(r"has no field|is not in scope|has no `|was not admitted")
@@ -87,6 +96,22 @@ def functions_of(crate, path, text):
     return [it._replace(symbols=all_of[it.key]) for it in found]
 
 
+class Pair(collections.namedtuple("Pair", "path within old new")):
+    """What an edit replaces in a file, and by what: where a function is named, the first behind its head, else the only one."""
+
+    def places(self, text):
+        head = re.search(rf"\bfn {self.within}\b", text) if self.within else None
+        if self.within:
+            at = text.find(self.old, head.end()) if head else -1
+            return [at] if at >= 0 else []
+        return [it.start() for it in re.finditer(re.escape(self.old), text)]
+
+    def applied(self, text):
+        """This text with the pair in it, or None where what it replaces doesn't stand there once."""
+        places = self.places(text)
+        return text[: places[0]] + self.new + text[places[0] + len(self.old) :] if len(places) == 1 else None
+
+
 class Edit:
     """A wrong body, or the right one that is its twin."""
 
@@ -97,37 +122,36 @@ class Edit:
         for line in text_of(file).split("\n"):
             word, _, text = line.partition(":")
             said[word] = text[1:] if text.startswith(" ") else text
+            if word == "file":
+                said.pop("in", None)
             if word == ("twin" if is_twin else "new"):
-                self.pairs.append((said["file"], *self.spread(said, said[word])))
+                self.pairs.append(Pair(said["file"], said.get("in"), said["old"], said[word]))
         self.has_twin, self.twin, self.hole, self.answer = "twin" in said, None, said.get("hole", ""), said.get("answer", "")
         self.is_unfit = self.unfit()
         self.shown = ", ".join(dict.fromkeys(it.shown for _, it in self.functions))
 
-    def spread(self, said, new):
-        """What the edit replaces, and by what: from the head of the function on, where one is named."""
-        text, old = text_of(f"{ROOT}/crates/{self.crate}/{said['file']}") if "in" in said else "", said["old"]
-        head = re.search(rf"\bfn {said.get('in')}\b", text)
-        front = text[head.start() : max(text.find(old, head.end()), head.start())] if head else ""
-        return front + old, front + new
-
     def unfit(self):
         """Why this edit can't be tried on the code as it stands, or "". Notes the functions that it touches."""
         texts = {}
-        for path, old, new in self.pairs:
+        for pair in self.pairs:
+            path, _, old, new = pair
             if not os.path.isfile(f"{ROOT}/crates/{self.crate}/{path}"):
                 return f"{path} is not there"
             text = texts.get(path) or text_of(f"{ROOT}/crates/{self.crate}/{path}")
-            if text.count(old) != 1:
-                return f"old text stands {text.count(old)} times in {path}"
-            line = text[: text.find(old) + len(old)].count("\n")
+            places = pair.places(text)
+            if len(places) != 1:
+                return f"old text stands {len(places)} times in {path}"
+            line = text[: places[0] + len(old)].count("\n")
             within = [it for it in functions_of(self.crate, path, text) if it.first <= line <= it.last]
+            if pair.within and [it.shown.split("::")[-1] for it in within[-1:]] != [pair.within]:
+                return f"old text doesn't stand in {pair.within} of {path}"
             if old == new or "ghost " in old + new or (within and line < within[-1].body):
                 return f"it changes nothing, or a contract, in {path}"
             if within and within[-1].first not in [it.first for other, it in self.functions if other == path]:
                 self.functions.append((path, within[-1]))
                 self.keys.add(within[-1].key)
             self.is_wide = self.is_wide or not within
-            texts[path] = text.replace(old, new)
+            texts[path] = pair.applied(text)
         if self.is_wide and not self.file.split("/")[-2] == "must-fail":
             return "it is outside a function, and only must-fail may hold such an edit"
         if self.hole and not any(os.path.isfile(f"{ROOT}/{it.strip('`,.')}") for it in self.hole.split()):
@@ -136,11 +160,11 @@ class Edit:
 
     def applied(self, texts):
         """These texts with the edit in them, or None where another edit stands in the way."""
-        for path, old, new in self.pairs:
-            text = texts.get(path) or text_of(f"{ROOT}/crates/{self.crate}/{path}")
-            if text.count(old) != 1:
+        for it in self.pairs:
+            text = it.applied(texts.get(it.path) or text_of(f"{ROOT}/crates/{self.crate}/{it.path}"))
+            if text is None:
                 return None
-            texts = {**texts, path: text.replace(old, new)}
+            texts = {**texts, it.path: text}
         return texts
 
     def touches(self, symbol):
@@ -155,7 +179,7 @@ class Edit:
             self.kind = min((kind for kind, _ in found), key=KINDS.index)
         elif mine and all(row["verdict"] == "proved" or (self.is_twin and row["calls"]) for row in mine):
             self.kind = "PROVED"
-        elif self.tries > 2 or not any(row["calls"] for row in mine):
+        elif self.tries > 2 or not any(row["calls"] or row["waits"] for row in mine):
             self.kind, self.why = "bad", ["no contract was tried: " + "; ".join(row["verdict"] for row in mine)]
 
     def is_well(self):
@@ -176,7 +200,7 @@ def kind_of(goal):
 
 
 def rows_of(said, crate):
-    """What the check says of each function: its verdict, by what it is refused, and whether a callee is not proved."""
+    """What the check says of each function: its verdict, by what it is refused, whether a callee is not proved, and whether one was not tried."""
     rows, found, answers = {}, [], []
     for line in said.split("\n"):
         note, answer, verdict = NOTE.match(line), ANSWER.match(line), VERDICT.match(line)
@@ -190,10 +214,11 @@ def rows_of(said, crate):
             named = re.search(r"did not prove ((?:`\S+`(?:, )?)+)", verdict[3])
             told = {it.split(" ")[0] for _, it in found}
             found += [(kind_of(it), f"{it} open") for it in re.findall(r"`(\S+?)`", named[1] if named else "") if it not in told]
-            rows[verdict[1]] = {"verdict": verdict[2] + verdict[3], "found": found, "calls": bool(re.search("it (calls|passes)", verdict[3]))}
+            calls, waits = bool(re.search("it (calls|passes)", verdict[3])), ": a call of `" in verdict[3]
+            rows[verdict[1]] = {"verdict": verdict[2] + verdict[3], "found": found, "calls": calls, "waits": waits}
             found = []
     for symbol, goal, text in answers if rows else []:
-        row = rows.setdefault(symbol, {"verdict": "not proved", "found": [], "calls": False})
+        row = rows.setdefault(symbol, {"verdict": "not proved", "found": [], "calls": False, "waits": False})
         is_searched = goal and re.match(r"`(search|grind|omega)`", text)
         kind = kind_of(goal) if is_searched else "name" if NAMES.search(text) else "step"
         row["found"].append((kind, f"{goal} open" if is_searched else f"{goal}: {text[:80]}"))
@@ -208,51 +233,79 @@ def crates_below():
     return below
 
 
-class Room:
-    """A copy of a crate and of those below it, with what checks kept of them, in which the crate is edited."""
+def link(source, to):
+    """A second name for a file that nothing writes to, or a copy where the folders are of two file systems."""
+    try:
+        os.link(source, to)
+    except OSError:
+        shutil.copy2(source, to)
 
-    def __init__(self, crate, folder):
-        self.crate, self.folder, self.here, self.seconds, self.edited = crate, folder, f"{folder}/crates/{crate}", 0.0, {}
-        for name in ("crates.txt", "HANDLES"):
-            shutil.copy(f"{ROOT}/{name}", folder)
-        for part in ("src", "specs", "proofs"):
-            for it in crates_below():
-                self.copy(f"{it}/{part}")
-        for it in crates_below()[crate]:
-            self.copy(f"{it}/out/rlib")
 
-    def copy(self, part):
+class Round:
+    """A check of bodies of a crate together, in a copy of the crate and of those below it, with what checks kept of them."""
+
+    running = set()
+
+    def __init__(self, bodies, number, texts, edits):
+        self.bodies, self.crate, self.number, self.texts, self.edits = bodies, bodies.crate, number, texts, edits
+
+    def copy(self, folder, part, by=shutil.copy2):
         if os.path.isdir(f"{ROOT}/crates/{part}"):
-            shutil.copytree(f"{ROOT}/crates/{part}", f"{self.folder}/crates/{part}")
+            shutil.copytree(f"{ROOT}/crates/{part}", f"{folder}/crates/{part}", copy_function=by)
 
-    def check(self, texts):
-        for path in {**self.edited, **texts}:
-            with open(f"{self.here}/{path}", "w", encoding="utf-8") as it:
-                it.write(texts.get(path) or text_of(f"{ROOT}/crates/{self.crate}/{path}"))
-        self.edited = texts
-        # A check keeps what it found of each function in place of what was kept, so that the next would prove again what is right.
-        shutil.rmtree(f"{self.here}/out/incremental", ignore_errors=True)
-        self.copy(f"{self.crate}/out/incremental")
-        with open(f"{self.folder}/said", "w+", encoding="utf-8", errors="replace") as said:
-            ran = subprocess.Popen(["rt", "check", "--jobs", "1"], cwd=self.here, stdin=subprocess.DEVNULL, stdout=said, stderr=subprocess.STDOUT)
-            _, ran.returncode, used = os.wait4(ran.pid, 0)
-            self.seconds += used.ru_utime + used.ru_stime
-            said.seek(0)
-            return said.read()
+    def check(self):
+        """What the check says, and its processor seconds."""
+        with tempfile.TemporaryDirectory(prefix="wrong-bodies-") as folder:
+            for name in ("crates.txt", "HANDLES"):
+                shutil.copy(f"{ROOT}/{name}", folder)
+            for it in crates_below():
+                for part in ("src", "specs", "proofs"):
+                    self.copy(folder, f"{it}/{part}")
+            for it in crates_below()[self.crate] - {self.crate}:
+                self.copy(folder, f"{it}/out/rlib", link)
+            for it in ("rlib", "incremental"):
+                self.copy(folder, f"{self.crate}/out/{it}")
+            here = f"{folder}/crates/{self.crate}"
+            for path, text in self.texts.items():
+                with open(f"{here}/{path}", "w", encoding="utf-8") as it:
+                    it.write(text)
+            with open(f"{folder}/said", "w+", encoding="utf-8", errors="replace") as said:
+                ran = subprocess.Popen(["rt", "check", "--jobs", "1"], cwd=here, stdin=subprocess.DEVNULL, stdout=said, stderr=subprocess.STDOUT)
+                self.running.add(ran.pid)
+                _, ran.returncode, used = os.wait4(ran.pid, 0)
+                self.running.remove(ran.pid)
+                said.seek(0)
+                return said.read(), used.ru_utime + used.ru_stime
+
+
+def joined(round, edit):
+    """This round with the edit in it, or None where it touches a function or a text of another."""
+    texts, keys, group = round
+    more = None if keys & edit.keys else edit.applied(texts)
+    return more and (more, keys | edit.keys, [*group, edit])
 
 
 def rounds_of(edits, are_alone):
-    """The edits in rounds, each with its texts. No two of a round touch one function."""
-    rounds = []
-    for edit in edits:
-        for at, (texts, keys, group) in enumerate([] if are_alone else rounds):
-            more = None if keys & edit.keys else edit.applied(texts)
-            if more:
-                rounds[at] = (more, keys | edit.keys, [*group, edit])
-                break
+    """The edits in rounds, each with its texts. No two of a round touch one function, and the rounds are about as large as one another."""
+    of_key = collections.Counter(key for it in edits for key in it.keys)
+    busy = lambda edit: max((of_key[key] for key in edit.keys), default=0)
+    rounds = [({}, set(), []) for _ in range(max(map(busy, edits), default=0))]
+    for edit in sorted(edits, key=lambda edit: -busy(edit)):
+        smallest = [] if are_alone else sorted(range(len(rounds)), key=lambda at: len(rounds[at][2]))
+        at, more = next(((at, more) for at in smallest for more in [joined(rounds[at], edit)] if more), (None, None))
+        if more:
+            rounds[at] = more
         else:
             rounds.append((edit.applied({}), edit.keys, [edit]))
-    return [(texts, group) for texts, _, group in rounds]
+    return [(texts, group) for texts, _, group in rounds if group]
+
+
+def sample_of(edits):
+    """The first of these edits that one round holds."""
+    round = ({}, set(), [])
+    for edit in edits:
+        round = joined(round, edit) or round
+    return round[2][:SAMPLE]
 
 
 def clauses_of(crate):
@@ -301,40 +354,86 @@ def counted(edits):
     return f"{len(bodies)} wrong bodies: {', '.join(told)}; {sum(it.kind == 'PROVED' for it in twins)} of {len(twins)} twins proved"
 
 
-def try_crate(crate, edits, options):
-    """Tries the edits of a crate, and tells of them. Returns what was refused with no edit in it, and the processor seconds."""
-    strange, count, left, are_alone = [], 0, edits, options.alone
-    bare = clauses_of(crate)
-    with tempfile.TemporaryDirectory(prefix="wrong-bodies-") as folder:
-        room = Room(crate, folder)
-        while left:
-            for texts, group in rounds_of(left, are_alone):
-                said, count = room.check(texts), count + 1
-                strange += judge_round(said, crate, group)
-                bare = {it: symbols for it, symbols in bare.items() if it not in opened_by(rows_of(said, crate), bare)}
-                if options.said:
-                    shutil.copy(f"{folder}/said", f"{options.said}/{crate}-{count}")
-            left = [it for it in left if not it.kind]
-            are_alone = are_alone or any(it.tries > 1 for it in left)
-    lines = [f"{crate}: {counted(edits)}; {count} rounds, {room.seconds:.0f} processor seconds"]
-    if options.clauses:
-        lines.append(f"    {len(bare)} of {len(clauses_of(crate))} clauses of public functions are left open by no body")
-        lines += [f"    no body leaves open {path}: {name}: {clause or 'its clause'}" for path, name, clause in bare]
-    for it in edits:
-        if it.is_well() and (options.goals or it.kind in ("step", "name")):
-            reason = f" ({it.answer or 'its twin is proved'})" if it.kind in ("step", "name") else ""
-            lines.append(f"    {it.name}: {it.kind}{reason}: {'; '.join(it.why)}")
-    print("\n".join(lines), flush=True)
-    return strange, room.seconds
+class Bodies:
+    """The bodies of a crate: those that are left to try, and what came of the others."""
+
+    def __init__(self, crate, edits, options):
+        self.crate, self.edits, self.left, self.options, self.are_alone = crate, edits, edits, options, options.alone
+        self.strange, self.count, self.open, self.seconds, self.bare = [], 0, 0, 0.0, clauses_of(crate)
+
+    def rounds(self):
+        """Rounds of what is left."""
+        found = [Round(self, self.count + at, *it) for at, it in enumerate(rounds_of(self.left, self.are_alone), 1)]
+        self.count, self.open = self.count + len(found), len(found)
+        return found
+
+    def judge(self, round, said, seconds):
+        self.strange += judge_round(said, self.crate, round.edits)
+        self.bare = {it: symbols for it, symbols in self.bare.items() if it not in opened_by(rows_of(said, self.crate), self.bare)}
+        self.seconds, self.open = self.seconds + seconds, self.open - 1
+        if self.options.said:
+            with open(f"{self.options.said}/{self.crate}-{round.number}", "w", encoding="utf-8") as it:
+                it.write(said)
+
+    def further(self):
+        """Once all rounds are back, those that try again what has no kind yet; or where nothing is left, tells of the crate."""
+        if self.open:
+            return []
+        self.left = [it for it in self.left if not it.kind]
+        self.are_alone = self.are_alone or any(it.tries > 1 for it in self.left)
+        if not self.left:
+            self.tell()
+        return self.rounds()
+
+    def tell(self):
+        lines = [f"{self.crate}: {counted(self.edits)}; {self.count} rounds, {self.seconds:.0f} processor seconds"]
+        if self.options.clauses:
+            lines.append(f"    {len(self.bare)} of {len(clauses_of(self.crate))} clauses of public functions are left open by no body")
+            lines += [f"    no body leaves open {path}: {name}: {clause or 'its clause'}" for path, name, clause in self.bare]
+        for it in self.edits:
+            if it.is_well() and (self.options.goals or it.kind in ("step", "name")):
+                reason = f" ({it.answer or 'its twin is proved'})" if it.kind in ("step", "name") else ""
+                lines.append(f"    {it.name}: {it.kind}{reason}: {'; '.join(it.why)}")
+        print("\n".join(lines), flush=True)
+
+
+def try_all(crates, jobs):
+    """Tries the bodies of these crates, the largest rounds first, and prints a line a round."""
+    whole, began, waiting = sum(len(it.edits) for it in crates), time.monotonic(), {}
+    with concurrent.futures.ThreadPoolExecutor(jobs) as pool:
+
+        def begin(rounds):
+            waiting.update((pool.submit(it.check), it) for it in sorted(rounds, key=lambda it: -len(it.edits)))
+
+        try:
+            begin([it for crate in crates for it in crate.rounds()])
+            while waiting:
+                for it in concurrent.futures.wait(waiting, return_when=concurrent.futures.FIRST_COMPLETED).done:
+                    round, (said, seconds) = waiting.pop(it), it.result()
+                    round.bodies.judge(round, said, seconds)
+                    done, passed = sum(bool(edit.kind) for crate in crates for edit in crate.edits), int(time.monotonic() - began)
+                    told = f"{round.crate} round {round.number} of {round.bodies.count}: {counted(round.edits)}"
+                    print(f"{done:3} of {whole}, {passed // 60}:{passed % 60:02}: {told}; {seconds:.0f} processor seconds", flush=True)
+                    begin(round.bodies.further())
+        except BaseException:
+            pool.shutdown(wait=False, cancel_futures=True)
+            for pid in list(Round.running):
+                with contextlib.suppress(ProcessLookupError):
+                    os.kill(pid, signal.SIGTERM)
+            raise
 
 
 def edits_of(crate, options):
-    files = sorted(it for part in ("must-fail", "wrong") for it in glob.glob(f"{ROOT}/crates/{crate}/{part}/*.edit"))
+    parts = [options.folder] if options.folder else ["must-fail", "wrong"]
+    files = (it for part in parts for it in sorted( glob.glob(f"{ROOT}/crates/{crate}/{part}/*.edit")))
     edits = [it for it in (Edit(crate, file) for file in files) if re.search(options.only, it.name)]
     edits = [it for it in edits if it.is_unfit or not it.is_wide]
+    if options.sample and edits and not any(it.is_unfit for it in edits):
+        return sample_of(edits)
     for it in [] if options.no_twins else edits:
         it.twin = Edit(crate, it.file, is_twin=True) if it.has_twin else None
-    return edits + [it.twin for it in edits if it.twin]
+    tried = {name for name, goal in TRIED.findall(text_of(options.tried) if options.tried else "") if kind_of(goal) != "step"}
+    return [it for it in edits if it.name not in tried] + [it.twin for it in edits if it.twin]
 
 
 def strays():
@@ -346,7 +445,7 @@ def strays():
 def usual_jobs():
     """As many checks at a time as there are processors, and memory for."""
     memory = re.search(r"MemAvailable: +(\d+)", text_of("/proc/meminfo")) if os.path.isfile("/proc/meminfo") else None
-    return max(1, min(os.cpu_count() or 1, int(memory[1]) // 1000 // CHECK_MEMORY if memory else 1))
+    return max(1, min(len(os.sched_getaffinity(0)), int(memory[1]) // 1000 // CHECK_MEMORY if memory else 1))
 
 
 def main():
@@ -356,6 +455,9 @@ def main():
     parser.add_argument("--clauses", action="store_true", help="print the clauses of public functions that no body leaves open")
     parser.add_argument("--alone", action="store_true", help="give each body its own check")
     parser.add_argument("--no-twins", action="store_true", help="leave the twins out")
+    parser.add_argument("--sample", action="store_true", help=f"take {SAMPLE} of each crate that one check holds, those of must-fail first, without twins")
+    parser.add_argument("--folder", choices=["must-fail", "wrong"], help="take those of this folder alone")
+    parser.add_argument("--tried", metavar="LOG", help="leave out those that rt ci, which said LOG, refused for a goal of the code")
     parser.add_argument("--only", default="", metavar="PATTERN", help="take the bodies whose CRATE/NAME the pattern is found in")
     parser.add_argument("--jobs", type=int, default=usual_jobs(), metavar="N", help="the checks at a time (%(default)s here)")
     parser.add_argument("--said", metavar="FOLDER", help="keep there what each check says")
@@ -370,22 +472,24 @@ def main():
         for crate, group in tried.items():
             for number, (_, some) in enumerate(rounds_of([it for it in group if not it.is_unfit], options.alone), 1):
                 print("\n".join(f"{crate} round {number}: {it.name.partition('/')[2]}: {it.shown}" for it in some))
-    if options.list or unfit or not edits:
+    if options.list or unfit or not (edits or options.tried):
         print(f"{len(edits)} bodies, of which {len(unfit)} don't fit the code")
         return 1 if unfit or not edits else 0
     unkept = [crate for crate, group in tried.items() if group and not os.path.isdir(f"{ROOT}/crates/{crate}/out/incremental")]
     if unkept:
         print(f"no kept proofs of {', '.join(unkept)}: run `make program` first, or each check proves them from nothing")
         return 2
-    # Crates with the most bodies come first, so that the last ones to end are short.
-    order = sorted((crate for crate in tried if tried[crate]), key=lambda crate: -len(tried[crate]))
-    with concurrent.futures.ThreadPoolExecutor(options.jobs) as pool:
-        came = list(pool.map(lambda crate: try_crate(crate, tried[crate], options), order))
-    failed = [line for strange, _ in came for line in strange]
+    if options.said:
+        os.makedirs(options.said, exist_ok=True)
+    crates = [Bodies(crate, group, options) for crate, group in tried.items() if group]
+    try_all(crates, options.jobs)
+    failed = [line for it in crates for line in it.strange]
     failed += [f"{it.name}: {it.kind}: {'; '.join(it.why)}{' (a known hole)' * bool(it.hole)}" for it in edits if not it.is_well()]
-    print("".join(f"FAILED {it}\n" for it in failed) + f"{counted(edits)}; {sum(it for _, it in came):.0f} processor seconds; {len(failed)} failed")
+    print("".join(f"FAILED {it}\n" for it in failed), end="")
+    print(f"{counted(edits)}; {sum(it.seconds for it in crates):.0f} processor seconds; {len(failed)} failed")
     return 1 if failed else 0
 
 
 if __name__ == "__main__":
+    signal.signal(signal.SIGTERM, lambda number, _: sys.exit(128 + number))
     sys.exit(main())

@@ -1,3 +1,5 @@
+//! The demonstration device.
+
 ghost use Rattle.std.specs.Prelude.{◌≡◌, ◌<◌, ◌+◌, ◌^◌, length, [], IsSome};
 ghost use Rattle.bac_device.specs.Point.{description_of};
 ghost use Rattle.bac_device.specs.Device.{device_after};

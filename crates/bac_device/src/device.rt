@@ -1,4 +1,6 @@
-ghost use Rattle.std.specs.Prelude.{◌≡◌, ◌<◌, ◌≤◌, ◌+◌, [], ◌∷◌, ◌++◌, List, length, map, IfSome, IfOk, IfErr, OnOk, OnErr, Ok, Err, Some, None};
+//! The device: its points, its own properties, and what is held after writes.
+
+ghost use Rattle.std.specs.Prelude.{◌≡◌, ◌<◌, [], ◌∷◌, ◌++◌, List, length, map, IfSome, IfOk, IfErr, OnOk, OnErr, Ok, Err, Some, None};
 ghost use Rattle.std.specs.List.{list_any};
 ghost use Rattle.std.specs.Option.{option_map, option_and_then, option_copied};
 ghost use Rattle.bac_wire.specs.Datum.{datum, IsSound};
@@ -8,7 +10,7 @@ ghost use Rattle.bac_device.specs.Point.{given, same_object};
 ghost use Rattle.bac_device.specs.Places.{Write, NoneTo, write_seen, present, place_at, put as put_write};
 ghost use Rattle.bac_device.specs.Steps.{result_seen};
 ghost use Rattle.bac_device.specs.Property.{property_seen, single, IsSoundProperty};
-ghost use Rattle.bac_device.specs.Device.{Holds, points_of, device_after, standing_at, present_after, place_after, same_name, has_object as has_object_in, has_name as has_name_in, add_point, device_text, device_number, device_property};
+ghost use Rattle.bac_device.specs.Device.{Holds, points_of, device_after, standing_at, present_after, place_after, same_name, add_point, device_text, device_number, device_property};
 ghost use Rattle.bac_device.specs.Reply.{property_of, commanded, with_write};
 
 use crate::failure::Failure;

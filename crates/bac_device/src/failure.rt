@@ -1,3 +1,5 @@
+//! Why a property is not read or written, as an Error says it.
+
 ghost use Rattle.std.specs.Prelude.{◌≡◌};
 ghost use Rattle.bac_device.specs.Failure.{error_class, error_code};
 

@@ -1,4 +1,6 @@
-ghost use Rattle.std.specs.Prelude.{◌≡◌, ◌↔◌, IsSome, IfSome, Some};
+//! The instance and the name of a device.
+
+ghost use Rattle.std.specs.Prelude.{◌≡◌, ◌↔◌, IsSome, IfSome};
 ghost use Rattle.bac_wire.specs.Identifier.{identifier};
 ghost use Rattle.bac_device.specs.Info.{IsInfo};
 ghost use Rattle.bac_device.specs.Device.{device_object, is_device};

@@ -1,3 +1,5 @@
+//! The types of points, and the values that each takes.
+
 ghost use Rattle.std.specs.Prelude.{◌≡◌, ◌^◌, ◌<◌, IsTrue};
 ghost use Rattle.std.specs.Option.{option_map};
 ghost use Rattle.bac_wire.specs.Datum.{datum, IsSound};

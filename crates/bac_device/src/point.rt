@@ -1,3 +1,5 @@
+//! A point: as it is added, and with the sixteen places of its priority array.
+
 ghost use Rattle.std.specs.Prelude.{◌≡◌, [], find, is_some, IfSome};
 ghost use Rattle.std.specs.Option.{option_map, option_copied};
 ghost use Rattle.bac_wire.specs.Identifier.{identifier};

@@ -1,3 +1,5 @@
+//! A write that a device has accepted.
+
 ghost use Rattle.std.specs.Prelude.{◌≤◌};
 
 use bac_wire::ObjectId;

@@ -1,5 +1,5 @@
 -- What the look-ahead says of the events of a call, one event after another.
-use Rattle.std.proofs.Common.{◌≡◌, ℕ, zero, suc, ◌+◌, ◌<◌, ◌≤◌, List, [], ◌∷◌, ◌++◌, flat_map, length, Option, Some, None, Result, Ok, slice_get, true, false, nat_lt, refl, sym, ap, ◌∙◌, arith, append_assoc, inl, inr, subst}
+use Rattle.std.proofs.Common.{◌≡◌, ℕ, zero, suc, ◌-◌, ◌<◌, ◌≤◌, List, [], ◌∷◌, ◌++◌, flat_map, length, Option, Some, None, Result, Ok, slice_get, false, nat_lt, refl, sym, ap, ◌∙◌, arith, inl, inr, subst}
 use Rattle.std.proofs.lemmas.List.{append-nil, length_push, take-append-le}
 use Rattle.std.proofs.lemmas.List.Concat.{flat_map-append}
 use Rattle.std.proofs.lemmas.List.Elements.{All-nil, All-cons, All-append}
@@ -17,8 +17,7 @@ use Rattle.bac_tsm.specs.declared.client.SubmitFault.{SubmitFault}
 use Rattle.bac_tsm.specs.Laws.{AnswersByNumber, state_at, waiting_at}
 use Rattle.bac_tsm.specs.Client.{Client, rules_of, keeping}
 use Rattle.bac_tsm.proofs.Laws.{drop_head, one_step, run_first, run_whole, both_are, looks_back, past_unended, early_unended, early_unsent, quiet_unsent, sent_first, by_number, few_places}
-use Rattle.bac_links.specs.Told.{Sending}
-use Rattle.bac_links.specs.Call.{send_in, sendings, time_then, sent_from, rules_for, service_of, asked, begun_at, end_in, sent_in, IsAccepted}
+use Rattle.bac_links.specs.Call.{post_in, posts, rules_for, service_of, asked, begun_at, end_in, sent_last, IsAccepted}
 use Rattle.bac_links.specs.CallSteps.{ending_in, endings, IsNews, IsAlone, Carries}
 use Rattle.bac_links.specs.declared.ending.Tool.{Tool}
 use Rattle.bac_text.specs.declared.jobs.Call.{Call}
@@ -82,8 +81,8 @@ module _ (tool : Tool) (call : Call) (time : ℕ) where
 endings_sent : (rules : Rules) (events : List Event) (i : ℕ) (a : Accepted) → endings (send_notes rules events i a) ≡ []
 endings_sent rules events i a = grind arith
 
-sendings_ended : (time i : ℕ) (request : Request) (e : Option End) → sendings time (end_notes i request e) ≡ []
-sendings_ended time i request e = grind arith
+posts_ended : (i : ℕ) (request : Request) (e : Option End) → posts (end_notes i request e) ≡ []
+posts_ended i request e = grind arith
 
 -- An end is told at its position.
 told_there : (request : Request) (x : Option End) (y : End) → x ≡ Some y → endings (end_notes y.position request x) ≡ y.outcome ∷ []
@@ -107,15 +106,15 @@ ended_there i request x o e = grind (arith, nat_tests, e)
 abbrev placed : Rules → List Event → ℕ → Accepted → List Note
 placed rules events i a = send_notes rules events i a ++ end_notes i a.request (end rules events a)
 
-sends_placed : (rules : Rules) (events : List Event) (i : ℕ) (a : Accepted) (time : ℕ) → sendings time (placed rules events i a) ≡ sendings time (send_notes rules events i a)
-sends_placed rules events i a time = simp (flat_map-append, sendings_ended, append-nil)
+sends_placed : (rules : Rules) (events : List Event) (i : ℕ) (a : Accepted) → posts (placed rules events i a) ≡ posts (send_notes rules events i a)
+sends_placed rules events i a = simp (flat_map-append, posts_ended, append-nil)
 
 ends_placed : (rules : Rules) (events : List Event) (i : ℕ) (a : Accepted) → endings (placed rules events i a) ≡ endings (end_notes i a.request (end rules events a))
 ends_placed rules events i a = simp (flat_map-append, endings_sent)
 
 -- The sends and the ends that are told at position i are those that are placed there.
 record TellsPlaced (rules : Rules) (events : List Event) (a : Accepted) (i : ℕ) : Type 0 where
-  sends : (time : ℕ) → sendings time (output rules 0 events i) ≡ sendings time (send_notes rules events i a)
+  sends : posts (output rules 0 events i) ≡ posts (send_notes rules events i a)
   ends : endings (output rules 0 events i) ≡ endings (end_notes i a.request (end rules events a))
 
 -- What is read of notes, where nothing is read of a dropped datagram.
@@ -138,31 +137,6 @@ module _ {X : Type 0} (read : Note → List X) (silent : read Dropped ≡ []) wh
           dropped _ ∙ ap (flat_map read) (append-nil _)
           ∙ ap (λ (xs : List Note). flat_map read (xs ++ end_notes i a.request (end rules events a))) (sym (quiet_unsent rules events a i other (ap is_tick e)))
       go (Tick now) news e = ap (flat_map read) (append-nil (placed rules events i a))
-
--- What is sent does not rest on what comes later, if what is told doesn't.
-sent_before : (rules : Rules) (events more : List Event) (a : Accepted) →
-    ((time i : ℕ) → i < length events → sendings time (send_notes rules more i a) ≡ sendings time (send_notes rules events i a)) →
-    (time i : ℕ) (xs : List Event) → i + length xs ≤ length events → sent_from rules more a time i xs ≡ sent_from rules events a time i xs
-sent_before rules events more a same time i [] within = refl
-sent_before rules events more a same time i (x ∷ xs) within =
-    ap (λ (ys : List Sending). ys ++ sent_from rules more a (time_then time x) (suc i) xs) (same (time_then time x) i (omega arith))
-    ∙ ap (λ (ys : List Sending). sendings (time_then time x) (send_notes rules events i a) ++ ys)
-    (sent_before rules events more a same (time_then time x) (suc i) xs (omega arith))
-
--- The time once all of these were handed to a client.
-abbrev time_after : ℕ → List Event → ℕ
-time_after time [] = time
-time_after time (x ∷ xs) = time_after (time_then time x) xs
-
-sent-push : (rules : Rules) (events : List Event) (a : Accepted) (time i : ℕ) (xs : List Event) (event : Event) (n : ℕ) → n ≡ i + length xs →
-    sent_from rules events a time i (xs ++ event ∷ [])
-    ≡ sent_from rules events a time i xs ++ sendings (time_then (time_after time xs) event) (send_notes rules events n a)
-sent-push rules events a time i [] event n e =
-    append-nil _ ∙ ap (λ k. sendings (time_then time event) (send_notes rules events k a)) (let q : i ≡ n = omega arith in q)
-sent-push rules events a time i (x ∷ xs) event n e =
-    ap (λ (ys : List Sending). sendings (time_then time x) (send_notes rules events i a) ++ ys)
-    (sent-push rules events a (time_then time x) (suc i) xs event n (omega arith))
-    ∙ sym (append_assoc (sendings (time_then time x) (send_notes rules events i a)) _ _)
 
 -- ---- a call, event by event
 
@@ -191,7 +165,7 @@ module _ (tool : Tool) (call : Call) (time : ℕ) (later : List Event) (short : 
   told i within =
       let here = drop_head all i within in
       record {
-        sends = λ at. told_at (send_in at) refl i here.0 here.1 ∙ sends_placed (rules_for call) all i (asked tool call) at;
+        sends = told_at post_in refl i here.0 here.1 ∙ sends_placed (rules_for call) all i (asked tool call);
         ends = told_at ending_in refl i here.0 here.1 ∙ ends_placed (rules_for call) all i (asked tool call);
       }
 
@@ -222,25 +196,11 @@ module _ (tool : Tool) (call : Call) (time : ℕ) (later : List Event) (short : 
   same_output i within =
       looks_back (rules_for call) 0 after before i (omega (arith, longer)) within (take-append-le (suc i) before (event ∷ []) (omega arith))
 
-  same_sends : (at i : ℕ) → i < length before →
-      sendings at (send_notes (rules_for call) after i (asked tool call)) ≡ sendings at (send_notes (rules_for call) before i (asked tool call))
-  same_sends at i within =
-      sym ((told tool call time (later ++ event ∷ []) short quiet_after i (omega (arith, longer))).sends at)
-      ∙ ap (sendings at) (same_output i within) ∙ (told tool call time later short quiet i within).sends at
-
   same_ends : (i : ℕ) → i < length before →
       endings (end_notes i (asked tool call).request (end_in tool call after)) ≡ endings (end_notes i (asked tool call).request (end_in tool call before))
   same_ends i within =
       sym (told tool call time (later ++ event ∷ []) short quiet_after i (omega (arith, longer))).ends
       ∙ ap endings (same_output i within) ∙ (told tool call time later short quiet i within).ends
-
-  -- What is sent at the event comes behind what was sent.
-  sends_more : sent_in tool call after
-      ≡ sent_in tool call before ++ sendings (time_then (time_after 0 before) event) (send_notes (rules_for call) after (length before) (asked tool call))
-  sends_more =
-      sent-push (rules_for call) after (asked tool call) 0 0 before event (length before) (omega arith)
-      ∙ ap (λ (xs : List Sending). xs ++ sendings (time_then (time_after 0 before) event) (send_notes (rules_for call) after (length before) (asked tool call)))
-      (sent_before (rules_for call) before after (asked tool call) same_sends 0 0 before (omega arith))
 
   -- The client's step makes of the event what the look-ahead says of it.
   step_is : step (rules_for call) (state_at (rules_for call) 0 before (length before)) event
@@ -251,20 +211,6 @@ module _ (tool : Tool) (call : Call) (time : ℕ) (later : List Event) (short : 
 
   told_last : TellsPlaced (rules_for call) after (asked tool call) (length before)
   told_last = told tool call time (later ++ event ∷ []) short quiet_after (length before) (omega (arith, longer))
-
-  -- A request that has ended is sent no more.
-  pub sends_no_more : (x : End) → end_in tool call before ≡ Some x → sent_in tool call after ≡ sent_in tool call before
-  sends_no_more x e =
-      let within = end_within tool call time later short quiet x e in
-      let over : nat_lt x.position (suc (suc (length later))) ≡ true = grind (arith, nat_tests) in
-      let closed : (state_at (rules_for call) 0 before (length before)).waiting ≡ [] = rw (accepted_is tool call time later short quiet (length later), e, over) refl in
-      let silent = go event news (time_then (time_after 0 before) event) (state_at (rules_for call) 0 before (length before)) closed in
-      sends_more
-      ∙ ap (λ (xs : List Sending). sent_in tool call before ++ xs) (sym (told_last.sends _) ∙ ap (λ s. sendings (time_then (time_after 0 before) event) s.notes) (sym step_is) ∙ silent)
-      ∙ append-nil (sent_in tool call before)
-    where
-      go : (event : Event) → IsNews event → (at : ℕ) (state : State) → state.waiting ≡ [] → sendings at (step (rules_for call) state event).notes ≡ []
-      go event news at state none = grind (arith, none, news)
 
   -- An end stands.
   pub stands : (x : End) → end_in tool call before ≡ Some x → end_in tool call after ≡ Some x
@@ -299,11 +245,10 @@ module _ (tool : Tool) (call : Call) (time : ℕ) (later : List Event) (client :
   told_next = told_last tool call time later far.short far.quiet event news
 
   -- What it sends is what is sent at the event.
-  pub sends_next : sent_in tool call next ≡ sent_in tool call begun ++ sendings (time_then (time_after 0 begun) event) handed.notes
+  pub sends_next : sent_last tool call next ≡ posts handed.notes
   sends_next =
-      sends_more tool call time later far.short far.quiet event news
-      ∙ ap (λ (xs : List Sending). sent_in tool call begun ++ xs)
-      (sym (ap (λ s. sendings (time_then (time_after 0 begun) event) s.notes) handed_is ∙ told_next.sends _))
+      ap (λ (i : ℕ). posts (send_notes (rules_for call) next i (asked tool call))) (let l = length_push begun event in let e : length next - 1 ≡ length begun = omega (arith, l) in e)
+      ∙ sym (ap (λ s. posts s.notes) handed_is ∙ told_next.sends)
 
   ends_told : endings handed.notes ≡ endings (end_notes (length begun) (asked tool call).request (end_in tool call next))
   ends_told = ap (λ s. endings s.notes) handed_is ∙ told_next.ends
@@ -360,7 +305,6 @@ module _ (tool : Tool) (call : Call) (time : ℕ) (short : length call.body.item
         (run_whole (rules_for call) 0 first (by_number call.timeout call.retries) few_places);
   }
 
-  pub begins_sent : sent_in tool call first ≡ sendings time (sent submitted.after 0)
+  pub begins_sent : sent_last tool call first ≡ posts (sent submitted.after 0)
   unfolding refusal_of next_number
-  begins_sent =
-      rw (early_unsent (rules_for call) first (asked tool call) 0 (omega arith), sent_first (rules_for call) first (asked tool call), fitting tool call time short) refl
+  begins_sent = rw (sent_first (rules_for call) first (asked tool call), fitting tool call time short) refl

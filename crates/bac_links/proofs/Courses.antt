@@ -22,12 +22,12 @@ module _ (test : ℕ → Bool) where
   first_is n zero none passes less = absurd (omega arith)
   first_is n (suc m) none passes less = grind (arith, first_is n m, none, passes)
 
-  none_before : (n m : ℕ) → first_below test m ≡ Some n → first_below test n ≡ None
+  pub none_before : (n m : ℕ) → first_below test m ≡ Some n → first_below test n ≡ None
   unfolding first_below
   none_before n zero e = cc
   none_before n (suc m) e = grind (arith, e, none_before n m)
 
-  none_at : (n : ℕ) → first_below test (suc n) ≡ None → test n ≡ false
+  pub none_at : (n : ℕ) → first_below test (suc n) ≡ None → test n ≡ false
   unfolding first_below
   none_at n e = grind (arith, e)
 

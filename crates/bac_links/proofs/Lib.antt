@@ -1,6 +1,10 @@
 mod Courses
+mod Histories
 mod CallEvents
 mod CallTurns
 mod Searches
 mod Servings
 mod Progress
+mod Unheard
+mod Alike
+mod SearchesAlike

@@ -1,7 +1,6 @@
 -- A device that serves, wait by wait.
-use Rattle.std.proofs.Common.{◌≡◌, ℕ, suc, ◌+◌, ◌<◌, ◌≤◌, List, [], ◌∷◌, ◌++◌, length, length-append, Option, Some, None, Ok, Err, refl, sym, ap, ◌∙◌, arith, append_assoc, subst}
-use Rattle.std.specs.Option.{ForSome}
-use Rattle.std.proofs.lemmas.List.{length-map, map-append}
+use Rattle.std.proofs.Common.{◌≡◌, ◌≢◌, ℕ, suc, ◌+◌, ◌<◌, ◌≤◌, List, [], ◌∷◌, ◌++◌, length, length-append, Option, Some, None, Ok, Err, refl, sym, ap, ◌∙◌, arith, append_assoc, subst}
+use Rattle.std.proofs.lemmas.List.{append-nil}
 use Rattle.std.proofs.lemmas.List.Concat.{flat_map-append}
 use Rattle.std.proofs.lemmas.Bool.{le-leb, lt-leb}
 use Rattle.bac_pdu.specs.Peer.{Station}
@@ -14,28 +13,32 @@ use Rattle.bac_device.specs.Turns.{Arrival as Came, AnswersInTurn, replies_to}
 use Rattle.bac_device.proofs.SizeLaws.{introduction_fits, request_fits}
 use Rattle.bac_device.proofs.StateLaws.{in_turn}
 use Rattle.bac_links.specs.Limits.{most_turns, serve_wait}
-use Rattle.bac_links.specs.Told.{Told, Heard, Arrival, Sending, waited, having_sent}
-use Rattle.bac_links.specs.Serve.{Delivery, arrivals_of, delivery_at, brought, deliveries, reply_sendings, sent_for, reply_count, AnswersAll, RepliesFit, serve_hears, all_came, ServesSo, Serves}
+use Rattle.bac_links.specs.Told.{Told, Heard, Silence, Arrival, Failure, Sending, after_wait, waited, having_sent}
+use Rattle.bac_links.specs.History.{Entry, Waited, Unposted, told_after, Foretells, Account, Over}
+use Rattle.bac_links.specs.Serve.{came_by, serve_hears, heards, arrivals_in, reply_entries, serve_entries, reply_count, AnswersAll, RepliesFit, all_came, ServesSo, Serves}
 use Rattle.bac_links.specs.Courses.{first_below, stops_at, GoesOn}
 use Rattle.bac_links.proofs.Courses.{none_yet, one_more, ends_now, fails_now, having_nothing, having_sent-both}
+use Rattle.bac_links.proofs.Histories.{Timely, told_after-append, over_none, over_map, over_on}
 use Rattle.bac_links.specs.ServeSteps.{came_in, replied_in, ServesOne}
 use Rattle.bac_links.specs.declared.serving.Brought.{Brought}
 use Rattle.bac_links.specs.declared.fault.ToolFault.{ToolFault}
 use Rattle.bac_links.specs.declared.fault.ToolFault.TheVariants.{SendFailed, ReceiveFailed, TurnsSpent}
 
 -- A server after n waits, over what the link told: none of them failed, and before each fewer datagrams had come than were asked for.
-pub record ServesOver (t : Told) (link : Option Told) (arrivals : List Came) (replies : List (Option (Station × List ℕ))) (count n : ℕ) : Type 0 where
+pub record ServesOver (t : Told) (gained : List Entry) (arrivals : List Came) (replies : List (Option (Station × List ℕ))) (count n : ℕ) : Type 0 where
   pub passed : first_below (stops_at (serve_hears t) (all_came count t)) n ≡ None
-  pub so : ServesSo t link arrivals replies n
+  pub so : ServesSo t gained arrivals replies n
+  pub sent : List Sending
+  pub left : told_after gained t ≡ having_sent sent (waited serve_wait n t)
 
 -- A server after n waits.
-pub record ServeGoes (before device : DeviceState) (told link : Option Told) (count came replied n : ℕ) : Type 0 where
+pub record ServeGoes (before device : DeviceState) (told link : Account) (count came replied n : ℕ) : Type 0 where
   pub arrivals : List Came
   pub replies : List (Option (Station × List ℕ))
   pub in_turn : AnswersInTurn before arrivals replies device
   pub came_is : came ≡ length arrivals
   pub replied_is : replied ≡ reply_count replies
-  pub so_far : ForSome told (λ t. ServesOver t link arrivals replies count n)
+  pub so_far : Over told link (λ gained t. ServesOver t gained arrivals replies count n)
 
 -- ---- datagrams one after another
 
@@ -65,58 +68,95 @@ defined before after xs rs turns = λ writes holds.
     let these = in_turn before xs rs after writes turns holds in
     (these, subst (RepliesFit xs) (sym these.replied) (replies_fit before.info (points_of before) writes xs))
 
-sent_for-append : (xs ys : List Delivery) (rs ss : List (Option (Station × List ℕ))) → length xs ≡ length rs →
-    sent_for (xs ++ ys) (rs ++ ss) ≡ sent_for xs rs ++ sent_for ys ss
-sent_for-append [] ys [] ss e = refl
-sent_for-append (x ∷ xs) ys (r ∷ rs) ss e =
-    ap (λ (zs : List Sending). reply_sendings x.time r ++ zs) (sent_for-append xs ys rs ss (omega (arith, e)))
-    ∙ sym (append_assoc (reply_sendings x.time r) (sent_for xs rs) (sent_for ys ss))
-sent_for-append _ ys _ ss e = absurd (omega (arith, e))
+entries-append : (xs ys : List Heard) (rs ss : List (Option (Station × List ℕ))) → length (arrivals_in xs) ≡ length rs →
+    serve_entries (xs ++ ys) (rs ++ ss) ≡ serve_entries xs rs ++ serve_entries ys ss
+entries-append [] ys [] ss e = refl
+entries-append (Arrival from octets ∷ xs) ys (r ∷ rs) ss e =
+    ap (λ (zs : List Entry). Waited serve_wait (Arrival from octets) ∷ (reply_entries r ++ zs)) (entries-append xs ys rs ss (omega (arith, e)))
+    ∙ ap (λ (zs : List Entry). Waited serve_wait (Arrival from octets) ∷ zs) (sym (append_assoc (reply_entries r) (serve_entries xs rs) (serve_entries ys ss)))
+entries-append (Silence ∷ xs) ys rs ss e = ap (λ (zs : List Entry). Waited serve_wait Silence ∷ zs) (entries-append xs ys rs ss e)
+entries-append (Failure ∷ xs) ys rs ss e = ap (λ (zs : List Entry). Waited serve_wait Failure ∷ zs) (entries-append xs ys rs ss e)
+entries-append _ ys _ ss e = absurd (omega (arith, e))
+
+arrivals-push : (xs : List Heard) (heard : Heard) → arrivals_in xs ++ came_by heard ≡ arrivals_in (xs ++ heard ∷ [])
+arrivals-push xs heard = simp (flat_map-append, append-nil)
 
 count-append : (rs ss : List (Option (Station × List ℕ))) → reply_count (rs ++ ss) ≡ reply_count rs + reply_count ss
 count-append rs ss = simp (flat_map-append, length-append)
 
 -- ---- a wait
 
--- One reply is one send.
-one_lost : (time : ℕ) (heard : Heard) (reply : Station × List ℕ) → length (arrivals_of (delivery_at time heard)) ≡ 1 →
-    (lost : Sending) × (sent_for (delivery_at time heard) (Some reply ∷ []) ≡ lost ∷ [])
-one_lost time (Arrival from octets) reply e = (record { time = time; to = reply.0; octets = reply.1 }, refl)
-one_lost time _ reply e = absurd (omega (arith, e))
+one_came : (heard : Heard) → length (came_by heard) ≡ 1 → (last : Came) × (came_by heard ≡ last ∷ [])
+one_came (Arrival from octets) e = (_, refl)
+one_came _ e = absurd (omega (arith, e))
 
-pub serves_none : (device : DeviceState) (told : Option Told) (count : ℕ) → ServeGoes device device told told count 0 0 0
+-- Of what was foretold, a wait and its reply leave what comes after the wait.
+one_left : (heard : Heard) (replies : List (Option (Station × List ℕ))) (sent : List Sending) (t : Told) → length (came_by heard) ≡ length replies →
+    (all : List Sending) × (told_after (serve_entries (heard ∷ []) replies) (having_sent sent t) ≡ having_sent all (after_wait serve_wait t))
+one_left (Arrival from octets) (None ∷ replies) sent t e = (sent, refl)
+one_left (Arrival from octets) (Some reply ∷ replies) sent t e = (_, having_sent-both (after_wait serve_wait t) sent _)
+one_left Silence replies sent t e = (sent, refl)
+one_left Failure replies sent t e = (sent, refl)
+one_left _ _ sent t e = absurd (omega (arith, e))
+
+one_heard : (heard : Heard) (replies : List (Option (Station × List ℕ))) (t : Told) → length (came_by heard) ≡ length replies →
+    Foretells (serve_entries (heard ∷ []) replies) t → t.heard [] serve_wait ≡ heard
+one_heard (Arrival from octets) (reply ∷ replies) t e f = f.0
+one_heard Silence replies t e f = f.0
+one_heard Failure replies t e f = f.0
+one_heard _ _ t e f = absurd (omega (arith, e))
+
+one_timely : (heard : Heard) (replies : List (Option (Station × List ℕ))) (now : ℕ) → Timely (serve_entries (heard ∷ []) replies) now
+one_timely (Arrival from octets) [] now = tt
+one_timely (Arrival from octets) (None ∷ replies) now = (now, tt)
+one_timely (Arrival from octets) (Some reply ∷ replies) now = (now, tt)
+one_timely Silence replies now = (now, tt)
+one_timely Failure replies now = (now, tt)
+
+pub serves_none : (device : DeviceState) (told : Account) (count : ℕ) → ServeGoes device device told told count 0 0 0
 serves_none device told count = record {
   arrivals = [];
   replies = [];
   in_turn = refl;
   came_is = refl;
   replied_is = refl;
-  so_far = λ t e. record {
+  so_far = over_none told _ (λ t. record {
     passed = none_yet (stops_at (serve_hears t) (all_came count t));
-    so = record { came = refl; link_left = e ∙ ap Some (having_nothing t) };
-  };
+    so = record { came = refl; history = refl };
+    sent = [];
+    left = having_nothing t;
+  });
 }
 
-module _ (before device : DeviceState) (told mid : Option Told) (count came replied n : ℕ) (goes : ServeGoes before device told mid count came replied n) where
-  -- Over what the link told.
-  module _ (t : Told) (e : told ≡ Some t) where
-    far : ServesOver t mid goes.arrivals goes.replies count n
-    far = goes.so_far t e
-
-    came_is : length (deliveries t n) ≡ came
-    came_is = sym (goes.came_is ∙ ap length far.so.came ∙ length-map (deliveries t n) (λ d. d.arrival))
+module _ (before device : DeviceState) (told mid : Account) (count came replied n : ℕ) (goes : ServeGoes before device told mid count came replied n) where
+  -- Over what was foretold.
+  module _ (gained : List Entry) (t : Told) (far : ServesOver t gained goes.arrivals goes.replies count n) where
+    came_is : length (arrivals_in (heards t n)) ≡ came
+    came_is = sym (goes.came_is ∙ ap length far.so.came)
 
     waits_on : came < count → GoesOn (serve_hears t) (all_came count t) n
-    waits_on fewer = record { passed = far.passed; unended = lt-leb count (length (deliveries t n)) (omega (arith, fewer, came_is)) }
+    waits_on fewer = record { passed = far.passed; unended = lt-leb count (length (arrivals_in (heards t n))) (omega (arith, fewer, came_is)) }
 
-    came_next : (more : List Came) → more ≡ arrivals_of (brought (waited serve_wait n t)) → goes.arrivals ++ more ≡ arrivals_of (deliveries t (suc n))
-    came_next more brings = rw (far.so.came, brings) (sym (map-append (λ d. d.arrival) (deliveries t n) (brought (waited serve_wait n t))))
+    hears_so : (heard : Heard) → (told_after gained t).heard [] serve_wait ≡ heard → serve_hears t n ≡ heard
+    hears_so heard f = sym (ap (λ (l : Told). l.heard [] serve_wait) far.left) ∙ f
 
-    sent_next : (answers : List (Option (Station × List ℕ))) →
-        sent_for (deliveries t (suc n)) (goes.replies ++ answers) ≡ sent_for (deliveries t n) goes.replies ++ sent_for (brought (waited serve_wait n t)) answers
-    sent_next answers =
-        sent_for-append (deliveries t n) (brought (waited serve_wait n t)) goes.replies answers
+    came_next : (heard : Heard) → serve_hears t n ≡ heard → goes.arrivals ++ came_by heard ≡ arrivals_in (heards t (suc n))
+    came_next heard e =
+        ap (λ (xs : List Came). xs ++ came_by heard) far.so.came ∙ ap (λ (h : Heard). arrivals_in (heards t n) ++ came_by h) (sym e)
+        ∙ arrivals-push (heards t n) (serve_hears t n)
+
+    entries_next : (answers : List (Option (Station × List ℕ))) → serve_entries (heards t (suc n)) (goes.replies ++ answers)
+        ≡ serve_entries (heards t n) goes.replies ++ serve_entries (serve_hears t n ∷ []) answers
+    entries_next answers =
+        entries-append (heards t n) (serve_hears t n ∷ []) goes.replies answers
         (came_is ∙ goes.came_is ∙ same_length before device goes.arrivals goes.replies goes.in_turn)
+
+    -- What was gained, and what the wait brings behind it.
+    behind : (more : Heard → List Entry) (heard : Heard) → serve_hears t n ≡ heard →
+        gained ++ more heard ≡ serve_entries (heards t n) goes.replies ++ more (serve_hears t n)
+    behind more heard e =
+        ap (λ (xs : List Entry). xs ++ more heard) far.so.history
+        ∙ ap (λ (h : Heard). serve_entries (heards t n) goes.replies ++ more h) (sym e)
 
   pub serve_done : came ≡ count → n ≤ most_turns → Serves count before device told mid (Ok replied)
   serve_done all within = (
@@ -126,9 +166,9 @@ module _ (before device : DeviceState) (told mid : Option Told) (count came repl
     (
       sym goes.came_is ∙ all,
       goes.replied_is,
-      λ t e.
-          let enough = le-leb count (length (deliveries t n)) (omega (arith, all, came_is t e)) in
-          (n, record { stops = ends_now (serve_hears t) (all_came count t) n (far t e).passed enough within; so = (far t e).so }),
+      over_map told mid _ _ goes.so_far (λ gained t far.
+          let enough = le-leb count (length (arrivals_in (heards t n))) (omega (arith, all, came_is gained t far)) in
+          (n, record { stops = ends_now (serve_hears t) (all_came count t) n far.passed enough within; so = far.so })),
     ),
   )
 
@@ -137,60 +177,71 @@ module _ (before device : DeviceState) (told mid : Option Told) (count came repl
     goes.arrivals,
     goes.replies,
     defined before device goes.arrivals goes.replies goes.in_turn,
-    (rw (← goes.came_is) fewer, λ t e. (n, record { all = all; before = waits_on t e fewer; so = (far t e).so })),
+    (rw (← goes.came_is) fewer, over_map told mid _ _ goes.so_far (λ gained t far. (n, record { all = all; before = waits_on gained t far fewer; so = far.so }))),
   )
 
-  pub serve_on : (after : DeviceState) (left : Option Told) → came < count → (brings : Brought) → ServesOne device after mid left (Ok brings) →
+  pub serve_on : (after : DeviceState) (left : Account) → came < count → (brings : Brought) → ServesOne device after mid left (Ok brings) →
       ServeGoes before after told left count (came + came_in brings) (replied + replied_in brings) (suc n)
-  serve_on after left fewer brings one = record {
-    arrivals = goes.arrivals ++ one.0;
-    replies = goes.replies ++ one.1;
-    in_turn = turns-append before device after goes.arrivals one.0 goes.replies one.1 goes.in_turn one.2;
-    came_is = rw (goes.came_is, one.3) (sym (length-append goes.arrivals one.0));
-    replied_is = rw (goes.replied_is, one.4) (sym (count-append goes.replies one.1));
-    so_far = λ t e.
-        let heard = one.5 _ (far t e).so.link_left in
-        record {
-          passed = one_more (serve_hears t) (all_came count t) n (waits_on t e fewer) heard.0;
-          so = record {
-            came = came_next t e one.0 heard.1;
-            link_left =
-                heard.2 ∙ ap Some (having_sent-both (waited serve_wait (suc n) t) (sent_for (deliveries t n) goes.replies) _)
-                ∙ ap (λ (xs : List Sending). Some (having_sent xs (waited serve_wait (suc n) t))) (sym (sent_next t e one.1));
-          };
-        };
-  }
+  serve_on after left fewer brings one =
+      let as_many = same_length device after (came_by one.0) one.1 one.2 in
+      record {
+        arrivals = goes.arrivals ++ came_by one.0;
+        replies = goes.replies ++ one.1;
+        in_turn = turns-append before device after goes.arrivals (came_by one.0) goes.replies one.1 goes.in_turn one.2;
+        came_is = rw (goes.came_is, one.4) (sym (length-append goes.arrivals (came_by one.0)));
+        replied_is = rw (goes.replied_is, one.5) (sym (count-append goes.replies one.1));
+        so_far = over_on told mid left _ _ goes.so_far (serve_entries (one.0 ∷ []) one.1) one.6 (one_timely one.0 one.1) (λ gained t far f.
+            let e = hears_so gained t far one.0 (one_heard one.0 one.1 _ as_many f) in
+            let next = one_left one.0 one.1 far.sent (waited serve_wait n t) as_many in
+            record {
+              passed = one_more (serve_hears t) (all_came count t) n (waits_on gained t far fewer) (subst (λ (h : Heard). h ≢ Failure) (sym e) one.3);
+              so = record {
+                came = came_next gained t far one.0 e;
+                history = behind gained t far (λ h. serve_entries (h ∷ []) one.1) one.0 e ∙ sym (entries_next gained t far one.1);
+              };
+              sent = next.0;
+              left =
+                  told_after-append gained (serve_entries (one.0 ∷ []) one.1) t ∙ ap (told_after (serve_entries (one.0 ∷ []) one.1)) far.left
+                  ∙ next.1;
+            });
+      }
 
-  pub serve_fails : (after : DeviceState) (left : Option Told) → n < most_turns → came < count → (fault : ToolFault)
+  pub serve_fails : (after : DeviceState) (left : Account) → n < most_turns → came < count → (fault : ToolFault)
       → ServesOne device after mid left (Err fault) → Serves count before after told left (Err fault)
   serve_fails after left within fewer SendFailed one = (
-    goes.arrivals ++ one.0,
+    goes.arrivals ++ came_by one.0,
     goes.replies ++ Some one.1 ∷ [],
-    defined before after (goes.arrivals ++ one.0) (goes.replies ++ Some one.1 ∷ [])
-        (turns-append before device after goes.arrivals one.0 goes.replies (Some one.1 ∷ []) goes.in_turn one.2),
-    λ t e.
-        let heard = one.3 _ (far t e).so.link_left in
-        let single = ap length (sym heard.1) ∙ same_length device after one.0 (Some one.1 ∷ []) one.2 in
-        let lost = one_lost ((waited serve_wait n t).time (serve_wait ∷ [])) (serve_hears t n) one.1 single in (
+    defined before after (goes.arrivals ++ came_by one.0) (goes.replies ++ Some one.1 ∷ [])
+        (turns-append before device after goes.arrivals (came_by one.0) goes.replies (Some one.1 ∷ []) goes.in_turn one.2),
+    over_on told mid left _ _ goes.so_far (Waited serve_wait one.0 ∷ Unposted one.1.0 one.1.1 ∷ []) one.4 (λ now. (now, tt)) (λ gained t far f.
+        let e = hears_so gained t far one.0 f.0 in
+        let last = one_came one.0 (same_length device after (came_by one.0) (Some one.1 ∷ []) one.2) in (
           n,
           record {
             within = within;
-            before = waits_on t e fewer;
-            received = heard.0;
-            came = came_next t e one.0 heard.1;
-            made = sent_for (deliveries t n) goes.replies;
-            lost = lost.0;
-            owed = sent_next t e (Some one.1 ∷ []) ∙ ap (λ (xs : List Sending). sent_for (deliveries t n) goes.replies ++ xs) lost.1;
-            link_left = heard.2;
+            before = waits_on gained t far fewer;
+            last = last.0;
+            brought = ap came_by e ∙ last.1;
+            came = came_next gained t far one.0 e;
+            made = goes.replies;
+            lost = one.1;
+            owed = refl;
+            history = behind gained t far (λ h. Waited serve_wait h ∷ Unposted one.1.0 one.1.1 ∷ []) one.0 e;
           },
-        ),
+        )),
   )
   serve_fails after left within fewer ReceiveFailed one = (
     goes.arrivals,
     goes.replies,
     defined before after goes.arrivals goes.replies (subst (AnswersInTurn before goes.arrivals goes.replies) (sym one.0) goes.in_turn),
-    λ t e.
-        let heard = one.1 _ (far t e).so.link_left in
-        (n, record { stops = fails_now (serve_hears t) (all_came count t) n (waits_on t e fewer) heard.0 within; came = (far t e).so.came; link_left = heard.1 }),
+    over_on told mid left _ _ goes.so_far (Waited serve_wait Failure ∷ []) one.1 (λ now. (now, tt)) (λ gained t far f.
+        let e = hears_so gained t far Failure f.0 in (
+          n,
+          record {
+            stops = fails_now (serve_hears t) (all_came count t) n (waits_on gained t far fewer) e within;
+            came = far.so.came;
+            history = behind gained t far (λ h. Waited serve_wait h ∷ []) Failure e;
+          },
+        )),
   )
   serve_fails after left within fewer _ one = absurd one

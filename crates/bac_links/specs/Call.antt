@@ -1,20 +1,20 @@
 -- A call over what its link tells: one request, what it sends, and how it ends.
-use Rattle.std.specs.Prelude.{◌≡◌, ℕ, suc, ◌≤◌, List, [], ◌∷◌, ◌++◌, length, Bool, is_some, Option, Some, Result, Ok, Err}
+use Rattle.std.specs.Prelude.{◌≡◌, ℕ, zero, suc, ◌-◌, ◌≤◌, List, [], ◌∷◌, ◌++◌, length, Bool, is_some, Option, Some, None, Result, Ok, Err}
 use Rattle.std.specs.List.{flat_map}
-use Rattle.std.specs.Option.{ForSome}
-use Rattle.std.specs.Io.KnownBytes.{Appends}
-use Rattle.bac_pdu.specs.Peer.{station}
-use Rattle.bac_tsm.specs.Events.{Outcome, Event, Ask, Data, Tick, Note, Sent, Refused, Done, Dropped, TimedOut, Rules, request_of}
+use Rattle.bac_pdu.specs.Peer.{Station, station}
+use Rattle.bac_tsm.specs.Events.{Outcome, Event, Ask, Tick, Note, Sent, Refused, Done, Dropped, TimedOut, Rules, request_of}
 use Rattle.bac_tsm.specs.Lookahead.{Accepted, End, accepted, end, send_notes}
 use Rattle.bac_tsm.specs.Client.{client_rules}
 use Rattle.bac_links.specs.Limits.{most_turns, turn_wait}
-use Rattle.bac_links.specs.Told.{Told, Heard, Sending, waited, having_sent}
+use Rattle.bac_links.specs.Told.{Told, Heard, waited}
+use Rattle.bac_links.specs.History.{Entry, Waited, Timed, Posted, Unposted, Account, Over}
 use Rattle.bac_links.specs.Handed.{turns}
 use Rattle.bac_links.specs.Courses.{GoesOn, EndsAfter, FailsAfter}
 use Rattle.bac_links.specs.declared.ending.Tool.{Tool}
 use Rattle.bac_links.specs.declared.ending.Tool.TheVariants.{Reading, Writing}
 use Rattle.bac_text.specs.declared.jobs.Call.{Call}
-use Rattle.bac_text.specs.Checked.{TakesFront}
+use Rattle.bac_text.specs.declared.checked.Checked.{Checked}
+use Rattle.bac_text.specs.Checked.{Took, TakesFront}
 use Rattle.bac_links.specs.declared.ending.Exit.{Exit}
 use Rattle.bac_links.specs.Ending.{exit_of, ending_line}
 use Rattle.bac_links.specs.declared.fault.ToolFault.{ToolFault}
@@ -28,28 +28,16 @@ service_of Writing = 15
 abbrev pub rules_for : Call → Rules
 rules_for call = client_rules call.timeout call.retries
 
--- The sends in a note, at this time.
-abbrev pub send_in : ℕ → Note → List Sending
-send_in time (Sent ticket peer octets) = record { time = time; to = peer; octets = octets } ∷ []
-send_in time (Refused why) = []
-send_in time (Done ticket outcome) = []
-send_in time Dropped = []
-send_in time (TimedOut ticket) = []
+-- The send in a note, and those among notes.
+abbrev pub post_in : Note → List Entry
+post_in (Sent ticket peer octets) = Posted peer octets ∷ []
+post_in (Refused why) = []
+post_in (Done ticket outcome) = []
+post_in Dropped = []
+post_in (TimedOut ticket) = []
 
-abbrev pub sendings : ℕ → List Note → List Sending
-sendings time = flat_map (send_in time)
-
--- The time once this was handed to a client.
-abbrev pub time_then : ℕ → Event → ℕ
-time_then time (Ask peer service body) = time
-time_then time (Data peer bytes) = time
-time_then time (Tick now) = now
-
--- What is sent of a request from position i on, where this is the time: at each position at which the look-ahead places a send.
-abbrev pub sent_from : Rules → List Event → Accepted → ℕ → ℕ → List Event → List Sending
-sent_from rules events a time i [] = []
-sent_from rules events a time i (event ∷ later) =
-    sendings (time_then time event) (send_notes rules events i a) ++ sent_from rules events a (time_then time event) (suc i) later
+abbrev pub posts : List Note → List Entry
+posts = flat_map post_in
 
 -- How long a turn waits.
 abbrev pub wait_of : Call → ℕ
@@ -59,9 +47,12 @@ wait_of call = turn_wait call.timeout
 abbrev pub heard_in : Call → Told → ℕ → Heard
 heard_in call t n = (waited (wait_of call) n t).heard [] (wait_of call)
 
--- The link after n turns, once these were sent.
-abbrev pub left_by : Call → Told → ℕ → List Sending → Option Told
-left_by call t n sent = Some (having_sent sent (waited (wait_of call) n t))
+-- The wait of turn n, and the time after n turns.
+abbrev pub wait_in : Call → Told → ℕ → Entry
+wait_in call t n = Waited (wait_of call) (heard_in call t n)
+
+abbrev pub time_in : Call → Told → ℕ → Entry
+time_in call t n = Timed ((waited (wait_of call) n t).time [])
 
 module _ (tool : Tool) (call : Call) where
   -- The request: it is asked for after one event, by a client that has none open, so it has the first ticket and the number 1.
@@ -83,14 +74,24 @@ module _ (tool : Tool) (call : Call) where
   abbrev pub end_in : List Event → Option End
   end_in events = end (rules_for call) events asked
 
-  -- It is sent where the look-ahead places its sends, and nothing else is.
-  abbrev pub sent_in : List Event → List Sending
-  sent_in events = sent_from (rules_for call) events asked 0 0 events
+  -- What is sent of it at the last of these events: what the look-ahead places there.
+  abbrev pub sent_last : List Event → List Entry
+  sent_last events = posts (send_notes (rules_for call) events (length events - 1) asked)
 
   module _ (t : Told) where
     -- What the client is handed in n turns.
     abbrev pub events_of : ℕ → List Event
     events_of n = begun_at (t.time []) (turns (wait_of call) t n)
+
+    -- What is asked and answered in n turns: the time first; in each turn a wait, and the time; and the request is sent where it is due.
+    abbrev pub entries_of : ℕ → List Entry
+    entries_of zero = time_in call t zero ∷ sent_last (events_of zero)
+    entries_of (suc n) = entries_of n ++ wait_in call t n ∷ time_in call t (suc n) ∷ sent_last (events_of (suc n))
+
+    -- The same, where turn n is the last. After an answer the time is not asked for.
+    abbrev pub entries_to : ℕ → Option Outcome → List Entry
+    entries_to n (Some outcome) = entries_of n ++ wait_in call t n ∷ []
+    entries_to n None = entries_of (suc n)
 
     -- The request has ended in n turns.
     abbrev pub has_ended : ℕ → Bool
@@ -102,50 +103,51 @@ module _ (tool : Tool) (call : Call) where
       pub goes_on : GoesOn (heard_in call t) has_ended n
 
     -- In turn n the request ends so.
-    pub record EndsIn (left : Option Told) (ending : Option Outcome) (n : ℕ) : Type 0 where
+    pub record EndsIn (gained : List Entry) (ending : Option Outcome) (n : ℕ) : Type 0 where
       pub request : IsAccepted (events_of (suc n))
       pub stops : EndsAfter (heard_in call t) has_ended (suc n)
       pub position : ℕ
       pub ended : end_in (events_of (suc n)) ≡ Some (record { position = position; outcome = ending })
-      pub link_left : left ≡ left_by call t (suc n) (sent_in (events_of (suc n)))
+      pub history : gained ≡ entries_to n ending
 
-    -- The last datagram of n turns, or of the beginning, could not be sent.
-    pub record FailsToSend (left : Option Told) (n : ℕ) : Type 0 where
+    -- The send that was due after n turns, or at the beginning, could not be made.
+    pub record FailsToSend (gained : List Entry) (n : ℕ) : Type 0 where
       pub within : n ≤ most_turns
       pub before : IsOpenAfter n
-      pub made : List Sending
-      pub lost : Sending
-      pub owed : sent_in (events_of n) ≡ made ++ lost ∷ []
-      pub link_left : left ≡ left_by call t n made
+      pub made : List Entry
+      pub to : Station
+      pub octets : List ℕ
+      pub due : entries_of n ≡ made ++ Posted to octets ∷ []
+      pub history : gained ≡ made ++ Unposted to octets ∷ []
 
     -- Turn n failed to receive.
-    pub record FailsToReceive (left : Option Told) (n : ℕ) : Type 0 where
+    pub record FailsToReceive (gained : List Entry) (n : ℕ) : Type 0 where
       pub request : IsAccepted (events_of n)
       pub stops : FailsAfter (heard_in call t) has_ended n
-      pub link_left : left ≡ left_by call t (suc n) (sent_in (events_of n))
+      pub history : gained ≡ entries_of n ++ wait_in call t n ∷ []
 
     -- All turns went by, and the request is still open.
-    pub record RunsOut (left : Option Told) (n : ℕ) : Type 0 where
+    pub record RunsOut (gained : List Entry) (n : ℕ) : Type 0 where
       pub all : n ≡ most_turns
       pub before : IsOpenAfter n
-      pub link_left : left ≡ left_by call t n (sent_in (events_of n))
+      pub history : gained ≡ entries_of n
 
--- What a call prints, answers, sends and leaves of its link, where the link tells what it will hear: the line of how the request
--- ended, or a front of it where the writer failed; or nothing, where something else did.
-abbrev pub Tells : Tool → Call → Option (List ℕ) → Option (List ℕ) → Option Told → Option Told → Result Exit ToolFault → Type 0
-Tells tool call before after told left (Ok exit) =
-    (ending : Option Outcome) × (exit ≡ exit_of tool ending) × Appends before after (ending_line tool ending)
-    × ForSome told (λ t. (n : ℕ) × EndsIn tool call t left ending n)
-Tells tool call before after told left (Err SendFailed) = ForSome told (λ t. (n : ℕ) × FailsToSend tool call t left n)
-Tells tool call before after told left (Err ReceiveFailed) = ForSome told (λ t. (n : ℕ) × FailsToReceive tool call t left n)
-Tells tool call before after told left (Err TurnsSpent) = ForSome told (λ t. (n : ℕ) × RunsOut tool call t left n)
-Tells tool call before after told left (Err WriteFailed) =
-    (ending : Option Outcome) × TakesFront before after (ending_line tool ending)
-    × ForSome told (λ t. (n : ℕ) × EndsIn tool call t left ending n)
+-- What a call prints, answers, and asks of its link: the line of how the request ended, or a front of it where the writer
+-- failed; or nothing, where something else did.
+abbrev pub Tells : {W : Type 0} → Tool → Call → (W → Option (List ℕ)) → Checked W → Checked W → Account → Account → Result Exit ToolFault → Type 0
+Tells tool call contents before after told left (Ok exit) =
+    (ending : Option Outcome) × (exit ≡ exit_of tool ending) × Took contents before after (ending_line tool ending)
+    × Over told left (λ gained t. (n : ℕ) × EndsIn tool call t gained ending n)
+Tells tool call contents before after told left (Err SendFailed) = Over told left (λ gained t. (n : ℕ) × FailsToSend tool call t gained n)
+Tells tool call contents before after told left (Err ReceiveFailed) = Over told left (λ gained t. (n : ℕ) × FailsToReceive tool call t gained n)
+Tells tool call contents before after told left (Err TurnsSpent) = Over told left (λ gained t. (n : ℕ) × RunsOut tool call t gained n)
+Tells tool call contents before after told left (Err WriteFailed) =
+    (ending : Option Outcome) × TakesFront contents before after (ending_line tool ending)
+    × Over told left (λ gained t. (n : ℕ) × EndsIn tool call t gained ending n)
 
 -- What a read tells, and what a write.
-abbrev pub ReadTells : Call → Option (List ℕ) → Option (List ℕ) → Option Told → Option Told → Result Exit ToolFault → Type 0
+abbrev pub ReadTells : {W : Type 0} → Call → (W → Option (List ℕ)) → Checked W → Checked W → Account → Account → Result Exit ToolFault → Type 0
 ReadTells = Tells Reading
 
-abbrev pub WriteTells : Call → Option (List ℕ) → Option (List ℕ) → Option Told → Option Told → Result Exit ToolFault → Type 0
+abbrev pub WriteTells : {W : Type 0} → Call → (W → Option (List ℕ)) → Checked W → Checked W → Account → Account → Result Exit ToolFault → Type 0
 WriteTells = Tells Writing

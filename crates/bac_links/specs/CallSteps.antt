@@ -1,15 +1,17 @@
 -- One turn of a call, by the steps of the client.
-use Rattle.std.specs.Prelude.{◌≡◌, ℕ, ◌≤◌, Bool, true, false, List, [], ◌∷◌, length, Option, Some, None}
+use Rattle.std.specs.Prelude.{◌≡◌, ℕ, ◌≤◌, Bool, true, false, List, [], ◌∷◌, ◌++◌, length, Option, Some, None}
 use Rattle.std.specs.List.{All, flat_map}
+use Rattle.bac_pdu.specs.Peer.{Station}
 use Rattle.bac_tsm.specs.Events.{Outcome, Data, Event, Ask, Tick, Note, Sent, Refused, Done, Dropped, TimedOut, Rules}
 use Rattle.bac_tsm.specs.Machine.{State, Waiting, Stepped, step}
 use Rattle.bac_tsm.specs.Laws.{state_at}
 use Rattle.bac_tsm.specs.Limits.{longest_body}
 use Rattle.bac_tsm.specs.Client.{Client}
 use Rattle.bac_links.specs.Told.{Told, Heard, Silence, Arrival, Failure}
+use Rattle.bac_links.specs.History.{Entry, Posted, Unposted, Account, GainsAll}
 use Rattle.bac_links.specs.Handed.{turns}
 use Rattle.bac_links.specs.Courses.{first_below, stops_at}
-use Rattle.bac_links.specs.Call.{rules_for, wait_of, heard_in, left_by, begun_at, events_of, end_in, has_ended, sent_in, FailsToSend, FailsToReceive}
+use Rattle.bac_links.specs.Call.{posts, rules_for, wait_of, heard_in, begun_at, entries_of, end_in, has_ended, FailsToSend, FailsToReceive}
 use Rattle.bac_links.specs.declared.ending.Tool.{Tool}
 use Rattle.bac_text.specs.declared.jobs.Call.{Call}
 use Rattle.bac_links.specs.declared.fault.ToolFault.{ToolFault}
@@ -25,6 +27,11 @@ ending_in (TimedOut ticket) = None ∷ []
 
 abbrev pub endings : List Note → List (Option Outcome)
 endings = flat_map ending_in
+
+-- These notes are one send, which could not be made.
+abbrev pub GainsLost : List Note → List Entry → Account → Account → Type 0
+GainsLost notes gained before after =
+    (to : Station) × (octets : List ℕ) × (posts notes ≡ Posted to octets ∷ []) × GainsAll (gained ++ Unposted to octets ∷ []) before after
 
 -- What was heard is handed to the client.
 abbrev pub heard_step : Rules → State → Heard → Stepped
@@ -63,14 +70,14 @@ pub record Carries (tool : Tool) (call : Call) (time : ℕ) (later : List Event)
   }
 
 -- A call after n turns, with its request open.
-pub record Underway (tool : Tool) (call : Call) (t : Told) (link : Option Told) (client : Client) (n : ℕ) : Type 0 where
+pub record Underway (tool : Tool) (call : Call) (t : Told) (gained : List Entry) (client : Client) (n : ℕ) : Type 0 where
   pub passed : first_below (stops_at (heard_in call t) (has_ended tool call t)) n ≡ None
   pub carried : Carries tool call (t.time []) (turns (wait_of call) t n) client
-  pub link_left : link ≡ left_by call t n (sent_in tool call (events_of tool call t n))
+  pub history : gained ≡ entries_of tool call t n
 
 -- A turn failed.
-abbrev pub TurnFails : Tool → Call → Told → Option Told → ToolFault → Type 0
-TurnFails tool call t left SendFailed = (n : ℕ) × FailsToSend tool call t left n
-TurnFails tool call t left ReceiveFailed = (n : ℕ) × FailsToReceive tool call t left n
-TurnFails tool call t left TurnsSpent = ⊥
-TurnFails tool call t left WriteFailed = ⊥
+abbrev pub TurnFails : Tool → Call → Told → List Entry → ToolFault → Type 0
+TurnFails tool call t gained SendFailed = (n : ℕ) × FailsToSend tool call t gained n
+TurnFails tool call t gained ReceiveFailed = (n : ℕ) × FailsToReceive tool call t gained n
+TurnFails tool call t gained TurnsSpent = ⊥
+TurnFails tool call t gained WriteFailed = ⊥

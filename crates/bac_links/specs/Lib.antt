@@ -1,5 +1,8 @@
 pub mod Limits
 pub mod Told
+pub mod History
+pub mod Note
+pub mod Answered
 pub mod Memory
 pub mod Socket
 pub mod Fault

@@ -1,8 +1,9 @@
 -- What a link in memory tells.
-use Rattle.std.specs.Prelude.{ℕ, ◌+◌, ◌-◌, ◌^◌, min, List, [], ◌∷◌, map, length, nat_le, if◌then◌else◌, Option, None}
+use Rattle.std.specs.Prelude.{ℕ, ◌+◌, ◌-◌, ◌^◌, min, List, [], ◌∷◌, map, length, nat_le, if◌then◌else◌, Option, Some, None}
 use Rattle.bac_pdu.specs.Peer.{Station, station}
 use Rattle.bac_links.specs.Limits.{longest_datagram}
 use Rattle.bac_links.specs.Told.{Told, Heard, Silence, Arrival, Failure, Sending}
+use Rattle.bac_links.specs.History.{Account}
 use Rattle.bac_links.specs.declared.memory.Step.{Step}
 use Rattle.bac_links.specs.declared.memory.Step.TheVariants.{Quiet, Packet, Broken}
 use Rattle.bac_links.specs.declared.memory.Kept.{Kept}
@@ -67,6 +68,10 @@ sending_of r = record { time = r.time; to = station r.to; octets = r.octets.item
 -- What a link in memory tells, as it stands.
 abbrev pub told_of : {A : Type 0} → MemoryLink A → Told
 told_of link = told_by (map scene_of_kept link.steps.items) link.time (map sending_of link.sent.items)
+
+-- And all that it was asked and answered.
+abbrev pub account_of : {A : Type 0} → MemoryLink A → Account
+account_of link = record { foretold = Some (told_of link); history = link.history.entries }
 
 -- The number of the send that fails, if one is to.
 abbrev pub fails_at : {A : Type 0} → MemoryLink A → Option ℕ

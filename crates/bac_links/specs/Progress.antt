@@ -1,7 +1,10 @@
 -- How long a call takes at most.
-use Rattle.std.specs.Prelude.{ℕ, suc, ◌+◌, ◌≤◌, []}
-use Rattle.bac_links.specs.Told.{Told, waited}
+use Rattle.std.specs.Prelude.{ℕ, ◌+◌, ◌≤◌, List, [], ◌∷◌, ⊤}
+use Rattle.bac_links.specs.Told.{Told}
+use Rattle.bac_links.specs.History.{Entry, told_after}
 
--- By the times that the link tells, no turn takes longer than this, where each waits so long.
-abbrev pub IsPrompt : ℕ → ℕ → Told → Type 0
-IsPrompt longest wait t = (n : ℕ) → (waited wait (suc n) t).time [] ≤ (waited wait n t).time [] + longest
+-- By the times that the link told, nothing that it was asked took longer than this.
+abbrev pub IsPrompt : ℕ → List Entry → Told → Type 0
+IsPrompt longest [] t = ⊤
+IsPrompt longest (entry ∷ later) t =
+    ((told_after (entry ∷ []) t).time [] ≤ t.time [] + longest) × IsPrompt longest later (told_after (entry ∷ []) t)

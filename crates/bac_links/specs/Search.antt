@@ -1,8 +1,9 @@
 -- A search for devices over what its link tells: what it sends, which devices it finds, what it prints, and when it ends.
 use Rattle.std.specs.Prelude.{◌≡◌, ℕ, zero, suc, ◌-◌, ◌<◌, nat_le, max, ◌==◌, Bool, true, false, List, [], ◌∷◌, ◌++◌, decimal, if◌then◌else◌, Option, Some, None, Result, Ok, Err}
-use Rattle.std.specs.Option.{ForSome, option_to_list, option_and_then}
+use Rattle.std.specs.Option.{option_to_list, option_and_then}
 use Rattle.std.specs.List.{flat_map}
-use Rattle.std.specs.Io.KnownBytes.{Appends}
+use Rattle.bac_text.specs.declared.checked.Checked.{Checked}
+use Rattle.bac_text.specs.Checked.{Took}
 use Rattle.bac_pdu.specs.declared.discovery.WhoIs.{WhoIs}
 use Rattle.bac_pdu.specs.Peer.{Station, station}
 use Rattle.bac_pdu.specs.Apdu.{Message, laid_out, confirmed, unconfirmed, simple_ack, complex_ack, segment_ack, error, reject, abort}
@@ -13,7 +14,8 @@ use Rattle.bac_pdu.specs.Discovery.{Introduction, asks, introduction, who_is_oct
 use Rattle.bac_pdu.specs.ValueReading.{introduction_of}
 use Rattle.bac_text.specs.PeerTexts.{peer_text}
 use Rattle.bac_links.specs.Limits.{most_turns, turn_wait}
-use Rattle.bac_links.specs.Told.{Told, Heard, Silence, Arrival, Failure, Sending, waited, having_sent}
+use Rattle.bac_links.specs.Told.{Told, Heard, Silence, Arrival, Failure, waited}
+use Rattle.bac_links.specs.History.{Entry, Waited, Timed, Posted, Unposted, Account, Over}
 use Rattle.bac_links.specs.Courses.{GoesOn, EndsAfter, FailsAfter}
 use Rattle.bac_links.specs.declared.ending.Exit.{Exit}
 use Rattle.bac_links.specs.declared.ending.Exit.TheVariants.{Good, Bad}
@@ -102,57 +104,69 @@ greatest_time search t (suc n) = max (greatest_time search t n) ((waited (search
 abbrev pub passed : Search → Told → ℕ → ℕ
 passed search t n = greatest_time search t n - t.time []
 
--- The Who-Is, as it is sent at the beginning.
-abbrev pub who_is_sending : Search → Told → Sending
-who_is_sending search t = record { time = t.time []; to = station search.to; octets = who_is_datagram (station search.to) search.who }
+-- The Who-Is, which is sent once.
+abbrev pub who_is_to : Search → List ℕ
+who_is_to search = who_is_datagram (station search.to) search.who
 
--- The link after n turns, with the Who-Is sent.
-abbrev pub searched : Search → Told → ℕ → Option Told
-searched search t n = Some (having_sent (who_is_sending search t ∷ []) (waited (search_wait search) n t))
+-- The wait of turn n, and the time after n turns.
+abbrev pub search_waits : Search → Told → ℕ → Entry
+search_waits search t n = Waited (search_wait search) (search_hears search t n)
+
+abbrev pub search_time : Search → Told → ℕ → Entry
+search_time search t n = Timed ((waited (search_wait search) n t).time [])
+
+-- What is asked and answered in n turns: the time first, and then the Who-Is is sent; in each turn a wait, and the time.
+abbrev pub search_entries : Search → Told → ℕ → List Entry
+search_entries search t zero = search_time search t zero ∷ Posted (station search.to) (who_is_to search) ∷ []
+search_entries search t (suc n) = search_entries search t n ++ search_waits search t n ∷ search_time search t (suc n) ∷ []
 
 -- The time is up after n turns.
 abbrev pub is_late : Search → Told → ℕ → Bool
 is_late search t n = nat_le search.timeout (passed search t n)
 
 -- The time is up after n turns, which is the end.
-pub record SearchEnds (search : Search) (t : Told) (left : Option Told) (found : List Found) (n : ℕ) : Type 0 where
+pub record SearchEnds (search : Search) (t : Told) (gained : List Entry) (found : List Found) (n : ℕ) : Type 0 where
   pub stops : EndsAfter (search_hears search t) (is_late search t) n
   pub finds : found ≡ found_after search t n
-  pub link_left : left ≡ searched search t n
+  pub history : gained ≡ search_entries search t n
+
+-- The Who-Is could not be sent.
+abbrev pub SearchUnsent : Search → Told → List Entry → Type 0
+SearchUnsent search t gained = gained ≡ search_time search t zero ∷ Unposted (station search.to) (who_is_to search) ∷ []
 
 -- Turn n failed to receive.
-pub record SearchFails (search : Search) (t : Told) (left : Option Told) (found : List Found) (n : ℕ) : Type 0 where
+pub record SearchFails (search : Search) (t : Told) (gained : List Entry) (found : List Found) (n : ℕ) : Type 0 where
   pub stops : FailsAfter (search_hears search t) (is_late search t) n
   pub finds : found ≡ found_after search t n
-  pub link_left : left ≡ searched search t (suc n)
+  pub history : gained ≡ search_entries search t n ++ search_waits search t n ∷ []
 
 -- All turns went by, and there is still time.
-pub record SearchSpent (search : Search) (t : Told) (left : Option Told) (found : List Found) (n : ℕ) : Type 0 where
+pub record SearchSpent (search : Search) (t : Told) (gained : List Entry) (found : List Found) (n : ℕ) : Type 0 where
   pub all : n ≡ most_turns
   pub before : GoesOn (search_hears search t) (is_late search t) n
   pub finds : found ≡ found_after search t n
-  pub link_left : left ≡ searched search t n
+  pub history : gained ≡ search_entries search t n
 
 -- The line of the last of these devices, which turn n found, could not be written whole.
-pub record SearchStops (search : Search) (t : Told) (left : Option Told) (found : List Found) (last : Found) (n : ℕ) : Type 0 where
+pub record SearchStops (search : Search) (t : Told) (gained : List Entry) (found : List Found) (last : Found) (n : ℕ) : Type 0 where
   pub within : n < most_turns
   pub before : GoesOn (search_hears search t) (is_late search t) n
   pub finds : found ≡ found_after search t n
   pub heard : found_by search.who (search_hears search t n) ≡ last ∷ []
-  pub link_left : left ≡ searched search t (suc n)
+  pub history : gained ≡ search_entries search t n ++ search_waits search t n ∷ []
 
--- What a search prints, answers, sends and leaves of its link, where the link tells what it will hear: the lines of the devices
--- that were found, each whole before the next wait; of the last one a front, where the writer failed.
-abbrev pub Searched : Search → Option (List ℕ) → Option (List ℕ) → Option Told → Option Told → Result Exit ToolFault → Type 0
-Searched search before after told left (Ok exit) =
-    (found : List Found) × (exit ≡ search_exit found) × Appends before after (found_lines found)
-    × ForSome told (λ t. (n : ℕ) × SearchEnds search t left found n)
-Searched search before after told left (Err SendFailed) =
-    Appends before after [] × ForSome told (λ t. left ≡ Some t)
-Searched search before after told left (Err ReceiveFailed) =
-    (found : List Found) × Appends before after (found_lines found) × ForSome told (λ t. (n : ℕ) × SearchFails search t left found n)
-Searched search before after told left (Err TurnsSpent) =
-    (found : List Found) × Appends before after (found_lines found) × ForSome told (λ t. (n : ℕ) × SearchSpent search t left found n)
-Searched search before after told left (Err WriteFailed) =
+-- What a search prints, answers, and asks of its link: the lines of the devices that were found, each whole before the next
+-- wait; of the last one a front, where the writer failed.
+abbrev pub Searched : {W : Type 0} → Search → (W → Option (List ℕ)) → Checked W → Checked W → Account → Account → Result Exit ToolFault → Type 0
+Searched search contents before after told left (Ok exit) =
+    (found : List Found) × (exit ≡ search_exit found) × Took contents before after (found_lines found)
+    × Over told left (λ gained t. (n : ℕ) × SearchEnds search t gained found n)
+Searched search contents before after told left (Err SendFailed) =
+    Took contents before after [] × Over told left (λ gained t. SearchUnsent search t gained)
+Searched search contents before after told left (Err ReceiveFailed) =
+    (found : List Found) × Took contents before after (found_lines found) × Over told left (λ gained t. (n : ℕ) × SearchFails search t gained found n)
+Searched search contents before after told left (Err TurnsSpent) =
+    (found : List Found) × Took contents before after (found_lines found) × Over told left (λ gained t. (n : ℕ) × SearchSpent search t gained found n)
+Searched search contents before after told left (Err WriteFailed) =
     (found : List Found) × (last : Found) × (taken rest : List ℕ) × (found_line last ≡ taken ++ rest)
-    × Appends before after (found_lines found ++ taken) × ForSome told (λ t. (n : ℕ) × SearchStops search t left found last n)
+    × Took contents before after (found_lines found ++ taken) × Over told left (λ gained t. (n : ℕ) × SearchStops search t gained found last n)

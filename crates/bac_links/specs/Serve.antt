@@ -1,5 +1,5 @@
 -- A device that answers what a link tells.
-use Rattle.std.specs.Prelude.{◌≡◌, ◌≢◌, ℕ, zero, suc, ◌<◌, nat_le, Bool, List, [], ◌∷◌, ◌++◌, length, map, Option, Some, None, Result, Ok, Err}
+use Rattle.std.specs.Prelude.{◌≡◌, ℕ, zero, suc, ◌<◌, nat_le, Bool, List, [], ◌∷◌, ◌++◌, length, Option, Some, None, Result, Ok, Err}
 use Rattle.std.specs.Option.{ForSome, option_to_list}
 use Rattle.std.specs.List.{flat_map}
 use Rattle.bac_pdu.specs.Peer.{Station}
@@ -8,43 +8,42 @@ use Rattle.bac_device.specs.Device.{DeviceState, Holds}
 use Rattle.bac_device.specs.Size.{CarriesRequest, CarriesUnconfirmed, HasFifteen, IsWithinAnnounced}
 use Rattle.bac_device.specs.Turns.{Arrival as Came, AreDefined}
 use Rattle.bac_links.specs.Limits.{most_turns, serve_wait}
-use Rattle.bac_links.specs.Told.{Told, Heard, Silence, Arrival, Failure, Sending, waited, having_sent}
+use Rattle.bac_links.specs.Told.{Told, Heard, Silence, Arrival, Failure, waited}
+use Rattle.bac_links.specs.History.{Entry, Waited, Posted, Unposted, Account, Over}
 use Rattle.bac_links.specs.Courses.{GoesOn, EndsAfter, FailsAfter}
 use Rattle.bac_links.specs.declared.fault.ToolFault.{ToolFault}
 use Rattle.bac_links.specs.declared.fault.ToolFault.TheVariants.{SendFailed, ReceiveFailed, TurnsSpent, WriteFailed}
 
--- A datagram that came, and when.
-pub record Delivery : Type 0 where
-  pub time : ℕ
-  pub arrival : Came
+-- The datagram that a wait brings, if it brings one.
+abbrev pub came_by : Heard → List Came
+came_by Silence = []
+came_by (Arrival from octets) = record { from = from; datagram = octets } ∷ []
+came_by Failure = []
 
-abbrev pub arrivals_of : List Delivery → List Came
-arrivals_of deliveries = map (λ d. d.arrival) deliveries
+-- What wait n hears.
+abbrev pub serve_hears : Told → ℕ → Heard
+serve_hears t n = (waited serve_wait n t).heard [] serve_wait
 
-abbrev pub delivery_at : ℕ → Heard → List Delivery
-delivery_at time Silence = []
-delivery_at time (Arrival from octets) = record { time = time; arrival = record { from = from; datagram = octets } } ∷ []
-delivery_at time Failure = []
+-- What the first n waits hear, and the datagrams that they bring.
+abbrev pub heards : Told → ℕ → List Heard
+heards t zero = []
+heards t (suc n) = heards t n ++ serve_hears t n ∷ []
 
--- What the next wait brings.
-abbrev pub brought : Told → List Delivery
-brought t = delivery_at (t.time (serve_wait ∷ [])) (t.heard [] serve_wait)
+abbrev pub arrivals_in : List Heard → List Came
+arrivals_in = flat_map came_by
 
--- What the first n waits bring.
-abbrev pub deliveries : Told → ℕ → List Delivery
-deliveries t zero = []
-deliveries t (suc n) = deliveries t n ++ brought (waited serve_wait n t)
+-- A reply is sent.
+abbrev pub reply_entries : Option (Station × List ℕ) → List Entry
+reply_entries None = []
+reply_entries (Some reply) = Posted reply.0 reply.1 ∷ []
 
--- A reply, sent at this time.
-abbrev pub reply_sendings : ℕ → Option (Station × List ℕ) → List Sending
-reply_sendings time None = []
-reply_sendings time (Some reply) = record { time = time; to = reply.0; octets = reply.1 } ∷ []
-
--- Each reply is sent when its datagram came.
-abbrev pub sent_for : List Delivery → List (Option (Station × List ℕ)) → List Sending
-sent_for [] replies = []
-sent_for (d ∷ ds) [] = []
-sent_for (d ∷ ds) (reply ∷ replies) = reply_sendings d.time reply ++ sent_for ds replies
+-- What is asked and answered in these waits, where each reply is sent before the next wait.
+abbrev pub serve_entries : List Heard → List (Option (Station × List ℕ)) → List Entry
+serve_entries [] replies = []
+serve_entries (Arrival from octets ∷ later) [] = []
+serve_entries (Arrival from octets ∷ later) (reply ∷ replies) =
+    Waited serve_wait (Arrival from octets) ∷ (reply_entries reply ++ serve_entries later replies)
+serve_entries (heard ∷ later) replies = Waited serve_wait heard ∷ serve_entries later replies
 
 -- How many replies there are that are not silence.
 abbrev pub reply_count : List (Option (Station × List ℕ)) → ℕ
@@ -68,61 +67,58 @@ abbrev pub AnswersAll : DeviceState → List Came → List (Option (Station × L
 AnswersAll before arrivals replies after =
     (writes : List Write) → Holds before writes → AreDefined before writes arrivals replies after × RepliesFit arrivals replies
 
--- What wait n hears.
-abbrev pub serve_hears : Told → ℕ → Heard
-serve_hears t n = (waited serve_wait n t).heard [] serve_wait
-
 -- As many datagrams as were asked for came in n waits.
 abbrev pub all_came : ℕ → Told → ℕ → Bool
-all_came count t n = nat_le count (length (deliveries t n))
+all_came count t n = nat_le count (length (arrivals_in (heards t n)))
 
 -- After n waits these datagrams have come, and their replies are sent.
-pub record ServesSo (t : Told) (left : Option Told) (arrivals : List Came) (replies : List (Option (Station × List ℕ))) (n : ℕ) : Type 0 where
-  pub came : arrivals ≡ arrivals_of (deliveries t n)
-  pub link_left : left ≡ Some (having_sent (sent_for (deliveries t n) replies) (waited serve_wait n t))
+pub record ServesSo (t : Told) (gained : List Entry) (arrivals : List Came) (replies : List (Option (Station × List ℕ))) (n : ℕ) : Type 0 where
+  pub came : arrivals ≡ arrivals_in (heards t n)
+  pub history : gained ≡ serve_entries (heards t n) replies
 
 -- And there is no further wait.
-pub record ServeDone (t : Told) (left : Option Told) (arrivals : List Came) (replies : List (Option (Station × List ℕ))) (count n : ℕ) : Type 0 where
+pub record ServeDone (t : Told) (gained : List Entry) (arrivals : List Came) (replies : List (Option (Station × List ℕ))) (count n : ℕ) : Type 0 where
   pub stops : EndsAfter (serve_hears t) (all_came count t) n
-  pub so : ServesSo t left arrivals replies n
+  pub so : ServesSo t gained arrivals replies n
 
--- The last reply, to what wait n brought, could not be sent.
-pub record ServeUnsent (t : Told) (left : Option Told) (arrivals : List Came) (replies : List (Option (Station × List ℕ))) (count n : ℕ) : Type 0 where
+-- The last reply, to the datagram that wait n brought, could not be sent.
+pub record ServeUnsent (t : Told) (gained : List Entry) (arrivals : List Came) (replies : List (Option (Station × List ℕ))) (count n : ℕ) : Type 0 where
   pub within : n < most_turns
   pub before : GoesOn (serve_hears t) (all_came count t) n
-  pub received : serve_hears t n ≢ Failure
-  pub came : arrivals ≡ arrivals_of (deliveries t (suc n))
-  pub made : List Sending
-  pub lost : Sending
-  pub owed : sent_for (deliveries t (suc n)) replies ≡ made ++ lost ∷ []
-  pub link_left : left ≡ Some (having_sent made (waited serve_wait (suc n) t))
+  pub last : Came
+  pub brought : came_by (serve_hears t n) ≡ last ∷ []
+  pub came : arrivals ≡ arrivals_in (heards t (suc n))
+  pub made : List (Option (Station × List ℕ))
+  pub lost : Station × List ℕ
+  pub owed : replies ≡ made ++ Some lost ∷ []
+  pub history : gained ≡ serve_entries (heards t n) made ++ Waited serve_wait (serve_hears t n) ∷ Unposted lost.0 lost.1 ∷ []
 
 -- Wait n failed.
-pub record ServeDeaf (t : Told) (left : Option Told) (arrivals : List Came) (replies : List (Option (Station × List ℕ))) (count n : ℕ) : Type 0 where
+pub record ServeDeaf (t : Told) (gained : List Entry) (arrivals : List Came) (replies : List (Option (Station × List ℕ))) (count n : ℕ) : Type 0 where
   pub stops : FailsAfter (serve_hears t) (all_came count t) n
-  pub came : arrivals ≡ arrivals_of (deliveries t n)
-  pub link_left : left ≡ Some (having_sent (sent_for (deliveries t n) replies) (waited serve_wait (suc n) t))
+  pub came : arrivals ≡ arrivals_in (heards t n)
+  pub history : gained ≡ serve_entries (heards t n) replies ++ Waited serve_wait (serve_hears t n) ∷ []
 
 -- All waits went by, and fewer datagrams came.
-pub record ServeSpent (t : Told) (left : Option Told) (arrivals : List Came) (replies : List (Option (Station × List ℕ))) (count n : ℕ) : Type 0 where
+pub record ServeSpent (t : Told) (gained : List Entry) (arrivals : List Came) (replies : List (Option (Station × List ℕ))) (count n : ℕ) : Type 0 where
   pub all : n ≡ most_turns
   pub before : GoesOn (serve_hears t) (all_came count t) n
-  pub so : ServesSo t left arrivals replies n
+  pub so : ServesSo t gained arrivals replies n
 
 -- What came, what was replied and what was sent, by how the server ends.
-abbrev pub ServeEnds : ℕ → List Came → List (Option (Station × List ℕ)) → Option Told → Option Told → Result ℕ ToolFault → Type 0
+abbrev pub ServeEnds : ℕ → List Came → List (Option (Station × List ℕ)) → Account → Account → Result ℕ ToolFault → Type 0
 ServeEnds count arrivals replies told left (Ok replied) =
     (length arrivals ≡ count) × (replied ≡ reply_count replies)
-    × ForSome told (λ t. (n : ℕ) × ServeDone t left arrivals replies count n)
-ServeEnds count arrivals replies told left (Err SendFailed) = ForSome told (λ t. (n : ℕ) × ServeUnsent t left arrivals replies count n)
-ServeEnds count arrivals replies told left (Err ReceiveFailed) = ForSome told (λ t. (n : ℕ) × ServeDeaf t left arrivals replies count n)
+    × Over told left (λ gained t. (n : ℕ) × ServeDone t gained arrivals replies count n)
+ServeEnds count arrivals replies told left (Err SendFailed) = Over told left (λ gained t. (n : ℕ) × ServeUnsent t gained arrivals replies count n)
+ServeEnds count arrivals replies told left (Err ReceiveFailed) = Over told left (λ gained t. (n : ℕ) × ServeDeaf t gained arrivals replies count n)
 ServeEnds count arrivals replies told left (Err TurnsSpent) =
-    (length arrivals < count) × ForSome told (λ t. (n : ℕ) × ServeSpent t left arrivals replies count n)
+    (length arrivals < count) × Over told left (λ gained t. (n : ℕ) × ServeSpent t gained arrivals replies count n)
 ServeEnds count arrivals replies told left (Err WriteFailed) = ⊥
 
 -- What a device that serves over a link answers and sends, and what is left of both. What is said of the device holds however
 -- the server ends, and whatever the link is.
-abbrev pub Serves : ℕ → DeviceState → DeviceState → Option Told → Option Told → Result ℕ ToolFault → Type 0
+abbrev pub Serves : ℕ → DeviceState → DeviceState → Account → Account → Result ℕ ToolFault → Type 0
 Serves count before after told left result =
     (arrivals : List Came) × (replies : List (Option (Station × List ℕ))) × AnswersAll before arrivals replies after
     × ServeEnds count arrivals replies told left result

@@ -1,17 +1,18 @@
 //! One request to one peer, and its end.
 ghost use Rattle.std.specs.Prelude.{◌≡◌, ◌≢◌, ◌<◌, ℕ, suc, false, is_err, [], ◌∷◌, ◌++◌, Bool, List, Option, Some, MatchOption, IfOk, IfErr, OnOk, map};
-ghost use Rattle.std.specs.Option.{ForSome, option_map, option_to_list};
+ghost use Rattle.std.specs.Option.{option_map, option_to_list};
 ghost use Rattle.bac_pdu.specs.Peer.{station};
 ghost use Rattle.bac_tsm.specs.Events.{Outcome as How, Tick};
 ghost use Rattle.bac_tsm.specs.Machine.{step, sent};
 ghost use Rattle.bac_tsm.specs.Client.{rules_of, keeping, outcome_seen};
-ghost use Rattle.bac_text.specs.Checked.{inner_of, has_failed, Puts};
+ghost use Rattle.bac_text.specs.Checked.{has_failed, Puts};
 ghost use Rattle.bac_links.specs.Limits.{most_turns, turn_wait};
-ghost use Rattle.bac_links.specs.Told.{Told, Sending, Failure, after_wait, having_sent};
+ghost use Rattle.bac_links.specs.Told.{Heard, Failure};
+ghost use Rattle.bac_links.specs.History.{Waited, Timed, Account, Gains, GainsAll, Over};
 ghost use Rattle.bac_links.specs.Fault.{is_link_fault, is_write_fault};
 ghost use Rattle.bac_links.specs.Ending.{ending_seen, ending_line, exit_of};
-ghost use Rattle.bac_links.specs.Call.{wait_of, sendings, EndsIn, FailsToSend, Tells, ReadTells, WriteTells};
-ghost use Rattle.bac_links.specs.CallSteps.{endings, heard_step, IsAlone, timeouts, answers, Underway, TurnFails};
+ghost use Rattle.bac_links.specs.Call.{posts, wait_of, EndsIn, FailsToSend, Tells, ReadTells, WriteTells};
+ghost use Rattle.bac_links.specs.CallSteps.{endings, GainsLost, heard_step, IsAlone, timeouts, answers, Underway, TurnFails};
 ghost use Rattle.bac_links.specs.declared.ending.Tool.{Tool as Purpose};
 ghost use Rattle.bac_text.specs.declared.jobs.Call.{Call as Asked};
 
@@ -44,9 +45,9 @@ pub(crate) fn turn_wait(timeout: u32) -> u32
 fn send_request<L: Link>(client: &Client, ticket: u64, link: &mut L) -> Result<(), ToolFault>
     requires { L.has_failed link.old ≡ false }
     ensures fault { L.has_failed link.new ≡ is_link_fault result }
-    ensures ok { OnOk result (ForSome (L.told link.old) (λ t. L.told link.new ≡ Some (having_sent (sendings (t.time []) (sent client.now.state ticket)) t))) }
-    ensures err { IfErr result (λ fault. (fault ≡ ToolFault.SendFailed) × (L.told link.new ≡ L.told link.old)
-        × ((time : ℕ) → (lost : Sending) × (sendings time (sent client.now.state ticket) ≡ lost ∷ []))) }
+    ensures ok { OnOk result (GainsAll (posts (sent client.now.state ticket)) (L.told link.old) (L.told link.new)) }
+    ensures err { IfErr result (λ fault. (fault ≡ ToolFault.SendFailed)
+        × GainsLost (sent client.now.state ticket) [] (L.told link.old) (L.told link.new)) }
 {
     if let Some((to, octets)) = client.to_send(ticket) {
         if link.send(to, octets).is_err() {
@@ -65,12 +66,10 @@ fn hear<'d, L: Link>(
 ) -> Result<Option<Outcome<'d>>, ToolFault>
     requires { L.has_failed link.old ≡ false }
     ensures fault { L.has_failed link.new ≡ is_link_fault result }
-    ensures ok { IfOk result (λ outcome. ForSome (L.told link.old) (λ t.
-        let handed = heard_step (rules_of client.old) client.old.state (t.heard [] wait_ms) in
-        (t.heard [] wait_ms ≢ Failure) × (L.told link.new ≡ Some (after_wait wait_ms t))
-        × (endings handed.notes ≡ answers (option_map outcome_seen outcome)) × (client.new ≡ keeping client.old handed.after))) }
-    ensures err { IfErr result (λ fault. (fault ≡ ToolFault.ReceiveFailed)
-        × ForSome (L.told link.old) (λ t. (t.heard [] wait_ms ≡ Failure) × (L.told link.new ≡ Some (after_wait wait_ms t)))) }
+    ensures ok { IfOk result (λ outcome. (heard : Heard) × Gains (Waited wait_ms heard) (L.told link.old) (L.told link.new) × (heard ≢ Failure)
+        × (let handed = heard_step (rules_of client.old) client.old.state heard in
+        (endings handed.notes ≡ answers (option_map outcome_seen outcome)) × (client.new ≡ keeping client.old handed.after))) }
+    ensures err { IfErr result (λ fault. (fault ≡ ToolFault.ReceiveFailed) × Gains (Waited wait_ms Failure) (L.told link.old) (L.told link.new)) }
 {
     match link.receive(wait_ms, datagram) {
         Ok(Some(from)) => match client.datagram(from, datagram.as_slice()) {
@@ -86,14 +85,13 @@ fn hear<'d, L: Link>(
 fn pass_time<L: Link>(client: &mut Client, link: &mut L) -> Result<bool, ToolFault>
     requires { L.has_failed link.old ≡ false }
     ensures fault { L.has_failed link.new ≡ is_link_fault result }
-    ensures ok { IfOk result (λ over. ForSome (L.told link.old) (λ t. IsAlone client.old.state →
-        (let ticked = step (rules_of client.old) client.old.state (Tick (t.time [])) in
+    ensures ok { IfOk result (λ over. (time : ℕ) × (IsAlone client.old.state →
+        (let ticked = step (rules_of client.old) client.old.state (Tick time) in
         (endings ticked.notes ≡ timeouts over) × (client.new ≡ keeping client.old ticked.after)
-        × (L.told link.new ≡ Some (having_sent (sendings (t.time []) ticked.notes) t))))) }
-    ensures err { IfErr result (λ fault. (fault ≡ ToolFault.SendFailed)
-        × ForSome (L.told link.old) (λ t. IsAlone client.old.state →
-        (let ticked = step (rules_of client.old) client.old.state (Tick (t.time [])) in
-        (endings ticked.notes ≡ []) × ((lost : Sending) × (sendings (t.time []) ticked.notes ≡ lost ∷ [])) × (L.told link.new ≡ Some t)))) }
+        × GainsAll (Timed time ∷ posts ticked.notes) (L.told link.old) (L.told link.new)))) }
+    ensures err { IfErr result (λ fault. (fault ≡ ToolFault.SendFailed) × ((time : ℕ) × (IsAlone client.old.state →
+        (let ticked = step (rules_of client.old) client.old.state (Tick time) in
+        (endings ticked.notes ≡ []) × GainsLost ticked.notes (Timed time ∷ []) (L.told link.old) (L.told link.new))))) }
 {
     let due = client.tick(link.now());
     match due.as_slice().first() {
@@ -115,13 +113,14 @@ fn turn<'d, L: Link>(
 ) -> Result<Option<Ending<'d>>, ToolFault>
     requires { L.has_failed link.old ≡ false }
     ensures fault { L.has_failed link.new ≡ is_link_fault result }
-    ensures ok { IfOk result (λ ending. (tool : Purpose) (call : Asked) (t : Told) (n : ℕ) → wait_ms ≡ wait_of call →
-        Underway tool call t (L.told link.old) client.old n →
-        MatchOption ending (Underway tool call t (L.told link.new) client.new (suc n))
-        (λ end. n < most_turns → EndsIn tool call t (L.told link.new) (ending_seen end) n)) }
+    ensures ok { IfOk result (λ ending. (tool : Purpose) (call : Asked) (told : Account) (n : ℕ) → wait_ms ≡ wait_of call →
+        Over told (L.told link.old) (λ gained t. Underway tool call t gained client.old n) →
+        MatchOption ending (Over told (L.told link.new) (λ gained t. Underway tool call t gained client.new (suc n)))
+        (λ end. n < most_turns → Over told (L.told link.new) (λ gained t. EndsIn tool call t gained (ending_seen end) n))) }
     ensures err { IfErr result (λ fault. (fault ≢ ToolFault.WriteFailed)
-        × ((tool : Purpose) (call : Asked) (t : Told) (n : ℕ) → wait_ms ≡ wait_of call →
-        Underway tool call t (L.told link.old) client.old n → n < most_turns → TurnFails tool call t (L.told link.new) fault)) }
+        × ((tool : Purpose) (call : Asked) (told : Account) (n : ℕ) → wait_ms ≡ wait_of call →
+        Over told (L.told link.old) (λ gained t. Underway tool call t gained client.old n) → n < most_turns →
+        Over told (L.told link.new) (λ gained t. TurnFails tool call t gained fault))) }
 {
     match hear(client, link, wait_ms, datagram) {
         Ok(Some(outcome)) => Ok(Some(Ending::Answered(outcome))),
@@ -139,9 +138,9 @@ fn begin<L: Link>(tool: Tool, call: &Call, link: &mut L) -> Result<Client, ToolF
     requires sound { L.has_failed link.old ≡ false }
     requires timeout { 0 < call.now.timeout }
     ensures fault { L.has_failed link.new ≡ is_link_fault result }
-    ensures ok { IfOk result (λ client. ForSome (L.told link.old) (λ t. Underway tool call.now t (L.told link.new) client 0)) }
+    ensures ok { IfOk result (λ client. Over (L.told link.old) (L.told link.new) (λ gained t. Underway tool call.now t gained client 0)) }
     ensures err { IfErr result (λ fault. (fault ≡ ToolFault.SendFailed)
-        × ForSome (L.told link.old) (λ t. FailsToSend tool call.now t (L.told link.new) 0)) }
+        × Over (L.told link.old) (L.told link.new) (λ gained t. FailsToSend tool call.now t gained 0)) }
 {
     let config = Config {
         timeout: call.timeout,
@@ -168,7 +167,7 @@ fn run<L: Link, W: Write>(
     requires timeout { 0 < call.now.timeout }
     ensures link_fault { L.has_failed link.new ≡ is_link_fault result }
     ensures write_fault { has_failed writer.new ≡ is_write_fault result }
-    ensures told { Tells tool call.now (W.contents (inner_of writer.old)) (W.contents (inner_of writer.new)) (L.told link.old) (L.told link.new) result }
+    ensures told { Tells tool call.now W.contents writer.old writer.new (L.told link.old) (L.told link.new) result }
     ensures unprinted { IfErr result (λ fault. fault ≢ ToolFault.WriteFailed → writer.new ≡ writer.old) }
 {
     let mut client = begin(tool, call, link)?;
@@ -200,7 +199,7 @@ pub fn run_read<L: Link, W: Write>(
     requires timeout { 0 < call.now.timeout }
     ensures link_fault { L.has_failed link.new ≡ is_link_fault result }
     ensures write_fault { has_failed writer.new ≡ is_write_fault result }
-    ensures told { ReadTells call.now (W.contents (inner_of writer.old)) (W.contents (inner_of writer.new)) (L.told link.old) (L.told link.new) result }
+    ensures told { ReadTells call.now W.contents writer.old writer.new (L.told link.old) (L.told link.new) result }
     ensures unprinted { IfErr result (λ fault. fault ≢ ToolFault.WriteFailed → writer.new ≡ writer.old) }
 {
     run(Tool::Reading, call, link, writer)
@@ -221,7 +220,7 @@ pub fn run_write<L: Link, W: Write>(
     requires timeout { 0 < call.now.timeout }
     ensures link_fault { L.has_failed link.new ≡ is_link_fault result }
     ensures write_fault { has_failed writer.new ≡ is_write_fault result }
-    ensures told { WriteTells call.now (W.contents (inner_of writer.old)) (W.contents (inner_of writer.new)) (L.told link.old) (L.told link.new) result }
+    ensures told { WriteTells call.now W.contents writer.old writer.new (L.told link.old) (L.told link.new) result }
     ensures unprinted { IfErr result (λ fault. fault ≢ ToolFault.WriteFailed → writer.new ≡ writer.old) }
 {
     run(Tool::Writing, call, link, writer)

@@ -1,13 +1,18 @@
 //! What holds of the definitions that the contracts cite: each such function has an empty body, and its clause is the law. And that `==` on
 //! the public types is that of their values.
 
-ghost use Rattle.std.specs.Prelude.{◌≡◌, ◌≤◌, ◌+◌, ◌*◌, ◌↔◌, ℕ, suc, [], IsTrue, List, Option, Some, IsSomeAnd, Result};
-ghost use Rattle.bac_device.specs.Places.{Write};
+ghost use Rattle.std.specs.Prelude.{◌≡◌, ◌≢◌, ◌≤◌, ◌+◌, ◌*◌, ◌++◌, ◌↔◌, ℕ, suc, [], IfOk, IsTrue, List, Result, Ok, Err};
+ghost use Rattle.bac_device.specs.Places.{Write as Change};
 ghost use Rattle.bac_device.specs.Device.{DeviceState, points_of, Holds};
+ghost use Rattle.bac_text.specs.declared.checked.Checked.{Checked};
+ghost use Rattle.bac_text.specs.Checked.{Took};
 ghost use Rattle.bac_text.specs.declared.jobs.Call.{Call};
-ghost use Rattle.bac_links.specs.Told.{Told};
-ghost use Rattle.bac_links.specs.Call.{Tells, wait_of};
+ghost use Rattle.bac_text.specs.declared.jobs.Search.{Search};
+ghost use Rattle.bac_links.specs.History.{Entry, told_after, Account, Over};
+ghost use Rattle.bac_links.specs.Answered.{answers_of};
+ghost use Rattle.bac_links.specs.Call.{Tells};
 ghost use Rattle.bac_links.specs.Progress.{IsPrompt};
+ghost use Rattle.bac_links.specs.Search.{Searched};
 ghost use Rattle.bac_links.specs.Serve.{Serves};
 ghost use Rattle.bac_links.specs.declared.ending.Tool.{Tool};
 ghost use Rattle.bac_links.specs.declared.ending.Exit.{Exit as Ended};
@@ -17,21 +22,47 @@ use crate::ending::Exit;
 use crate::fault::ToolFault;
 use crate::link::LinkFault;
 use crate::udp::Refused;
+use std::io::Write;
 
 /// However a server ends, and whatever its link is, the device has its info and its points as before.
 pub fn a_server_keeps_its_points()
-    ensures { (count : ℕ) (before after : DeviceState) (told left : Option Told) (result : Result ℕ Fault) (writes : List Write)
+    ensures { (count : ℕ) (before after : DeviceState) (told left : Account) (result : Result ℕ Fault) (writes : List Change)
         → Serves count before after told left result → Holds before writes
         → (after.info ≡ before.info) × (points_of after ≡ points_of before) }
 {}
 
-/// No call waits for ever: where no turn takes longer than so long, by the times that the link tells, it ends within the timeout and so
-/// long, for each time that the request is sent, of its first time (clause 5.4.4).
-#[tactic(auto, using(crate::proofs::Progress::left_in_time))]
-pub fn a_call_ends_in_time()
-    ensures { (tool : Tool) (call : Call) (before after : Option (List ℕ)) (t : Told) (left : Option Told) (result : Result Ended Fault) (longest : ℕ)
-        → IsPrompt longest (wait_of call) t → Tells tool call before after (Some t) left result
-        → IsSomeAnd left (λ end. end.time [] ≤ t.time [] + suc call.retries * (call.timeout + longest)) }
+/// No call waits for ever: where none of its turns took longer than so long, by the times that the link gave, it ends within the timeout
+/// and so long, for each time that the request is sent, of its first time (clause 5.4.4).
+pub fn a_call_ends_in_time<W: Write>()
+    ensures { (tool : Tool) (call : Call) (before after : Checked W) (told left : Account) (result : Result Ended Fault) (longest : ℕ)
+        → Tells tool call W.contents before after told left result
+        → Over told left (λ gained t. IsPrompt longest gained t → (told_after gained t).time [] ≤ t.time [] + suc call.retries * (call.timeout + longest)) }
+{}
+
+/// No call ends with an exit over a link, a socket or another, whose history gained nothing.
+pub fn no_call_ends_unheard<W: Write>()
+    ensures { (tool : Tool) (call : Call) (before after : Checked W) (told : Account) (exit : Ended) → Tells tool call W.contents before after told told (Ok exit) → ⊥ }
+{}
+
+/// A call is a function of what it is for and of what its link answers. Two calls for the same, over any two links and into any two writers,
+/// that were answered alike, asked alike; and where neither writer failed, they ended alike and printed the same.
+pub fn a_call_is_a_function<W: Write>()
+    ensures { (tool : Tool) (call : Call) (before after other_before other_after : Checked W) (told left other_told other_left : Account) (result other : Result Ended Fault)
+        (gained other_gained : List Entry) → Tells tool call W.contents before after told left result
+        → Tells tool call W.contents other_before other_after other_told other_left other
+        → left.history ≡ told.history ++ gained → other_left.history ≡ other_told.history ++ other_gained → answers_of gained ≡ answers_of other_gained
+        → (gained ≡ other_gained) × (result ≢ Err Fault.WriteFailed → other ≢ Err Fault.WriteFailed → (result ≡ other)
+        × IfOk result (λ _. (text : List ℕ) × Took W.contents before after text × IfOk other (λ _. Took W.contents other_before other_after text))) }
+{}
+
+/// A search is a function of what it is for and of what its link answers: as of a call.
+pub fn a_search_is_a_function<W: Write>()
+    ensures { (search : Search) (before after other_before other_after : Checked W) (told left other_told other_left : Account) (result other : Result Ended Fault)
+        (gained other_gained : List Entry) → Searched search W.contents before after told left result
+        → Searched search W.contents other_before other_after other_told other_left other
+        → left.history ≡ told.history ++ gained → other_left.history ≡ other_told.history ++ other_gained → answers_of gained ≡ answers_of other_gained
+        → (gained ≡ other_gained) × (result ≡ other)
+        × (result ≢ Err Fault.WriteFailed → (text : List ℕ) × Took W.contents before after text × Took W.contents other_before other_after text) }
 {}
 
 /// Exits are the same where `==` says so.

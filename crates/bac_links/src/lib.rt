@@ -5,6 +5,7 @@ mod call;
 mod datagram;
 mod ending;
 mod fault;
+mod history;
 pub mod laws;
 mod link;
 mod memory;

@@ -1,8 +1,8 @@
 //! What the tools send and receive datagrams through.
-ghost use Rattle.std.specs.Prelude.{◌≡◌, Bool, false, is_err, [], ◌∷◌, Option, Some, None, IfOk, IfSome, OnOk, OnErr, MatchResult};
-ghost use Rattle.std.specs.Option.{ForSome};
+ghost use Rattle.std.specs.Prelude.{◌≡◌, Bool, false, is_err, None, IfOk, IfSome, MatchResult};
 ghost use Rattle.bac_pdu.specs.Peer.{station};
-ghost use Rattle.bac_links.specs.Told.{Told, heard_by, after_wait, having_sent};
+ghost use Rattle.bac_links.specs.Told.{heard_by};
+ghost use Rattle.bac_links.specs.History.{Account, Waited, Timed, Gains, posted};
 
 use crate::datagram::Datagram;
 use bac_pdu::Peer;
@@ -15,8 +15,8 @@ pub struct LinkFault;
 
 /// What sends and receives datagrams, and knows the time. Once a send or a receive has failed, neither is called again.
 pub trait Link {
-    // What the link will hear, what its time will be, and what it sent, where it knows this.
-    ghost told: { Self → Option Told };
+    // What the link was asked and answered so far; and what it will hear, what its time will be, and what it sent, where it knows this.
+    ghost told: { Self → Account };
 
     // A send or a receive has failed.
     ghost has_failed: { Self → Bool };
@@ -25,9 +25,7 @@ pub trait Link {
     fn send(&mut self, to: Peer, octets: &[u8]) -> Result<(), LinkFault>
         requires { has_failed self.old ≡ false }
         ensures fault { has_failed self.new ≡ is_err result }
-        ensures ok { OnOk result (ForSome (told self.old) (λ t. told self.new
-            ≡ Some (having_sent (record { time = t.time []; to = station to; octets = octets.now } ∷ []) t))) }
-        ensures err { OnErr result (told self.new ≡ told self.old) };
+        ensures told { Gains (posted result (station to) octets.now) (told self.old) (told self.new) };
 
     /// Waits so many milliseconds for a datagram, and tells from where it came. None where none came; then, and after a
     /// fault, the datagram is as it was.
@@ -35,15 +33,13 @@ pub trait Link {
         requires { has_failed self.old ≡ false }
         ensures fault { has_failed self.new ≡ is_err result }
         ensures plain { IfOk result (λ heard. IfSome heard (λ from. from.route ≡ None)) }
-        ensures heard { ForSome (told self.old) (λ t. t.heard [] wait_ms ≡ heard_by result datagram.new) }
         ensures kept { MatchResult result (λ heard. heard ≡ None → datagram.new ≡ datagram.old) (λ fault. datagram.new ≡ datagram.old) }
-        ensures goes_on { ForSome (told self.old) (λ t. told self.new ≡ Some (after_wait wait_ms t)) };
+        ensures told { Gains (Waited wait_ms (heard_by result datagram.new)) (told self.old) (told self.new) };
 
     /// The time in milliseconds.
     fn now(&mut self) -> u64
         ensures fault { has_failed self.new ≡ has_failed self.old }
-        ensures time { ForSome (told self.old) (λ t. result ≡ t.time []) }
-        ensures same { told self.new ≡ told self.old };
+        ensures told { Gains (Timed result) (told self.old) (told self.new) };
 
     /// Whether a send or a receive has failed.
     fn failed(&self) -> bool

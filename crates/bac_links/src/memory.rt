@@ -1,11 +1,12 @@
 //! A link in memory.
 ghost use Rattle.std.specs.Prelude.{◌≡◌, ◌++◌, ◌∷◌, [], false, length, map, IfOk, OnOk, OnErr, is_err, slice_get, IfSome, MatchResult, IsTrue, MatchOption, Some, None};
-ghost use Rattle.std.specs.Option.{ForSome};
 ghost use Rattle.bac_pdu.specs.Peer.{station};
-ghost use Rattle.bac_links.specs.Told.{after_wait, having_sent, heard_by};
-ghost use Rattle.bac_links.specs.Memory.{told_of, told_by, fails_at, scene_of_step, scene_of_kept, sending_of, unrouted};
+ghost use Rattle.bac_links.specs.Told.{after_wait, heard_by};
+ghost use Rattle.bac_links.specs.History.{Waited, Timed, Gains, posted};
+ghost use Rattle.bac_links.specs.Memory.{told_of, account_of, told_by, fails_at, scene_of_step, scene_of_kept, sending_of, unrouted};
 
 use crate::datagram::Datagram;
+use crate::history::History;
 use crate::link::{Link, LinkFault};
 use bac_pdu::Peer;
 use std::alloc::{AllocError, Allocator, Global};
@@ -48,6 +49,8 @@ pub struct MemoryLink<A: Allocator = Global> {
     sent: Vec<Record<A>, A>,
     fail_send: Option<u32>,
     failed: bool,
+    // What it was asked and answered.
+    history: History,
 }
 
 impl<A: Allocator + Copy> MemoryLink<A> {
@@ -59,6 +62,7 @@ impl<A: Allocator + Copy> MemoryLink<A> {
     pub fn new(alloc: A, steps: &[Step<'_>], fail_send: Option<u32>) -> Result<Self, LinkFault>
         ensures told { IfOk result (λ link. told_of link ≡ told_by (map scene_of_step steps.now) 0 []) }
         ensures fails_at { IfOk result (λ link. fails_at link ≡ fail_send) }
+        ensures begun { IfOk result (λ link. link.history.entries ≡ []) }
         ensures sound { IfOk result (λ link. ⟦<MemoryLink<A> as Link>⟧.has_failed link ≡ false) }
     {
         let mut kept = VecDeque::new(alloc);
@@ -73,6 +77,7 @@ impl<A: Allocator + Copy> MemoryLink<A> {
             sent: Vec::new(alloc),
             fail_send,
             failed: false,
+            history: History::new(),
         })
     }
 
@@ -82,6 +87,7 @@ impl<A: Allocator + Copy> MemoryLink<A> {
         ensures time { self.new.time ≡ self.old.time }
         ensures fail_send { self.new.fail_send ≡ self.old.fail_send }
         ensures failed { self.new.failed ≡ self.old.failed }
+        ensures history { self.new.history ≡ self.old.history }
         ensures ok { OnOk result (map sending_of self.new.sent.items ≡ map sending_of self.old.sent.items
             ++ record { time = self.old.time; to = station to; octets = octets.now } ∷ []) }
         ensures err { OnErr result (self.new.sent.items ≡ self.old.sent.items) }
@@ -130,39 +136,17 @@ impl<A: Allocator> MemoryLink<A> {
         let record = self.sent.get(n)?;
         Some((record.time, record.to, record.octets.as_slice()))
     }
-}
 
-impl<A: Allocator + Copy> Link for MemoryLink<A> {
-    ghost told = { λ link. Some (told_of link) };
-
-    ghost has_failed = { λ link. link.failed };
-
-    /// It fails where it has the number that was given to `new`, and where there is no memory for its record.
-    fn send(&mut self, to: Peer, octets: &[u8]) -> Result<(), LinkFault>
-        requires { self.old.failed ≡ false }
-        ensures fault { self.new.failed ≡ is_err result }
-        ensures ok { OnOk result (ForSome (Some (told_of self.old)) (λ t. Some (told_of self.new)
-            ≡ Some (having_sent (record { time = t.time []; to = station to; octets = octets.now } ∷ []) t))) }
-        ensures err { OnErr result (Some (told_of self.new) ≡ Some (told_of self.old)) }
-        ensures its_number { fails_at self.old ≡ Some (length (told_of self.old).sent) → IsTrue (is_err result) }
-        ensures fails_at { fails_at self.new ≡ fails_at self.old }
-    {
-        let number = self.sent.len() as u64;
-        if self.fail_send.map(u64::from) == Some(number) || self.record(to, octets).is_err() {
-            self.failed = true;
-            return Err(LinkFault);
-        }
-        Ok(())
-    }
-
-    fn receive(&mut self, wait_ms: u32, datagram: &mut Datagram) -> Result<Option<Peer>, LinkFault>
+    // Hears the next step.
+    fn hear(&mut self, wait_ms: u32, datagram: &mut Datagram) -> Result<Option<Peer>, LinkFault>
         requires { self.old.failed ≡ false }
         ensures fault { self.new.failed ≡ is_err result }
         ensures plain { IfOk result (λ heard. IfSome heard (λ from. from.route ≡ None)) }
-        ensures heard { ForSome (Some (told_of self.old)) (λ t. t.heard [] wait_ms ≡ heard_by result datagram.new) }
+        ensures heard { (told_of self.old).heard [] wait_ms ≡ heard_by result datagram.new }
         ensures kept { MatchResult result (λ heard. heard ≡ None → datagram.new ≡ datagram.old) (λ fault. datagram.new ≡ datagram.old) }
-        ensures goes_on { ForSome (Some (told_of self.old)) (λ t. Some (told_of self.new) ≡ Some (after_wait wait_ms t)) }
+        ensures goes_on { told_of self.new ≡ after_wait wait_ms (told_of self.old) }
         ensures fails_at { fails_at self.new ≡ fails_at self.old }
+        ensures history { self.new.history ≡ self.old.history }
     {
         let now = &mut self.time;
         match self.steps.pop_front() {
@@ -188,13 +172,52 @@ impl<A: Allocator + Copy> Link for MemoryLink<A> {
             }
         }
     }
+}
+
+impl<A: Allocator + Copy> Link for MemoryLink<A> {
+    ghost told = { account_of };
+
+    ghost has_failed = { λ link. link.failed };
+
+    /// It fails where it has the number that was given to `new`, and where there is no memory for its record.
+    fn send(&mut self, to: Peer, octets: &[u8]) -> Result<(), LinkFault>
+        requires { self.old.failed ≡ false }
+        ensures fault { self.new.failed ≡ is_err result }
+        ensures told { Gains (posted result (station to) octets.now) (account_of self.old) (account_of self.new) }
+        ensures its_number { fails_at self.old ≡ Some (length (told_of self.old).sent) → IsTrue (is_err result) }
+        ensures fails_at { fails_at self.new ≡ fails_at self.old }
+    {
+        let number = self.sent.len() as u64;
+        let fails = self.fail_send.map(u64::from) == Some(number);
+        let sent = if fails || self.record(to, octets).is_err() {
+            self.failed = true;
+            Err(LinkFault)
+        } else {
+            Ok(())
+        };
+        self.history = self.history.and_send(&sent, to, octets);
+        sent
+    }
+
+    fn receive(&mut self, wait_ms: u32, datagram: &mut Datagram) -> Result<Option<Peer>, LinkFault>
+        requires { self.old.failed ≡ false }
+        ensures fault { self.new.failed ≡ is_err result }
+        ensures plain { IfOk result (λ heard. IfSome heard (λ from. from.route ≡ None)) }
+        ensures kept { MatchResult result (λ heard. heard ≡ None → datagram.new ≡ datagram.old) (λ fault. datagram.new ≡ datagram.old) }
+        ensures told { Gains (Waited wait_ms (heard_by result datagram.new)) (account_of self.old) (account_of self.new) }
+        ensures fails_at { fails_at self.new ≡ fails_at self.old }
+    {
+        let heard = self.hear(wait_ms, datagram);
+        self.history = self.history.and_wait(wait_ms, &heard, datagram);
+        heard
+    }
 
     fn now(&mut self) -> u64
         ensures fault { self.new.failed ≡ self.old.failed }
-        ensures time { ForSome (Some (told_of self.old)) (λ t. result ≡ t.time []) }
-        ensures same { Some (told_of self.new) ≡ Some (told_of self.old) }
+        ensures told { Gains (Timed result) (account_of self.old) (account_of self.new) }
         ensures fails_at { fails_at self.new ≡ fails_at self.old }
     {
+        self.history = self.history.and_time(self.time);
         self.time
     }
 

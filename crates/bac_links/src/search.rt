@@ -1,12 +1,13 @@
 //! The search for devices.
 ghost use Rattle.std.specs.Prelude.{◌≡◌, ◌≢◌, ◌<◌, ◌++◌, [], ◌∷◌, false, true, is_err, Some, None, Bool, List, IfOk, IfErr, OnOk, MatchOption};
-ghost use Rattle.std.specs.Option.{ForSome, option_map, option_to_list};
+ghost use Rattle.std.specs.Option.{option_map, option_to_list};
 ghost use Rattle.bac_pdu.specs.Peer.{station};
-ghost use Rattle.bac_text.specs.Checked.{inner_of, has_failed, Puts};
+ghost use Rattle.bac_text.specs.Checked.{has_failed, Puts};
 ghost use Rattle.bac_text.specs.Page.{Prints};
-ghost use Rattle.bac_links.specs.Told.{Told, Failure, after_wait, having_sent};
+ghost use Rattle.bac_links.specs.Told.{Failure};
+ghost use Rattle.bac_links.specs.History.{Gains, posted};
 ghost use Rattle.bac_links.specs.Fault.{is_link_fault, is_write_fault};
-ghost use Rattle.bac_links.specs.Search.{Found as Device, found_seen, found_of, found_by, found_line, who_is_datagram, who_is_sending, Searched};
+ghost use Rattle.bac_links.specs.Search.{Found as Device, found_seen, found_of, found_by, found_line, who_is_datagram, who_is_to, Searched};
 ghost use Rattle.bac_links.specs.SearchSteps.{Listens};
 
 use crate::call::{most_turns, turn_wait};
@@ -73,7 +74,7 @@ fn read_found(who: WhoIs, from: Peer, octets: &[u8]) -> Option<Found>
 #[tactic(auto, unfolding(bac_text::specs::Page::Wrote))]
 fn show_found<W: Write>(found: Found, writer: &mut Checked<W>) -> Result<(), ToolFault>
     requires { has_failed writer.old ≡ false }
-    ensures text { Puts (W.contents (inner_of writer.old)) (W.contents (inner_of writer.new)) (found_line (found_seen found)) result }
+    ensures text { Puts W.contents writer.old writer.new (found_line (found_seen found)) result }
     ensures failed { has_failed writer.new ≡ is_err result }
     ensures fault { IfErr result (λ fault. fault ≡ ToolFault.WriteFailed) }
 {
@@ -104,8 +105,8 @@ fn print_found<W: Write>(page: &mut Page<'_, W>, found: Found)
 fn ask<L: Link>(search: &Search, link: &mut L) -> Result<(), ToolFault>
     requires { L.has_failed link.old ≡ false }
     ensures fault { L.has_failed link.new ≡ is_link_fault result }
-    ensures ok { OnOk result (ForSome (L.told link.old) (λ t. L.told link.new ≡ Some (having_sent (who_is_sending search.now t ∷ []) t))) }
-    ensures err { IfErr result (λ fault. (fault ≡ ToolFault.SendFailed) × (L.told link.new ≡ L.told link.old)) }
+    ensures told { Gains (posted result (station search.now.to) (who_is_to search.now)) (L.told link.old) (L.told link.new) }
+    ensures err { IfErr result (λ fault. fault ≡ ToolFault.SendFailed) }
 {
     let datagram = who_is(search.to, search.who);
     match link.send(search.to, datagram.as_slice()) {
@@ -127,7 +128,7 @@ fn listen<L: Link, W: Write>(
     requires writer { has_failed writer.old ≡ false }
     ensures link_fault { L.has_failed link.new ≡ is_link_fault result }
     ensures write_fault { has_failed writer.new ≡ is_write_fault result }
-    ensures told { Listens who wait_ms (W.contents (inner_of writer.old)) (W.contents (inner_of writer.new)) (L.told link.old) (L.told link.new) result }
+    ensures told { Listens who wait_ms W.contents writer.old writer.new (L.told link.old) (L.told link.new) result }
 {
     match link.receive(wait_ms, datagram) {
         Ok(Some(from)) => match read_found(who, from, datagram.as_slice()) {
@@ -161,7 +162,7 @@ pub fn run_whois<L: Link, W: Write>(
     requires timeout { 0 < search.now.timeout }
     ensures link_fault { L.has_failed link.new ≡ is_link_fault result }
     ensures write_fault { has_failed writer.new ≡ is_write_fault result }
-    ensures told { Searched search.now (W.contents (inner_of writer.old)) (W.contents (inner_of writer.new)) (L.told link.old) (L.told link.new) result }
+    ensures told { Searched search.now W.contents writer.old writer.new (L.told link.old) (L.told link.new) result }
 {
     let first = link.now();
     ask(search, link)?;

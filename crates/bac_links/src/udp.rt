@@ -1,10 +1,14 @@
 //! A link over a UDP socket.
-ghost use Rattle.std.specs.Prelude.{◌≡◌, ◌+◌, ◌*◌, None, IfOk, IfSome, MatchOption, MatchResult, OnOk, OnErr, Ok, false, is_err, max, vec_len};
+ghost use Rattle.std.specs.Prelude.{◌≡◌, ◌+◌, ◌*◌, [], None, IfOk, IfSome, MatchOption, MatchResult, OnOk, OnErr, Ok, false, is_err, max, vec_len};
 ghost use Rattle.std.specs.Duration.{as_nanos};
+ghost use Rattle.bac_pdu.specs.Peer.{station};
 ghost use Rattle.bac_links.specs.Limits.{longest_datagram};
+ghost use Rattle.bac_links.specs.Told.{heard_by};
+ghost use Rattle.bac_links.specs.History.{Waited, Timed, Gains, posted, remembering};
 ghost use Rattle.bac_links.specs.Socket.{IsAddressOf, heard_from, is_quiet, peer_at, time_by};
 
 use crate::datagram::{DATAGRAM_OCTETS, Datagram};
+use crate::history::History;
 use crate::link::{Link, LinkFault};
 use bac_pdu::Peer;
 use std::alloc::Global;
@@ -38,6 +42,8 @@ pub struct UdpLink<R: Clock + Drop> {
     wait_ms: u32,
     refused: Refused,
     failed: bool,
+    // What it was asked and answered.
+    history: History,
     ghost room: { vec_len buffer ≡ longest_datagram + 1 },
 }
 
@@ -50,7 +56,7 @@ impl<R: Net + Clock + Clone + Drop> UdpLink<R> {
     pub fn bind(rt: &R, alloc: Global, at: Peer) -> Result<Self, LinkFault>
         ensures sound { IfOk result (λ link. ⟦<UdpLink<R> as Link>⟧.has_failed link ≡ false) }
         ensures refused { IfOk result (λ link. link.refused ≡ Refused.Fails) }
-        ensures begun { IfOk result (λ link. (link.time ≡ 0) × (link.wait_ms ≡ 0)) }
+        ensures begun { IfOk result (λ link. (link.time ≡ 0) × (link.wait_ms ≡ 0) × (link.history.entries ≡ [])) }
     {
         Self::bind_with(rt, alloc, at, Refused::Fails)
     }
@@ -63,7 +69,7 @@ impl<R: Net + Clock + Clone + Drop> UdpLink<R> {
     pub fn bind_with(rt: &R, alloc: Global, at: Peer, refused: Refused) -> Result<Self, LinkFault>
         ensures sound { IfOk result (λ link. ⟦<UdpLink<R> as Link>⟧.has_failed link ≡ false) }
         ensures refused { IfOk result (λ link. link.refused ≡ refused) }
-        ensures begun { IfOk result (λ link. (link.time ≡ 0) × (link.wait_ms ≡ 0)) }
+        ensures begun { IfOk result (λ link. (link.time ≡ 0) × (link.wait_ms ≡ 0) × (link.history.entries ≡ [])) }
     {
         let socket = UdpSocket::bind(rt, address_of(at)).map_err(|_| LinkFault)?;
         let made = Instant::now(rt).map_err(|_| LinkFault)?;
@@ -76,6 +82,7 @@ impl<R: Net + Clock + Clone + Drop> UdpLink<R> {
             wait_ms: 0,
             refused,
             failed: false,
+            history: History::new(),
         })
     }
 }
@@ -96,6 +103,7 @@ impl<R: Clock + Drop> UdpLink<R> {
     // The next datagram within the wait, where there is one that a `Datagram` holds.
     fn next_datagram(&mut self, wait_ms: u32, datagram: &mut Datagram) -> io::Result<Option<Peer>>
         ensures failed { self.new.failed ≡ self.old.failed }
+        ensures history { self.new.history ≡ self.old.history }
         ensures left { (self.new.refused ≡ self.old.refused) × (self.new.made ≡ self.old.made) × (self.new.time ≡ self.old.time) }
         ensures limited { OnOk result (self.new.wait_ms ≡ max wait_ms 1) }
         ensures plain { IfOk result (λ heard. IfSome heard (λ from. from.route ≡ None)) }
@@ -177,7 +185,7 @@ fn peer_of(address: SocketAddr) -> Option<Peer>
 }
 
 impl<R: Clock + Drop> Link for UdpLink<R> {
-    ghost told = { λ _. None };
+    ghost told = { λ link. remembering link.history.entries };
 
     ghost has_failed = { λ link. link.failed };
 
@@ -185,16 +193,19 @@ impl<R: Clock + Drop> Link for UdpLink<R> {
         requires { self.old.failed ≡ false }
         ensures fault { self.new.failed ≡ is_err result }
         ensures lost { self.old.refused ≡ Refused.IsLost → result ≡ Ok tt }
-        ensures left { self.new ≡ record self.old { failed = is_err result } }
+        ensures left { self.new ≡ record self.old { failed = is_err result; history = self.new.history } }
+        ensures told { Gains (posted result (station to) octets.now) (remembering self.old.history.entries) (remembering self.new.history.entries) }
     {
-        match self.socket.send_to(octets, address_of(to)) {
+        let sent = match self.socket.send_to(octets, address_of(to)) {
             Ok(sent) if sent == octets.len() => Ok(()),
             _ if self.refused == Refused::IsLost => Ok(()),
             _ => {
                 self.failed = true;
                 Err(LinkFault)
             }
-        }
+        };
+        self.history = self.history.and_send(&sent, to, octets);
+        sent
     }
 
     fn receive(&mut self, wait_ms: u32, datagram: &mut Datagram) -> Result<Option<Peer>, LinkFault>
@@ -204,20 +215,25 @@ impl<R: Clock + Drop> Link for UdpLink<R> {
         ensures kept { MatchResult result (λ heard. heard ≡ None → datagram.new ≡ datagram.old) (λ fault. datagram.new ≡ datagram.old) }
         ensures limited { OnOk result (self.new.wait_ms ≡ max wait_ms 1) }
         ensures left { (self.new.refused ≡ self.old.refused) × (self.new.made ≡ self.old.made) × (self.new.time ≡ self.old.time) }
+        ensures told { Gains (Waited wait_ms (heard_by result datagram.new)) (remembering self.old.history.entries) (remembering self.new.history.entries) }
     {
-        match self.next_datagram(wait_ms, datagram) {
+        let heard = match self.next_datagram(wait_ms, datagram) {
             Ok(from) => Ok(from),
             Err(_) => {
                 self.failed = true;
                 Err(LinkFault)
             }
-        }
+        };
+        self.history = self.history.and_wait(wait_ms, &heard, datagram);
+        heard
     }
 
     fn now(&mut self) -> u64
-        ensures { self.new ≡ record self.old { time = result } }
+        ensures left { self.new ≡ record self.old { time = result; history = self.new.history } }
+        ensures told { Gains (Timed result) (remembering self.old.history.entries) (remembering self.new.history.entries) }
     {
         self.time = time_by(self.made.elapsed(&self.rt), self.time);
+        self.history = self.history.and_time(self.time);
         self.time
     }
 

@@ -1,3 +1,5 @@
+//! APDUs, read and written.
+
 ghost use Rattle.std.specs.Prelude.{◌≡◌, ◌<◌, [], ◌++◌, ◌∷◌, length, Some, OnOk};
 ghost use Rattle.std.specs.Option.{option_map};
 ghost use Rattle.bac_wire.specs.Writing.{Appends};

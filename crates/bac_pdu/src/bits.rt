@@ -1,3 +1,5 @@
+//! The bits of an octet.
+
 ghost use Rattle.std.specs.Prelude.{◌≡◌, ◌<◌};
 ghost use Rattle.bac_pdu.specs.Bits.{bit};
 

@@ -1,3 +1,5 @@
+//! Who-Is and I-Am, read and written.
+
 ghost use Rattle.std.specs.Prelude.{◌≡◌, Some, OnOk};
 ghost use Rattle.std.specs.Option.{option_map};
 ghost use Rattle.bac_wire.specs.Front.{IsShortest};

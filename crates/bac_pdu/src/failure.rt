@@ -1,3 +1,5 @@
+//! The body of an Error, read and written.
+
 ghost use Rattle.std.specs.Prelude.{◌≡◌, ℕ, List, ◌++◌, Some, OnOk};
 ghost use Rattle.bac_wire.specs.Front.{IsShortest};
 ghost use Rattle.bac_wire.specs.Writing.{Appends};

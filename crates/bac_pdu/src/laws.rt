@@ -7,7 +7,7 @@ ghost use Rattle.bac_wire.specs.Datum.{IsDatum, enumerated};
 ghost use Rattle.bac_pdu.specs.declared.discovery.WhoIs.{WhoIs as AnyWhoIs};
 ghost use Rattle.bac_pdu.specs.declared.discovery.WhoIs.TheVariants.{Range};
 ghost use Rattle.bac_pdu.specs.declared.reject.RejectReason.{RejectReason as AnyReason};
-ghost use Rattle.bac_pdu.specs.Peer.{Station, NetworkAddress, IsRoutable, network_address};
+ghost use Rattle.bac_pdu.specs.Peer.{Station, NetworkAddress, IsRoutable, network_address, station};
 ghost use Rattle.bac_wire.specs.Front.{IsSingle};
 ghost use Rattle.bac_pdu.specs.Datagram.{Delivery, Carries, Takes, front_count, wrapped};
 ghost use Rattle.bac_pdu.specs.DatagramReading.{carried};
@@ -161,6 +161,15 @@ pub fn same_route(route: &Route, other: &Route) -> bool
     told(Some(*route));
     told(Some(*other));
     route == other
+}
+
+/// Address, port and route.
+pub fn same_peer(peer: &Peer, other: &Peer) -> bool
+    ensures { IsTrue result ↔ (station peer.now ≡ station other.now) }
+{
+    told(peer.route);
+    told(other.route);
+    peer == other
 }
 
 /// All three fields.

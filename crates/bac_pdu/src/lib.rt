@@ -1,4 +1,8 @@
-//! Headers, APDUs and service bodies of BACnet/IP.
+//! Headers, APDUs and service bodies of BACnet/IP (ANSI/ASHRAE 135, Annex J and clauses 6, 20.1 and 21).
+//!
+//! [`open_datagram`] says from whom a datagram is and which APDU it carries, [`read_apdu`] what that APDU is, and a reader
+//! of each service what its body says. On the way out the body is written to a frame first, then [`write_apdu`] makes the
+//! APDU, and [`wrap`] the datagram round it.
 #![tactic(auto)]
 
 mod apdu;

@@ -1,3 +1,5 @@
+//! The parameters of a service body: context tags, and items between brackets.
+
 ghost use Rattle.std.specs.Prelude.{◌≡◌, ◌<◌, ◌≤◌, ◌^◌, length, IfSome};
 ghost use Rattle.std.specs.Option.{option_map};
 ghost use Rattle.bac_wire.specs.Limits.{value_tag};

@@ -1,3 +1,5 @@
+//! Who a datagram is from, or for.
+
 ghost use Rattle.std.specs.Prelude.{◌≡◌, ◌↔◌, IsTrue, IfSome};
 ghost use Rattle.bac_pdu.specs.Peer.{IsKept, station};
 

@@ -1,3 +1,5 @@
+//! ReadProperty, its answer, and WriteProperty, read and written.
+
 ghost use Rattle.std.specs.Prelude.{◌≡◌, Some, Ok, OnOk, IfSome};
 ghost use Rattle.std.specs.Option.{option_map};
 ghost use Rattle.std.specs.List.{AllByRecursion};

@@ -1,3 +1,5 @@
+//! Why a request is rejected.
+
 ghost use Rattle.std.specs.Prelude.{◌≡◌};
 ghost use Rattle.bac_pdu.specs.Reject.{reason_number};
 

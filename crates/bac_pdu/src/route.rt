@@ -1,3 +1,5 @@
+//! The way to a station of another network.
+
 ghost use Rattle.std.specs.Prelude.{◌≡◌, ◌<◌, ◌≤◌, ◌-◌, ◌↔◌, drop, replicate, IsSome, IfSome};
 
 /// The octets that the address of a routed station has at most.

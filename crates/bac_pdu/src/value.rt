@@ -1,3 +1,5 @@
+//! Values of the kind that a service body has at its place.
+
 ghost use Rattle.std.specs.Prelude.{◌≡◌};
 ghost use Rattle.std.specs.Option.{option_map};
 ghost use Rattle.bac_wire.specs.Identifier.{identifier};

@@ -1,3 +1,5 @@
+//! What is written is appended whole, or not at all.
+
 ghost use Rattle.std.specs.Prelude.{◌≡◌, ◌≤◌, ℕ, List, length};
 ghost use Rattle.bac_wire.specs.Writing.{Appends, AppendsFront};
 

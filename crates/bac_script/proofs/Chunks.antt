@@ -10,7 +10,7 @@ use Rattle.std.proofs.lemmas.List.Edits.{take-paste}
 use Rattle.std.proofs.lemmas.Slice.{between_is, take-put_mid}
 use borrow.Rule.Slice.PartMut.{put_mid}
 use Rattle.bac_text.specs.declared.checked.Checked.{Checked}
-use Rattle.bac_text.specs.Checked.{inner_of}
+use Rattle.bac_text.specs.Checked.{inner_of, octets_of}
 use Rattle.bac_text.proofs.Known.{Consumes-kept}
 use Rattle.bac_script.specs.Feeds.{HasNoFeed}
 use Rattle.bac_script.specs.Limits.{line_room, chunk_room}
@@ -133,13 +133,20 @@ module _ {xs : List ℕ} {start end searched : ℕ} {held : List ℕ} (p : Place
       subst HasNoFeed (ap (take searched) p.is ∙ sym (ap (take searched) (more count some) ∙ take-append-le searched held (take count ys) long)) p.before
 
   pub read_on : {R : Type 0} {remaining : R → Option (List ℕ)} {reader reader' : Checked R} (count : ℕ) → count ≤ length ys →
-      Consumes (remaining (inner_of reader)) (remaining (inner_of reader')) (take count ys) → Takes remaining reader reader' held (slice_range room start (end + count)) []
-  read_on count some gave = record { given = take count ys; gave = gave; order = sym (more count some) }
+      octets_of reader' ≡ octets_of reader ++ take count ys → Consumes (remaining (inner_of reader)) (remaining (inner_of reader')) (take count ys) → Takes remaining reader reader' held (slice_range room start (end + count)) []
+  read_on count some passed known = record { given = take count ys; gave = record { passed = passed; known = known }; order = sym (more count some) }
 
-  pub read_none : {R : Type 0} {remaining : R → Option (List ℕ)} {reader reader' : Checked R} → Keeps (remaining (inner_of reader)) (remaining (inner_of reader')) →
+  pub read_none : {R : Type 0} {remaining : R → Option (List ℕ)} {reader reader' : Checked R} → octets_of reader' ≡ octets_of reader ++ [] → Keeps (remaining (inner_of reader)) (remaining (inner_of reader')) →
       Takes remaining reader reader' held (slice_range room start end) []
-  read_none kept = record { given = []; gave = Consumes-kept _ _ kept; order = append-nil held ∙ sym still_held }
+  read_none passed kept = record { given = []; gave = record { passed = passed; known = Consumes-kept _ _ kept }; order = append-nil held ∙ sym still_held }
 
   pub read_ended : {R : Type 0} {remaining : R → Option (List ℕ)} {reader reader' : Checked R} (count : ℕ) → count ≡ 0 →
-      Consumes (remaining (inner_of reader)) (remaining (inner_of reader')) (take count ys) → Takes remaining reader reader' held (slice_range room start end) []
-  read_ended count none gave = record { given = take count ys; gave = gave; order = rw none (append-nil held ∙ sym still_held) }
+      octets_of reader' ≡ octets_of reader ++ take count ys → Consumes (remaining (inner_of reader)) (remaining (inner_of reader')) (take count ys) → Takes remaining reader reader' held (slice_range room start end) []
+  read_ended count none passed known = record { given = take count ys; gave = record { passed = passed; known = known }; order = rw none (append-nil held ∙ sym still_held) }
+
+  -- What the last read gave stands behind what was held.
+  pub last_on : {last : List ℕ} (count : ℕ) → count ≤ length ys → last ≡ take count ys → slice_range room start (end + count) ≡ held ++ last
+  last_on count some gave = more count some ∙ ap (λ (zs : List ℕ). held ++ zs) (sym gave)
+
+  pub last_none : {last : List ℕ} → last ≡ [] → slice_range room start end ≡ held ++ last
+  last_none gave = still_held ∙ sym (append-nil held) ∙ ap (λ (zs : List ℕ). held ++ zs) (sym gave)

@@ -6,3 +6,4 @@ pub mod Settled
 pub mod Courses
 pub mod SoFar
 pub mod Asking
+pub mod Functions

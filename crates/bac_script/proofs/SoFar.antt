@@ -13,7 +13,7 @@ use Rattle.bac_script.specs.declared.line.LineFault.TheVariants.{Bad, TooLong}
 use Rattle.bac_script.specs.declared.tracing.TraceEnd.{TraceEnd}
 use Rattle.bac_script.specs.declared.tracing.TraceFault.{TraceFault}
 use Rattle.bac_script.specs.declared.tracing.TraceFault.TheVariants.{BadLine, LineTooLong, ReadFailed, WriteFailed}
-use Rattle.bac_text.specs.Checked.{inner_of, has_failed, ends_with, reads_of}
+use Rattle.bac_text.specs.Checked.{has_failed, ends_with, reads_of, last_of}
 use Rattle.bac_script.specs.Input.{Takes, HasNotEnded, IsSpared, ReadForLine, StandsAs, over, IsCutAs}
 use Rattle.bac_script.specs.Feeds.{HasNoFeed}
 use Rattle.bac_script.specs.Limits.{line_room}
@@ -25,7 +25,7 @@ use Rattle.bac_script.specs.Tracing.{IsNeeded, Traces, RunsOn}
 use Rattle.bac_script.proofs.Pieces.{NextLine, next_ended, next_long, next_last, lines-rest, lines-last, lines-ended, said-whole_long}
 use Rattle.bac_script.proofs.Taken.{Takes-more, Takes-front}
 use Rattle.bac_text.proofs.Printed.{◌⨾◌, prints_nothing}
-use Rattle.bac_text.proofs.Known.{Consumes-none}
+use Rattle.bac_text.proofs.Known.{Gave-none}
 use Rattle.bac_text.proofs.Shown.{finished, all_written}
 use Rattle.bac_script.proofs.Machine.{first_stage}
 use Rattle.bac_script.proofs.Courses.{Course, behind, behind_both, and_on, course, course_on, whole, runs_text, fault_is, runs_as}
@@ -43,7 +43,7 @@ pub record SoFar {R W : Type 0} (remaining : R → Option (List ℕ)) (contents 
   pub stage : Stage
   pub taken : Takes remaining reader reader' [] held octets
   pub asked : reads_of reader' ≤ reads_of reader + length taken.given
-  pub needed : IsNeeded (reads_of reader) (reads_of reader') taken.given
+  pub needed : IsNeeded reader reader' taken.given
   pub sound : has_failed reader' ≡ false
   pub unended : HasNotEnded reader reader'
   pub spared : IsSpared reader reader'
@@ -81,7 +81,7 @@ NextLine-from remaining Failed before reader line held cut stands going some = a
 stands_more : {R : Type 0} (remaining : R → Option (List ℕ)) (reading : Reading) (first second third : Checked R) (held : List ℕ) → HasNotEnded first second →
     StandsAs remaining reading second third held → StandsAs remaining reading first third []
 stands_more remaining Open first second third held p h = (h.0, h.1 ∙ p)
-stands_more remaining AtEnd first second third held p h = (refl, h.1, record { last = h.2.last; once = h.2.once ∙ ap (λ (n : ℕ). ends_with n true) p }, h.3)
+stands_more remaining AtEnd first second third held p h = (refl, h.1, record { last = h.2.last; once = h.2.once ∙ ap (λ (n : ℕ). ends_with n true) p; known = h.2.known })
 stands_more remaining Failed first second third held p h = (refl, h.1, h.2 ∙ p)
 
 over_one : (reading : Reading) → over reading ≤ 1
@@ -110,7 +110,7 @@ module _ {R W : Type 0} {remaining : R → Option (List ℕ)} {contents : W → 
     {page between kept : Page W} {count : ℕ} {is_first : Bool} {client : Client} {device : DeviceState} (reading : Reading) (n : ℕ)
     (s : SoFar remaining contents reader middle held page between count is_first client device) (q : Takes remaining middle reader' held now [])
     (stands : StandsAs remaining reading middle reader' (drop n now)) (asked : reads_of reader' + length held ≤ reads_of middle + length now + over reading)
-    (need : ReadForLine (reads_of middle) (reads_of reader') held now) (spared : IsSpared middle reader') (handed : Prints contents between kept []) where
+    (need : ReadForLine middle reader' held now) (spared : IsSpared middle reader') (handed : Prints contents between kept []) where
   abbrev line : List ℕ
   line = take n now
 
@@ -138,24 +138,19 @@ module _ {R W : Type 0} {remaining : R → Option (List ℕ)} {contents : W → 
       ∙ ap (λ (all : List (List ℕ)). (behind s.text (course s.stage is_first count all)).fault) (lines-rest more none short)
 
   -- The last read was needed.
-  needed : IsNeeded (reads_of reader) (reads_of reader') taken.given
+  needed : IsNeeded reader reader' taken.given
   needed = elim need [
-    | inl same ↦ record {
-      before = s.needed.before;
-      last = s.needed.last;
-      order = given_is ∙ ap (λ (zs : List ℕ). s.octets ++ zs) same.1 ∙ sym s.taken.order ∙ s.needed.order;
-      asked = omega (arith, same.0, s.needed.asked);
-      going = s.needed.going;
-    }
-    | inr r ↦ record {
+    | inl same ↦
+        subst (λ (r : Checked R). IsNeeded reader r taken.given) (sym same.0)
+        (subst (IsNeeded reader middle) (s.taken.order ∙ ap (λ (zs : List ℕ). s.octets ++ zs) (sym same.1) ∙ sym given_is) s.needed)
+    | inr r ↦ inr (record {
       before = s.octets ++ (held ++ r.before);
-      last = r.last;
-      order = given_is ∙ ap (λ (zs : List ℕ). s.octets ++ zs) r.order ∙ sym (append_assoc s.octets (held ++ r.before) r.last);
+      order = given_is ∙ ap (λ (zs : List ℕ). s.octets ++ zs) r.order ∙ sym (append_assoc s.octets (held ++ r.before) (last_of reader'));
       asked =
           let size : length s.taken.given ≡ length (s.octets ++ held) = ap length s.taken.order in
           omega (arith, r.asked, s.asked, simp length-append at size, length-append s.octets (held ++ r.before), length-append held r.before);
       going = no_fault (held ++ r.before) r.no_feed r.short;
-    }
+    })
   ]
 
   -- The course where these lines are left.
@@ -255,9 +250,9 @@ SoFar-none remaining contents reader held page client device sound none fresh un
   octets = [];
   text = [];
   stage = first_stage;
-  taken = record { given = []; gave = Consumes-none (remaining (inner_of reader)); order = sym none };
+  taken = record { given = []; gave = Gave-none reader; order = sym none };
   asked = omega arith;
-  needed = record { before = []; last = []; order = refl; asked = omega arith; going = refl };
+  needed = inl (refl, refl);
   sound = sound;
   unended = refl;
   spared = omega arith;

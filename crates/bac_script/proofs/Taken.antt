@@ -1,5 +1,5 @@
 -- What is taken in several steps.
-use Rattle.std.proofs.Common.{◌≡◌, ℕ, ◌+◌, ◌<◌, ◌≤◌, zero, suc, Bool, false, List, [], ◌∷◌, ◌++◌, length, take, drop, get_or, Option, Some, None, sym, ◌∙◌, ap, subst, inr, append_assoc, length-append, arith}
+use Rattle.std.proofs.Common.{◌≡◌, ◌⊎◌, ℕ, ◌+◌, ◌<◌, ◌≤◌, zero, suc, Bool, false, List, [], ◌∷◌, ◌++◌, length, take, drop, get_or, Option, Some, None, sym, ◌∙◌, ap, subst, inl, inr, append_assoc, length-append, arith}
 use Rattle.std.specs.Prelude.{◌==◌, position}
 use Rattle.std.proofs.lemmas.Bool.{eqb-false, eqb-true}
 use Rattle.std.proofs.lemmas.Bool.Decides.{nat_tests}
@@ -7,18 +7,18 @@ use Rattle.std.proofs.lemmas.List.{take-append-drop, take_all, take_more}
 use Rattle.std.proofs.lemmas.List.Sums.{fails_before_first}
 use Rattle.std.proofs.lemmas.List.Quantifiers.{position-Some}
 use Rattle.bac_text.specs.declared.checked.Checked.{Checked}
-use Rattle.bac_text.specs.Checked.{inner_of, reads_of}
+use Rattle.bac_text.specs.Checked.{reads_of, last_of}
 use Rattle.bac_script.specs.Feeds.{HasNoFeed}
 use Rattle.bac_script.specs.Limits.{line_room}
 use Rattle.bac_script.specs.Input.{Takes, ReadForLine}
-use Rattle.bac_text.proofs.Known.{Consumes-more}
+use Rattle.bac_text.proofs.Known.{Gave-more}
 
 pub Takes-more : {R : Type 0} {remaining : R → Option (List ℕ)} {a b c : Checked R} {held mid kept xs ys : List ℕ} → Takes remaining a b held mid xs → Takes remaining b c mid kept ys →
     Takes remaining a c held kept (xs ++ ys)
 Takes-more {remaining = remaining} {a = a} {b = b} {c = c} {held = held} {kept = kept} {xs = xs} {ys = ys} p q =
     record {
       given = p.given ++ q.given;
-      gave = Consumes-more (remaining (inner_of a)) (remaining (inner_of b)) (remaining (inner_of c)) p.given q.given p.gave q.gave;
+      gave = Gave-more p.gave q.gave;
       order = sym (append_assoc held p.given q.given) ∙ ap (λ zs. zs ++ q.given) p.order ∙ append_assoc xs _ q.given ∙ ap (λ zs. xs ++ zs) q.order ∙ sym (append_assoc xs ys kept);
     }
 
@@ -27,14 +27,15 @@ pub Takes-front : {R : Type 0} {remaining : R → Option (List ℕ)} {a b : Chec
     Takes remaining a b held (drop n mid) (take n mid)
 Takes-front {mid = mid} n p = record { given = p.given; gave = p.gave; order = p.order ∙ sym (take-append-drop n mid) }
 
--- One more read, where no line is held.
+-- One more read, where no line is held, or none, since the reads are spent.
 pub read_for_line : {R : Type 0} {remaining : R → Option (List ℕ)} {a b c : Checked R} {held now later : List ℕ} → Takes remaining a b held now [] →
-    reads_of b + length held ≤ reads_of a + length now → HasNoFeed now → length now < line_room → Takes remaining b c now later [] → reads_of c ≤ reads_of b + 1 →
-    ReadForLine (reads_of a) (reads_of c) held later
-read_for_line {held = held} p asked none short q once = inr (record {
+    ReadForLine a b held now → reads_of b + length held ≤ reads_of a + length now → HasNoFeed now → length now < line_room →
+    ((c ≡ b) × (later ≡ now)) ⊎ (later ≡ now ++ last_of c) → reads_of c ≤ reads_of b + 1 → ReadForLine a c held later
+read_for_line {a = a} {held = held} {later = later} p before asked none short (inl same) once =
+    subst (λ r. ReadForLine a r held later) (sym same.0) (subst (ReadForLine a _ held) (sym same.1) before)
+read_for_line {c = c} {held = held} p before asked none short (inr more) once = inr (record {
   before = p.given;
-  last = q.given;
-  order = sym q.order ∙ ap (λ zs. zs ++ q.given) (sym p.order);
+  order = more ∙ ap (λ zs. zs ++ last_of c) (sym p.order);
   asked = let size = ap length p.order in omega (arith, asked, once, size, length-append held p.given);
   no_feed = subst HasNoFeed (sym p.order) none;
   short = subst (λ (zs : List ℕ). length zs < line_room) (sym p.order) short;

@@ -9,3 +9,5 @@ pub mod Running
 pub mod Script
 pub mod Tracing
 pub mod Fits
+pub mod Alike
+pub mod Examples

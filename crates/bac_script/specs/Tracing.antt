@@ -1,6 +1,5 @@
 -- What a run read, and what it wrote and answered.
-use Rattle.std.specs.Prelude.{◌≡◌, List, [], ◌++◌, ℕ, ◌+◌, ◌≤◌, length, Option, None, Result, Ok, Err}
-use Rattle.std.specs.Io.KnownBytes.{Consumes, Appends}
+use Rattle.std.specs.Prelude.{◌≡◌, ◌⊎◌, List, [], ◌++◌, ℕ, ◌+◌, ◌≤◌, length, Option, None, Result, Ok, Err}
 use Rattle.bac_text.specs.declared.checked.Checked.{Checked}
 use Rattle.bac_script.specs.declared.input.Reading.{Reading}
 use Rattle.bac_script.specs.declared.input.Reading.TheVariants.{Open}
@@ -8,25 +7,28 @@ use Rattle.bac_script.specs.declared.tracing.TraceEnd.{TraceEnd}
 use Rattle.bac_script.specs.declared.tracing.TraceFault.{TraceFault}
 use Rattle.bac_script.specs.declared.tracing.TraceFault.TheVariants.{BadLine, LineTooLong, ReadFailed, WriteFailed}
 use Rattle.bac_text.specs.declared.page.Page.{Page}
-use Rattle.bac_text.specs.Checked.{inner_of, reads_of}
+use Rattle.bac_text.specs.Checked.{reads_of, last_of, Took, Gave}
 use Rattle.bac_script.specs.Input.{StandsAs, IsSpared}
 use Rattle.bac_text.specs.Page.{Prints}
 use Rattle.bac_script.specs.Script.{lines, first_fault, Runs}
 
 -- No line with a fault was among the octets that the reader gave before its last read: so that read was needed. It was asked at most
 -- once for each of those octets, and once more.
-pub record IsNeeded (reads reads' : ℕ) (given : List ℕ) : Type 0 where
+pub record LastIsNeeded {R : Type 0} (reader reader' : Checked R) (given : List ℕ) : Type 0 where
   pub before : List ℕ
-  pub last : List ℕ
-  pub order : given ≡ before ++ last
-  pub asked : reads' ≤ reads + length before + 1
+  pub order : given ≡ before ++ last_of reader'
+  pub asked : reads_of reader' ≤ reads_of reader + length before + 1
   pub going : first_fault (lines before Open) ≡ None
+
+-- Nothing was read, or the last read was needed.
+abbrev pub IsNeeded : {R : Type 0} → Checked R → Checked R → List ℕ → Type 0
+IsNeeded reader reader' given = ((reader' ≡ reader) × (given ≡ [])) ⊎ LastIsNeeded reader reader' given
 
 -- The reader gave these octets, and reading stopped so.
 pub record HasRead {R : Type 0} (remaining : R → Option (List ℕ)) (reader reader' : Checked R) (given : List ℕ) (reading : Reading) : Type 0 where
-  pub gave : Consumes (remaining (inner_of reader)) (remaining (inner_of reader')) given
+  pub gave : Gave remaining reader reader' given
   pub stopped : StandsAs remaining reading reader reader' []
-  pub needed : IsNeeded (reads_of reader) (reads_of reader') given
+  pub needed : IsNeeded reader reader' given
   pub spared : IsSpared reader reader'
 
 -- What was written and answered is that of the script of the octets that the reader gave, and of how reading stopped
@@ -35,7 +37,7 @@ pub record Traces {R W : Type 0} (remaining : R → Option (List ℕ)) (contents
   pub reading : Reading
   pub written : List ℕ
   pub read : HasRead remaining reader reader' given reading
-  pub took : Appends (contents (inner_of writer)) (contents (inner_of writer')) written
+  pub took : Took contents writer writer' written
   pub runs : Runs given reading written answer
 
 -- The same while some of the text may still be on the page: the text that was printed is that of the script, or, where the

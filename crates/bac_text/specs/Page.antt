@@ -1,9 +1,8 @@
 -- What is printed on a page on its way to a writer.
 use Rattle.std.specs.Prelude.{◌≡◌, ℕ, true, false, List, [], ◌++◌, Option}
-use Rattle.std.specs.Io.KnownBytes.{Appends}
 use Rattle.bac_text.specs.declared.checked.Checked.{Checked}
 use Rattle.bac_text.specs.declared.page.Page.{Page}
-use Rattle.bac_text.specs.Checked.{inner_of, has_failed}
+use Rattle.bac_text.specs.Checked.{has_failed, Took}
 
 -- The octets that were printed and not yet written.
 abbrev pub held : {W : Type 0} → Page W → List ℕ
@@ -18,7 +17,7 @@ writer_of page = page.writer.now
 pub record Writes {W : Type 0} (contents : W → Option (List ℕ)) (before after : Checked W) (held kept text : List ℕ) : Type 0 where
   pub taken : List ℕ
   pub rest : List ℕ
-  pub took : Appends (contents (inner_of before)) (contents (inner_of after)) taken
+  pub took : Took contents before after taken
   pub whole : held ++ text ≡ taken ++ rest
   pub sound : has_failed after ≡ false → (has_failed before ≡ false) × (rest ≡ kept)
   pub stopped : has_failed before ≡ true → (after ≡ before) × (taken ≡ [])

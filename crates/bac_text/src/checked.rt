@@ -1,9 +1,10 @@
 //! Readers and writers that remember whether they failed.
-ghost use Rattle.std.specs.Prelude.{◌≡◌, ◌+◌, ◌-◌, ◌^◌, ◌||◌, min, false, is_err};
+ghost use Rattle.std.specs.Prelude.{◌≡◌, ◌+◌, ◌-◌, ◌^◌, ◌++◌, ◌||◌, min, false, is_err};
 ghost use Rattle.std.specs.Io.{ReadsAtMost, WritesAtMost};
 ghost use Rattle.std.specs.Io.KnownBytes.{ReadConsumes, WriteAppends, Keeps};
-ghost use Rattle.bac_text.specs.Checked.{inner_of, has_failed, has_ended, ends_of, reads_of, HasNotRead, fresh, is_end, ends_with, is_failed_write, Puts};
+ghost use Rattle.bac_text.specs.Checked.{inner_of, has_failed, has_ended, ends_of, reads_of, octets_of, last_of, gone, having_passed, HasNotRead, fresh, is_end, ends_with, is_failed_write, Puts};
 
+use crate::transcript::{Part, Transcript};
 use std::io::{self, Read, Write};
 
 /// A reader or a writer that remembers whether it failed and whether its end was read, and counts its reads and those of them
@@ -15,6 +16,7 @@ pub struct Checked<T> {
     ended: bool,
     ends: u64,
     reads: u64,
+    transcript: Transcript,
 }
 
 /// The writer failed, or took no octet.
@@ -32,6 +34,7 @@ impl<T> Checked<T> {
             ended: false,
             ends: 0,
             reads: 0,
+            transcript: Transcript::new(),
         }
     }
 
@@ -62,6 +65,17 @@ impl<T> Checked<T> {
     {
         self.reads.min(u64::from(u32::MAX)) as u32
     }
+
+    // Remembers the octets that this read gave, or that this write took.
+    fn remember(&mut self, outcome: &io::Result<usize>, octets: &[u8])
+        ensures { self.new ≡ having_passed (gone outcome.now octets.now) self.old }
+    {
+        let count = match outcome {
+            Ok(count) => *count,
+            Err(_) => 0,
+        };
+        self.transcript = self.transcript.and(&Part { octets, count });
+    }
 }
 
 impl<R: Read> Read for Checked<R> {
@@ -73,6 +87,8 @@ impl<R: Read> Read for Checked<R> {
         ensures failed { has_failed self.new ≡ (has_failed self.old || is_err result) }
         ensures ended { has_ended self.new ≡ is_end result buf.new }
         ensures ends { ends_of self.new ≡ ends_with (ends_of self.old) (is_end result buf.new) }
+        ensures passed { octets_of self.new ≡ octets_of self.old ++ gone result buf.new }
+        ensures last { last_of self.new ≡ gone result buf.new }
         ensures reads { reads_of self.new ≡ min (reads_of self.old + 1) (2 ^ 64 - 1) }
     {
         self.reads = self.reads.saturating_add(1);
@@ -84,6 +100,7 @@ impl<R: Read> Read for Checked<R> {
         if outcome.is_err() {
             self.failed = true;
         }
+        self.remember(&outcome, buf);
         outcome
     }
 }
@@ -95,6 +112,8 @@ impl<W: Write> Write for Checked<W> {
         ensures bound { WritesAtMost result buf.now }
         ensures bytes { WriteAppends (W.contents (inner_of self.old)) (W.contents (inner_of self.new)) result buf.now }
         ensures failed { has_failed self.new ≡ (has_failed self.old || is_failed_write result buf.now) }
+        ensures passed { octets_of self.new ≡ octets_of self.old ++ gone result buf.now }
+        ensures last { last_of self.new ≡ gone result buf.now }
         ensures reads { HasNotRead self.old self.new }
     {
         let outcome = self.inner.write(buf);
@@ -103,12 +122,15 @@ impl<W: Write> Write for Checked<W> {
             Ok(_) => {}
             Err(_) => self.failed = true,
         }
+        self.remember(&outcome, buf);
         outcome
     }
 
     fn flush(&mut self) -> io::Result<()>
         ensures bytes { Keeps (W.contents (inner_of self.old)) (W.contents (inner_of self.new)) }
         ensures failed { has_failed self.new ≡ has_failed self.old }
+        ensures passed { octets_of self.new ≡ octets_of self.old }
+        ensures last { last_of self.new ≡ last_of self.old }
         ensures reads { HasNotRead self.old self.new }
     {
         self.inner.flush()
@@ -120,7 +142,7 @@ impl<W: Write> Checked<W> {
     #[tactic(auto, using(crate::proofs::Known::Sent_more))]
     pub(crate) fn put(&mut self, text: &[u8]) -> Result<(), WriteFailed>
         requires { has_failed self.old ≡ false }
-        ensures text { Puts (W.contents (inner_of self.old)) (W.contents (inner_of self.new)) text.now result }
+        ensures text { Puts W.contents self.old self.new text.now result }
         ensures failed { has_failed self.new ≡ is_err result }
         ensures reads { HasNotRead self.old self.new }
     {

@@ -3,6 +3,7 @@
 
 mod bodies;
 mod checked;
+mod examples;
 mod hex_digits;
 mod hex_lanes;
 mod jobs;
@@ -14,12 +15,14 @@ mod parameters;
 mod peer_texts;
 mod peers;
 mod search;
+mod transcript;
 mod value_words;
 mod values;
 mod words;
 
 pub use bodies::{BodyRoom, LONGEST_BODY, read_body, read_write_body};
 pub use checked::{Checked, WriteFailed};
+pub use examples::{examples_of_regions, examples_of_values, examples_of_words};
 pub use hex_digits::{LONGEST_DATAGRAM, LONGEST_LINE, read_datagram};
 pub use jobs::{Call, Search};
 pub use numbers::read_number;

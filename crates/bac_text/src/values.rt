@@ -6,7 +6,7 @@ ghost use Rattle.hex.specs.Hex.{encode_lower};
 ghost use Rattle.bac_wire.specs.Datum.{datum, bit_string};
 ghost use Rattle.bac_wire.specs.DatumReading.{value_at};
 ghost use Rattle.bac_wire.specs.Identifier.{identifier};
-ghost use Rattle.bac_text.specs.Checked.{inner_of, has_failed, Puts};
+ghost use Rattle.bac_text.specs.Checked.{has_failed, Puts};
 ghost use Rattle.bac_text.specs.Page.{Prints};
 ghost use Rattle.bac_text.specs.Values.{is_escaped, is_printable, bit_digit, separator, quoted_octet, quoted, string_text, lettered, octet_bits, bits_text, boolean_text, object_text, datum_text, values_of, joined, region_text, ack_text};
 
@@ -24,7 +24,7 @@ use std::io::Write;
 /// `WriteFailed` where the writer failed or took no octet. A front of the text was then written.
 pub fn show_value<W: Write>(region: &[u8], writer: &mut Checked<W>) -> Result<(), WriteFailed>
     requires { has_failed writer.old ≡ false }
-    ensures text { Puts (W.contents (inner_of writer.old)) (W.contents (inner_of writer.new)) (region_text region.now) result }
+    ensures text { Puts W.contents writer.old writer.new (region_text region.now) result }
     ensures failed { has_failed writer.new ≡ is_err result }
 {
     let mut page = Page::new(writer);

@@ -1,4 +1,5 @@
 pub mod Binding
 pub mod Report
+pub mod Outside
 pub mod Runs
 pub mod Program

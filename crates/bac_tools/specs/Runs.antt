@@ -1,10 +1,10 @@
 -- What a job prints, sends and leaves, and how the program ends: for each job by the definition of its tool.
-use Rattle.std.specs.Prelude.{◌≡◌, ◌≢◌, ◌↔◌, ◌⊎◌, ℕ, Bool, true, [], List, Option, Some, None, Result, Ok, Err, IfErr}
+use Rattle.std.specs.Prelude.{◌≡◌, ◌≢◌, ◌↔◌, ◌⊎◌, ℕ, true, [], List, Option, Some, None, Result, Ok, Err, IfErr}
 use Rattle.bac_device.specs.Demo.{demo_points}
 use Rattle.bac_device.specs.Device.{DeviceState, device_after}
-use Rattle.bac_text.specs.Checked.{inner_of, has_failed}
+use Rattle.bac_text.specs.Checked.{has_failed}
 use Rattle.bac_text.specs.declared.checked.Checked.{Checked}
-use Rattle.bac_links.specs.Told.{Told}
+use Rattle.bac_links.specs.History.{Account}
 use Rattle.bac_links.specs.Call.{ReadTells, WriteTells}
 use Rattle.bac_links.specs.Search.{Searched}
 use Rattle.bac_links.specs.Serve.{Serves}
@@ -21,11 +21,12 @@ use Rattle.bac_script.specs.declared.tracing.TraceFault.TheVariants as stops
 use Rattle.bac_words.specs.declared.jobs.Job.{Job}
 use Rattle.bac_words.specs.declared.jobs.Job.TheVariants.{Read, Write, WhoIs, Device, Trace}
 use Rattle.bac_words.specs.declared.jobs.Serve.{Serve}
+use Rattle.bac_tools.specs.Outside.{Outside}
 use Rattle.bac_tools.specs.Report.{as_exit, tool_report, trace_report, unbound_report}
 use Rattle.bac_tools.specs.declared.report.Report.{Report}
 
 -- A demonstration device: its replies to the datagrams that come.
-pub record DevicePlays (serve : Serve) (told left : Option Told) (answer : Result Exit ToolFault) : Type 0 where
+pub record DevicePlays (serve : Serve) (told left : Account) (answer : Result Exit ToolFault) : Type 0 where
   pub device : DeviceState
   pub served : Result ℕ ToolFault
   pub serves : Serves serve.count (device_after serve.info demo_points []) device told left served
@@ -33,7 +34,7 @@ pub record DevicePlays (serve : Serve) (told left : Option Told) (answer : Resul
 
 -- ---- the tools over a link: what each does to its writer and its link, and its answer
 
-module _ {W : Type 0} (contents : W → Option (List ℕ)) (writer writer' : Checked W) (told left : Option Told) (answer : Result Exit ToolFault) where
+module _ {W : Type 0} (contents : W → Option (List ℕ)) (writer writer' : Checked W) (told left : Account) (answer : Result Exit ToolFault) where
   -- Only where the writer is at fault was anything printed of a call that met a fault.
   abbrev pub Unprinted : Type 0
   Unprinted = IfErr answer (λ fault. fault ≢ WriteFailed → writer' ≡ writer)
@@ -41,20 +42,20 @@ module _ {W : Type 0} (contents : W → Option (List ℕ)) (writer writer' : Che
   -- A request tells its events, its sends, its end and the line of that, by the look-ahead; a search the devices that it finds,
   -- and their lines; a device its replies, and it prints nothing.
   abbrev pub ToolRuns : Job → Type 0
-  ToolRuns (Read call) = ReadTells call (contents (inner_of writer)) (contents (inner_of writer')) told left answer × Unprinted
-  ToolRuns (Write call) = WriteTells call (contents (inner_of writer)) (contents (inner_of writer')) told left answer × Unprinted
-  ToolRuns (WhoIs search) = Searched search (contents (inner_of writer)) (contents (inner_of writer')) told left answer
+  ToolRuns (Read call) = ReadTells call contents writer writer' told left answer × Unprinted
+  ToolRuns (Write call) = WriteTells call contents writer writer' told left answer × Unprinted
+  ToolRuns (WhoIs search) = Searched search contents writer writer' told left answer
   ToolRuns (Device serve) = DevicePlays serve told left answer × (writer' ≡ writer)
   ToolRuns Trace = ⊥
 
 -- ---- the whole
 
-module _ {L R W : Type 0} (tells : L → Option Told) (failed : L → Bool) (remaining : R → Option (List ℕ)) (contents : W → Option (List ℕ)) (reader reader' : Checked R) (writer writer' : Checked W) (report : Report) where
+module _ {L R W : Type 0} (out : Outside L R W) (reader reader' : Checked R) (writer writer' : Checked W) (report : Report) where
   -- Over a link: the tool's answer is the report. Link and writer have failed exactly where it is their fault.
   pub record RunsOver (job : Job) (link link' : L) : Type 0 where
     pub answer : Result Exit ToolFault
-    pub tool : ToolRuns contents writer writer' (tells link) (tells link') answer job
-    pub link_fault : failed link' ≡ is_link_fault answer
+    pub tool : ToolRuns out.contents writer writer' (out.told link) (out.told link') answer job
+    pub link_fault : out.failed link' ≡ is_link_fault answer
     pub write_fault : has_failed writer' ≡ is_write_fault answer
     pub unread : reader' ≡ reader
     pub reported : report ≡ tool_report answer
@@ -68,7 +69,7 @@ module _ {L R W : Type 0} (tells : L → Option Told) (failed : L → Bool) (rem
   -- A script: its text, and how it ends.
   pub record RunsScript : Type 0 where
     pub answer : Result TraceEnd TraceFault
-    pub script : Traces remaining contents reader reader' writer writer' answer
+    pub script : Traces out.remaining out.contents reader reader' writer writer' answer
     pub read_fault : answer ≡ Err stops.ReadFailed → (has_failed reader' ≡ true) ⊎ AreSpent reader'
     pub write_fault : (has_failed writer' ≡ true) ↔ (answer ≡ Err stops.WriteFailed)
     pub reported : report ≡ trace_report answer

@@ -17,6 +17,6 @@ pub use bac_script::{TraceEnd, TraceFault, show_outcome, show_value, trace, trac
 pub use bac_text::{Call, Checked, Search, read_peer};
 pub use bac_words::{Job, Serve, UsageFault, parse_words, usage_status, words_of};
 pub use binding::{Binding, binding_for};
-pub use program::{Network, run_words};
+pub use program::{Network, Ran, run_words};
 pub use report::{Fault, Report};
 pub use running::run_job;

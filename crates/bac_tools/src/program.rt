@@ -33,6 +33,13 @@ pub trait Network {
         ensures sound { IfOk result (λ socket. Self.Socket.has_failed socket ≡ false) };
 }
 
+/// How the program ended, and the socket that it had, or why there was none to be had; None where it asked for none.
+#[derive(Drop)]
+pub struct Ran<L: Drop> {
+    pub report: Report,
+    pub socket: Option<Result<L, LinkFault>>,
+}
+
 /// Runs what the words ask for, the first of which is the program's name.
 ///
 /// Words that give no job are told in the report: help, what `clap` refuses, or their first fault; nothing is read, printed or
@@ -44,19 +51,26 @@ pub fn run_words<N: Network + Drop, R: Read, W: Write>(
     network: N,
     reader: &mut Checked<R>,
     writer: &mut Checked<W>,
-) -> Report
+) -> Ran<N::Socket>
     requires reader { has_failed reader.old ≡ false }
     requires writer { has_failed writer.old ≡ false }
-    ensures runs { Program N.gives N.Socket.told N.Socket.has_failed R.remaining W.contents network reader.old reader.new writer.old writer.new result (texts words.now) }
-    ensures status { IsStatusOf result.fault result.status }
+    ensures runs { Program N.gives record { told = N.Socket.told; failed = N.Socket.has_failed; remaining = R.remaining; contents = W.contents }
+        network reader.old reader.new writer.old writer.new result (texts words.now) }
+    ensures status { IsStatusOf result.report.fault result.report.status }
 {
     let job = match parse_words(alloc, words) {
         Ok(job) => job,
-        Err(fault) => return Report::from(fault),
+        Err(fault) => {
+            return Ran {
+                report: Report::from(fault),
+                socket: None,
+            };
+        }
     };
-    let mut opened = match binding_for(&job) {
+    let mut socket = match binding_for(&job) {
         Some(binding) => Some(network.bind(binding)),
         None => None,
     };
-    run_job(job, &mut opened, reader, writer)
+    let report = run_job(job, &mut socket, reader, writer);
+    Ran { report, socket }
 }

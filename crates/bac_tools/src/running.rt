@@ -16,7 +16,7 @@ use bac_words::{Job, Serve};
 use std::io::{Read, Write};
 
 /// Runs a job: a script over the reader and the writer, any other over the writer and the link that it asks for. What is printed,
-/// what is sent, and the report are those that the definition of its tool gives for the script, or for what the link tells. The status is
+/// what is sent, and the report are those that the definition of its tool gives for the script, or for what the link gave. The status is
 /// that of the fault that is told, and 0 or 1 where none is.
 #[tactic(auto, using(crate::proofs::Statuses::tool_status, crate::proofs::Statuses::trace_status))]
 pub fn run_job<L: Link, R: Read, W: Write>(
@@ -29,7 +29,8 @@ pub fn run_job<L: Link, R: Read, W: Write>(
     requires opened { IsOpened L.has_failed (binding_of job) opened.old }
     requires reader { has_failed reader.old ≡ false }
     requires writer { has_failed writer.old ≡ false }
-    ensures runs { Runs L.told L.has_failed R.remaining W.contents reader.old reader.new writer.old writer.new result job opened.old opened.new }
+    ensures runs { Runs record { told = L.told; failed = L.has_failed; remaining = R.remaining; contents = W.contents }
+        reader.old reader.new writer.old writer.new result job opened.old opened.new }
     ensures status { IsStatusOf result.fault result.status }
 {
     if let Job::Trace = job {

@@ -1,4 +1,8 @@
-//! Tags, values and regions of BACnet as octets.
+//! Tags, values and regions of BACnet as octets (ANSI/ASHRAE 135, clause 20.2). Nothing is copied when they are read, and no
+//! memory is asked for.
+//!
+//! [`read_value`] reads the value that begins the octets, in any of its spellings; [`write_value`] appends the shortest one
+//! to a [`Frame`]. [`region`] passes over whole items up to a closing tag. `specs/Datum.antt` says what spells a value.
 #![tactic(auto)]
 
 mod frame;

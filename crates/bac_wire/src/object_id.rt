@@ -1,3 +1,5 @@
+//! Object identifiers.
+
 ghost use Rattle.std.specs.Prelude.{◌≡◌, ◌<◌, ◌^◌, ◌↔◌, IsSome, IfSome};
 
 /// How many types of object there are: ten bits number them.

@@ -1,11 +1,11 @@
-ghost use Rattle.std.specs.Prelude.{◌≡◌, ◌<◌, ◌≤◌, ◌+◌, ◌^◌, ◌++◌, ◌↔◌, [], ◌∷◌, IsTrue, IfSome, length, OnOk, OnErr};
+//! Values under an application tag, read and written.
+
+ghost use Rattle.std.specs.Prelude.{◌≡◌, ◌<◌, ◌≤◌, ◌^◌, ◌++◌, ◌↔◌, IsTrue, IfSome, length, OnOk};
 ghost use Rattle.std.specs.Option.{option_map};
-ghost use Rattle.byteorder.specs.Endian.{big_number, big_bytes, low_bytes, twos_complement};
+ghost use Rattle.byteorder.specs.Endian.{big_bytes, low_bytes, twos_complement};
 ghost use Rattle.std.specs.Int.{w64};
 ghost use Rattle.bac_wire.specs.Front.{FindsFront, IsShortest, IsReadBack};
-ghost use Rattle.bac_wire.specs.Tag.{plain_tag};
-ghost use Rattle.bac_wire.specs.declared.tag.Shape.TheVariants.{App as app};
-ghost use Rattle.bac_wire.specs.Datum.{Spells, Datum, datum, IsSound, InRange, plain, tagged as tagged_octets, octet_count as count_octets, signed_count as count_signed, AreBits};
+ghost use Rattle.bac_wire.specs.Datum.{Spells, datum, IsSound, InRange, plain, tagged as tagged_octets, octet_count as count_octets, signed_count as count_signed};
 ghost use Rattle.bac_wire.specs.Datum.{boolean, null};
 ghost use Rattle.bac_wire.specs.Identifier.{identifier, number_of};
 ghost use Rattle.bac_wire.specs.DatumReading.{exactly, number_within, bits_of as bits_at, contents_of, value_at};

@@ -2,7 +2,7 @@
 
 /// The program and its version, which nothing else says.
 pub(crate) const ABOUT: &str =
-    "bactool 0.2.0: reads and writes properties of BACnet/IP controllers, finds devices, and plays a small device";
+    "bactool 0.3.0: reads and writes properties of BACnet/IP controllers, finds devices, and plays a small device";
 
 pub(crate) const READS: &str = "Reads a property of an object, and prints its value";
 
@@ -47,14 +47,14 @@ Status 1: timeout, segmented, bad-error, bad-ack, or
 An answer from another address than that of --mac is not taken, so it is a timeout.";
 
 pub(crate) const WRITE_LINES: &str = "Tags, and how the value is written:
-   0  Null          any word; it relinquishes the priority
+   0  Null          any word, also a number; it relinquishes the priority
    1  Boolean       true, false, 1 or 0
    2  Unsigned      0 to 18446744073709551615
    3  Signed        -9223372036854775808 to 9223372036854775807
-   4  Real          8 hexadecimal digits, as 41a00000 for 20.0
+   4  Real          8 hexadecimal digits, as 41a00000 for 20.0; 20000000 is octets too, not a number
    5  Double        16 hexadecimal digits, as 4034000000000000 for 20.0
    6  Octet String  hexadecimal digits, an even number of them, as 01ff
-   7  String        a text in UTF-8, as \"Room 5\"
+   7  String        a text in UTF-8 as one word, so in quotes where it has a space: \"Room 5\"
    8  Bit String    digits 0 and 1, the first bit first, as 1010
    9  Enumerated    0 to 4294967295
   10  Date          8 hexadecimal digits: year less 1900, month, day, day of the week, as 7c0a1f04
@@ -73,8 +73,9 @@ Prints one line. Status 0: ok. Status 1: timeout, segmented, bad-error, bad-ack,
                     2 40 not writable, 2 42 no such element, 2 50 no array
   reject REASON     4 to 7 the device could not read the request, 9 unknown service
   abort REASON      the device gave up
-A timeout does not say that nothing was written: read the property. An answer from another address
-than that of --mac is not taken, so it is a timeout too.";
+After any status but 0, and after Ctrl-C, the write may have been made: read the property back. Only
+status 2 says that nothing was sent. An answer from another address than that of --mac is not taken,
+so it is a timeout.";
 
 pub(crate) const SEARCH_LINES: &str = "Examples:
   bactool bacwi --mac 192.0.2.7
@@ -99,7 +100,18 @@ pub(crate) const TRACE_LINES: &str = "Example:
   bactool bactrace < session.trace
       where session.trace has: read 192.0.2.7 0 5 85
 
-Writes what the client sends, how each request ends, and what the device replies.";
+Lines of a script, each with what it prints:
+  client TIMEOUT RETRIES TICKET               nothing; it stands before all others
+  read PEER TYPE INSTANCE PROPERTY [INDEX]    send TICKET PEER HEX, full, or spent
+  write PEER TYPE INSTANCE PROPERTY PRIORITY INDEX TAG VALUE [TAG VALUE ..]
+                                              the same, or too-long
+  data PEER HEX                               done TICKET OUTCOME, or drop
+  tick MILLISECONDS                           for each request that is due: send TICKET PEER HEX,
+                                              or timeout TICKET
+  ask PEER HEX                                reply PEER HEX, or silent
+A line ask is put to the device that bacdev plays, all others to a client. A line that begins with #
+is skipped. PEER is an address, as 192.0.2.7, 192.0.2.7:47809 or 192.0.2.1/5/07; HEX has the octets
+of a whole datagram. What each word may be: man bactrace";
 
 pub(crate) const DEVICE: &str = "Instance of the device, 0 to 4194303, as 1234; it is not sent";
 

@@ -1,14 +1,14 @@
 //! The program: its words, UDP sockets, standard input and output.
 #![tactic(auto)]
 
-ghost use Rattle.std.specs.Prelude.{◌≡◌, ◌⊎◌, Err, IfOk, map};
+ghost use Rattle.std.specs.Prelude.{◌≡◌, ◌⊎◌, [], Err, IfOk, map};
 ghost use Rattle.std.specs.String.{string_bytes};
 ghost use Rattle.bac_links.specs.declared.fault.ToolFault.TheVariants.{WriteFailed};
 ghost use Rattle.bac_tools.specs.Program.{IsCalled};
 ghost use Rattle.bac_tools.specs.Report.{IsHelp, tool_report};
 
 use bac_tools::{
-    Binding, Checked, Fault, Link, LinkFault, Network, Report, ToolFault, UdpLink, UsageFault,
+    Binding, Checked, Fault, Link, LinkFault, Network, Ran, Report, ToolFault, UdpLink, UsageFault,
     run_words, words_of,
 };
 use std::env;
@@ -18,7 +18,7 @@ use std::process::ExitCode;
 
 fn main(rt: HostRuntime) -> ExitCode {
     let report = match typed_words(&rt) {
-        Ok(typed) => run(&rt, &typed),
+        Ok(typed) => run(&rt, &typed).ran.report,
         Err(error) => Report::from(error),
     };
     ExitCode::from(told(&rt, report).status)
@@ -33,18 +33,37 @@ fn typed_words(rt: &HostRuntime) -> io::Result<Vec<String>> {
     Ok(typed)
 }
 
+/// How the program ended, its socket, and its standard input and output.
+#[derive(Drop)]
+struct Finished {
+    ran: Ran<UdpLink<HostRuntime>>,
+    reader: Checked<Stdin>,
+    writer: Checked<Stdout>,
+}
+
 // Runs what the words ask for.
-fn run(rt: &HostRuntime, typed: &[String]) -> Report
-    ensures { IsCalled ⟦<Sockets<'static> as Network>⟧.gives ⟦<UdpLink<HostRuntime> as Link>⟧.told ⟦<UdpLink<HostRuntime> as Link>⟧.has_failed ⟦<Stdin as Read>⟧.remaining ⟦<Stdout as Write>⟧.contents result (map string_bytes typed.now) }
+fn run(rt: &HostRuntime, typed: &[String]) -> Finished
+    ensures { IsCalled ⟦<Sockets<'static> as Network>⟧.gives record {
+      told = ⟦<UdpLink<HostRuntime> as Link>⟧.told;
+      failed = ⟦<UdpLink<HostRuntime> as Link>⟧.has_failed;
+      remaining = ⟦<Stdin as Read>⟧.remaining;
+      contents = ⟦<Stdout as Write>⟧.contents;
+    } result.ran result.reader result.writer (map string_bytes typed.now) }
 {
-    let words = match words_of(rt.alloc(), typed) {
-        Ok(words) => words,
-        Err(error) => return Report::from(UsageFault::from(error)),
-    };
     let mut reader = Checked::new(rt.stdin());
     let mut writer = Checked::new(rt.stdout());
-    let sockets = Sockets { rt };
-    run_words(rt.alloc(), &words, sockets, &mut reader, &mut writer)
+    let ran = match words_of(rt.alloc(), typed) {
+        Ok(words) => run_words(rt.alloc(), &words, Sockets { rt }, &mut reader, &mut writer),
+        Err(error) => Ran {
+            report: Report::from(UsageFault::from(error)),
+            socket: None,
+        },
+    };
+    Finished {
+        ran,
+        reader,
+        writer,
+    }
 }
 
 /// The sockets of this machine.
@@ -56,7 +75,7 @@ struct Sockets<'r> {
 impl Network for Sockets<'_> {
     type Socket = UdpLink<HostRuntime>;
 
-    ghost gives = { λ _ binding socket. IfOk socket (λ link. link.refused ≡ binding.refused) };
+    ghost gives = { λ _ binding socket. IfOk socket (λ link. (link.refused ≡ binding.refused) × (link.history.entries ≡ [])) };
 
     fn bind(self, binding: Binding) -> Result<UdpLink<HostRuntime>, LinkFault> {
         UdpLink::bind_with(self.rt, self.rt.alloc(), binding.at, binding.refused)

@@ -21,7 +21,7 @@ fn added(device: &mut Device, (kind, instance, name, start, extra): Row<'_>) -> 
 }
 
 /// Points, and what the small device answers where each is added.
-static POINTS_ADDED: [(Row<'static>, Added); 13] = [
+static POINTS_ADDED: [(Row<'static>, Added); 23] = [
     ((0, 6, "Indoor temperature", 0, 62), Ok(())),
     ((0, 5, "Indoor temperature", 0, 62), Err(AddFault::Twice)),
     ((0, 5, "Valve", 0, 62), Err(AddFault::Twice)),
@@ -35,7 +35,22 @@ static POINTS_ADDED: [(Row<'static>, Added); 13] = [
     ((8, 2, "Device", 0, 0), Err(AddFault::BadPoint)),
     ((0, 4_194_303, "Nothing", 0, 0), Err(AddFault::BadPoint)),
     ((0, 6, "", 0, 0), Err(AddFault::BadPoint)),
+    ((0, 6, LONGEST_NAME, u32::MAX, u32::MAX), Ok(())),
+    ((0, 6, LONGER_NAME, 0, 0), Err(AddFault::BadPoint)),
+    ((0, 4_194_302, "Last", 0, 0), Ok(())),
+    ((0, 5, "", 0, 62), Err(AddFault::Twice)),
+    ((8, 1234, "Valve", 0, 0), Err(AddFault::NameTwice)),
+    ((8, 1234, "Device", 0, 0), Err(AddFault::BadPoint)),
+    ((0, 6, "valve", 0, 62), Ok(())),
+    ((3, 6, "Gate", 1, 1), Ok(())),
+    ((3, 6, "Gate", 1, 2), Err(AddFault::BadPoint)),
+    ((13, 6, "Stage", 3, 3), Ok(())),
 ];
+
+/// A name of 64 octets, and one of 65.
+const LONGEST_NAME: &str = "0123456789012345678901234567890123456789012345678901234567890123";
+
+const LONGER_NAME: &str = "01234567890123456789012345678901234567890123456789012345678901234";
 
 #[test]
 fn refused_points(rt: HostRuntime) {
@@ -60,18 +75,21 @@ fn with_inputs() -> Option<Device> {
     Some(device)
 }
 
-/// What a device with 31 points answers where two more are added.
-fn answers_at_the_end() -> Option<[Added; 2]> {
+/// What a device with 31 points answers where two more are added, and then the first of them again.
+fn answers_at_the_end() -> Option<[Added; 3]> {
     let mut device = with_inputs()?;
     let before = added(&mut device, (0, 98, "last", 0, 0))?;
-    Some([before, added(&mut device, (0, 99, "one more", 0, 0))?])
+    let after = added(&mut device, (0, 99, "one more", 0, 0))?;
+    Some([before, after, added(&mut device, (0, 98, "last", 0, 0))?])
 }
 
 #[test]
 fn device_infos_and_thirty_three_points(rt: HostRuntime) {
     assert!(&rt; DeviceInfo::new(4_194_303, "x").is_none() && DeviceInfo::new(1, "").is_none());
     assert!(&rt; DeviceInfo::new(4_194_302, "x").is_some() && POINTS == 32);
-    assert!(&rt; answers_at_the_end() == Some([Ok(()), Err(AddFault::TooMany)]));
+    assert!(&rt;
+        answers_at_the_end() == Some([Ok(()), Err(AddFault::TooMany), Err(AddFault::TooMany)])
+    );
 }
 
 fn present(kind: u16, instance: u32) -> Option<u32> {

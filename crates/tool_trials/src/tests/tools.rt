@@ -45,7 +45,7 @@ fn runs(
     let mut room = [0xff; 96];
     let mut reader = Checked::new(SCRIPT);
     let mut writer = Checked::new(room.as_mut_slice());
-    let report = run_words(alloc, words, network, &mut reader, &mut writer);
+    let report = run_words(alloc, words, network, &mut reader, &mut writer).report;
     is_text(&room, text) && report.status == status && is_told(alloc, &report, fault)
 }
 

@@ -1,7 +1,7 @@
 use Rattle.std.proofs.Common.{refl, rules}
-use Rattle.bac_links.proofs.CallTurns.{one_sent}
+use Rattle.bac_links.proofs.CallTurns.{one_post}
 use Rattle.bac_links.proofs.call.send_request.Goals as goal
 
 pub returns-then-is_err-clause-err : goal.returns-then-is_err-clause-err
 returns-then-is_err-clause-err g c =
-    (refl, search rules, λ time. one_sent c.args.client.now.state c.args.ticket _ c.in-Some.ensures time)
+    (refl, (_, _, one_post c.args.client.now.state c.args.ticket _ c.in-Some.ensures, search rules))

@@ -1,5 +1,5 @@
 use Rattle.std.proofs.Common.{◌≡◌, ◌≤◌, false}
-use Rattle.bac_text.specs.Checked.{inner_of, has_failed}
+use Rattle.bac_text.specs.Checked.{has_failed}
 use Rattle.bac_links.proofs.Searches.{SearchGoes}
 use Rattle.bac_links.proofs.search.run_whois.Given as goal
 
@@ -8,5 +8,5 @@ invariant-loop-turn g l = record {
   sound : g.L.Link.has_failed l.link ≡ false;
   unfailed : has_failed l.writer ≡ false;
   later : l.first ≤ l.greatest;
-  goes : SearchGoes l.fn.search (g.W.Write.contents (inner_of l.fn.writer)) (g.W.Write.contents (inner_of l.writer)) (g.L.Link.told l.fn.link) (g.L.Link.told l.link) l.first l.greatest l.any l._turn;
+  goes : SearchGoes l.fn.search g.W.Write.contents l.fn.writer l.writer (g.L.Link.told l.fn.link) (g.L.Link.told l.link) l.first l.greatest l.any l._turn;
 }

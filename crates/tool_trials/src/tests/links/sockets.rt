@@ -10,13 +10,13 @@ use std::io::ErrorKind;
 use std::net::{Net, SocketAddr, UdpSocket};
 use std::time::{Clock, Duration};
 
-/// Whether a link hears this within a second, from this peer.
+/// Whether a link hears this within five seconds, from this peer.
 fn hears<L: Link>(link: &mut L, from: Peer, octets: &[u8]) -> Result<bool, LinkFault>
     requires { L.has_failed link.old ≡ false }
     ensures { L.has_failed link.new ≡ is_err result }
 {
     let mut datagram = Datagram::new();
-    let peer = link.receive(1_000, &mut datagram)?;
+    let peer = link.receive(5_000, &mut datagram)?;
     Ok(peer == Some(from) && datagram.as_slice() == octets)
 }
 
@@ -90,8 +90,8 @@ fn carries_up_to_the_longest<L: Link>(near: &mut L, far: &mut L, way: Way) -> Is
     near.send(way.1, &octets)?;
     let long = silence(far, 1_000)?;
     let short = silence(far, 0)?;
-    let waited = silence(near, 200)?;
-    Ok(are_heard && long.is_some() && is_within(short, 0, 2_000) && is_within(waited, 150, 2_000))
+    let waited = silence(near, 1_000)?;
+    Ok(are_heard && long.is_some() && is_within(short, 0, 2_000) && is_within(waited, 950, 3_000))
 }
 
 fn is_within(passed: Option<u64>, least: u64, below: u64) -> bool {

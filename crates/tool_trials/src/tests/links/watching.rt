@@ -1,5 +1,5 @@
 //! What has gone out before a tool waits, and how often it asks for the time.
-ghost use Rattle.std.specs.Prelude.{◌≡◌, false, None, IfOk};
+ghost use Rattle.std.specs.Prelude.{◌≡◌, false, IfOk};
 
 use super::*;
 use crate::tests::streams::{Progress, telling};
@@ -33,7 +33,7 @@ fn watch<'a>(alloc: Global, steps: &[Step<'_>], written: &'a Cell<usize>) -> Wat
 }
 
 impl Link for Watching<'_> {
-    ghost told = { λ _. None };
+    ghost told = { λ watching. ⟦<MemoryLink as Link>⟧.told watching.link };
 
     ghost has_failed = { λ watching. ⟦<MemoryLink as Link>⟧.has_failed watching.link };
 

@@ -223,3 +223,19 @@ fn what_has_ended_is_not_asked_again(rt: HostRuntime) {
         assert!(rt; is_read_twice(&SCRIPT[..SCRIPT.len() - 1], *fails));
     }
 }
+
+/// Whether such a reader is read once where its first read gives a line with this fault.
+fn is_read_once(script: &[u8], fault: TraceFault) -> bool {
+    let (at, fails) = (0, true);
+    let mut reader = Checked::new(EndedOnce { script, at, fails });
+    let got = trace(&mut reader, &mut Checked::new([0; 1].as_mut_slice()));
+    got == Err(fault) && reader.reads() == 1 && !reader.failed()
+}
+
+// A line that is bad or too long decides: the reader is not asked for more.
+#[test]
+fn a_bad_line_is_read_at_once(rt: HostRuntime) {
+    assert!(rt; is_read_once(b"x\n", TraceFault::BadLine(1)));
+    assert!(rt; is_read_once(b"tick 1\ntick x\ntick 2", TraceFault::BadLine(2)));
+    assert!(rt; is_read_once(&[b'#'; 4_097], TraceFault::LineTooLong(1)));
+}

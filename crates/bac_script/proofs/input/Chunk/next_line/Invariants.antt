@@ -11,7 +11,7 @@ invariant-loop-length g l = record {
   sound : has_failed l.reader ≡ false;
   unended : HasNotEnded l.fn.reader l.reader;
   asked : reads_of l.reader + length l.fn.self ≤ reads_of l.fn.reader + length l.self;
-  needed : ReadForLine (reads_of l.fn.reader) (reads_of l.reader) l.fn.self l.self;
+  needed : ReadForLine l.fn.reader l.reader l.fn.self l.self;
   spared : IsSpared l.fn.reader l.reader;
   room : may_come l.reader l.self ≤ may_come l.fn.reader l.fn.self;
 }

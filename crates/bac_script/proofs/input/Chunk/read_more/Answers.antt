@@ -1,5 +1,5 @@
-use Rattle.std.proofs.Common.{arith}
-use Rattle.bac_script.proofs.Chunks.{Placed, placed_moved, still_before, still_held, before_more, read_on, read_none, read_ended}
+use Rattle.std.proofs.Common.{◌∙◌, ap, inr, take, arith}
+use Rattle.bac_script.proofs.Chunks.{Placed, placed_moved, still_before, still_held, before_more, read_on, read_none, read_ended, last_on, last_none}
 use Rattle.bac_script.proofs.input.Chunk.read_more.Goals as goal
 use Rattle.bac_script.proofs.input.Chunk.read_more.Given.{Over}
 use Rattle.bac_script.proofs.input.Chunk.read_more.Goals.{After-read, then-self, else-self}
@@ -30,7 +30,7 @@ pub invariant_of-self : goal.invariant_of-self
 invariant_of-self g c = let r = ready g c.before in (r.within, omega (arith, r.room), r.few, still_before r _ _)
 
 pub returns-in_default-clause-given : goal.returns-in_default-clause-given
-returns-in_default-clause-given g c = let r = ready g c.before in read_none r _ _ c.in_default.ensures.bytes
+returns-in_default-clause-given g c = let r = ready g c.before in read_none r _ _ c.in_default.ensures.passed c.in_default.ensures.bytes
 
 pub returns-in_default-clause-same : goal.returns-in_default-clause-same
 returns-in_default-clause-same g c = let r = ready g c.before in λ _. still_held r _ _
@@ -39,7 +39,7 @@ pub invariant_of-self-then-count-eq0 : goal.invariant_of-self-then-count-eq0
 invariant_of-self-then-count-eq0 g c = let r = ready g c.before.before in (r.within, omega (arith, r.room), r.few, still_before r _ _)
 
 pub returns-then-count-eq0-clause-given : goal.returns-then-count-eq0-clause-given
-returns-then-count-eq0-clause-given g c = let r = ready g c.before.before in read_ended r _ _ _ c.if-count-eq0.true c.in-Ok.ensures.bytes.0
+returns-then-count-eq0-clause-given g c = let r = ready g c.before.before in read_ended r _ _ _ c.if-count-eq0.true c.in-Ok.ensures.passed c.in-Ok.ensures.bytes.0
 
 pub returns-then-count-eq0-clause-same : goal.returns-then-count-eq0-clause-same
 returns-then-count-eq0-clause-same g c = let r = ready g c.before.before in λ _. still_held r _ _
@@ -50,4 +50,15 @@ invariant_of-self-2 g c =
     (omega (arith, r.within), omega (arith, r.room, c.in-Ok.ensures.bound.0), r.few, before_more r _ _ _ c.in-Ok.ensures.bound.0)
 
 pub returns-clause-given : goal.returns-clause-given
-returns-clause-given g c = let r = ready g c.before.before.before in read_on r _ _ _ c.in-Ok.ensures.bound.0 c.in-Ok.ensures.bytes.0
+returns-clause-given g c = let r = ready g c.before.before.before in read_on r _ _ _ c.in-Ok.ensures.bound.0 c.in-Ok.ensures.passed c.in-Ok.ensures.bytes.0
+
+pub returns-in_default-clause-last : goal.returns-in_default-clause-last
+returns-in_default-clause-last g c = let r = ready g c.before in inr (last_none r _ _ c.in_default.ensures.last)
+
+pub returns-then-count-eq0-clause-last : goal.returns-then-count-eq0-clause-last
+returns-then-count-eq0-clause-last g c =
+    let r = ready g c.before.before in
+    inr (last_none r _ _ (c.in-Ok.ensures.last ∙ ap (λ n. take n c.read.new.buf) c.if-count-eq0.true))
+
+pub returns-clause-last : goal.returns-clause-last
+returns-clause-last g c = let r = ready g c.before.before.before in inr (last_on r _ _ _ c.in-Ok.ensures.bound.0 c.in-Ok.ensures.last)

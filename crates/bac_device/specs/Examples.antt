@@ -1,0 +1,132 @@
+-- Requests to the demonstration device, for examples of what it replies.
+use Rattle.std.specs.Prelude.{◌≡◌, ℕ, ◌+◌, List, [], ◌∷◌, ◌++◌, codes, length, map, Some, None}
+use Rattle.bac_pdu.specs.Peer.{Station}
+use Rattle.bac_device.specs.Info.{Info}
+use Rattle.bac_device.specs.Turns.{replies_to}
+use Rattle.bac_device.specs.Demo.{demo_points}
+
+-- the device of a script
+abbrev pub small : Info
+small = record { instance = 1234; name = codes "Small device" }
+
+-- 127.0.0.1, port 50000, which asks
+abbrev pub desk : Station
+desk = record { ip = 0x7f000001; port = 50000; route = None }
+
+-- an APDU in a datagram, behind this control octet: 4 where a reply is expected, and else 0
+abbrev pub datagram : ℕ → List ℕ → List ℕ
+datagram control apdu = 0x81 ∷ 0x0a ∷ 0x00 ∷ (6 + length apdu) ∷ 0x01 ∷ control ∷ apdu
+
+-- What the desk asks a new device, one after the other, and what it gets: two APDUs each.
+abbrev pub Exchanges : List (List ℕ × List ℕ) → Type 0
+Exchanges pairs =
+    replies_to small demo_points [] (map (λ pair. record { from = desk; datagram = datagram 0x04 pair.0 }) pairs)
+    ≡ map (λ pair. Some (desk, datagram 0x00 pair.1)) pairs
+
+-- ---- objects and their properties
+
+abbrev pub outdoor : List ℕ
+outdoor = 0x0c ∷ 0x00 ∷ 0x00 ∷ 0x00 ∷ 0x05 ∷ []
+
+-- the input that has a name of 36 octets
+abbrev pub long_named : List ℕ
+long_named = 0x0c ∷ 0x00 ∷ 0x00 ∷ 0x00 ∷ 0x24 ∷ []
+
+abbrev pub valve : List ℕ
+valve = 0x0c ∷ 0x00 ∷ 0x40 ∷ 0x00 ∷ 0x01 ∷ []
+
+abbrev pub fan : List ℕ
+fan = 0x0c ∷ 0x01 ∷ 0x00 ∷ 0x00 ∷ 0x04 ∷ []
+
+abbrev pub season : List ℕ
+season = 0x0c ∷ 0x04 ∷ 0xc0 ∷ 0x00 ∷ 0x01 ∷ []
+
+abbrev pub nothing : List ℕ
+nothing = 0x0c ∷ 0x00 ∷ 0x00 ∷ 0x00 ∷ 0x63 ∷ []
+
+abbrev pub own : List ℕ
+own = 0x0c ∷ 0x02 ∷ 0x00 ∷ 0x04 ∷ 0xd2 ∷ []
+
+-- the instance that stands for every device
+abbrev pub any_device : List ℕ
+any_device = 0x0c ∷ 0x02 ∷ 0x3f ∷ 0xff ∷ 0xff ∷ []
+
+-- the property of this number of the object, and an element of it
+abbrev pub of : ℕ → List ℕ → List ℕ
+of number object = object ++ 0x19 ∷ number ∷ []
+
+abbrev pub element_of : ℕ → ℕ → List ℕ → List ℕ
+element_of index number object = of number object ++ 0x29 ∷ index ∷ []
+
+-- ---- requests and replies
+
+-- a value between its brackets
+abbrev pub holding : List ℕ → List ℕ
+holding value = 0x3e ∷ value ++ 0x3f ∷ []
+
+-- a ReadProperty of a requester that takes APDUs of 1476 octets, or of 50
+abbrev pub read : List ℕ → List ℕ
+read what = 0x00 ∷ 0x05 ∷ 0x01 ∷ 0x0c ∷ what
+
+abbrev pub read_for_50 : List ℕ → List ℕ
+read_for_50 what = 0x00 ∷ 0x00 ∷ 0x01 ∷ 0x0c ∷ what
+
+-- its acknowledgement
+abbrev pub is : List ℕ → List ℕ → List ℕ
+is what value = 0x30 ∷ 0x01 ∷ 0x0c ∷ what ++ holding value
+
+-- a WriteProperty of a present value without a priority, and at this one
+abbrev pub write : List ℕ → List ℕ → List ℕ
+write object value = 0x00 ∷ 0x05 ∷ 0x01 ∷ 0x0f ∷ of 85 object ++ holding value
+
+abbrev pub write_at : ℕ → List ℕ → List ℕ → List ℕ
+write_at priority object value = write object value ++ 0x49 ∷ priority ∷ []
+
+-- an Error to a service, with its class and its code
+abbrev pub failed : ℕ → ℕ → ℕ → List ℕ
+failed service class code = 0x50 ∷ 0x01 ∷ service ∷ 0x91 ∷ class ∷ 0x91 ∷ code ∷ []
+
+-- an Abort of the server: segmentation not supported
+abbrev pub aborted : List ℕ
+aborted = 0x71 ∷ 0x01 ∷ 0x04 ∷ []
+
+-- ---- exchanges
+
+-- a property has this value, or can't be read
+abbrev pub has : List ℕ → List ℕ → List ℕ × List ℕ
+has what value = (read what, is what value)
+
+abbrev pub has_no : List ℕ → ℕ → ℕ → List ℕ × List ℕ
+has_no what class code = (read what, failed 12 class code)
+
+-- a write is made, or not
+abbrev pub makes : List ℕ → List ℕ × List ℕ
+makes request = (request, 0x20 ∷ 0x01 ∷ 0x0f ∷ [])
+
+abbrev pub refuses : List ℕ → ℕ → ℕ → List ℕ × List ℕ
+refuses request class code = (request, failed 15 class code)
+
+-- ---- values
+
+-- the Real 72.3, 20.0, 30.0 and 0.0
+abbrev pub real_72_3 : List ℕ
+real_72_3 = 0x44 ∷ 0x42 ∷ 0x90 ∷ 0x99 ∷ 0x9a ∷ []
+
+abbrev pub twenty : List ℕ
+twenty = 0x44 ∷ 0x41 ∷ 0xa0 ∷ 0x00 ∷ 0x00 ∷ []
+
+abbrev pub thirty : List ℕ
+thirty = 0x44 ∷ 0x41 ∷ 0xf0 ∷ 0x00 ∷ 0x00 ∷ []
+
+abbrev pub zero_real : List ℕ
+zero_real = 0x44 ∷ 0x00 ∷ 0x00 ∷ 0x00 ∷ 0x00 ∷ []
+
+abbrev pub null : List ℕ
+null = 0x00 ∷ []
+
+-- an Unsigned, and an Enumerated, of one octet
+abbrev pub unsigned : ℕ → List ℕ
+unsigned number = 0x21 ∷ number ∷ []
+
+abbrev pub enumerated : ℕ → List ℕ
+enumerated number = 0x91 ∷ number ∷ []

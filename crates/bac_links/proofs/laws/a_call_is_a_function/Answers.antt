@@ -1,0 +1,5 @@
+use Rattle.bac_links.proofs.Alike.{calls_alike}
+use Rattle.bac_links.proofs.laws.a_call_is_a_function.Goals as goal
+
+pub returns : goal.returns
+returns g c = λ tool call. calls_alike g.W.Write.contents tool call

@@ -1,0 +1,5 @@
+use Rattle.bac_links.proofs.SearchesAlike.{searches_alike}
+use Rattle.bac_links.proofs.laws.a_search_is_a_function.Goals as goal
+
+pub returns : goal.returns
+returns g c = λ search. searches_alike g.W.Write.contents search

@@ -1,0 +1,5 @@
+use Rattle.bac_links.proofs.Unheard.{not_ended}
+use Rattle.bac_links.proofs.laws.no_call_ends_unheard.Goals as goal
+
+pub returns : goal.returns
+returns g c = not_ended g.W.Write.contents

@@ -1,0 +1,84 @@
+//! What a link was asked and answered. It exists only in proofs: it takes no memory, and its methods do nothing.
+ghost use Rattle.std.specs.Prelude.{◌≡◌, List, [], ◌∷◌, ◌++◌};
+ghost use Rattle.std.specs.Borrow.{ftrue};
+ghost use Rattle.bac_pdu.specs.Peer.{station};
+ghost use Rattle.bac_links.specs.Told.{heard_by};
+ghost use Rattle.bac_links.specs.History.{Entry, Waited, Timed, posted};
+
+use crate::datagram::Datagram;
+use crate::link::LinkFault;
+use bac_pdu::Peer;
+use std::marker::Model;
+
+/// All that a link was asked and answered so far. A clause reads it as `entries`.
+#[derive(Drop)]
+pub(crate) struct History {
+    pub ghost entries: { List Entry },
+}
+
+impl Model for History {
+    ghost also_owns = { λ _. ftrue };
+}
+
+/// One call of a link, with its answer: a wait of so many milliseconds that heard nothing, or a datagram, or failed; the time; a datagram
+/// that was sent, or could not be.
+#[derive(Clone, Copy, Drop)]
+pub(crate) enum Note<'a> {
+    Quiet(u32),
+    Came(u32, Peer, &'a [u8]),
+    Broke(u32),
+    Time(u64),
+    Sent(Peer, &'a [u8]),
+    Unsent(Peer, &'a [u8]),
+}
+
+impl History {
+    ghost use Rattle.bac_links.specs.Note.{noted};
+
+    /// Nothing was asked yet.
+    pub fn new() -> History
+        ensures { result.entries ≡ [] }
+    {
+        History {}
+    }
+
+    /// The same, and this behind it.
+    pub fn and(&self, _note: &Note<'_>) -> History
+        ensures { result.entries ≡ noted self.now.entries _note.now }
+    {
+        History {}
+    }
+
+    /// And a wait of so long, that answered this and left these octets.
+    pub fn and_wait(
+        &self,
+        wait_ms: u32,
+        heard: &Result<Option<Peer>, LinkFault>,
+        datagram: &Datagram,
+    ) -> History
+        ensures { result.entries ≡ self.now.entries ++ Waited wait_ms (heard_by heard.now datagram.now) ∷ [] }
+    {
+        self.and(&match heard {
+            Ok(None) => Note::Quiet(wait_ms),
+            Ok(Some(from)) => Note::Came(wait_ms, *from, datagram.as_slice()),
+            Err(_) => Note::Broke(wait_ms),
+        })
+    }
+
+    /// And the time, which was asked for.
+    pub fn and_time(&self, time: u64) -> History
+        ensures { result.entries ≡ self.now.entries ++ Timed time ∷ [] }
+    {
+        self.and(&Note::Time(time))
+    }
+
+    /// And a send to there, that answered this.
+    pub fn and_send(&self, sent: &Result<(), LinkFault>, to: Peer, octets: &[u8]) -> History
+        ensures { result.entries ≡ self.now.entries ++ posted sent.now (station to) octets.now ∷ [] }
+    {
+        self.and(&match sent {
+            Ok(()) => Note::Sent(to, octets),
+            Err(_) => Note::Unsent(to, octets),
+        })
+    }
+}

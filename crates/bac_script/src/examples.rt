@@ -1,0 +1,64 @@
+//! Examples of scripts, worked out by computation. They show what the definitions mean.
+
+ghost use Rattle.std.specs.Prelude.{[], ◌∷◌, codes, replicate, Err};
+ghost use Rattle.bac_script.specs.declared.input.Reading.TheVariants.{Open, AtEnd, Failed};
+ghost use Rattle.bac_script.specs.declared.tracing.TraceFault.TheVariants.{BadLine, LineTooLong, ReadFailed};
+ghost use Rattle.bac_script.specs.Examples.{IsTraced, ended, read, sent, answer};
+ghost use Rattle.bac_script.specs.Script.{Runs};
+
+/// What is printed of a client's events.
+#[tactic(none)]
+pub fn examples_of_a_client()
+    ensures answered { IsTraced (read ∷ answer ∷ []) (sent ∷ "done 0 value 4290999a" ∷ []) (ended 2) }
+
+    // No answer comes: the request is sent again at each timeout, and ends after three retries.
+    ensures retried { IsTraced (read ∷ "tick 2999" ∷ "tick 3000" ∷ "tick 6000" ∷ "tick 9000" ∷ "tick 12000" ∷ [])
+        (sent ∷ sent ∷ sent ∷ sent ∷ "timeout 0" ∷ []) (ended 6) }
+
+    // A timeout of one second, no retry, and a first ticket. What comes late answers nothing.
+    ensures late { IsTraced ("client 1000 0 0" ∷ read ∷ "tick 1000" ∷ answer ∷ []) (sent ∷ "timeout 0" ∷ "drop" ∷ []) (ended 4) }
+
+    // A Real is written to analog-output 1 at priority 16.
+    ensures written { IsTraced ("write 127.0.0.1 1 1 85 16 -1 4 41a00000" ∷ "data 127.0.0.1 810a0009010020010f" ∷ [])
+        ("send 0 127.0.0.1:47808 810a001a01040005010f0c0040000119553e4441a000003f4910" ∷ "done 0 ok" ∷ []) (ended 2) }
+{}
+
+/// What is printed of the device's replies.
+#[tactic(none)]
+pub fn examples_of_a_device()
+    // Who-Is of 1000 to 1234, and of 1235 to 2000.
+    ensures asked_who { IsTraced
+        ("ask 127.0.0.1:50000 810a000e010010080a03e81a04d2" ∷ "ask 127.0.0.1:50000 810a000e010010080a04d31a07d0" ∷ [])
+        ("reply 127.0.0.1:50000 810a001501001000c4020004d22205c49103220104" ∷ "silent" ∷ []) (ended 2) }
+
+    // An object that it does not have: unknown-object (31).
+    ensures unknown { IsTraced ("ask 127.0.0.1:50000 810a001101040005010c0c000000631955" ∷ [])
+        ("reply 127.0.0.1:50000 810a000d010050010c9101911f" ∷ []) (ended 1) }
+
+    // A Real is written to analog-output 1 at priority 16, and is present then.
+    ensures commanded { IsTraced
+        ("ask 127.0.0.1:50000 810a001a01040005090f0c0040000119553e4441a000003f4910"
+        ∷ "ask 127.0.0.1:50000 810a001101040005010c0c004000011955" ∷ [])
+        ("reply 127.0.0.1:50000 810a0009010020090f"
+        ∷ "reply 127.0.0.1:50000 810a0017010030010c0c0040000119553e4441a000003f" ∷ []) (ended 2) }
+{}
+
+/// Where a script stops.
+#[tactic(none)]
+pub fn examples_of_ends()
+    ensures empty { IsTraced [] [] (ended 0) }
+
+    // Blank lines and remarks are counted, and a carriage return before the line feed is dropped.
+    ensures silent { IsTraced ("# a remark" ∷ "" ∷ "tick 5\r" ∷ []) [] (ended 3) }
+
+    // The text of the lines before the first bad one is printed, whether or not more would have come.
+    ensures bad { IsTraced (read ∷ "tick x" ∷ read ∷ []) (sent ∷ []) (Err (BadLine 2)) }
+    ensures bad_at_once { Runs (codes "tick x\n") Open [] (Err (BadLine 1)) }
+
+    // A line of 4,097 octets is too long before it has ended.
+    ensures too_long { Runs (replicate 4097 35) Open [] (Err (LineTooLong 1)) }
+
+    // The last line may lack its line feed; where reading failed, it is no line.
+    ensures without_feed { Runs (codes "tick 5") AtEnd [] (ended 1) }
+    ensures cut { Runs (codes "tick x") Failed [] (Err ReadFailed) }
+{}

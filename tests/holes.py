@@ -1,0 +1,195 @@
+#!/usr/bin/env python3
+"""Sees that what no contract can refuse is refused by a test: puts in each wrong body that has a line `hole:`, runs the test which that line names,
+and says so where the test passes.
+
+Usage: tests/holes.py [--only PATTERN] [--jobs N]. The status is 0 where each of these tests fails, and passes without a body.
+
+A line `hole:` names a file: of crates/tool_trials/src/tests/, one of whose tests has to fail; of tests/rows/, one of whose rows has to; or
+a script of tests/, which has to. The trials are run by `rt try --test`, those of the file's module alone; the program is one that `rt try` makes, in
+which an index or a sum out of bounds also ends it. Nothing is proved here: tests/wrong_bodies.py does that. Each body takes a build of some 70
+seconds of processor time, so this is no part of the gate.
+"""
+import argparse
+import concurrent.futures
+import glob
+import os
+import re
+import resource
+import shutil
+import socket
+import subprocess
+import sys
+import tempfile
+import time
+
+ROOT = os.path.dirname(os.path.dirname(os.path.abspath(__file__)))
+TRIALS = "crates/tool_trials/src/tests"
+MOST = 1800  # seconds that a build may take, on a machine with much else to do
+
+
+class NotTried(Exception):
+    """A body that could not be tried, with what was said of it."""
+
+
+class Hole:
+    """A wrong body of a crate, with the file of the test that has to fail. Without a body it is the code as it stands."""
+
+    def __init__(self, file, test=None):
+        self.file, self.pairs, self.test = file, [], test
+        said = {}
+        for line in text_of(file).split("\n") if file else []:
+            word, _, text = line.partition(":")
+            said[word] = text[1:]
+            if word == "new":
+                self.pairs.append((os.path.dirname(os.path.dirname(file)) + "/" + said["file"], said["old"], text[1:]))
+        if file:
+            names = [it.strip("`,.") for it in said.get("hole", "").split()]
+            self.test = next((it for it in names if "/" in it and os.path.isfile(f"{ROOT}/{it}")), None)
+        self.name = f"{file.split('/')[-3]}/{os.path.basename(file)[: -len('.edit')]}" if file else "without a body"
+
+    def put_in(self, room):
+        for path, old, new in self.pairs:
+            replace_in(room + path[len(ROOT) :], old, new)
+
+
+def text_of(file):
+    with open(file, encoding="utf-8") as it:
+        return it.read()
+
+
+def replace_in(file, old, new):
+    text = text_of(file)
+    if text.count(old) != 1:
+        raise NotTried(f"{file}: {old!r} stands {text.count(old)} times")
+    with open(file, "w", encoding="utf-8") as it:
+        it.write(text.replace(old, new))
+
+
+def copy_sources(room):
+    shutil.copy(f"{ROOT}/crates.txt", room)
+    shutil.copy(f"{ROOT}/HANDLES", room)
+    for part in glob.glob(f"{ROOT}/crates/*/src") + glob.glob(f"{ROOT}/crates/*/specs") + glob.glob(f"{ROOT}/crates/*/proofs"):
+        shutil.copytree(part, room + part[len(ROOT) :])
+
+
+def leave_one_module(room, test):
+    """Of the trials only the module of this file and those that it names, and of the crates below only those that these name."""
+    trials = f"{room}/{TRIALS}"
+    modules = set(re.findall(r"(?m)^mod (\w+);", text_of(f"{trials}.rt")))
+    files = lambda it: [f"{trials}/{it}.rt", *glob.glob(f"{trials}/{it}/**/*.rt", recursive=True)]
+    kept = {os.path.relpath(test, TRIALS).split(".")[0].split("/")[0]}
+    kept |= {it for place in list(kept) for file in files(place) for it in re.findall(r"tests::(\w+)", text_of(file))} & modules
+    for other in modules - kept:
+        os.remove(f"{trials}/{other}.rt")
+        shutil.rmtree(f"{trials}/{other}", ignore_errors=True)
+        replace_in(f"{trials}.rt", f"mod {other};\n", "")
+    said = "".join(text_of(file) for file in [f"{trials}.rt", *(file for it in kept for file in files(it))])
+    line = re.search(r"(?m)^tool_trials:.*", text_of(f"{room}/crates.txt"))[0]
+    below = [it for it in line.split()[1:] if re.search(rf"\b{it}\b", said)]
+    replace_in(f"{room}/crates.txt", line, f"tool_trials: {' '.join(below)}")
+    return "tests::" + os.path.relpath(test, TRIALS)[: -len(".rt")].replace("/", "::")
+
+
+def of_trials(room, test):
+    """The tests of the file that fail."""
+    module = leave_one_module(room, test)
+    said = run(["rt", "try", "--test", "--seconds", "200"], f"{room}/crates/tool_trials")
+    if said.returncode in (4, 6):
+        return ["a test stops, or does not end"]
+    told = re.findall(r"(?m)^test (\S+) \.\.\. (\w+)", said.stdout)
+    mine = [(name, how) for name, how in told if name.startswith(module + "::")]
+    if not mine:
+        raise NotTried(f"none of its tests was run:\n{said.stdout[-2000:]}{said.stderr[-2000:]}")
+    return [name for name, how in mine if how != "ok"]
+
+
+def run(command, folder):
+    return subprocess.run(command, cwd=folder, stdin=subprocess.DEVNULL, capture_output=True, text=True, errors="replace", check=False)
+
+
+def free_port():
+    with socket.socket(socket.AF_INET, socket.SOCK_DGRAM) as it:
+        it.bind(("127.0.0.1", 0))
+        return it.getsockname()[1]
+
+
+def built(room):
+    """The program as `rt try` makes it: it plays a device until it is copied, and then hears the one datagram that ends it."""
+    port, program = free_port(), f"{room}/bactool"
+    words = ["rt", "try", "--seconds", str(MOST), "--", "bacdev", "1", "--port", str(port), "--count", "1"]
+    with open(f"{room}/said", "w+", encoding="utf-8", errors="replace") as said:
+        device = subprocess.Popen(words, cwd=f"{room}/crates/bactool", stdin=subprocess.DEVNULL, stdout=said, stderr=subprocess.STDOUT)
+        while device.poll() is None:
+            found = [it for it in map(program_of, os.listdir("/proc")) if it and it[1] == str(port)]
+            if found and not os.path.exists(program):
+                shutil.copy(found[0][0], program)
+            if found:
+                with socket.socket(socket.AF_INET, socket.SOCK_DGRAM) as desk:
+                    desk.sendto(b"\x81", ("127.0.0.1", port))
+            time.sleep(0.5)
+        said.seek(0)
+        if not os.path.exists(program):
+            raise NotTried(f"the program was not made:\n{said.read()[-3000:]}")
+    return program
+
+
+def program_of(process):
+    """The program that this process runs as a device, and its port."""
+    try:
+        with open(f"/proc/{process}/cmdline", "rb") as it:
+            words = it.read().decode("utf-8", "replace").split("\0")
+    except OSError:
+        return None
+    files = [it for it in words if it.startswith("/") and it.endswith("/program")]
+    return (files[0], words[words.index("--port") + 1]) if files and "--port" in words else None
+
+
+def of_program(room, test):
+    """What the test says of what is not as it is to be."""
+    program = built(room)
+    words = [f"{ROOT}/tests/rows.py", program, test] if test.endswith(".rows") else [f"{ROOT}/{test}", program]
+    ran = run(["timeout", "300", *words], ROOT)
+    if ran.returncode == 124:
+        return ["it does not end in five minutes"]
+    wrong = [line for line in ran.stdout.splitlines() if line.startswith(("not as it is to be", "tests/rows/"))]
+    if (ran.returncode != 0) != bool(wrong):
+        raise NotTried(f"status {ran.returncode}:\n{ran.stdout[-2000:]}{ran.stderr[-2000:]}")
+    return wrong
+
+
+def tried(hole):
+    """Whether a hole is as it is to be, and the line that tells of it."""
+    with tempfile.TemporaryDirectory(prefix="holes-") as room:
+        try:
+            copy_sources(room)
+            hole.put_in(room)
+            failed = (of_trials if hole.test.startswith(TRIALS) else of_program)(room, hole.test)
+        except NotTried as why:
+            return False, f"{hole.name}: {hole.test}: not tried: {why}"
+    return bool(failed) == bool(hole.file), f"{hole.name}: {hole.test}: {failed[0][:160] if failed else 'it passes'}"
+
+
+def main():
+    parser = argparse.ArgumentParser(description=__doc__, formatter_class=argparse.RawDescriptionHelpFormatter)
+    parser.add_argument("--only", default="", metavar="PATTERN", help="take those whose name the pattern is found in")
+    parser.add_argument("--jobs", type=int, default=1, metavar="N", help="the builds at a time")
+    options = parser.parse_args()
+    holes = [Hole(it) for it in sorted(glob.glob(f"{ROOT}/crates/*/wrong/*.edit")) if "\nhole: " in text_of(it)]
+    unnamed = [it.name for it in holes if not it.test]
+    if unnamed:
+        sys.exit(f"no test is named by {', '.join(unnamed)}")
+    holes += [Hole(None, test) for test in sorted({it.test for it in holes})]
+    holes = [it for it in holes if re.search(options.only, it.name)]
+    wrong = 0
+    with concurrent.futures.ThreadPoolExecutor(options.jobs) as pool:
+        for ended in concurrent.futures.as_completed([pool.submit(tried, it) for it in holes]):
+            is_well, said = ended.result()
+            print(("" if is_well else "FAILED ") + said, flush=True)
+            wrong += not is_well
+    used = resource.getrusage(resource.RUSAGE_CHILDREN)
+    print(f"{len(holes)} runs, {wrong} not as they are to be; {used.ru_utime + used.ru_stime:.0f} processor seconds")
+    return 1 if wrong or not holes else 0
+
+
+if __name__ == "__main__":
+    sys.exit(main())

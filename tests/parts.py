@@ -1,0 +1,223 @@
+#!/usr/bin/env python3
+"""Runs what is tried of the tree, part by part, and ends with a line of counts. Usage: tests/parts.py test|gate
+
+`test` is for whoever has the built program: the tests of the trials, and beside them some wrong bodies of each crate;
+then what runs the program, alone, since clocks and sockets are in it. A part that fails ends no other.
+
+`gate` is what a change has to pass. First it looks whether the wrong bodies fit the code. Then `rt ci` proves and
+tries everything from nothing, in a copy of the tree, since it sets aside what is kept of the proofs. Beside it come
+the build, the bodies of wrong/, and a refused request for memory. Last come those bodies of must-fail/ that `rt ci`
+did not refuse for a goal, and what runs the program. Where a part fails, the others are ended.
+
+Two parts go side by side where there are 4 GB of free memory for each processor. How far a part is stands here,
+behind the minutes since the beginning; all that it says is in out/parts, and the end of that is shown where it fails.
+The last line is `N passed, M failed`, with the names of the parts that failed.
+"""
+import glob
+import os
+import re
+import shutil
+import signal
+import subprocess
+import sys
+import tempfile
+import time
+from collections import namedtuple
+
+LOGS = "out/parts"
+SIGNALS = (signal.SIGINT, signal.SIGTERM, signal.SIGHUP)
+QUIET = 300  # seconds after which a line says what is at work, where nothing else was said
+
+# A part: its command; the numbers of what it tried and of what failed, in what it says (where none stands, each find is
+# one); which lines are shown as they come; which one says that it will fail; where it runs, and with what settings.
+Part = namedtuple("Part", "name command tried failed shown lost place settings", defaults=["", ".", None, ".", {}])
+
+
+def processors():
+    return len(os.sched_getaffinity(0))
+
+
+def beside(*rows):
+    """These rows of parts, or one behind the other where memory is short: each takes some 2 GB a processor."""
+    with open("/proc/meminfo", encoding="utf-8") as lines:
+        free = int(re.search(r"MemAvailable:\s+(\d+)", lines.read())[1])
+    return rows if free >= 4000000 * processors() else [[part for row in rows for part in row]]
+
+
+def gently(*command):
+    return ["nice", "-n", "5", *command]
+
+
+def bodies(name, *words):
+    tried, failed = r"^(\d+) wrong bodies: .* of (\d+) twins", r"; (\d+) failed$"
+    return Part(name, gently("tests/wrong_bodies.py", *words), tried, failed)
+
+
+def build(command, **settings):
+    return Part("build", command, r"^ *\d+ of \d+ +\w+ +proved", settings=settings)
+
+
+def examples():
+    tried = r"(\d+) (?:calls|scripts|command lines|requests|commands)\b|: as it is to be$"
+    return Part("examples", ["make", "--no-print-directory", "examples"], tried, r"(\d+) not as they are to be")
+
+
+def whole_proof(room):
+    """`rt ci` in a copy of the tree, in this room."""
+    shutil.copytree(".", f"{room}/tree", symlinks=True, ignore=shutil.ignore_patterns(".git", "out"))
+    os.mkdir(f"{room}/tree/.git")  # the top of a repository, for rt ci
+    os.mkdir(f"{room}/rooms")
+    for it in (room, f"{room}/rooms"):
+        os.chmod(it, 0o711)  # rt runs programs as nobody
+    return Part(
+        "rt ci",
+        ["rt", "ci"],
+        tried=r"^(\d+) passed, (\d+) failed$",
+        failed=r"^\d+ passed, (\d+) failed$",
+        shown=r"^rt: (?!must-fail .*: refused, as it must be)|^\d+ passed",
+        lost=r"^rt: .* NOT PROVED",
+        place=f"{room}/tree",
+        # with a number given, it proves as many crates at a time, each by one process
+        settings={"RT_JOBS": str(processors()), "TMPDIR": f"{room}/rooms"},
+    )
+
+
+class Clock:
+    """Says things behind the minutes since the beginning."""
+
+    def __init__(self):
+        self.began = self.told = time.monotonic()
+
+    def say(self, text):
+        self.told = time.monotonic()
+        minutes, seconds = divmod(int(self.told - self.began), 60)
+        print(f"{minutes:3}:{seconds:02}  {text}", flush=True)
+
+
+class Work:
+    """A part at work, in a group of processes of its own."""
+
+    def __init__(self, part, clock):
+        self.part, self.clock, self.rest, self.is_lost = part, clock, "", False
+        self.log = f"{LOGS}/{part.name.replace(' ', '_')}.log"
+        outer = {name: it for name, it in os.environ.items() if name not in ("MAKEFLAGS", "MFLAGS", "MAKELEVEL")}
+        how = {"cwd": part.place, "env": {**outer, **part.settings}, "stdin": subprocess.DEVNULL}
+        with open(self.log, "w", encoding="utf-8") as log:
+            self.process = subprocess.Popen(part.command, stdout=log, stderr=log, start_new_session=True, **how)
+        self.lines = open(self.log, encoding="utf-8", errors="replace")
+
+    def has_ended(self):
+        """Shows what came since the last look, and answers whether the part has ended, or will fail."""
+        ended = self.process.poll() is not None
+        *lines, self.rest = (self.rest + self.lines.read()).split("\n")
+        for line in lines:
+            if re.search(self.part.shown, line):
+                self.clock.say(f"{self.part.name}: {line}")
+            self.is_lost = self.is_lost or bool(self.part.lost and re.search(self.part.lost, line))
+        return ended or self.is_lost
+
+    def counts(self):
+        """How many passed and failed. A part that says no number where one is looked for has failed."""
+        self.lines.seek(0)
+        said = self.lines.read()
+        found = re.finditer(self.part.tried, said, re.M) if self.part.tried else []
+        tried = sum(sum(int(it) for it in row.groups() if it) if any(row.groups()) else 1 for row in found)
+        failed = sum(map(int, re.findall(self.part.failed, said, re.M))) if self.part.failed else 0
+        is_bad = self.is_lost or self.process.returncode != 0 or bool(self.part.tried and not tried)
+        return max(tried - failed, 0), failed or int(is_bad)
+
+    def tell(self):
+        """Says what came of it, behind the end of what it said where it failed."""
+        passed, failed = self.counts()
+        if failed:
+            with open(self.log, encoding="utf-8", errors="replace") as log:
+                print("".join(f"    {line}" for line in log.readlines()[-40:]), end="")
+        how = f"FAILED, see {self.log}" if failed else "ended well"
+        self.clock.say(f"{self.part.name} {how}: {passed} passed, {failed} failed")
+        return passed, failed
+
+    def stop(self):
+        for number in (signal.SIGTERM, signal.SIGKILL):
+            try:
+                os.killpg(self.process.pid, number)
+                self.process.wait(30)
+            except (ProcessLookupError, subprocess.TimeoutExpired):
+                pass
+        self.lines.close()
+
+
+def run(rows, clock, ends_at_failure):
+    """Runs rows of parts side by side, each in its order. Gives how many passed, and how many failed of which part."""
+    left, working, passed, lost = [list(row) for row in rows], {}, 0, {}
+    try:
+        while (any(left) or working) and not (lost and ends_at_failure):
+            for at, row in enumerate(left):
+                if row and at not in working:
+                    working[at] = Work(row.pop(0), clock)
+            time.sleep(0.5)
+            for at in [at for at, work in working.items() if work.has_ended()]:
+                some, failed = working[at].tell()
+                passed, lost = passed + some, {**lost, **({working[at].part.name: failed} if failed else {})}
+                working.pop(at).stop()
+            if working and time.monotonic() - clock.told > QUIET:
+                clock.say(f"at work: {', '.join(work.part.name for work in working.values())}")
+        return passed, lost
+    finally:
+        for work in working.values():
+            work.stop()
+
+
+def test(clock):
+    print("Here: the tests of both trials, some wrong bodies of each crate, the examples, rows and guide.")
+    print("Left to make gate: proofs from nothing, all other wrong bodies, and a refused request for memory.", flush=True)
+    trials = Part("trials", ["./build.py", "--tests"], r"(\d+) tests passed")
+    passed, lost = 0, {}
+    is_kept = all(os.path.isdir(f"{it}/out/incremental") for it in glob.glob("crates/*") if not it.endswith("_trials"))
+    first = [] if is_kept else [[[build(["./build.py"])]]]
+    for rows in (*first, beside([trials], [bodies("wrong bodies", "--sample")]), [[examples()]]):
+        more, also = run(rows, clock, False)
+        passed, lost = passed + more, {**lost, **also}
+    return passed, lost
+
+
+def gate(clock):
+    # the build has one processor fewer, so that its proofs and those of rt ci together take some 15 GB with four
+    fewer = str(max(processors() - 1, 1))
+    allocation = Part("allocation", gently("tests/allocation.sh"), r"over (\d+) scripts")
+    others = [build(gently("./build.py"), RT_JOBS=fewer), bodies("wrong bodies", "--folder", "wrong"), allocation]
+    # rt ci has counted them
+    again = bodies("must-fail", "--folder", "must-fail", "--tried", f"{LOGS}/rt_ci.log")._replace(tried="")
+    with tempfile.TemporaryDirectory(prefix="gate-") as room:
+        fit = Part("fit", ["tests/wrong_bodies.py", "--list"], "", r"of which (\d+)", shown=r"^crates/|fit")
+        passed, lost = run([[fit]], clock, True)
+        for rows in (beside([whole_proof(room)], others), [[again, examples()]]):
+            more, lost = (0, lost) if lost else run(rows, clock, True)
+            passed += more
+        return passed, lost
+
+
+def main(words):
+    if words not in (["test"], ["gate"]):
+        sys.exit(__doc__)
+    os.chdir(os.path.dirname(os.path.dirname(os.path.abspath(__file__))))
+    os.makedirs(LOGS, exist_ok=True)
+    passed, lost = (test if words == ["test"] else gate)(Clock())
+    print(f"{passed} passed, {sum(lost.values())} failed{': ' * bool(lost)}{', '.join(lost)}")
+    return 1 if lost else 0
+
+
+def end(*_):
+    """Ends the run at its first signal; a second would cut the end short."""
+    for number in SIGNALS:
+        signal.signal(number, signal.SIG_IGN)
+    raise KeyboardInterrupt
+
+
+if __name__ == "__main__":
+    for number in SIGNALS:
+        signal.signal(number, end)
+    try:
+        sys.exit(main(sys.argv[1:]))
+    except KeyboardInterrupt:
+        print("stopped", flush=True)
+        sys.exit(130)
