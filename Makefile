@@ -7,12 +7,13 @@
 # make test: over what make demo keeps: the tests of the crates, the examples, rows and guide, and some wrong bodies of
 #     each crate; 5 to 10 minutes
 # make gate: what a change has to pass: proves every crate and its tests from nothing, tries every wrong body, and runs
-#     everything; one to two hours
+#     everything; 82 minutes with four processors on a slow day
 # make examples: runs each script of examples/, the demonstration, the program's own tests and the guide, and compares
 #     what they write. Half a minute
 # make forget: takes away what the prover keeps, 3.2 GB, but not the program; the next check proves from nothing
+# make documents: compares the documents, the reading lists and what reads the rules back with the tree. Seconds
 # make reading: writes docs/reading/ anew, and the sizes of its lists in README.md. Seconds
-# All but try, check, test, forget and reading build the program first, where it is not as the sources.
+# All but try, check, test, forget, documents and reading build the program first, where it is not as the sources.
 # packaging.mk has install, uninstall, deb, lint and guide; measuring.mk has bench, soak, interop and holes
 
 PROGRAM = crates/bactool/out/bactool

@@ -26,6 +26,7 @@ PROGRAM = "bactool"
 TRIALS = ["bac_trials", "tool_trials"]
 ROOMS = "out/build"
 CRATE_MEMORY = 2 << 30  # what a crate takes while it is proved, in octets
+PROCESS_CODE = 9000  # octets of code for each process: each loads the proofs of the crates below anew
 COST = """From nothing this takes 20 to 50 minutes of processor time, as fast as the machine is: 10 to 25 minutes of the clock with four
 processors, longer with two. Memory: some 2 GB for each crate at work. Disk: 3.2 GB, which are kept, so that the next build proves only what
 has changed."""
@@ -173,7 +174,7 @@ def build(crates, screen, is_done):
             ready = sorted((crate for crate in left if left[crate] <= done), key=long.get, reverse=True)
             free, among = jobs - sum(work.jobs for work in working), sum(map(long.get, ready))
             for crate in ready[: places - len(working)]:
-                share = min(round(free * long[crate] / among), processors())
+                share = min(round(free * long[crate] / among), processors(), size(crate) // PROCESS_CODE)
                 working.append(Work(crate, all_below(crate, crates), max(share, 1)))
                 del left[crate]
             time.sleep(0.5)

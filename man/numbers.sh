@@ -75,11 +75,11 @@ awk -F ' [|] ' '
 ' numbers.txt >"$page"
 
 awk -F ' [|] ' '
-    # A text as lines of at most 140 columns.
+    # A text as lines of at most 120 columns.
     function folded(text, words, count, line, i) {
         count = split(text, words, " ")
         for (i = 1; i <= count; i++) {
-            if (line != "" && length(line " " words[i]) > 140) { print line; line = "" }
+            if (line != "" && length(line " " words[i]) > 120) { print line; line = "" }
             line = line == "" ? words[i] : line " " words[i]
         }
         if (line != "") print line "\n"

@@ -5,14 +5,16 @@
   tables below a heading name each file of src/ (column Code), specs/ (Definitions) and proofs/ (Proofs), and none that isn't there; lists
   of modules (lib.rt, Lib.antt) and the answers to single functions are left out. `Beside the crates` names each other folder and file at
   the top, and each file of docs/, tests/ and bench/.
-- Each file of src/ begins with a line `//!` that says what it has.
+- Each file of src/ begins with a line `//!` that says what it has. What the head of a library shows stands in its examples.
 - docs/PROOFS.md: each name in backquotes stands in the code or is a file of it, and each law is a function; the headline's parts are the
   README's sentence.
 - Functions that have no contract: docs/PROOFS.md names those of the code, and it and README.md count them rightly.
 - README.md: what it shows of a script and of the demonstration is what examples/ has.
 - docs/PROTOCOL.md: the texts of faults are those of the code.
 - docs/GUIDE.md: the table that says which script does what has the scripts of examples/, but for what the demonstration needs.
-- Links within the repository lead somewhere, and lines have at most 140 columns, but for tables and what is printed.
+- Links within the repository lead somewhere.
+- Lines have at most 120 columns, in the documents but for tables and what is printed; and in src/, specs/ and proofs/ but for
+  attributes, which `rt fmt` lays out, and words that are longer.
 """
 import glob
 import os
@@ -23,7 +25,7 @@ TOP = os.path.dirname(os.path.dirname(os.path.abspath(__file__)))
 COLUMNS = {"Code": ("src", ".rt"), "Definitions": ("specs", ".antt"), "Proofs": ("proofs", ".antt")}
 WHOLE = ["docs/", "tests/", "bench/"]  # folders whose row names each file
 WELL_KNOWN = {"README.md", "CONTRIBUTING.md", "SECURITY.md", "CHANGELOG.md", "LICENSE", ".gitignore", ".git", "crates", "out"}
-WIDTH = 140
+WIDTH = 120
 DIFFERENCES = []
 
 
@@ -63,14 +65,16 @@ def names(text):
 
 
 def files(folder, ending):
-    """The files below a crate's folder, without their ending. Folders of proofs/ hold the answers to single functions."""
+    """The files below a crate's folder, without their ending. Folders of proofs/ hold the answers to single functions; what lies in Inner
+    belongs to the topic of its name."""
     found = set()
     for place, folders, there in os.walk(folder):
         inside = os.path.relpath(place, folder)
+        inside = "" if inside == "Inner" else inside
         found |= {os.path.normpath(os.path.join(inside, name[: -len(ending)])) for name in there if name.endswith(ending)}
         if folder.endswith("proofs"):
             folders.clear()
-    return found - {"lib", "Lib"}
+    return found - {"lib", "Lib", "Inner"}
 
 
 def map_of_crates(parts):
@@ -106,6 +110,13 @@ def heads_of_sources():
     for file in sorted(glob.glob("crates/*/src/**/*.rt", recursive=True)):
         if not text_of(file).startswith("//! "):
             DIFFERENCES.append(f"{file}: its first line is no `//!` that says what it has")
+    for file in sorted(glob.glob("crates/*/src/lib.rt")):
+        examples = file.replace("lib.rt", "examples.rt")
+        for shown in re.findall(r"^//! ```text\n(.*?)^//! ```$", text_of(file), re.M | re.S):
+            clauses = re.split(r"(?=\bensures )", re.sub(r"^//!(?: *//.*)?", "", shown, flags=re.M))[1:]
+            there = " ".join(text_of(examples).split()) if os.path.isfile(examples) else ""
+            if not clauses or not all(" ".join(one.split()) in there for one in clauses):
+                DIFFERENCES.append(f"{file}: what it shows is not in {examples}")
 
 
 def names_of_proofs(text):
@@ -177,6 +188,15 @@ def scripts_of_the_guide(section):
     DIFFERENCES.extend(f"docs/GUIDE.md: the table of scripts and examples/ differ in {name}" for name in sorted(said ^ there))
 
 
+def wide_lines_of_sources():
+    for folder, ending in COLUMNS.values():
+        for file in sorted(glob.glob(f"crates/*/{folder}/**/*{ending}", recursive=True)):
+            for number, line in enumerate(text_of(file).splitlines(), 1):
+                can_be_broken = " " in line[:WIDTH].strip().removeprefix("use ")
+                if len(line) > WIDTH and can_be_broken and not line.lstrip().startswith("#["):
+                    DIFFERENCES.append(f"{file}:{number}: past {WIDTH} columns")
+
+
 def links_and_lines():
     anchors = {}
     documents = glob.glob("*.md") + glob.glob("docs/*.md")
@@ -207,6 +227,7 @@ def main():
     texts_of_faults(sections(text_of("docs/PROTOCOL.md"))["Statuses and faults"])
     scripts_of_the_guide(sections(text_of("docs/GUIDE.md"))["Which script does what"])
     links_and_lines()
+    wide_lines_of_sources()
     print("\n".join(DIFFERENCES) or "the documents agree with the tree")
     return 1 if DIFFERENCES else 0
 

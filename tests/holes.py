@@ -73,12 +73,14 @@ def copy_sources(room):
 
 
 def leave_one_module(room, test):
-    """Of the trials only the module of this file and those that it names, and of the crates below only those that these name."""
+    """Of the trials only the module of this file, those that it names and so on; and of the crates below only those that these name."""
     trials = f"{room}/{TRIALS}"
     modules = set(re.findall(r"(?m)^mod (\w+);", text_of(f"{trials}.rt")))
     files = lambda it: [f"{trials}/{it}.rt", *glob.glob(f"{trials}/{it}/**/*.rt", recursive=True)]
-    kept = {os.path.relpath(test, TRIALS).split(".")[0].split("/")[0]}
-    kept |= {it for place in list(kept) for file in files(place) for it in re.findall(r"tests::(\w+)", text_of(file))} & modules
+    kept, rest = set(), {os.path.relpath(test, TRIALS).split(".")[0].split("/")[0]}
+    while rest:
+        kept |= rest
+        rest = {it for place in rest for file in files(place) for it in re.findall(r"tests::(\w+)", text_of(file))} & modules - kept
     for other in modules - kept:
         os.remove(f"{trials}/{other}.rt")
         shutil.rmtree(f"{trials}/{other}", ignore_errors=True)

@@ -17,6 +17,10 @@ def text_of(file):
         return it.read()
 
 
+def on_one_line(text):
+    return " ".join(text.split())
+
+
 def sections():
     """The text below each heading of the document, by the heading's words."""
     parts = re.split(r"^#+ (.*)$", text_of("docs/PROTOCOL.md"), flags=re.M)
@@ -50,14 +54,14 @@ def main():
     for heading, key, places in found:
         section = parts.get(heading, "")
         mine = [row for row in rows(section) if row.startswith(key)]
-        if len(mine) > 1 or not mine and key not in section:
+        if len(mine) > 1 or not mine and key not in on_one_line(section):
             WRONG.append(f"{heading}: {key}: it stands {len(mine)} times in docs/PROTOCOL.md")
         named.update({(heading, row): key for row in mine})
         if not places:
             WRONG.append(f"{heading}: {key}: nothing is named that reads it back")
         for file, text in places:
             file = file if "/" in file else f"tests/rows/{file}"
-            if not os.path.isfile(f"{TOP}/{file}") or text not in text_of(file):
+            if not os.path.isfile(f"{TOP}/{file}") or on_one_line(text) not in on_one_line(text_of(file)):
                 WRONG.append(f"{heading}: {key}: {file} has no {text}")
     count = 0
     for heading, section in parts.items():

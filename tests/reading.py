@@ -1,10 +1,9 @@
 #!/usr/bin/env python3
 """What has to be read to believe a promise: docs/reading/, made from the sources. tests/sources.py says what needs what.
 
-Usage: tests/reading.py            compares docs/reading/, and the sizes that README.md tells, with the tree; ends with 1 where they differ
+Usage: tests/reading.py            compares docs/reading/, and the sizes that README.md tells, with the tree; says which definitions
+                                   lie in the wrong room, and which names a file brings in and doesn't say; ends with 1 where there are any
        tests/reading.py --write    writes docs/reading/ anew (make reading)
-       tests/reading.py --unneeded lists the definitions of specs/ that no public clause needs
-       tests/reading.py --unused   lists the names that a `use` or `ghost use` brings in and its file doesn't say
 """
 import collections
 import glob
@@ -30,7 +29,7 @@ PAGES = [
     ("calls", "A read, a write and a search over a link", ["bac_links::run_read", "bac_links::run_write", "bac_links::run_whois"]),
     ("serving", "A device that serves", ["bac_links::serve"]),
     ("command", "The words of a command line", ["bac_words::parse_words", "bac_words::words_of"]),
-    ("program", "From the words to the status", ["bac_tools::run_words"]),
+    ("program", "From the words to the status", ["bac_tools::run_words", "bactool::run"]),
 ]
 
 SIZE = r"\[([\d,]+) lines\]\(docs/reading/(\w+)\.md\)"  # as README.md tells it
@@ -87,7 +86,7 @@ def first_sentence(comment):
     return re.split(r"(?<=[.:;])\s+(?=[A-Z`])", " ".join(comment), maxsplit=1)[0].rstrip(":;")
 
 
-def columns(text, width=138):
+def columns(text, width=120):
     """Lines of at most so many columns, set in as the first one is."""
     start = " " * (len(text) - len(text.lstrip()))
     lines = [start + text.split()[0]]
@@ -180,10 +179,11 @@ def write(texts, sizes):
         file.write(readme)
 
 
-# ---- definitions that no public clause needs, and names that are brought in and not said ----
+# ---- definitions in the wrong room, and names that are brought in and not said ----
 
 
-def unneeded():
+def rooms():
+    """What lies in the wrong room: what no public clause needs belongs in Inner, and nothing else does."""
     public, private = [], []
     for crate in CRATES:
         if crate in TRIALS:
@@ -195,25 +195,14 @@ def unneeded():
                 private += source.items.values()
                 private += [item for _, item in source.methods()]
     needed, by_private = closed(public), closed(private)
-    for crate in CRATES:
-        lists = {"private clauses": [], "proofs": []}
-        for specs in DEFINITIONS.values():
-            if specs.crate == crate and crate not in TRIALS:
-                for item in specs.items.values():
-                    if item not in needed:
-                        lists["private clauses" if item in by_private else "proofs"].append(item)
-        for who, items in lists.items():
-            if items:
-                print(f"{crate}: {len(items)} definitions, {size(items)} lines, that only {who} need")
-                for file, there in sorted(by_file(items).items()):
-                    print(f"    {file} ({size(there)}): {', '.join(item.name for item in there)}")
-
-
-def by_file(items):
-    found = collections.defaultdict(list)
-    for item in items:
-        found[item.file.path].append(item)
-    return found
+    for specs in DEFINITIONS.values():
+        for item in specs.items.values() if specs.crate not in TRIALS else ():
+            is_inner = "/specs/Inner/" in specs.path
+            if is_inner and item in needed:
+                yield f"{specs.path}: {item.name} is needed by a public clause, so it belongs outside Inner"
+            elif not is_inner and item not in needed:
+                who = "private clauses need it" if item in by_private else "proofs need it, if anything does"
+                yield f"{specs.path}: {item.name} belongs in Inner, since only {who}"
 
 
 def unused():
@@ -222,7 +211,7 @@ def unused():
         crate = path.split("/")[1]
         names = list(unused_in_source(crate, path) if path.endswith(".rt") else unused_in_antt(path))
         if names:
-            print(f"{path}: {', '.join(names)}")
+            yield f"{path} brings in what it doesn't say: {', '.join(names)}"
 
 
 def is_said(name, tokens):
@@ -265,16 +254,11 @@ def unused_in_source(crate, path):
 def main(arguments):
     os.chdir(TOP)
     read_tree()
-    if arguments == ["--unneeded"]:
-        unneeded()
-    elif arguments == ["--unused"]:
-        unused()
+    texts, sizes = pages()
+    if arguments == ["--write"]:
+        write(texts, sizes)
     else:
-        texts, sizes = pages()
-        if arguments == ["--write"]:
-            write(texts, sizes)
-        else:
-            PROBLEMS.extend(compare(texts, sizes))
+        PROBLEMS.extend([*compare(texts, sizes), *rooms(), *unused()])
     print("\n".join(PROBLEMS) or "the reading lists agree with the tree")
     return 1 if PROBLEMS else 0
 

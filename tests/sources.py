@@ -230,10 +230,10 @@ class Specs:
         self.read()
 
     def read(self):
-        modules, comment, name, block, in_use = [], [], None, None, False
+        modules, head, comment, name, block, in_use = [], None, [], None, None, False
         for number, line in enumerate(self.text.split("\n")):
             depth, said = len(line) - len(line.lstrip()), line.strip()
-            if in_use or re.match(r"(unfoldable )?(pub )?use ", said):
+            if in_use or re.match(r"(unfoldable )?(pub )?(use|mod) ", said):
                 in_use = not (said.endswith("}") or "{" not in line and not in_use)
                 continue
             if not said or said.startswith("--"):
@@ -244,7 +244,12 @@ class Specs:
                 modules.pop()
             base = modules[-1][0] + 2 if modules else 0
             if re.match(r"module _ ", said):
-                modules.append((depth, said[len("module _") : -len("where")]))
+                start, head = depth, ""
+            if head is not None:
+                head += " " + said
+                if said.endswith("where"):
+                    modules.append((start, head[len(" module _") : -len("where")]))
+                    head = None
                 comment, name = [], None
             elif said.startswith("infix"):
                 continue
@@ -688,12 +693,13 @@ def read_tree():
 
 
 def public_calls(crate):
-    """The public functions of a crate, and the methods and members of its public types, by name."""
+    """The public functions of a crate, and the methods and members of its public types, by name. Of a program all are."""
     calls, types = {}, set()
     top = SOURCES.get((crate, ()))
     if top is None:
         return calls, types
-    shown = [(name, item) for name, item in top.items.items() if item.public]
+    is_program = top.path.endswith("main.rt")
+    shown = [(name, item) for name, item in top.items.items() if item.public or is_program]
     for use in re.finditer(r"^pub use (.*?);", top.code, re.M | re.S):
         for leaf in top.leaves(" ".join(use[1].split())):
             name = leaf.split(" as ")[-1].split("::")[-1]

@@ -1,5 +1,7 @@
 -- The places of a point after writes, and after one more.
-use Rattle.std.proofs.Common.{◌≡◌, ℕ, zero, suc, ◌-◌, ◌<◌, ◌≤◌, inl, inr, ◌==◌, ◌&&◌, Bool, true, false, nat_lt, nat_le, if◌then◌else◌, List, [], ◌∷◌, ◌++◌, map, filter, slice_get, slice_set, Option, Some, None, refl, sym, ap, ◌∙◌, arith}
+use Rattle.std.proofs.Common.{◌≡◌, ℕ, zero, suc, ◌-◌, ◌<◌, ◌≤◌, inl, inr, ◌==◌, ◌&&◌, Bool, true, false, nat_lt, nat_le}
+use Rattle.std.proofs.Common.{if◌then◌else◌, List, [], ◌∷◌, ◌++◌, map, filter, slice_get, slice_set, Option, Some, None}
+use Rattle.std.proofs.Common.{refl, sym, ap, ◌∙◌, arith}
 use Rattle.std.specs.List.{last_or}
 use Rattle.std.specs.Option.{option_and_then}
 use Rattle.std.proofs.lemmas.Grind.{common_steps}
@@ -30,14 +32,29 @@ at_each P (suc count) (suc n) all below = at_each (λ n. P (suc n)) count n all.
 abbrev chosen : (ℕ → Option ℕ) → ℕ → Option (Option ℕ)
 chosen f priority = if priority == 0 then None else slice_get (map f priorities) (priority - 1)
 
-chosen_at : (f : ℕ → Option ℕ) (priority : ℕ) → chosen f priority ≡ (if nat_lt 0 priority && nat_le priority 16 then Some (f priority) else None)
+chosen_at : (f : ℕ → Option ℕ) (priority : ℕ)
+    → chosen f priority ≡ (if nat_lt 0 priority && nat_le priority 16 then Some (f priority) else None)
 chosen_at f priority = elim (cases_lt priority 17) [
-  | inl there ↦ at_each (λ n. chosen f n ≡ (if nat_lt 0 n && nat_le n 16 then Some (f n) else None)) 17 priority (refl, (refl, (refl, (refl, (refl, (refl, (refl, (refl, (refl, (refl, (refl, (refl, (refl, (refl, (refl, (refl, (refl, tt))))))))))))))))) there
+  | inl there ↦ at_each (λ n. chosen f n ≡ (if nat_lt 0 n && nat_le n 16 then Some (f n) else None)) 17 priority (
+    refl,
+    (
+      refl,
+      (
+        refl,
+        (
+          refl,
+          (refl, (refl, (refl, (refl, (refl, (refl, (refl, (refl, (refl, (refl, (refl, (refl, (refl, tt))))))))))))),
+        ),
+      ),
+    ),
+  )
+      there
   | inr past ↦ grind (arith, nat_tests, slice_get_past (map f priorities) (priority - 1) (omega arith))
 ]
 
 -- what stands at a priority
-pub place_chosen : (writes : List Write) (priority : ℕ) (point : Description) → place_at (standing_after writes point) priority ≡ place_if writes priority point
+pub place_chosen : (writes : List Write) (priority : ℕ) (point : Description)
+    → place_at (standing_after writes point) priority ≡ place_if writes priority point
 unfolding place_at standing_after
 place_chosen writes priority point = grind (arith, chosen_at (place writes point.object) priority)
 
@@ -49,7 +66,8 @@ last_more o (y ∷ ys) x = last_more (Some y) ys x
 
 -- the place has the value of a write that is to it, and else what it had
 pub place_more : (writes : List Write) (write : Write) (object : Identifier) (priority : ℕ)
-    → place (writes ++ write ∷ []) object priority ≡ (if is_to object priority write then write.value else place writes object priority)
+    → place (writes ++ write ∷ []) object priority
+    ≡ (if is_to object priority write then write.value else place writes object priority)
 unfolding place
 place_more writes write object priority =
     grind (arith, common_steps, last_more None (filter (is_to object priority) writes) write)
@@ -58,7 +76,21 @@ set_place : (f : ℕ → Option ℕ) (priority : ℕ) (value : Option ℕ) → 1
     → slice_set (map f priorities) (priority - 1) value ≡ map (λ q. if q == priority then value else f q) priorities
 set_place f zero value most least = absurd (omega arith)
 set_place f (suc i) value most least =
-    at_each (λ n. slice_set (map f priorities) (suc n - 1) value ≡ map (λ q. if q == suc n then value else f q) priorities) 16 i (refl, (refl, (refl, (refl, (refl, (refl, (refl, (refl, (refl, (refl, (refl, (refl, (refl, (refl, (refl, (refl, tt)))))))))))))))) (omega arith)
+    at_each (λ n. slice_set (map f priorities) (suc n - 1) value
+    ≡ map (λ q. if q == suc n then value else f q) priorities) 16 i (
+      refl,
+      (
+        refl,
+        (
+          refl,
+          (
+            refl,
+            (refl, (refl, (refl, (refl, (refl, (refl, (refl, (refl, (refl, (refl, (refl, (refl, tt)))))))))))),
+          ),
+        ),
+      ),
+    )
+    (omega arith)
 
 -- a write to an object leaves a point as it is, or puts its value at its priority
 pub put_after : (writes : List Write) (write : Write) (point : Description) → 1 ≤ write.priority → write.priority ≤ 16
@@ -66,20 +98,33 @@ pub put_after : (writes : List Write) (write : Write) (point : Description) → 
 unfolding standing_after
 put_after writes write point most least =
     let f = λ (q : ℕ). place writes point.object q in
-    let P : Bool → Type 0 = λ b. (if b then with_place (record { point = point; places = map f priorities }) write.priority write.value else record { point = point; places = map f priorities }) ≡ record { point = point; places = map (λ q. if b && (q == write.priority) then write.value else f q) priorities } in
-    let stands : P (same_object point.object write.object) = elim (same_object point.object write.object) as (λ b. P b) [
-      | true ↦ ap (λ (places : List (Option ℕ)). record { point = point; places = places }) (set_place f write.priority write.value most least)
+    let P : Bool → Type 0 =
+    λ b. (if b then with_place (record { point = point; places = map f priorities }) write.priority write.value else
+    record { point = point; places = map f priorities })
+    ≡ record {
+      point = point;
+      places = map (λ q. if b && (q == write.priority) then write.value else f q) priorities;
+    } in
+    let stands : P (same_object point.object write.object) =
+    elim (same_object point.object write.object) as (λ b. P b) [
+      | true ↦ ap (λ (places : List (Option ℕ)). record { point = point; places = places })
+          (set_place f write.priority write.value most least)
       | false ↦ refl
     ] in
-    stands ∙ ap (λ (places : List (Option ℕ)). record { point = point; places = places }) (map_same _ _ (λ q. sym (place_more writes write point.object q)) priorities)
+    stands ∙ ap (λ (places : List (Option ℕ)). record { point = point; places = places })
+    (map_same _ _ (λ q. sym (place_more writes write point.object q)) priorities)
 
 -- ---- writes to other objects
 
-none_chosen : (writes : List Write) (object : Identifier) (priority : ℕ) → NoneTo object writes → filter (is_to object priority) writes ≡ []
+none_chosen : (writes : List Write) (object : Identifier) (priority : ℕ) → NoneTo object writes
+    → filter (is_to object priority) writes ≡ []
 none_chosen [] object priority none = refl
 none_chosen (write ∷ writes) object priority none = rw none.0 (none_chosen writes object priority none.1)
 
 -- where no write is to the object its places are NULL
-pub place_none : (writes : List Write) (object : Identifier) (priority : ℕ) → NoneTo object writes → place writes object priority ≡ place [] object priority
+pub place_none : (writes : List Write) (object : Identifier) (priority : ℕ) → NoneTo object writes
+    → place writes object priority ≡ place [] object priority
 unfolding place
-place_none writes object priority none = ap (λ (to : List Write). option_and_then (λ write. write.value) (last_or None to)) (none_chosen writes object priority none)
+place_none writes object priority none =
+    ap (λ (to : List Write). option_and_then (λ write. write.value) (last_or None to))
+    (none_chosen writes object priority none)

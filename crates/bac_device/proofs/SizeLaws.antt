@@ -1,5 +1,6 @@
 -- How long replies are: each to a confirmed request fits the announced size, or is the stated Abort.
-use Rattle.std.proofs.Common.{◌≡◌, ℕ, ◌≤◌, Bool, true, false, List, [], ◌∷◌, length, Option, Some, None, refl, sym, ap, subst, arith, inl, inr, nat_le, nat_eq}
+use Rattle.std.proofs.Common.{◌≡◌, ℕ, ◌≤◌, Bool, true, false, List, [], ◌∷◌, length, Option, Some, None, refl, sym, ap}
+use Rattle.std.proofs.Common.{subst, arith, inl, inr, nat_le, nat_eq}
 use Rattle.std.specs.Prelude.{◌⊎◌, IfSome, if◌then◌else◌}
 use Rattle.std.specs.Option.{option_map, option_and_then}
 use Rattle.std.proofs.lemmas.Bool.{cond_both, leb-true}
@@ -17,32 +18,49 @@ use Rattle.bac_pdu.specs.ValueReading.{who_is_of}
 use Rattle.bac_pdu.proofs.DatagramLaws.{carried_is, wrapped_takes, wrapped_short}
 use Rattle.bac_pdu.proofs.ApduLaws.{apdu_is}
 use Rattle.bac_device.specs.Info.{Info}
-use Rattle.bac_device.specs.Device.{DeviceState}
+use Rattle.bac_device.specs.Point.{Description}
+use Rattle.bac_device.specs.Places.{Write}
+use Rattle.bac_device.specs.Device.{DeviceState, device_after}
 use Rattle.bac_device.specs.Reply.{refused, fitting, full_reply, i_am, reply_message, reply_apdu, reply_of, introduced}
-use Rattle.bac_device.specs.Size.{CarriesRequest, CarriesUnconfirmed, IsWithinAnnounced, HasFifteen}
+use Rattle.bac_device.specs.Reply.{writes_after}
+use Rattle.bac_device.specs.Size.{CarriesRequest, CarriesUnconfirmed, IsWithinAnnounced, HasFifteen, RepliesFit}
+use Rattle.bac_device.specs.Turns.{Arrival, replies_to}
 
 -- a route leads to whom a datagram is from
-pub carried_routable : (from : Station) (datagram : List ℕ) (delivery : Delivery) → Carries from datagram delivery → IfSome delivery.peer.route IsRoutable
-carried_routable from datagram delivery carries = subst (λ (r : Option NetworkAddress). IfSome r IsRoutable) (sym (ap (λ (s : Station). s.route) carries.peer)) carries.heeded.answerable
+pub carried_routable : (from : Station) (datagram : List ℕ) (delivery : Delivery) → Carries from datagram delivery
+    → IfSome delivery.peer.route IsRoutable
+carried_routable from datagram delivery carries =
+    subst (λ (r : Option NetworkAddress). IfSome r IsRoutable) (sym (ap (λ (s : Station). s.route) carries.peer))
+    carries.heeded.answerable
 
 -- what is sent to the peer of a delivery where this is the reply
 abbrev sent : Delivery → Option Message → Option (Station × List ℕ)
 sent d reply = option_map (λ apdu. (d.peer, wrapped d.peer.route false apdu)) (option_map laid_out reply)
 
 -- What is sent to whom a datagram is from takes the APDU of the reply, where each such reply is short.
-reply_takes : (device : DeviceState) (from to : Station) (datagram reply : List ℕ) (d : Delivery) (m : Message) (P : Message → Type 0) → Carries from datagram d → IsLaidOut d.apdu m
-    → ((x : Message) → P x → length (laid_out x) ≤ 1476) → IfSome (reply_message device d.broadcast m) P → reply_of device from datagram ≡ Some (to, reply)
+reply_takes : (device : DeviceState) (from to : Station) (datagram reply : List ℕ) (d : Delivery) (m : Message)
+    (P : Message → Type 0) → Carries from datagram d → IsLaidOut d.apdu m
+    → ((x : Message) → P x → length (laid_out x) ≤ 1476) → IfSome (reply_message device d.broadcast m) P
+    → reply_of device from datagram ≡ Some (to, reply)
     → (x : Message) × P x × Takes to.route false (laid_out x) reply
 unfolding reply_of reply_apdu
-reply_takes device from to datagram reply d m P carries laid short all e = go (reply_message device d.broadcast m) all (rw ((carried_is from datagram d).1 carries, (apdu_is d.apdu m).1 laid) at e)
+reply_takes device from to datagram reply d m P carries laid short all e =
+    go (reply_message device d.broadcast m) all
+    (rw ((carried_is from datagram d).1 carries, (apdu_is d.apdu m).1 laid) at e)
   where
-    go : (answer : Option Message) → IfSome answer P → sent d answer ≡ Some (to, reply) → (x : Message) × P x × Takes to.route false (laid_out x) reply
+    go : (answer : Option Message) → IfSome answer P → sent d answer ≡ Some (to, reply) → (x : Message) × P x
+        × Takes to.route false (laid_out x) reply
     go None all e = absurd (none-some (to, reply) e)
     go (Some x) all e =
         let routable = carried_routable from datagram d carries in
         let same = some_pair_parts d.peer to (wrapped d.peer.route false (laid_out x)) reply e in
-        let takes = wrapped_takes d.peer.route false (laid_out x) routable (omega (arith, short x all, wrapped_short d.peer.route false (laid_out x) routable)) in
-        (x, all, subst (λ (s : Station). Takes s.route false (laid_out x) reply) same.0 (subst (Takes d.peer.route false (laid_out x)) same.1 takes))
+        let takes = wrapped_takes d.peer.route false (laid_out x) routable
+        (omega (arith, short x all, wrapped_short d.peer.route false (laid_out x) routable)) in (
+          x,
+          all,
+          subst (λ (s : Station). Takes s.route false (laid_out x) reply) same.0
+              (subst (Takes d.peer.route false (laid_out x)) same.1 takes),
+        )
 
 -- ---- a confirmed request
 
@@ -54,15 +72,20 @@ short : (code id : ℕ) (m : Message) → Fits code id m → length (laid_out m)
 short code id m (inl few) = grind (arith, nat_tests, few)
 short code id m (inr abort) = omega (arith, ap length abort)
 
-unless_broadcast : (b : Bool) (code id : ℕ) (full : Message) → IfSome (if b then None else Some (fitting code id full)) (Fits code id)
+unless_broadcast : (b : Bool) (code id : ℕ) (full : Message)
+    → IfSome (if b then None else Some (fitting code id full)) (Fits code id)
 unless_broadcast true code id full = tt
-unless_broadcast false code id full = cond_both (nat_le (length (laid_out full)) (announced_size code)) full (refused id) (Fits code id) (λ e. inl (leb-true _ _ e)) (λ e. inr refl)
+unless_broadcast false code id full =
+    cond_both (nat_le (length (laid_out full)) (announced_size code)) full (refused id) (Fits code id)
+    (λ e. inl (leb-true _ _ e)) (λ e. inr refl)
 
-pub request_fits : (device : DeviceState) (from to : Station) (datagram reply : List ℕ) (code id : ℕ) → CarriesRequest from datagram code id
+pub request_fits : (device : DeviceState) (from to : Station) (datagram reply : List ℕ) (code id : ℕ)
+    → CarriesRequest from datagram code id
     → reply_of device from datagram ≡ Some (to, reply) → IsWithinAnnounced to code id reply
 request_fits device from to datagram reply code id r e =
     let all = unless_broadcast r.delivery.broadcast code id (full_reply device r.part id r.service r.body) in
-    let t = reply_takes device from to datagram reply r.delivery (confirmed r.part code id r.service r.body) (Fits code id) r.carried r.confirms (short code id) all e in
+    let t = reply_takes device from to datagram reply r.delivery (confirmed r.part code id r.service r.body)
+    (Fits code id) r.carried r.confirms (short code id) all e in
     record { apdu = laid_out t.0; taken = t.2; size = t.1 }
 
 -- ---- Who-Is
@@ -72,23 +95,44 @@ unfolding plain plain_tag
 length_i_am info = refl
 
 where_asked : (b : Bool) (who : Option WhoIs) (info : Info)
-    → IfSome (if b then option_and_then (λ who. if asks who info.instance then Some (i_am info) else None) who else None) (λ m. length (laid_out m) ≡ 15)
+    → IfSome (if b then option_and_then (λ who. if asks who info.instance then Some (i_am info) else None) who else
+    None) (λ m. length (laid_out m) ≡ 15)
 where_asked false who info = tt
 where_asked true None info = tt
-where_asked true (Some who) info = elim (asks who info.instance) as (λ b. IfSome (if b then Some (i_am info) else None) (λ m. length (laid_out m) ≡ 15)) [ true ↦ length_i_am info | false ↦ tt ]
+where_asked true (Some who) info =
+    elim (asks who info.instance) as (λ b.
+    IfSome (if b then Some (i_am info) else None) (λ m. length (laid_out m) ≡ 15))
+    [ true ↦ length_i_am info | false ↦ tt ]
 
-pub introduction_fits : (device : DeviceState) (from to : Station) (datagram reply : List ℕ) → CarriesUnconfirmed from datagram → reply_of device from datagram ≡ Some (to, reply) → HasFifteen to reply
+pub introduction_fits : (device : DeviceState) (from to : Station) (datagram reply : List ℕ)
+    → CarriesUnconfirmed from datagram → reply_of device from datagram ≡ Some (to, reply) → HasFifteen to reply
 unfolding introduced
 introduction_fits device from to datagram reply r e =
     let all = where_asked (nat_eq r.service 8) (who_is_of r.body) device.info in
-    let t = reply_takes device from to datagram reply r.delivery (unconfirmed r.service r.body) (λ m. length (laid_out m) ≡ 15) r.carried r.laid (λ m long. omega (arith, long)) all e in
+    let t = reply_takes device from to datagram reply r.delivery (unconfirmed r.service r.body)
+    (λ m. length (laid_out m) ≡ 15) r.carried r.laid (λ m long. omega (arith, long)) all e in
     record { apdu = laid_out t.0; taken = t.2; size = t.1 }
 
 -- ---- an answer
 
 -- what holds of each reply holds of an answer that is that of the definition
-pub of_answer : (P : Station → List ℕ → Type 0) (result : Option Peer) (frame : List ℕ) (defined : Option (Station × List ℕ))
+pub of_answer : (P : Station → List ℕ → Type 0) (result : Option Peer) (frame : List ℕ)
+    (defined : Option (Station × List ℕ))
     → option_map (λ peer. (station peer, frame)) result ≡ defined
-    → ((to : Station) (reply : List ℕ) → defined ≡ Some (to, reply) → P to reply) → IfSome result (λ peer. P (station peer) frame)
+    → ((to : Station) (reply : List ℕ) → defined ≡ Some (to, reply) → P to reply)
+    → IfSome result (λ peer. P (station peer) frame)
 of_answer P None frame defined e f = tt
 of_answer P (Some peer) frame defined e f = f (station peer) frame (sym e)
+
+-- The replies to any datagrams fit, one after the other.
+pub replies_fit : (info : Info) (points : List Description) (writes : List Write) (xs : List Arrival)
+    → RepliesFit xs (replies_to info points writes xs)
+replies_fit info points writes [] = refl
+replies_fit info points writes (x ∷ xs) = (
+  λ r e. record {
+    confirmed = λ code id carried.
+        request_fits (device_after info points writes) x.from r.0 x.datagram r.1 code id carried e;
+    introduced = λ carried. introduction_fits (device_after info points writes) x.from r.0 x.datagram r.1 carried e;
+  },
+  replies_fit info points (writes_after info points writes x.from x.datagram) xs,
+)

@@ -1,5 +1,6 @@
 -- A device whose places are those after some writes.
-use Rattle.std.proofs.Common.{◌≡◌, ℕ, Bool, true, false, cond, List, [], ◌∷◌, ◌++◌, map, find, Option, Some, None, refl, IfSome, sym, ap, subst, ◌∙◌, append-nil, arith}
+use Rattle.std.proofs.Common.{◌≡◌, ℕ, Bool, true, false, cond, List, [], ◌∷◌, ◌++◌, map, find, Option, Some, None, refl}
+use Rattle.std.proofs.Common.{IfSome, sym, ap, subst, ◌∙◌, append-nil, arith}
 use Rattle.std.proofs.lemmas.Grind.{common_steps}
 use Rattle.std.proofs.lemmas.Option.{none-some, same_Some}
 use Rattle.std.proofs.lemmas.Simd.{map-map}
@@ -8,60 +9,80 @@ use Rattle.bac_pdu.specs.Peer.{Station}
 use Rattle.bac_wire.specs.Identifier.{Identifier}
 use Rattle.bac_device.specs.Info.{Info}
 use Rattle.bac_device.specs.Point.{Given, Description, same_object, description_of}
-use Rattle.bac_device.specs.Places.{Write, Standing, IsUrgent, NoneTo, priorities, standing_after, present, place_at, put}
-use Rattle.bac_device.specs.Device.{DeviceState, points_of, device_after, Holds, with_point, standing_at, point_at, present_after, place_after}
+use Rattle.bac_device.specs.Places.{Write, Standing, NoneTo, priorities, standing_after, present, place_at, put}
+use Rattle.bac_device.specs.Inner.Places.{IsUrgent}
+use Rattle.bac_device.specs.Device.{DeviceState, points_of, device_after, Holds, with_point, standing_at, point_at}
+use Rattle.bac_device.specs.Device.{present_after, place_after}
 use Rattle.bac_device.specs.Reply.{with_write, reply_to, writes_after}
 use Rattle.bac_device.specs.Turns.{Arrival, AnswersInTurn, AreDefined}
 use Rattle.bac_device.proofs.PlaceLaws.{map_same, place_chosen, place_none, put_after}
 
-find_map : {A B : Type 0} (f : A → B) (test : B → Bool) (xs : List A) → find test (map f xs) ≡ option_map f (find (λ x. test (f x)) xs)
+find_map : {A B : Type 0} (f : A → B) (test : B → Bool) (xs : List A)
+    → find test (map f xs) ≡ option_map f (find (λ x. test (f x)) xs)
 find_map f test [] = refl
 find_map f test (x ∷ xs) =
     let rest = find_map f test xs in
-    elim (test (f x)) as (λ b. cond b (Some (f x)) (find test (map f xs)) ≡ option_map f (cond b (Some x) (find (λ x. test (f x)) xs))) [ true ↦ refl | false ↦ rest ]
+    elim (test (f x)) as (λ b. cond b (Some (f x)) (find test (map f xs))
+    ≡ option_map f (cond b (Some x) (find (λ x. test (f x)) xs))) [ true ↦ refl | false ↦ rest ]
 
 -- the point that is an object stands as the writes say
 pub at_after : (device : DeviceState) (writes : List Write) (object : Identifier) → Holds device writes
     → standing_at device object ≡ option_map (standing_after writes) (point_at (points_of device) object)
 unfolding standing_after
 at_after device writes object holds =
-    ap (λ (d : DeviceState). standing_at d object) holds ∙ find_map (standing_after writes) (λ (standing : Standing). same_object standing.point.object object) (points_of device)
+    ap (λ (d : DeviceState). standing_at d object) holds
+    ∙ find_map (standing_after writes) (λ (standing : Standing). same_object standing.point.object object)
+    (points_of device)
 
 pub present_held : (device : DeviceState) (writes : List Write) (object : Identifier) → Holds device writes
     → option_map present (standing_at device object) ≡ present_after (points_of device) writes object
 present_held device writes object holds = ap (option_map present) (at_after device writes object holds) ∙ grind arith
 
 pub place_held : (device : DeviceState) (writes : List Write) (object : Identifier) (priority : ℕ) → Holds device writes
-    → option_and_then (λ standing. place_at standing priority) (standing_at device object) ≡ place_after (points_of device) writes object priority
-place_held device writes object priority holds = ap (option_and_then (λ (standing : Standing). place_at standing priority)) (at_after device writes object holds) ∙ grind (arith, place_chosen)
+    → option_and_then (λ standing. place_at standing priority) (standing_at device object)
+    ≡ place_after (points_of device) writes object priority
+place_held device writes object priority holds =
+    ap (option_and_then (λ (standing : Standing). place_at standing priority)) (at_after device writes object holds)
+    ∙ grind (arith, place_chosen)
 
 -- the points of a device are those with which it was made
-pub points_after : (info : Info) (points : List Description) (writes : List Write) → points_of (device_after info points writes) ≡ points
+pub points_after : (info : Info) (points : List Description) (writes : List Write)
+    → points_of (device_after info points writes) ≡ points
 unfolding standing_after
 points_after info [] writes = refl
-points_after info (point ∷ points) writes = ap (λ (rest : List Description). point ∷ rest) (points_after info points writes)
+points_after info (point ∷ points) writes =
+    ap (λ (rest : List Description). point ∷ rest) (points_after info points writes)
 
 -- a device once a write is made, if there is one
-pub write_held : (device : DeviceState) (writes : List Write) (write : Option Write) → Holds device writes → IfSome write IsUrgent
+pub write_held : (device : DeviceState) (writes : List Write) (write : Option Write) → Holds device writes
+    → IfSome write IsUrgent
     → with_write device write ≡ device_after device.info (points_of device) (writes ++ option_to_list write)
-write_held device writes None holds urgent = holds ∙ ap (device_after device.info (points_of device)) (sym (append-nil writes))
+write_held device writes None holds urgent = holds
+    ∙ ap (device_after device.info (points_of device)) (sym (append-nil writes))
 write_held device writes (Some write) holds urgent =
-    let before : device.standings ≡ map (standing_after writes) (points_of device) = ap (λ (d : DeviceState). d.standings) holds in
-    ap (λ (s : List Standing). record { info = device.info; standings = s }) (ap (map (put write)) before ∙ map-map (put write) (standing_after writes) (points_of device)
+    let before : device.standings ≡ map (standing_after writes) (points_of device) =
+    ap (λ (d : DeviceState). d.standings) holds in
+    ap (λ (s : List Standing). record { info = device.info; standings = s })
+    (ap (map (put write)) before ∙ map-map (put write) (standing_after writes) (points_of device)
     ∙ map_same _ _ (λ point. put_after writes write point urgent.0 urgent.1) (points_of device))
 
 -- ---- one more point
 
 -- a point that none of the writes is to stands as it was added
-untouched : (writes : List Write) (point : Description) → NoneTo point.object writes → standing_after writes point ≡ standing_after [] point
+untouched : (writes : List Write) (point : Description) → NoneTo point.object writes
+    → standing_after writes point ≡ standing_after [] point
 unfolding standing_after
-untouched writes point none = ap (λ (places : List (Option ℕ)). record { point = point; places = places }) (map_same _ _ (λ q. place_none writes point.object q none) priorities)
+untouched writes point none =
+    ap (λ (places : List (Option ℕ)). record { point = point; places = places })
+    (map_same _ _ (λ q. place_none writes point.object q none) priorities)
 
 -- a device with one more point holds the writes that it held, where none of them is to the point
-more_held : (device : DeviceState) (point : Description) (writes : List Write) → Holds device writes → NoneTo point.object writes → Holds (with_point device point) writes
+more_held : (device : DeviceState) (point : Description) (writes : List Write) → Holds device writes
+    → NoneTo point.object writes → Holds (with_point device point) writes
 unfolding standing_after
 more_held device point writes holds none =
-    let before : device.standings ≡ map (standing_after writes) (points_of device) = ap (λ (d : DeviceState). d.standings) holds in
+    let before : device.standings ≡ map (standing_after writes) (points_of device) =
+    ap (λ (d : DeviceState). d.standings) holds in
     let same = untouched writes point none in
     ap (λ (s : List Standing). record { info = device.info; standings = s }) (grind (arith, common_steps))
 
@@ -71,24 +92,32 @@ described_object point d e = grind arith
 
 -- a device to which a point was added holds the writes that it held, where none of them is to the point
 pub added_held : (device : DeviceState) (standing : Standing) (point : Given) (writes : List Write)
-    → Some standing ≡ option_map (standing_after []) (description_of point) → Holds device writes → NoneTo point.object writes
+    → Some standing ≡ option_map (standing_after []) (description_of point) → Holds device writes
+    → NoneTo point.object writes
     → Holds (record { info = device.info; standings = device.standings ++ standing ∷ [] }) writes
 added_held device standing point writes made holds none = go (description_of point) refl (sym made)
   where
-    go : (found : Option Description) → description_of point ≡ found → option_map (standing_after []) found ≡ Some standing
+    go : (found : Option Description) → description_of point ≡ found
+        → option_map (standing_after []) found ≡ Some standing
         → Holds (record { info = device.info; standings = device.standings ++ standing ∷ [] }) writes
     go None at is = absurd (none-some standing is)
     go (Some d) at is =
-        subst (λ (s : Standing). Holds (record { info = device.info; standings = device.standings ++ s ∷ [] }) writes) (same_Some _ _ is)
-        (more_held device d writes holds (subst (λ (o : Identifier). NoneTo o writes) (sym (described_object point d at)) none))
+        subst (λ (s : Standing). Holds (record { info = device.info; standings = device.standings ++ s ∷ [] }) writes)
+        (same_Some _ _ is)
+        (more_held device d writes holds
+        (subst (λ (o : Identifier). NoneTo o writes) (sym (described_object point d at)) none))
 
 -- a device after some writes holds them
-pub after_holds : (info : Info) (points : List Description) (writes : List Write) → Holds (device_after info points writes) writes
-after_holds info points writes = ap (λ (p : List Description). device_after info p writes) (sym (points_after info points writes))
+pub after_holds : (info : Info) (points : List Description) (writes : List Write)
+    → Holds (device_after info points writes) writes
+after_holds info points writes =
+    ap (λ (p : List Description). device_after info p writes) (sym (points_after info points writes))
 
 -- a device that answers datagrams in turn
-pub in_turn : (device : DeviceState) (arrivals : List Arrival) (replies : List (Option (Station × List ℕ))) (after : DeviceState) (writes : List Write)
-    → AnswersInTurn device arrivals replies after → Holds device writes → AreDefined device writes arrivals replies after
+pub in_turn : (device : DeviceState) (arrivals : List Arrival) (replies : List (Option (Station × List ℕ)))
+    (after : DeviceState) (writes : List Write)
+    → AnswersInTurn device arrivals replies after → Holds device writes
+    → AreDefined device writes arrivals replies after
 in_turn device [] [] after writes turns holds = record { replied = refl; written = turns ∙ holds }
 in_turn device [] (reply ∷ replies) after writes turns holds = absurd turns
 in_turn device (arrival ∷ arrivals) [] after writes turns holds = absurd turns
@@ -96,10 +125,13 @@ in_turn device (arrival ∷ arrivals) (reply ∷ replies) after writes (next, ca
     let points = points_of device in
     let more = writes_after device.info points writes arrival.from arrival.datagram in
     let same : next ≡ device_after device.info points more = call.written writes holds in
-    let later = in_turn next arrivals replies after more others (subst (λ (d : DeviceState). Holds d more) (sym same) (after_holds device.info points more)) in
-    let rest : AreDefined (device_after device.info points more) more arrivals replies after = subst (λ (d : DeviceState). AreDefined d more arrivals replies after) same later in
+    let later = in_turn next arrivals replies after more others
+    (subst (λ (d : DeviceState). Holds d more) (sym same) (after_holds device.info points more)) in
+    let rest : AreDefined (device_after device.info points more) more arrivals replies after =
+    subst (λ (d : DeviceState). AreDefined d more arrivals replies after) same later in
     let r = rw (points_after device.info points more) at rest.replied in
     record {
-      replied = ap (λ (first : Option (Station × List ℕ)). first ∷ replies) (call.replied writes holds) ∙ ap (λ rest. reply_to device.info points writes arrival.from arrival.datagram ∷ rest) r;
+      replied = ap (λ (first : Option (Station × List ℕ)). first ∷ replies) (call.replied writes holds)
+          ∙ ap (λ rest. reply_to device.info points writes arrival.from arrival.datagram ∷ rest) r;
       written = rw (points_after device.info points more) at rest.written;
     }

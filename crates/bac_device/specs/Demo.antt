@@ -1,17 +1,16 @@
 -- The points of the demonstration device.
-use Rattle.std.specs.Prelude.{ℕ, List, [], ◌∷◌, codes, unwrap_or}
-use Rattle.std.specs.Option.{option_map}
+use Rattle.std.specs.Prelude.{ℕ, List, [], ◌∷◌, codes}
 use Rattle.bac_device.specs.declared.kind.Family.TheVariants.{Analog, Binary, MultiState}
 use Rattle.bac_device.specs.declared.kind.Role.TheVariants as roles
 use Rattle.bac_device.specs.Kind.{kind}
-use Rattle.bac_device.specs.Point.{Given, Description, described, description_of}
-use Rattle.bac_device.specs.Device.{DeviceState, with_point}
+use Rattle.bac_device.specs.Point.{Given, Description, described}
 
--- what is given of a point: object type, instance, name, start and extra
+-- What is given of a point: its object type, instance, name, start and extra.
 abbrev pub row : ℕ → ℕ → List ℕ → ℕ → ℕ → Given
-row kind instance name start extra = record { object = record { kind = kind; instance = instance }; name = name; start = start; extra = extra }
+row kind instance name start extra =
+    record { object = record { kind = kind; instance = instance }; name = name; start = start; extra = extra }
 
--- the eleven points: what each is, and its object type, instance, name, start and extra
+-- The eleven points: what each of them is.
 abbrev pub demo_points : List Description
 demo_points =
     described (kind Analog roles.Input) (row 0 5 (codes "Outdoor temperature") 0x4290999A 64)
@@ -26,7 +25,3 @@ demo_points =
     ∷ described (kind MultiState roles.Output) (row 14 1 (codes "Mode") 1 3)
     ∷ described (kind MultiState roles.Value) (row 19 1 (codes "Season") 1 4)
     ∷ []
-
--- one more point, where it is one that a device can have
-unfoldable pub with_row : DeviceState → Given → DeviceState
-with_row device given = unwrap_or (option_map (with_point device) (description_of given)) device

@@ -5,15 +5,15 @@ use Rattle.bac_device.specs.Info.{Info}
 use Rattle.bac_device.specs.Turns.{replies_to}
 use Rattle.bac_device.specs.Demo.{demo_points}
 
--- the device of a script
+-- The device of a script.
 abbrev pub small : Info
 small = record { instance = 1234; name = codes "Small device" }
 
--- 127.0.0.1, port 50000, which asks
+-- 127.0.0.1, port 50000: the station that asks.
 abbrev pub desk : Station
 desk = record { ip = 0x7f000001; port = 50000; route = None }
 
--- an APDU in a datagram, behind this control octet: 4 where a reply is expected, and else 0
+-- A datagram with this APDU, behind a control octet: 4 where a reply is expected, and else 0.
 abbrev pub datagram : ℕ → List ℕ → List ℕ
 datagram control apdu = 0x81 ∷ 0x0a ∷ 0x00 ∷ (6 + length apdu) ∷ 0x01 ∷ control ∷ apdu
 
@@ -25,108 +25,124 @@ Exchanges pairs =
 
 -- ---- objects and their properties
 
+-- Analog-input 5, as each of these is under context tag 0.
 abbrev pub outdoor : List ℕ
 outdoor = 0x0c ∷ 0x00 ∷ 0x00 ∷ 0x00 ∷ 0x05 ∷ []
 
--- the input that has a name of 36 octets
+-- The input that has a name of 36 octets.
 abbrev pub long_named : List ℕ
 long_named = 0x0c ∷ 0x00 ∷ 0x00 ∷ 0x00 ∷ 0x24 ∷ []
 
+-- Analog-output 1.
 abbrev pub valve : List ℕ
 valve = 0x0c ∷ 0x00 ∷ 0x40 ∷ 0x00 ∷ 0x01 ∷ []
 
+-- Binary-output 4.
 abbrev pub fan : List ℕ
 fan = 0x0c ∷ 0x01 ∷ 0x00 ∷ 0x00 ∷ 0x04 ∷ []
 
+-- Multi-state-value 1.
 abbrev pub season : List ℕ
 season = 0x0c ∷ 0x04 ∷ 0xc0 ∷ 0x00 ∷ 0x01 ∷ []
 
+-- Analog-input 99, which there is not.
 abbrev pub nothing : List ℕ
 nothing = 0x0c ∷ 0x00 ∷ 0x00 ∷ 0x00 ∷ 0x63 ∷ []
 
+-- Device 1234, the device itself.
 abbrev pub own : List ℕ
 own = 0x0c ∷ 0x02 ∷ 0x00 ∷ 0x04 ∷ 0xd2 ∷ []
 
--- the instance that stands for every device
+-- The instance that stands for every device.
 abbrev pub any_device : List ℕ
 any_device = 0x0c ∷ 0x02 ∷ 0x3f ∷ 0xff ∷ 0xff ∷ []
 
--- the property of this number of the object, and an element of it
+-- A property of the object, by its number.
 abbrev pub of : ℕ → List ℕ → List ℕ
 of number object = object ++ 0x19 ∷ number ∷ []
 
+-- An element of a property of the object, by its index.
 abbrev pub element_of : ℕ → ℕ → List ℕ → List ℕ
 element_of index number object = of number object ++ 0x29 ∷ index ∷ []
 
 -- ---- requests and replies
 
--- a value between its brackets
+-- A value between the opening and the closing tag 3.
 abbrev pub holding : List ℕ → List ℕ
 holding value = 0x3e ∷ value ++ 0x3f ∷ []
 
--- a ReadProperty of a requester that takes APDUs of 1476 octets, or of 50
+-- A ReadProperty of a requester that takes APDUs of 1476 octets.
 abbrev pub read : List ℕ → List ℕ
 read what = 0x00 ∷ 0x05 ∷ 0x01 ∷ 0x0c ∷ what
 
+-- A ReadProperty of a requester that takes APDUs of 50 octets.
 abbrev pub read_for_50 : List ℕ → List ℕ
 read_for_50 what = 0x00 ∷ 0x00 ∷ 0x01 ∷ 0x0c ∷ what
 
--- its acknowledgement
+-- The acknowledgement of a read: the property has this value.
 abbrev pub is : List ℕ → List ℕ → List ℕ
 is what value = 0x30 ∷ 0x01 ∷ 0x0c ∷ what ++ holding value
 
--- a WriteProperty of a present value without a priority, and at this one
+-- A WriteProperty of a present value, without a priority.
 abbrev pub write : List ℕ → List ℕ → List ℕ
 write object value = 0x00 ∷ 0x05 ∷ 0x01 ∷ 0x0f ∷ of 85 object ++ holding value
 
+-- A WriteProperty of a present value at this priority.
 abbrev pub write_at : ℕ → List ℕ → List ℕ → List ℕ
 write_at priority object value = write object value ++ 0x49 ∷ priority ∷ []
 
--- an Error to a service, with its class and its code
+-- An Error to a service, with its class and its code.
 abbrev pub failed : ℕ → ℕ → ℕ → List ℕ
 failed service class code = 0x50 ∷ 0x01 ∷ service ∷ 0x91 ∷ class ∷ 0x91 ∷ code ∷ []
 
--- an Abort of the server: segmentation not supported
+-- An Abort of the server: segmentation not supported (4).
 abbrev pub aborted : List ℕ
 aborted = 0x71 ∷ 0x01 ∷ 0x04 ∷ []
 
 -- ---- exchanges
 
--- a property has this value, or can't be read
+-- A property is read, and has this value.
 abbrev pub has : List ℕ → List ℕ → List ℕ × List ℕ
 has what value = (read what, is what value)
 
+-- A property is read, and an Error of this class and code comes.
 abbrev pub has_no : List ℕ → ℕ → ℕ → List ℕ × List ℕ
 has_no what class code = (read what, failed 12 class code)
 
--- a write is made, or not
+-- A write is made: a SimpleACK of WriteProperty comes.
 abbrev pub makes : List ℕ → List ℕ × List ℕ
 makes request = (request, 0x20 ∷ 0x01 ∷ 0x0f ∷ [])
 
+-- A write is not made: an Error of this class and code comes.
 abbrev pub refuses : List ℕ → ℕ → ℕ → List ℕ × List ℕ
 refuses request class code = (request, failed 15 class code)
 
 -- ---- values
 
--- the Real 72.3, 20.0, 30.0 and 0.0
+-- The Real 72.3.
 abbrev pub real_72_3 : List ℕ
 real_72_3 = 0x44 ∷ 0x42 ∷ 0x90 ∷ 0x99 ∷ 0x9a ∷ []
 
+-- The Real 20.0.
 abbrev pub twenty : List ℕ
 twenty = 0x44 ∷ 0x41 ∷ 0xa0 ∷ 0x00 ∷ 0x00 ∷ []
 
+-- The Real 30.0.
 abbrev pub thirty : List ℕ
 thirty = 0x44 ∷ 0x41 ∷ 0xf0 ∷ 0x00 ∷ 0x00 ∷ []
 
+-- The Real 0.0.
 abbrev pub zero_real : List ℕ
 zero_real = 0x44 ∷ 0x00 ∷ 0x00 ∷ 0x00 ∷ 0x00 ∷ []
 
+-- NULL.
 abbrev pub null : List ℕ
 null = 0x00 ∷ []
 
--- an Unsigned, and an Enumerated, of one octet
+-- An Unsigned of one octet.
 abbrev pub unsigned : ℕ → List ℕ
 unsigned number = 0x21 ∷ number ∷ []
 
+-- An Enumerated of one octet.
 abbrev pub enumerated : ℕ → List ℕ
 enumerated number = 0x91 ∷ number ∷ []

@@ -1,9 +1,10 @@
 -- Why a property is not read or written: the class and the code of the Error (clause 18).
 use Rattle.std.specs.Prelude.{ℕ}
 use Rattle.bac_device.specs.declared.failure.Failure.{Failure}
-use Rattle.bac_device.specs.declared.failure.Failure.TheVariants.{UnknownObject, UnknownProperty, NotAnArray, InvalidIndex, WriteDenied, WrongType, OutOfRange}
+use Rattle.bac_device.specs.declared.failure.Failure.TheVariants.{UnknownObject, UnknownProperty, NotAnArray}
+use Rattle.bac_device.specs.declared.failure.Failure.TheVariants.{InvalidIndex, WriteDenied, WrongType, OutOfRange}
 
--- 1 is object, 2 is property
+-- The number of the error class: 1 is object, 2 is property.
 abbrev pub error_class : Failure → ℕ
 error_class UnknownObject = 1
 error_class UnknownProperty = 2
@@ -13,8 +14,8 @@ error_class WriteDenied = 2
 error_class WrongType = 2
 error_class OutOfRange = 2
 
--- unknown-object, unknown-property, property-is-not-an-array, invalid-array-index, write-access-denied, invalid-data-type,
--- value-out-of-range
+-- The number of the error code: unknown-object, unknown-property, property-is-not-an-array, invalid-array-index,
+-- write-access-denied, invalid-data-type and value-out-of-range.
 abbrev pub error_code : Failure → ℕ
 error_code UnknownObject = 31
 error_code UnknownProperty = 32

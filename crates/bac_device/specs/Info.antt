@@ -1,11 +1,12 @@
 -- What a device is known by.
 use Rattle.std.specs.Prelude.{ℕ, ◌<◌, ◌≤◌, List, length}
 
+-- The instance of the device's object, and its name.
 pub record Info : Type 0 where
   pub instance : ℕ
   pub name : List ℕ
 
--- an instance that stands for an object, and a name of one to 64 octets
+-- What a device can be known by: an instance below 4,194,303, and a name of one to 64 octets.
 pub record IsInfo (info : Info) : Type 0 where
   pub numbered : info.instance < 4194303
   pub named : 1 ≤ length info.name

@@ -11,3 +11,4 @@ pub mod Size
 pub mod Demo
 pub mod Turns
 pub mod Examples
+pub mod Inner

@@ -6,18 +6,18 @@ use Rattle.bac_device.specs.declared.kind.Kind.{Kind}
 use Rattle.bac_device.specs.declared.point.Point.{Point}
 use Rattle.bac_device.specs.Kind.{kind_of, allows, allows_extra}
 
--- what is asked for where a point is added
+-- What is given of a point that is to be added.
 pub record Given : Type 0 where
   pub object : Identifier
   pub name : List ℕ
   pub start : ℕ
   pub extra : ℕ
 
--- the same, without where its name lies in memory
+-- What a `Point` of the code gives, without where its name lies in memory.
 abbrev pub given : Point → Given
 given point = record { object = identifier point.id; name = point.name.now; start = point.start; extra = point.extra }
 
--- a point that a device can have
+-- A point that a device can have.
 pub record Description : Type 0 where
   pub kind : Kind
   pub object : Identifier
@@ -25,28 +25,31 @@ pub record Description : Type 0 where
   pub start : ℕ
   pub extra : ℕ
 
--- the same type and instance
+-- Whether two identifiers have the same type and instance.
 abbrev pub same_object : Identifier → Identifier → Bool
 same_object a b = (a.kind == b.kind) && (a.instance == b.instance)
 
--- one to 64 octets
+-- Whether a name has one to 64 octets.
 abbrev pub is_name : List ℕ → Bool
 is_name name = nat_lt 0 (length name) && nat_le (length name) 64
 
--- the instance that stands for no object (clause 12)
+-- Whether the identifier has an instance that an object can have: not 4,194,303 (clause 12).
 abbrev pub is_numbered : Identifier → Bool
 is_numbered object = nat_lt object.instance 4194303
 
--- a point of this kind can be as it is given
+-- Whether a point of this kind can be as it is given.
 abbrev pub is_described : Kind → Given → Bool
-is_described kind point = is_name point.name && is_numbered point.object && allows_extra kind.family kind.role point.extra && allows kind.family point.extra point.start
+is_described kind point =
+    is_name point.name && is_numbered point.object && allows_extra kind.family kind.role point.extra && allows
+    kind.family point.extra point.start
 
--- the point of this kind
+-- The point of this kind that is given.
 abbrev pub described : Kind → Given → Description
-described kind point = record { kind = kind; object = point.object; name = point.name; start = point.start; extra = point.extra }
+described kind point =
+    record { kind = kind; object = point.object; name = point.name; start = point.start; extra = point.extra }
 
--- The point that is described, where its type is known, its name has one to 64 octets, its instance is less than 4194303, and
--- `start` and `extra` are such as its type allows.
+-- The point that is described, where its type is known, its name has one to 64 octets, its instance is less than
+-- 4194303, and `start` and `extra` are such as its type allows.
 unfoldable pub description_of : Given → Option Description
 description_of point = do
   kind ← kind_of point.object.kind

@@ -1,65 +1,50 @@
 -- The values of a property, and the properties of a point (clause 12).
-use Rattle.std.specs.Prelude.{ℕ, ◌-◌, ◌==◌, Bool, true, false, not, if◌then◌else◌, List, [], ◌∷◌, length, map, slice_get, Option, Some, None, Result, Ok, Err}
+use Rattle.std.specs.Prelude.{ℕ, ◌-◌, ◌==◌, Bool, true, false, not, if◌then◌else◌, List, [], ◌∷◌, length, map}
+use Rattle.std.specs.Prelude.{slice_get, Option, Some, None, Result, Ok, Err}
 use Rattle.std.specs.List.{flat_map}
 use Rattle.std.specs.Option.{option_map}
-use Rattle.bac_wire.specs.Identifier.{identifier}
-use Rattle.bac_wire.specs.Datum.{Datum, datum, boolean, unsigned, enumerated, char_string, bit_string, object, plain, IsSound}
+use Rattle.bac_wire.specs.Datum.{Datum, boolean, unsigned, enumerated, char_string, bit_string, object, plain}
 use Rattle.bac_device.specs.declared.kind.Family.{Family}
 use Rattle.bac_device.specs.declared.kind.Family.TheVariants.{Analog, Binary, MultiState}
 use Rattle.bac_device.specs.declared.kind.Role.{Role}
 use Rattle.bac_device.specs.declared.kind.Role.TheVariants as roles
 use Rattle.bac_device.specs.declared.failure.Failure.{Failure}
 use Rattle.bac_device.specs.declared.failure.Failure.TheVariants.{NotAnArray, InvalidIndex}
-use Rattle.bac_device.specs.declared.property.Property.{Property as AnyProperty}
-use Rattle.bac_device.specs.declared.property.Property.TheVariants.{Single, EmptyList, ObjectList, PriorityArray}
-use Rattle.bac_device.specs.Steps.{needs}
+use Rattle.bac_device.specs.Steps.{or_fail}
 use Rattle.bac_device.specs.Kind.{is_commandable, value_of, place_value}
 use Rattle.bac_device.specs.Places.{Standing, present}
 
--- the values of a property, which an index can choose from where it is an array
+-- The values of a property. Where it is an array, an index can choose from them.
 pub record Property : Type 0 where
   pub is_array : Bool
   pub values : List Datum
 
--- one value
+-- A property of one value.
 abbrev pub single : Datum → Property
 single value = record { is_array = false; values = value ∷ [] }
 
--- an array of these values
+-- A property that is an array of these values.
 abbrev pub array : List Datum → Property
 array values = record { is_array = true; values = values }
 
--- a list without elements, which is no array
+-- A list without elements, which is no array.
 abbrev pub empty_list : Property
 empty_list = record { is_array = false; values = [] }
 
--- the identifiers of the points
+-- The identifiers of the points.
 abbrev pub point_objects : List Standing → List Datum
 point_objects standings = map (λ standing. object standing.point.object) standings
 
--- the same, without where its parts lie in memory
-abbrev pub property_seen : AnyProperty → Property
-property_seen (Single value) = single (datum value)
-property_seen EmptyList = empty_list
-property_seen (ObjectList device points) = array (object (identifier device) ∷ point_objects points.now)
-property_seen (PriorityArray family places) = array (map (place_value family) places.now)
-
--- its values can be written: the others are numbers and identifiers
-abbrev pub IsSoundProperty : AnyProperty → Type 0
-IsSoundProperty (Single value) = IsSound (datum value)
-IsSoundProperty EmptyList = Unit {0}
-IsSoundProperty (ObjectList device points) = Unit {0}
-IsSoundProperty (PriorityArray family places) = Unit {0}
-
--- the octets of the values, one after the other
+-- The octets of the values, one after the other.
 abbrev pub region_octets : Property → List ℕ
 region_octets property = flat_map plain property.values
 
--- the value at this place, counted from 0
+-- The value at this position, counted from 0.
 abbrev pub element_at : List Datum → ℕ → Result Property Failure
-element_at values place = needs InvalidIndex (option_map single (slice_get values place))
+element_at values place = or_fail InvalidIndex (option_map single (slice_get values place))
 
--- what an index chooses: nothing but from an array, and from it 0 the number of elements, else the element, counted from 1
+-- What an index chooses. Without one it is the whole property. An array has at 0 the number of its elements, and then
+-- these, from 1 on; what is no array has none.
 unfoldable pub element : Property → Option ℕ → Result Property Failure
 element property None = Ok property
 element property (Some index) =
@@ -69,40 +54,43 @@ element property (Some index) =
 
 -- ---- the properties of a point
 
--- the property, where points of the role can be written
+-- The property, where points of the role can be written; else none.
 abbrev pub if_commandable : Role → Property → Option Property
 if_commandable role property = if is_commandable role then Some property else None
 
--- the units of an analog point
+-- The units of an analog point; no other has any.
 abbrev pub units : Family → ℕ → Option Property
 units Analog extra = Some (single (enumerated extra))
 units Binary extra = None
 units MultiState extra = None
 
--- the polarity of a binary input or output
+-- The polarity of a binary input or output; no other point has one.
 abbrev pub polarity : Family → Role → ℕ → Option Property
 polarity Binary roles.Input extra = Some (single (enumerated extra))
 polarity Binary roles.Output extra = Some (single (enumerated extra))
 polarity _ _ extra = None
 
--- the number of states of a multi-state point
+-- The number of states of a multi-state point; no other has one.
 abbrev pub number_of_states : Family → ℕ → Option Property
 number_of_states MultiState extra = Some (single (unsigned extra))
 number_of_states Analog extra = None
 number_of_states Binary extra = None
 
--- the properties that points of some types have: units, polarity, number-of-states, priority-array, relinquish-default
+-- The properties that only points of some types have: units, polarity, number-of-states, priority-array and
+-- relinquish-default.
 unfoldable pub kind_property : Standing → ℕ → Option Property
 kind_property standing number =
     if number == 117 then units standing.point.kind.family standing.point.extra
     else if number == 84 then polarity standing.point.kind.family standing.point.kind.role standing.point.extra
     else if number == 74 then number_of_states standing.point.kind.family standing.point.extra
-    else if number == 87 then if_commandable standing.point.kind.role (array (map (place_value standing.point.kind.family) standing.places))
-    else if number == 104 then if_commandable standing.point.kind.role (single (value_of standing.point.kind.family standing.point.start))
+    else if number == 87
+    then if_commandable standing.point.kind.role (array (map (place_value standing.point.kind.family) standing.places))
+    else if number == 104
+    then if_commandable standing.point.kind.role (single (value_of standing.point.kind.family standing.point.start))
     else None
 
--- The properties of every point: object-identifier, object-name, object-type, present-value, event-state (normal), out-of-service,
--- status-flags (four, none set); and those of its type.
+-- The properties of every point: object-identifier, object-name, object-type, present-value, event-state (normal),
+-- out-of-service, status-flags (four, none set); and those of its type.
 unfoldable pub point_property : Standing → ℕ → Option Property
 point_property standing number =
     if number == 75 then Some (single (object standing.point.object))

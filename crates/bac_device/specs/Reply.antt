@@ -1,5 +1,6 @@
 -- What the device answers to a datagram, and which write it accepts (clauses 5.4, 15.5, 15.9 and 16.10).
-use Rattle.std.specs.Prelude.{ℕ, ◌==◌, nat_le, Bool, true, false, if◌then◌else◌, List, ◌++◌, length, map, Option, Some, None, Result, Ok, Err}
+use Rattle.std.specs.Prelude.{ℕ, ◌==◌, nat_le, Bool, true, false, if◌then◌else◌, List, ◌++◌, length, map, Option, Some}
+use Rattle.std.specs.Prelude.{None, Result, Ok, Err}
 use Rattle.std.specs.Option.{option_and_then, option_map, option_to_list}
 use Rattle.std.specs.Result.{result_ok}
 use Rattle.bac_wire.specs.Identifier.{Identifier}
@@ -8,7 +9,8 @@ use Rattle.bac_pdu.specs.declared.reject.RejectReason.{RejectReason}
 use Rattle.bac_pdu.specs.Peer.{Station}
 use Rattle.bac_pdu.specs.Datagram.{Delivery, wrapped}
 use Rattle.bac_pdu.specs.DatagramReading.{carried}
-use Rattle.bac_pdu.specs.Apdu.{Message, confirmed, unconfirmed, simple_ack, complex_ack, segment_ack, error, reject, abort, laid_out, announced_size}
+use Rattle.bac_pdu.specs.Apdu.{Message, confirmed, unconfirmed, simple_ack, complex_ack, error, reject}
+use Rattle.bac_pdu.specs.Apdu.{abort, laid_out, announced_size}
 use Rattle.bac_pdu.specs.ApduReading.{apdu_of}
 use Rattle.bac_pdu.specs.Property.{Reference, Order, Answer, ack_octets}
 use Rattle.bac_pdu.specs.PropertyReading.{read_of, write_of}
@@ -17,9 +19,10 @@ use Rattle.bac_pdu.specs.Discovery.{Introduction, asks, i_am_octets}
 use Rattle.bac_pdu.specs.Failure.{error_octets}
 use Rattle.bac_pdu.specs.ValueReading.{who_is_of}
 use Rattle.bac_device.specs.declared.failure.Failure.{Failure}
-use Rattle.bac_device.specs.declared.failure.Failure.TheVariants.{UnknownObject, UnknownProperty, NotAnArray, WriteDenied}
+use Rattle.bac_device.specs.declared.failure.Failure.TheVariants.{UnknownObject, UnknownProperty, NotAnArray}
+use Rattle.bac_device.specs.declared.failure.Failure.TheVariants.{WriteDenied}
 use Rattle.bac_device.specs.Info.{Info}
-use Rattle.bac_device.specs.Steps.{◌>>=◌, needs}
+use Rattle.bac_device.specs.Steps.{◌>>=◌, or_fail}
 use Rattle.bac_device.specs.Kind.{is_commandable}
 use Rattle.bac_device.specs.Point.{Description}
 use Rattle.bac_device.specs.Places.{Write, Standing, written, put}
@@ -29,181 +32,188 @@ use Rattle.bac_device.specs.Device.{DeviceState, device_after, device_object, is
 
 -- ---- ReadProperty (clause 15.5)
 
--- the property of this number of the object
+-- The property of this number of the object, or why there is none: no such object, or no such property.
 unfoldable pub property_of : DeviceState → Identifier → ℕ → Result Property Failure
 property_of device object number =
-    if is_device device.info object then needs UnknownProperty (device_property device number)
-    else needs UnknownObject (standing_at device object) >>= (λ standing. needs UnknownProperty (point_property standing number))
+    if is_device device.info object then or_fail UnknownProperty (device_property device number)
+    else or_fail UnknownObject (standing_at device object)
+    >>= (λ standing. or_fail UnknownProperty (point_property standing number))
 
--- what is asked for: a property, or an element of it
+-- What is asked for: a property, or an element of it; or why it can't be read.
 unfoldable pub read_property : DeviceState → Reference → Result Property Failure
 read_property device r = property_of device r.object r.property >>= (λ property. element property r.index)
 
 -- ---- WriteProperty (clause 15.9)
 
--- an index can stand at an array alone
+-- Whether this index can stand at the property: none at any, and one only at an array.
 abbrev pub takes_index : Property → Option ℕ → Bool
 takes_index property None = true
 takes_index property (Some index) = property.is_array
 
--- the point whose present value the reference names, where it can be written
+-- The point whose present value the reference names, where points of its type can be written.
 abbrev pub commanded : DeviceState → Reference → Option Standing
 commanded device r =
     if is_device device.info r.object then None
-    else if r.property == 85 then option_and_then (λ standing. if is_commandable standing.point.kind.role then Some standing else None) (standing_at device r.object)
+    else if r.property == 85
+    then option_and_then (λ standing. if is_commandable standing.point.kind.role then Some standing else None)
+    (standing_at device r.object)
     else None
 
--- without a priority it is the least urgent; 6 is kept for minimum on and off times (clause 19.2)
+-- The priority of a write: 16, the least urgent, where it names none. Priority 6 is kept for minimum on and off times
+-- (clause 19.2), and is refused.
 abbrev pub urgency : Option ℕ → Result ℕ Failure
 urgency None = Ok 16
 urgency (Some priority) = if priority == 6 then Err WriteDenied else Ok priority
 
--- the write that an order asks of a point, or the first of the failures: priority 6, a value of another type, a value out of range
+-- The write that an order asks of a point, or the first failure that applies: priority 6, a value of another type, a
+-- value out of range.
 unfoldable pub ordered : Standing → Order → Result Write Failure
 ordered standing o =
     urgency o.priority >>= (λ priority.
     written standing.point o.value >>= (λ value.
     Ok (record { object = o.reference.object; priority = priority; value = value })))
 
--- The write that is ordered, or the first of the failures: unknown object, unknown property, an index at what is no array, what
--- can't be written, and those of the point.
+-- The write that is ordered, or the first failure that applies: an unknown object, an unknown property, an index at
+-- what is no array, a property that can't be written, and then those of the point.
 unfoldable pub accepted : DeviceState → Order → Result Write Failure
 accepted device o =
     property_of device o.reference.object o.reference.property >>= (λ property.
-    needs NotAnArray (if takes_index property o.reference.index then Some property else None) >>= (λ _.
-    needs WriteDenied (commanded device o.reference) >>= (λ standing.
+    or_fail NotAnArray (if takes_index property o.reference.index then Some property else None) >>= (λ _.
+    or_fail WriteDenied (commanded device o.reference) >>= (λ standing.
     ordered standing o)))
 
 -- ---- the replies to confirmed requests
 
--- what is made of a body that is whole; else it is rejected
+-- What is made of a body that was read; where it was not, a Reject with the reason.
 abbrev pub unless_rejected : {A : Type 0} → ℕ → (A → Message) → Result A RejectReason → Message
 unless_rejected id made (Ok x) = made x
 unless_rejected id made (Err reason) = reject id (reason_number reason)
 
--- what is made of a result; else an Error
+-- What is made of a result; where there is none, an Error with the failure.
 abbrev pub unless_failed : {A : Type 0} → ℕ → ℕ → (A → Message) → Result A Failure → Message
 unless_failed id service made (Ok x) = made x
 unless_failed id service made (Err failure) = error id service (error_octets (error_class failure) (error_code failure))
 
--- the object that is answered: the device under its own instance
+-- The object that a reply names: the device under its own instance, and any other as it was asked for.
 abbrev pub answered_object : Info → Identifier → Identifier
 answered_object info object = if is_device info object then device_object info else object
 
--- what is acknowledged: the object, the property, the index as it was asked for, and the values
+-- What is acknowledged: the object, the property and the index that were asked for, and the values.
 abbrev pub answer_to : DeviceState → Reference → Property → Answer
 answer_to device r property = record {
   reference = record { object = answered_object device.info r.object; property = r.property; index = r.index };
   value = region_octets property;
 }
 
--- the ReadProperty-ACK
+-- The ReadProperty-ACK with these values.
 abbrev pub ack : DeviceState → ℕ → Reference → Property → Message
 ack device id r property = complex_ack None id 12 (ack_octets (answer_to device r property))
 
--- the reply to a ReadProperty with this body
+-- The reply to a ReadProperty with this body.
 unfoldable pub read_reply : DeviceState → ℕ → List ℕ → Message
-read_reply device id body = unless_rejected id (λ r. unless_failed id 12 (ack device id r) (read_property device r)) (read_of body)
+read_reply device id body =
+    unless_rejected id (λ r. unless_failed id 12 (ack device id r) (read_property device r)) (read_of body)
 
--- the reply to a WriteProperty with this body
+-- The reply to a WriteProperty with this body.
 unfoldable pub write_reply : DeviceState → ℕ → List ℕ → Message
-write_reply device id body = unless_rejected id (λ o. unless_failed id 15 (λ _. simple_ack id 15) (accepted device o)) (write_of body)
+write_reply device id body =
+    unless_rejected id (λ o. unless_failed id 15 (λ _. simple_ack id 15) (accepted device o)) (write_of body)
 
--- the write that the body of a WriteProperty orders and the device accepts
+-- The write that the body of a WriteProperty orders and the device accepts.
 unfoldable pub write_in_body : DeviceState → List ℕ → Option Write
 write_in_body device body = option_and_then (λ o. result_ok (accepted device o)) (result_ok (write_of body))
 
--- An Abort of the server: segmentation not supported (clause 18.10).
+-- An Abort of the server: segmentation not supported (4, clause 18.10).
 abbrev pub refused : ℕ → Message
 refused id = abort true id 4
 
--- The reply to a request of ReadProperty (12), WriteProperty (15) or any other service; one that comes in parts is refused.
+-- The reply, however long, to a request of ReadProperty (12), WriteProperty (15) or another service. One that comes in
+-- parts is refused.
 unfoldable pub full_reply : DeviceState → Option Part → ℕ → ℕ → List ℕ → Message
 full_reply device (Some part) id service body = refused id
-full_reply device None id service body = if service == 12 then read_reply device id body else if service == 15 then write_reply device id body else reject id 9
+full_reply device None id service body =
+    if service == 12 then read_reply device id body
+    else if service == 15 then write_reply device id body
+    else reject id 9
 
--- the write that a request orders and the device accepts
+-- The write that a request orders and the device accepts.
 unfoldable pub write_in_request : DeviceState → Option Part → ℕ → List ℕ → Option Write
 write_in_request device (Some part) service body = None
 write_in_request device None service body = if service == 15 then write_in_body device body else None
 
--- the reply, or an Abort where it has more octets than the requester announced (clause 5.4.5)
+-- The reply, or an Abort where it would have more octets than the requester announced (clause 5.4.5).
 abbrev pub fitting : ℕ → ℕ → Message → Message
 fitting code id full = if nat_le (length (laid_out full)) (announced_size code) then full else refused id
 
 -- ---- Who-Is (clause 16.10)
 
--- the device, 1476 octets, no segmentation, the vendor
+-- What the device says of itself: its identifier, 1476 octets, no segmentation, and the vendor.
 abbrev pub introduction_of : Info → Introduction
 introduction_of info = record { device = device_object info; max_apdu = 1476; segmentation = 3; vendor = 260 }
 
--- an I-Am
+-- The I-Am of the device.
 abbrev pub i_am : Info → Message
 i_am info = unconfirmed 0 (i_am_octets (introduction_of info))
 
--- the I-Am, where the body of a Who-Is asks for the device
+-- The I-Am, where the body of a Who-Is asks for the device.
 unfoldable pub introduced : Info → List ℕ → Option Message
-introduced info body = option_and_then (λ who. if asks who info.instance then Some (i_am info) else None) (who_is_of body)
+introduced info body =
+    option_and_then (λ who. if asks who info.instance then Some (i_am info) else None) (who_is_of body)
 
 -- ---- the reply to an APDU, and to a datagram
 
--- Who-Is (8) is answered, and a confirmed request that was sent to this device alone.
+-- The reply to an APDU: a Who-Is (8) is answered, and a confirmed request that was not sent to all.
 abbrev pub reply_message : DeviceState → Bool → Message → Option Message
-reply_message device broadcast (confirmed part code id service body) = if broadcast then None else Some (fitting code id (full_reply device part id service body))
+reply_message device broadcast (confirmed part code id service body) =
+    if broadcast then None else Some (fitting code id (full_reply device part id service body))
 reply_message device broadcast (unconfirmed service body) = if service == 8 then introduced device.info body else None
-reply_message device broadcast (simple_ack id service) = None
-reply_message device broadcast (complex_ack part id service body) = None
-reply_message device broadcast segment_ack = None
-reply_message device broadcast (error id service body) = None
-reply_message device broadcast (reject id reason) = None
-reply_message device broadcast (abort server id reason) = None
+reply_message device broadcast _ = None
 
--- the write that an APDU orders and the device accepts
+-- The write that an APDU orders and the device accepts.
 abbrev pub write_message : DeviceState → Bool → Message → Option Write
-write_message device broadcast (confirmed part code id service body) = if broadcast then None else write_in_request device part service body
-write_message device broadcast (unconfirmed service body) = None
-write_message device broadcast (simple_ack id service) = None
-write_message device broadcast (complex_ack part id service body) = None
-write_message device broadcast segment_ack = None
-write_message device broadcast (error id service body) = None
-write_message device broadcast (reject id reason) = None
-write_message device broadcast (abort server id reason) = None
+write_message device broadcast (confirmed part code id service body) =
+    if broadcast then None else write_in_request device part service body
+write_message device broadcast _ = None
 
--- the octets of the reply to the octets of an APDU
+-- The octets of the reply to the octets of an APDU.
 unfoldable pub reply_apdu : DeviceState → Bool → List ℕ → Option (List ℕ)
-reply_apdu device broadcast apdu = option_and_then (λ message. option_map laid_out (reply_message device broadcast message)) (apdu_of apdu)
+reply_apdu device broadcast apdu =
+    option_and_then (λ message. option_map laid_out (reply_message device broadcast message)) (apdu_of apdu)
 
--- the same of the octets of an APDU
+-- The write that the octets of an APDU order and the device accepts.
 unfoldable pub write_apdu : DeviceState → Bool → List ℕ → Option Write
 write_apdu device broadcast apdu = option_and_then (write_message device broadcast) (apdu_of apdu)
 
--- the reply to what a datagram carries, as a unicast to its peer
+-- The reply to what a datagram carries, as a unicast to its peer.
 abbrev pub reply_delivery : DeviceState → Delivery → Option (Station × List ℕ)
-reply_delivery device delivery = option_map (λ apdu. (delivery.peer, wrapped delivery.peer.route false apdu)) (reply_apdu device delivery.broadcast delivery.apdu)
+reply_delivery device delivery =
+    option_map (λ apdu. (delivery.peer, wrapped delivery.peer.route false apdu))
+    (reply_apdu device delivery.broadcast delivery.apdu)
 
--- whom the device as it stands answers a datagram from there, and with which datagram
+-- The reply of the device, as it stands, to a datagram from there: to whom it goes, and which datagram it is.
 unfoldable pub reply_of : DeviceState → Station → List ℕ → Option (Station × List ℕ)
 reply_of device from datagram = option_and_then (reply_delivery device) (carried from datagram)
 
--- the write in the datagram that the device as it stands accepts
+-- The write in a datagram from there that the device, as it stands, accepts.
 unfoldable pub write_of_datagram : DeviceState → Station → List ℕ → Option Write
-write_of_datagram device from datagram = option_and_then (λ delivery. write_apdu device delivery.broadcast delivery.apdu) (carried from datagram)
+write_of_datagram device from datagram =
+    option_and_then (λ delivery. write_apdu device delivery.broadcast delivery.apdu) (carried from datagram)
 
--- the device once the write is made
+-- The device once the write is made, if there is one.
 abbrev pub with_write : DeviceState → Option Write → DeviceState
 with_write device None = device
 with_write device (Some write) = record { info = device.info; standings = map (put write) device.standings }
 
 -- ---- after a list of writes
 
--- whom a device with these points answers after these writes, and with which datagram
+-- The reply of a device with these points, after these writes, to a datagram from there.
 abbrev pub reply_to : Info → List Description → List Write → Station → List ℕ → Option (Station × List ℕ)
 reply_to info points writes from datagram = reply_of (device_after info points writes) from datagram
 
--- the write in the datagram that it accepts
+-- The write in a datagram from there that a device with these points, after these writes, accepts.
 abbrev pub write_in : Info → List Description → List Write → Station → List ℕ → Option Write
 write_in info points writes from datagram = write_of_datagram (device_after info points writes) from datagram
 
--- these writes, and the one that is accepted in the datagram, if there is one
+-- These writes, and the one that is accepted in the datagram, if there is one.
 abbrev pub writes_after : Info → List Description → List Write → Station → List ℕ → List Write
 writes_after info points writes from datagram = writes ++ option_to_list (write_in info points writes from datagram)

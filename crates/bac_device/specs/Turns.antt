@@ -7,37 +7,47 @@ use Rattle.bac_device.specs.Places.{Write}
 use Rattle.bac_device.specs.Device.{DeviceState, points_of, device_after, Holds}
 use Rattle.bac_device.specs.Reply.{reply_to, writes_after}
 
--- a datagram that came from there
+-- A datagram, and the station that it came from.
 pub record Arrival : Type 0 where
   pub from : Station
   pub datagram : List ℕ
 
--- These writes, and then the accepted ones of the datagrams.
+-- These writes, and then those of the datagrams that are accepted.
 abbrev pub all_writes : Info → List Description → List Write → List Arrival → List Write
 all_writes info points writes [] = writes
-all_writes info points writes (arrival ∷ arrivals) = all_writes info points (writes_after info points writes arrival.from arrival.datagram) arrivals
+all_writes info points writes (arrival ∷ arrivals) =
+    all_writes info points (writes_after info points writes arrival.from arrival.datagram) arrivals
 
--- The reply to each datagram, after these writes and the accepted ones of the datagrams before it.
+-- The reply to each datagram, after these writes and those of the datagrams before it that are accepted.
 abbrev pub replies_to : Info → List Description → List Write → List Arrival → List (Option (Station × List ℕ))
 replies_to info points writes [] = []
 replies_to info points writes (arrival ∷ arrivals) =
-    reply_to info points writes arrival.from arrival.datagram ∷ replies_to info points (writes_after info points writes arrival.from arrival.datagram) arrivals
+    reply_to info points writes arrival.from arrival.datagram
+    ∷ replies_to info points (writes_after info points writes arrival.from arrival.datagram) arrivals
 
 -- ---- what a server that answers each in turn sees
 
--- a call that answers a datagram, as its contract says
-pub record Answers (device : DeviceState) (arrival : Arrival) (reply : Option (Station × List ℕ)) (after : DeviceState) : Type 0 where
-  pub replied : (writes : List Write) → Holds device writes → reply ≡ reply_to device.info (points_of device) writes arrival.from arrival.datagram
-  pub written : (writes : List Write) → Holds device writes → after ≡ device_after device.info (points_of device) (writes_after device.info (points_of device) writes arrival.from arrival.datagram)
+-- A call answers this datagram with this reply, and leaves this device: for any writes that the device holds, both are
+-- those of the definition.
+pub record Answers (device : DeviceState) (arrival : Arrival) (reply : Option (Station × List ℕ))
+    (after : DeviceState) : Type 0 where
+  pub replied : (writes : List Write) → Holds device writes
+      → reply ≡ reply_to device.info (points_of device) writes arrival.from arrival.datagram
+  pub written : (writes : List Write) → Holds device writes
+      → after ≡ device_after device.info (points_of device)
+      (writes_after device.info (points_of device) writes arrival.from arrival.datagram)
 
--- such calls, one after the other
+-- Such calls for these datagrams, one after the other.
 abbrev pub AnswersInTurn : DeviceState → List Arrival → List (Option (Station × List ℕ)) → DeviceState → Type 0
 AnswersInTurn device [] [] after = after ≡ device
 AnswersInTurn device [] (reply ∷ replies) after = ⊥
 AnswersInTurn device (arrival ∷ arrivals) [] after = ⊥
-AnswersInTurn device (arrival ∷ arrivals) (reply ∷ replies) after = (next : DeviceState) × Answers device arrival reply next × AnswersInTurn next arrivals replies after
+AnswersInTurn device (arrival ∷ arrivals) (reply ∷ replies) after = (next : DeviceState)
+    × Answers device arrival reply next × AnswersInTurn next arrivals replies after
 
--- they are the replies of the definition, and the places are those after the accepted writes
-pub record AreDefined (device : DeviceState) (writes : List Write) (arrivals : List Arrival) (replies : List (Option (Station × List ℕ))) (after : DeviceState) : Type 0 where
+-- The replies are those of the definition, and the points stand as the accepted writes leave them.
+pub record AreDefined (device : DeviceState) (writes : List Write) (arrivals : List Arrival)
+    (replies : List (Option (Station × List ℕ))) (after : DeviceState) : Type 0 where
   pub replied : replies ≡ replies_to device.info (points_of device) writes arrivals
-  pub written : after ≡ device_after device.info (points_of device) (all_writes device.info (points_of device) writes arrivals)
+  pub written : after
+      ≡ device_after device.info (points_of device) (all_writes device.info (points_of device) writes arrivals)

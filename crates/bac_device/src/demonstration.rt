@@ -3,22 +3,23 @@
 ghost use Rattle.std.specs.Prelude.{◌≡◌, ◌<◌, ◌+◌, ◌^◌, length, [], IsSome};
 ghost use Rattle.bac_device.specs.Point.{description_of};
 ghost use Rattle.bac_device.specs.Device.{device_after};
-ghost use Rattle.bac_device.specs.Demo.{row, demo_points, with_row};
+ghost use Rattle.bac_device.specs.Demo.{row, demo_points};
+ghost use Rattle.bac_device.specs.Inner.Demo.{with_row};
 
 use crate::device::Device;
 use crate::info::DeviceInfo;
 use crate::point::{Point, StandingPoint};
 use bac_wire::ObjectId;
 
-/// A device with the eleven demonstration points: three analog inputs, and a point of each other type. Give it a name that
-/// none of them has.
+/// A device with the eleven demonstration points: three analog inputs, and a point of each other type. Give it a name
+/// that none of them has.
 #[tactic(auto, unfolding(crate::specs::Point::description_of, crate::specs::Kind::kind_of))]
 pub fn demo(info: DeviceInfo) -> Device
     ensures { result ≡ device_after info demo_points [] }
 {
     let mut device = Device::new(info);
-    // Type, instance, name, start and extra. The starts are 72.3 and 21.0, the units degrees Fahrenheit (64) and Celsius
-    // (62), percent (98) and none (95).
+    // Type, instance, name, start and extra. The starts are 72.3 and 21.0, the units degrees Fahrenheit (64) and
+    // Celsius (62), percent (98) and none (95).
     append_row(&mut device, 0, 5, "Outdoor temperature", 0x4290_999a, 64);
     append_row(
         &mut device,
@@ -48,7 +49,7 @@ pub fn demo(info: DeviceInfo) -> Device
 }
 
 /// One more point, which has to be one that a device can have.
-#[tactic(auto, unfolding(crate::specs::Demo::with_row))]
+#[tactic(auto, unfolding(crate::specs::Inner::Demo::with_row))]
 fn append_row(device: &mut Device, kind: u16, instance: u32, name: &str, start: u32, extra: u32)
     requires kind { kind < 1024 }
     requires instance { instance < 2 ^ 22 }

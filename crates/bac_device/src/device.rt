@@ -1,16 +1,20 @@
 //! The device: its points, its own properties, and what is held after writes.
 
-ghost use Rattle.std.specs.Prelude.{◌≡◌, ◌<◌, [], ◌∷◌, ◌++◌, List, length, map, IfSome, IfOk, IfErr, OnOk, OnErr, Ok, Err, Some, None};
+ghost use Rattle.std.specs.Prelude.{◌≡◌, ◌<◌, [], ◌∷◌, ◌++◌, List, length, map, IfSome, IfOk, IfErr, OnOk, OnErr, Ok};
+ghost use Rattle.std.specs.Prelude.{Err, Some, None};
 ghost use Rattle.std.specs.List.{list_any};
 ghost use Rattle.std.specs.Option.{option_map, option_and_then, option_copied};
 ghost use Rattle.bac_wire.specs.Datum.{datum, IsSound};
 ghost use Rattle.bac_wire.specs.Identifier.{identifier};
 ghost use Rattle.bac_device.specs.Kind.{value_of};
 ghost use Rattle.bac_device.specs.Point.{given, same_object};
-ghost use Rattle.bac_device.specs.Places.{Write, NoneTo, write_seen, present, place_at, put as put_write};
-ghost use Rattle.bac_device.specs.Steps.{result_seen};
-ghost use Rattle.bac_device.specs.Property.{property_seen, single, IsSoundProperty};
-ghost use Rattle.bac_device.specs.Device.{Holds, points_of, device_after, standing_at, present_after, place_after, same_name, add_point, device_text, device_number, device_property};
+ghost use Rattle.bac_device.specs.Places.{Write, NoneTo, present, place_at, put as put_write};
+ghost use Rattle.bac_device.specs.Inner.Places.{write_seen};
+ghost use Rattle.bac_wire.specs.Steps.{result_seen};
+ghost use Rattle.bac_device.specs.Property.{single};
+ghost use Rattle.bac_device.specs.Inner.Property.{property_seen, IsSoundProperty};
+ghost use Rattle.bac_device.specs.Device.{Holds, points_of, device_after, standing_at, present_after, place_after};
+ghost use Rattle.bac_device.specs.Device.{same_name, add_point, device_text, device_number, device_property};
 ghost use Rattle.bac_device.specs.Reply.{property_of, commanded, with_write};
 
 use crate::failure::Failure;
@@ -36,13 +40,13 @@ pub const POINTS: usize = 32;
 /// Why a point was not added.
 #[derive(Clone, Copy, Debug, PartialEq, Eq)]
 pub enum AddFault {
-    /// There are 32 points.
+    /// The device has 32 points already.
     TooMany,
-    /// A point has this object identifier.
+    /// A point of the device has this object identifier.
     Twice,
-    /// A point, or the device, has this name.
+    /// A point of the device, or the device itself, has this name.
     NameTwice,
-    /// A device can have no such point: its object type, its instance, its name, `start` or `extra`.
+    /// No device can have such a point, for its object type, its instance, its name, `start` or `extra`.
     BadPoint,
 }
 
@@ -103,7 +107,7 @@ impl Device {
         Ok(())
     }
 
-    /// One more point.
+    /// Adds this point, for which there has to be room.
     pub(crate) fn append(&mut self, point: StandingPoint)
         requires { length self.old.standings < 32 }
         ensures { self.new ≡ record { info = self.old.info; standings = self.old.standings ++ point ∷ [] } }
@@ -111,22 +115,25 @@ impl Device {
         self.points.push(point);
     }
 
-    /// The number of the present value of a point (clause 19.2), as in [`Point::start`]: what the most urgent place that is
-    /// not NULL holds, or `start`. None where the object is no point.
+    /// The number of the present value of a point (clause 19.2), as in [`Point::start`]: what the most urgent place
+    /// that is not NULL holds, or `start`. None where the object is no point.
     #[tactic(auto, using(crate::proofs::StateLaws::present_held))]
     pub fn present(&self, object: ObjectId) -> Option<u32>
         ensures standing { result ≡ option_map present (standing_at self.now (identifier object)) }
-        ensures after { (writes : List Write) → Holds self.now writes → result ≡ present_after (points_of self.now) writes (identifier object) }
+        ensures after { (writes : List Write) → Holds self.now writes
+            → result ≡ present_after (points_of self.now) writes (identifier object) }
     {
         self.present_at(object)
     }
 
-    /// What a commandable point has at a priority; `Some(None)` is NULL. None where the object is no commandable point, or
-    /// the priority is not 1 to 16.
+    /// What a commandable point has at a priority; `Some(None)` is NULL. None where the object is no commandable point,
+    /// or the priority is not 1 to 16.
     #[tactic(auto, using(crate::proofs::StateLaws::place_held))]
     pub fn place(&self, object: ObjectId, priority: u8) -> Option<Option<u32>>
-        ensures standing { result ≡ option_and_then (λ standing. place_at standing priority) (standing_at self.now (identifier object)) }
-        ensures after { (writes : List Write) → Holds self.now writes → result ≡ place_after (points_of self.now) writes (identifier object) priority }
+        ensures standing { result ≡ option_and_then (λ standing. place_at standing priority)
+            (standing_at self.now (identifier object)) }
+        ensures after { (writes : List Write) → Holds self.now writes
+            → result ≡ place_after (points_of self.now) writes (identifier object) priority }
     {
         self.place_at(object, priority)
     }
@@ -139,11 +146,13 @@ impl Device {
     }
 
     fn place_at(&self, object: ObjectId, priority: u8) -> Option<Option<u32>>
-        ensures { result ≡ option_and_then (λ standing. place_at standing priority) (standing_at self.now (identifier object)) }
+        ensures { result
+            ≡ option_and_then (λ standing. place_at standing priority) (standing_at self.now (identifier object)) }
     {
         self.point(object)?.place(priority)
     }
 
+    /// What the device is known by.
     pub(crate) fn info(&self) -> &DeviceInfo
         ensures { result.now ≡ self.now.info }
     {
@@ -166,8 +175,11 @@ impl Device {
     /// The point whose present value this property is, where it can be written.
     #[tactic(auto, unfolding(crate::specs::Reply::property_of, crate::specs::Property::point_property))]
     pub(crate) fn commanded(&self, object: ObjectId, number: u32) -> Option<&StandingPoint>
-        ensures point { option_copied result ≡ commanded self.now (record { object = identifier object; property = number; index = None }) }
-        ensures property { IfSome result (λ point. property_of self.now (identifier object) number ≡ Ok (single (value_of point.now.point.kind.family (present point.now)))) }
+        ensures point { option_copied result
+            ≡ commanded self.now (record { object = identifier object; property = number; index = None }) }
+        ensures property { IfSome result
+            (λ point. property_of self.now (identifier object) number
+            ≡ Ok (single (value_of point.now.point.kind.family (present point.now)))) }
     {
         if number != PRESENT_VALUE || self.info.is_object(object) {
             return None;
@@ -178,7 +190,7 @@ impl Device {
         }
     }
 
-    /// Makes the write.
+    /// Makes a write at the point that is its object.
     pub(crate) fn put(&mut self, write: &PlaceWrite)
         ensures { self.new ≡ with_write self.old (Some (write_seen write.now)) }
     {
@@ -192,7 +204,7 @@ impl Device {
         self.points.iter().find(|point| point.is_object(object))
     }
 
-    /// The property of the device of this number.
+    /// The device's own property of this number.
     #[tactic(auto, unfolding(crate::specs::Device::device_property))]
     fn own_property(&self, number: u32) -> Option<Property<'_>>
         ensures value { option_map property_seen result ≡ device_property self.now number }
@@ -220,12 +232,14 @@ fn put_in(points: &mut [StandingPoint], write: &PlaceWrite)
     }
 }
 
+/// Whether one of the points is this object.
 fn has_object(points: &[StandingPoint], object: ObjectId) -> bool
     ensures { result ≡ list_any (λ standing. same_object standing.point.object (identifier object)) points.now }
 {
     points.iter().any(|point| point.is_object(object))
 }
 
+/// Whether one of the points has this name.
 fn has_name(points: &[StandingPoint], name: &str) -> bool
     ensures { result ≡ list_any (λ standing. same_name standing.point.name name.now) points.now }
 {

@@ -1,8 +1,10 @@
 //! Examples of what the device replies, worked out by computation. They show what the definitions mean.
 
 ghost use Rattle.std.specs.Prelude.{[], ◌∷◌, replicate};
-ghost use Rattle.bac_device.specs.Examples.{Exchanges, outdoor, long_named, valve, fan, season, nothing, own, any_device};
-ghost use Rattle.bac_device.specs.Examples.{of, element_of, read, read_for_50, is, write, write_at, aborted, has, has_no, makes, refuses};
+ghost use Rattle.bac_device.specs.Examples.{Exchanges, outdoor, long_named, valve, fan, season, nothing, own};
+ghost use Rattle.bac_device.specs.Examples.{any_device};
+ghost use Rattle.bac_device.specs.Examples.{of, element_of, read, read_for_50, is, write, write_at, aborted, has};
+ghost use Rattle.bac_device.specs.Examples.{has_no, makes, refuses};
 ghost use Rattle.bac_device.specs.Examples.{real_72_3, twenty, thirty, zero_real, null, unsigned, enumerated};
 
 /// A property is read, whole or an element of it.
@@ -16,7 +18,8 @@ pub fn examples_of_reads()
     ensures extra { Exchanges (has (of 117 outdoor) (enumerated 64) ∷ has (of 74 season) (unsigned 4) ∷ []) }
 
     // The device answers under its own instance where it is asked as any device.
-    ensures device { Exchanges ((read (of 75 any_device), is (of 75 own) (0xc4 ∷ 0x02 ∷ 0x00 ∷ 0x04 ∷ 0xd2 ∷ [])) ∷ []) }
+    ensures device { Exchanges
+        ((read (of 75 any_device), is (of 75 own) (0xc4 ∷ 0x02 ∷ 0x00 ∷ 0x04 ∷ 0xd2 ∷ [])) ∷ []) }
 
     // An array whole, how many elements it has, an element, and one past the last.
     ensures array { Exchanges
@@ -29,13 +32,15 @@ pub fn examples_of_reads()
 
     // Sixteen places are short enough for a requester that takes 50 octets, and a name of 36 octets is too long for it.
     ensures size { Exchanges
-        ((read_for_50 (of 87 valve), is (of 87 valve) (replicate 16 0x00)) ∷ (read_for_50 (of 77 long_named), aborted) ∷ []) }
+        ((read_for_50 (of 87 valve), is (of 87 valve) (replicate 16 0x00)) ∷ (read_for_50 (of 77 long_named), aborted)
+        ∷ []) }
 {}
 
 /// A present value is written, and what is present then.
 #[tactic(none)]
 pub fn examples_of_writes()
-    // At two priorities: the more urgent one is present until NULL lets it go, then the other one, and at last the default.
+    // At two priorities: the more urgent one is present until NULL lets it go, then the other one, and at last the
+    // default.
     ensures places { Exchanges
         (makes (write valve twenty) ∷ has (of 85 valve) twenty
         ∷ makes (write_at 8 valve thirty) ∷ has (of 85 valve) thirty

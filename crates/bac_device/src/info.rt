@@ -31,7 +31,8 @@ impl Model for DeviceInfo {
 }
 
 impl DeviceInfo {
-    /// None where the instance is more than 4194302, or where the name has no octet or more than 64.
+    /// The device of this instance and name. None where the instance is more than 4194302, or where the name has no
+    /// octet or more than 64.
     pub fn new(instance: u32, name: &str) -> Option<Self>
         ensures valid { IsSome result ↔ IsInfo (record { instance = instance; name = name.now }) }
         ensures value { IfSome result (λ info. info ≡ record { instance = instance; name = name.now }) }
@@ -58,12 +59,14 @@ impl DeviceInfo {
             && (object.instance() == self.instance || object.instance() == NO_INSTANCE)
     }
 
+    /// The instance of the device's object.
     pub(crate) fn instance(&self) -> u32
         ensures { result ≡ self.now.instance }
     {
         self.instance
     }
 
+    /// The name of the device.
     pub(crate) fn name(&self) -> &str
         ensures { result.now ≡ self.now.name }
     {

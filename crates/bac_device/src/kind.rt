@@ -3,7 +3,9 @@
 ghost use Rattle.std.specs.Prelude.{◌≡◌, ◌^◌, ◌<◌, IsTrue};
 ghost use Rattle.std.specs.Option.{option_map};
 ghost use Rattle.bac_wire.specs.Datum.{datum, IsSound};
-ghost use Rattle.bac_device.specs.Kind.{kind_of, is_commandable as has_priorities, value_of, place_value, number_in, place_in, one_value as only_value, allows as has_value, allows_extra as has_extra};
+ghost use Rattle.bac_device.specs.Kind.{kind_of, is_commandable as has_priorities, value_of, place_value, number_in};
+ghost use Rattle.bac_device.specs.Kind.{place_in, one_value as only_value, allows as has_value};
+ghost use Rattle.bac_device.specs.Kind.{allows_extra as has_extra};
 
 use bac_wire::{Value, value_and_rest};
 
@@ -30,6 +32,7 @@ pub(crate) struct Kind {
     pub(crate) role: Role,
 }
 
+/// The kind of this family and role.
 fn kind_with(family: Family, role: Role) -> Kind
     ensures { result ≡ record { family = family; role = role } }
 {

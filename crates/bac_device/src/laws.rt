@@ -1,5 +1,5 @@
-//! What holds of the definitions that the contracts cite. Each function has an empty body, and its clause is the law; those at
-//! the end are `==` of a type, and say what it compares.
+//! What holds of the definitions that the contracts cite. Each function has an empty body, and its clause is the law;
+//! those at the end are `==` of a type, and say what it compares.
 
 ghost use Rattle.std.specs.Prelude.{IsTrue, ◌≡◌, ◌↔◌, ℕ, List, Option, Some};
 ghost use Rattle.bac_pdu.specs.Peer.{Station};
@@ -8,29 +8,34 @@ ghost use Rattle.bac_device.specs.Point.{Description};
 ghost use Rattle.bac_device.specs.Places.{Write};
 ghost use Rattle.bac_device.specs.Device.{DeviceState, points_of, device_after, Holds};
 ghost use Rattle.bac_device.specs.Reply.{reply_of};
-ghost use Rattle.bac_device.specs.Size.{CarriesRequest, CarriesUnconfirmed, IsWithinAnnounced, HasFifteen};
-ghost use Rattle.bac_device.specs.Turns.{Arrival, AnswersInTurn, AreDefined};
+ghost use Rattle.bac_device.specs.Size.{CarriesRequest, CarriesUnconfirmed, IsWithinAnnounced, HasFifteen, RepliesFit};
+ghost use Rattle.bac_device.specs.Turns.{Arrival, AnswersInTurn, AreDefined, replies_to};
 
 use crate::device::AddFault;
 
-/// Over any list of datagrams the replies of a device that answers each in turn are those of the definition, and its places
-/// are those after the accepted writes.
+/// Over any list of datagrams the replies of a device that answers each in turn are those of the definition, and its
+/// places are those after the accepted writes.
 pub fn answers_in_turn()
-    ensures { (device : DeviceState) (arrivals : List Arrival) (replies : List (Option (Station × List ℕ))) (after : DeviceState) (writes : List Write) → AnswersInTurn device arrivals replies after → Holds device writes → AreDefined device writes arrivals replies after }
+    ensures { (device : DeviceState) (arrivals : List Arrival) (replies : List (Option (Station × List ℕ)))
+        (after : DeviceState) (writes : List Write) → AnswersInTurn device arrivals replies after → Holds device writes
+        → AreDefined device writes arrivals replies after }
 {}
 
 /// A device with some points, after some writes, holds these writes.
 pub fn writes_are_held()
-    ensures { (info : Info) (points : List Description) (writes : List Write) → Holds (device_after info points writes) writes }
+    ensures { (info : Info) (points : List Description) (writes : List Write)
+        → Holds (device_after info points writes) writes }
 {}
 
 /// A device with some points, after some writes, has these points.
 pub fn points_stay()
-    ensures { (info : Info) (points : List Description) (writes : List Write) → points_of (device_after info points writes) ≡ points }
+    ensures { (info : Info) (points : List Description) (writes : List Write)
+        → points_of (device_after info points writes) ≡ points }
 {}
 
-/// The APDU of each reply to a confirmed request has no more octets than its code announces, or is the Abort 71 id 04; that
-/// of an I-Am, to which no size is announced, has fifteen.
+/// The APDU of each reply to a confirmed request has no more octets than its code announces, or is the Abort 71 id 04;
+/// that of an I-Am, to which no size is announced, has fifteen. So it is of all replies to any datagrams, one after the
+/// other: those of a server, and of a script.
 pub fn replies_fit()
     ensures confirmed { (device : DeviceState) (from to : Station) (datagram reply : List ℕ) (code id : ℕ)
         → CarriesRequest from datagram code id → reply_of device from datagram ≡ Some (to, reply)
@@ -38,9 +43,11 @@ pub fn replies_fit()
     ensures introduced { (device : DeviceState) (from to : Station) (datagram reply : List ℕ)
         → CarriesUnconfirmed from datagram → reply_of device from datagram ≡ Some (to, reply)
         → HasFifteen to reply }
+    ensures in_turn { (info : Info) (points : List Description) (writes : List Write) (arrivals : List Arrival)
+        → RepliesFit arrivals (replies_to info points writes arrivals) }
 {}
 
-/// The fault.
+/// Faults are equal that are the same of the four.
 pub fn same_fault(fault: &AddFault, other: &AddFault) -> bool
     ensures { IsTrue result ↔ (fault.now ≡ other.now) }
 {

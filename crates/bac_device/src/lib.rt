@@ -1,7 +1,21 @@
-//! A small BACnet device: commandable points, priority arrays and exact replies.
+//! A small BACnet device: commandable points, priority arrays and exact replies (ANSI/ASHRAE 135, clauses 12, 15 and
+//! 19.2).
 //!
-//! [`Device::add`] gives it points. [`Device::answer`] makes the reply to a datagram, where there is one, and keeps the write
-//! that it accepts. `specs/Reply.antt` says which reply: a function of the writes that were accepted before.
+//! [`DeviceInfo::new`] says what the device is known by, [`Device::new`] makes it, and [`Device::add`] gives it points,
+//! each a [`Point`]; [`demo`] has eleven of them. [`Device::answer`] makes the reply to a datagram, where there is one,
+//! and keeps the write that it accepts. [`Device::present`] and [`Device::place`] say what a point has.
+//! `specs/Reply.antt` says which reply comes: a function of the writes that were accepted before.
+//!
+//! Of `examples_of_writes` in `src/examples.rt`, which is proved: what is written to the demonstration device, and read
+//! back.
+//!
+//! ```text
+//! ensures places { Exchanges
+//!     (makes (write valve twenty) ∷ has (of 85 valve) twenty
+//!     ∷ makes (write_at 8 valve thirty) ∷ has (of 85 valve) thirty
+//!     ∷ makes (write_at 8 valve null) ∷ has (of 85 valve) twenty
+//!     ∷ makes (write_at 16 valve null) ∷ has (of 85 valve) zero_real ∷ []) }
+//! ```
 #![tactic(auto)]
 
 mod demonstration;

@@ -4,10 +4,12 @@ ghost use Rattle.std.specs.Prelude.{◌≡◌, [], find, is_some, IfSome};
 ghost use Rattle.std.specs.Option.{option_map, option_copied};
 ghost use Rattle.bac_wire.specs.Identifier.{identifier};
 ghost use Rattle.bac_device.specs.Point.{given, description_of, same_object};
-ghost use Rattle.bac_device.specs.Places.{standing_after, present, place_at, written, write_seen, put};
+ghost use Rattle.bac_device.specs.Places.{standing_after, present, place_at, written, put};
+ghost use Rattle.bac_device.specs.Inner.Places.{write_seen};
 ghost use Rattle.bac_device.specs.Device.{same_name};
 ghost use Rattle.bac_device.specs.Kind.{is_commandable as has_priorities};
-ghost use Rattle.bac_device.specs.Property.{property_seen, IsSoundProperty, point_property, kind_property};
+ghost use Rattle.bac_device.specs.Property.{point_property, kind_property};
+ghost use Rattle.bac_device.specs.Inner.Property.{property_seen, IsSoundProperty};
 
 use crate::failure::Failure;
 use crate::kind::{Family, Kind, Role, one_value};
@@ -38,8 +40,8 @@ pub struct Point<'a> {
     /// The present value of an input, and the relinquish default of an output or a value. For an analog point the four
     /// octets of a Real as a number; for a binary one 0 or 1; for a multi-state one a state, from 1.
     pub start: u32,
-    /// The units of an analog point, the polarity of a binary input or output (0 or 1, and 0 for a binary value), or the
-    /// number of states, at least 1.
+    /// The units of an analog point, the polarity of a binary input or output (0 or 1, and 0 for a binary value), or
+    /// the number of states, at least 1.
     pub extra: u32,
 }
 
@@ -136,6 +138,7 @@ impl StandingPoint {
         self.name.as_str() == name
     }
 
+    /// Whether the point can be written.
     pub(crate) fn is_commandable(&self) -> bool
         ensures { result ≡ has_priorities self.now.point.kind.role }
     {
@@ -153,7 +156,8 @@ impl StandingPoint {
         self.places.get(usize::from(priority) - 1).copied()
     }
 
-    /// What the octets of a value ask a place to hold.
+    /// What the octets of a value ask a place to hold. They have to be one value, of the type of the point and in its
+    /// range, or NULL.
     #[tactic(auto, unfolding(crate::specs::Places::written))]
     pub(crate) fn value_in(&self, octets: &[u8]) -> Result<Option<u32>, Failure>
         ensures { result ≡ written self.now.point octets.now }
@@ -167,7 +171,7 @@ impl StandingPoint {
         }
     }
 
-    /// The point holds what the write says, where it is to this point.
+    /// Makes the write, where it is to this point.
     pub(crate) fn put(&mut self, write: &PlaceWrite)
         ensures { self.new ≡ put (write_seen write.now) self.old }
     {

@@ -6,8 +6,9 @@ ghost use Rattle.bac_wire.specs.Limits.{frame_room};
 ghost use Rattle.bac_wire.specs.Datum.{datum, IsSound, object};
 ghost use Rattle.bac_wire.specs.Identifier.{identifier};
 ghost use Rattle.bac_device.specs.Kind.{place_value};
-ghost use Rattle.bac_device.specs.Steps.{result_seen};
-ghost use Rattle.bac_device.specs.Property.{property_seen, IsSoundProperty, point_objects, element, region_octets};
+ghost use Rattle.bac_wire.specs.Steps.{result_seen};
+ghost use Rattle.bac_device.specs.Property.{point_objects, element, region_octets};
+ghost use Rattle.bac_device.specs.Inner.Property.{property_seen, IsSoundProperty};
 
 use crate::failure::Failure;
 use crate::kind::Family;
@@ -40,7 +41,7 @@ impl<'a> Property<'a> {
         }
     }
 
-    /// The value at this place, counted from 0.
+    /// The value at this position, counted from 0.
     pub(crate) fn value_at(&self, place: usize) -> Option<Value<'a>>
         requires { IsSoundProperty self.now }
         ensures value { option_map datum result ≡ slice_get (property_seen self.now).values place }
@@ -84,7 +85,7 @@ impl<'a> Property<'a> {
     }
 }
 
-/// The object at this place of the object list.
+/// The object at this position of the object list.
 fn object_at(device: ObjectId, points: &[StandingPoint], place: usize) -> Option<Value<'static>>
     ensures value { option_map datum result ≡ slice_get (object (identifier device) ∷ point_objects points.now) place }
     ensures sound { IfSome result (λ value. IsSound (datum value)) }
@@ -96,7 +97,7 @@ fn object_at(device: ObjectId, points: &[StandingPoint], place: usize) -> Option
     Some(Value::Object(point.id()))
 }
 
-/// The value of the place of a priority array.
+/// The value of the place at this position of a priority array.
 fn place_at(family: Family, places: &[Option<u32>], place: usize) -> Option<Value<'static>>
     ensures value { option_map datum result ≡ slice_get (map (place_value family) places.now) place }
     ensures sound { IfSome result (λ value. IsSound (datum value)) }
@@ -105,7 +106,8 @@ fn place_at(family: Family, places: &[Option<u32>], place: usize) -> Option<Valu
     Some(family.place_value(*held))
 }
 
-/// Appends the octets of the values, one after the other. `Full` only where there is no room for them.
+/// Appends the octets of the values, one after the other. It is `Full` only where there is no room for them; some of
+/// them may then have been appended.
 pub(crate) fn append_region(frame: &mut Frame, property: &Property<'_>) -> Result<(), Full>
     requires { IsSoundProperty property.now }
     ensures ok { OnOk result (frame.new ≡ frame.old ++ region_octets (property_seen property.now)) }

@@ -9,13 +9,18 @@ ghost use Rattle.bac_pdu.specs.Peer.{station};
 ghost use Rattle.bac_pdu.specs.Property.{reference, order, IsPriority};
 ghost use Rattle.bac_pdu.specs.Failure.{error_octets};
 ghost use Rattle.bac_pdu.specs.Reject.{reason_number};
-ghost use Rattle.bac_device.specs.Steps.{result_seen};
-ghost use Rattle.bac_device.specs.Places.{Write, IsUrgent, write_seen};
-ghost use Rattle.bac_device.specs.Property.{property_seen, IsSoundProperty};
+ghost use Rattle.bac_wire.specs.Steps.{result_seen};
+ghost use Rattle.bac_device.specs.Places.{Write};
+ghost use Rattle.bac_device.specs.Inner.Places.{IsUrgent, write_seen};
+ghost use Rattle.bac_device.specs.Inner.Property.{property_seen, IsSoundProperty};
 ghost use Rattle.bac_device.specs.Failure.{error_class, error_code};
 ghost use Rattle.bac_device.specs.Device.{Holds, points_of, device_after};
 ghost use Rattle.bac_device.specs.Size.{CarriesRequest, CarriesUnconfirmed, IsWithinAnnounced, HasFifteen};
-ghost use Rattle.bac_device.specs.Reply.{answered_object, read_property, accepted, ordered, ack as ack_message, urgency as urgency_of, read_reply, write_reply, write_in_body, full_reply, write_in_request, fitting, refused as refused_message, introduced, i_am as i_am_message, reply_apdu, write_apdu as write_in_apdu, reply_of, write_of_datagram, with_write, reply_to, writes_after};
+ghost use Rattle.bac_device.specs.Reply.{answered_object, read_property, accepted, ordered, ack as ack_message};
+ghost use Rattle.bac_device.specs.Reply.{urgency as urgency_of, read_reply, write_reply, write_in_body, full_reply};
+ghost use Rattle.bac_device.specs.Reply.{write_in_request, fitting, refused as refused_message, introduced};
+ghost use Rattle.bac_device.specs.Reply.{i_am as i_am_message, reply_apdu, write_apdu as write_in_apdu, reply_of};
+ghost use Rattle.bac_device.specs.Reply.{write_of_datagram, with_write, reply_to, writes_after};
 
 use crate::device::Device;
 use crate::failure::Failure;
@@ -53,7 +58,7 @@ impl Device {
         }
     }
 
-    /// What a request asks for.
+    /// The property that a request asks for, or the element of it.
     #[tactic(auto, unfolding(crate::specs::Reply::read_property))]
     fn read_property(&self, request: &ReadRequest) -> Result<Property<'_>, Failure>
         ensures value { result_seen property_seen result ≡ read_property self.now (reference request.now) }
@@ -63,7 +68,7 @@ impl Device {
         property.element(request.index)
     }
 
-    /// The write that a request orders, where the device accepts it.
+    /// The write that a request orders, where the device accepts it; else why it does not.
     #[tactic(auto, unfolding(crate::specs::Reply::accepted))]
     fn accepted(&self, request: &WriteRequest<'_>) -> Result<PlaceWrite, Failure>
         requires { IfSome request.now.priority IsPriority }
@@ -93,8 +98,11 @@ impl Device {
     ) -> Result<(), Full>
         requires sound { IsSoundProperty property.now }
         requires empty { frame.old ≡ [] }
-        ensures ok { OnOk result (frame.new ≡ laid_out (ack_message self.now id (reference request.now) (property_seen property.now))) }
-        ensures full { OnErr result (frame_room < length (laid_out (ack_message self.now id (reference request.now) (property_seen property.now)))) }
+        ensures ok { OnOk result
+            (frame.new ≡ laid_out (ack_message self.now id (reference request.now) (property_seen property.now))) }
+        ensures full { OnErr result
+            (frame_room < length
+            (laid_out (ack_message self.now id (reference request.now) (property_seen property.now)))) }
     {
         let answered = ReadRequest {
             object: self.answered_object(request.object),
@@ -210,7 +218,8 @@ impl Device {
         }
     }
 
-    /// Appends the reply to the octets of an APDU to an empty frame; an accepted write is made. None where there is no reply.
+    /// Appends the reply to the octets of an APDU to an empty frame; an accepted write is made. None where there is no
+    /// reply.
     #[tactic(auto, unfolding(crate::specs::Reply::reply_apdu, crate::specs::Reply::write_apdu))]
     fn reply(&mut self, broadcast: bool, apdu: &[u8], frame: &mut Frame) -> Option<()>
         requires { frame.old ≡ [] }
@@ -239,17 +248,22 @@ impl Device {
         }
     }
 
-    /// Answers a datagram that came from this peer: makes the frame the reply's datagram, and says whom it is for. None, with
-    /// an empty frame, where the device is silent.
+    /// Answers a datagram that came from this peer: makes the frame the reply's datagram, and says whom it is for.
+    /// None, with an empty frame, where the device is silent.
     ///
-    /// Who-Is is answered where the device is asked for; a confirmed request where it was sent to this device alone. A reply
-    /// that has more octets than the requester announced becomes an Abort. An I-Am has fifteen octets.
+    /// Who-Is is answered where the device is asked for; a confirmed request where it was sent to this device alone. A
+    /// reply that has more octets than the requester announced becomes an Abort. An I-Am has fifteen octets.
     #[tactic(auto, using(crate::proofs::StateLaws::write_held))]
     pub fn answer(&mut self, from: Peer, datagram: &[u8], frame: &mut Frame) -> Option<Peer>
-        ensures standing { option_map (λ peer. (station peer, frame.new)) result ≡ reply_of self.old (station from) datagram.now }
+        ensures standing { option_map (λ peer. (station peer, frame.new)) result
+            ≡ reply_of self.old (station from) datagram.now }
         ensures written { self.new ≡ with_write self.old (write_of_datagram self.old (station from) datagram.now) }
-        ensures reply { (writes : List Write) → Holds self.old writes → option_map (λ peer. (station peer, frame.new)) result ≡ reply_to self.old.info (points_of self.old) writes (station from) datagram.now }
-        ensures after { (writes : List Write) → Holds self.old writes → self.new ≡ device_after self.old.info (points_of self.old) (writes_after self.old.info (points_of self.old) writes (station from) datagram.now) }
+        ensures reply { (writes : List Write) → Holds self.old writes
+            → option_map (λ peer. (station peer, frame.new)) result
+            ≡ reply_to self.old.info (points_of self.old) writes (station from) datagram.now }
+        ensures after { (writes : List Write) → Holds self.old writes
+            → self.new ≡ device_after self.old.info (points_of self.old)
+            (writes_after self.old.info (points_of self.old) writes (station from) datagram.now) }
         ensures fits { (code id : ℕ) → CarriesRequest (station from) datagram.now code id
             → IfSome result (λ peer. IsWithinAnnounced (station peer) code id frame.new) }
         ensures introduced { CarriesUnconfirmed (station from) datagram.now
@@ -260,11 +274,12 @@ impl Device {
         self.answer_into(from, datagram, frame)
     }
 
-    /// The same, with an empty frame.
+    /// The same, where the frame is empty at first.
     #[tactic(auto, unfolding(crate::specs::Reply::reply_of, crate::specs::Reply::write_of_datagram))]
     fn answer_into(&mut self, from: Peer, datagram: &[u8], frame: &mut Frame) -> Option<Peer>
         requires { frame.old ≡ [] }
-        ensures reply { option_map (λ peer. (station peer, frame.new)) result ≡ reply_of self.old (station from) datagram.now }
+        ensures reply { option_map (λ peer. (station peer, frame.new)) result
+            ≡ reply_of self.old (station from) datagram.now }
         ensures silent { IfNone result (frame.new ≡ []) }
         ensures after { self.new ≡ with_write self.old (write_of_datagram self.old (station from) datagram.now) }
         ensures urgent { IfSome (write_of_datagram self.old (station from) datagram.now) IsUrgent }
@@ -279,7 +294,7 @@ impl Device {
     }
 }
 
-/// Appends the I-Am of a device that the body of a Who-Is asks to an empty frame. None where it does not ask the device.
+/// Appends the I-Am to an empty frame, where the body of a Who-Is asks for the device. Else None.
 #[tactic(auto, using(crate::proofs::SizeLaws::length_i_am), unfolding(crate::specs::Reply::introduced))]
 fn introduce(info: &DeviceInfo, body: &[u8], frame: &mut Frame) -> Option<()>
     requires { frame.old ≡ [] }
@@ -331,7 +346,7 @@ fn ordered(point: &StandingPoint, request: &WriteRequest<'_>) -> Result<PlaceWri
     })
 }
 
-/// How urgent a write is.
+/// The priority of a write: the least urgent where it names none, and never the one that is kept.
 fn urgency(priority: Option<u8>) -> Result<u8, Failure>
     requires { IfSome priority IsPriority }
     ensures value { result ≡ urgency_of priority }
@@ -362,8 +377,10 @@ fn append_reject(id: u8, reason: RejectReason, frame: &mut Frame) -> Result<(), 
 /// Appends an Error to an empty frame.
 fn append_error(id: u8, service: u8, failure: Failure, frame: &mut Frame) -> Result<(), Full>
     requires { frame.old ≡ [] }
-    ensures ok { OnOk result (frame.new ≡ laid_out (error id service (error_octets (error_class failure) (error_code failure)))) }
-    ensures full { OnErr result (frame_room < length (laid_out (error id service (error_octets (error_class failure) (error_code failure))))) }
+    ensures ok { OnOk result
+        (frame.new ≡ laid_out (error id service (error_octets (error_class failure) (error_code failure)))) }
+    ensures full { OnErr result
+        (frame_room < length (laid_out (error id service (error_octets (error_class failure) (error_code failure))))) }
 {
     // The body is put behind it.
     write_apdu(
@@ -377,7 +394,7 @@ fn append_error(id: u8, service: u8, failure: Failure, frame: &mut Frame) -> Res
     write_error(frame, failure.class(), failure.code())
 }
 
-/// Makes the frame the Abort of what would take segments.
+/// Makes the frame the Abort of what would have to come in segments.
 fn make_abort(id: u8, frame: &mut Frame)
     ensures { frame.new ≡ laid_out (refused_message id) }
 {

@@ -1,6 +1,8 @@
 -- Two calls that are answered alike ask alike, and end alike.
-use Rattle.std.proofs.Common.{◌≡◌, ◌≢◌, ℕ, zero, suc, ◌+◌, ◌-◌, List, [], ◌∷◌, ◌++◌, length, length-append, Option, Some, None, Result, Ok, Err, IfOk, true, false, refl, sym, ap, ◌∙◌, arith, subst}
+use Rattle.std.proofs.Common.{◌≡◌, ◌≢◌, ℕ, zero, suc, ◌+◌, ◌-◌, List, [], ◌∷◌, ◌++◌, length, length-append, Option}
+use Rattle.std.proofs.Common.{Some, None, Result, Ok, Err, IfOk, true, false, refl, sym, ap, ◌∙◌, arith, subst}
 use Rattle.std.proofs.lemmas.Bool.{or_parts}
+use Rattle.std.proofs.lemmas.List.{append_cancel_left}
 use Rattle.bac_pdu.specs.Peer.{Station}
 use Rattle.bac_tsm.specs.Events.{Outcome, Note, Sent}
 use Rattle.bac_tsm.specs.Lookahead.{End, send_notes}
@@ -12,8 +14,10 @@ use Rattle.bac_links.specs.History.{Entry, Waited, Timed, Posted, Unposted, Fore
 use Rattle.bac_links.specs.Answered.{Answer, Brings, answers_of}
 use Rattle.bac_links.specs.Courses.{is_failure, first_below, stops_at}
 use Rattle.bac_links.specs.Ending.{ending_line, exit_of}
-use Rattle.bac_links.specs.Call.{posts, rules_for, wait_of, asked, heard_in, wait_in, time_in, events_of, entries_of, entries_to, sent_last, has_ended, EndsIn, FailsToSend, FailsToReceive, RunsOut, Tells}
-use Rattle.bac_links.specs.declared.ending.Tool.{Tool}
+use Rattle.bac_links.specs.Call.{posts, rules_for, wait_of, asked, heard_in, wait_in, time_in, events_of, entries_of}
+use Rattle.bac_links.specs.Call.{entries_to, sent_last, has_ended, EndsIn, FailsToSend, FailsToReceive, RunsOut, Tells}
+use Rattle.bac_links.specs.declared.ending.Purpose.{Purpose}
+use Rattle.bac_links.specs.declared.ending.Purpose.TheVariants.{Reading, Writing}
 use Rattle.bac_links.specs.declared.ending.Exit.{Exit}
 use Rattle.bac_links.specs.declared.fault.ToolFault.{ToolFault}
 use Rattle.bac_links.specs.declared.fault.ToolFault.TheVariants.{SendFailed, ReceiveFailed, TurnsSpent, WriteFailed}
@@ -66,7 +70,8 @@ plain_waits w (Timed time ∷ xs) p = plain_waits w xs p
 plain_waits w (Posted to octets ∷ xs) p = plain_waits w xs p
 plain_waits w (Unposted to octets ∷ xs) p = absurd p
 
-waits_lost : (w : ℕ) (xs : List Entry) (to : Station) (octets : List ℕ) → Plain w xs → Waits w (xs ++ Unposted to octets ∷ [])
+waits_lost : (w : ℕ) (xs : List Entry) (to : Station) (octets : List ℕ) → Plain w xs
+    → Waits w (xs ++ Unposted to octets ∷ [])
 waits_lost w [] to octets p = tt
 waits_lost w (Waited wait heard ∷ xs) to octets p = (p.0, waits_lost w xs to octets p.1)
 waits_lost w (Timed time ∷ xs) to octets p = waits_lost w xs to octets p
@@ -81,7 +86,8 @@ count_both (Posted to octets ∷ xs) ys = count_both xs ys
 count_both (Unposted to octets ∷ xs) ys = count_both xs ys
 
 -- Nobody who was told that all was sent was told of a loss.
-pub no_loss : (w : ℕ) (xs ys : List Entry) (to : Station) (octets : List ℕ) → Plain w ys → answers_of (xs ++ Unposted to octets ∷ []) ≡ answers_of ys → ⊥
+pub no_loss : (w : ℕ) (xs ys : List Entry) (to : Station) (octets : List ℕ) → Plain w ys
+    → answers_of (xs ++ Unposted to octets ∷ []) ≡ answers_of ys → ⊥
 no_loss w [] [] to octets p e = cc
 no_loss w [] (Waited wait heard ∷ ys) to octets p e = cc
 no_loss w [] (Timed time ∷ ys) to octets p e = cc
@@ -93,22 +99,27 @@ no_loss w (x ∷ xs) (Timed time ∷ ys) to octets p e = no_loss w xs ys to octe
 no_loss w (x ∷ xs) (Posted a b ∷ ys) to octets p e = no_loss w xs ys to octets p cc
 
 -- Who tells one tells the other, where both waited as long and were answered alike.
-pub same_told : (w : ℕ) (xs ys : List Entry) (t : Told) (sent : List Sending) → Waits w xs → Waits w ys → answers_of xs ≡ answers_of ys → Foretells xs t →
+pub same_told : (w : ℕ) (xs ys : List Entry) (t : Told) (sent : List Sending) → Waits w xs → Waits w ys
+    → answers_of xs ≡ answers_of ys → Foretells xs t →
     Foretells ys (having_sent sent t)
 same_told w [] [] t sent p q e f = tt
 same_told w (Waited a b ∷ xs) (Waited c d ∷ ys) t sent p q e f =
     let heard : b ≡ d = cc in
     let wait : a ≡ c = p.0 ∙ sym q.0 in
     let later : answers_of xs ≡ answers_of ys = cc in
-    let rest = same_told w xs ys (after_wait a t) sent p.1 q.1 later f.1 in
-    (ap (λ (k : ℕ). t.heard [] k) (sym wait) ∙ f.0 ∙ heard, subst (λ (k : ℕ). Foretells ys (having_sent sent (after_wait k t))) wait rest)
+    let rest = same_told w xs ys (after_wait a t) sent p.1 q.1 later f.1 in (
+      ap (λ (k : ℕ). t.heard [] k) (sym wait) ∙ f.0
+          ∙ heard,
+      subst (λ (k : ℕ). Foretells ys (having_sent sent (after_wait k t))) wait rest,
+    )
 same_told w (Timed a ∷ xs) (Timed b ∷ ys) t sent p q e f =
     let time : a ≡ b = cc in
     let later : answers_of xs ≡ answers_of ys = cc in
     (sym time ∙ f.0, same_told w xs ys t sent p q later f.1)
 same_told w (Posted a b ∷ xs) (Posted c d ∷ ys) t sent p q e f =
     let later : answers_of xs ≡ answers_of ys = cc in
-    whatever_sent ys (having_sent sent (having_sent (record { time = t.time []; to = a; octets = b } ∷ []) t)) _ (same_told w xs ys _ sent p q later f)
+    whatever_sent ys (having_sent sent (having_sent (record { time = t.time []; to = a; octets = b } ∷ []) t)) _
+    (same_told w xs ys _ sent p q later f)
 same_told w (Unposted a b ∷ xs) (Unposted c d ∷ ys) t sent p q e f =
     let later : answers_of xs ≡ answers_of ys = cc in
     same_told w xs ys t sent p q later f
@@ -128,34 +139,40 @@ count_posts [] = refl
 count_posts (Sent ticket peer octets ∷ notes) = count_posts notes
 count_posts (_ ∷ notes) = count_posts notes
 
-module _ (tool : Tool) (call : Call) (t : Told) where
+module _ (purpose : Purpose) (call : Call) (t : Told) where
   -- What is sent after n turns.
   abbrev notes_at : ℕ → List Note
-  notes_at n = send_notes (rules_for call) (events_of tool call t n) (length (events_of tool call t n) - 1) (asked tool call)
+  notes_at n = send_notes (rules_for call) (events_of purpose call t n) (length (events_of purpose call t n) - 1)
+      (asked purpose call)
 
-  plain_entries : (n : ℕ) → Plain (wait_of call) (entries_of tool call t n)
+  plain_entries : (n : ℕ) → Plain (wait_of call) (entries_of purpose call t n)
   plain_entries zero = plain_posts (wait_of call) (notes_at zero)
   plain_entries (suc n) =
-      plain_both (wait_of call) (entries_of tool call t n) (wait_in call t n ∷ time_in call t (suc n) ∷ sent_last tool call (events_of tool call t (suc n)))
+      plain_both (wait_of call) (entries_of purpose call t n)
+      (wait_in call t n ∷ time_in call t (suc n) ∷ sent_last purpose call (events_of purpose call t (suc n)))
       (plain_entries n) (refl, plain_posts (wait_of call) (notes_at (suc n)))
 
-  count_entries : (n : ℕ) → count (answers_of (entries_of tool call t n)) ≡ n
+  count_entries : (n : ℕ) → count (answers_of (entries_of purpose call t n)) ≡ n
   count_entries zero = count_posts (notes_at zero)
   count_entries (suc n) =
-      count_both (entries_of tool call t n) (wait_in call t n ∷ time_in call t (suc n) ∷ sent_last tool call (events_of tool call t (suc n)))
+      count_both (entries_of purpose call t n)
+      (wait_in call t n ∷ time_in call t (suc n) ∷ sent_last purpose call (events_of purpose call t (suc n)))
       ∙ (let none = count_posts (notes_at (suc n)) in let before = count_entries n in omega (arith, before, none))
 
-  count_waited : (n : ℕ) → count (answers_of (entries_of tool call t n ++ wait_in call t n ∷ [])) ≡ suc n
-  count_waited n = let c = count_both (entries_of tool call t n) (wait_in call t n ∷ []) in omega (arith, c, count_entries n)
+  count_waited : (n : ℕ) → count (answers_of (entries_of purpose call t n ++ wait_in call t n ∷ [])) ≡ suc n
+  count_waited n =
+      let c = count_both (entries_of purpose call t n) (wait_in call t n ∷ []) in
+      omega (arith, c, count_entries n)
 
-  plain_waited : (n : ℕ) → Plain (wait_of call) (entries_of tool call t n ++ wait_in call t n ∷ [])
-  plain_waited n = plain_both (wait_of call) (entries_of tool call t n) (wait_in call t n ∷ []) (plain_entries n) (refl, tt)
+  plain_waited : (n : ℕ) → Plain (wait_of call) (entries_of purpose call t n ++ wait_in call t n ∷ [])
+  plain_waited n =
+      plain_both (wait_of call) (entries_of purpose call t n) (wait_in call t n ∷ []) (plain_entries n) (refl, tt)
 
-  count_to : (n : ℕ) (ending : Option Outcome) → count (answers_of (entries_to tool call t n ending)) ≡ suc n
+  count_to : (n : ℕ) (ending : Option Outcome) → count (answers_of (entries_to purpose call t n ending)) ≡ suc n
   count_to n (Some outcome) = count_waited n
   count_to n None = count_entries (suc n)
 
-  plain_to : (n : ℕ) (ending : Option Outcome) → Plain (wait_of call) (entries_to tool call t n ending)
+  plain_to : (n : ℕ) (ending : Option Outcome) → Plain (wait_of call) (entries_to purpose call t n ending)
   plain_to n (Some outcome) = plain_waited n
   plain_to n None = plain_entries (suc n)
 
@@ -166,11 +183,11 @@ data Way : Type 0 where
   Spent : Way
   Unsent : Way
 
-abbrev Goes : Tool → Call → Told → List Entry → Way → Type 0
-Goes tool call t gained (Ends ending) = (n : ℕ) × EndsIn tool call t gained ending n
-Goes tool call t gained Deaf = (n : ℕ) × FailsToReceive tool call t gained n
-Goes tool call t gained Spent = (n : ℕ) × RunsOut tool call t gained n
-Goes tool call t gained Unsent = (n : ℕ) × FailsToSend tool call t gained n
+abbrev Goes : Purpose → Call → Told → List Entry → Way → Type 0
+Goes purpose call t gained (Ends ending) = (n : ℕ) × EndsIn purpose call t gained ending n
+Goes purpose call t gained Deaf = (n : ℕ) × FailsToReceive purpose call t gained n
+Goes purpose call t gained Spent = (n : ℕ) × RunsOut purpose call t gained n
+Goes purpose call t gained Unsent = (n : ℕ) × FailsToSend purpose call t gained n
 
 abbrev outcome_in : Option End → Option Outcome
 outcome_in (Some end) = end.outcome
@@ -180,7 +197,7 @@ abbrev lost : Entry → Entry
 lost (Posted to octets) = Unposted to octets
 lost x = x
 
-last_same : (xs ys : List Entry) (x y : Entry) → xs ++ x ∷ [] ≡ ys ++ y ∷ [] → (xs ≡ ys) × (x ≡ y)
+pub last_same : {A : Type 0} (xs ys : List A) (x y : A) → xs ++ x ∷ [] ≡ ys ++ y ∷ [] → (xs ≡ ys) × (x ≡ y)
 last_same [] [] x y e = (refl, cc)
 last_same [] (b ∷ ys) x y e = absurd (let l = ap length e in omega (arith, l, length-append ys (y ∷ [])))
 last_same (a ∷ xs) [] x y e = absurd (let l = ap length e in omega (arith, l, length-append xs (x ∷ [])))
@@ -192,85 +209,97 @@ last_same (a ∷ xs) (b ∷ ys) x y e =
 counted : (xs ys : List Entry) (n : ℕ) → xs ≡ ys → count (answers_of ys) ≡ n → count (answers_of xs) ≡ n
 counted xs ys n e c = ap (λ (zs : List Entry). count (answers_of zs)) e ∙ c
 
-module _ (tool : Tool) (call : Call) (t : Told) where
+module _ (purpose : Purpose) (call : Call) (t : Told) where
   abbrev So : List Entry → Way → Type 0
-  So = Goes tool call t
+  So = Goes purpose call t
 
-  lost_count : (xs : List Entry) (n : ℕ) → (f : FailsToSend tool call t xs n) → count (answers_of xs) ≡ n
+  lost_count : (xs : List Entry) (n : ℕ) → (f : FailsToSend purpose call t xs n) → count (answers_of xs) ≡ n
   lost_count xs n f =
-      let all = counted _ _ n (sym f.due) (count_entries tool call t n) in
+      let all = counted _ _ n (sym f.due) (count_entries purpose call t n) in
       let one = count_both f.made (Posted f.to f.octets ∷ []) in
       let other = count_both f.made (Unposted f.to f.octets ∷ []) in
       let here = ap (λ (zs : List Entry). count (answers_of zs)) f.history in
       omega (arith, all, one, other, here)
 
   goes_waits : (v : Way) (xs : List Entry) → So xs v → Waits (wait_of call) xs
-  goes_waits (Ends o) xs a = plain_waits (wait_of call) xs (subst (Plain (wait_of call)) (sym a.1.history) (plain_to tool call t a.0 o))
-  goes_waits Deaf xs a = plain_waits (wait_of call) xs (subst (Plain (wait_of call)) (sym a.1.history) (plain_waited tool call t a.0))
-  goes_waits Spent xs a = plain_waits (wait_of call) xs (subst (Plain (wait_of call)) (sym a.1.history) (plain_entries tool call t a.0))
+  goes_waits (Ends o) xs a =
+      plain_waits (wait_of call) xs (subst (Plain (wait_of call)) (sym a.1.history) (plain_to purpose call t a.0 o))
+  goes_waits Deaf xs a =
+      plain_waits (wait_of call) xs (subst (Plain (wait_of call)) (sym a.1.history) (plain_waited purpose call t a.0))
+  goes_waits Spent xs a =
+      plain_waits (wait_of call) xs (subst (Plain (wait_of call)) (sym a.1.history) (plain_entries purpose call t a.0))
   goes_waits Unsent xs a =
       subst (Waits (wait_of call)) (sym a.1.history)
       (waits_lost (wait_of call) a.1.made a.1.to a.1.octets
-      (plain_first (wait_of call) a.1.made (Posted a.1.to a.1.octets ∷ []) (subst (Plain (wait_of call)) a.1.due (plain_entries tool call t a.0))))
+      (plain_first (wait_of call) a.1.made (Posted a.1.to a.1.octets ∷ [])
+      (subst (Plain (wait_of call)) a.1.due (plain_entries purpose call t a.0))))
 
   -- A way on which each send was made is none on which one failed.
-  sent_all : (xs ys zs : List Entry) → So xs Unsent → answers_of xs ≡ answers_of ys → ys ≡ zs → Plain (wait_of call) zs → ⊥
+  sent_all : (xs ys zs : List Entry) → So xs Unsent → answers_of xs ≡ answers_of ys → ys ≡ zs → Plain (wait_of call) zs
+      → ⊥
   sent_all xs ys zs a e same plain =
-      no_loss (wait_of call) a.1.made zs a.1.to a.1.octets plain (ap answers_of (sym a.1.history) ∙ e ∙ ap answers_of same)
+      no_loss (wait_of call) a.1.made zs a.1.to a.1.octets plain
+      (ap answers_of (sym a.1.history) ∙ e ∙ ap answers_of same)
 
-  ended_not_deaf : (xs ys : List Entry) (o : Option Outcome) → So xs (Ends o) → So ys Deaf → answers_of xs ≡ answers_of ys → ⊥
+  ended_not_deaf : (xs ys : List Entry) (o : Option Outcome) → So xs (Ends o) → So ys Deaf
+      → answers_of xs ≡ answers_of ys → ⊥
   ended_not_deaf xs ys o a b e =
-      let here = counted xs _ (suc a.0) a.1.history (count_to tool call t a.0 o) in
-      let there = counted ys _ (suc b.0) b.1.history (count_waited tool call t b.0) in
+      let here = counted xs _ (suc a.0) a.1.history (count_to purpose call t a.0 o) in
+      let there = counted ys _ (suc b.0) b.1.history (count_waited purpose call t b.0) in
       let both = ap count e in
       let same : a.0 ≡ b.0 = omega (arith, here, there, both) in
-      let test = stops_at (heard_in call t) (has_ended tool call t) in
+      let test = stops_at (heard_in call t) (has_ended purpose call t) in
       let unstopped = none_at test a.0 (none_before test (suc a.0) (suc most_turns) a.1.stops.first) in
-      let unfailed : is_failure (heard_in call t a.0) ≡ false = (or_parts (has_ended tool call t a.0) _ unstopped).1 in
+      let unfailed : is_failure (heard_in call t a.0) ≡ false =
+      (or_parts (has_ended purpose call t a.0) _ unstopped).1 in
       let failed : is_failure (heard_in call t b.0) ≡ true = ap is_failure b.1.stops.failed in
-      let there_too : is_failure (heard_in call t a.0) ≡ true = subst (λ (k : ℕ). is_failure (heard_in call t k) ≡ true) (sym same) failed in
+      let there_too : is_failure (heard_in call t a.0) ≡ true =
+      subst (λ (k : ℕ). is_failure (heard_in call t k) ≡ true) (sym same) failed in
       cc
 
-  ended_not_spent : (xs ys : List Entry) (o : Option Outcome) → So xs (Ends o) → So ys Spent → answers_of xs ≡ answers_of ys → ⊥
+  ended_not_spent : (xs ys : List Entry) (o : Option Outcome) → So xs (Ends o) → So ys Spent
+      → answers_of xs ≡ answers_of ys → ⊥
   ended_not_spent xs ys o a b e =
-      let here = counted xs _ (suc a.0) a.1.history (count_to tool call t a.0 o) in
-      let there = counted ys _ b.0 b.1.history (count_entries tool call t b.0) in
+      let here = counted xs _ (suc a.0) a.1.history (count_to purpose call t a.0 o) in
+      let there = counted ys _ b.0 b.1.history (count_entries purpose call t b.0) in
       let both = ap count e in
       let same : b.0 ≡ suc a.0 = omega (arith, here, there, both) in
-      let open_yet : has_ended tool call t (suc a.0) ≡ false = subst (λ (k : ℕ). has_ended tool call t k ≡ false) same b.1.before.goes_on.unended in
+      let open_yet : has_ended purpose call t (suc a.0) ≡ false =
+      subst (λ (k : ℕ). has_ended purpose call t k ≡ false) same b.1.before.goes_on.unended in
       let over = a.1.stops.over in
       cc
 
   deaf_not_spent : (xs ys : List Entry) → So xs Deaf → So ys Spent → answers_of xs ≡ answers_of ys → ⊥
   deaf_not_spent xs ys a b e =
-      let test = stops_at (heard_in call t) (has_ended tool call t) in
+      let test = stops_at (heard_in call t) (has_ended purpose call t) in
       let none = subst (λ (k : ℕ). first_below test k ≡ None) b.1.all b.1.before.goes_on.passed in
       let some = a.1.stops.first in
       cc
 
   alike : (v w : Way) (xs ys : List Entry) → So xs v → So ys w → answers_of xs ≡ answers_of ys → (xs ≡ ys) × (v ≡ w)
   alike (Ends o) (Ends p) xs ys a b e =
-      let here = counted xs _ (suc a.0) a.1.history (count_to tool call t a.0 o) in
-      let there = counted ys _ (suc b.0) b.1.history (count_to tool call t b.0 p) in
+      let here = counted xs _ (suc a.0) a.1.history (count_to purpose call t a.0 o) in
+      let there = counted ys _ (suc b.0) b.1.history (count_to purpose call t b.0 p) in
       let both = ap count e in
       let same : b.0 ≡ a.0 = omega (arith, here, there, both) in
-      let b' = subst (EndsIn tool call t ys p) same b.1 in
+      let b' = subst (EndsIn purpose call t ys p) same b.1 in
       let outcome : o ≡ p = ap outcome_in (sym a.1.ended ∙ b'.ended) in
-      (a.1.history ∙ ap (entries_to tool call t a.0) outcome ∙ sym b'.history, ap Ends outcome)
+      (a.1.history ∙ ap (entries_to purpose call t a.0) outcome ∙ sym b'.history, ap Ends outcome)
   alike Deaf Deaf xs ys a b e =
-      let here = counted xs _ (suc a.0) a.1.history (count_waited tool call t a.0) in
-      let there = counted ys _ (suc b.0) b.1.history (count_waited tool call t b.0) in
+      let here = counted xs _ (suc a.0) a.1.history (count_waited purpose call t a.0) in
+      let there = counted ys _ (suc b.0) b.1.history (count_waited purpose call t b.0) in
       let both = ap count e in
       let same : a.0 ≡ b.0 = omega (arith, here, there, both) in
-      (a.1.history ∙ ap (λ (n : ℕ). entries_of tool call t n ++ wait_in call t n ∷ []) same ∙ sym b.1.history, refl)
-  alike Spent Spent xs ys a b e = (a.1.history ∙ ap (entries_of tool call t) (a.1.all ∙ sym b.1.all) ∙ sym b.1.history, refl)
+      (a.1.history ∙ ap (λ (n : ℕ). entries_of purpose call t n ++ wait_in call t n ∷ []) same ∙ sym b.1.history, refl)
+  alike Spent Spent xs ys a b e =
+      (a.1.history ∙ ap (entries_of purpose call t) (a.1.all ∙ sym b.1.all) ∙ sym b.1.history, refl)
   alike Unsent Unsent xs ys a b e =
       let here = lost_count xs a.0 a.1 in
       let there = lost_count ys b.0 b.1 in
       let both = ap count e in
       let same : a.0 ≡ b.0 = omega (arith, here, there, both) in
       let due = last_same a.1.made b.1.made (Posted a.1.to a.1.octets) (Posted b.1.to b.1.octets)
-      (sym a.1.due ∙ ap (entries_of tool call t) same ∙ b.1.due) in
+      (sym a.1.due ∙ ap (entries_of purpose call t) same ∙ b.1.due) in
       (a.1.history ∙ (λ i. due.0 i ++ lost (due.1 i) ∷ []) ∙ sym b.1.history, refl)
   alike (Ends o) Deaf xs ys a b e = absurd (ended_not_deaf xs ys o a b e)
   alike Deaf (Ends o) xs ys a b e = absurd (ended_not_deaf ys xs o b a (sym e))
@@ -278,73 +307,94 @@ module _ (tool : Tool) (call : Call) (t : Told) where
   alike Spent (Ends o) xs ys a b e = absurd (ended_not_spent ys xs o b a (sym e))
   alike Deaf Spent xs ys a b e = absurd (deaf_not_spent xs ys a b e)
   alike Spent Deaf xs ys a b e = absurd (deaf_not_spent ys xs b a (sym e))
-  alike Unsent (Ends o) xs ys a b e = absurd (sent_all xs ys _ a e b.1.history (plain_to tool call t b.0 o))
-  alike Unsent Deaf xs ys a b e = absurd (sent_all xs ys _ a e b.1.history (plain_waited tool call t b.0))
-  alike Unsent Spent xs ys a b e = absurd (sent_all xs ys _ a e b.1.history (plain_entries tool call t b.0))
-  alike (Ends o) Unsent xs ys a b e = absurd (sent_all ys xs _ b (sym e) a.1.history (plain_to tool call t a.0 o))
-  alike Deaf Unsent xs ys a b e = absurd (sent_all ys xs _ b (sym e) a.1.history (plain_waited tool call t a.0))
-  alike Spent Unsent xs ys a b e = absurd (sent_all ys xs _ b (sym e) a.1.history (plain_entries tool call t a.0))
+  alike Unsent (Ends o) xs ys a b e = absurd (sent_all xs ys _ a e b.1.history (plain_to purpose call t b.0 o))
+  alike Unsent Deaf xs ys a b e = absurd (sent_all xs ys _ a e b.1.history (plain_waited purpose call t b.0))
+  alike Unsent Spent xs ys a b e = absurd (sent_all xs ys _ a e b.1.history (plain_entries purpose call t b.0))
+  alike (Ends o) Unsent xs ys a b e = absurd (sent_all ys xs _ b (sym e) a.1.history (plain_to purpose call t a.0 o))
+  alike Deaf Unsent xs ys a b e = absurd (sent_all ys xs _ b (sym e) a.1.history (plain_waited purpose call t a.0))
+  alike Spent Unsent xs ys a b e = absurd (sent_all ys xs _ b (sym e) a.1.history (plain_entries purpose call t a.0))
 
 -- ---- over two links
 
-pub cancel : (xs ys zs : List Entry) → xs ++ ys ≡ xs ++ zs → ys ≡ zs
-cancel [] ys zs e = e
-cancel (x ∷ xs) ys zs e = cancel xs ys zs cc
+abbrev result_of : Purpose → Way → Result Exit ToolFault
+result_of purpose (Ends ending) = Ok (exit_of purpose ending)
+result_of purpose Deaf = Err ReceiveFailed
+result_of purpose Spent = Err TurnsSpent
+result_of purpose Unsent = Err SendFailed
 
-abbrev result_of : Tool → Way → Result Exit ToolFault
-result_of tool (Ends ending) = Ok (exit_of tool ending)
-result_of tool Deaf = Err ReceiveFailed
-result_of tool Spent = Err TurnsSpent
-result_of tool Unsent = Err SendFailed
+abbrev line_of : Purpose → Way → List ℕ
+line_of purpose (Ends ending) = ending_line purpose ending
+line_of purpose _ = []
 
-abbrev line_of : Tool → Way → List ℕ
-line_of tool (Ends ending) = ending_line tool ending
-line_of tool _ = []
-
-module _ {W : Type 0} (contents : W → Option (List ℕ)) (tool : Tool) (call : Call) where
+module _ {W : Type 0} (contents : W → Option (List ℕ)) (purpose : Purpose) (call : Call) where
   -- The way of a call, and what it answers and prints where the writer goes along.
   record Went (before after : Checked W) (told left : Account) (result : Result Exit ToolFault) : Type 0 where
     way : Way
-    over : Over told left (λ gained t. Goes tool call t gained way)
-    answers : result ≢ Err WriteFailed → result ≡ result_of tool way
-    prints : IfOk result (λ _. Took contents before after (line_of tool way))
+    over : Over told left (λ gained t. Goes purpose call t gained way)
+    answers : result ≢ Err WriteFailed → result ≡ result_of purpose way
+    prints : IfOk result (λ _. Took contents before after (line_of purpose way))
 
-  went : (before after : Checked W) (told left : Account) (result : Result Exit ToolFault) → Tells tool call contents before after told left result → Went before after told left result
-  went before after told left (Ok exit) tells = record { way = Ends tells.0; over = tells.3; answers = λ other. ap Ok tells.1; prints = tells.2 }
-  went before after told left (Err SendFailed) tells = record { way = Unsent; over = tells; answers = λ other. refl; prints = tt }
-  went before after told left (Err ReceiveFailed) tells = record { way = Deaf; over = tells; answers = λ other. refl; prints = tt }
-  went before after told left (Err TurnsSpent) tells = record { way = Spent; over = tells; answers = λ other. refl; prints = tt }
-  went before after told left (Err WriteFailed) tells = record { way = Ends tells.0; over = tells.2; answers = λ other. absurd (other refl); prints = tt }
+  went : (before after : Checked W) (told left : Account) (result : Result Exit ToolFault)
+      → Tells purpose call contents before after told left result → Went before after told left result
+  went before after told left (Ok exit) tells =
+      record { way = Ends tells.0; over = tells.3; answers = λ other. ap Ok tells.1; prints = tells.2 }
+  went before after told left (Err SendFailed) tells =
+      record { way = Unsent; over = tells; answers = λ other. refl; prints = tt }
+  went before after told left (Err ReceiveFailed) tells =
+      record { way = Deaf; over = tells; answers = λ other. refl; prints = tt }
+  went before after told left (Err TurnsSpent) tells =
+      record { way = Spent; over = tells; answers = λ other. refl; prints = tt }
+  went before after told left (Err WriteFailed) tells =
+      record { way = Ends tells.0; over = tells.2; answers = λ other. absurd (other refl); prints = tt }
 
-  -- Two calls that are answered alike.
-  pub calls_alike : (before after before' after' : Checked W) (told left told' left' : Account) (result result' : Result Exit ToolFault) (gained gained' : List Entry) →
-      Tells tool call contents before after told left result → Tells tool call contents before' after' told' left' result' →
-      left.history ≡ told.history ++ gained → left'.history ≡ told'.history ++ gained' → answers_of gained ≡ answers_of gained' →
+-- The tools of a call, for a crate above.
+abbrev pub reading : Purpose
+reading = Reading
+
+abbrev pub writing : Purpose
+writing = Writing
+
+-- Two calls that are answered alike.
+module _ {V W : Type 0} (contents : V → Option (List ℕ)) (contents' : W → Option (List ℕ)) (purpose : Purpose)
+    (call : Call) where
+  pub calls_alike : (before after : Checked V) (before' after' : Checked W) (told left told' left' : Account)
+      (result result' : Result Exit ToolFault) (gained gained' : List Entry) →
+      Tells purpose call contents before after told left result
+      → Tells purpose call contents' before' after' told' left' result' →
+      left.history ≡ told.history ++ gained → left'.history ≡ told'.history ++ gained'
+      → answers_of gained ≡ answers_of gained' →
       (gained ≡ gained') × (result ≢ Err WriteFailed → result' ≢ Err WriteFailed → (result ≡ result')
-      × IfOk result (λ _. (text : List ℕ) × Took contents before after text × IfOk result' (λ _. Took contents before' after' text)))
-  calls_alike before after before' after' told left told' left' result result' gained gained' tells tells' gains gains' e =
-      let a = went before after told left result tells in
-      let b = went before' after' told' left' result' tells' in
-      let first : a.over.gained ≡ gained = cancel told.history _ _ (ap (λ (s : Account). s.history) (sym a.over.gains.0) ∙ gains) in
-      let second : b.over.gained ≡ gained' = cancel told'.history _ _ (ap (λ (s : Account). s.history) (sym b.over.gains.0) ∙ gains') in
+      × IfOk result (λ _. (text : List ℕ) × Took contents before after text
+      × IfOk result' (λ _. Took contents' before' after' text)))
+  calls_alike before after before' after' told left told' left' result result' gained gained' tells tells' gains gains'
+      e =
+      let a = went contents purpose call before after told left result tells in
+      let b = went contents' purpose call before' after' told' left' result' tells' in
+      let first : a.over.gained ≡ gained =
+      append_cancel_left told.history _ _ (ap (λ (s : Account). s.history) (sym a.over.gains.0) ∙ gains) in
+      let second : b.over.gained ≡ gained' =
+      append_cancel_left told'.history _ _ (ap (λ (s : Account). s.history) (sym b.over.gains.0) ∙ gains') in
       let same = ap answers_of first ∙ e ∙ ap answers_of (sym second) in
       let t = a.over.some.0 in
       let here = a.over.holds t a.over.some.1 in
       let there = b.over.holds b.over.some.0 b.over.some.1 in
-      let tells_too = same_told (wait_of call) a.over.gained b.over.gained t [] (goes_waits tool call t a.way _ here)
-      (goes_waits tool call b.over.some.0 b.way _ there) same a.over.some.1 in
+      let tells_too = same_told (wait_of call) a.over.gained b.over.gained t [] (goes_waits purpose call t a.way _ here)
+      (goes_waits purpose call b.over.some.0 b.way _ there) same a.over.some.1 in
       let tells_it = subst (Foretells b.over.gained) (sym (having_nothing t)) tells_too in
-      let both = alike tool call t a.way b.way a.over.gained b.over.gained here (b.over.holds t tells_it) same in (
+      let both = alike purpose call t a.way b.way a.over.gained b.over.gained here (b.over.holds t tells_it) same in (
         sym first ∙ both.0 ∙ second,
         λ written written'. (
-          a.answers written ∙ ap (result_of tool) both.1 ∙ sym (b.answers written'),
+          a.answers written ∙ ap (result_of purpose) both.1 ∙ sym (b.answers written'),
           go result result' a.way b.way both.1 a.prints b.prints,
         ),
       )
     where
-      go : (r r' : Result Exit ToolFault) (v w : Way) → v ≡ w → IfOk r (λ _. Took contents before after (line_of tool v)) →
-          IfOk r' (λ _. Took contents before' after' (line_of tool w)) →
-          IfOk r (λ _. (text : List ℕ) × Took contents before after text × IfOk r' (λ _. Took contents before' after' text))
-      go (Ok exit) (Ok other) v w same p q = (line_of tool v, p, subst (λ (v : Way). Took contents before' after' (line_of tool v)) (sym same) q)
-      go (Ok exit) (Err fault) v w same p q = (line_of tool v, p, tt)
+      go : (r r' : Result Exit ToolFault) (v w : Way) → v ≡ w
+          → IfOk r (λ _. Took contents before after (line_of purpose v)) →
+          IfOk r' (λ _. Took contents' before' after' (line_of purpose w)) →
+          IfOk r (λ _. (text : List ℕ) × Took contents before after text
+          × IfOk r' (λ _. Took contents' before' after' text))
+      go (Ok exit) (Ok other) v w same p q =
+          (line_of purpose v, p, subst (λ (v : Way). Took contents' before' after' (line_of purpose v)) (sym same) q)
+      go (Ok exit) (Err fault) v w same p q = (line_of purpose v, p, tt)
       go (Err fault) r' v w same p q = tt

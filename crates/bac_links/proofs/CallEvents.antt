@@ -1,5 +1,6 @@
 -- What the look-ahead says of the events of a call, one event after another.
-use Rattle.std.proofs.Common.{◌≡◌, ℕ, zero, suc, ◌-◌, ◌<◌, ◌≤◌, List, [], ◌∷◌, ◌++◌, flat_map, length, Option, Some, None, Result, Ok, slice_get, false, nat_lt, refl, sym, ap, ◌∙◌, arith, inl, inr, subst}
+use Rattle.std.proofs.Common.{◌≡◌, ℕ, zero, suc, ◌-◌, ◌<◌, ◌≤◌, List, [], ◌∷◌, ◌++◌, flat_map, length, Option, Some}
+use Rattle.std.proofs.Common.{None, Result, Ok, slice_get, false, nat_lt, refl, sym, ap, ◌∙◌, arith, inl, inr, subst}
 use Rattle.std.proofs.lemmas.List.{append-nil, length_push, take-append-le}
 use Rattle.std.proofs.lemmas.List.Concat.{flat_map-append}
 use Rattle.std.proofs.lemmas.List.Elements.{All-nil, All-cons, All-append}
@@ -11,15 +12,17 @@ use Rattle.std.specs.List.{All}
 use Rattle.bac_pdu.specs.Peer.{station}
 use Rattle.bac_tsm.specs.Limits.{longest_body}
 use Rattle.bac_tsm.specs.Events.{Outcome, Event, Ask, Data, Tick, Note, Dropped, Rules, Request}
-use Rattle.bac_tsm.specs.Lookahead.{Accepted, End, accepted, accepted_at, end, end_notes, or_dropped, send_notes, next_number, refusal_of, output, notes_on, is_tick}
+use Rattle.bac_tsm.specs.Lookahead.{Accepted, End, accepted, accepted_at, end, end_notes, or_dropped, send_notes}
+use Rattle.bac_tsm.specs.Lookahead.{next_number, refusal_of, output, notes_on, is_tick}
 use Rattle.bac_tsm.specs.Machine.{State, Stepped, Answered, Run, step, initial, folded, submit, tick, sent}
 use Rattle.bac_tsm.specs.declared.client.SubmitFault.{SubmitFault}
 use Rattle.bac_tsm.specs.Laws.{AnswersByNumber, state_at, waiting_at}
 use Rattle.bac_tsm.specs.Client.{Client, rules_of, keeping}
-use Rattle.bac_tsm.proofs.Laws.{drop_head, one_step, run_first, run_whole, both_are, looks_back, past_unended, early_unended, early_unsent, quiet_unsent, sent_first, by_number, few_places}
+use Rattle.bac_tsm.proofs.Laws.{drop_head, one_step, run_first, run_whole, both_are, looks_back, past_unended}
+use Rattle.bac_tsm.proofs.Laws.{early_unended, early_unsent, quiet_unsent, sent_first, by_number, few_places}
 use Rattle.bac_links.specs.Call.{post_in, posts, rules_for, service_of, asked, begun_at, end_in, sent_last, IsAccepted}
-use Rattle.bac_links.specs.CallSteps.{ending_in, endings, IsNews, IsAlone, Carries}
-use Rattle.bac_links.specs.declared.ending.Tool.{Tool}
+use Rattle.bac_links.specs.Inner.CallSteps.{ending_in, endings, IsNews, IsAlone, CarriesOn}
+use Rattle.bac_links.specs.declared.ending.Purpose.{Purpose}
 use Rattle.bac_text.specs.declared.jobs.Call.{Call}
 
 -- ---- one more event at the end of any list
@@ -28,13 +31,16 @@ slice_get-last : (events : List Event) (event : Event) → slice_get (events ++ 
 slice_get-last [] event = refl
 slice_get-last (x ∷ events) event = slice_get-last events event
 
-module _ (rules : Rules) (by_number : AnswersByNumber rules) (small : rules.places ≤ 255) (events : List Event) (event : Event) where
+module _ (rules : Rules) (by_number : AnswersByNumber rules) (small : rules.places ≤ 255) (events : List Event)
+    (event : Event) where
   -- What is kept before the last event does not rest on it.
   state_before : state_at rules 0 (events ++ event ∷ []) (length events) ≡ state_at rules 0 events (length events)
   state_before =
-      let first = run_first rules 0 (events ++ event ∷ []) by_number small (length events) (let e = length_push events event in omega arith) in
+      let first = run_first rules 0 (events ++ event ∷ []) by_number small (length events)
+      (let e = length_push events event in omega arith) in
       let whole = run_whole rules 0 events by_number small in
-      sym (ap (λ r. r.after) first) ∙ ap (λ xs. (folded rules (initial 0) 0 xs).after) (take-append_seam events (event ∷ []))
+      sym (ap (λ r. r.after) first)
+      ∙ ap (λ xs. (folded rules (initial 0) 0 xs).after) (take-append_seam events (event ∷ []))
       ∙ ap (λ r. r.after) whole
 
   -- The step of the last event tells what the look-ahead says of it, and leaves what that says is kept.
@@ -53,28 +59,35 @@ pub one_news : (event : Event) → IsNews event → All IsNews (event ∷ [])
 one_news event news = All-cons IsNews event [] news (All-nil IsNews)
 
 news_at : (rest : List Event) (j : ℕ) (event : Event) → All IsNews rest → slice_get rest j ≡ Some event → IsNews event
-news_at rest j event quiet e = subst IsNews (get_or_from_slice_get rest j event event e) (quiet j event (slice_get_within rest j event e))
+news_at rest j event quiet e =
+    subst IsNews (get_or_from_slice_get rest j event event e) (quiet j event (slice_get_within rest j event e))
 
-none_at : (rules : Rules) (events : List Event) (i : ℕ) (before : List Accepted) (rest : List Event) (j : ℕ) → All IsNews rest →
+none_at : (rules : Rules) (events : List Event) (i : ℕ) (before : List Accepted) (rest : List Event) (j : ℕ)
+    → All IsNews rest →
     accepted_at rules 0 events i before (slice_get rest j) ≡ []
 none_at rules events i before rest j quiet = go (slice_get rest j) (λ event e. news_at rest j event quiet e)
   where
-    go : (here : Option Event) → ((event : Event) → here ≡ Some event → IsNews event) → accepted_at rules 0 events i before here ≡ []
+    go : (here : Option Event) → ((event : Event) → here ≡ Some event → IsNews event)
+        → accepted_at rules 0 events i before here ≡ []
     go (Some (Ask peer service body)) news = absurd (news (Ask peer service body) refl)
     go _ news = refl
 
-module _ (tool : Tool) (call : Call) (time : ℕ) where
+module _ (purpose : Purpose) (call : Call) (time : ℕ) where
   fitting : length call.body.items ≤ longest_body → nat_lt longest_body (length call.body.items) ≡ false
   fitting short = grind (arith, nat_tests)
 
   -- The request is accepted, and no other is asked for.
   accepted_is : (later : List Event) → length call.body.items ≤ longest_body → All IsNews later → (j : ℕ) →
-      accepted (rules_for call) 0 (begun_at tool call time later) (suc (suc j)) ≡ asked tool call ∷ []
+      accepted (rules_for call) 0 (begun_at purpose call time later) (suc (suc j)) ≡ asked purpose call ∷ []
   unfolding refusal_of next_number
   accepted_is later short quiet zero = rw (fitting short) refl
   accepted_is later short quiet (suc j) =
       let before = accepted_is later short quiet j in
-      rw (none_at (rules_for call) (begun_at tool call time later) (suc (suc j)) (accepted (rules_for call) 0 (begun_at tool call time later) (suc (suc j))) later j quiet, before) refl
+      rw (
+        none_at (rules_for call) (begun_at purpose call time later) (suc (suc j))
+            (accepted (rules_for call) 0 (begun_at purpose call time later) (suc (suc j))) later j quiet,
+        before,
+      ) refl
 
 -- ---- the ends and the sends among notes
 
@@ -85,10 +98,12 @@ posts_ended : (i : ℕ) (request : Request) (e : Option End) → posts (end_note
 posts_ended i request e = grind arith
 
 -- An end is told at its position.
-told_there : (request : Request) (x : Option End) (y : End) → x ≡ Some y → endings (end_notes y.position request x) ≡ y.outcome ∷ []
+told_there : (request : Request) (x : Option End) (y : End) → x ≡ Some y
+    → endings (end_notes y.position request x) ≡ y.outcome ∷ []
 told_there request x y e = grind (arith, nat_tests, e)
 
-not_silent : (request : Request) (x : Option End) (y : End) → x ≡ Some y → endings (end_notes y.position request x) ≡ [] → ⊥
+not_silent : (request : Request) (x : Option End) (y : End) → x ≡ Some y → endings (end_notes y.position request x) ≡ []
+    → ⊥
 not_silent request x y e none = grind (arith, nat_tests, e, none)
 
 none_if : (x : Option End) → ((y : End) → x ≡ Some y → ⊥) → x ≡ None
@@ -96,7 +111,8 @@ none_if None never = refl
 none_if (Some y) never = absurd (never y refl)
 
 -- And an end that is told at this position is there.
-ended_there : (i : ℕ) (request : Request) (x : Option End) (o : Option Outcome) → endings (end_notes i request x) ≡ o ∷ [] →
+ended_there : (i : ℕ) (request : Request) (x : Option End) (o : Option Outcome)
+    → endings (end_notes i request x) ≡ o ∷ [] →
     x ≡ Some (record { position = i; outcome = o })
 ended_there i request x o e = grind (arith, nat_tests, e)
 
@@ -106,10 +122,12 @@ ended_there i request x o e = grind (arith, nat_tests, e)
 abbrev placed : Rules → List Event → ℕ → Accepted → List Note
 placed rules events i a = send_notes rules events i a ++ end_notes i a.request (end rules events a)
 
-sends_placed : (rules : Rules) (events : List Event) (i : ℕ) (a : Accepted) → posts (placed rules events i a) ≡ posts (send_notes rules events i a)
+sends_placed : (rules : Rules) (events : List Event) (i : ℕ) (a : Accepted)
+    → posts (placed rules events i a) ≡ posts (send_notes rules events i a)
 sends_placed rules events i a = simp (flat_map-append, posts_ended, append-nil)
 
-ends_placed : (rules : Rules) (events : List Event) (i : ℕ) (a : Accepted) → endings (placed rules events i a) ≡ endings (end_notes i a.request (end rules events a))
+ends_placed : (rules : Rules) (events : List Event) (i : ℕ) (a : Accepted)
+    → endings (placed rules events i a) ≡ endings (end_notes i a.request (end rules events a))
 ends_placed rules events i a = simp (flat_map-append, endings_sent)
 
 -- The sends and the ends that are told at position i are those that are placed there.
@@ -123,19 +141,23 @@ module _ {X : Type 0} (read : Note → List X) (silent : read Dropped ≡ []) wh
   dropped notes = grind (arith, silent)
 
   -- Where one request was accepted before, a later event tells what is placed there.
-  news_told : (rules : Rules) (events : List Event) (i : ℕ) (a : Accepted) → accepted rules 0 events i ≡ a ∷ [] → (a.position ≡ i → ⊥) →
-      (event : Event) → IsNews event → slice_get events i ≡ Some event → flat_map read (output rules 0 events i) ≡ flat_map read (placed rules events i a)
+  news_told : (rules : Rules) (events : List Event) (i : ℕ) (a : Accepted) → accepted rules 0 events i ≡ a ∷ []
+      → (a.position ≡ i → ⊥) →
+      (event : Event) → IsNews event → slice_get events i ≡ Some event
+      → flat_map read (output rules 0 events i) ≡ flat_map read (placed rules events i a)
   news_told rules events i a only other event news e = ap (flat_map read) here ∙ go event news e
     where
       here : output rules 0 events i ≡ notes_on rules 0 events i (a ∷ []) (Some event)
-      here = ap (λ xs. notes_on rules 0 events i xs (slice_get events i)) only ∙ ap (notes_on rules 0 events i (a ∷ [])) e
+      here = ap (λ xs. notes_on rules 0 events i xs (slice_get events i)) only
+          ∙ ap (notes_on rules 0 events i (a ∷ [])) e
 
       go : (event : Event) → IsNews event → slice_get events i ≡ Some event →
           flat_map read (notes_on rules 0 events i (a ∷ []) (Some event)) ≡ flat_map read (placed rules events i a)
       go (Ask peer service body) news e = absurd news
       go (Data peer bytes) news e =
           dropped _ ∙ ap (flat_map read) (append-nil _)
-          ∙ ap (λ (xs : List Note). flat_map read (xs ++ end_notes i a.request (end rules events a))) (sym (quiet_unsent rules events a i other (ap is_tick e)))
+          ∙ ap (λ (xs : List Note). flat_map read (xs ++ end_notes i a.request (end rules events a)))
+          (sym (quiet_unsent rules events a i other (ap is_tick e)))
       go (Tick now) news e = ap (flat_map read) (append-nil (placed rules events i a))
 
 -- ---- a call, event by event
@@ -143,48 +165,62 @@ module _ {X : Type 0} (read : Note → List X) (silent : read Dropped ≡ []) wh
 abbrev Client_of : Call → State → Client
 Client_of call state = record { timeout = call.timeout; retries = call.retries; state = state }
 
-module _ (tool : Tool) (call : Call) (time : ℕ) (later : List Event) (short : length call.body.items ≤ longest_body) (quiet : All IsNews later) where
+module _ (purpose : Purpose) (call : Call) (time : ℕ) (later : List Event)
+    (short : length call.body.items ≤ longest_body)
+    (quiet : All IsNews later) where
   abbrev all : List Event
-  all = begun_at tool call time later
+  all = begun_at purpose call time later
 
-  pub is_accepted : IsAccepted tool call all
-  is_accepted = accepted_is tool call time later short quiet (length later)
+  pub is_accepted : IsAccepted purpose call all
+  is_accepted = accepted_is purpose call time later short quiet (length later)
 
-  told_at : {X : Type 0} (read : Note → List X) → read Dropped ≡ [] → (i : ℕ) (event : Event) → slice_get all i ≡ Some event →
-      flat_map read (output (rules_for call) 0 all i) ≡ flat_map read (placed (rules_for call) all i (asked tool call))
+  told_at : {X : Type 0} (read : Note → List X) → read Dropped ≡ [] → (i : ℕ) (event : Event)
+      → slice_get all i ≡ Some event →
+      flat_map read (output (rules_for call) 0 all i)
+      ≡ flat_map read (placed (rules_for call) all i (asked purpose call))
   unfolding refusal_of next_number
   told_at read silent zero event e =
-      rw (early_unsent (rules_for call) all (asked tool call) 0 (omega arith), early_unended (rules_for call) all (asked tool call) 0 (omega arith)) refl
+      rw (
+        early_unsent (rules_for call) all (asked purpose call) 0 (omega arith),
+        early_unended (rules_for call) all (asked purpose call) 0 (omega arith),
+      ) refl
   told_at read silent (suc zero) event e =
-      rw (sent_first (rules_for call) all (asked tool call), early_unended (rules_for call) all (asked tool call) 1 (omega arith), fitting tool call time short) refl
+      rw (
+        sent_first (rules_for call) all (asked purpose call),
+        early_unended (rules_for call) all (asked purpose call) 1 (omega arith),
+        fitting purpose call time short,
+      ) refl
   told_at read silent (suc (suc j)) event e =
-      news_told read silent (rules_for call) all (suc (suc j)) (asked tool call) (accepted_is tool call time later short quiet j) (λ q. omega arith) event
+      news_told read silent (rules_for call) all (suc (suc j)) (asked purpose call)
+      (accepted_is purpose call time later short quiet j) (λ q. omega arith) event
       (news_at later j event quiet e) e
 
-  told : (i : ℕ) → i < length all → TellsPlaced (rules_for call) all (asked tool call) i
+  told : (i : ℕ) → i < length all → TellsPlaced (rules_for call) all (asked purpose call) i
   told i within =
       let here = drop_head all i within in
       record {
-        sends = told_at post_in refl i here.0 here.1 ∙ sends_placed (rules_for call) all i (asked tool call);
-        ends = told_at ending_in refl i here.0 here.1 ∙ ends_placed (rules_for call) all i (asked tool call);
+        sends = told_at post_in refl i here.0 here.1 ∙ sends_placed (rules_for call) all i (asked purpose call);
+        ends = told_at ending_in refl i here.0 here.1 ∙ ends_placed (rules_for call) all i (asked purpose call);
       }
 
   -- The request ends among the events.
-  end_within : (x : End) → end_in tool call all ≡ Some x → x.position < length all
+  end_within : (x : End) → end_in purpose call all ≡ Some x → x.position < length all
   end_within x e = elim (cases_lt x.position (length all)) [
     | inl within ↦ within
     | inr past ↦
-        let none = past_unended (rules_for call) all (asked tool call) x.position past (omega arith) in
-        absurd (not_silent (asked tool call).request (end_in tool call all) x e (ap endings none))
+        let none = past_unended (rules_for call) all (asked purpose call) x.position past (omega arith) in
+        absurd (not_silent (asked purpose call).request (end_in purpose call all) x e (ap endings none))
   ]
 
 -- One more event.
-module _ (tool : Tool) (call : Call) (time : ℕ) (later : List Event) (short : length call.body.items ≤ longest_body) (quiet : All IsNews later) (event : Event) (news : IsNews event) where
+module _ (purpose : Purpose) (call : Call) (time : ℕ) (later : List Event)
+    (short : length call.body.items ≤ longest_body)
+    (quiet : All IsNews later) (event : Event) (news : IsNews event) where
   abbrev before : List Event
-  before = begun_at tool call time later
+  before = begun_at purpose call time later
 
   abbrev after : List Event
-  after = begun_at tool call time (later ++ event ∷ [])
+  after = begun_at purpose call time (later ++ event ∷ [])
 
   quiet_after : All IsNews (later ++ event ∷ [])
   quiet_after = All-append IsNews later (event ∷ []) quiet (one_news event news)
@@ -194,117 +230,142 @@ module _ (tool : Tool) (call : Call) (time : ℕ) (later : List Event) (short : 
 
   same_output : (i : ℕ) → i < length before → output (rules_for call) 0 after i ≡ output (rules_for call) 0 before i
   same_output i within =
-      looks_back (rules_for call) 0 after before i (omega (arith, longer)) within (take-append-le (suc i) before (event ∷ []) (omega arith))
+      looks_back (rules_for call) 0 after before i (omega (arith, longer)) within
+      (take-append-le (suc i) before (event ∷ []) (omega arith))
 
   same_ends : (i : ℕ) → i < length before →
-      endings (end_notes i (asked tool call).request (end_in tool call after)) ≡ endings (end_notes i (asked tool call).request (end_in tool call before))
+      endings (end_notes i (asked purpose call).request (end_in purpose call after))
+      ≡ endings (end_notes i (asked purpose call).request (end_in purpose call before))
   same_ends i within =
-      sym (told tool call time (later ++ event ∷ []) short quiet_after i (omega (arith, longer))).ends
-      ∙ ap endings (same_output i within) ∙ (told tool call time later short quiet i within).ends
+      sym (told purpose call time (later ++ event ∷ []) short quiet_after i (omega (arith, longer))).ends
+      ∙ ap endings (same_output i within) ∙ (told purpose call time later short quiet i within).ends
 
   -- The client's step makes of the event what the look-ahead says of it.
   step_is : step (rules_for call) (state_at (rules_for call) 0 before (length before)) event
-      ≡ record { notes = output (rules_for call) 0 after (length before); after = state_at (rules_for call) 0 after (length after) }
+      ≡ record {
+        notes = output (rules_for call) 0 after (length before);
+        after = state_at (rules_for call) 0 after (length after);
+      }
   step_is =
       last_step (rules_for call) (by_number call.timeout call.retries) few_places before event
       ∙ both_are _ _ _ _ refl (ap (state_at (rules_for call) 0 after) (sym longer))
 
-  told_last : TellsPlaced (rules_for call) after (asked tool call) (length before)
-  told_last = told tool call time (later ++ event ∷ []) short quiet_after (length before) (omega (arith, longer))
+  told_last : TellsPlaced (rules_for call) after (asked purpose call) (length before)
+  told_last = told purpose call time (later ++ event ∷ []) short quiet_after (length before) (omega (arith, longer))
 
   -- An end stands.
-  pub stands : (x : End) → end_in tool call before ≡ Some x → end_in tool call after ≡ Some x
+  pub stands : (x : End) → end_in purpose call before ≡ Some x → end_in purpose call after ≡ Some x
   stands x e =
-      ended_there x.position (asked tool call).request (end_in tool call after) x.outcome
-      (same_ends x.position (end_within tool call time later short quiet x e) ∙ told_there (asked tool call).request (end_in tool call before) x e)
+      ended_there x.position (asked purpose call).request (end_in purpose call after) x.outcome
+      (same_ends x.position (end_within purpose call time later short quiet x e)
+      ∙ told_there (asked purpose call).request (end_in purpose call before) x e)
 
   -- An end that comes with the event is placed there.
-  end_is_last : end_in tool call before ≡ None → (x : End) → end_in tool call after ≡ Some x → x.position ≡ length before
+  end_is_last : end_in purpose call before ≡ None → (x : End) → end_in purpose call after ≡ Some x
+      → x.position ≡ length before
   end_is_last unended x e = elim (cases_eq x.position (length before)) [
     | inl same ↦ same
     | inr other ↦
-        let within = end_within tool call time (later ++ event ∷ []) short quiet_after x e in
-        let none = same_ends x.position (omega (arith, longer)) ∙ ap (λ e. endings (end_notes x.position (asked tool call).request e)) unended in
-        absurd (not_silent (asked tool call).request (end_in tool call after) x e none)
+        let within = end_within purpose call time (later ++ event ∷ []) short quiet_after x e in
+        let none = same_ends x.position (omega (arith, longer))
+        ∙ ap (λ e. endings (end_notes x.position (asked purpose call).request e)) unended in
+        absurd (not_silent (asked purpose call).request (end_in purpose call after) x e none)
   ]
 
-module _ (tool : Tool) (call : Call) (time : ℕ) (later : List Event) (client : Client) (far : Carries tool call time later client) (event : Event) (news : IsNews event) where
+module _ (purpose : Purpose) (call : Call) (time : ℕ) (later : List Event) (client : Client)
+    (far : CarriesOn purpose call time later client) (event : Event) (news : IsNews event) where
   abbrev handed : Stepped
   handed = step (rules_of client) client.state event
 
   abbrev begun : List Event
-  begun = begun_at tool call time later
+  begun = begun_at purpose call time later
 
   abbrev next : List Event
-  next = begun_at tool call time (later ++ event ∷ [])
+  next = begun_at purpose call time (later ++ event ∷ [])
 
-  handed_is : handed ≡ record { notes = output (rules_for call) 0 next (length begun); after = state_at (rules_for call) 0 next (length next) }
-  handed_is = ap (λ c. step (rules_of c) c.state event) far.client_is ∙ step_is tool call time later far.short far.quiet event news
+  handed_is : handed
+      ≡ record {
+        notes = output (rules_for call) 0 next (length begun);
+        after = state_at (rules_for call) 0 next (length next);
+      }
+  handed_is = ap (λ c. step (rules_of c) c.state event) far.client_is
+      ∙ step_is purpose call time later far.short far.quiet event news
 
-  told_next : TellsPlaced (rules_for call) next (asked tool call) (length begun)
-  told_next = told_last tool call time later far.short far.quiet event news
+  told_next : TellsPlaced (rules_for call) next (asked purpose call) (length begun)
+  told_next = told_last purpose call time later far.short far.quiet event news
 
   -- What it sends is what is sent at the event.
-  pub sends_next : sent_last tool call next ≡ posts handed.notes
+  pub sends_next : sent_last purpose call next ≡ posts handed.notes
   sends_next =
-      ap (λ (i : ℕ). posts (send_notes (rules_for call) next i (asked tool call))) (let l = length_push begun event in let e : length next - 1 ≡ length begun = omega (arith, l) in e)
+      ap (λ (i : ℕ). posts (send_notes (rules_for call) next i (asked purpose call)))
+      (let l = length_push begun event in let e : length next - 1 ≡ length begun = omega (arith, l) in e)
       ∙ sym (ap (λ s. posts s.notes) handed_is ∙ told_next.sends)
 
-  ends_told : endings handed.notes ≡ endings (end_notes (length begun) (asked tool call).request (end_in tool call next))
+  ends_told : endings handed.notes
+      ≡ endings (end_notes (length begun) (asked purpose call).request (end_in purpose call next))
   ends_told = ap (λ s. endings s.notes) handed_is ∙ told_next.ends
 
   -- Without an end the call goes on.
-  pub carries_on : endings handed.notes ≡ [] → (left : Client) → left ≡ keeping client handed.after → Carries tool call time (later ++ event ∷ []) left
+  pub carries_on : endings handed.notes ≡ [] → (left : Client) → left ≡ keeping client handed.after
+      → CarriesOn purpose call time (later ++ event ∷ []) left
   carries_on none left e = record {
     short = far.short;
-    quiet = quiet_after tool call time later far.short far.quiet event news;
-    unended = none_if (end_in tool call next) (λ x e.
-        let there = end_is_last tool call time later far.short far.quiet event news far.unended x e in
-        let silent = ap (λ (i : ℕ). endings (end_notes i (asked tool call).request (end_in tool call next))) there ∙ sym ends_told ∙ none in
-        not_silent (asked tool call).request (end_in tool call next) x e silent);
+    quiet = quiet_after purpose call time later far.short far.quiet event news;
+    unended = none_if (end_in purpose call next) (λ x e.
+        let there = end_is_last purpose call time later far.short far.quiet event news far.unended x e in
+        let silent = ap (λ (i : ℕ). endings (end_notes i (asked purpose call).request (end_in purpose call next))) there
+        ∙ sym ends_told ∙ none in
+        not_silent (asked purpose call).request (end_in purpose call next) x e silent);
     client_is =
         e ∙ ap (λ (c : Client). keeping c handed.after) far.client_is
         ∙ ap (λ (s : Stepped). Client_of call s.after) handed_is;
   }
 
   -- An end is the request's.
-  pub ends_next : (o : Option Outcome) → endings handed.notes ≡ o ∷ [] → end_in tool call next ≡ Some (record { position = length begun; outcome = o })
-  ends_next o one = ended_there (length begun) (asked tool call).request (end_in tool call next) o (sym ends_told ∙ one)
+  pub ends_next : (o : Option Outcome) → endings handed.notes ≡ o ∷ []
+      → end_in purpose call next ≡ Some (record { position = length begun; outcome = o })
+  ends_next o one =
+      ended_there (length begun) (asked purpose call).request (end_in purpose call next) o (sym ends_told ∙ one)
 
 -- One request is open in a call.
-pub carried_alone : (tool : Tool) (call : Call) (time : ℕ) (later : List Event) (client : Client) → Carries tool call time later client → IsAlone client.state
-carried_alone tool call time later client far = (
-  waiting_at (rules_for call) (begun_at tool call time later) (length (begun_at tool call time later)) (asked tool call),
-  ap (λ c. c.state.waiting) far.client_is ∙ rw (accepted_is tool call time later far.short far.quiet (length later), far.unended) refl,
+pub carried_alone : (purpose : Purpose) (call : Call) (time : ℕ) (later : List Event) (client : Client)
+    → CarriesOn purpose call time later client → IsAlone client.state
+carried_alone purpose call time later client far = (
+  waiting_at (rules_for call) (begun_at purpose call time later) (length (begun_at purpose call time later))
+      (asked purpose call),
+  ap (λ c. c.state.waiting) far.client_is
+      ∙ rw (accepted_is purpose call time later far.short far.quiet (length later), far.unended) refl,
 )
 
 -- ---- the beginning
 
-module _ (tool : Tool) (call : Call) (time : ℕ) (short : length call.body.items ≤ longest_body) where
+module _ (purpose : Purpose) (call : Call) (time : ℕ) (short : length call.body.items ≤ longest_body) where
   abbrev first : List Event
-  first = begun_at tool call time []
+  first = begun_at purpose call time []
 
   abbrev pub submitted : Answered (Result ℕ SubmitFault)
-  submitted = submit (rules_for call) (tick (rules_for call) (initial 0) time).after (station call.to) (service_of tool) call.body.items
+  submitted = submit (rules_for call) (tick (rules_for call) (initial 0) time).after (station call.to)
+      (service_of purpose)
+      call.body.items
 
   -- The request is accepted.
   pub submitted_is : submitted.answer ≡ Ok 0
   unfolding refusal_of
-  submitted_is = rw (fitting tool call time short) refl
+  submitted_is = rw (fitting purpose call time short) refl
 
-  pub begins : Carries tool call time [] (Client_of call submitted.after)
+  pub begins : CarriesOn purpose call time [] (Client_of call submitted.after)
   begins = record {
     short = short;
     quiet = All-nil IsNews;
-    unended = none_if (end_in tool call first) (λ x e.
-        let within = end_within tool call time [] short (All-nil IsNews) x e in
-        let none = early_unended (rules_for call) first (asked tool call) x.position (omega arith) in
-        not_silent (asked tool call).request (end_in tool call first) x e (ap endings none));
+    unended = none_if (end_in purpose call first) (λ x e.
+        let within = end_within purpose call time [] short (All-nil IsNews) x e in
+        let none = early_unended (rules_for call) first (asked purpose call) x.position (omega arith) in
+        not_silent (asked purpose call).request (end_in purpose call first) x e (ap endings none));
     client_is =
         ap (λ (r : Run). Client_of call r.after)
         (run_whole (rules_for call) 0 first (by_number call.timeout call.retries) few_places);
   }
 
-  pub begins_sent : sent_last tool call first ≡ posts (sent submitted.after 0)
+  pub begins_sent : sent_last purpose call first ≡ posts (sent submitted.after 0)
   unfolding refusal_of next_number
-  begins_sent = rw (sent_first (rules_for call) first (asked tool call), fitting tool call time short) refl
+  begins_sent = rw (sent_first (rules_for call) first (asked purpose call), fitting purpose call time short) refl

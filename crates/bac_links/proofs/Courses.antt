@@ -1,5 +1,6 @@
 -- Turns go on one by one, until they stop; and what is sent meanwhile.
-use Rattle.std.proofs.Common.{◌≡◌, ◌≢◌, ℕ, zero, suc, ◌<◌, ◌≤◌, Bool, true, false, List, [], ◌++◌, append_assoc, Some, None, refl, sym, arith}
+use Rattle.std.proofs.Common.{◌≡◌, ◌≢◌, ℕ, zero, suc, ◌<◌, ◌≤◌, Bool, true, false, List, [], ◌++◌, append_assoc, Some}
+use Rattle.std.proofs.Common.{None, refl, sym, arith}
 use Rattle.std.proofs.lemmas.Bool.{or_parts}
 use Rattle.std.proofs.lemmas.List.{append-nil}
 use Rattle.bac_links.specs.Limits.{most_turns}
@@ -56,12 +57,15 @@ module _ (hears : ℕ → Heard) (is_over : ℕ → Bool) (n : ℕ) where
   -- A turn after which it has ended was due.
   pub was_due : EndsAfter hears is_over (suc n) → is_over n ≡ false
   was_due ends =
-      (or_parts (is_over n) _ (none_at (stops_at hears is_over) n (none_before (stops_at hears is_over) (suc n) (suc most_turns) ends.first))).0
+      (or_parts (is_over n) _
+      (none_at (stops_at hears is_over) n
+      (none_before (stops_at hears is_over) (suc n) (suc most_turns) ends.first))).0
 
 -- ---- what a link tells once more was sent
 
 pub having_nothing : (t : Told) → t ≡ having_sent [] t
 having_nothing t = λ i. record { heard = t.heard; time = t.time; sent = sym (append-nil t.sent) i }
 
-pub having_sent-both : (t : Told) (first more : List Sending) → having_sent more (having_sent first t) ≡ having_sent (first ++ more) t
+pub having_sent-both : (t : Told) (first more : List Sending)
+    → having_sent more (having_sent first t) ≡ having_sent (first ++ more) t
 having_sent-both t first more = rw (append_assoc t.sent first more) refl

@@ -4,7 +4,8 @@ use Rattle.std.specs.Option.{option_map}
 use Rattle.std.proofs.lemmas.List.{append-nil}
 use Rattle.bac_tsm.specs.Events.{Note, Sent}
 use Rattle.bac_links.specs.Told.{Told, Heard, Silence, Sending, after_wait, having_sent}
-use Rattle.bac_links.specs.History.{Entry, Waited, Timed, Posted, Unposted, told_after, Foretells, Account, gaining, GainsAll, Over}
+use Rattle.bac_links.specs.History.{Entry, Waited, Timed, Posted, Unposted, told_after, Foretells, Account, gaining}
+use Rattle.bac_links.specs.History.{GainsAll, Over}
 use Rattle.bac_links.specs.Call.{posts}
 use Rattle.bac_links.proofs.Courses.{having_sent-both}
 
@@ -14,7 +15,8 @@ pub told_after-append : (xs ys : List Entry) (t : Told) → told_after (xs ++ ys
 told_after-append [] ys t = refl
 told_after-append (Waited wait heard ∷ xs) ys t = told_after-append xs ys (after_wait wait t)
 told_after-append (Timed time ∷ xs) ys t = told_after-append xs ys t
-told_after-append (Posted to octets ∷ xs) ys t = told_after-append xs ys (having_sent (record { time = t.time []; to = to; octets = octets } ∷ []) t)
+told_after-append (Posted to octets ∷ xs) ys t =
+    told_after-append xs ys (having_sent (record { time = t.time []; to = to; octets = octets } ∷ []) t)
 told_after-append (Unposted to octets ∷ xs) ys t = told_after-append xs ys t
 
 both_told : (xs ys : List Entry) (t : Told) → Foretells xs t → Foretells ys (told_after xs t) → Foretells (xs ++ ys) t
@@ -29,22 +31,26 @@ first_told : (xs ys : List Entry) (t : Told) → Foretells (xs ++ ys) t → Fore
 first_told [] ys t both = tt
 first_told (Waited wait heard ∷ xs) ys t both = (both.0, first_told xs ys (after_wait wait t) both.1)
 first_told (Timed time ∷ xs) ys t both = (both.0, first_told xs ys t both.1)
-first_told (Posted to octets ∷ xs) ys t both = first_told xs ys (having_sent (record { time = t.time []; to = to; octets = octets } ∷ []) t) both
+first_told (Posted to octets ∷ xs) ys t both =
+    first_told xs ys (having_sent (record { time = t.time []; to = to; octets = octets } ∷ []) t) both
 first_told (Unposted to octets ∷ xs) ys t both = first_told xs ys t both
 
 then_told : (xs ys : List Entry) (t : Told) → Foretells (xs ++ ys) t → Foretells ys (told_after xs t)
 then_told [] ys t both = both
 then_told (Waited wait heard ∷ xs) ys t both = then_told xs ys (after_wait wait t) both.1
 then_told (Timed time ∷ xs) ys t both = then_told xs ys t both.1
-then_told (Posted to octets ∷ xs) ys t both = then_told xs ys (having_sent (record { time = t.time []; to = to; octets = octets } ∷ []) t) both
+then_told (Posted to octets ∷ xs) ys t both =
+    then_told xs ys (having_sent (record { time = t.time []; to = to; octets = octets } ∷ []) t) both
 then_told (Unposted to octets ∷ xs) ys t both = then_told xs ys t both
 
-foretold_then : (xs ys : List Entry) (o : Option Told) → option_map (told_after ys) (option_map (told_after xs) o) ≡ option_map (told_after (xs ++ ys)) o
+foretold_then : (xs ys : List Entry) (o : Option Told)
+    → option_map (told_after ys) (option_map (told_after xs) o) ≡ option_map (told_after (xs ++ ys)) o
 foretold_then xs ys None = refl
 foretold_then xs ys (Some t) = ap Some (sym (told_after-append xs ys t))
 
 gaining_then : (xs ys : List Entry) (a : Account) → gaining ys (gaining xs a) ≡ gaining (xs ++ ys) a
-gaining_then xs ys a = λ i. record { foretold = foretold_then xs ys a.foretold i; history = append_assoc a.history xs ys i }
+gaining_then xs ys a =
+    λ i. record { foretold = foretold_then xs ys a.foretold i; history = append_assoc a.history xs ys i }
 
 gaining_none : (a : Account) → gaining [] a ≡ a
 gaining_none a = λ i. record { foretold = go a.foretold i; history = append-nil a.history i }
@@ -56,7 +62,8 @@ gaining_none a = λ i. record { foretold = go a.foretold i; history = append-nil
 pub gains_both : (xs ys : List Entry) (a b c : Account) → GainsAll xs a b → GainsAll ys b c → GainsAll (xs ++ ys) a c
 gains_both xs ys a b c first second = (
   second.0 ∙ ap (gaining ys) first.0 ∙ gaining_then xs ys a,
-  λ t e. both_told xs ys t (first.1 t e) (second.1 (told_after xs t) (ap (λ (s : Account). s.foretold) first.0 ∙ ap (option_map (told_after xs)) e)),
+  λ t e. both_told xs ys t (first.1 t e)
+      (second.1 (told_after xs t) (ap (λ (s : Account). s.foretold) first.0 ∙ ap (option_map (told_after xs)) e)),
 )
 
 -- ---- somebody tells it
@@ -77,7 +84,8 @@ timely_both (Posted to octets ∷ xs) ys now first second = timely_both xs ys no
 timely_both (Unposted to octets ∷ xs) ys now first second = timely_both xs ys now first second
 
 -- What is told does not rest on what was sent.
-pub whatever_sent : (xs : List Entry) (t : Told) (s : List Sending) → Foretells xs t → Foretells xs (record { heard = t.heard; time = t.time; sent = s })
+pub whatever_sent : (xs : List Entry) (t : Told) (s : List Sending) → Foretells xs t
+    → Foretells xs (record { heard = t.heard; time = t.time; sent = s })
 whatever_sent [] t s f = tt
 whatever_sent (Waited wait heard ∷ xs) t s f = (f.0, whatever_sent xs (after_wait wait t) s f.1)
 whatever_sent (Timed time ∷ xs) t s f = (f.0, whatever_sent xs t s f.1)
@@ -90,7 +98,8 @@ timely_told : (xs : List Entry) (t : Told) → Foretells xs t → Timely xs (t.t
 timely_told [] t f = tt
 timely_told (Waited wait heard ∷ xs) t f = (t.time (wait ∷ []), timely_told xs (after_wait wait t) f.1)
 timely_told (Timed time ∷ xs) t f = (f.0, timely_told xs t f.1)
-timely_told (Posted to octets ∷ xs) t f = timely_told xs (having_sent (record { time = t.time []; to = to; octets = octets } ∷ []) t) f
+timely_told (Posted to octets ∷ xs) t f =
+    timely_told xs (having_sent (record { time = t.time []; to = to; octets = octets } ∷ []) t) f
 timely_told (Unposted to octets ∷ xs) t f = timely_told xs t f
 
 -- What is heard and what the time is, where a first wait hears this at this time.
@@ -105,9 +114,13 @@ time_first now t (first ∷ waits) = t.time waits
 pub teller : (xs : List Entry) (now : ℕ) → Timely xs now → (t : Told) × (Foretells xs t × (t.time [] ≡ now))
 teller [] now timely = (record { heard = λ waits wait. Silence; time = λ waits. now; sent = [] }, (tt, refl))
 teller (Waited wait heard ∷ xs) now timely =
-    let later = teller xs timely.0 timely.1 in
-    (record { heard = heard_first heard later.0; time = time_first now later.0; sent = later.0.sent }, ((refl, later.1.0), refl))
-teller (Timed time ∷ xs) now timely = let later = teller xs now timely.1 in (later.0, ((timely.0 ∙ sym later.1.1, later.1.0), later.1.1))
+    let later = teller xs timely.0 timely.1 in (
+      record { heard = heard_first heard later.0; time = time_first now later.0; sent = later.0.sent },
+      ((refl, later.1.0), refl),
+    )
+teller (Timed time ∷ xs) now timely =
+    let later = teller xs now timely.1 in
+    (later.0, ((timely.0 ∙ sym later.1.1, later.1.0), later.1.1))
 teller (Posted to octets ∷ xs) now timely =
     let later = teller xs now timely in
     (later.0, (whatever_sent xs later.0 _ later.1.0, later.1.1))
@@ -115,16 +128,24 @@ teller (Unposted to octets ∷ xs) now timely = teller xs now timely
 
 -- ---- over some calls
 
-pub over_begun : (a b : Account) (gained : List Entry) (P : List Entry → Told → Type 0) → GainsAll gained a b → (now : ℕ) → Timely gained now →
+pub over_begun : (a b : Account) (gained : List Entry) (P : List Entry → Told → Type 0) → GainsAll gained a b
+    → (now : ℕ) → Timely gained now →
     ((t : Told) → Foretells gained t → P gained t) → Over a b P
 over_begun a b gained P gains now timely holds =
     let it = teller gained now timely in
-    record { gained = gained; gains = gains; some = (it.0, it.1.0); holds = holds; foretold = λ t e. holds t (gains.1 t e) }
+    record {
+      gained = gained;
+      gains = gains;
+      some = (it.0, it.1.0);
+      holds = holds;
+      foretold = λ t e. holds t (gains.1 t e);
+    }
 
 pub over_none : (a : Account) (P : List Entry → Told → Type 0) → ((t : Told) → P [] t) → Over a a P
 over_none a P holds = over_begun a a [] P (sym (gaining_none a), λ t e. tt) 0 tt (λ t f. holds t)
 
-pub over_map : (a b : Account) (P Q : List Entry → Told → Type 0) → Over a b P → ((gained : List Entry) (t : Told) → P gained t → Q gained t) → Over a b Q
+pub over_map : (a b : Account) (P Q : List Entry → Told → Type 0) → Over a b P
+    → ((gained : List Entry) (t : Told) → P gained t → Q gained t) → Over a b Q
 over_map a b P Q first makes =
     record {
       gained = first.gained;
@@ -134,8 +155,10 @@ over_map a b P Q first makes =
       foretold = λ t e. makes first.gained t (first.foretold t e);
     }
 
-pub over_on : (a b c : Account) (P Q : List Entry → Told → Type 0) → Over a b P → (more : List Entry) → GainsAll more b c → ((now : ℕ) → Timely more now) →
-    ((gained : List Entry) (t : Told) → P gained t → Foretells more (told_after gained t) → Q (gained ++ more) t) → Over a c Q
+pub over_on : (a b c : Account) (P Q : List Entry → Told → Type 0) → Over a b P → (more : List Entry)
+    → GainsAll more b c → ((now : ℕ) → Timely more now) →
+    ((gained : List Entry) (t : Told) → P gained t → Foretells more (told_after gained t) → Q (gained ++ more) t)
+    → Over a c Q
 over_on a b c P Q first more gains timely makes =
     let all = first.gained ++ more in
     over_begun a c all Q (gains_both first.gained more a b c first.gains gains) _
@@ -145,7 +168,8 @@ over_on a b c P Q first more gains timely makes =
 -- ---- sends
 
 -- What was sent leaves what is heard and what the time is.
-pub posts_left : (notes : List Note) (sent : List Sending) (t : Told) → (all : List Sending) × (told_after (posts notes) (having_sent sent t) ≡ having_sent all t)
+pub posts_left : (notes : List Note) (sent : List Sending) (t : Told) → (all : List Sending)
+    × (told_after (posts notes) (having_sent sent t) ≡ having_sent all t)
 posts_left [] sent t = (sent, refl)
 posts_left (Sent ticket peer octets ∷ notes) sent t =
     let x : Sending = record { time = t.time []; to = peer; octets = octets } in

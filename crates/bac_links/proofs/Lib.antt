@@ -6,5 +6,6 @@ mod Searches
 mod Servings
 mod Progress
 mod Unheard
-mod Alike
-mod SearchesAlike
+pub mod Alike
+pub mod SearchesAlike
+pub mod ServingsAlike

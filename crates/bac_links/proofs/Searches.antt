@@ -1,5 +1,6 @@
 -- A search, turn by turn.
-use Rattle.std.proofs.Common.{◌≡◌, ℕ, zero, suc, ◌-◌, ◌<◌, ◌≤◌, max, ◌≢◌, List, [], ◌∷◌, ◌++◌, Option, None, Ok, Err, Bool, false, ◌||◌, refl, sym, ap, ◌∙◌, arith, subst}
+use Rattle.std.proofs.Common.{◌≡◌, ℕ, zero, suc, ◌-◌, ◌<◌, ◌≤◌, max, ◌≢◌, List, [], ◌∷◌, ◌++◌, Option, None, Ok, Err}
+use Rattle.std.proofs.Common.{Bool, false, ◌||◌, refl, sym, ap, ◌∙◌, arith, subst}
 use Rattle.std.proofs.lemmas.List.{append-nil}
 use Rattle.std.proofs.lemmas.Bool.{le-leb, lt-leb}
 use Rattle.std.proofs.lemmas.List.Concat.{flat_map-append}
@@ -10,17 +11,20 @@ use Rattle.bac_links.specs.Limits.{most_turns}
 use Rattle.bac_pdu.specs.Peer.{station}
 use Rattle.bac_links.specs.Told.{Told, Heard, Failure, Sending, waited, having_sent}
 use Rattle.bac_links.specs.History.{Entry, Waited, Timed, Posted, Unposted, told_after, Account, Gains, Over}
-use Rattle.bac_links.specs.Search.{Found, has_found, found_by, found_line, found_lines, who_is_to, found_after, greatest_time, passed, search_wait, search_hears, search_waits, search_time, search_entries, is_late, SearchEnds, SearchUnsent, Searched}
+use Rattle.bac_links.specs.Search.{Found, has_found, found_by, found_line, found_lines, who_is_to, found_after}
+use Rattle.bac_links.specs.Search.{greatest_time, passed, search_wait, search_hears, search_waits, search_time}
+use Rattle.bac_links.specs.Search.{search_entries, is_late, SearchEnds, SearchUnsent, Searched}
 use Rattle.bac_links.specs.Courses.{GoesOn, first_below, stops_at}
 use Rattle.bac_links.proofs.Courses.{none_yet, one_more, ends_now, fails_now}
 use Rattle.bac_links.proofs.Histories.{told_after-append, gains_both, over_begun, over_map, over_on}
-use Rattle.bac_links.specs.SearchSteps.{Listens}
+use Rattle.bac_links.specs.Inner.SearchSteps.{Listens}
 use Rattle.bac_text.specs.declared.jobs.Search.{Search}
 use Rattle.bac_links.specs.declared.fault.ToolFault.{ToolFault}
 use Rattle.bac_links.specs.declared.fault.ToolFault.TheVariants.{ReceiveFailed, TurnsSpent, WriteFailed}
 
 -- A search after n turns, over what the link told.
-pub record SearchesSo (search : Search) (t : Told) (gained : List Entry) (first greatest : ℕ) (found : List Found) (n : ℕ) : Type 0 where
+pub record SearchesSo (search : Search) (t : Told) (gained : List Entry) (first greatest : ℕ) (found : List Found)
+    (n : ℕ) : Type 0 where
   pub began : first ≡ t.time []
   pub time : greatest ≡ greatest_time search t n
   pub before : GoesOn (search_hears search t) (is_late search t) n
@@ -28,7 +32,8 @@ pub record SearchesSo (search : Search) (t : Told) (gained : List Entry) (first 
   pub history : gained ≡ search_entries search t n
 
 -- A search after n turns.
-pub record SearchGoes {W : Type 0} (search : Search) (contents : W → Option (List ℕ)) (before after : Checked W) (told link : Account) (first greatest : ℕ) (any : Bool) (n : ℕ) : Type 0 where
+pub record SearchGoes {W : Type 0} (search : Search) (contents : W → Option (List ℕ)) (before after : Checked W)
+    (told link : Account) (first greatest : ℕ) (any : Bool) (n : ℕ) : Type 0 where
   pub found : List Found
   pub any_is : any ≡ has_found found
   pub printed : Took contents before after (found_lines found)
@@ -42,31 +47,39 @@ has_found-append xs ys = grind arith
 -- ---- a turn
 
 -- Of what was foretold, the Who-Is and n turns left what comes after so many waits.
-left_so : (search : Search) (t : Told) (n : ℕ) → (sent : List Sending) × (told_after (search_entries search t n) t ≡ having_sent sent (waited (search_wait search) n t))
+left_so : (search : Search) (t : Told) (n : ℕ) → (sent : List Sending)
+    × (told_after (search_entries search t n) t ≡ having_sent sent (waited (search_wait search) n t))
 left_so search t zero = (_, refl)
 left_so search t (suc n) =
     let before = left_so search t n in
     let more = search_waits search t n ∷ search_time search t (suc n) ∷ [] in
     (before.0, told_after-append (search_entries search t n) more t ∙ ap (told_after more) before.1)
 
-module _ (search : Search) (t : Told) (gained : List Entry) (first greatest : ℕ) (found : List Found) (n : ℕ) (far : SearchesSo search t gained first greatest found n) where
+module _ (search : Search) (t : Told) (gained : List Entry) (first greatest : ℕ) (found : List Found) (n : ℕ)
+    (far : SearchesSo search t gained first greatest found n) where
   -- The next wait and the time after it, as they were foretold.
-  reads_so : (X : Type 0) (read : Told → X) → ((sent : List Sending) → read (having_sent sent (waited (search_wait search) n t)) ≡ read (waited (search_wait search) n t)) →
+  reads_so : (X : Type 0) (read : Told → X)
+      → ((sent : List Sending)
+      → read (having_sent sent (waited (search_wait search) n t)) ≡ read (waited (search_wait search) n t)) →
       read (told_after gained t) ≡ read (waited (search_wait search) n t)
   reads_so X read unsent =
       let left = left_so search t n in
       ap (λ (xs : List Entry). read (told_after xs t)) far.history ∙ ap read left.1 ∙ unsent left.0
 
-  heard_is : (heard : Heard) → (told_after gained t).heard [] (search_wait search) ≡ heard → search_hears search t n ≡ heard
+  heard_is : (heard : Heard) → (told_after gained t).heard [] (search_wait search) ≡ heard
+      → search_hears search t n ≡ heard
   heard_is heard f = sym (reads_so Heard (λ l. l.heard [] (search_wait search)) (λ sent. refl)) ∙ f
 
   -- And this wait behind what was gained.
   waited_next : gained ++ search_waits search t n ∷ [] ≡ search_entries search t n ++ search_waits search t n ∷ []
   waited_next = ap (λ (xs : List Entry). xs ++ search_waits search t n ∷ []) far.history
 
-module _ {W : Type 0} (search : Search) (contents : W → Option (List ℕ)) (before middle after : Checked W) (told mid left : Account) (first greatest : ℕ) (any : Bool) (n : ℕ) (goes : SearchGoes search contents before middle told mid first greatest any n) where
+module _ {W : Type 0} (search : Search) (contents : W → Option (List ℕ)) (before middle after : Checked W)
+    (told mid left : Account) (first greatest : ℕ) (any : Bool) (n : ℕ)
+    (goes : SearchGoes search contents before middle told mid first greatest any n) where
   -- A wait that goes well, and the time after it.
-  module _ (some : Bool) (listens : Listens search.who (search_wait search) contents middle after mid left (Ok some)) (now : ℕ) (last : Account) (asks : Gains (Timed now) left last) where
+  module _ (some : Bool) (listens : Listens search.who (search_wait search) contents middle after mid left (Ok some))
+      (now : ℕ) (last : Account) (asks : Gains (Timed now) left last) where
     abbrev heard : Heard
     heard = listens.0
 
@@ -93,10 +106,12 @@ module _ {W : Type 0} (search : Search) (contents : W → Option (List ℕ)) (be
 
     turned : Over told last TurnSo
     turned = over_on told mid last _ TurnSo goes.so_far (Waited (search_wait search) heard ∷ Timed now ∷ [])
-        (gains_both (Waited (search_wait search) heard ∷ []) (Timed now ∷ []) mid left last listens.1 asks) (λ k. (now, (refl, tt))) (λ gained t far f.
+        (gains_both (Waited (search_wait search) heard ∷ []) (Timed now ∷ []) mid left last listens.1 asks)
+        (λ k. (now, (refl, tt))) (λ gained t far f.
         let e = heard_is search t gained first greatest goes.found n far heard f.0 in
         let now_so : now ≡ (waited (search_wait search) (suc n) t).time [] =
-        f.1.0 ∙ reads_so search t gained first greatest goes.found n far ℕ (λ l. l.time (search_wait search ∷ [])) (λ sent. refl) in
+        f.1.0 ∙ reads_so search t gained first greatest goes.found n far ℕ (λ l. l.time (search_wait search ∷ []))
+        (λ sent. refl) in
         record {
           earlier = gained;
           far = far;
@@ -110,7 +125,8 @@ module _ {W : Type 0} (search : Search) (contents : W → Option (List ℕ)) (be
 
     module _ (gained : List Entry) (t : Told) (so : TurnSo gained t) where
       turns_next : first_below (stops_at (search_hears search t) (is_late search t)) (suc n) ≡ None
-      turns_next = one_more (search_hears search t) (is_late search t) n so.far.before (subst (λ (h : Heard). h ≢ Failure) (sym so.heard_so) listens.2)
+      turns_next = one_more (search_hears search t) (is_late search t) n so.far.before
+          (subst (λ (h : Heard). h ≢ Failure) (sym so.heard_so) listens.2)
 
       found_next : next ≡ found_after search t (suc n)
       found_next = rw (so.far.finds, so.heard_so) refl
@@ -121,7 +137,8 @@ module _ {W : Type 0} (search : Search) (contents : W → Option (List ℕ)) (be
       passed_next : max greatest now - first ≡ passed search t (suc n)
       passed_next = rw (time_next, so.far.began) refl
 
-    pub goes_on : max greatest now - first < search.timeout → SearchGoes search contents before after told last first (max greatest now) (any || some) (suc n)
+    pub goes_on : max greatest now - first < search.timeout
+        → SearchGoes search contents before after told last first (max greatest now) (any || some) (suc n)
     goes_on in_time = record {
       found = next;
       any_is = any_next;
@@ -129,41 +146,58 @@ module _ {W : Type 0} (search : Search) (contents : W → Option (List ℕ)) (be
       so_far = over_map told last TurnSo _ turned (λ gained t so. record {
         began = so.far.began;
         time = time_next gained t so;
-        before = record { passed = turns_next gained t so; unended = lt-leb search.timeout (passed search t (suc n)) (rw (← passed_next gained t so) in_time) };
+        before = record {
+          passed = turns_next gained t so;
+          unended = lt-leb search.timeout (passed search t (suc n)) (rw (← passed_next gained t so) in_time);
+        };
         finds = found_next gained t so;
         history = so.history;
       });
     }
 
-    pub ended : n < most_turns → search.timeout ≤ max greatest now - first → (found : List Found) × ((any || some) ≡ has_found found)
-        × Took contents before after (found_lines found) × Over told last (λ gained t. (n : ℕ) × SearchEnds search t gained found n)
+    pub ended : n < most_turns → search.timeout ≤ max greatest now - first → (found : List Found)
+        × ((any || some) ≡ has_found found)
+        × Took contents before after (found_lines found)
+        × Over told last (λ gained t. (n : ℕ) × SearchEnds search t gained found n)
     ended within over = (
       next,
       any_next,
       printed_next,
       over_map told last TurnSo _ turned (λ gained t so.
           let late = le-leb search.timeout (passed search t (suc n)) (rw (← passed_next gained t so) over) in
-          let stops = ends_now (search_hears search t) (is_late search t) (suc n) (turns_next gained t so) late (omega arith) in
+          let stops = ends_now (search_hears search t) (is_late search t) (suc n) (turns_next gained t so) late
+          (omega arith) in
           (suc n, record { stops = stops; finds = found_next gained t so; history = so.history })),
     )
 
   waits : (heard : Heard) → Gains (Waited (search_wait search) heard) mid left → (P : List Entry → Told → Type 0) →
-      ((gained : List Entry) (t : Told) → SearchesSo search t gained first greatest goes.found n → search_hears search t n ≡ heard →
+      ((gained : List Entry) (t : Told) → SearchesSo search t gained first greatest goes.found n
+      → search_hears search t n ≡ heard →
       P (search_entries search t n ++ search_waits search t n ∷ []) t) → Over told left P
-  waits heard gains P makes = over_on told mid left _ P goes.so_far (Waited (search_wait search) heard ∷ []) gains (λ k. (k, tt)) (λ gained t far f.
+  waits heard gains P makes =
+      over_on told mid left _ P goes.so_far (Waited (search_wait search) heard ∷ []) gains (λ k. (k, tt))
+      (λ gained t far f.
       let e = heard_is search t gained first greatest goes.found n far heard f.0 in
       subst (λ (h : Heard). P (gained ++ Waited (search_wait search) h ∷ []) t) e
-      (subst (λ (xs : List Entry). P xs t) (sym (waited_next search t gained first greatest goes.found n far)) (makes gained t far e)))
+      (subst (λ (xs : List Entry). P xs t) (sym (waited_next search t gained first greatest goes.found n far))
+      (makes gained t far e)))
 
   -- A wait that fails.
-  pub fails : (fault : ToolFault) (wait : ℕ) → wait ≡ search_wait search → n < most_turns → Listens search.who wait contents middle after mid left (Err fault) →
+  pub fails : (fault : ToolFault) (wait : ℕ) → wait ≡ search_wait search → n < most_turns
+      → Listens search.who wait contents middle after mid left (Err fault) →
       Searched search contents before after told left (Err fault)
   fails ReceiveFailed wait same within listens =
       let gains = rw same at listens.0 in (
         goes.found,
         subst (Took contents before after) (append-nil (found_lines goes.found)) (Took-more goes.printed listens.1),
-        waits Failure gains _ (λ gained t far e.
-            (n, record { stops = fails_now (search_hears search t) (is_late search t) n far.before e within; finds = far.finds; history = refl })),
+        waits Failure gains _ (λ gained t far e. (
+          n,
+          record {
+            stops = fails_now (search_hears search t) (is_late search t) n far.before e within;
+            finds = far.finds;
+            history = refl;
+          },
+        )),
       )
   fails WriteFailed wait same within listens =
       let gains = rw same at listens.1 in (
@@ -173,42 +207,59 @@ module _ {W : Type 0} (search : Search) (contents : W → Option (List ℕ)) (be
         listens.5,
         listens.6,
         Took-more goes.printed listens.7,
-        waits listens.0 gains _ (λ gained t far e.
-            (n, record { within = within; before = far.before; finds = far.finds; heard = ap (found_by search.who) e ∙ listens.3; history = refl })),
+        waits listens.0 gains _ (λ gained t far e. (
+          n,
+          record {
+            within = within;
+            before = far.before;
+            finds = far.finds;
+            heard = ap (found_by search.who) e
+                ∙ listens.3;
+            history = refl;
+          },
+        )),
       )
   fails _ wait same within listens = absurd listens
 
 -- A search begins with its Who-Is sent.
-pub begun : {W : Type 0} (search : Search) (contents : W → Option (List ℕ)) (before : Checked W) (told mid link : Account) (first : ℕ) → 0 < search.timeout → Gains (Timed first) told mid →
-    Gains (Posted (station search.to) (who_is_to search)) mid link → SearchGoes search contents before before told link first first false 0
+pub begun : {W : Type 0} (search : Search) (contents : W → Option (List ℕ)) (before : Checked W)
+    (told mid link : Account) (first : ℕ) → 0 < search.timeout → Gains (Timed first) told mid →
+    Gains (Posted (station search.to) (who_is_to search)) mid link
+    → SearchGoes search contents before before told link first first false 0
 begun search contents before told mid link first positive asks sends = record {
   found = [];
   any_is = refl;
   printed = Took-none before;
-  so_far = over_begun told link _ _ (gains_both (Timed first ∷ []) _ told mid link asks sends) first (refl, tt) (λ t f. record {
-    began = f.0;
-    time = f.0;
-    before = record {
-      passed = none_yet (stops_at (search_hears search t) (is_late search t));
-      unended = lt-leb search.timeout (passed search t 0) (omega arith);
-    };
-    finds = refl;
-    history = ap (λ (k : ℕ). Timed k ∷ Posted (station search.to) (who_is_to search) ∷ []) f.0;
-  });
+  so_far = over_begun told link _ _ (gains_both (Timed first ∷ []) _ told mid link asks sends) first (refl, tt)
+      (λ t f. record {
+        began = f.0;
+        time = f.0;
+        before = record {
+          passed = none_yet (stops_at (search_hears search t) (is_late search t));
+          unended = lt-leb search.timeout (passed search t 0) (omega arith);
+        };
+        finds = refl;
+        history = ap (λ (k : ℕ). Timed k ∷ Posted (station search.to) (who_is_to search) ∷ []) f.0;
+      });
 }
 
 -- Or with one that could not be sent.
 pub unbegun : (search : Search) (told mid link : Account) (first : ℕ) → Gains (Timed first) told mid →
-    Gains (Unposted (station search.to) (who_is_to search)) mid link → Over told link (λ gained t. SearchUnsent search t gained)
+    Gains (Unposted (station search.to) (who_is_to search)) mid link
+    → Over told link (λ gained t. SearchUnsent search t gained)
 unbegun search told mid link first asks sends =
     let lost = Unposted (station search.to) (who_is_to search) in
-    over_begun told link _ _ (gains_both (Timed first ∷ []) (lost ∷ []) told mid link asks sends) first (refl, tt) (λ t f.
+    over_begun told link _ _ (gains_both (Timed first ∷ []) (lost ∷ []) told mid link asks sends) first (refl, tt)
+    (λ t f.
     ap (λ (k : ℕ). Timed k ∷ lost ∷ []) f.0)
 
-pub spent : {W : Type 0} (search : Search) (contents : W → Option (List ℕ)) (before after : Checked W) (told link : Account) (first greatest : ℕ) (any : Bool) (n : ℕ) → n ≡ most_turns →
-    SearchGoes search contents before after told link first greatest any n → Searched search contents before after told link (Err TurnsSpent)
+pub spent : {W : Type 0} (search : Search) (contents : W → Option (List ℕ)) (before after : Checked W)
+    (told link : Account) (first greatest : ℕ) (any : Bool) (n : ℕ) → n ≡ most_turns →
+    SearchGoes search contents before after told link first greatest any n
+    → Searched search contents before after told link (Err TurnsSpent)
 spent search contents before after told link first greatest any n all goes = (
   goes.found,
   goes.printed,
-  over_map told link _ _ goes.so_far (λ gained t far. (n, record { all = all; before = far.before; finds = far.finds; history = far.history })),
+  over_map told link _ _ goes.so_far
+      (λ gained t far. (n, record { all = all; before = far.before; finds = far.finds; history = far.history })),
 )

@@ -1,21 +1,22 @@
 -- Two searches that are answered alike ask alike, and end alike.
-use Rattle.std.proofs.Common.{◌≡◌, ◌≢◌, ℕ, zero, suc, ◌+◌, List, [], ◌∷◌, ◌++◌, length, length-append, Option, Result, Ok, Err, IfOk, true, false, refl, sym, ap, ◌∙◌, arith, subst}
-use Rattle.std.proofs.lemmas.Bool.{or_parts}
+use Rattle.std.proofs.Common.{◌≡◌, ◌≢◌, ℕ, zero, suc, ◌+◌, List, [], ◌∷◌, ◌++◌, length, length-append, Option, Result}
+use Rattle.std.proofs.Common.{Ok, Err, false, refl, sym, ap, ◌∙◌, arith, subst}
+use Rattle.std.proofs.lemmas.List.{append_cancel_left}
 use Rattle.bac_pdu.specs.Peer.{station}
 use Rattle.bac_text.specs.declared.checked.Checked.{Checked}
 use Rattle.bac_text.specs.declared.jobs.Search.{Search}
 use Rattle.bac_text.specs.Checked.{Took}
-use Rattle.bac_links.specs.Limits.{most_turns}
-use Rattle.bac_links.specs.Told.{Told, Failure}
-use Rattle.bac_links.specs.History.{Entry, Timed, Posted, Unposted, Foretells, Account, Over}
+use Rattle.bac_links.specs.Told.{Told}
+use Rattle.bac_links.specs.History.{Entry, Foretells, Account, Over}
 use Rattle.bac_links.specs.Answered.{Answer, answers_of}
-use Rattle.bac_links.specs.Courses.{is_failure, stops_at}
-use Rattle.bac_links.specs.Search.{Found, found_by, found_after, found_lines, search_exit, search_wait, search_hears, search_waits, search_time, search_entries, who_is_to, is_late, SearchEnds, SearchFails, SearchSpent, SearchStops, SearchUnsent, Searched}
+use Rattle.bac_links.specs.Search.{Found, found_by, found_lines, search_exit, search_wait, search_hears, search_waits}
+use Rattle.bac_links.specs.Search.{search_time, search_entries, who_is_to, is_late, SearchEnds, SearchFails}
+use Rattle.bac_links.specs.Search.{SearchSpent, SearchStops, SearchUnsent, Searched}
 use Rattle.bac_links.specs.declared.ending.Exit.{Exit}
 use Rattle.bac_links.specs.declared.fault.ToolFault.{ToolFault}
 use Rattle.bac_links.specs.declared.fault.ToolFault.TheVariants.{SendFailed, ReceiveFailed, TurnsSpent, WriteFailed}
-use Rattle.bac_links.proofs.Courses.{none_before, none_at, having_nothing}
-use Rattle.bac_links.proofs.Alike.{Plain, Waits, plain_both, plain_waits, no_loss, same_told, cancel}
+use Rattle.bac_links.proofs.Courses.{having_nothing}
+use Rattle.bac_links.proofs.Alike.{Plain, Waits, plain_both, plain_waits, no_loss, same_told}
 
 -- How a search comes to its end, or doesn't.
 data Way : Type 0 where
@@ -47,33 +48,45 @@ module _ (search : Search) (t : Told) where
   plain_entries : (n : ℕ) → Plain (search_wait search) (search_entries search t n)
   plain_entries zero = tt
   plain_entries (suc n) =
-      plain_both (search_wait search) (search_entries search t n) (search_waits search t n ∷ search_time search t (suc n) ∷ []) (plain_entries n) (refl, tt)
+      plain_both (search_wait search) (search_entries search t n)
+      (search_waits search t n ∷ search_time search t (suc n) ∷ []) (plain_entries n) (refl, tt)
 
   plain_waited : (n : ℕ) → Plain (search_wait search) (search_entries search t n ++ search_waits search t n ∷ [])
-  plain_waited n = plain_both (search_wait search) (search_entries search t n) (search_waits search t n ∷ []) (plain_entries n) (refl, tt)
+  plain_waited n =
+      plain_both (search_wait search) (search_entries search t n) (search_waits search t n ∷ []) (plain_entries n)
+      (refl, tt)
 
   length_entries : (n : ℕ) → length (search_entries search t n) ≡ n + n + 2
   length_entries zero = refl
   length_entries (suc n) =
-      let all = length-append (search_entries search t n) (search_waits search t n ∷ search_time search t (suc n) ∷ []) in
+      let all = length-append (search_entries search t n)
+      (search_waits search t n ∷ search_time search t (suc n) ∷ []) in
       let before = length_entries n in
       omega (arith, all, before)
 
   length_waited : (n : ℕ) → length (search_entries search t n ++ search_waits search t n ∷ []) ≡ n + n + 3
-  length_waited n = let all = length-append (search_entries search t n) (search_waits search t n ∷ []) in let before = length_entries n in omega (arith, all, before)
+  length_waited n =
+      let all = length-append (search_entries search t n) (search_waits search t n ∷ []) in
+      let before = length_entries n in
+      omega (arith, all, before)
 
   abbrev So : List Entry → Way → Type 0
   So = Goes search t
 
   goes_waits : (v : Way) (xs : List Entry) → So xs v → Waits (search_wait search) xs
-  goes_waits (Ends found) xs a = plain_waits (search_wait search) xs (subst (Plain (search_wait search)) (sym a.1.history) (plain_entries a.0))
-  goes_waits (Deaf found) xs a = plain_waits (search_wait search) xs (subst (Plain (search_wait search)) (sym a.1.history) (plain_waited a.0))
-  goes_waits (Spent found) xs a = plain_waits (search_wait search) xs (subst (Plain (search_wait search)) (sym a.1.history) (plain_entries a.0))
-  goes_waits (Stops found last) xs a = plain_waits (search_wait search) xs (subst (Plain (search_wait search)) (sym a.1.history) (plain_waited a.0))
+  goes_waits (Ends found) xs a =
+      plain_waits (search_wait search) xs (subst (Plain (search_wait search)) (sym a.1.history) (plain_entries a.0))
+  goes_waits (Deaf found) xs a =
+      plain_waits (search_wait search) xs (subst (Plain (search_wait search)) (sym a.1.history) (plain_waited a.0))
+  goes_waits (Spent found) xs a =
+      plain_waits (search_wait search) xs (subst (Plain (search_wait search)) (sym a.1.history) (plain_entries a.0))
+  goes_waits (Stops found last) xs a =
+      plain_waits (search_wait search) xs (subst (Plain (search_wait search)) (sym a.1.history) (plain_waited a.0))
   goes_waits Unsent xs a = subst (Waits (search_wait search)) (sym a) tt
 
   -- Where the Who-Is was lost, it was not sent.
-  sent_all : (xs ys zs : List Entry) → So xs Unsent → answers_of xs ≡ answers_of ys → ys ≡ zs → Plain (search_wait search) zs → ⊥
+  sent_all : (xs ys zs : List Entry) → So xs Unsent → answers_of xs ≡ answers_of ys → ys ≡ zs
+      → Plain (search_wait search) zs → ⊥
   sent_all xs ys zs a e same plain =
       no_loss (search_wait search) (search_time search t zero ∷ []) zs (station search.to) (who_is_to search) plain
       (ap answers_of (sym a) ∙ e ∙ ap answers_of same)
@@ -90,7 +103,8 @@ module _ (search : Search) (t : Told) where
       let b = ap (λ (zs : List Entry). length zs) there ∙ length_entries m in
       let c = same_size xs ys e in omega (arith, a, b, c)
 
-  waits_one : (xs ys : List Entry) (n m : ℕ) → answers_of xs ≡ answers_of ys → xs ≡ waited_at n → ys ≡ waited_at m → m ≡ n
+  waits_one : (xs ys : List Entry) (n m : ℕ) → answers_of xs ≡ answers_of ys → xs ≡ waited_at n → ys ≡ waited_at m
+      → m ≡ n
   waits_one xs ys n m e here there =
       let a = ap (λ (zs : List Entry). length zs) here ∙ length_waited n in
       let b = ap (λ (zs : List Entry). length zs) there ∙ length_waited m in
@@ -103,14 +117,16 @@ module _ (search : Search) (t : Told) where
       let b = ap (λ (zs : List Entry). length zs) there ∙ length_waited m in
       let c = same_size xs ys e in omega (arith, a, b, c)
 
-  ended_not_spent : (xs ys : List Entry) (f g : List Found) → So xs (Ends f) → So ys (Spent g) → answers_of xs ≡ answers_of ys → ⊥
+  ended_not_spent : (xs ys : List Entry) (f g : List Found) → So xs (Ends f) → So ys (Spent g)
+      → answers_of xs ≡ answers_of ys → ⊥
   ended_not_spent xs ys f g a b e =
       let same = at_one xs ys a.0 b.0 e a.1.history b.1.history in
       let open_yet = subst (λ (k : ℕ). is_late search t k ≡ false) same b.1.before.unended in
       let over = a.1.stops.over in
       cc
 
-  deaf_not_stopped : (xs ys : List Entry) (f g : List Found) (last : Found) → So xs (Deaf f) → So ys (Stops g last) → answers_of xs ≡ answers_of ys → ⊥
+  deaf_not_stopped : (xs ys : List Entry) (f g : List Found) (last : Found) → So xs (Deaf f) → So ys (Stops g last)
+      → answers_of xs ≡ answers_of ys → ⊥
   deaf_not_stopped xs ys f g last a b e =
       let same = waits_one xs ys a.0 b.0 e a.1.history b.1.history in
       let heard = subst (λ (k : ℕ). found_by search.who (search_hears search t k) ≡ last ∷ []) same b.1.heard in
@@ -183,24 +199,38 @@ module _ {W : Type 0} (contents : W → Option (List ℕ)) (search : Search) whe
     answers : result ≡ result_of way
     prints : result ≢ Err WriteFailed → Took contents before after (found_lines (found_in way))
 
-  went : (before after : Checked W) (told left : Account) (result : Result Exit ToolFault) → Searched search contents before after told left result → Went before after told left result
-  went before after told left (Ok exit) s = record { way = Ends s.0; over = s.3; answers = ap Ok s.1; prints = λ other. s.2 }
-  went before after told left (Err SendFailed) s = record { way = Unsent; over = s.1; answers = refl; prints = λ other. s.0 }
-  went before after told left (Err ReceiveFailed) s = record { way = Deaf s.0; over = s.2; answers = refl; prints = λ other. s.1 }
-  went before after told left (Err TurnsSpent) s = record { way = Spent s.0; over = s.2; answers = refl; prints = λ other. s.1 }
-  went before after told left (Err WriteFailed) s = record { way = Stops s.0 s.1; over = s.6; answers = refl; prints = λ other. absurd (other refl) }
+  went : (before after : Checked W) (told left : Account) (result : Result Exit ToolFault)
+      → Searched search contents before after told left result → Went before after told left result
+  went before after told left (Ok exit) s =
+      record { way = Ends s.0; over = s.3; answers = ap Ok s.1; prints = λ other. s.2 }
+  went before after told left (Err SendFailed) s =
+      record { way = Unsent; over = s.1; answers = refl; prints = λ other. s.0 }
+  went before after told left (Err ReceiveFailed) s =
+      record { way = Deaf s.0; over = s.2; answers = refl; prints = λ other. s.1 }
+  went before after told left (Err TurnsSpent) s =
+      record { way = Spent s.0; over = s.2; answers = refl; prints = λ other. s.1 }
+  went before after told left (Err WriteFailed) s =
+      record { way = Stops s.0 s.1; over = s.6; answers = refl; prints = λ other. absurd (other refl) }
 
-  -- Two searches that are answered alike.
-  pub searches_alike : (before after before' after' : Checked W) (told left told' left' : Account) (result result' : Result Exit ToolFault) (gained gained' : List Entry) →
-      Searched search contents before after told left result → Searched search contents before' after' told' left' result' →
-      left.history ≡ told.history ++ gained → left'.history ≡ told'.history ++ gained' → answers_of gained ≡ answers_of gained' →
+-- Two searches that are answered alike.
+module _ {V W : Type 0} (contents : V → Option (List ℕ)) (contents' : W → Option (List ℕ)) (search : Search) where
+  pub searches_alike : (before after : Checked V) (before' after' : Checked W) (told left told' left' : Account)
+      (result result' : Result Exit ToolFault) (gained gained' : List Entry) →
+      Searched search contents before after told left result
+      → Searched search contents' before' after' told' left' result' →
+      left.history ≡ told.history ++ gained → left'.history ≡ told'.history ++ gained'
+      → answers_of gained ≡ answers_of gained' →
       (gained ≡ gained') × (result ≡ result')
-      × (result ≢ Err WriteFailed → (text : List ℕ) × Took contents before after text × Took contents before' after' text)
-  searches_alike before after before' after' told left told' left' result result' gained gained' tells tells' gains gains' e =
-      let a = went before after told left result tells in
-      let b = went before' after' told' left' result' tells' in
-      let first : a.over.gained ≡ gained = cancel told.history _ _ (ap (λ (s : Account). s.history) (sym a.over.gains.0) ∙ gains) in
-      let second : b.over.gained ≡ gained' = cancel told'.history _ _ (ap (λ (s : Account). s.history) (sym b.over.gains.0) ∙ gains') in
+      × (result ≢ Err WriteFailed → (text : List ℕ) × Took contents before after text
+      × Took contents' before' after' text)
+  searches_alike before after before' after' told left told' left' result result' gained gained' tells tells' gains
+      gains' e =
+      let a = went contents search before after told left result tells in
+      let b = went contents' search before' after' told' left' result' tells' in
+      let first : a.over.gained ≡ gained =
+      append_cancel_left told.history _ _ (ap (λ (s : Account). s.history) (sym a.over.gains.0) ∙ gains) in
+      let second : b.over.gained ≡ gained' =
+      append_cancel_left told'.history _ _ (ap (λ (s : Account). s.history) (sym b.over.gains.0) ∙ gains') in
       let same = ap answers_of first ∙ e ∙ ap answers_of (sym second) in
       let t = a.over.some.0 in
       let here = a.over.holds t a.over.some.1 in
@@ -215,7 +245,7 @@ module _ {W : Type 0} (contents : W → Option (List ℕ)) (search : Search) whe
         λ written. (
           found_lines (found_in a.way),
           a.prints written,
-          subst (λ (v : Way). Took contents before' after' (found_lines (found_in v))) (sym both.1)
+          subst (λ (v : Way). Took contents' before' after' (found_lines (found_in v))) (sym both.1)
               (b.prints (subst (λ (r : Result Exit ToolFault). r ≢ Err WriteFailed) results written)),
         ),
       )

@@ -1,31 +1,30 @@
 -- A device that serves, wait by wait.
-use Rattle.std.proofs.Common.{◌≡◌, ◌≢◌, ℕ, suc, ◌+◌, ◌<◌, ◌≤◌, List, [], ◌∷◌, ◌++◌, length, length-append, Option, Some, None, Ok, Err, refl, sym, ap, ◌∙◌, arith, append_assoc, subst}
+use Rattle.std.proofs.Common.{◌≡◌, ◌≢◌, ℕ, suc, ◌+◌, ◌<◌, ◌≤◌, List, [], ◌∷◌, ◌++◌, length, length-append, Option, Some}
+use Rattle.std.proofs.Common.{None, Ok, Err, refl, sym, ap, ◌∙◌, arith, append_assoc, subst}
 use Rattle.std.proofs.lemmas.List.{append-nil}
 use Rattle.std.proofs.lemmas.List.Concat.{flat_map-append}
 use Rattle.std.proofs.lemmas.Bool.{le-leb, lt-leb}
 use Rattle.bac_pdu.specs.Peer.{Station}
-use Rattle.bac_device.specs.Device.{DeviceState, device_after, points_of}
-use Rattle.bac_device.specs.Info.{Info}
-use Rattle.bac_device.specs.Places.{Write}
-use Rattle.bac_device.specs.Point.{Description}
-use Rattle.bac_device.specs.Reply.{writes_after}
-use Rattle.bac_device.specs.Turns.{Arrival as Came, AnswersInTurn, replies_to}
-use Rattle.bac_device.proofs.SizeLaws.{introduction_fits, request_fits}
+use Rattle.bac_device.specs.Device.{DeviceState}
+use Rattle.bac_device.specs.Turns.{Arrival as Came, AnswersInTurn}
 use Rattle.bac_device.proofs.StateLaws.{in_turn}
 use Rattle.bac_links.specs.Limits.{most_turns, serve_wait}
 use Rattle.bac_links.specs.Told.{Told, Heard, Silence, Arrival, Failure, Sending, after_wait, waited, having_sent}
 use Rattle.bac_links.specs.History.{Entry, Waited, Unposted, told_after, Foretells, Account, Over}
-use Rattle.bac_links.specs.Serve.{came_by, serve_hears, heards, arrivals_in, reply_entries, serve_entries, reply_count, AnswersAll, RepliesFit, all_came, ServesSo, Serves}
+use Rattle.bac_links.specs.Serve.{came_by, serve_hears, heards, arrivals_in, reply_entries, serve_entries, reply_count}
+use Rattle.bac_links.specs.Serve.{AnswersAll, all_came, ServesSo, Serves}
 use Rattle.bac_links.specs.Courses.{first_below, stops_at, GoesOn}
 use Rattle.bac_links.proofs.Courses.{none_yet, one_more, ends_now, fails_now, having_nothing, having_sent-both}
 use Rattle.bac_links.proofs.Histories.{Timely, told_after-append, over_none, over_map, over_on}
-use Rattle.bac_links.specs.ServeSteps.{came_in, replied_in, ServesOne}
+use Rattle.bac_links.specs.Inner.ServeSteps.{came_in, replied_in, ServesOne}
 use Rattle.bac_links.specs.declared.serving.Brought.{Brought}
 use Rattle.bac_links.specs.declared.fault.ToolFault.{ToolFault}
 use Rattle.bac_links.specs.declared.fault.ToolFault.TheVariants.{SendFailed, ReceiveFailed, TurnsSpent}
 
--- A server after n waits, over what the link told: none of them failed, and before each fewer datagrams had come than were asked for.
-pub record ServesOver (t : Told) (gained : List Entry) (arrivals : List Came) (replies : List (Option (Station × List ℕ))) (count n : ℕ) : Type 0 where
+-- A server after n waits, over what the link told: none of them failed, and before each fewer datagrams had come than
+-- were asked for.
+pub record ServesOver (t : Told) (gained : List Entry) (arrivals : List Came)
+    (replies : List (Option (Station × List ℕ))) (count n : ℕ) : Type 0 where
   pub passed : first_below (stops_at (serve_hears t) (all_came count t)) n ≡ None
   pub so : ServesSo t gained arrivals replies n
   pub sent : List Sending
@@ -43,42 +42,39 @@ pub record ServeGoes (before device : DeviceState) (told link : Account) (count 
 -- ---- datagrams one after another
 
 turns-append : (before middle after : DeviceState) (xs ys : List Came) (rs ss : List (Option (Station × List ℕ))) →
-    AnswersInTurn before xs rs middle → AnswersInTurn middle ys ss after → AnswersInTurn before (xs ++ ys) (rs ++ ss) after
-turns-append before middle after [] ys [] ss first second = subst (λ (d : DeviceState). AnswersInTurn d ys ss after) first second
-turns-append before middle after (x ∷ xs) ys (r ∷ rs) ss (next, one, rest) second = (next, one, turns-append next middle after xs ys rs ss rest second)
+    AnswersInTurn before xs rs middle → AnswersInTurn middle ys ss after
+    → AnswersInTurn before (xs ++ ys) (rs ++ ss) after
+turns-append before middle after [] ys [] ss first second =
+    subst (λ (d : DeviceState). AnswersInTurn d ys ss after) first second
+turns-append before middle after (x ∷ xs) ys (r ∷ rs) ss (next, one, rest) second =
+    (next, one, turns-append next middle after xs ys rs ss rest second)
 turns-append before middle after _ ys _ ss first second = absurd first
 
-same_length : (before after : DeviceState) (xs : List Came) (rs : List (Option (Station × List ℕ))) → AnswersInTurn before xs rs after → length xs ≡ length rs
+same_length : (before after : DeviceState) (xs : List Came) (rs : List (Option (Station × List ℕ)))
+    → AnswersInTurn before xs rs after → length xs ≡ length rs
 same_length before after [] [] turns = refl
 same_length before after (x ∷ xs) (r ∷ rs) (next, one, rest) = ap suc (same_length next after xs rs rest)
 same_length before after _ _ turns = absurd turns
 
-replies_fit : (info : Info) (points : List Description) (writes : List Write) (xs : List Came) → RepliesFit xs (replies_to info points writes xs)
-replies_fit info points writes [] = refl
-replies_fit info points writes (x ∷ xs) = (
-  λ r e. record {
-    confirmed = λ code id carried. request_fits (device_after info points writes) x.from r.0 x.datagram r.1 code id carried e;
-    introduced = λ carried. introduction_fits (device_after info points writes) x.from r.0 x.datagram r.1 carried e;
-  },
-  replies_fit info points (writes_after info points writes x.from x.datagram) xs,
-)
-
-pub defined : (before after : DeviceState) (xs : List Came) (rs : List (Option (Station × List ℕ))) → AnswersInTurn before xs rs after → AnswersAll before xs rs after
-defined before after xs rs turns = λ writes holds.
-    let these = in_turn before xs rs after writes turns holds in
-    (these, subst (RepliesFit xs) (sym these.replied) (replies_fit before.info (points_of before) writes xs))
+pub defined : (before after : DeviceState) (xs : List Came) (rs : List (Option (Station × List ℕ)))
+    → AnswersInTurn before xs rs after → AnswersAll before xs rs after
+defined before after xs rs turns = λ writes holds. in_turn before xs rs after writes turns holds
 
 entries-append : (xs ys : List Heard) (rs ss : List (Option (Station × List ℕ))) → length (arrivals_in xs) ≡ length rs →
     serve_entries (xs ++ ys) (rs ++ ss) ≡ serve_entries xs rs ++ serve_entries ys ss
 entries-append [] ys [] ss e = refl
 entries-append (Arrival from octets ∷ xs) ys (r ∷ rs) ss e =
-    ap (λ (zs : List Entry). Waited serve_wait (Arrival from octets) ∷ (reply_entries r ++ zs)) (entries-append xs ys rs ss (omega (arith, e)))
-    ∙ ap (λ (zs : List Entry). Waited serve_wait (Arrival from octets) ∷ zs) (sym (append_assoc (reply_entries r) (serve_entries xs rs) (serve_entries ys ss)))
-entries-append (Silence ∷ xs) ys rs ss e = ap (λ (zs : List Entry). Waited serve_wait Silence ∷ zs) (entries-append xs ys rs ss e)
-entries-append (Failure ∷ xs) ys rs ss e = ap (λ (zs : List Entry). Waited serve_wait Failure ∷ zs) (entries-append xs ys rs ss e)
+    ap (λ (zs : List Entry). Waited serve_wait (Arrival from octets) ∷ (reply_entries r ++ zs))
+    (entries-append xs ys rs ss (omega (arith, e)))
+    ∙ ap (λ (zs : List Entry). Waited serve_wait (Arrival from octets) ∷ zs)
+    (sym (append_assoc (reply_entries r) (serve_entries xs rs) (serve_entries ys ss)))
+entries-append (Silence ∷ xs) ys rs ss e =
+    ap (λ (zs : List Entry). Waited serve_wait Silence ∷ zs) (entries-append xs ys rs ss e)
+entries-append (Failure ∷ xs) ys rs ss e =
+    ap (λ (zs : List Entry). Waited serve_wait Failure ∷ zs) (entries-append xs ys rs ss e)
 entries-append _ ys _ ss e = absurd (omega (arith, e))
 
-arrivals-push : (xs : List Heard) (heard : Heard) → arrivals_in xs ++ came_by heard ≡ arrivals_in (xs ++ heard ∷ [])
+pub arrivals-push : (xs : List Heard) (heard : Heard) → arrivals_in xs ++ came_by heard ≡ arrivals_in (xs ++ heard ∷ [])
 arrivals-push xs heard = simp (flat_map-append, append-nil)
 
 count-append : (rs ss : List (Option (Station × List ℕ))) → reply_count (rs ++ ss) ≡ reply_count rs + reply_count ss
@@ -91,22 +87,27 @@ one_came (Arrival from octets) e = (_, refl)
 one_came _ e = absurd (omega (arith, e))
 
 -- Of what was foretold, a wait and its reply leave what comes after the wait.
-one_left : (heard : Heard) (replies : List (Option (Station × List ℕ))) (sent : List Sending) (t : Told) → length (came_by heard) ≡ length replies →
-    (all : List Sending) × (told_after (serve_entries (heard ∷ []) replies) (having_sent sent t) ≡ having_sent all (after_wait serve_wait t))
+one_left : (heard : Heard) (replies : List (Option (Station × List ℕ))) (sent : List Sending) (t : Told)
+    → length (came_by heard) ≡ length replies →
+    (all : List Sending)
+    × (told_after (serve_entries (heard ∷ []) replies) (having_sent sent t)
+    ≡ having_sent all (after_wait serve_wait t))
 one_left (Arrival from octets) (None ∷ replies) sent t e = (sent, refl)
 one_left (Arrival from octets) (Some reply ∷ replies) sent t e = (_, having_sent-both (after_wait serve_wait t) sent _)
 one_left Silence replies sent t e = (sent, refl)
 one_left Failure replies sent t e = (sent, refl)
 one_left _ _ sent t e = absurd (omega (arith, e))
 
-one_heard : (heard : Heard) (replies : List (Option (Station × List ℕ))) (t : Told) → length (came_by heard) ≡ length replies →
+one_heard : (heard : Heard) (replies : List (Option (Station × List ℕ))) (t : Told)
+    → length (came_by heard) ≡ length replies →
     Foretells (serve_entries (heard ∷ []) replies) t → t.heard [] serve_wait ≡ heard
 one_heard (Arrival from octets) (reply ∷ replies) t e f = f.0
 one_heard Silence replies t e f = f.0
 one_heard Failure replies t e f = f.0
 one_heard _ _ t e f = absurd (omega (arith, e))
 
-one_timely : (heard : Heard) (replies : List (Option (Station × List ℕ))) (now : ℕ) → Timely (serve_entries (heard ∷ []) replies) now
+one_timely : (heard : Heard) (replies : List (Option (Station × List ℕ))) (now : ℕ)
+    → Timely (serve_entries (heard ∷ []) replies) now
 one_timely (Arrival from octets) [] now = tt
 one_timely (Arrival from octets) (None ∷ replies) now = (now, tt)
 one_timely (Arrival from octets) (Some reply ∷ replies) now = (now, tt)
@@ -128,24 +129,32 @@ serves_none device told count = record {
   });
 }
 
-module _ (before device : DeviceState) (told mid : Account) (count came replied n : ℕ) (goes : ServeGoes before device told mid count came replied n) where
+module _ (before device : DeviceState) (told mid : Account) (count came replied n : ℕ)
+    (goes : ServeGoes before device told mid count came replied n) where
   -- Over what was foretold.
   module _ (gained : List Entry) (t : Told) (far : ServesOver t gained goes.arrivals goes.replies count n) where
     came_is : length (arrivals_in (heards t n)) ≡ came
     came_is = sym (goes.came_is ∙ ap length far.so.came)
 
     waits_on : came < count → GoesOn (serve_hears t) (all_came count t) n
-    waits_on fewer = record { passed = far.passed; unended = lt-leb count (length (arrivals_in (heards t n))) (omega (arith, fewer, came_is)) }
+    waits_on fewer =
+        record {
+          passed = far.passed;
+          unended = lt-leb count (length (arrivals_in (heards t n))) (omega (arith, fewer, came_is));
+        }
 
     hears_so : (heard : Heard) → (told_after gained t).heard [] serve_wait ≡ heard → serve_hears t n ≡ heard
     hears_so heard f = sym (ap (λ (l : Told). l.heard [] serve_wait) far.left) ∙ f
 
-    came_next : (heard : Heard) → serve_hears t n ≡ heard → goes.arrivals ++ came_by heard ≡ arrivals_in (heards t (suc n))
+    came_next : (heard : Heard) → serve_hears t n ≡ heard
+        → goes.arrivals ++ came_by heard ≡ arrivals_in (heards t (suc n))
     came_next heard e =
-        ap (λ (xs : List Came). xs ++ came_by heard) far.so.came ∙ ap (λ (h : Heard). arrivals_in (heards t n) ++ came_by h) (sym e)
+        ap (λ (xs : List Came). xs ++ came_by heard) far.so.came
+        ∙ ap (λ (h : Heard). arrivals_in (heards t n) ++ came_by h) (sym e)
         ∙ arrivals-push (heards t n) (serve_hears t n)
 
-    entries_next : (answers : List (Option (Station × List ℕ))) → serve_entries (heards t (suc n)) (goes.replies ++ answers)
+    entries_next : (answers : List (Option (Station × List ℕ)))
+        → serve_entries (heards t (suc n)) (goes.replies ++ answers)
         ≡ serve_entries (heards t n) goes.replies ++ serve_entries (serve_hears t n ∷ []) answers
     entries_next answers =
         entries-append (heards t n) (serve_hears t n ∷ []) goes.replies answers
@@ -177,10 +186,15 @@ module _ (before device : DeviceState) (told mid : Account) (count came replied 
     goes.arrivals,
     goes.replies,
     defined before device goes.arrivals goes.replies goes.in_turn,
-    (rw (← goes.came_is) fewer, over_map told mid _ _ goes.so_far (λ gained t far. (n, record { all = all; before = waits_on gained t far fewer; so = far.so }))),
+    (
+      rw (← goes.came_is) fewer,
+      over_map told mid _ _ goes.so_far
+          (λ gained t far. (n, record { all = all; before = waits_on gained t far fewer; so = far.so })),
+    ),
   )
 
-  pub serve_on : (after : DeviceState) (left : Account) → came < count → (brings : Brought) → ServesOne device after mid left (Ok brings) →
+  pub serve_on : (after : DeviceState) (left : Account) → came < count → (brings : Brought)
+      → ServesOne device after mid left (Ok brings) →
       ServeGoes before after told left count (came + came_in brings) (replied + replied_in brings) (suc n)
   serve_on after left fewer brings one =
       let as_many = same_length device after (came_by one.0) one.1 one.2 in
@@ -190,18 +204,22 @@ module _ (before device : DeviceState) (told mid : Account) (count came replied 
         in_turn = turns-append before device after goes.arrivals (came_by one.0) goes.replies one.1 goes.in_turn one.2;
         came_is = rw (goes.came_is, one.4) (sym (length-append goes.arrivals (came_by one.0)));
         replied_is = rw (goes.replied_is, one.5) (sym (count-append goes.replies one.1));
-        so_far = over_on told mid left _ _ goes.so_far (serve_entries (one.0 ∷ []) one.1) one.6 (one_timely one.0 one.1) (λ gained t far f.
+        so_far = over_on told mid left _ _ goes.so_far (serve_entries (one.0 ∷ []) one.1) one.6 (one_timely one.0 one.1)
+            (λ gained t far f.
             let e = hears_so gained t far one.0 (one_heard one.0 one.1 _ as_many f) in
             let next = one_left one.0 one.1 far.sent (waited serve_wait n t) as_many in
             record {
-              passed = one_more (serve_hears t) (all_came count t) n (waits_on gained t far fewer) (subst (λ (h : Heard). h ≢ Failure) (sym e) one.3);
+              passed = one_more (serve_hears t) (all_came count t) n (waits_on gained t far fewer)
+                  (subst (λ (h : Heard). h ≢ Failure) (sym e) one.3);
               so = record {
                 came = came_next gained t far one.0 e;
-                history = behind gained t far (λ h. serve_entries (h ∷ []) one.1) one.0 e ∙ sym (entries_next gained t far one.1);
+                history = behind gained t far (λ h. serve_entries (h ∷ []) one.1) one.0 e
+                    ∙ sym (entries_next gained t far one.1);
               };
               sent = next.0;
               left =
-                  told_after-append gained (serve_entries (one.0 ∷ []) one.1) t ∙ ap (told_after (serve_entries (one.0 ∷ []) one.1)) far.left
+                  told_after-append gained (serve_entries (one.0 ∷ []) one.1) t
+                  ∙ ap (told_after (serve_entries (one.0 ∷ []) one.1)) far.left
                   ∙ next.1;
             });
       }
@@ -212,8 +230,10 @@ module _ (before device : DeviceState) (told mid : Account) (count came replied 
     goes.arrivals ++ came_by one.0,
     goes.replies ++ Some one.1 ∷ [],
     defined before after (goes.arrivals ++ came_by one.0) (goes.replies ++ Some one.1 ∷ [])
-        (turns-append before device after goes.arrivals (came_by one.0) goes.replies (Some one.1 ∷ []) goes.in_turn one.2),
-    over_on told mid left _ _ goes.so_far (Waited serve_wait one.0 ∷ Unposted one.1.0 one.1.1 ∷ []) one.4 (λ now. (now, tt)) (λ gained t far f.
+        (turns-append before device after goes.arrivals (came_by one.0) goes.replies (Some one.1 ∷ []) goes.in_turn
+        one.2),
+    over_on told mid left _ _ goes.so_far (Waited serve_wait one.0 ∷ Unposted one.1.0 one.1.1 ∷ []) one.4
+        (λ now. (now, tt)) (λ gained t far f.
         let e = hears_so gained t far one.0 f.0 in
         let last = one_came one.0 (same_length device after (came_by one.0) (Some one.1 ∷ []) one.2) in (
           n,
@@ -233,7 +253,8 @@ module _ (before device : DeviceState) (told mid : Account) (count came replied 
   serve_fails after left within fewer ReceiveFailed one = (
     goes.arrivals,
     goes.replies,
-    defined before after goes.arrivals goes.replies (subst (AnswersInTurn before goes.arrivals goes.replies) (sym one.0) goes.in_turn),
+    defined before after goes.arrivals goes.replies
+        (subst (AnswersInTurn before goes.arrivals goes.replies) (sym one.0) goes.in_turn),
     over_on told mid left _ _ goes.so_far (Waited serve_wait Failure ∷ []) one.1 (λ now. (now, tt)) (λ gained t far f.
         let e = hears_so gained t far Failure f.0 in (
           n,

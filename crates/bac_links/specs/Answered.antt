@@ -3,7 +3,7 @@ use Rattle.std.specs.Prelude.{ℕ, List, map}
 use Rattle.bac_links.specs.Told.{Heard}
 use Rattle.bac_links.specs.History.{Entry, Waited, Timed, Posted, Unposted}
 
--- What a wait brought; a time; that a datagram was sent, and that it could not be.
+-- What a link answered: what a wait brought, the time, that a datagram was sent, or that it could not be.
 pub data Answer : Type 0 where
   Brings : (heard : Heard) → Answer
   Shows : (time : ℕ) → Answer

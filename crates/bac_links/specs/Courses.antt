@@ -14,23 +14,24 @@ unfoldable pub first_below : (ℕ → Bool) → ℕ → Option ℕ
 first_below test zero = None
 first_below test (suc n) = option_or (first_below test n) (if test n then Some n else None)
 
--- A tool that has come to its end, or not, after so many turns, and whose next turn hears this.
+-- `hears` says what the turn after so many turns hears, and `is_over` whether the tool has come to its end after so
+-- many.
 module _ (hears : ℕ → Heard) (is_over : ℕ → Bool) where
-  -- No turn follows n turns, or it hears a failure.
+  -- There is no further turn, or the next one hears a failure.
   abbrev pub stops_at : ℕ → Bool
   stops_at n = is_over n || is_failure (hears n)
 
-  -- n turns go by, and a further one is due.
+  -- After n turns the tool has neither ended nor failed, and there is a further turn.
   pub record GoesOn (n : ℕ) : Type 0 where
     pub passed : first_below stops_at n ≡ None
     pub unended : is_over n ≡ false
 
-  -- It comes to its end after n turns.
+  -- The tool comes to its end after n turns.
   pub record EndsAfter (n : ℕ) : Type 0 where
     pub first : first_below stops_at (suc most_turns) ≡ Some n
     pub over : is_over n ≡ true
 
-  -- It hears a failure in the turn after n turns.
+  -- The tool hears a failure in the turn after n turns.
   pub record FailsAfter (n : ℕ) : Type 0 where
     pub first : first_below stops_at most_turns ≡ Some n
     pub unended : is_over n ≡ false

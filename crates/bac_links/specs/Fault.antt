@@ -3,7 +3,7 @@ use Rattle.std.specs.Prelude.{Bool, true, false, Result, Ok, Err}
 use Rattle.bac_links.specs.declared.fault.ToolFault.{ToolFault}
 use Rattle.bac_links.specs.declared.fault.ToolFault.TheVariants.{SendFailed, ReceiveFailed, TurnsSpent, WriteFailed}
 
--- The faults after which the link has failed.
+-- The fault is the link's, which has failed then.
 abbrev pub is_link_fault : {A : Type 0} → Result A ToolFault → Bool
 is_link_fault (Ok x) = false
 is_link_fault (Err SendFailed) = true
@@ -11,7 +11,7 @@ is_link_fault (Err ReceiveFailed) = true
 is_link_fault (Err TurnsSpent) = false
 is_link_fault (Err WriteFailed) = false
 
--- The fault after which the writer has failed.
+-- The fault is the writer's, which has failed then.
 abbrev pub is_write_fault : {A : Type 0} → Result A ToolFault → Bool
 is_write_fault (Ok x) = false
 is_write_fault (Err SendFailed) = false

@@ -4,30 +4,34 @@ use Rattle.std.specs.Option.{ForSome, option_map}
 use Rattle.bac_pdu.specs.Peer.{Station}
 use Rattle.bac_links.specs.Told.{Told, Heard, after_wait, having_sent}
 
--- A wait of so long, and what it heard; a time that was asked for; a datagram that was sent, and one that could not be.
+-- One thing that a link was asked, with its answer: a wait of so long, and what it heard; the time; a datagram that was
+-- sent, or that could not be.
 pub data Entry : Type 0 where
   Waited : (wait : ℕ) (heard : Heard) → Entry
   Timed : (time : ℕ) → Entry
   Posted : (to : Station) (octets : List ℕ) → Entry
   Unposted : (to : Station) (octets : List ℕ) → Entry
 
--- What a link tells that told this before.
+-- What a link that told this before tells, once all of this was asked and answered.
 abbrev pub told_after : List Entry → Told → Told
 told_after [] t = t
 told_after (Waited wait heard ∷ later) t = told_after later (after_wait wait t)
 told_after (Timed time ∷ later) t = told_after later t
-told_after (Posted to octets ∷ later) t = told_after later (having_sent (record { time = t.time []; to = to; octets = octets } ∷ []) t)
+told_after (Posted to octets ∷ later) t =
+    told_after later (having_sent (record { time = t.time []; to = to; octets = octets } ∷ []) t)
 told_after (Unposted to octets ∷ later) t = told_after later t
 
--- All of this came as it is told.
+-- What was asked was answered as the link told.
 abbrev pub Foretells : List Entry → Told → Type 0
 Foretells [] t = ⊤
 Foretells (Waited wait heard ∷ later) t = (t.heard [] wait ≡ heard) × Foretells later (after_wait wait t)
 Foretells (Timed time ∷ later) t = (time ≡ t.time []) × Foretells later t
-Foretells (Posted to octets ∷ later) t = Foretells later (having_sent (record { time = t.time []; to = to; octets = octets } ∷ []) t)
+Foretells (Posted to octets ∷ later) t =
+    Foretells later (having_sent (record { time = t.time []; to = to; octets = octets } ∷ []) t)
 Foretells (Unposted to octets ∷ later) t = Foretells later t
 
--- A link: what it tells of what comes, where it knows this, and all that it was asked and answered.
+-- What contracts see of a link: what it tells of what comes, where it knows this, and all that it was asked and
+-- answered.
 pub record Account : Type 0 where
   pub foretold : Option Told
   pub history : List Entry
@@ -36,24 +40,26 @@ pub record Account : Type 0 where
 abbrev pub remembering : List Entry → Account
 remembering entries = record { foretold = None; history = entries }
 
--- The link after all of this.
+-- The account of a link after these entries too.
 abbrev pub gaining : List Entry → Account → Account
-gaining gained account = record { foretold = option_map (told_after gained) account.foretold; history = account.history ++ gained }
+gaining gained account =
+    record { foretold = option_map (told_after gained) account.foretold; history = account.history ++ gained }
 
--- A link gains these entries, which are what it told.
+-- The account of a link gains these entries, and they are what it told.
 abbrev pub GainsAll : List Entry → Account → Account → Type 0
 GainsAll gained before after = (after ≡ gaining gained before) × ForSome before.foretold (Foretells gained)
 
 abbrev pub Gains : Entry → Account → Account → Type 0
 Gains entry = GainsAll (entry ∷ [])
 
--- How a send is kept.
+-- The entry of a send with this result.
 abbrev pub posted : {A E : Type 0} → Result A E → Station → List ℕ → Entry
 posted (Ok x) = Posted
 posted (Err e) = Unposted
 
--- What holds of a link before and after some calls, whatever it knew. Its history gained some entries. There is a t that tells them, and this
--- holds of the entries and each t that does; so of what the link told, where it told what comes.
+-- What holds of a link before and after some calls, whatever it knew. Its history gained some entries. There is a t
+-- that tells them, and this holds of the entries and each t that does; so of what the link told, where it told what
+-- comes.
 pub record Over (before after : Account) (P : List Entry → Told → Type 0) : Type 0 where
   pub gained : List Entry
   pub gains : GainsAll gained before after

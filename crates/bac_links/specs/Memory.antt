@@ -1,5 +1,6 @@
 -- What a link in memory tells.
-use Rattle.std.specs.Prelude.{ℕ, ◌+◌, ◌-◌, ◌^◌, min, List, [], ◌∷◌, map, length, nat_le, if◌then◌else◌, Option, Some, None}
+use Rattle.std.specs.Prelude.{ℕ, ◌+◌, ◌-◌, ◌^◌, min, List, [], ◌∷◌, map, length, nat_le, if◌then◌else◌, Option, Some}
+use Rattle.std.specs.Prelude.{None}
 use Rattle.bac_pdu.specs.Peer.{Station, station}
 use Rattle.bac_links.specs.Limits.{longest_datagram}
 use Rattle.bac_links.specs.Told.{Told, Heard, Silence, Arrival, Failure, Sending}
@@ -11,7 +12,7 @@ use Rattle.bac_links.specs.declared.memory.Kept.TheVariants as kept
 use Rattle.bac_links.specs.declared.memory.Record.{Record}
 use Rattle.bac_links.specs.declared.memory.MemoryLink.{MemoryLink}
 
--- What one receive hears, and the time then.
+-- What one receive of a link in memory hears, and the time then.
 pub data Scene : Type 0 where
   Still : (time : ℕ) → Scene
   Comes : (time : ℕ) (from : Station) (octets : List ℕ) → Scene
@@ -34,16 +35,17 @@ unrouted peer = record { ip = peer.ip; port = peer.port; route = None }
 -- A datagram comes from an address and a port, and is not heard where no receive can hold it.
 abbrev pub heard_at : Scene → Heard
 heard_at (Still time) = Silence
-heard_at (Comes time from octets) = if nat_le (length octets) longest_datagram then Arrival (unrouted from) octets else Silence
+heard_at (Comes time from octets) =
+    if nat_le (length octets) longest_datagram then Arrival (unrouted from) octets else Silence
 heard_at Breaks = Failure
 
--- A receive that fails leaves the time.
+-- The time once a scene is heard. A receive that fails leaves the time as it was.
 abbrev pub time_at : Scene → ℕ → ℕ
 time_at (Still time) now = time
 time_at (Comes time from octets) now = time
 time_at Breaks now = now
 
--- Each wait takes one scene, and once there is none it hears nothing.
+-- What the next wait hears after these waits: each took one scene, and once there is none nothing is heard.
 abbrev pub heard_after : List Scene → List ℕ → Heard
 heard_after [] waits = Silence
 heard_after (scene ∷ scenes) [] = heard_at scene
@@ -69,7 +71,7 @@ sending_of r = record { time = r.time; to = station r.to; octets = r.octets.item
 abbrev pub told_of : {A : Type 0} → MemoryLink A → Told
 told_of link = told_by (map scene_of_kept link.steps.items) link.time (map sending_of link.sent.items)
 
--- And all that it was asked and answered.
+-- What a link in memory tells, and all that it was asked and answered.
 abbrev pub account_of : {A : Type 0} → MemoryLink A → Account
 account_of link = record { foretold = Some (told_of link); history = link.history.entries }
 

@@ -1,16 +1,18 @@
--- A search for devices over what its link tells: what it sends, which devices it finds, what it prints, and when it ends.
-use Rattle.std.specs.Prelude.{◌≡◌, ℕ, zero, suc, ◌-◌, ◌<◌, nat_le, max, ◌==◌, Bool, true, false, List, [], ◌∷◌, ◌++◌, decimal, if◌then◌else◌, Option, Some, None, Result, Ok, Err}
+-- A search for devices over what its link tells: what it sends, which devices it finds, what it prints, and when it
+-- ends.
+use Rattle.std.specs.Prelude.{◌≡◌, ℕ, zero, suc, ◌-◌, ◌<◌, nat_le, max, ◌==◌, Bool, true, false, List, [], ◌∷◌, ◌++◌}
+use Rattle.std.specs.Prelude.{decimal, if◌then◌else◌, Option, Some, None, Result, Ok, Err}
 use Rattle.std.specs.Option.{option_to_list, option_and_then}
 use Rattle.std.specs.List.{flat_map}
 use Rattle.bac_text.specs.declared.checked.Checked.{Checked}
 use Rattle.bac_text.specs.Checked.{Took}
 use Rattle.bac_pdu.specs.declared.discovery.WhoIs.{WhoIs}
 use Rattle.bac_pdu.specs.Peer.{Station, station}
-use Rattle.bac_pdu.specs.Apdu.{Message, laid_out, confirmed, unconfirmed, simple_ack, complex_ack, segment_ack, error, reject, abort}
+use Rattle.bac_pdu.specs.Apdu.{Message, laid_out, confirmed, unconfirmed}
 use Rattle.bac_pdu.specs.ApduReading.{apdu_of}
 use Rattle.bac_pdu.specs.Datagram.{Delivery, wrapped}
 use Rattle.bac_pdu.specs.DatagramReading.{carried}
-use Rattle.bac_pdu.specs.Discovery.{Introduction, asks, introduction, who_is_octets}
+use Rattle.bac_pdu.specs.Discovery.{Introduction, asks, who_is_octets}
 use Rattle.bac_pdu.specs.ValueReading.{introduction_of}
 use Rattle.bac_text.specs.PeerTexts.{peer_text}
 use Rattle.bac_links.specs.Limits.{most_turns, turn_wait}
@@ -22,15 +24,11 @@ use Rattle.bac_links.specs.declared.ending.Exit.TheVariants.{Good, Bad}
 use Rattle.bac_links.specs.declared.fault.ToolFault.{ToolFault}
 use Rattle.bac_links.specs.declared.fault.ToolFault.TheVariants.{SendFailed, ReceiveFailed, TurnsSpent, WriteFailed}
 use Rattle.bac_text.specs.declared.jobs.Search.{Search}
-use Rattle.bac_links.specs.declared.search.Found.{Found as Finding}
 
 -- A device that introduced itself, and where it is.
 pub record Found : Type 0 where
   pub peer : Station
   pub device : Introduction
-
-abbrev pub found_seen : Finding → Found
-found_seen found = record { peer = station found.peer; device = introduction found.device }
 
 -- A Who-Is (8) to this peer (clause 16.10).
 abbrev pub who_is_datagram : Station → WhoIs → List ℕ
@@ -40,20 +38,18 @@ who_is_datagram to who = wrapped to.route false (laid_out (unconfirmed 8 (who_is
 abbrev pub introduced_in : Message → Option Introduction
 introduced_in (confirmed part code id service body) = None
 introduced_in (unconfirmed service body) = if service == 0 then introduction_of body else None
-introduced_in (simple_ack id service) = None
-introduced_in (complex_ack part id service body) = None
-introduced_in segment_ack = None
-introduced_in (error id service body) = None
-introduced_in (reject id reason) = None
-introduced_in (abort server id reason) = None
+introduced_in _ = None
 
--- The device, if it is one that was asked for.
+-- The device, where it is one that was asked for; else none.
 abbrev pub if_asked : WhoIs → Station → Introduction → Option Found
-if_asked who peer device = if asks who device.device.instance then Some (record { peer = peer; device = device }) else None
+if_asked who peer device =
+    if asks who device.device.instance then Some (record { peer = peer; device = device }) else None
 
 -- The device that introduces itself in what a datagram carries.
 abbrev pub found_in : WhoIs → Delivery → Option Found
-found_in who delivery = option_and_then (λ message. option_and_then (if_asked who delivery.peer) (introduced_in message)) (apdu_of delivery.apdu)
+found_in who delivery =
+    option_and_then (λ message. option_and_then (if_asked who delivery.peer) (introduced_in message))
+    (apdu_of delivery.apdu)
 
 -- The device that introduces itself in a datagram, where it is one that was asked for.
 unfoldable pub found_of : WhoIs → Station → List ℕ → Option Found
@@ -70,7 +66,9 @@ abbrev pub found_line : Found → List ℕ
 found_line found =
     decimal found.device.device.instance
     ++ 32 ∷ (peer_text found.peer
-    ++ 32 ∷ (decimal found.device.max_apdu ++ 32 ∷ (decimal found.device.segmentation ++ 32 ∷ (decimal found.device.vendor ++ 10 ∷ []))))
+    ++ 32 ∷ (decimal found.device.max_apdu
+    ++ 32 ∷ (decimal found.device.segmentation
+    ++ 32 ∷ (decimal found.device.vendor ++ 10 ∷ []))))
 
 abbrev pub found_lines : List Found → List ℕ
 found_lines = flat_map found_line
@@ -79,7 +77,7 @@ abbrev pub has_found : List Found → Bool
 has_found [] = false
 has_found (found ∷ later) = true
 
--- It is good to have found a device.
+-- The exit of a search: good where a device was found.
 abbrev pub search_exit : List Found → Exit
 search_exit found = if has_found found then Good else Bad
 
@@ -115,10 +113,12 @@ search_waits search t n = Waited (search_wait search) (search_hears search t n)
 abbrev pub search_time : Search → Told → ℕ → Entry
 search_time search t n = Timed ((waited (search_wait search) n t).time [])
 
--- What is asked and answered in n turns: the time first, and then the Who-Is is sent; in each turn a wait, and the time.
+-- What is asked and answered in n turns: the time first, and then the Who-Is is sent; in each turn a wait, and the
+-- time.
 abbrev pub search_entries : Search → Told → ℕ → List Entry
 search_entries search t zero = search_time search t zero ∷ Posted (station search.to) (who_is_to search) ∷ []
-search_entries search t (suc n) = search_entries search t n ++ search_waits search t n ∷ search_time search t (suc n) ∷ []
+search_entries search t (suc n) =
+    search_entries search t n ++ search_waits search t n ∷ search_time search t (suc n) ∷ []
 
 -- The time is up after n turns.
 abbrev pub is_late : Search → Told → ℕ → Bool
@@ -134,7 +134,7 @@ pub record SearchEnds (search : Search) (t : Told) (gained : List Entry) (found 
 abbrev pub SearchUnsent : Search → Told → List Entry → Type 0
 SearchUnsent search t gained = gained ≡ search_time search t zero ∷ Unposted (station search.to) (who_is_to search) ∷ []
 
--- Turn n failed to receive.
+-- The receive of turn n failed.
 pub record SearchFails (search : Search) (t : Told) (gained : List Entry) (found : List Found) (n : ℕ) : Type 0 where
   pub stops : FailsAfter (search_hears search t) (is_late search t) n
   pub finds : found ≡ found_after search t n
@@ -148,25 +148,30 @@ pub record SearchSpent (search : Search) (t : Told) (gained : List Entry) (found
   pub history : gained ≡ search_entries search t n
 
 -- The line of the last of these devices, which turn n found, could not be written whole.
-pub record SearchStops (search : Search) (t : Told) (gained : List Entry) (found : List Found) (last : Found) (n : ℕ) : Type 0 where
+pub record SearchStops (search : Search) (t : Told) (gained : List Entry) (found : List Found) (last : Found)
+    (n : ℕ) : Type 0 where
   pub within : n < most_turns
   pub before : GoesOn (search_hears search t) (is_late search t) n
   pub finds : found ≡ found_after search t n
   pub heard : found_by search.who (search_hears search t n) ≡ last ∷ []
   pub history : gained ≡ search_entries search t n ++ search_waits search t n ∷ []
 
--- What a search prints, answers, and asks of its link: the lines of the devices that were found, each whole before the next
--- wait; of the last one a front, where the writer failed.
-abbrev pub Searched : {W : Type 0} → Search → (W → Option (List ℕ)) → Checked W → Checked W → Account → Account → Result Exit ToolFault → Type 0
+-- What a search prints, answers, and asks of its link: the lines of the devices that were found, each whole before the
+-- next wait; of the last one a front, where the writer failed.
+abbrev pub Searched : {W : Type 0} → Search → (W → Option (List ℕ)) → Checked W → Checked W → Account → Account
+    → Result Exit ToolFault → Type 0
 Searched search contents before after told left (Ok exit) =
     (found : List Found) × (exit ≡ search_exit found) × Took contents before after (found_lines found)
     × Over told left (λ gained t. (n : ℕ) × SearchEnds search t gained found n)
 Searched search contents before after told left (Err SendFailed) =
     Took contents before after [] × Over told left (λ gained t. SearchUnsent search t gained)
 Searched search contents before after told left (Err ReceiveFailed) =
-    (found : List Found) × Took contents before after (found_lines found) × Over told left (λ gained t. (n : ℕ) × SearchFails search t gained found n)
+    (found : List Found) × Took contents before after (found_lines found)
+    × Over told left (λ gained t. (n : ℕ) × SearchFails search t gained found n)
 Searched search contents before after told left (Err TurnsSpent) =
-    (found : List Found) × Took contents before after (found_lines found) × Over told left (λ gained t. (n : ℕ) × SearchSpent search t gained found n)
+    (found : List Found) × Took contents before after (found_lines found)
+    × Over told left (λ gained t. (n : ℕ) × SearchSpent search t gained found n)
 Searched search contents before after told left (Err WriteFailed) =
     (found : List Found) × (last : Found) × (taken rest : List ℕ) × (found_line last ≡ taken ++ rest)
-    × Took contents before after (found_lines found ++ taken) × Over told left (λ gained t. (n : ℕ) × SearchStops search t gained found last n)
+    × Took contents before after (found_lines found ++ taken)
+    × Over told left (λ gained t. (n : ℕ) × SearchStops search t gained found last n)

@@ -1,4 +1,5 @@
--- What a link tells before it is asked: what each wait will hear and what the time will be then, by the waits; and what it sent.
+-- What a link tells before it is asked: what each wait will hear and what the time will be then, by the waits; and what
+-- it sent.
 use Rattle.std.specs.Prelude.{ℕ, zero, suc, List, ◌∷◌, ◌++◌, Option, Result, Some, None, Ok, Err}
 use Rattle.bac_pdu.specs.declared.peer.Peer.{Peer}
 use Rattle.bac_pdu.specs.Peer.{Station, station}
@@ -16,13 +17,13 @@ pub record Sending : Type 0 where
   pub to : Station
   pub octets : List ℕ
 
--- What the next wait hears after these earlier ones, the time after these waits, and what was sent so far.
+-- What the next wait hears after these earlier ones, what the time is after these waits, and what was sent so far.
 pub record Told : Type 0 where
   pub heard : List ℕ → ℕ → Heard
   pub time : List ℕ → ℕ
   pub sent : List Sending
 
--- The link once it waited this long.
+-- What a link tells once it waited this long.
 abbrev pub after_wait : ℕ → Told → Told
 after_wait wait t = record {
   heard = λ waits. t.heard (wait ∷ waits);
@@ -30,12 +31,12 @@ after_wait wait t = record {
   sent = t.sent;
 }
 
--- The link once it waited n times, always as long.
+-- What a link tells once it waited n times, each time as long.
 abbrev pub waited : ℕ → ℕ → Told → Told
 waited wait zero t = t
 waited wait (suc n) t = after_wait wait (waited wait n t)
 
--- The link once it sent these too.
+-- What a link tells once it sent these too.
 abbrev pub having_sent : List Sending → Told → Told
 having_sent more t = record { heard = t.heard; time = t.time; sent = t.sent ++ more }
 

@@ -1,23 +1,23 @@
 //! One request to one peer, and its end.
-ghost use Rattle.std.specs.Prelude.{◌≡◌, ◌≢◌, ◌<◌, ℕ, suc, false, is_err, [], ◌∷◌, ◌++◌, Bool, List, Option, Some, MatchOption, IfOk, IfErr, OnOk, map};
-ghost use Rattle.std.specs.Option.{option_map, option_to_list};
-ghost use Rattle.bac_pdu.specs.Peer.{station};
-ghost use Rattle.bac_tsm.specs.Events.{Outcome as How, Tick};
+ghost use Rattle.std.specs.Prelude.{◌≡◌, ◌≢◌, ◌<◌, ℕ, suc, false, [], ◌∷◌, MatchOption, IfOk, IfErr, OnOk};
+ghost use Rattle.std.specs.Option.{option_map};
+ghost use Rattle.bac_tsm.specs.Events.{Tick};
 ghost use Rattle.bac_tsm.specs.Machine.{step, sent};
 ghost use Rattle.bac_tsm.specs.Client.{rules_of, keeping, outcome_seen};
-ghost use Rattle.bac_text.specs.Checked.{has_failed, Puts};
+ghost use Rattle.bac_text.specs.Checked.{has_failed};
 ghost use Rattle.bac_links.specs.Limits.{most_turns, turn_wait};
 ghost use Rattle.bac_links.specs.Told.{Heard, Failure};
 ghost use Rattle.bac_links.specs.History.{Waited, Timed, Account, Gains, GainsAll, Over};
 ghost use Rattle.bac_links.specs.Fault.{is_link_fault, is_write_fault};
-ghost use Rattle.bac_links.specs.Ending.{ending_seen, ending_line, exit_of};
+ghost use Rattle.bac_links.specs.Inner.Ending.{ending_seen};
 ghost use Rattle.bac_links.specs.Call.{posts, wait_of, EndsIn, FailsToSend, Tells, ReadTells, WriteTells};
-ghost use Rattle.bac_links.specs.CallSteps.{endings, GainsLost, heard_step, IsAlone, timeouts, answers, Underway, TurnFails};
-ghost use Rattle.bac_links.specs.declared.ending.Tool.{Tool as Purpose};
+ghost use Rattle.bac_links.specs.Inner.CallSteps.{endings, GainsLost, heard_step, IsAlone, timeouts, answers, Underway};
+ghost use Rattle.bac_links.specs.Inner.CallSteps.{TurnFails};
+ghost use Rattle.bac_links.specs.declared.ending.Purpose.{Purpose};
 ghost use Rattle.bac_text.specs.declared.jobs.Call.{Call as Asked};
 
 use crate::datagram::Datagram;
-use crate::ending::{Ending, Exit, Tool, show_ending};
+use crate::ending::{Ending, Exit, Purpose, show_ending};
 use crate::fault::ToolFault;
 use crate::link::Link;
 use bac_text::{Call, Checked};
@@ -66,10 +66,15 @@ fn hear<'d, L: Link>(
 ) -> Result<Option<Outcome<'d>>, ToolFault>
     requires { L.has_failed link.old ≡ false }
     ensures fault { L.has_failed link.new ≡ is_link_fault result }
-    ensures ok { IfOk result (λ outcome. (heard : Heard) × Gains (Waited wait_ms heard) (L.told link.old) (L.told link.new) × (heard ≢ Failure)
+    ensures ok { IfOk result
+        (λ outcome. (heard : Heard) × Gains (Waited wait_ms heard) (L.told link.old) (L.told link.new)
+        × (heard ≢ Failure)
         × (let handed = heard_step (rules_of client.old) client.old.state heard in
-        (endings handed.notes ≡ answers (option_map outcome_seen outcome)) × (client.new ≡ keeping client.old handed.after))) }
-    ensures err { IfErr result (λ fault. (fault ≡ ToolFault.ReceiveFailed) × Gains (Waited wait_ms Failure) (L.told link.old) (L.told link.new)) }
+        (endings handed.notes ≡ answers (option_map outcome_seen outcome))
+        × (client.new ≡ keeping client.old handed.after))) }
+    ensures err { IfErr result
+        (λ fault. (fault ≡ ToolFault.ReceiveFailed)
+        × Gains (Waited wait_ms Failure) (L.told link.old) (L.told link.new)) }
 {
     match link.receive(wait_ms, datagram) {
         Ok(Some(from)) => match client.datagram(from, datagram.as_slice()) {
@@ -113,14 +118,16 @@ fn turn<'d, L: Link>(
 ) -> Result<Option<Ending<'d>>, ToolFault>
     requires { L.has_failed link.old ≡ false }
     ensures fault { L.has_failed link.new ≡ is_link_fault result }
-    ensures ok { IfOk result (λ ending. (tool : Purpose) (call : Asked) (told : Account) (n : ℕ) → wait_ms ≡ wait_of call →
-        Over told (L.told link.old) (λ gained t. Underway tool call t gained client.old n) →
-        MatchOption ending (Over told (L.told link.new) (λ gained t. Underway tool call t gained client.new (suc n)))
-        (λ end. n < most_turns → Over told (L.told link.new) (λ gained t. EndsIn tool call t gained (ending_seen end) n))) }
+    ensures ok { IfOk result
+        (λ ending. (purpose : Purpose) (call : Asked) (told : Account) (n : ℕ) → wait_ms ≡ wait_of call →
+        Over told (L.told link.old) (λ gained t. Underway purpose call t gained client.old n) →
+        MatchOption ending (Over told (L.told link.new) (λ gained t. Underway purpose call t gained client.new (suc n)))
+        (λ end. n < most_turns
+        → Over told (L.told link.new) (λ gained t. EndsIn purpose call t gained (ending_seen end) n))) }
     ensures err { IfErr result (λ fault. (fault ≢ ToolFault.WriteFailed)
-        × ((tool : Purpose) (call : Asked) (told : Account) (n : ℕ) → wait_ms ≡ wait_of call →
-        Over told (L.told link.old) (λ gained t. Underway tool call t gained client.old n) → n < most_turns →
-        Over told (L.told link.new) (λ gained t. TurnFails tool call t gained fault))) }
+        × ((purpose : Purpose) (call : Asked) (told : Account) (n : ℕ) → wait_ms ≡ wait_of call →
+        Over told (L.told link.old) (λ gained t. Underway purpose call t gained client.old n) → n < most_turns →
+        Over told (L.told link.new) (λ gained t. TurnFails purpose call t gained fault))) }
 {
     match hear(client, link, wait_ms, datagram) {
         Ok(Some(outcome)) => Ok(Some(Ending::Answered(outcome))),
@@ -134,13 +141,14 @@ fn turn<'d, L: Link>(
 }
 
 // Asks for what the call is for.
-fn begin<L: Link>(tool: Tool, call: &Call, link: &mut L) -> Result<Client, ToolFault>
+fn begin<L: Link>(purpose: Purpose, call: &Call, link: &mut L) -> Result<Client, ToolFault>
     requires sound { L.has_failed link.old ≡ false }
     requires timeout { 0 < call.now.timeout }
     ensures fault { L.has_failed link.new ≡ is_link_fault result }
-    ensures ok { IfOk result (λ client. Over (L.told link.old) (L.told link.new) (λ gained t. Underway tool call.now t gained client 0)) }
+    ensures ok { IfOk result
+        (λ client. Over (L.told link.old) (L.told link.new) (λ gained t. Underway purpose call.now t gained client 0)) }
     ensures err { IfErr result (λ fault. (fault ≡ ToolFault.SendFailed)
-        × Over (L.told link.old) (L.told link.new) (λ gained t. FailsToSend tool call.now t gained 0)) }
+        × Over (L.told link.old) (L.told link.new) (λ gained t. FailsToSend purpose call.now t gained 0)) }
 {
     let config = Config {
         timeout: call.timeout,
@@ -149,7 +157,7 @@ fn begin<L: Link>(tool: Tool, call: &Call, link: &mut L) -> Result<Client, ToolF
     let mut client = Client::new(config, 0);
     let _ = client.tick(link.now());
     let ticket = client
-        .submit(call.to, tool.service(), call.body.as_slice())
+        .submit(call.to, purpose.service(), call.body.as_slice())
         .unwrap();
     send_request(&client, ticket, link)?;
     Ok(client)
@@ -157,7 +165,7 @@ fn begin<L: Link>(tool: Tool, call: &Call, link: &mut L) -> Result<Client, ToolF
 
 // Makes the call's request, waits for its end, and prints how it ended.
 fn run<L: Link, W: Write>(
-    tool: Tool,
+    purpose: Purpose,
     call: &Call,
     link: &mut L,
     writer: &mut Checked<W>,
@@ -167,28 +175,29 @@ fn run<L: Link, W: Write>(
     requires timeout { 0 < call.now.timeout }
     ensures link_fault { L.has_failed link.new ≡ is_link_fault result }
     ensures write_fault { has_failed writer.new ≡ is_write_fault result }
-    ensures told { Tells tool call.now W.contents writer.old writer.new (L.told link.old) (L.told link.new) result }
+    ensures told { Tells purpose call.now W.contents writer.old writer.new (L.told link.old) (L.told link.new) result }
     ensures unprinted { IfErr result (λ fault. fault ≢ ToolFault.WriteFailed → writer.new ≡ writer.old) }
 {
-    let mut client = begin(tool, call, link)?;
+    let mut client = begin(purpose, call, link)?;
     let wait_ms = turn_wait(call.timeout);
     let mut datagram = Datagram::new();
     for _turn in 0..most_turns() {
         if let Some(ending) = turn(&mut client, link, wait_ms, &mut datagram)? {
-            return show_ending(tool, ending, writer);
+            return show_ending(purpose, ending, writer);
         }
     }
     Err(ToolFault::TurnsSpent)
 }
 
 /// Reads a property (clause 15.5): sends the request, waits for how it ends, and prints that in a line, as `4290999a`,
-/// `error 2 32` or `timeout`. It is good to have read a value. What the answer says of the object and the property is not
-/// compared with what was asked.
+/// `error 2 32` or `timeout`. It is good to have read a value. What the answer says of the object and the property is
+/// not compared with what was asked.
 ///
 /// # Errors
 ///
-/// `SendFailed` and `ReceiveFailed` where the link failed so, and `TurnsSpent` where the request is open after 65,536 turns;
-/// nothing was printed then. `WriteFailed` where the writer failed or took no octet; a front of the line was printed then.
+/// `SendFailed` and `ReceiveFailed` where the link failed so, and `TurnsSpent` where the request is open after 65,536
+/// turns; nothing was printed then. `WriteFailed` where the writer failed or took no octet; a front of the line was
+/// printed then.
 pub fn run_read<L: Link, W: Write>(
     call: &Call,
     link: &mut L,
@@ -202,10 +211,11 @@ pub fn run_read<L: Link, W: Write>(
     ensures told { ReadTells call.now W.contents writer.old writer.new (L.told link.old) (L.told link.new) result }
     ensures unprinted { IfErr result (λ fault. fault ≢ ToolFault.WriteFailed → writer.new ≡ writer.old) }
 {
-    run(Tool::Reading, call, link, writer)
+    run(Purpose::Reading, call, link, writer)
 }
 
-/// Writes a property (clause 15.9): the same, and where it was written the line is `ok`, which is good.
+/// Writes a property (clause 15.9): sends the request, waits for how it ends, and prints that in a line, as `ok`,
+/// `error 2 40` or `timeout`. `ok` is good: the property was written.
 ///
 /// # Errors
 ///
@@ -223,5 +233,5 @@ pub fn run_write<L: Link, W: Write>(
     ensures told { WriteTells call.now W.contents writer.old writer.new (L.told link.old) (L.told link.new) result }
     ensures unprinted { IfErr result (λ fault. fault ≢ ToolFault.WriteFailed → writer.new ≡ writer.old) }
 {
-    run(Tool::Writing, call, link, writer)
+    run(Purpose::Writing, call, link, writer)
 }

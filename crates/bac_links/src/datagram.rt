@@ -40,7 +40,8 @@ impl Datagram {
         self.octets.as_slice()
     }
 
-    /// Puts these octets in place of those that are there. False, with nothing changed, only where there are more than 2,047.
+    /// Puts these octets in place of those that are there. False, with nothing changed, only where there are more than
+    /// 2,047.
     pub fn set(&mut self, octets: &[u8]) -> bool
         ensures fits { IsTrue result ↔ (length octets.now ≤ longest_datagram) }
         ensures held { result ≡ true → self.new ≡ octets.now }

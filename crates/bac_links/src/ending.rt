@@ -4,7 +4,8 @@ ghost use Rattle.bac_text.specs.Checked.{has_failed, Puts};
 ghost use Rattle.bac_text.specs.Page.{Prints};
 ghost use Rattle.bac_links.specs.Call.{service_of};
 ghost use Rattle.bac_pdu.specs.PropertyReading.{ack_of};
-ghost use Rattle.bac_links.specs.Ending.{ending_seen, ending_text, ending_line, exit_of, status_of, value_text};
+ghost use Rattle.bac_links.specs.Ending.{ending_text, ending_line, exit_of, status_of, value_text};
+ghost use Rattle.bac_links.specs.Inner.Ending.{ending_seen};
 
 use crate::fault::ToolFault;
 use bac_outcomes::print_outcome;
@@ -24,7 +25,7 @@ pub enum Exit {
 
 /// What a call is for.
 #[derive(Clone, Copy)]
-pub(crate) enum Tool {
+pub(crate) enum Purpose {
     Reading,
     Writing,
 }
@@ -36,14 +37,14 @@ pub(crate) enum Ending<'d> {
     TimedOut,
 }
 
-impl Tool {
+impl Purpose {
     /// The service of the request.
     pub(crate) fn service(self) -> u8
         ensures { result ≡ service_of self }
     {
         match self {
-            Tool::Reading => READ_PROPERTY,
-            Tool::Writing => WRITE_PROPERTY,
+            Purpose::Reading => READ_PROPERTY,
+            Purpose::Writing => WRITE_PROPERTY,
         }
     }
 }
@@ -51,33 +52,33 @@ impl Tool {
 /// Prints the line that tells how the request ended.
 #[tactic(auto, unfolding(bac_text::specs::Page::Wrote))]
 pub(crate) fn show_ending<W: Write>(
-    tool: Tool,
+    purpose: Purpose,
     ending: Ending<'_>,
     writer: &mut Checked<W>,
 ) -> Result<Exit, ToolFault>
     requires { has_failed writer.old ≡ false }
-    ensures text { Puts W.contents writer.old writer.new (ending_line tool (ending_seen ending.entry)) result }
+    ensures text { Puts W.contents writer.old writer.new (ending_line purpose (ending_seen ending.entry)) result }
     ensures failed { has_failed writer.new ≡ is_err result }
-    ensures exit { IfOk result (λ exit. exit ≡ exit_of tool (ending_seen ending.entry)) }
+    ensures exit { IfOk result (λ exit. exit ≡ exit_of purpose (ending_seen ending.entry)) }
     ensures fault { IfErr result (λ fault. fault ≡ ToolFault.WriteFailed) }
 {
     let mut page = Page::new(writer);
-    let exit = print_ending(&mut page, tool, ending);
+    let exit = print_ending(&mut page, purpose, ending);
     page.print(b"\n");
     page.finish()?;
     Ok(exit)
 }
 
 // Prints how the request ended, and tells whether that is good.
-fn print_ending<W: Write>(page: &mut Page<'_, W>, tool: Tool, ending: Ending<'_>) -> Exit
-    ensures text { Prints W.contents page.old page.new (ending_text tool (ending_seen ending.entry)) }
-    ensures exit { result ≡ exit_of tool (ending_seen ending.entry) }
+fn print_ending<W: Write>(page: &mut Page<'_, W>, purpose: Purpose, ending: Ending<'_>) -> Exit
+    ensures text { Prints W.contents page.old page.new (ending_text purpose (ending_seen ending.entry)) }
+    ensures exit { result ≡ exit_of purpose (ending_seen ending.entry) }
 {
-    match (tool, ending) {
-        (Tool::Reading, Ending::Answered(Outcome::Complex(body))) => {
+    match (purpose, ending) {
+        (Purpose::Reading, Ending::Answered(Outcome::Complex(body))) => {
             return print_value(page, body);
         }
-        (Tool::Writing, Ending::Answered(Outcome::Simple)) => {
+        (Purpose::Writing, Ending::Answered(Outcome::Simple)) => {
             page.print(b"ok");
             return Exit::Good;
         }

@@ -20,8 +20,8 @@ impl Model for History {
     ghost also_owns = { λ _. ftrue };
 }
 
-/// One call of a link, with its answer: a wait of so many milliseconds that heard nothing, or a datagram, or failed; the time; a datagram
-/// that was sent, or could not be.
+/// One call of a link, with its answer: a wait of so many milliseconds that heard nothing, or a datagram, or failed;
+/// the time; a datagram that was sent, or could not be.
 #[derive(Clone, Copy, Drop)]
 pub(crate) enum Note<'a> {
     Quiet(u32),
@@ -33,7 +33,7 @@ pub(crate) enum Note<'a> {
 }
 
 impl History {
-    ghost use Rattle.bac_links.specs.Note.{noted};
+    ghost use Rattle.bac_links.specs.Inner.Note.{noted};
 
     /// Nothing was asked yet.
     pub fn new() -> History
@@ -42,14 +42,14 @@ impl History {
         History {}
     }
 
-    /// The same, and this behind it.
+    /// The history, and this note behind it.
     pub fn and(&self, _note: &Note<'_>) -> History
         ensures { result.entries ≡ noted self.now.entries _note.now }
     {
         History {}
     }
 
-    /// And a wait of so long, that answered this and left these octets.
+    /// The history, and a wait of so long behind it, that answered this and left these octets.
     pub fn and_wait(
         &self,
         wait_ms: u32,
@@ -65,14 +65,14 @@ impl History {
         })
     }
 
-    /// And the time, which was asked for.
+    /// The history, and the time behind it, which was asked for.
     pub fn and_time(&self, time: u64) -> History
         ensures { result.entries ≡ self.now.entries ++ Timed time ∷ [] }
     {
         self.and(&Note::Time(time))
     }
 
-    /// And a send to there, that answered this.
+    /// The history, and a send to there behind it, that answered this.
     pub fn and_send(&self, sent: &Result<(), LinkFault>, to: Peer, octets: &[u8]) -> History
         ensures { result.entries ≡ self.now.entries ++ posted sent.now (station to) octets.now ∷ [] }
     {

@@ -1,7 +1,8 @@
-//! What holds of the definitions that the contracts cite: each such function has an empty body, and its clause is the law. And that `==` on
-//! the public types is that of their values.
+//! What holds of the definitions that the contracts cite: each such function has an empty body, and its clause is the
+//! law. And that `==` on the public types is that of their values.
 
-ghost use Rattle.std.specs.Prelude.{◌≡◌, ◌≢◌, ◌≤◌, ◌+◌, ◌*◌, ◌++◌, ◌↔◌, ℕ, suc, [], IfOk, IsTrue, List, Result, Ok, Err};
+ghost use Rattle.std.specs.Prelude.{◌≡◌, ◌≢◌, ◌≤◌, ◌+◌, ◌*◌, ◌++◌, ◌↔◌, ℕ, suc, [], IfOk, IsTrue, List, Result, Ok};
+ghost use Rattle.std.specs.Prelude.{Err};
 ghost use Rattle.bac_device.specs.Places.{Write as Change};
 ghost use Rattle.bac_device.specs.Device.{DeviceState, points_of, Holds};
 ghost use Rattle.bac_text.specs.declared.checked.Checked.{Checked};
@@ -14,7 +15,7 @@ ghost use Rattle.bac_links.specs.Call.{Tells};
 ghost use Rattle.bac_links.specs.Progress.{IsPrompt};
 ghost use Rattle.bac_links.specs.Search.{Searched};
 ghost use Rattle.bac_links.specs.Serve.{Serves};
-ghost use Rattle.bac_links.specs.declared.ending.Tool.{Tool};
+ghost use Rattle.bac_links.specs.declared.ending.Purpose.{Purpose};
 ghost use Rattle.bac_links.specs.declared.ending.Exit.{Exit as Ended};
 ghost use Rattle.bac_links.specs.declared.fault.ToolFault.{ToolFault as Fault};
 
@@ -26,67 +27,94 @@ use std::io::Write;
 
 /// However a server ends, and whatever its link is, the device has its info and its points as before.
 pub fn a_server_keeps_its_points()
-    ensures { (count : ℕ) (before after : DeviceState) (told left : Account) (result : Result ℕ Fault) (writes : List Change)
+    ensures { (count : ℕ) (before after : DeviceState) (told left : Account) (result : Result ℕ Fault)
+        (writes : List Change)
         → Serves count before after told left result → Holds before writes
         → (after.info ≡ before.info) × (points_of after ≡ points_of before) }
 {}
 
-/// No call waits for ever: where none of its turns took longer than so long, by the times that the link gave, it ends within the timeout
-/// and so long, for each time that the request is sent, of its first time (clause 5.4.4).
+/// No call waits for ever: where none of its turns took longer than so long, by the times that the link gave, it ends
+/// within the timeout and so long, for each time that the request is sent, of its first time (clause 5.4.4).
 pub fn a_call_ends_in_time<W: Write>()
-    ensures { (tool : Tool) (call : Call) (before after : Checked W) (told left : Account) (result : Result Ended Fault) (longest : ℕ)
-        → Tells tool call W.contents before after told left result
-        → Over told left (λ gained t. IsPrompt longest gained t → (told_after gained t).time [] ≤ t.time [] + suc call.retries * (call.timeout + longest)) }
+    ensures { (purpose : Purpose) (call : Call) (before after : Checked W) (told left : Account)
+        (result : Result Ended Fault) (longest : ℕ)
+        → Tells purpose call W.contents before after told left result
+        → Over told left
+        (λ gained t. IsPrompt longest gained t
+        → (told_after gained t).time [] ≤ t.time [] + suc call.retries * (call.timeout + longest)) }
 {}
 
 /// No call ends with an exit over a link, a socket or another, whose history gained nothing.
 pub fn no_call_ends_unheard<W: Write>()
-    ensures { (tool : Tool) (call : Call) (before after : Checked W) (told : Account) (exit : Ended) → Tells tool call W.contents before after told told (Ok exit) → ⊥ }
+    ensures { (purpose : Purpose) (call : Call) (before after : Checked W) (told : Account) (exit : Ended)
+        → Tells purpose call W.contents before after told told (Ok exit) → ⊥ }
 {}
 
-/// A call is a function of what it is for and of what its link answers. Two calls for the same, over any two links and into any two writers,
-/// that were answered alike, asked alike; and where neither writer failed, they ended alike and printed the same.
-pub fn a_call_is_a_function<W: Write>()
-    ensures { (tool : Tool) (call : Call) (before after other_before other_after : Checked W) (told left other_told other_left : Account) (result other : Result Ended Fault)
-        (gained other_gained : List Entry) → Tells tool call W.contents before after told left result
-        → Tells tool call W.contents other_before other_after other_told other_left other
-        → left.history ≡ told.history ++ gained → other_left.history ≡ other_told.history ++ other_gained → answers_of gained ≡ answers_of other_gained
+/// A call is a function of what it is for and of what its link answers. Two calls for the same, over any two links and
+/// into any two writers, that were answered alike, asked alike; and where neither writer failed, they ended alike and
+/// printed the same.
+pub fn a_call_is_a_function<V: Write, W: Write>()
+    ensures { (purpose : Purpose) (call : Call) (before after : Checked V) (other_before other_after : Checked W)
+        (told left other_told other_left : Account) (result other : Result Ended Fault)
+        (gained other_gained : List Entry)
+        → Tells purpose call V.contents before after told left result
+        → Tells purpose call W.contents other_before other_after other_told other_left other
+        → left.history ≡ told.history ++ gained → other_left.history ≡ other_told.history ++ other_gained
+        → answers_of gained ≡ answers_of other_gained
         → (gained ≡ other_gained) × (result ≢ Err Fault.WriteFailed → other ≢ Err Fault.WriteFailed → (result ≡ other)
-        × IfOk result (λ _. (text : List ℕ) × Took W.contents before after text × IfOk other (λ _. Took W.contents other_before other_after text))) }
+        × IfOk result (λ _. (text : List ℕ) × Took V.contents before after text
+        × IfOk other (λ _. Took W.contents other_before other_after text))) }
 {}
 
-/// A search is a function of what it is for and of what its link answers: as of a call.
-pub fn a_search_is_a_function<W: Write>()
-    ensures { (search : Search) (before after other_before other_after : Checked W) (told left other_told other_left : Account) (result other : Result Ended Fault)
-        (gained other_gained : List Entry) → Searched search W.contents before after told left result
+/// A search is a function of what it is for and of what its link answers, in the same sense as a call.
+pub fn a_search_is_a_function<V: Write, W: Write>()
+    ensures { (search : Search) (before after : Checked V) (other_before other_after : Checked W)
+        (told left other_told other_left : Account) (result other : Result Ended Fault)
+        (gained other_gained : List Entry)
+        → Searched search V.contents before after told left result
         → Searched search W.contents other_before other_after other_told other_left other
-        → left.history ≡ told.history ++ gained → other_left.history ≡ other_told.history ++ other_gained → answers_of gained ≡ answers_of other_gained
+        → left.history ≡ told.history ++ gained → other_left.history ≡ other_told.history ++ other_gained
+        → answers_of gained ≡ answers_of other_gained
         → (gained ≡ other_gained) × (result ≡ other)
-        × (result ≢ Err Fault.WriteFailed → (text : List ℕ) × Took W.contents before after text × Took W.contents other_before other_after text) }
+        × (result ≢ Err Fault.WriteFailed → (text : List ℕ) × Took V.contents before after text
+        × Took W.contents other_before other_after text) }
 {}
 
-/// Exits are the same where `==` says so.
+/// A server is a function of how many datagrams it is to answer, of the state of its device, and of what its link
+/// answers. Two servers of as many, over any two links and over devices in the same state, that were answered alike,
+/// asked and sent alike and ended alike; and afterwards the devices are in the same state.
+pub fn a_server_is_a_function()
+    ensures { (count : ℕ) (before after other_after : DeviceState) (told left other_told other_left : Account)
+        (result other : Result ℕ Fault) (writes : List Change) (gained other_gained : List Entry)
+        → Serves count before after told left result → Serves count before other_after other_told other_left other
+        → Holds before writes
+        → left.history ≡ told.history ++ gained → other_left.history ≡ other_told.history ++ other_gained
+        → answers_of gained ≡ answers_of other_gained
+        → (gained ≡ other_gained) × (result ≡ other) × (after ≡ other_after) }
+{}
+
+/// Exits are equal that are the same of the two.
 pub fn same_exit(exit: Exit, other: Exit) -> bool
     ensures { IsTrue result ↔ (exit ≡ other) }
 {
     exit == other
 }
 
-/// Faults of the tools are the same where `==` says so.
+/// Faults of the tools are equal that are the same of the four.
 pub fn same_fault(fault: ToolFault, other: ToolFault) -> bool
     ensures { IsTrue result ↔ (fault ≡ other) }
 {
     fault == other
 }
 
-/// All faults of links are the same, and `==` says so.
+/// There is but one fault of links, which is equal to itself.
 pub fn same_link_fault(link_fault: LinkFault, other: LinkFault) -> bool
     ensures { IsTrue result ↔ (link_fault ≡ other) }
 {
     link_fault == other
 }
 
-/// What becomes of a refused datagram is the same where `==` says so.
+/// What becomes of a refused datagram is equal where it is the same of the two.
 pub fn same_refused(refused: Refused, other: Refused) -> bool
     ensures { IsTrue result ↔ (refused ≡ other) }
 {

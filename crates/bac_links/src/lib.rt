@@ -1,4 +1,12 @@
 //! The tools over a link: what they send, print and answer is a function of what the link tells.
+//!
+//! A [`Link`] sends and receives datagrams and knows the time: [`UdpLink`] over a socket, [`MemoryLink`] in memory.
+//! [`run_read`] and [`run_write`] make one request and print how it ended, [`run_whois`] prints the devices that it
+//! finds, and [`serve`] answers for a device. [`status`] is the program's status after that. `specs/Call.antt`,
+//! `specs/Search.antt` and `specs/Serve.antt` say what each of them asks of its link; `specs/Told.antt` says what a
+//! link tells.
+//!
+//! Whole runs over links in memory, with what they send and print, are tests of `tool_trials` (`src/tests/links`).
 #![tactic(auto)]
 
 mod call;

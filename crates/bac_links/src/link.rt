@@ -15,7 +15,8 @@ pub struct LinkFault;
 
 /// What sends and receives datagrams, and knows the time. Once a send or a receive has failed, neither is called again.
 pub trait Link {
-    // What the link was asked and answered so far; and what it will hear, what its time will be, and what it sent, where it knows this.
+    // What the link was asked and answered so far; and what it will hear, what its time will be, and what it sent,
+    // where it knows this.
     ghost told: { Self → Account };
 
     // A send or a receive has failed.
@@ -33,7 +34,8 @@ pub trait Link {
         requires { has_failed self.old ≡ false }
         ensures fault { has_failed self.new ≡ is_err result }
         ensures plain { IfOk result (λ heard. IfSome heard (λ from. from.route ≡ None)) }
-        ensures kept { MatchResult result (λ heard. heard ≡ None → datagram.new ≡ datagram.old) (λ fault. datagram.new ≡ datagram.old) }
+        ensures kept { MatchResult result (λ heard. heard ≡ None → datagram.new ≡ datagram.old)
+            (λ fault. datagram.new ≡ datagram.old) }
         ensures told { Gains (Waited wait_ms (heard_by result datagram.new)) (told self.old) (told self.new) };
 
     /// The time in milliseconds.

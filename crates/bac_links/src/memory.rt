@@ -1,9 +1,11 @@
 //! A link in memory.
-ghost use Rattle.std.specs.Prelude.{◌≡◌, ◌++◌, ◌∷◌, [], false, length, map, IfOk, OnOk, OnErr, is_err, slice_get, IfSome, MatchResult, IsTrue, MatchOption, Some, None};
+ghost use Rattle.std.specs.Prelude.{◌≡◌, ◌++◌, ◌∷◌, [], false, length, map, IfOk, OnOk, OnErr, is_err, slice_get};
+ghost use Rattle.std.specs.Prelude.{IfSome, MatchResult, IsTrue, MatchOption, Some, None};
 ghost use Rattle.bac_pdu.specs.Peer.{station};
 ghost use Rattle.bac_links.specs.Told.{after_wait, heard_by};
 ghost use Rattle.bac_links.specs.History.{Waited, Timed, Gains, posted};
-ghost use Rattle.bac_links.specs.Memory.{told_of, account_of, told_by, fails_at, scene_of_step, scene_of_kept, sending_of, unrouted};
+ghost use Rattle.bac_links.specs.Memory.{told_of, account_of, told_by, fails_at, scene_of_step, scene_of_kept};
+ghost use Rattle.bac_links.specs.Memory.{sending_of, unrouted};
 
 use crate::datagram::Datagram;
 use crate::history::History;
@@ -39,8 +41,8 @@ struct Record<A: Allocator> {
     octets: Vec<u8, A>,
 }
 
-/// A link that hears the steps that it was made of, and records what it sends. Its time is 0 at first. Once all steps are
-/// heard, each wait passes in silence.
+/// A link that hears the steps that it was made of, and records what it sends. Its time is 0 at first. Once all steps
+/// are heard, each wait passes in silence.
 #[derive(Drop)]
 pub struct MemoryLink<A: Allocator = Global> {
     alloc: A,
@@ -130,7 +132,8 @@ fn without_route(peer: Peer) -> Peer
 impl<A: Allocator> MemoryLink<A> {
     /// The send with this number among those that succeeded, from 0, with its time.
     pub fn sent(&self, n: usize) -> Option<(u64, Peer, &[u8])>
-        ensures { MatchOption result (slice_get (told_of self.now).sent n ≡ None) (λ s. slice_get (told_of self.now).sent n
+        ensures { MatchOption result (slice_get (told_of self.now).sent n ≡ None)
+            (λ s. slice_get (told_of self.now).sent n
             ≡ Some (record { time = s.0; to = station s.1; octets = s.2.now })) }
     {
         let record = self.sent.get(n)?;
@@ -143,7 +146,8 @@ impl<A: Allocator> MemoryLink<A> {
         ensures fault { self.new.failed ≡ is_err result }
         ensures plain { IfOk result (λ heard. IfSome heard (λ from. from.route ≡ None)) }
         ensures heard { (told_of self.old).heard [] wait_ms ≡ heard_by result datagram.new }
-        ensures kept { MatchResult result (λ heard. heard ≡ None → datagram.new ≡ datagram.old) (λ fault. datagram.new ≡ datagram.old) }
+        ensures kept { MatchResult result (λ heard. heard ≡ None → datagram.new ≡ datagram.old)
+            (λ fault. datagram.new ≡ datagram.old) }
         ensures goes_on { told_of self.new ≡ after_wait wait_ms (told_of self.old) }
         ensures fails_at { fails_at self.new ≡ fails_at self.old }
         ensures history { self.new.history ≡ self.old.history }
@@ -203,8 +207,10 @@ impl<A: Allocator + Copy> Link for MemoryLink<A> {
         requires { self.old.failed ≡ false }
         ensures fault { self.new.failed ≡ is_err result }
         ensures plain { IfOk result (λ heard. IfSome heard (λ from. from.route ≡ None)) }
-        ensures kept { MatchResult result (λ heard. heard ≡ None → datagram.new ≡ datagram.old) (λ fault. datagram.new ≡ datagram.old) }
-        ensures told { Gains (Waited wait_ms (heard_by result datagram.new)) (account_of self.old) (account_of self.new) }
+        ensures kept { MatchResult result (λ heard. heard ≡ None → datagram.new ≡ datagram.old)
+            (λ fault. datagram.new ≡ datagram.old) }
+        ensures told { Gains (Waited wait_ms (heard_by result datagram.new)) (account_of self.old)
+            (account_of self.new) }
         ensures fails_at { fails_at self.new ≡ fails_at self.old }
     {
         let heard = self.hear(wait_ms, datagram);

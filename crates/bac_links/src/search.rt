@@ -1,14 +1,14 @@
 //! The search for devices.
-ghost use Rattle.std.specs.Prelude.{◌≡◌, ◌≢◌, ◌<◌, ◌++◌, [], ◌∷◌, false, true, is_err, Some, None, Bool, List, IfOk, IfErr, OnOk, MatchOption};
-ghost use Rattle.std.specs.Option.{option_map, option_to_list};
+ghost use Rattle.std.specs.Prelude.{◌≡◌, ◌<◌, false, is_err, IfErr};
+ghost use Rattle.std.specs.Option.{option_map};
 ghost use Rattle.bac_pdu.specs.Peer.{station};
 ghost use Rattle.bac_text.specs.Checked.{has_failed, Puts};
 ghost use Rattle.bac_text.specs.Page.{Prints};
-ghost use Rattle.bac_links.specs.Told.{Failure};
 ghost use Rattle.bac_links.specs.History.{Gains, posted};
 ghost use Rattle.bac_links.specs.Fault.{is_link_fault, is_write_fault};
-ghost use Rattle.bac_links.specs.Search.{Found as Device, found_seen, found_of, found_by, found_line, who_is_datagram, who_is_to, Searched};
-ghost use Rattle.bac_links.specs.SearchSteps.{Listens};
+ghost use Rattle.bac_links.specs.Search.{found_of, found_line, who_is_datagram, who_is_to, Searched};
+ghost use Rattle.bac_links.specs.Inner.Search.{found_seen};
+ghost use Rattle.bac_links.specs.Inner.SearchSteps.{Listens};
 
 use crate::call::{most_turns, turn_wait};
 use crate::datagram::Datagram;
@@ -105,7 +105,8 @@ fn print_found<W: Write>(page: &mut Page<'_, W>, found: Found)
 fn ask<L: Link>(search: &Search, link: &mut L) -> Result<(), ToolFault>
     requires { L.has_failed link.old ≡ false }
     ensures fault { L.has_failed link.new ≡ is_link_fault result }
-    ensures told { Gains (posted result (station search.now.to) (who_is_to search.now)) (L.told link.old) (L.told link.new) }
+    ensures told { Gains (posted result (station search.now.to) (who_is_to search.now)) (L.told link.old)
+        (L.told link.new) }
     ensures err { IfErr result (λ fault. fault ≡ ToolFault.SendFailed) }
 {
     let datagram = who_is(search.to, search.who);
@@ -115,8 +116,8 @@ fn ask<L: Link>(search: &Search, link: &mut L) -> Result<(), ToolFault>
     }
 }
 
-// Waits for a datagram, and prints the device that introduces itself in it. True where there is one. No page is open while
-// it waits, since a page would have the writer that it is given.
+// Waits for a datagram, and prints the device that introduces itself in it. True where there is one. No page is open
+// during the wait, since an open page holds the writer.
 fn listen<L: Link, W: Write>(
     who: WhoIs,
     link: &mut L,
@@ -143,15 +144,15 @@ fn listen<L: Link, W: Write>(
     }
 }
 
-/// Asks a station which devices there are (Who-Is, clause 16.10), and prints a line of each that introduces itself until the
-/// timeout has gone by: its instance, its peer, the longest APDU that it takes, its segmentation and its vendor. It is good
-/// to have heard a device. Each line is written before the next wait.
+/// Asks a station which devices there are (Who-Is, clause 16.10), and prints a line of each that introduces itself
+/// until the timeout has gone by: its instance, its peer, the longest APDU that it takes, its segmentation and its
+/// vendor. It is good to have heard a device. Each line is written before the next wait.
 ///
 /// # Errors
 ///
-/// `SendFailed` and `ReceiveFailed` where the link failed so, and `TurnsSpent` where there is time left after 65,536 turns;
-/// the lines of the turns before were printed then. `WriteFailed` where the writer failed or took no octet; the lines before
-/// and a front of the last were printed then.
+/// `SendFailed` and `ReceiveFailed` where the link failed so, and `TurnsSpent` where there is time left after 65,536
+/// turns; the lines of the turns before were printed then. `WriteFailed` where the writer failed or took no octet; the
+/// lines before and a front of the last were printed then.
 pub fn run_whois<L: Link, W: Write>(
     search: &Search,
     link: &mut L,

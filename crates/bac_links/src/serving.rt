@@ -1,8 +1,8 @@
 //! A device that answers what comes over a link.
-ghost use Rattle.std.specs.Prelude.{◌≡◌, ◌≤◌, false, IfOk};
+ghost use Rattle.std.specs.Prelude.{◌≡◌, ◌≤◌, false};
 ghost use Rattle.bac_links.specs.Fault.{is_link_fault};
 ghost use Rattle.bac_links.specs.Serve.{Serves};
-ghost use Rattle.bac_links.specs.ServeSteps.{came_in, replied_in, ServesOne};
+ghost use Rattle.bac_links.specs.Inner.ServeSteps.{came_in, replied_in, ServesOne};
 
 use crate::call::most_turns;
 use crate::datagram::Datagram;
@@ -77,8 +77,8 @@ fn serve_turn<L: Link>(
 ///
 /// # Errors
 ///
-/// `SendFailed` and `ReceiveFailed` where the link failed so; the reply that could not be sent is lost. `TurnsSpent` after
-/// 65,536 turns of at most a second in which fewer datagrams came.
+/// `SendFailed` and `ReceiveFailed` where the link failed so; the reply that could not be sent is lost. `TurnsSpent`
+/// after 65,536 turns of at most a second in which fewer datagrams came.
 pub fn serve<L: Link>(link: &mut L, device: &mut Device, count: u32) -> Result<u32, ToolFault>
     requires { L.has_failed link.old ≡ false }
     ensures fault { L.has_failed link.new ≡ is_link_fault result }

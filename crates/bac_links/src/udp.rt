@@ -1,11 +1,12 @@
 //! A link over a UDP socket.
-ghost use Rattle.std.specs.Prelude.{◌≡◌, ◌+◌, ◌*◌, [], None, IfOk, IfSome, MatchOption, MatchResult, OnOk, OnErr, Ok, false, is_err, max, vec_len};
+ghost use Rattle.std.specs.Prelude.{◌≡◌, ◌+◌, ◌*◌, [], None, IfOk, IfSome, MatchOption, MatchResult, OnOk, OnErr, Ok};
+ghost use Rattle.std.specs.Prelude.{false, is_err, max, vec_len};
 ghost use Rattle.std.specs.Duration.{as_nanos};
 ghost use Rattle.bac_pdu.specs.Peer.{station};
 ghost use Rattle.bac_links.specs.Limits.{longest_datagram};
 ghost use Rattle.bac_links.specs.Told.{heard_by};
 ghost use Rattle.bac_links.specs.History.{Waited, Timed, Gains, posted, remembering};
-ghost use Rattle.bac_links.specs.Socket.{IsAddressOf, heard_from, is_quiet, peer_at, time_by};
+ghost use Rattle.bac_links.specs.Inner.Socket.{IsAddressOf, heard_from, is_quiet, peer_at, time_by};
 
 use crate::datagram::{DATAGRAM_OCTETS, Datagram};
 use crate::history::History;
@@ -25,8 +26,8 @@ const BUFFER_OCTETS: usize = DATAGRAM_OCTETS + 1;
 pub enum Refused {
     /// The send fails. This is for a client, whose peer was given to it.
     Fails,
-    /// The datagram is lost, as any may be on its way, and so is what a receive reports of one that was sent before. This is
-    /// for a server, which has its peers from strangers.
+    /// The datagram is lost, as any may be on its way, and so is what a receive reports of one that was sent before.
+    /// This is for a server, which has its peers from strangers.
     IsLost,
 }
 
@@ -104,10 +105,12 @@ impl<R: Clock + Drop> UdpLink<R> {
     fn next_datagram(&mut self, wait_ms: u32, datagram: &mut Datagram) -> io::Result<Option<Peer>>
         ensures failed { self.new.failed ≡ self.old.failed }
         ensures history { self.new.history ≡ self.old.history }
-        ensures left { (self.new.refused ≡ self.old.refused) × (self.new.made ≡ self.old.made) × (self.new.time ≡ self.old.time) }
+        ensures left { (self.new.refused ≡ self.old.refused) × (self.new.made ≡ self.old.made)
+            × (self.new.time ≡ self.old.time) }
         ensures limited { OnOk result (self.new.wait_ms ≡ max wait_ms 1) }
         ensures plain { IfOk result (λ heard. IfSome heard (λ from. from.route ≡ None)) }
-        ensures kept { MatchResult result (λ heard. heard ≡ None → datagram.new ≡ datagram.old) (λ fault. datagram.new ≡ datagram.old) }
+        ensures kept { MatchResult result (λ heard. heard ≡ None → datagram.new ≡ datagram.old)
+            (λ fault. datagram.new ≡ datagram.old) }
     {
         self.limit_wait(wait_ms.max(1))?;
         match self.socket.recv_from(&mut self.buffer) {
@@ -118,7 +121,7 @@ impl<R: Clock + Drop> UdpLink<R> {
     }
 }
 
-// So many milliseconds.
+// A duration of so many milliseconds.
 fn wait_of(wait_ms: u32) -> Duration
     ensures { as_nanos result ≡ wait_ms * 1_000_000 }
 {
@@ -148,7 +151,7 @@ fn hear(from: SocketAddr, octets: &[u8], datagram: &mut Datagram) -> Option<Peer
     }
 }
 
-// Whether a receive with this error heard nothing, and that is all.
+// Whether a receive with this error counts as silence.
 fn is_quiet(refused: Refused, kind: ErrorKind) -> bool
     ensures { result ≡ is_quiet refused kind }
 {
@@ -194,7 +197,8 @@ impl<R: Clock + Drop> Link for UdpLink<R> {
         ensures fault { self.new.failed ≡ is_err result }
         ensures lost { self.old.refused ≡ Refused.IsLost → result ≡ Ok tt }
         ensures left { self.new ≡ record self.old { failed = is_err result; history = self.new.history } }
-        ensures told { Gains (posted result (station to) octets.now) (remembering self.old.history.entries) (remembering self.new.history.entries) }
+        ensures told { Gains (posted result (station to) octets.now) (remembering self.old.history.entries)
+            (remembering self.new.history.entries) }
     {
         let sent = match self.socket.send_to(octets, address_of(to)) {
             Ok(sent) if sent == octets.len() => Ok(()),
@@ -212,10 +216,13 @@ impl<R: Clock + Drop> Link for UdpLink<R> {
         requires { self.old.failed ≡ false }
         ensures fault { self.new.failed ≡ is_err result }
         ensures plain { IfOk result (λ heard. IfSome heard (λ from. from.route ≡ None)) }
-        ensures kept { MatchResult result (λ heard. heard ≡ None → datagram.new ≡ datagram.old) (λ fault. datagram.new ≡ datagram.old) }
+        ensures kept { MatchResult result (λ heard. heard ≡ None → datagram.new ≡ datagram.old)
+            (λ fault. datagram.new ≡ datagram.old) }
         ensures limited { OnOk result (self.new.wait_ms ≡ max wait_ms 1) }
-        ensures left { (self.new.refused ≡ self.old.refused) × (self.new.made ≡ self.old.made) × (self.new.time ≡ self.old.time) }
-        ensures told { Gains (Waited wait_ms (heard_by result datagram.new)) (remembering self.old.history.entries) (remembering self.new.history.entries) }
+        ensures left { (self.new.refused ≡ self.old.refused) × (self.new.made ≡ self.old.made)
+            × (self.new.time ≡ self.old.time) }
+        ensures told { Gains (Waited wait_ms (heard_by result datagram.new)) (remembering self.old.history.entries)
+            (remembering self.new.history.entries) }
     {
         let heard = match self.next_datagram(wait_ms, datagram) {
             Ok(from) => Ok(from),
@@ -230,7 +237,8 @@ impl<R: Clock + Drop> Link for UdpLink<R> {
 
     fn now(&mut self) -> u64
         ensures left { self.new ≡ record self.old { time = result; history = self.new.history } }
-        ensures told { Gains (Timed result) (remembering self.old.history.entries) (remembering self.new.history.entries) }
+        ensures told { Gains (Timed result) (remembering self.old.history.entries)
+            (remembering self.new.history.entries) }
     {
         self.time = time_by(self.made.elapsed(&self.rt), self.time);
         self.history = self.history.and_time(self.time);

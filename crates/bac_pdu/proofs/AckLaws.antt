@@ -13,7 +13,13 @@ ack_parts a =
     ∙ sym (append_assoc (read_octets r) (plain_tag (opening_tag 3)) (a.value ++ ack_end))
     ∙ sym (append_assoc (ack_front r) a.value ack_end)
 
-pub length_ack : (a : Answer) → length (ack_octets a) ≡ length (ack_front a.reference) + (length a.value + length ack_end)
+pub length_ack : (a : Answer)
+    → length (ack_octets a) ≡ length (ack_front a.reference) + (length a.value + length ack_end)
 length_ack a =
     let r = a.reference in
-    omega (arith, ap length (ack_parts a), length-append (ack_front r ++ a.value) ack_end, length-append (ack_front r) a.value)
+    omega (
+      arith,
+      ap length (ack_parts a),
+      length-append (ack_front r ++ a.value) ack_end,
+      length-append (ack_front r) a.value,
+    )

@@ -1,5 +1,6 @@
 -- What is read of an APDU is what its octets lay out, and what is laid out is read back.
-use Rattle.std.proofs.Common.{◌≡◌, ℕ, ◌+◌, ◌/◌, ◌%◌, Bool, true, false, cond, eqb, List, [], ◌∷◌, ◌++◌, Option, Some, None, refl, ap, subst, ◌∙◌, arith, inl, inr}
+use Rattle.std.proofs.Common.{◌≡◌, ℕ, ◌+◌, ◌/◌, ◌%◌, Bool, true, false, cond, eqb, List, [], ◌∷◌, ◌++◌, Option, Some}
+use Rattle.std.proofs.Common.{None, refl, ap, subst, ◌∙◌, arith, inl, inr}
 use Rattle.std.specs.Prelude.{◌↔◌}
 use Rattle.std.proofs.lemmas.Bool.{eqb-true}
 use Rattle.std.proofs.lemmas.Option.{none-some, same_Some, some_pair_parts}
@@ -7,26 +8,36 @@ use Rattle.bac_wire.proofs.Readers.{Took, took, found_at, chosen}
 use Rattle.bac_wire.proofs.TagLaws.{bind_some}
 use Rattle.bac_pdu.specs.declared.apdu.Part.{Part}
 use Rattle.bac_pdu.specs.Bits.{bit}
-use Rattle.bac_pdu.specs.Apdu.{Message, confirmed, unconfirmed, simple_ack, complex_ack, segment_ack, error, reject, abort, SpellsPart, IsLaidOut, part_flags, part_octets, laid_out, IsWritable}
-use Rattle.bac_pdu.specs.ApduReading.{part_at, service_at, parts_at, confirmed_of, unconfirmed_of, complex_ack_of, numbered_of, apdu_of}
+use Rattle.bac_pdu.specs.Apdu.{Message, confirmed, unconfirmed, simple_ack, complex_ack, segment_ack, error, reject}
+use Rattle.bac_pdu.specs.Apdu.{abort, SpellsPart, IsLaidOut, part_flags, part_octets, laid_out, IsWritable}
+use Rattle.bac_pdu.specs.ApduReading.{part_at, service_at, parts_at, confirmed_of, unconfirmed_of, complex_ack_of}
+use Rattle.bac_pdu.specs.ApduReading.{numbered_of, apdu_of}
 
 -- ---- the part
 
-part_takes : (first : ℕ) (octets : List ℕ) (b : Bool) (part : Option Part) (rest : List ℕ) → bit 3 first ≡ b → part_at first octets b ≡ found_at part rest → Took (SpellsPart first) octets part rest
+part_takes : (first : ℕ) (octets : List ℕ) (b : Bool) (part : Option Part) (rest : List ℕ) → bit 3 first ≡ b
+    → part_at first octets b ≡ found_at part rest → Took (SpellsPart first) octets part rest
 part_takes first octets false part rest flag e = took (SpellsPart first) [] None part octets rest e (flag, refl)
 part_takes first (sequence ∷ window ∷ octets) true part rest flag e =
-    took (SpellsPart first) (sequence ∷ window ∷ []) (Some (record { more = bit 2 first; sequence = sequence; window = window })) part octets rest e (flag, refl, refl)
+    took (SpellsPart first) (sequence ∷ window ∷ [])
+    (Some (record { more = bit 2 first; sequence = sequence; window = window })) part octets rest e
+    (flag, refl, refl)
 part_takes first _ true part rest flag e = absurd (none-some (part, rest) e)
 
-part_again : (first : ℕ) (front : List ℕ) (part : Option Part) (rest : List ℕ) → SpellsPart first front part → part_at first (front ++ rest) (bit 3 first) ≡ found_at part rest
+part_again : (first : ℕ) (front : List ℕ) (part : Option Part) (rest : List ℕ) → SpellsPart first front part
+    → part_at first (front ++ rest) (bit 3 first) ≡ found_at part rest
 part_again first front None rest s = rw (s.0, s.1) refl
 part_again first front (Some part) rest s = rw (s.0, s.2, ← s.1) refl
 
-service_takes : (octets : List ℕ) (service : ℕ) (body : List ℕ) → service_at octets ≡ found_at service body → octets ≡ service ∷ body
+service_takes : (octets : List ℕ) (service : ℕ) (body : List ℕ) → service_at octets ≡ found_at service body
+    → octets ≡ service ∷ body
 service_takes [] service body e = absurd (none-some (service, body) e)
-service_takes (first ∷ others) service body e = let parts = some_pair_parts first service others body e in rw (parts.0, parts.1) refl
+service_takes (first ∷ others) service body e =
+    let parts = some_pair_parts first service others body e in
+    rw (parts.0, parts.1) refl
 
-parts_takes : (first : ℕ) (octets : List ℕ) (x : Option Part × ℕ × List ℕ) → parts_at first octets ≡ Some x → (front : List ℕ) × SpellsPart first front x.0 × (octets ≡ front ++ x.1 ∷ x.2)
+parts_takes : (first : ℕ) (octets : List ℕ) (x : Option Part × ℕ × List ℕ) → parts_at first octets ≡ Some x
+    → (front : List ℕ) × SpellsPart first front x.0 × (octets ≡ front ++ x.1 ∷ x.2)
 unfolding parts_at
 parts_takes first octets x e =
     let a = bind_some _ _ _ e in
@@ -35,43 +46,67 @@ parts_takes first octets x e =
     let service = service_takes _ _ _ b.1 in
     let made : Option Part × ℕ × List ℕ = (a.0.0, b.0.0, b.0.1) in
     let same : made ≡ x = cc in
-    subst (λ (y : Option Part × ℕ × List ℕ). (front : List ℕ) × SpellsPart first front y.0 × (octets ≡ front ++ y.1 ∷ y.2)) same (part.0, part.1, part.2 ∙ ap (λ (w : List ℕ). part.0 ++ w) service)
+    subst (λ (y : Option Part × ℕ × List ℕ). (front : List ℕ) × SpellsPart first front y.0
+    × (octets ≡ front ++ y.1 ∷ y.2)) same (part.0, part.1, part.2 ∙ ap (λ (w : List ℕ). part.0 ++ w) service)
 
-parts_again : (first : ℕ) (front : List ℕ) (part : Option Part) (service : ℕ) (body : List ℕ) → SpellsPart first front part → parts_at first (front ++ service ∷ body) ≡ Some (part, service, body)
+parts_again : (first : ℕ) (front : List ℕ) (part : Option Part) (service : ℕ) (body : List ℕ)
+    → SpellsPart first front part → parts_at first (front ++ service ∷ body) ≡ Some (part, service, body)
 unfolding parts_at
 parts_again first front part service body s = rw (part_again _ _ _ _ s) refl
 
 -- ---- each kind
 
-confirmed_takes : (first : ℕ) (octets : List ℕ) (m : Message) → first / 16 ≡ 0 → confirmed_of first octets ≡ Some m → IsLaidOut (first ∷ octets) m
+confirmed_takes : (first : ℕ) (octets : List ℕ) (m : Message) → first / 16 ≡ 0 → confirmed_of first octets ≡ Some m
+    → IsLaidOut (first ∷ octets) m
 confirmed_takes first (second ∷ id ∷ octets) m kind e =
     let a = bind_some _ _ _ e in
     let parts = parts_takes _ _ _ a.1 in
     let same = same_Some (confirmed a.0.0 (second % 16) id a.0.1 a.0.2) m a.2 in
-    rw (← same) (record { first = first; second = second; part_octets = parts.0; whole = ap (λ (w : List ℕ). first ∷ second ∷ id ∷ w) parts.2; kind = kind; coded = refl; spelled = parts.1 })
+    rw (← same) (record {
+      first = first;
+      second = second;
+      part_octets = parts.0;
+      whole = ap (λ (w : List ℕ). first ∷ second ∷ id ∷ w) parts.2;
+      kind = kind;
+      coded = refl;
+      spelled = parts.1;
+    })
 confirmed_takes first _ m kind e = absurd (none-some m e)
 
-complex_takes : (first : ℕ) (octets : List ℕ) (m : Message) → first / 16 ≡ 3 → complex_ack_of first octets ≡ Some m → IsLaidOut (first ∷ octets) m
+complex_takes : (first : ℕ) (octets : List ℕ) (m : Message) → first / 16 ≡ 3 → complex_ack_of first octets ≡ Some m
+    → IsLaidOut (first ∷ octets) m
 complex_takes first [] m kind e = absurd (none-some m e)
 complex_takes first (id ∷ octets) m kind e =
     let a = bind_some _ _ _ e in
     let parts = parts_takes _ _ _ a.1 in
     let same = same_Some (complex_ack a.0.0 id a.0.1 a.0.2) m a.2 in
-    rw (← same) (record { first = first; part_octets = parts.0; whole = ap (λ (w : List ℕ). first ∷ id ∷ w) parts.2; kind = kind; spelled = parts.1 })
+    rw (← same) (record {
+      first = first;
+      part_octets = parts.0;
+      whole = ap (λ (w : List ℕ). first ∷ id ∷ w) parts.2;
+      kind = kind;
+      spelled = parts.1;
+    })
 
-unconfirmed_takes : (first : ℕ) (octets : List ℕ) (m : Message) → first / 16 ≡ 1 → unconfirmed_of octets ≡ Some m → IsLaidOut (first ∷ octets) m
+unconfirmed_takes : (first : ℕ) (octets : List ℕ) (m : Message) → first / 16 ≡ 1 → unconfirmed_of octets ≡ Some m
+    → IsLaidOut (first ∷ octets) m
 unconfirmed_takes first [] m kind e = absurd (none-some m e)
 unconfirmed_takes first (service ∷ body) m kind e = rw (← same_Some (unconfirmed service body) m e) (first, kind, refl)
 
 -- an invoke id and one octet more
-numbered_laid : (first : ℕ) (made : ℕ → ℕ → List ℕ → Message) (octets : List ℕ) (m : Message) → numbered_of made octets ≡ Some m
-    → ((id octet : ℕ) (rest : List ℕ) → IsLaidOut (first ∷ id ∷ octet ∷ rest) (made id octet rest)) → IsLaidOut (first ∷ octets) m
-numbered_laid first made (id ∷ octet ∷ rest) m e laid = subst (IsLaidOut (first ∷ id ∷ octet ∷ rest)) (same_Some (made id octet rest) m e) (laid id octet rest)
+numbered_laid : (first : ℕ) (made : ℕ → ℕ → List ℕ → Message) (octets : List ℕ) (m : Message)
+    → numbered_of made octets ≡ Some m
+    → ((id octet : ℕ) (rest : List ℕ) → IsLaidOut (first ∷ id ∷ octet ∷ rest) (made id octet rest))
+    → IsLaidOut (first ∷ octets) m
+numbered_laid first made (id ∷ octet ∷ rest) m e laid =
+    subst (IsLaidOut (first ∷ id ∷ octet ∷ rest)) (same_Some (made id octet rest) m e) (laid id octet rest)
 numbered_laid first made _ m e laid = absurd (none-some m e)
 
 -- the APDU of this kind, or of a later one
-this_kind : {T : Type 0} (first k : ℕ) {x y : Option Message} {m : Message} → (first / 16 ≡ k → x ≡ Some m → T) → (y ≡ Some m → T) → cond (eqb (first / 16) k) x y ≡ Some m → T
-this_kind first k here later e = elim (chosen (eqb (first / 16) k) _ _ _ e) [ inl a ↦ here (eqb-true (first / 16) k a.0) a.1 | inr b ↦ later b.1 ]
+this_kind : {T : Type 0} (first k : ℕ) {x y : Option Message} {m : Message} → (first / 16 ≡ k → x ≡ Some m → T)
+    → (y ≡ Some m → T) → cond (eqb (first / 16) k) x y ≡ Some m → T
+this_kind first k here later e =
+    elim (chosen (eqb (first / 16) k) _ _ _ e) [ inl a ↦ here (eqb-true (first / 16) k a.0) a.1 | inr b ↦ later b.1 ]
 
 apdu_takes : (octets : List ℕ) (m : Message) → apdu_of octets ≡ Some m → IsLaidOut octets m
 unfolding apdu_of
@@ -81,7 +116,8 @@ apdu_takes (first ∷ octets) m e =
     this_kind first 1 (unconfirmed_takes first octets m) (
     this_kind first 2 (λ kind f. numbered_laid first _ octets m f (λ id service rest. (first, rest, kind, refl))) (
     this_kind first 3 (complex_takes first octets m) (
-    this_kind first 4 (λ kind f. subst (IsLaidOut (first ∷ octets)) (same_Some segment_ack m f) (first, octets, kind, refl)) (
+    this_kind first 4
+    (λ kind f. subst (IsLaidOut (first ∷ octets)) (same_Some segment_ack m f) (first, octets, kind, refl)) (
     this_kind first 5 (λ kind f. numbered_laid first error octets m f (λ id service body. (first, kind, refl))) (
     this_kind first 6 (λ kind f. numbered_laid first _ octets m f (λ id reason rest. (first, rest, kind, refl))) (
     this_kind first 7 (λ kind f. numbered_laid first _ octets m f (λ id reason rest. (first, rest, kind, refl, refl)))
@@ -89,10 +125,12 @@ apdu_takes (first ∷ octets) m e =
 
 apdu_again : (octets : List ℕ) (m : Message) → IsLaidOut octets m → apdu_of octets ≡ Some m
 unfolding apdu_of
-apdu_again octets (confirmed part code id service body) s = rw (s.whole, s.kind, parts_again _ _ _ service body s.spelled, s.coded) refl
+apdu_again octets (confirmed part code id service body) s =
+    rw (s.whole, s.kind, parts_again _ _ _ service body s.spelled, s.coded) refl
 apdu_again octets (unconfirmed service body) s = rw (s.2, s.1) refl
 apdu_again octets (simple_ack id service) s = rw (s.3, s.2) refl
-apdu_again octets (complex_ack part id service body) s = rw (s.whole, s.kind, parts_again _ _ _ service body s.spelled) refl
+apdu_again octets (complex_ack part id service body) s =
+    rw (s.whole, s.kind, parts_again _ _ _ service body s.spelled) refl
 apdu_again octets segment_ack s = rw (s.3, s.2) refl
 apdu_again octets (error id service body) s = rw (s.2, s.1) refl
 apdu_again octets (reject id reason) s = rw (s.3, s.2) refl
@@ -103,11 +141,13 @@ apdu_is octets m = (apdu_takes octets m, apdu_again octets m)
 
 -- ---- what is written
 
-request_flags : (more : Bool) → (cond more 12 8 / 16 ≡ 0) × (bit 3 (cond more 12 8) ≡ true) × (more ≡ bit 2 (cond more 12 8))
+request_flags : (more : Bool) → (cond more 12 8 / 16 ≡ 0) × (bit 3 (cond more 12 8) ≡ true)
+    × (more ≡ bit 2 (cond more 12 8))
 request_flags true = (refl, refl, refl)
 request_flags false = (refl, refl, refl)
 
-answer_flags : (more : Bool) → ((48 + cond more 12 8) / 16 ≡ 3) × (bit 3 (48 + cond more 12 8) ≡ true) × (more ≡ bit 2 (48 + cond more 12 8))
+answer_flags : (more : Bool) → ((48 + cond more 12 8) / 16 ≡ 3) × (bit 3 (48 + cond more 12 8) ≡ true)
+    × (more ≡ bit 2 (48 + cond more 12 8))
 answer_flags true = (refl, refl, refl)
 answer_flags false = (refl, refl, refl)
 
@@ -119,17 +159,30 @@ request_part (Some part) =
     (flags.0, (flags.1, flags.2, refl))
 
 -- the flags of an answer, under its type
-answer_part : (part : Option Part) → ((48 + part_flags part) / 16 ≡ 3) × SpellsPart (48 + part_flags part) (part_octets part) part
+answer_part : (part : Option Part) → ((48 + part_flags part) / 16 ≡ 3)
+    × SpellsPart (48 + part_flags part) (part_octets part) part
 answer_part None = (refl, (refl, refl))
 answer_part (Some part) =
     let flags = answer_flags part.more in
     (flags.0, (flags.1, flags.2, refl))
 
 laid_out_is : (m : Message) → IsWritable m → IsLaidOut (laid_out m) m
-laid_out_is (confirmed part code id service body) h = let p = request_part part in record { first = part_flags part; second = code; part_octets = part_octets part; whole = refl; kind = p.0; coded = omega arith; spelled = p.1 }
+laid_out_is (confirmed part code id service body) h =
+    let p = request_part part in
+    record {
+      first = part_flags part;
+      second = code;
+      part_octets = part_octets part;
+      whole = refl;
+      kind = p.0;
+      coded = omega arith;
+      spelled = p.1;
+    }
 laid_out_is (unconfirmed service body) h = (16, refl, refl)
 laid_out_is (simple_ack id service) h = (32, [], refl, refl)
-laid_out_is (complex_ack part id service body) h = let p = answer_part part in record { first = 48 + part_flags part; part_octets = part_octets part; whole = refl; kind = p.0; spelled = p.1 }
+laid_out_is (complex_ack part id service body) h =
+    let p = answer_part part in
+    record { first = 48 + part_flags part; part_octets = part_octets part; whole = refl; kind = p.0; spelled = p.1 }
 laid_out_is segment_ack h = absurd h
 laid_out_is (error id service body) h = (80, refl, refl)
 laid_out_is (reject id reason) h = (96, [], refl, refl)

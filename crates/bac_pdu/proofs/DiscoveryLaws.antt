@@ -28,7 +28,11 @@ range_takes body w e =
     let a = bind_some _ _ _ e in
     let b = bind_some _ _ _ a.2 in
     let end = whole_ended (limits.Range a.0.0 b.0.0) w b.0.1 b.2 in
-    subst (IsWhoIsBody body) end.1 (a.0.1, (numbered_step 0).takes body a.0.0 a.0.1 a.1, (b.0.1, (numbered_step 1).takes a.0.1 b.0.0 b.0.1 b.1, end.0))
+    subst (IsWhoIsBody body) end.1 (
+      a.0.1,
+      (numbered_step 0).takes body a.0.0 a.0.1 a.1,
+      (b.0.1, (numbered_step 1).takes a.0.1 b.0.0 b.0.1 b.1, end.0),
+    )
 
 who_is_takes : (body : List ℕ) (w : WhoIs) → who_is_of body ≡ Some w → IsWhoIsBody body w
 unfolding who_is_of
@@ -38,15 +42,18 @@ who_is_takes (x ∷ xs) w e = range_takes (x ∷ xs) w e
 who_is_again : (body : List ℕ) (w : WhoIs) → IsWhoIsBody body w → who_is_of body ≡ Some w
 unfolding who_is_of
 who_is_again body limits.All s = rw s refl
-who_is_again [] (limits.Range low high) s = absurd (none-some (low, s.0) (sym (no_number 0) ∙ (numbered_step 0).again [] low s.0 s.1))
-who_is_again (x ∷ xs) (limits.Range low high) s = rw ((numbered_step 0).again (x ∷ xs) low s.0 s.1, (numbered_step 1).again s.0 high s.2.0 s.2.1, s.2.2) refl
+who_is_again [] (limits.Range low high) s =
+    absurd (none-some (low, s.0) (sym (no_number 0) ∙ (numbered_step 0).again [] low s.0 s.1))
+who_is_again (x ∷ xs) (limits.Range low high) s =
+    rw ((numbered_step 0).again (x ∷ xs) low s.0 s.1, (numbered_step 1).again s.0 high s.2.0 s.2.1, s.2.2) refl
 
 pub who_is_is : (body : List ℕ) (w : WhoIs) → (who_is_of body ≡ Some w) ↔ IsWhoIsBody body w
 who_is_is body w = (who_is_takes body w, who_is_again body w)
 
 -- ---- I-Am and errors
 
-then_takes : {A B : Type 0} {made : A → Datum} {at : List ℕ → Option (A × List ℕ)} → IsStep Spells made at → (octets : List ℕ) (f : A × List ℕ → Option B) (y : B) → (at octets >>= f) ≡ Some y
+then_takes : {A B : Type 0} {made : A → Datum} {at : List ℕ → Option (A × List ℕ)} → IsStep Spells made at
+    → (octets : List ℕ) (f : A × List ℕ → Option B) (y : B) → (at octets >>= f) ≡ Some y
     → (x : A) × (rest : List ℕ) × Begins Spells octets (made x) rest × (f (x, rest) ≡ Some y)
 then_takes step octets f y e = let a = bind_some _ _ _ e in (a.0.0, a.0.1, step.takes octets a.0.0 a.0.1 a.1, a.2)
 
@@ -60,13 +67,24 @@ introduction_takes body i e =
     let made : Introduction = record { device = a.0; max_apdu = b.0; segmentation = c.0; vendor = d.0 } in
     let eight = only_if (eqb a.0.kind 8) d.3 in
     let end = whole_ended made i d.1 eight.1 in
-    subst (IsIAmBody body) end.1 (record { device = eqb-true a.0.kind 8 eight.0; spelled = (a.1, a.2, (b.1, b.2, (c.1, c.2, (d.1, d.2, end.0)))) })
+    subst (IsIAmBody body) end.1
+    (record {
+      device = eqb-true a.0.kind 8 eight.0;
+      spelled = (a.1, a.2, (b.1, b.2, (c.1, c.2, (d.1, d.2, end.0))));
+    })
 
 introduction_again : (body : List ℕ) (i : Introduction) → IsIAmBody body i → introduction_of body ≡ Some i
 unfolding introduction_of
 introduction_again body i s =
     let t = s.spelled in
-    rw (object_step.again body i.device t.0 t.1, unsigned_step.again t.0 i.max_apdu t.2.0 t.2.1, enumerated_step.again t.2.0 i.segmentation t.2.2.0 t.2.2.1, unsigned_step.again t.2.2.0 i.vendor t.2.2.2.0 t.2.2.2.1, eq-eqb i.device.kind 8 s.device, t.2.2.2.2) refl
+    rw (
+      object_step.again body i.device t.0 t.1,
+      unsigned_step.again t.0 i.max_apdu t.2.0 t.2.1,
+      enumerated_step.again t.2.0 i.segmentation t.2.2.0 t.2.2.1,
+      unsigned_step.again t.2.2.0 i.vendor t.2.2.2.0 t.2.2.2.1,
+      eq-eqb i.device.kind 8 s.device,
+      t.2.2.2.2,
+    ) refl
 
 pub introduction_is : (body : List ℕ) (i : Introduction) → (introduction_of body ≡ Some i) ↔ IsIAmBody body i
 introduction_is body i = (introduction_takes body i, introduction_again body i)
@@ -81,7 +99,8 @@ error_takes body x e =
 
 error_again : (body : List ℕ) (x : ℕ × ℕ) → IsErrorBody body x → error_of body ≡ Some x
 unfolding error_of
-error_again body x s = rw (enumerated_step.again body x.0 s.1.0 s.1.1, enumerated_step.again s.1.0 x.1 s.1.2.0 s.1.2.1) refl
+error_again body x s =
+    rw (enumerated_step.again body x.0 s.1.0 s.1.1, enumerated_step.again s.1.0 x.1 s.1.2.0 s.1.2.1) refl
 
 pub error_is : (body : List ℕ) (x : ℕ × ℕ) → (error_of body ≡ Some x) ↔ IsErrorBody body x
 error_is body x = (error_takes body x, error_again body x)

@@ -17,10 +17,16 @@ unfolding plain_tag
 tag_short number count = grind (arith, common_steps)
 
 context_short : (number : ℕ) (contents : List ℕ) → length contents ≤ 8 → length (context_octets number contents) ≤ 15
-context_short number contents short = omega (arith, length-append (plain_tag (context_tag number (length contents))) contents, tag_short number (length contents))
+context_short number contents short =
+    omega (
+      arith,
+      length-append (plain_tag (context_tag number (length contents))) contents,
+      tag_short number (length contents),
+    )
 
 number_short : (number n : ℕ) → length (number_octets number n) ≤ 15
-number_short number n = context_short number (big_bytes (octet_count n) n) (rw (length-bytes_high_first (octet_count n) n) (count_high n))
+number_short number n =
+    context_short number (big_bytes (octet_count n) n) (rw (length-bytes_high_first (octet_count n) n) (count_high n))
 
 index_short : (i : Option ℕ) → length (plain_all plain_parameter (optional index i)) ≤ 15
 unfolding plain_parameter
@@ -32,4 +38,11 @@ unfolding plain_parameter
 read_octets_short r =
     let rest = plain_all plain_parameter (optional index r.index) in
     let first = context_short 0 (big_bytes 4 (number_of r.object)) (omega arith) in
-    omega (arith, length-append (object_octets 0 r.object) (number_octets 1 r.property ++ rest), length-append (number_octets 1 r.property) rest, first, number_short 1 r.property, index_short r.index)
+    omega (
+      arith,
+      length-append (object_octets 0 r.object) (number_octets 1 r.property ++ rest),
+      length-append (number_octets 1 r.property) rest,
+      first,
+      number_short 1 r.property,
+      index_short r.index,
+    )

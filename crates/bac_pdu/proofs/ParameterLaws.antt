@@ -7,10 +7,13 @@ use Rattle.bac_pdu.specs.Parameter.{Parameter, object, property, index, value, p
 use Rattle.bac_pdu.specs.PropertyReading.{or_none, optional_at}
 
 -- a reader of things of one kind, as a step of what reads such things among others
-pub reader_step : {A P : Type 0} {Spells : List ℕ → P → Type 0} {Kind : List ℕ → A → Type 0} {at : List ℕ → Option (A × List ℕ)} (made : A → P) → IsReader Kind at
-    → ((front : List ℕ) (x : A) → Kind front x → Spells front (made x)) → ((front : List ℕ) (x : A) → Spells front (made x) → Kind front x) → IsStep Spells made at
+pub reader_step : {A P : Type 0} {Spells : List ℕ → P → Type 0} {Kind : List ℕ → A → Type 0}
+    {at : List ℕ → Option (A × List ℕ)} (made : A → P) → IsReader Kind at
+    → ((front : List ℕ) (x : A) → Kind front x → Spells front (made x))
+    → ((front : List ℕ) (x : A) → Spells front (made x) → Kind front x) → IsStep Spells made at
 reader_step {at = at} made reader to from = record {
-  takes = λ octets x rest e. let t = reader.takes octets x rest e in record { front = t.front; spelled = to t.front x t.spelled; whole = t.whole };
+  takes = λ octets x rest e. let t = reader.takes octets x rest e in
+      record { front = t.front; spelled = to t.front x t.spelled; whole = t.whole };
   again = λ octets x rest b. ap at b.whole ∙ reader.again b.front x rest (from b.front x b.spelled);
 }
 
@@ -38,12 +41,15 @@ optional_begins_at number made step octets None e = refl
 optional_begins_at number made step octets (Some x) e = (x.1, step.takes octets x.0 x.1 e, refl)
 
 -- what was read of a number that may be there is spelled
-pub optional_begins : (number : ℕ) (made : ℕ → Parameter) → IsStep SpellsParameter made (number_at number) → (octets : List ℕ)
+pub optional_begins : (number : ℕ) (made : ℕ → Parameter) → IsStep SpellsParameter made (number_at number)
+    → (octets : List ℕ)
     → SpellsTo SpellsParameter octets (optional made (optional_at number octets).0) (optional_at number octets).1
 optional_begins number made step octets = optional_begins_at number made step octets (number_at number octets) refl
 
 pub optional_read : (number : ℕ) (made : ℕ → Parameter) → IsStep SpellsParameter made (number_at number)
     → (octets : List ℕ) (i : Option ℕ) (rest : List ℕ) → SpellsTo SpellsParameter octets (optional made i) rest
     → (i ≡ None → number_at number rest ≡ None) → optional_at number octets ≡ (i, rest)
-optional_read number made step octets None rest s none = rw (ap (number_at number) s ∙ none refl) (ap (λ (w : List ℕ). (None, w)) s)
-optional_read number made step octets (Some n) rest s none = rw (step.again octets n s.0 s.1) (ap (λ (w : List ℕ). (Some n, w)) s.2)
+optional_read number made step octets None rest s none =
+    rw (ap (number_at number) s ∙ none refl) (ap (λ (w : List ℕ). (None, w)) s)
+optional_read number made step octets (Some n) rest s none =
+    rw (step.again octets n s.0 s.1) (ap (λ (w : List ℕ). (Some n, w)) s.2)

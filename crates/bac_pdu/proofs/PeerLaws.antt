@@ -1,5 +1,6 @@
 -- `==` on peers compares the stations.
-use Rattle.std.proofs.Common.{◌≡◌, ℕ, ◌-◌, true, List, ◌++◌, length, take, drop, Option, Some, None, refl, sym, ap, ◌∙◌, arith}
+use Rattle.std.proofs.Common.{◌≡◌, ℕ, ◌-◌, true, List, ◌++◌, length, take, drop, Option, Some, None, refl, sym, ap, ◌∙◌}
+use Rattle.std.proofs.Common.{arith}
 use Rattle.std.specs.Prelude.{IfSome, replicate}
 use Rattle.std.specs.Option.{option_map, option_eq}
 use Rattle.std.specs.Cmp.Lexicographic.{bytes_decides}
@@ -10,18 +11,32 @@ use Rattle.bac_pdu.specs.declared.route.Route.{Route}
 use Rattle.bac_pdu.specs.declared.peer.Peer.{Peer}
 use Rattle.bac_pdu.specs.contracts.route.RoutePartialEq.TheImpl.{eq-value as route_eq}
 use Rattle.bac_pdu.specs.contracts.peer.PeerPartialEq.TheImpl.{eq-value as peer_eq}
-use Rattle.bac_pdu.specs.Peer.{NetworkAddress, IsKept, network_address, station}
+use Rattle.bac_pdu.specs.Peer.{NetworkAddress, network_address, station}
+use Rattle.bac_pdu.specs.Inner.Peer.{IsKept}
 
 -- the octets of a route are the address, and zeros
-same_octets : (a b : Route) → IsKept a → IsKept b → network_address a ≡ network_address b → (a.count ≡ b.count) × (a.octets ≡ b.octets)
+same_octets : (a b : Route) → IsKept a → IsKept b → network_address a ≡ network_address b → (a.count ≡ b.count)
+    × (a.octets ≡ b.octets)
 same_octets a b h k e =
     let address : take a.count a.octets ≡ take b.count b.octets = ap (λ (n : NetworkAddress). n.address) e in
-    let count : a.count ≡ b.count = omega (arith, ap length address, length-take-le a.count a.octets (omega (arith, h.room, h.longest)), length-take-le b.count b.octets (omega (arith, k.room, k.longest))) in
-    let behind : drop a.count a.octets ≡ drop b.count b.octets = h.unused ∙ ap (λ (n : ℕ). replicate (8 - n) 0) count ∙ sym k.unused in
-    (count, sym (take-append-drop a.count a.octets) ∙ ap (λ (l : List ℕ). l ++ drop a.count a.octets) address ∙ ap (λ (l : List ℕ). take b.count b.octets ++ l) behind ∙ take-append-drop b.count b.octets)
+    let count : a.count ≡ b.count =
+    omega (
+      arith,
+      ap length address,
+      length-take-le a.count a.octets (omega (arith, h.room, h.longest)),
+      length-take-le b.count b.octets (omega (arith, k.room, k.longest)),
+    ) in
+    let behind : drop a.count a.octets ≡ drop b.count b.octets = h.unused ∙ ap (λ (n : ℕ). replicate (8 - n) 0) count
+    ∙ sym k.unused in (
+      count,
+      sym (take-append-drop a.count a.octets) ∙ ap (λ (l : List ℕ). l ++ drop a.count a.octets) address
+          ∙ ap (λ (l : List ℕ). take b.count b.octets ++ l) behind ∙ take-append-drop b.count b.octets,
+    )
 
 -- equal routes lead to the same station
-pub route_decides : (a b : Route) → IsKept a → IsKept b → (route_eq.it a b ≡ true → network_address a ≡ network_address b) × (network_address a ≡ network_address b → route_eq.it a b ≡ true)
+pub route_decides : (a b : Route) → IsKept a → IsKept b
+    → (route_eq.it a b ≡ true → network_address a ≡ network_address b)
+    × (network_address a ≡ network_address b → route_eq.it a b ≡ true)
 route_decides a b h k = (
   (λ e.
       let first = and_parts _ _ e in
@@ -30,11 +45,13 @@ route_decides a b h k = (
       rw (eqb-true a.network b.network first.0, eqb-true a.count b.count second.0, octets) refl),
   (λ e.
       let same = same_octets a b h k e in
-      rw (eq-eqb a.network b.network (ap (λ (n : NetworkAddress). n.network) e), eq-eqb a.count b.count same.0) ((bytes_decides a.octets b.octets).1 same.1)),
+      rw (eq-eqb a.network b.network (ap (λ (n : NetworkAddress). n.network) e), eq-eqb a.count b.count same.0)
+      ((bytes_decides a.octets b.octets).1 same.1)),
 )
 
 routes_decide : (a b : Option Route) → IfSome a IsKept → IfSome b IsKept
-    → (option_eq route_eq.it a b ≡ true → option_map network_address a ≡ option_map network_address b) × (option_map network_address a ≡ option_map network_address b → option_eq route_eq.it a b ≡ true)
+    → (option_eq route_eq.it a b ≡ true → option_map network_address a ≡ option_map network_address b)
+    × (option_map network_address a ≡ option_map network_address b → option_eq route_eq.it a b ≡ true)
 routes_decide None None h k = ((λ e. refl), (λ e. refl))
 routes_decide None (Some b) h k = ((λ e. absurd (false≢true e)), (λ e. absurd (none-some (network_address b) e)))
 routes_decide (Some a) None h k = ((λ e. absurd (false≢true e)), (λ e. absurd (none-some (network_address a) (sym e))))
@@ -43,7 +60,8 @@ routes_decide (Some a) (Some b) h k =
     ((λ e. ap Some (decides.0 e)), (λ e. decides.1 (same_Some (network_address a) (network_address b) e)))
 
 -- equal peers are the same station
-pub peer_decides : (p q : Peer) → IfSome p.route IsKept → IfSome q.route IsKept → (peer_eq.it p q ≡ true → station p ≡ station q) × (station p ≡ station q → peer_eq.it p q ≡ true)
+pub peer_decides : (p q : Peer) → IfSome p.route IsKept → IfSome q.route IsKept
+    → (peer_eq.it p q ≡ true → station p ≡ station q) × (station p ≡ station q → peer_eq.it p q ≡ true)
 peer_decides p q h k =
     let routes = routes_decide p.route q.route h k in (
       (λ e.
@@ -51,5 +69,6 @@ peer_decides p q h k =
           let second = and_parts _ _ first.1 in
           rw (eqb-true p.ip q.ip first.0, eqb-true p.port q.port second.0, routes.0 second.1) refl),
       (λ e.
-          rw (eq-eqb p.ip q.ip (ap (λ s. s.ip) e), eq-eqb p.port q.port (ap (λ s. s.port) e)) (routes.1 (ap (λ s. s.route) e))),
+          rw (eq-eqb p.ip q.ip (ap (λ s. s.ip) e), eq-eqb p.port q.port (ap (λ s. s.port) e))
+          (routes.1 (ap (λ s. s.route) e))),
     )

@@ -20,29 +20,40 @@ begins_read Spells at reader octets x rest b = ap at b.whole ∙ reader.again b.
 
 -- ---- one after the other
 
-pub then_to : {A : Type 0} (Spells : List ℕ → A → Type 0) (octets mid rest : List ℕ) (xs ys : List A) → SpellsTo Spells octets xs mid
+pub then_to : {A : Type 0} (Spells : List ℕ → A → Type 0) (octets mid rest : List ℕ) (xs ys : List A)
+    → SpellsTo Spells octets xs mid
     → SpellsTo Spells mid ys rest → SpellsTo Spells octets (xs ++ ys) rest
 then_to Spells octets mid rest [] ys s t = subst (λ (w : List ℕ). SpellsTo Spells w ys rest) (sym s) t
 then_to Spells octets mid rest (x ∷ xs) ys s t = (s.0, s.1, then_to Spells s.0 mid rest xs ys s.2 t)
 
-pub split_to : {A : Type 0} (Spells : List ℕ → A → Type 0) (octets rest : List ℕ) (xs ys : List A) → SpellsTo Spells octets (xs ++ ys) rest
+pub split_to : {A : Type 0} (Spells : List ℕ → A → Type 0) (octets rest : List ℕ) (xs ys : List A)
+    → SpellsTo Spells octets (xs ++ ys) rest
     → (mid : List ℕ) × SpellsTo Spells octets xs mid × SpellsTo Spells mid ys rest
 split_to Spells octets rest [] ys s = (octets, refl, s)
 split_to Spells octets rest (x ∷ xs) ys s = let t = split_to Spells s.0 rest xs ys s.2 in (t.0, (s.0, s.1, t.1), t.2)
 
 -- what is spelled in front of a rest
-pub to_front : {A : Type 0} (Spells : List ℕ → A → Type 0) (octets rest : List ℕ) (xs : List A) → SpellsTo Spells octets xs rest
+pub to_front : {A : Type 0} (Spells : List ℕ → A → Type 0) (octets rest : List ℕ) (xs : List A)
+    → SpellsTo Spells octets xs rest
     → (front : List ℕ) × SpellsAll Spells front xs × (octets ≡ front ++ rest)
 to_front Spells octets rest [] s = ([], refl, s)
 to_front Spells octets rest (x ∷ xs) s =
-    let t = to_front Spells s.0 rest xs s.2 in
-    (s.1.front ++ t.0, (t.0, record { front = s.1.front; spelled = s.1.spelled; whole = refl }, t.1), s.1.whole ∙ ap (λ (w : List ℕ). s.1.front ++ w) t.2 ∙ sym (append_assoc s.1.front t.0 rest))
+    let t = to_front Spells s.0 rest xs s.2 in (
+      s.1.front ++ t.0,
+      (t.0, record { front = s.1.front; spelled = s.1.spelled; whole = refl }, t.1),
+      s.1.whole
+          ∙ ap (λ (w : List ℕ). s.1.front ++ w) t.2 ∙ sym (append_assoc s.1.front t.0 rest),
+    )
 
-pub from_front : {A : Type 0} (Spells : List ℕ → A → Type 0) (octets front rest : List ℕ) (xs : List A) → octets ≡ front ++ rest → SpellsAll Spells front xs → SpellsTo Spells octets xs rest
+pub from_front : {A : Type 0} (Spells : List ℕ → A → Type 0) (octets front rest : List ℕ) (xs : List A)
+    → octets ≡ front ++ rest → SpellsAll Spells front xs → SpellsTo Spells octets xs rest
 from_front Spells octets front rest [] e s = e ∙ ap (λ (w : List ℕ). w ++ rest) s
 from_front Spells octets front rest (x ∷ xs) e s =
-    let line = e ∙ ap (λ (w : List ℕ). w ++ rest) s.1.whole ∙ append_assoc s.1.front s.0 rest in
-    (s.0 ++ rest, record { front = s.1.front; spelled = s.1.spelled; whole = line }, from_front Spells (s.0 ++ rest) s.0 rest xs refl s.2)
+    let line = e ∙ ap (λ (w : List ℕ). w ++ rest) s.1.whole ∙ append_assoc s.1.front s.0 rest in (
+      s.0 ++ rest,
+      record { front = s.1.front; spelled = s.1.spelled; whole = line },
+      from_front Spells (s.0 ++ rest) s.0 rest xs refl s.2,
+    )
 
 -- ---- a whole body
 
@@ -54,13 +65,19 @@ whole_ended x y (a ∷ rest) e = absurd (none-some y e)
 -- ---- what is written
 
 -- the spellings of these things, and then this rest
-pub all_spell : {A : Type 0} (Spells : List ℕ → A → Type 0) (plain : A → List ℕ) (Is : A → Type 0) → ((x : A) → Is x → Spells (plain x) x)
+pub all_spell : {A : Type 0} (Spells : List ℕ → A → Type 0) (plain : A → List ℕ) (Is : A → Type 0)
+    → ((x : A) → Is x → Spells (plain x) x)
     → (xs : List A) (rest : List ℕ) → AllByRecursion Is xs → SpellsTo Spells (plain_all plain xs ++ rest) xs rest
 all_spell Spells plain Is spell [] rest h = refl
-all_spell Spells plain Is spell (x ∷ xs) rest h =
-    (plain_all plain xs ++ rest, record { front = plain x; spelled = spell x h.0; whole = append_assoc (plain x) (plain_all plain xs) rest }, all_spell _ _ _ spell xs rest h.1)
+all_spell Spells plain Is spell (x ∷ xs) rest h = (
+  plain_all plain xs ++ rest,
+  record { front = plain x; spelled = spell x h.0; whole = append_assoc (plain x) (plain_all plain xs) rest },
+  all_spell _ _ _ spell xs rest h.1,
+)
 
 -- what is written of these things spells them
-pub whole_spell : {A : Type 0} (Spells : List ℕ → A → Type 0) (plain : A → List ℕ) (Is : A → Type 0) → ((x : A) → Is x → Spells (plain x) x)
+pub whole_spell : {A : Type 0} (Spells : List ℕ → A → Type 0) (plain : A → List ℕ) (Is : A → Type 0)
+    → ((x : A) → Is x → Spells (plain x) x)
     → (xs : List A) → AllByRecursion Is xs → SpellsAll Spells (plain_all plain xs) xs
-whole_spell Spells plain Is spell xs h = subst (λ (w : List ℕ). SpellsTo Spells w xs []) (append-nil (plain_all plain xs)) (all_spell _ _ _ spell xs [] h)
+whole_spell Spells plain Is spell xs h =
+    subst (λ (w : List ℕ). SpellsTo Spells w xs []) (append-nil (plain_all plain xs)) (all_spell _ _ _ spell xs [] h)

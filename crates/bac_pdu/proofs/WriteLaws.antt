@@ -1,5 +1,6 @@
 -- Reading the body of a WriteProperty finds what it orders, or the first fault that it has.
-use Rattle.std.proofs.Common.{◌≡◌, ℕ, Bool, true, false, cond, List, [], ◌∷◌, ◌++◌, Option, Some, None, Result, Ok, Err, refl, ap, subst, ◌∙◌, arith, inl, inr}
+use Rattle.std.proofs.Common.{◌≡◌, ℕ, Bool, true, false, cond, List, [], ◌∷◌, ◌++◌, Option, Some, None, Result, Ok, Err}
+use Rattle.std.proofs.Common.{refl, ap, subst, ◌∙◌, arith, inl, inr}
 use Rattle.std.specs.Prelude.{◌↔◌, ◌⊎◌, IfSome}
 use Rattle.std.proofs.lemmas.Bool.{false_from_ne_true, iff_false}
 use Rattle.std.proofs.lemmas.Grind.{common_steps}
@@ -12,25 +13,34 @@ use Rattle.bac_pdu.specs.declared.reject.RejectReason.TheVariants.{MissingParame
 use Rattle.bac_pdu.specs.Parameter.{value, priority, SpellsParameter, optional}
 use Rattle.bac_pdu.specs.Property.{Reference, Order, reference_parameters, order_parameters, IsWriteBody, IsPriority}
 use Rattle.bac_pdu.specs.Reject.{WriteFault, IsOutcome}
-use Rattle.bac_pdu.specs.PropertyReading.{or_none, optional_at, and_then, unless_missing, reference_at, ended, is_priority, write_of}
+use Rattle.bac_pdu.specs.PropertyReading.{or_none, optional_at, and_then, unless_missing, reference_at, ended}
+use Rattle.bac_pdu.specs.PropertyReading.{is_priority, write_of}
 use Rattle.bac_pdu.proofs.SequenceLaws.{to_front, from_front}
 use Rattle.bac_pdu.proofs.ParameterLaws.{value_step, priority_step, optional_begins, optional_read}
-use Rattle.bac_pdu.proofs.RejectLaws.{and_then_ok, and_then_err, step_ok, needs_takes, needs_fails, ended_ok, ended_err, IsJudge, outcome_is}
-use Rattle.bac_pdu.proofs.ReadLaws.{reference_takes, reference_again, reference_lacks, reference_fails, value_takes, value_again}
+use Rattle.bac_pdu.proofs.RejectLaws.{and_then_ok, and_then_err, step_ok, needs_takes, needs_fails, ended_ok, ended_err}
+use Rattle.bac_pdu.proofs.RejectLaws.{IsJudge, outcome_is}
+use Rattle.bac_pdu.proofs.ReadLaws.{reference_takes, reference_again, reference_lacks, reference_fails, value_takes}
+use Rattle.bac_pdu.proofs.ReadLaws.{value_again}
 
 no_value : enclosed_at 3 [] ≡ None
 unfolding enclosed_at behind_opening
 no_value = rw no_octets refl
 
-write_again_at : (body : List ℕ) (o : Order) → SpellsAll SpellsParameter body (order_parameters o) → write_of body ≡ cond (is_priority o.priority) (Ok o) (Err OutOfRange)
+write_again_at : (body : List ℕ) (o : Order) → SpellsAll SpellsParameter body (order_parameters o)
+    → write_of body ≡ cond (is_priority o.priority) (Ok o) (Err OutOfRange)
 unfolding write_of
 write_again_at body o s =
     let t = value_again body o.value [] o.reference (optional priority o.priority) s in
-    rw (t.2, step_ok value_step no_value _ _ _ t.3, optional_read _ _ priority_step t.1 o.priority [] t.4 (λ none. no_number 4)) refl
+    rw (
+      t.2,
+      step_ok value_step no_value _ _ _ t.3,
+      optional_read _ _ priority_step t.1 o.priority [] t.4 (λ none. no_number 4),
+    ) refl
 
 priority_is : (p : Option ℕ) → (is_priority p ≡ true) ↔ IfSome p IsPriority
 priority_is None = (λ e. tt, λ h. refl)
-priority_is (Some n) = (λ e. (grind (arith, common_steps), grind (arith, common_steps)), λ h. grind (arith, common_steps))
+priority_is (Some n) =
+    (λ e. (grind (arith, common_steps), grind (arith, common_steps)), λ h. grind (arith, common_steps))
 
 pub write_again : (body : List ℕ) (o : Order) → IsWriteBody body o → write_of body ≡ Ok o
 write_again body o s = write_again_at _ _ s.spelled ∙ rw ((priority_is o.priority).1 s.urgent) refl
@@ -47,7 +57,8 @@ in_range : (b : Bool) (o x : Order) → cond b (Ok o) (Err OutOfRange) ≡ Ok x 
 in_range true o x e = (refl, cc)
 in_range false o x e = absurd cc
 
-out_of_range : (b : Bool) (o : Order) (reason : RejectReason) → cond b (Ok o) (Err OutOfRange) ≡ Err reason → (b ≡ false) × (reason ≡ OutOfRange)
+out_of_range : (b : Bool) (o : Order) (reason : RejectReason) → cond b (Ok o) (Err OutOfRange) ≡ Err reason
+    → (b ≡ false) × (reason ≡ OutOfRange)
 out_of_range true o reason e = absurd cc
 out_of_range false o reason e = (refl, cc)
 
@@ -63,54 +74,78 @@ order_takes body x v rest r p named valued e =
 write_takes : (body : List ℕ) (o : Order) → write_of body ≡ Ok o → IsWriteBody body o
 unfolding write_of
 write_takes body o e =
-    let a = and_then_ok (reference_at body) (λ r. and_then (unless_missing r.1 (enclosed_at 3 r.1)) (write_behind r.0)) o e in
+    let a = and_then_ok (reference_at body) (λ r. and_then (unless_missing r.1 (enclosed_at 3 r.1)) (write_behind r.0))
+    o e in
     let b = and_then_ok (unless_missing a.0.1 (enclosed_at 3 a.0.1)) (write_behind a.0.0) o a.2 in
     let c = and_then_ok (ended (optional_at 4 b.0.1).0 (optional_at 4 b.0.1).1) (write_end a.0.0 b.0.0) o b.2 in
     let good = in_range (is_priority c.0) (record { reference = a.0.0; value = b.0.0; priority = c.0 }) o c.2 in
-    rw (← good.1) (record { spelled = order_takes body a.0.1 b.0.0 b.0.1 a.0.0 c.0 a.1 b.1 c.1; urgent = (priority_is c.0).0 good.0 })
+    rw (← good.1) (record
+    { spelled = order_takes body a.0.1 b.0.0 b.0.1 a.0.0 c.0 a.1 b.1 c.1; urgent = (priority_is c.0).0 good.0 })
 
 -- ---- the faults
 
 -- something follows
-write_more : (body x v rest : List ℕ) (r : Reference) → reference_at body ≡ Ok (r, x) → unless_missing x (enclosed_at 3 x) ≡ Ok (v, rest) → ((optional_at 4 rest).1 ≡ [] → ⊥) → WriteFault body TooMany
+write_more : (body x v rest : List ℕ) (r : Reference) → reference_at body ≡ Ok (r, x)
+    → unless_missing x (enclosed_at 3 x) ≡ Ok (v, rest) → ((optional_at 4 rest).1 ≡ [] → ⊥) → WriteFault body TooMany
 write_more body x v rest r named valued left =
-    let t = to_front SpellsParameter body rest (reference_parameters r ++ value v ∷ []) (value_takes body x v rest rest r [] named (needs_takes x (enclosed_at 3 x) (v, rest) valued) refl) in
+    let t = to_front SpellsParameter body rest (reference_parameters r ++ value v ∷ [])
+    (value_takes body x v rest rest r [] named (needs_takes x (enclosed_at 3 x) (v, rest) valued) refl) in
     let o : Order = record { reference = r; value = v; priority = None } in
-    let some : rest ≡ [] → ⊥ = λ empty. left (ap (λ (w : List ℕ). (optional_at 4 w).1) empty ∙ ap (λ (q : Option (ℕ × List ℕ)). (or_none [] q).1) (no_number 4)) in
+    let some : rest ≡ []
+    → ⊥ = λ empty.
+    left (ap (λ (w : List ℕ). (optional_at 4 w).1) empty
+    ∙ ap (λ (q : Option (ℕ × List ℕ)). (or_none [] q).1) (no_number 4)) in
     record { front = t.0; rest = rest; whole = (o, record { spelled = t.1; urgent = tt }); line = t.2; more = some }
 
 write_fault : (body : List ℕ) (reason : RejectReason) → write_of body ≡ Err reason → WriteFault body reason
 unfolding write_of
 write_fault body reason e =
-    elim (and_then_err (reference_at body) (λ r. and_then (unless_missing r.1 (enclosed_at 3 r.1)) (write_behind r.0)) reason e) [
-      | inl first ↦ elim (reference_fails body reason first) [ inl missing ↦ rw missing.0 (inl missing.1) | inr invalid ↦ rw invalid tt ]
+    elim (and_then_err (reference_at body) (λ r. and_then (unless_missing r.1 (enclosed_at 3 r.1)) (write_behind r.0))
+    reason e) [
+      | inl first ↦ elim (reference_fails body reason first)
+          [ inl missing ↦ rw missing.0 (inl missing.1) | inr invalid ↦ rw invalid tt ]
       | inr a ↦ elim (and_then_err (unless_missing a.0.1 (enclosed_at 3 a.0.1)) (write_behind a.0.0) reason a.2) [
         | inl second ↦ elim (needs_fails a.0.1 (enclosed_at 3 a.0.1) reason second) [
-          | inl missing ↦ rw missing.0 (inr (a.0.0, subst (λ (w : List ℕ). SpellsTo SpellsParameter body (reference_parameters a.0.0) w) missing.1 (reference_takes body a.0 a.1)))
+          | inl missing ↦ rw missing.0
+              (inr (
+                a.0.0,
+                subst (λ (w : List ℕ). SpellsTo SpellsParameter body (reference_parameters a.0.0) w) missing.1
+                    (reference_takes body a.0 a.1),
+              ))
           | inr invalid ↦ rw invalid.0 tt
         ]
-        | inr b ↦ elim (and_then_err (ended (optional_at 4 b.0.1).0 (optional_at 4 b.0.1).1) (write_end a.0.0 b.0.0) reason b.2) [
-          | inl third ↦ let end = ended_err (optional_at 4 b.0.1).0 (optional_at 4 b.0.1).1 reason third in rw end.0 (write_more body a.0.1 b.0.0 b.0.1 a.0.0 a.1 b.1 end.1)
-          | inr c ↦
-              let o : Order = record { reference = a.0.0; value = b.0.0; priority = c.0 } in
-              let bad = out_of_range (is_priority c.0) o reason c.2 in
-              rw bad.1 (o, order_takes body a.0.1 b.0.0 b.0.1 a.0.0 c.0 a.1 b.1 c.1, iff_false (priority_is c.0) bad.0)
-        ]
+        | inr b ↦ elim (and_then_err (ended (optional_at 4 b.0.1).0 (optional_at 4 b.0.1).1) (write_end a.0.0 b.0.0)
+            reason b.2) [
+              | inl third ↦ let end = ended_err (optional_at 4 b.0.1).0 (optional_at 4 b.0.1).1 reason third in
+                  rw end.0 (write_more body a.0.1 b.0.0 b.0.1 a.0.0 a.1 b.1 end.1)
+              | inr c ↦
+                  let o : Order = record { reference = a.0.0; value = b.0.0; priority = c.0 } in
+                  let bad = out_of_range (is_priority c.0) o reason c.2 in
+                  rw bad.1 (
+                    o,
+                    order_takes body a.0.1 b.0.0 b.0.1 a.0.0 c.0 a.1 b.1 c.1,
+                    iff_false (priority_is c.0) bad.0,
+                  )
+            ]
       ]
     ]
 
 write_range : (body : List ℕ) → WriteFault body OutOfRange → write_of body ≡ Err OutOfRange
-write_range body h = write_again_at body h.0 h.1 ∙ rw (false_from_ne_true (is_priority h.0.priority) (λ e. h.2 ((priority_is h.0.priority).0 e))) refl
+write_range body h = write_again_at body h.0 h.1
+    ∙ rw (false_from_ne_true (is_priority h.0.priority) (λ e. h.2 ((priority_is h.0.priority).0 e))) refl
 
-write_late : (body : List ℕ) (reason : RejectReason) → WriteFault body TooMany → write_of body ≡ Err reason → (reason ≡ TooMany) ⊎ (reason ≡ OutOfRange)
+write_late : (body : List ℕ) (reason : RejectReason) → WriteFault body TooMany → write_of body ≡ Err reason
+    → (reason ≡ TooMany) ⊎ (reason ≡ OutOfRange)
 unfolding write_of
 write_late body reason h e =
     let o = h.whole.0 in
     let s = from_front SpellsParameter body h.front h.rest (order_parameters o) h.line h.whole.1.spelled in
     let t = value_again body o.value h.rest o.reference (optional priority o.priority) s in
-    elim (and_then_err (ended (optional_at 4 t.1).0 (optional_at 4 t.1).1) (write_end o.reference o.value) reason (rw (t.2, step_ok value_step no_value _ _ _ t.3) at e)) [
+    elim (and_then_err (ended (optional_at 4 t.1).0 (optional_at 4 t.1).1) (write_end o.reference o.value) reason
+    (rw (t.2, step_ok value_step no_value _ _ _ t.3) at e)) [
       | inl third ↦ inl (ended_err (optional_at 4 t.1).0 (optional_at 4 t.1).1 reason third).0
-      | inr c ↦ inr (out_of_range (is_priority c.0) (record { reference = o.reference; value = o.value; priority = c.0 }) reason c.2).1
+      | inr c ↦ inr (out_of_range (is_priority c.0)
+          (record { reference = o.reference; value = o.value; priority = c.0 }) reason c.2).1
     ]
 
 write_missing : (body : List ℕ) → WriteFault body MissingParameter → write_of body ≡ Err MissingParameter
@@ -121,7 +156,17 @@ write_missing body h = elim h [
 ]
 
 write_judge : IsJudge IsWriteBody WriteFault write_of
-write_judge = record { takes = write_takes; again = write_again; fault = write_fault; range = write_range; late = write_late; missing = write_missing; invalid = λ body. tt; unknown = λ body h. h }
+write_judge = record {
+  takes = write_takes;
+  again = write_again;
+  fault = write_fault;
+  range = write_range;
+  late = write_late;
+  missing = write_missing;
+  invalid = λ body. tt;
+  unknown = λ body h. h;
+}
 
-pub write_is : (body : List ℕ) (o : Result Order RejectReason) → (write_of body ≡ o) ↔ IsOutcome IsWriteBody WriteFault body o
+pub write_is : (body : List ℕ) (o : Result Order RejectReason)
+    → (write_of body ≡ o) ↔ IsOutcome IsWriteBody WriteFault body o
 write_is = outcome_is write_judge

@@ -1,11 +1,12 @@
 -- The kinds of APDU, how their octets are laid out (clause 20.1), and how long an APDU each code announces.
-use Rattle.std.specs.Prelude.{◌≡◌, ℕ, ◌+◌, ◌/◌, ◌%◌, ◌<◌, ◌==◌, Bool, true, false, if◌then◌else◌, List, [], ◌∷◌, ◌++◌, Option, Some, None}
+use Rattle.std.specs.Prelude.{◌≡◌, ℕ, ◌+◌, ◌/◌, ◌%◌, ◌<◌, ◌==◌, Bool, true, false, if◌then◌else◌, List, [], ◌∷◌, ◌++◌}
+use Rattle.std.specs.Prelude.{Option, Some, None}
 use Rattle.bac_pdu.specs.declared.apdu.Part.{Part}
 use Rattle.bac_pdu.specs.declared.apdu.Apdu.{Apdu}
 use Rattle.bac_pdu.specs.declared.apdu.Apdu.TheVariants as kinds
 use Rattle.bac_pdu.specs.Bits.{bit}
 
--- an APDU without where its octets lie in memory
+-- What an APDU is, without where its octets lie in memory.
 pub data Message : Type 0 where
   confirmed : (part : Option Part) (code id service : ℕ) (body : List ℕ) → Message
   unconfirmed : (service : ℕ) (body : List ℕ) → Message
@@ -16,6 +17,7 @@ pub data Message : Type 0 where
   reject : (id reason : ℕ) → Message
   abort : (server : Bool) (id reason : ℕ) → Message
 
+-- The message that an `Apdu` of the code is.
 abbrev pub message : Apdu → Message
 message (kinds.Confirmed part code id service body) = confirmed part code id service body.now
 message (kinds.Unconfirmed service body) = unconfirmed service body.now
@@ -28,14 +30,15 @@ message (kinds.Abort server id reason) = abort server id reason
 
 -- ---- how they are laid out: the high half of the first octet is the type
 
--- Bit 3 of the first octet says that the APDU is a part of a longer message; bit 2 then says that more parts follow, and the
--- part's sequence number and the window size stand behind the number of the request.
+-- Bit 3 of the first octet says that the APDU is a part of a longer message; bit 2 then says that more parts follow,
+-- and the part's sequence number and the window size stand behind the invoke id.
 abbrev pub SpellsPart : ℕ → List ℕ → Option Part → Type 0
 SpellsPart first octets None = (bit 3 first ≡ false) × (octets ≡ [])
-SpellsPart first octets (Some part) = (bit 3 first ≡ true) × (part.more ≡ bit 2 first) × (octets ≡ part.sequence ∷ part.window ∷ [])
+SpellsPart first octets (Some part) = (bit 3 first ≡ true) × (part.more ≡ bit 2 first)
+    × (octets ≡ part.sequence ∷ part.window ∷ [])
 
--- the type and the flags, what the sender accepts (the greatest APDU in the low half), the number, the part, the service and
--- its body
+-- The octets of a Confirmed-Request: the type and the flags, what the sender accepts (the greatest APDU in the low
+-- half), the invoke id, the part, the service and its body.
 pub record IsConfirmed (octets : List ℕ) (part : Option Part) (code id service : ℕ) (body : List ℕ) : Type 0 where
   pub first : ℕ
   pub second : ℕ
@@ -45,7 +48,7 @@ pub record IsConfirmed (octets : List ℕ) (part : Option Part) (code id service
   pub coded : second % 16 ≡ code
   pub spelled : SpellsPart first part_octets part
 
--- the type and the flags, the number, the part, the service and its body
+-- The octets of a ComplexACK: the type and the flags, the invoke id, the part, the service and its body.
 pub record IsComplexAck (octets : List ℕ) (part : Option Part) (id service : ℕ) (body : List ℕ) : Type 0 where
   pub first : ℕ
   pub part_octets : List ℕ
@@ -53,27 +56,33 @@ pub record IsComplexAck (octets : List ℕ) (part : Option Part) (id service : �
   pub kind : first / 16 ≡ 3
   pub spelled : SpellsPart first part_octets part
 
--- which APDU a list of octets is; bits and octets that are not named here are not looked at
+-- These octets are this APDU. Bits and octets that are not named here are not looked at.
 abbrev pub IsLaidOut : List ℕ → Message → Type 0
 IsLaidOut octets (confirmed part code id service body) = IsConfirmed octets part code id service body
 IsLaidOut octets (unconfirmed service body) = (first : ℕ) × (first / 16 ≡ 1) × (octets ≡ first ∷ service ∷ body)
-IsLaidOut octets (simple_ack id service) = (first : ℕ) × (rest : List ℕ) × (first / 16 ≡ 2) × (octets ≡ first ∷ id ∷ service ∷ rest)
+IsLaidOut octets (simple_ack id service) = (first : ℕ) × (rest : List ℕ) × (first / 16 ≡ 2)
+    × (octets ≡ first ∷ id ∷ service ∷ rest)
 IsLaidOut octets (complex_ack part id service body) = IsComplexAck octets part id service body
 IsLaidOut octets segment_ack = (first : ℕ) × (rest : List ℕ) × (first / 16 ≡ 4) × (octets ≡ first ∷ rest)
 IsLaidOut octets (error id service body) = (first : ℕ) × (first / 16 ≡ 5) × (octets ≡ first ∷ id ∷ service ∷ body)
-IsLaidOut octets (reject id reason) = (first : ℕ) × (rest : List ℕ) × (first / 16 ≡ 6) × (octets ≡ first ∷ id ∷ reason ∷ rest)
-IsLaidOut octets (abort server id reason) = (first : ℕ) × (rest : List ℕ) × (first / 16 ≡ 7) × (server ≡ bit 0 first) × (octets ≡ first ∷ id ∷ reason ∷ rest)
+IsLaidOut octets (reject id reason) = (first : ℕ) × (rest : List ℕ) × (first / 16 ≡ 6)
+    × (octets ≡ first ∷ id ∷ reason ∷ rest)
+IsLaidOut octets (abort server id reason) = (first : ℕ) × (rest : List ℕ) × (first / 16 ≡ 7) × (server ≡ bit 0 first)
+    × (octets ≡ first ∷ id ∷ reason ∷ rest)
 
 -- ---- the form that is written, with 0 in each bit that is not looked at
 
+-- Bits 3 and 2 of the first octet.
 abbrev pub part_flags : Option Part → ℕ
 part_flags None = 0
 part_flags (Some part) = if part.more then 12 else 8
 
+-- The sequence number and the window size, where the APDU is a part.
 abbrev pub part_octets : Option Part → List ℕ
 part_octets None = []
 part_octets (Some part) = part.sequence ∷ part.window ∷ []
 
+-- The octets that are written of an APDU.
 abbrev pub laid_out : Message → List ℕ
 laid_out (confirmed part code id service body) = part_flags part ∷ code ∷ id ∷ (part_octets part ++ service ∷ body)
 laid_out (unconfirmed service body) = 16 ∷ service ∷ body
@@ -84,18 +93,16 @@ laid_out (error id service body) = 80 ∷ id ∷ service ∷ body
 laid_out (reject id reason) = 96 ∷ id ∷ reason ∷ []
 laid_out (abort server id reason) = (if server then 113 else 112) ∷ id ∷ reason ∷ []
 
--- the APDUs that can be written
+-- The APDUs that can be written: a code has four bits, and no SegmentACK is written.
 abbrev pub IsWritable : Message → Type 0
 IsWritable (confirmed part code id service body) = code < 16
 IsWritable (unconfirmed _ _) = Unit {0}
 IsWritable (simple_ack _ _) = Unit {0}
 IsWritable (complex_ack _ _ _ _) = Unit {0}
 IsWritable segment_ack = ⊥
-IsWritable (error _ _ _) = Unit {0}
-IsWritable (reject _ _) = Unit {0}
-IsWritable (abort _ _ _) = Unit {0}
+IsWritable _ = Unit {0}
 
--- the octets of the greatest APDU that a code announces; the codes above 5 are taken as 0
+-- The octets of the greatest APDU that a code announces; the codes above 5 are taken as 0.
 abbrev pub announced_size : ℕ → ℕ
 announced_size code =
     if code % 16 == 1 then 128

@@ -3,44 +3,51 @@ use Rattle.std.specs.Prelude.{ℕ, ◌/◌, ◌%◌, ◌==◌, Bool, true, false
 use Rattle.bac_wire.specs.Steps.{◌>>=◌}
 use Rattle.bac_pdu.specs.declared.apdu.Part.{Part}
 use Rattle.bac_pdu.specs.Bits.{bit}
-use Rattle.bac_pdu.specs.Apdu.{Message, confirmed, unconfirmed, simple_ack, complex_ack, segment_ack, error, reject, abort}
+use Rattle.bac_pdu.specs.Apdu.{Message, confirmed, unconfirmed, simple_ack, complex_ack, segment_ack, error, reject}
+use Rattle.bac_pdu.specs.Apdu.{abort}
 
--- the part where there is one, and the octets behind it
+-- The part where the flag says that there is one, and the octets behind it.
 abbrev pub part_at : ℕ → List ℕ → Bool → Option (Option Part × List ℕ)
 part_at first octets false = Some (None, octets)
 part_at first [] true = None
 part_at first (sequence ∷ []) true = None
-part_at first (sequence ∷ window ∷ octets) true = Some (Some (record { more = bit 2 first; sequence = sequence; window = window }), octets)
+part_at first (sequence ∷ window ∷ octets) true =
+    Some (Some (record { more = bit 2 first; sequence = sequence; window = window }), octets)
 
+-- The service, and the body behind it.
 abbrev pub service_at : List ℕ → Option (ℕ × List ℕ)
 service_at [] = None
 service_at (service ∷ body) = Some (service, body)
 
--- the part, the service and the body
+-- The part, the service and the body.
 unfoldable pub parts_at : ℕ → List ℕ → Option (Option Part × ℕ × List ℕ)
 parts_at first octets = do
   part ← part_at first octets (bit 3 first)
   service ← service_at part.1
   Some (part.0, service.0, service.1)
 
+-- The Confirmed-Request behind a first octet.
 abbrev pub confirmed_of : ℕ → List ℕ → Option Message
-confirmed_of first (second ∷ id ∷ octets) = parts_at first octets >>= (λ x. Some (confirmed x.0 (second % 16) id x.1 x.2))
+confirmed_of first (second ∷ id ∷ octets) =
+    parts_at first octets >>= (λ x. Some (confirmed x.0 (second % 16) id x.1 x.2))
 confirmed_of first _ = None
 
+-- The Unconfirmed-Request behind a first octet.
 abbrev pub unconfirmed_of : List ℕ → Option Message
 unconfirmed_of (service ∷ body) = Some (unconfirmed service body)
 unconfirmed_of _ = None
 
+-- The ComplexACK behind a first octet.
 abbrev pub complex_ack_of : ℕ → List ℕ → Option Message
 complex_ack_of first (id ∷ octets) = parts_at first octets >>= (λ x. Some (complex_ack x.0 id x.1 x.2))
 complex_ack_of first _ = None
 
--- a kind that is an invoke id and one octet more, and what stands behind them
+-- The APDU behind a first octet, where its type has the invoke id, one octet more, and perhaps a rest.
 abbrev pub numbered_of : (ℕ → ℕ → List ℕ → Message) → List ℕ → Option Message
 numbered_of made (id ∷ octet ∷ rest) = Some (made id octet rest)
 numbered_of made _ = None
 
--- the APDU that a list of octets is
+-- The APDU that a list of octets is.
 unfoldable pub apdu_of : List ℕ → Option Message
 apdu_of [] = None
 apdu_of (first ∷ octets) =

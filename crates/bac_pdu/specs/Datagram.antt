@@ -1,35 +1,40 @@
 -- What a datagram carries: the link header (Annex J.2), the network header and an APDU.
-use Rattle.std.specs.Prelude.{◌≡◌, ℕ, ◌+◌, Bool, true, false, ◌||◌, is_some, List, [], ◌∷◌, ◌++◌, length, Option, Some, None, IfSome}
+use Rattle.std.specs.Prelude.{◌≡◌, ℕ, ◌+◌, Bool, true, false, ◌||◌, is_some, List, [], ◌∷◌, ◌++◌, length, Option, Some}
+use Rattle.std.specs.Prelude.{None, IfSome}
 use Rattle.byteorder.specs.Endian.{big_number, big_bytes}
 use Rattle.bac_pdu.specs.declared.datagram.Carried.{Carried}
 use Rattle.bac_pdu.specs.Peer.{NetworkAddress, Station, IsRoutable, station}
 use Rattle.bac_pdu.specs.Header.{NetworkHeader, SpellsHeader, plain_header}
 use Rattle.bac_pdu.specs.Bits.{bit}
 
--- what a datagram carries: who sent it, whether it was sent to all, and the APDU
+-- What a datagram carries: who sent it, whether it was sent to all, and the APDU.
 pub record Delivery : Type 0 where
   pub peer : Station
   pub broadcast : Bool
   pub apdu : List ℕ
 
--- what was opened, without where its octets lie in memory
+-- What was opened by the code, without where its octets lie in memory.
 abbrev pub delivery : Carried → Delivery
 delivery carried = record { peer = station carried.peer; broadcast = carried.broadcast; apdu = carried.apdu.now }
 
--- Who sent a datagram of this function, and whether to all: 10 is an Original-Unicast-NPDU and 11 an Original-Broadcast-NPDU,
--- from where the datagram came; 4 is a Forwarded-NPDU, from the address and port in its next six octets, and always to all.
+-- Who sent a datagram of this function, and whether to all: 10 is an Original-Unicast-NPDU and 11 an
+-- Original-Broadcast-NPDU, from where the datagram came; 4 is a Forwarded-NPDU, from the address and port in its next
+-- six octets, and always to all.
 pub data SpellsOrigin (from : Station) : ℕ → List ℕ → Station → Bool → Type 0 where
   unicast : SpellsOrigin from 10 [] from false
   broadcast : SpellsOrigin from 11 [] from true
-  forwarded : (a b c d e f : ℕ) → SpellsOrigin from 4 (a ∷ b ∷ c ∷ d ∷ e ∷ f ∷ []) (record { ip = big_number 4 (a ∷ b ∷ c ∷ d ∷ []); port = big_number 2 (e ∷ f ∷ []); route = None }) true
+  forwarded : (a b c d e f : ℕ)
+      → SpellsOrigin from 4 (a ∷ b ∷ c ∷ d ∷ e ∷ f ∷ [])
+      (record { ip = big_number 4 (a ∷ b ∷ c ∷ d ∷ []); port = big_number 2 (e ∷ f ∷ []); route = None }) true
 
--- a header that is not ignored: it names no destination but all networks, and no source but one that a route leads to
+-- A network header that is not ignored: it names no destination but all networks, and no source but one that a route
+-- leads to.
 pub record IsHeeded (header : NetworkHeader) : Type 0 where
   pub destined : IfSome header.destination (λ to. to.network ≡ 65535)
   pub answerable : IfSome header.source IsRoutable
 
--- The type 129, the function, the length of the whole datagram in two octets, the origin, the network header and the APDU.
--- The peer is the sender, behind the source that the network header names.
+-- The datagram is the type 129, the function, the length of the whole datagram in two octets, the origin, the network
+-- header and the APDU. The peer is the sender, with the source that the network header names as its route.
 pub record Carries (from : Station) (datagram : List ℕ) (delivery : Delivery) : Type 0 where
   pub function : ℕ
   pub high : ℕ
@@ -49,8 +54,8 @@ pub record Carries (from : Station) (datagram : List ℕ) (delivery : Delivery) 
 
 -- ---- the form that is written
 
--- The unicast datagram that takes the APDU to a station: its network header names the station behind the router, if any, as
--- the destination, and no source, and says whether a reply is expected.
+-- The unicast datagram that takes the APDU to a station: its network header names the station behind the router, if
+-- any, as the destination, and no source, and says whether a reply is expected.
 pub record Takes (to : Option NetworkAddress) (expect : Bool) (apdu datagram : List ℕ) : Type 0 where
   pub high : ℕ
   pub low : ℕ
@@ -60,14 +65,12 @@ pub record Takes (to : Option NetworkAddress) (expect : Bool) (apdu datagram : L
   pub headed : SpellsHeader header (record { destination = to; source = None })
   pub expected : bit 2 headed.control ≡ expect
 
+-- The datagram that is written round an APDU: the link header, the network header, and the APDU.
 unfoldable pub wrapped : Option NetworkAddress → Bool → List ℕ → List ℕ
-wrapped to expect apdu = 129 ∷ 10 ∷ (big_bytes 2 (4 + length (plain_header to expect ++ apdu)) ++ (plain_header to expect ++ apdu))
+wrapped to expect apdu =
+    129 ∷ 10 ∷ (big_bytes 2 (4 + length (plain_header to expect ++ apdu)) ++ (plain_header to expect ++ apdu))
 
--- how many octets stand before an APDU: six, or ten and the address of a station behind a router
+-- How many octets stand before an APDU: six, or ten and the address of a station behind a router.
 abbrev pub front_count : Option NetworkAddress → ℕ
 front_count None = 6
 front_count (Some to) = 10 + length to.address
-
--- what stands before an APDU of so many octets
-unfoldable pub front_octets : Option NetworkAddress → Bool → ℕ → List ℕ
-front_octets to expect size = 129 ∷ 10 ∷ (big_bytes 2 (4 + (length (plain_header to expect) + size)) ++ plain_header to expect)

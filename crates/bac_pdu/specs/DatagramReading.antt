@@ -1,5 +1,6 @@
 -- Reading a datagram from left to right.
-use Rattle.std.specs.Prelude.{ℕ, ◌+◌, nat_lt, ◌==◌, Bool, true, false, ◌&&◌, ◌||◌, is_some, if◌then◌else◌, List, [], ◌∷◌, length, take, drop, Option, Some, None}
+use Rattle.std.specs.Prelude.{ℕ, ◌+◌, nat_lt, ◌==◌, Bool, true, false, ◌&&◌, ◌||◌, is_some, if◌then◌else◌, List, []}
+use Rattle.std.specs.Prelude.{◌∷◌, length, take, drop, Option, Some, None}
 use Rattle.byteorder.specs.Endian.{big_number}
 use Rattle.bac_wire.specs.Steps.{◌>>=◌}
 use Rattle.bac_wire.specs.TagReading.{two_at}
@@ -8,28 +9,30 @@ use Rattle.bac_pdu.specs.Peer.{NetworkAddress, Station}
 use Rattle.bac_pdu.specs.Header.{NetworkHeader}
 use Rattle.bac_pdu.specs.Datagram.{Delivery}
 
--- as many octets as the first one says
+-- As many octets as the first one says, and those behind them.
 abbrev pub counted_at : List ℕ → Option (List ℕ × List ℕ)
 counted_at [] = None
 counted_at (count ∷ octets) = if nat_lt (length octets) count then None else Some (take count octets, drop count octets)
 
+-- The network and the address of a station, and the octets behind them.
 unfoldable pub address_at : List ℕ → Option (NetworkAddress × List ℕ)
 address_at octets = do
   network ← two_at octets
   address ← counted_at network.1
   Some (record { network = network.0; address = address.0 }, address.1)
 
--- an address where one is announced
+-- The address that a bit announces, where it does, and the octets behind it.
 abbrev pub announced_at : Bool → List ℕ → Option (Option NetworkAddress × List ℕ)
 announced_at false octets = Some (None, octets)
 announced_at true octets = address_at octets >>= (λ x. Some (Some x.0, x.1))
 
--- the octets behind a hop count where there is one
+-- The octets behind the hop count, which stands there where a destination does.
 abbrev pub behind_hops : Bool → List ℕ → Option (List ℕ)
 behind_hops false octets = Some octets
 behind_hops true [] = None
 behind_hops true (_ ∷ octets) = Some octets
 
+-- The network header behind this control octet, and the APDU behind it.
 abbrev pub behind_control : ℕ → List ℕ → Option (NetworkHeader × List ℕ)
 behind_control control octets = do
   destination ← announced_at (bit 5 control) octets
@@ -37,16 +40,23 @@ behind_control control octets = do
   apdu ← behind_hops (bit 5 control) source.1
   Some (record { destination = destination.0; source = source.0 }, apdu)
 
+-- The network header at the front, of version 1 and with bit 7 clear, and the APDU behind it.
 unfoldable pub header_at : List ℕ → Option (NetworkHeader × List ℕ)
 header_at [] = None
 header_at (version ∷ []) = None
-header_at (version ∷ control ∷ octets) = if version == 1 then (if bit 7 control then None else behind_control control octets) else None
+header_at (version ∷ control ∷ octets) =
+    if version == 1 then (if bit 7 control then None else behind_control control octets) else None
 
+-- The originator that a Forwarded-NPDU names, which is always for all, and the octets behind it.
 abbrev pub forwarded_at : List ℕ → Option ((Station × Bool) × List ℕ)
-forwarded_at (a ∷ b ∷ c ∷ d ∷ e ∷ f ∷ octets) = Some ((record { ip = big_number 4 (a ∷ b ∷ c ∷ d ∷ []); port = big_number 2 (e ∷ f ∷ []); route = None }, true), octets)
+forwarded_at (a ∷ b ∷ c ∷ d ∷ e ∷ f ∷ octets) =
+    Some (
+      (record { ip = big_number 4 (a ∷ b ∷ c ∷ d ∷ []); port = big_number 2 (e ∷ f ∷ []); route = None }, true),
+      octets,
+    )
 forwarded_at _ = None
 
--- who sent a datagram of this function, whether to all, and the octets behind
+-- Who sent a datagram of this function, whether it was sent to all, and the octets behind.
 abbrev pub origin_at : ℕ → Station → List ℕ → Option ((Station × Bool) × List ℕ)
 origin_at function from octets =
     if function == 10 then Some ((from, false), octets)
@@ -54,29 +64,39 @@ origin_at function from octets =
     else if function == 4 then forwarded_at octets
     else None
 
+-- Who sent the datagram, whether it was sent to all, and the octets behind the link header. Its length has to be the
+-- datagram's.
 unfoldable pub link_at : Station → List ℕ → Option ((Station × Bool) × List ℕ)
 link_at from (kind ∷ function ∷ high ∷ low ∷ octets) =
-    if kind == 129 then (if big_number 2 (high ∷ low ∷ []) == 4 + length octets then origin_at function from octets else None) else None
+    if kind == 129
+    then (if big_number 2 (high ∷ low ∷ []) == 4 + length octets then origin_at function from octets else None)
+    else None
 link_at from _ = None
 
+-- Whether a route leads to this station.
 abbrev pub is_routable : NetworkAddress → Bool
-is_routable to = nat_lt 0 to.network && (nat_lt to.network 65535 && (nat_lt 0 (length to.address) && nat_lt (length to.address) 8))
+is_routable to =
+    nat_lt 0 to.network && (nat_lt to.network 65535 && (nat_lt 0 (length to.address) && nat_lt (length to.address) 8))
 
--- no destination but all networks
+-- Whether the header names no destination but all networks.
 abbrev pub is_for_all : Option NetworkAddress → Bool
 is_for_all None = true
 is_for_all (Some to) = to.network == 65535
 
--- no source but one that a route leads to
+-- Whether the header names no source but one that a route leads to.
 abbrev pub is_answerable : Option NetworkAddress → Bool
 is_answerable None = true
 is_answerable (Some source) = is_routable source
 
--- what the datagram carries, or nothing where it is ignored
+-- What the datagram carries, or nothing where it is ignored.
 unfoldable pub carried : Station → List ℕ → Option Delivery
 carried from datagram = do
   link ← link_at from datagram
   header ← header_at link.1
   if is_for_all header.0.destination then (if is_answerable header.0.source then
-      Some (record { peer = record { ip = link.0.0.ip; port = link.0.0.port; route = header.0.source }; broadcast = link.0.1 || is_some header.0.destination; apdu = header.1 })
+      Some (record {
+        peer = record { ip = link.0.0.ip; port = link.0.0.port; route = header.0.source };
+        broadcast = link.0.1 || is_some header.0.destination;
+        apdu = header.1;
+      })
       else None) else None

@@ -1,5 +1,5 @@
 -- The bodies of Who-Is and I-Am (clauses 16.10 and 21).
-use Rattle.std.specs.Prelude.{◌≡◌, ℕ, ◌^◌, ◌<◌, nat_le, Bool, true, ◌&&◌, List, [], ◌∷◌, ◌++◌}
+use Rattle.std.specs.Prelude.{◌≡◌, ℕ, nat_le, Bool, true, ◌&&◌, List, [], ◌∷◌, ◌++◌}
 use Rattle.bac_wire.specs.Identifier.{Identifier, identifier}
 use Rattle.bac_wire.specs.Datum.{Datum, unsigned, enumerated, Spells, plain}
 use Rattle.bac_wire.specs.Datum as values
@@ -10,49 +10,49 @@ use Rattle.bac_pdu.specs.declared.discovery.WhoIs.TheVariants as limits
 use Rattle.bac_wire.specs.Front.{SpellsAll}
 use Rattle.bac_pdu.specs.Parameter.{plain_all}
 
--- a number under a context tag, named first
+-- A context tag of the first number, and under it the second.
 abbrev pub SpellsNumbered : List ℕ → ℕ × ℕ → Type 0
 SpellsNumbered octets x = SpellsIn IsNumber x.0 octets x.1
 
--- nothing, or the low limit under tag 0 and the high one under tag 1
+-- The body of a Who-Is: nothing, or the low limit under tag 0 and the high one under tag 1.
 abbrev pub IsWhoIsBody : List ℕ → WhoIs → Type 0
 IsWhoIsBody body limits.All = body ≡ []
 IsWhoIsBody body (limits.Range low high) = SpellsAll SpellsNumbered body ((0, low) ∷ (1, high) ∷ [])
 
--- the limits that there are: numbers of four octets at most
-abbrev pub HasLimits : WhoIs → Type 0
-HasLimits limits.All = Unit {0}
-HasLimits (limits.Range low high) = (low < 2 ^ 32) × (high < 2 ^ 32)
-
--- whether a Who-Is asks for the device of this instance
+-- Whether a Who-Is asks for the device of this instance.
 abbrev pub asks : WhoIs → ℕ → Bool
 asks limits.All instance = true
 asks (limits.Range low high) instance = nat_le low instance && nat_le instance high
 
--- a device, the APDU that it takes, its segmentation and its vendor
+-- What a device says of itself: its identifier, the longest APDU that it takes, its segmentation and its vendor.
 pub record Introduction : Type 0 where
   pub device : Identifier
   pub max_apdu : ℕ
   pub segmentation : ℕ
   pub vendor : ℕ
 
+-- What an `IAm` of the code says.
 abbrev pub introduction : IAm → Introduction
-introduction i = record { device = identifier i.device; max_apdu = i.max_apdu; segmentation = i.segmentation; vendor = i.vendor }
+introduction i =
+    record { device = identifier i.device; max_apdu = i.max_apdu; segmentation = i.segmentation; vendor = i.vendor }
 
--- the values in their order
+-- The values of the body of an I-Am, in their order.
 abbrev pub introduction_values : Introduction → List Datum
-introduction_values i = values.object i.device ∷ unsigned i.max_apdu ∷ enumerated i.segmentation ∷ unsigned i.vendor ∷ []
+introduction_values i =
+    values.object i.device ∷ unsigned i.max_apdu ∷ enumerated i.segmentation ∷ unsigned i.vendor ∷ []
 
--- four application-tagged values, of which the first names an object of type 8, a device
+-- The body of an I-Am: four values under application tags, of which the first names an object of type 8, a device.
 pub record IsIAmBody (body : List ℕ) (i : Introduction) : Type 0 where
   pub device : i.device.kind ≡ 8
   pub spelled : SpellsAll Spells body (introduction_values i)
 
 -- ---- the form that is written
 
+-- The body that is written of a Who-Is.
 abbrev pub who_is_octets : WhoIs → List ℕ
 who_is_octets limits.All = []
 who_is_octets (limits.Range low high) = number_octets 0 low ++ number_octets 1 high
 
+-- The body that is written of an I-Am.
 abbrev pub i_am_octets : Introduction → List ℕ
 i_am_octets i = plain_all plain (introduction_values i)

@@ -4,9 +4,10 @@ use Rattle.bac_wire.specs.Datum.{enumerated, Spells, plain}
 use Rattle.bac_wire.specs.Front.{SpellsTo}
 use Rattle.bac_pdu.specs.Parameter.{plain_all}
 
--- the class and the code at the front; what follows is not looked at
+-- The body of an Error: the class and the code stand at the front, and what follows is not looked at.
 abbrev pub IsErrorBody : List ℕ → ℕ × ℕ → Type 0
 IsErrorBody body x = (rest : List ℕ) × SpellsTo Spells body (enumerated x.0 ∷ enumerated x.1 ∷ []) rest
 
+-- The body that is written of an Error.
 abbrev pub error_octets : ℕ → ℕ → List ℕ
 error_octets class code = plain_all plain (enumerated class ∷ enumerated code ∷ [])

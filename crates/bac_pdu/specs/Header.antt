@@ -1,46 +1,36 @@
 -- The network header (clause 6.2).
 use Rattle.std.specs.Prelude.{◌≡◌, ℕ, Bool, true, false, if◌then◌else◌, List, [], ◌∷◌, ◌++◌, length, Option, Some, None}
 use Rattle.byteorder.specs.Endian.{big_number, big_bytes}
-use Rattle.std.specs.Option.{option_map}
-use Rattle.bac_pdu.specs.declared.header.Address.{Address}
-use Rattle.bac_pdu.specs.declared.header.Header.{Header}
 use Rattle.bac_pdu.specs.Bits.{bit}
 use Rattle.bac_pdu.specs.Peer.{NetworkAddress}
 
--- what a network header says: the stations of other networks that the datagram is for and from
+-- What a network header says: the stations of other networks that the datagram is for and from.
 pub record NetworkHeader : Type 0 where
   pub destination : Option NetworkAddress
   pub source : Option NetworkAddress
 
--- the same, without where the octets lie in memory
-abbrev pub address_seen : Address → NetworkAddress
-address_seen station = record { network = station.network; address = station.address.now }
-
-abbrev pub header_seen : Header → NetworkHeader
-header_seen header = record { destination = option_map address_seen header.destination; source = option_map address_seen header.source }
-
--- the number of the network in two octets, how many octets the address has, and these
+-- The number of the network in two octets, how many octets the address has, and these.
 pub record SpellsAddress (octets : List ℕ) (station : NetworkAddress) : Type 0 where
   pub high : ℕ
   pub low : ℕ
   pub whole : octets ≡ high ∷ low ∷ length station.address ∷ station.address
   pub number : station.network ≡ big_number 2 (high ∷ low ∷ [])
 
--- an address stands there where the bit that announces it is set
+-- The octets are an address where the bit that announces one is set, and nothing where it is not.
 abbrev pub SpellsAnnounced : Bool → List ℕ → Option NetworkAddress → Type 0
 SpellsAnnounced false octets None = octets ≡ []
 SpellsAnnounced false octets (Some station) = ⊥
 SpellsAnnounced true octets None = ⊥
 SpellsAnnounced true octets (Some station) = SpellsAddress octets station
 
--- a hop count stands there where a destination does
+-- The octets are a hop count where there is a destination, and nothing where there is none.
 abbrev pub SpellsHops : Bool → List ℕ → Type 0
 SpellsHops false octets = octets ≡ []
 SpellsHops true octets = (count : ℕ) × (octets ≡ count ∷ [])
 
--- The version 1, the control octet, the destination, the source and the hop count.
--- Of the control octet, bit 7 is clear (it would announce a message of the network layer), bit 5 announces a destination,
--- bit 3 a source, and bit 2 says that a reply is expected.
+-- The version 1, the control octet, the destination, the source and the hop count. Of the control octet, bit 7 is clear
+-- (it would announce a message of the network layer), bit 5 announces a destination, bit 3 a source, and bit 2 says
+-- that a reply is expected.
 pub record SpellsHeader (octets : List ℕ) (header : NetworkHeader) : Type 0 where
   pub control : ℕ
   pub destination : List ℕ
@@ -54,10 +44,11 @@ pub record SpellsHeader (octets : List ℕ) (header : NetworkHeader) : Type 0 wh
 
 -- ---- the form that is written
 
+-- The network in two octets, the length of the address, and the address.
 abbrev pub address_octets : NetworkAddress → List ℕ
 address_octets station = big_bytes 2 station.network ++ length station.address ∷ station.address
 
--- no bit but the needed ones, and the greatest hop count
+-- The header that is written: no bit but the needed ones, and the greatest hop count.
 abbrev pub plain_header : Option NetworkAddress → Bool → List ℕ
 plain_header None expect = 1 ∷ (if expect then 4 else 0) ∷ []
 plain_header (Some station) expect = 1 ∷ (if expect then 36 else 32) ∷ (address_octets station ++ 255 ∷ [])

@@ -3,8 +3,10 @@ use Rattle.std.specs.Prelude.{ℕ, ◌^◌, ◌<◌, List, [], ◌∷◌, ◌++�
 use Rattle.bac_wire.specs.Identifier.{Identifier, IsIdentifier}
 use Rattle.bac_wire.specs.Limits.{deepest}
 use Rattle.bac_wire.specs.Region.{IsRegion}
-use Rattle.bac_wire.specs.Parameter.{SpellsIn, IsNumber, IsObject, SpellsEnclosed, number_octets, object_octets, enclosed_octets}
+use Rattle.bac_wire.specs.Parameter.{SpellsIn, IsNumber, IsObject, SpellsEnclosed, number_octets, object_octets}
+use Rattle.bac_wire.specs.Parameter.{enclosed_octets}
 
+-- A parameter, by what it is.
 pub data Parameter : Type 0 where
   object : Identifier → Parameter
   property : ℕ → Parameter
@@ -12,7 +14,7 @@ pub data Parameter : Type 0 where
   value : List ℕ → Parameter
   priority : ℕ → Parameter
 
--- each parameter under its number; the value is a list of whole items between two tags
+-- Each parameter stands under its number. The value is a list of whole items between two tags.
 abbrev pub SpellsParameter : List ℕ → Parameter → Type 0
 SpellsParameter octets (object id) = SpellsIn IsObject 0 octets id
 SpellsParameter octets (property n) = SpellsIn IsNumber 1 octets n
@@ -20,7 +22,7 @@ SpellsParameter octets (index n) = SpellsIn IsNumber 2 octets n
 SpellsParameter octets (value region) = SpellsEnclosed 3 octets region
 SpellsParameter octets (priority n) = SpellsIn IsNumber 4 octets n
 
--- the parameters that there are
+-- The parameters that can be written.
 abbrev pub IsParameter : Parameter → Type 0
 IsParameter (object id) = IsIdentifier id
 IsParameter (property n) = n < 2 ^ 32
@@ -28,14 +30,14 @@ IsParameter (index n) = n < 2 ^ 32
 IsParameter (value region) = IsRegion deepest region
 IsParameter (priority n) = n < 2 ^ 32
 
--- one parameter where there is a value for it, else none
+-- The parameter, where there is a value for it; else none.
 abbrev pub optional : {A B : Type 0} → (A → B) → Option A → List B
 optional made None = []
 optional made (Some x) = made x ∷ []
 
 -- ---- the form that is written
 
--- numbers in the fewest octets, each tag in its shortest form
+-- The octets that are written: numbers in the fewest octets, each tag in its shortest form.
 unfoldable pub plain_parameter : Parameter → List ℕ
 plain_parameter (object id) = object_octets 0 id
 plain_parameter (property n) = number_octets 1 n
@@ -43,11 +45,7 @@ plain_parameter (index n) = number_octets 2 n
 plain_parameter (value region) = enclosed_octets 3 region
 plain_parameter (priority n) = number_octets 4 n
 
--- a number under this tag, where there is one
-abbrev pub optional_octets : ℕ → Option ℕ → List ℕ
-optional_octets number None = []
-optional_octets number (Some n) = number_octets number n
-
+-- What is written of things one after the other.
 abbrev pub plain_all : {A : Type 0} → (A → List ℕ) → List A → List ℕ
 plain_all plain [] = []
 plain_all plain (x ∷ xs) = plain x ++ plain_all plain xs

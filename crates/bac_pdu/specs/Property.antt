@@ -1,4 +1,5 @@
--- The bodies of ReadProperty, its answer and WriteProperty: their parameters in their order (clauses 15.5, 15.9 and 21).
+-- The bodies of ReadProperty, its answer and WriteProperty: their parameters in their order (clauses 15.5, 15.9 and
+-- 21).
 use Rattle.std.specs.Prelude.{ℕ, ◌≤◌, List, [], ◌∷◌, ◌++◌, Option, IfSome}
 use Rattle.bac_wire.specs.Identifier.{Identifier, identifier}
 use Rattle.bac_wire.specs.Tag.{plain_tag}
@@ -7,20 +8,21 @@ use Rattle.bac_pdu.specs.declared.property.ReadRequest.{ReadRequest}
 use Rattle.bac_pdu.specs.declared.property.WriteRequest.{WriteRequest}
 use Rattle.bac_pdu.specs.declared.property.Ack.{Ack}
 use Rattle.bac_wire.specs.Front.{SpellsAll}
-use Rattle.bac_pdu.specs.Parameter.{Parameter, object, property, index, value, priority, SpellsParameter, optional, plain_parameter, plain_all}
+use Rattle.bac_pdu.specs.Parameter.{Parameter, object, property, index, value, priority, SpellsParameter, optional}
+use Rattle.bac_pdu.specs.Parameter.{plain_parameter, plain_all}
 
--- which property of which object, or which element of it
+-- A property of an object, or an element of it: what a request names.
 pub record Reference : Type 0 where
   pub object : Identifier
   pub property : ℕ
   pub index : Option ℕ
 
--- a property and its value
+-- What a ReadProperty-ACK says: a property, and its value.
 pub record Answer : Type 0 where
   pub reference : Reference
   pub value : List ℕ
 
--- a property, the value that it shall have, and how urgent that is
+-- What a WriteProperty says: a property, the value that it shall have, and the priority of that.
 pub record Order : Type 0 where
   pub reference : Reference
   pub value : List ℕ
@@ -28,56 +30,76 @@ pub record Order : Type 0 where
 
 -- ---- the records of the code, without where their octets lie in memory
 
+-- What a `ReadRequest` names.
 abbrev pub reference : ReadRequest → Reference
 reference r = record { object = identifier r.object; property = r.property; index = r.index }
 
+-- What an `Ack` says.
 abbrev pub answer : Ack → Answer
-answer a = record { reference = record { object = identifier a.object; property = a.property; index = a.index }; value = a.value.now }
+answer a = record {
+  reference = record { object = identifier a.object; property = a.property; index = a.index };
+  value = a.value.now;
+}
 
+-- What a `WriteRequest` says.
 abbrev pub order : WriteRequest → Order
-order w = record { reference = record { object = identifier w.object; property = w.property; index = w.index }; value = w.value.now; priority = w.priority }
+order w = record {
+  reference = record { object = identifier w.object; property = w.property; index = w.index };
+  value = w.value.now;
+  priority = w.priority;
+}
 
 -- ---- the parameters in their order
 
+-- The object, the property and, where it is an element, its index.
 abbrev pub reference_parameters : Reference → List Parameter
 reference_parameters r = object r.object ∷ property r.property ∷ optional index r.index
 
+-- The parameters of a ReadProperty-ACK.
 abbrev pub answer_parameters : Answer → List Parameter
 answer_parameters a = reference_parameters a.reference ++ value a.value ∷ []
 
+-- The parameters of a WriteProperty.
 abbrev pub order_parameters : Order → List Parameter
 order_parameters o = reference_parameters o.reference ++ value o.value ∷ optional priority o.priority
 
 -- ---- the bodies
 
+-- The body of a ReadProperty.
 abbrev pub IsReadBody : List ℕ → Reference → Type 0
 IsReadBody body r = SpellsAll SpellsParameter body (reference_parameters r)
 
+-- The body of a ReadProperty-ACK.
 abbrev pub IsAckBody : List ℕ → Answer → Type 0
 IsAckBody body a = SpellsAll SpellsParameter body (answer_parameters a)
 
--- the priorities of a write: 1 is the most urgent (clause 19.2)
+-- The priorities of a write: 1 is the most urgent (clause 19.2).
 abbrev pub IsPriority : ℕ → Type 0
 IsPriority n = (1 ≤ n) × (n ≤ 16)
 
+-- The body of a WriteProperty: its parameters, and a priority that there is, or none.
 pub record IsWriteBody (body : List ℕ) (o : Order) : Type 0 where
   pub spelled : SpellsAll SpellsParameter body (order_parameters o)
   pub urgent : IfSome o.priority IsPriority
 
 -- ---- the form that is written
 
+-- The body that is written of a ReadProperty.
 abbrev pub read_octets : Reference → List ℕ
 read_octets r = plain_all plain_parameter (reference_parameters r)
 
+-- The body that is written of a ReadProperty-ACK.
 abbrev pub ack_octets : Answer → List ℕ
 ack_octets a = plain_all plain_parameter (answer_parameters a)
 
+-- The body that is written of a WriteProperty.
 abbrev pub write_octets : Order → List ℕ
 write_octets o = plain_all plain_parameter (order_parameters o)
 
--- the body of an answer up to its value, and behind it
+-- What stands before the value in the body of a ReadProperty-ACK: the parameters, and an opening tag 3.
 abbrev pub ack_front : Reference → List ℕ
 ack_front r = read_octets r ++ plain_tag (opening_tag 3)
 
+-- What stands behind the value: a closing tag 3.
 abbrev pub ack_end : List ℕ
 ack_end = plain_tag (closing_tag 3)

@@ -1,12 +1,14 @@
 -- Why the body of a confirmed request is rejected (clause 18.9; which reason a body gets is this project's choice).
-use Rattle.std.specs.Prelude.{◌≡◌, ◌≢◌, ℕ, ◌⊎◌, List, [], ◌∷◌, ◌++◌, IfSome, IfOk, IfErr, Result, Ok, Err}
+use Rattle.std.specs.Prelude.{◌≡◌, ◌≢◌, ℕ, ◌⊎◌, List, [], ◌∷◌, ◌++◌, IfSome, IfOk, IfErr, Result, Ok}
 use Rattle.bac_wire.specs.Identifier.{Identifier}
 use Rattle.bac_pdu.specs.declared.reject.RejectReason.{RejectReason}
-use Rattle.bac_pdu.specs.declared.reject.RejectReason.TheVariants.{InvalidTag, MissingParameter, OutOfRange, TooMany, UnknownService}
+use Rattle.bac_pdu.specs.declared.reject.RejectReason.TheVariants.{InvalidTag, MissingParameter, OutOfRange, TooMany}
+use Rattle.bac_pdu.specs.declared.reject.RejectReason.TheVariants.{UnknownService}
 use Rattle.bac_wire.specs.Front.{SpellsAll}
 use Rattle.bac_pdu.specs.Parameter.{object, SpellsParameter}
 use Rattle.bac_pdu.specs.Property.{Reference, Order, order_parameters, IsReadBody, IsWriteBody, IsPriority}
 
+-- The number of the reason in a Reject (clause 18.9).
 abbrev pub reason_number : RejectReason → ℕ
 reason_number InvalidTag = 4
 reason_number MissingParameter = 5
@@ -14,12 +16,7 @@ reason_number OutOfRange = 6
 reason_number TooMany = 7
 reason_number UnknownService = 9
 
--- what was answered, with the record as view shows it
-abbrev pub result_seen : {A B : Type 0} → (A → B) → Result A RejectReason → Result B RejectReason
-result_seen view (Ok x) = Ok (view x)
-result_seen view (Err reason) = Err reason
-
--- a proper front of the body is whole
+-- The body has more octets than it should: a front of it is whole, and something follows.
 pub record HasMore (IsWhole : List ℕ → Type 0) (body : List ℕ) : Type 0 where
   pub front : List ℕ
   pub rest : List ℕ
@@ -27,10 +24,12 @@ pub record HasMore (IsWhole : List ℕ → Type 0) (body : List ℕ) : Type 0 wh
   pub line : body ≡ front ++ rest
   pub more : rest ≢ []
 
--- nothing, or an object alone
+-- The body has no octet, or names an object alone.
 abbrev pub LacksReference : List ℕ → Type 0
 LacksReference body = (body ≡ []) ⊎ ((id : Identifier) × SpellsAll SpellsParameter body (object id ∷ []))
 
+-- What is wrong with the body of a ReadProperty, by reason: it has more octets than it should; no property is named; or
+-- anything else. The two other reasons never apply.
 abbrev pub ReadFault : List ℕ → RejectReason → Type 0
 ReadFault body OutOfRange = ⊥
 ReadFault body TooMany = HasMore (λ front. (r : Reference) × IsReadBody front r) body
@@ -38,24 +37,29 @@ ReadFault body MissingParameter = LacksReference body
 ReadFault body InvalidTag = Unit {0}
 ReadFault body UnknownService = ⊥
 
--- A priority that there is not; more than a write; less than a property and a value for it; anything else.
+-- What is wrong with the body of a WriteProperty, by reason: a priority that there is not; more octets than it should
+-- have; no property or no value; or anything else. `UnknownService` never applies.
 abbrev pub WriteFault : List ℕ → RejectReason → Type 0
-WriteFault body OutOfRange = (o : Order) × SpellsAll SpellsParameter body (order_parameters o) × (IfSome o.priority IsPriority → ⊥)
+WriteFault body OutOfRange = (o : Order) × SpellsAll SpellsParameter body (order_parameters o)
+    × (IfSome o.priority IsPriority → ⊥)
 WriteFault body TooMany = HasMore (λ front. (o : Order) × IsWriteBody front o) body
 WriteFault body MissingParameter = LacksReference body ⊎ ((r : Reference) × IsReadBody body r)
 WriteFault body InvalidTag = Unit {0}
 WriteFault body UnknownService = ⊥
 
--- the first of these that applies
+-- The first of these that applies.
 abbrev pub IsFirst : {A : Type 0} → (A → Type 0) → List A → A → Type 0
 IsFirst Applies [] x = ⊥
 IsFirst Applies (y ∷ ys) x = (Applies y × (x ≡ y)) ⊎ ((Applies y → ⊥) × IsFirst Applies ys x)
 
+-- The reason is the first that applies, in this order.
 abbrev pub IsRejectReason : (List ℕ → RejectReason → Type 0) → List ℕ → RejectReason → Type 0
-IsRejectReason HasFault body reason = IsFirst (HasFault body) (OutOfRange ∷ TooMany ∷ MissingParameter ∷ InvalidTag ∷ []) reason
+IsRejectReason HasFault body reason =
+    IsFirst (HasFault body) (OutOfRange ∷ TooMany ∷ MissingParameter ∷ InvalidTag ∷ []) reason
 
--- the record that the body is; where it is none, the first fault that it has
-pub record IsOutcome {A : Type 0} (IsWhole : List ℕ → A → Type 0) (HasFault : List ℕ → RejectReason → Type 0) (body : List ℕ) (outcome : Result A RejectReason) : Type 0 where
+-- The outcome is the record that the body is; where it is none, the reason to reject it.
+pub record IsOutcome {A : Type 0} (IsWhole : List ℕ → A → Type 0) (HasFault : List ℕ → RejectReason → Type 0)
+    (body : List ℕ) (outcome : Result A RejectReason) : Type 0 where
   pub whole : IfOk outcome (IsWhole body)
   pub all : (x : A) → IsWhole body x → outcome ≡ Ok x
   pub rejected : IfErr outcome (IsRejectReason HasFault body)

@@ -7,27 +7,30 @@ use Rattle.bac_pdu.specs.declared.discovery.WhoIs.TheVariants as limits
 use Rattle.bac_pdu.specs.Discovery.{Introduction}
 use Rattle.bac_pdu.specs.PropertyReading.{whole_of}
 
+-- The two limits that the body of a Who-Is is.
 abbrev pub range_of : List ℕ → Option WhoIs
 range_of body = do
   low ← number_at 0 body
   high ← number_at 1 low.1
   whole_of (limits.Range low.0 high.0) high.1
 
--- which devices the body of a Who-Is asks
+-- Which devices the body of a Who-Is asks.
 unfoldable pub who_is_of : List ℕ → Option WhoIs
 who_is_of [] = Some limits.All
 who_is_of (x ∷ xs) = range_of (x ∷ xs)
 
--- what the body of an I-Am says
+-- What the body of an I-Am says.
 unfoldable pub introduction_of : List ℕ → Option Introduction
 introduction_of body = do
   device ← kind_at object_in body
   max_apdu ← kind_at unsigned_in device.1
   segmentation ← kind_at enumerated_in max_apdu.1
   vendor ← kind_at unsigned_in segmentation.1
-  if device.0.kind == 8 then whole_of (record { device = device.0; max_apdu = max_apdu.0; segmentation = segmentation.0; vendor = vendor.0 }) vendor.1 else None
+  if device.0.kind == 8 then whole_of
+      (record { device = device.0; max_apdu = max_apdu.0; segmentation = segmentation.0; vendor = vendor.0 }) vendor.1
+      else None
 
--- the class and the code that the body of an Error begins with
+-- The class and the code that the body of an Error begins with.
 unfoldable pub error_of : List ℕ → Option (ℕ × ℕ)
 error_of body = do
   class ← kind_at enumerated_in body

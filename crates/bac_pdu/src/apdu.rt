@@ -48,7 +48,7 @@ pub enum Apdu<'a> {
         service: u8,
         body: &'a [u8],
     },
-    /// Its contents are not looked at.
+    /// Not looked at beyond its type.
     SegmentAck,
     Error {
         id: u8,
@@ -239,7 +239,7 @@ fn head_of(begin: &[u8], part: Option<Part>, service: u8) -> ArrayVec<u8, 6>
     head
 }
 
-/// Appends the head and the body, or nothing.
+/// Appends the head and the body. Where there is no room for both, nothing is appended.
 fn append_both(frame: &mut Frame, head: &[u8], body: &[u8]) -> Result<(), Full>
     ensures { Appends frame.old (head.now ++ body.now) frame.new result }
 {
@@ -249,7 +249,8 @@ fn append_both(frame: &mut Frame, head: &[u8], body: &[u8]) -> Result<(), Full>
     whole_or_nothing(frame, start, appended)
 }
 
-/// The octets of the greatest APDU that a code announces (clause 20.1.2.5), by its low four bits. Codes above 5 are taken as 0.
+/// The octets of the greatest APDU that a code announces (clause 20.1.2.5), by its low four bits. Codes above 5 are
+/// taken as 0.
 pub fn announced(code: u8) -> u16
     ensures { result ≡ announced_size code }
 {

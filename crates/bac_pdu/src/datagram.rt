@@ -4,7 +4,8 @@ ghost use Rattle.std.specs.Prelude.{◌≡◌, ◌<◌, ◌≤◌, ◌+◌, ◌^
 ghost use Rattle.std.specs.Option.{option_map};
 ghost use Rattle.bac_wire.specs.Limits.{frame_room};
 ghost use Rattle.bac_pdu.specs.Peer.{station, IsRoutable};
-ghost use Rattle.bac_pdu.specs.Datagram.{delivery, Takes, wrapped, front_count, front_octets};
+ghost use Rattle.bac_pdu.specs.Datagram.{delivery, Takes, wrapped, front_count};
+ghost use Rattle.bac_pdu.specs.Inner.Datagram.{front_octets};
 ghost use Rattle.bac_pdu.specs.DatagramReading.{link_at, origin_at, carried};
 
 use crate::header::{HEADER_OCTETS, header_and_rest, local_header, network_header};
@@ -42,10 +43,10 @@ const FRONT_OCTETS: usize = 4 + HEADER_OCTETS;
 
 /// What the datagram that came from this address and port carries (Annex J and clause 6).
 ///
-/// The peer is `from`, or the originator that a Forwarded-NPDU names, with the source of the network header as its route;
-/// the route of `from` is not looked at. None where the datagram is ignored: a link header that is cut, of another type
-/// or function, or with a length that is not the datagram's; a network header that is cut, of another version or a message
-/// of the network layer; a destination other than all networks; a source that no route leads to.
+/// The peer is `from`, or the originator that a Forwarded-NPDU names, with the source of the network header as its
+/// route; the route of `from` is not looked at. None where the datagram is ignored: a link header that is cut, of
+/// another type or function, or with a length that is not the datagram's; a network header that is cut, of another
+/// version or a message of the network layer; a destination other than all networks; a source that no route leads to.
 #[tactic(auto, unfolding(crate::specs::DatagramReading::carried))]
 pub fn open_datagram(from: Peer, datagram: &[u8]) -> Option<Carried<'_>>
     ensures value { option_map delivery result ≡ carried (station from) datagram.now }
@@ -130,7 +131,7 @@ pub fn wrap(to: Peer, expect: bool, apdu: &[u8], frame: &mut Frame) -> Result<()
     frame.append(apdu)
 }
 
-/// The same for the APDU that the octets of the frame are. It is copied within the frame alone.
+/// The same for the APDU that the frame holds. Nothing is copied but within the frame.
 #[tactic(auto, using(crate::proofs::DatagramLaws::front_before, crate::proofs::DatagramLaws::length_front, crate::proofs::DatagramLaws::length_wrapped))]
 pub fn wrap_within(to: Peer, expect: bool, frame: &mut Frame) -> Result<(), Full>
     ensures ok { OnOk result (frame.new ≡ wrapped (station to).route expect frame.old) }
@@ -171,7 +172,7 @@ fn local_front(expect: bool, size: usize) -> [u8; 6]
 
 /// What stands before an APDU of this size: the link header and the network header. `Full` where no frame has room for
 /// these and the APDU.
-#[tactic(auto, unfolding(crate::specs::Datagram::front_octets))]
+#[tactic(auto, unfolding(crate::specs::Inner::Datagram::front_octets))]
 fn front_of(to: Peer, expect: bool, size: usize) -> Result<ArrayVec<u8, FRONT_OCTETS>, Full>
     requires { size < 2 ^ 63 }
     ensures ok { IfOk result (λ front. front.items ≡ front_octets (station to).route expect size) }

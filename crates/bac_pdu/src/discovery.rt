@@ -3,9 +3,11 @@
 ghost use Rattle.std.specs.Prelude.{◌≡◌, Some, OnOk};
 ghost use Rattle.std.specs.Option.{option_map};
 ghost use Rattle.bac_wire.specs.Front.{IsShortest};
-ghost use Rattle.bac_wire.specs.Writing.{Appends, AppendsFront};
+ghost use Rattle.bac_wire.specs.Writing.{Appends};
+ghost use Rattle.bac_wire.specs.Inner.Writing.{AppendsFront};
 ghost use Rattle.bac_wire.specs.Identifier.{identifier};
-ghost use Rattle.bac_pdu.specs.Discovery.{HasLimits, asks, introduction, IsWhoIsBody, IsIAmBody, who_is_octets, i_am_octets};
+ghost use Rattle.bac_pdu.specs.Discovery.{asks, introduction, IsWhoIsBody, IsIAmBody, who_is_octets, i_am_octets};
+ghost use Rattle.bac_pdu.specs.Inner.Discovery.{HasLimits};
 ghost use Rattle.bac_pdu.specs.ValueReading.{who_is_of, introduction_of};
 
 use crate::parameter::{append_number, number_and_rest};
@@ -91,8 +93,8 @@ pub fn read_iam(body: &[u8]) -> Option<IAm>
     })
 }
 
-/// Appends the body of a Who-Is, each number in its fewest octets. `Full`, with the frame unchanged, only where there is
-/// no room for it.
+/// Appends the body of a Who-Is, each number in its fewest octets. `Full`, with the frame unchanged, only where there
+/// is no room for it.
 pub fn write_whois(frame: &mut Frame, who: &WhoIs) -> Result<(), Full>
     ensures appended { Appends frame.old (who_is_octets who.now) frame.new result }
     ensures shortest { OnOk result (IsShortest IsWhoIsBody (who_is_octets who.now) who.now) }
@@ -103,7 +105,7 @@ pub fn write_whois(frame: &mut Frame, who: &WhoIs) -> Result<(), Full>
     whole_or_nothing(frame, start, appended)
 }
 
-/// Appends the same, or a front of it.
+/// Appends the body of a Who-Is. Where there is no room, a front of it may stay.
 fn append_limits(frame: &mut Frame, who: &WhoIs) -> Result<(), Full>
     ensures appended { AppendsFront frame.old (who_is_octets who.now) frame.new result }
     ensures known { OnOk result (HasLimits who.now) }
@@ -132,7 +134,7 @@ pub fn write_iam(frame: &mut Frame, i_am: &IAm) -> Result<(), Full>
     whole_or_nothing(frame, start, appended)
 }
 
-/// Appends the same, or a front of it.
+/// Appends the body of an I-Am. Where there is no room, a front of it may stay.
 fn append_introduction(frame: &mut Frame, i_am: &IAm) -> Result<(), Full>
     requires { (identifier i_am.now.device).kind ≡ 8 }
     ensures appended { AppendsFront frame.old (i_am_octets (introduction i_am.now)) frame.new result }

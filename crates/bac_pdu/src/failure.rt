@@ -20,12 +20,13 @@ pub fn read_error(body: &[u8]) -> Option<(u32, u32)>
     Some((class, code))
 }
 
-/// Appends the body of an Error, both numbers in their fewest octets. `Full`, with the frame unchanged, only where there
-/// is no room for it.
+/// Appends the body of an Error, both numbers in their fewest octets. `Full`, with the frame unchanged, only where
+/// there is no room for it.
 pub fn write_error(frame: &mut Frame, class: u32, code: u32) -> Result<(), Full>
     ensures appended { Appends frame.old (error_octets class code) frame.new result }
     ensures shortest { OnOk result (IsShortest IsErrorBody (error_octets class code) (class, code)) }
-    ensures read_back { OnOk result ((rest : List ℕ) → error_of (error_octets class code ++ rest) ≡ Some (class, code)) }
+    ensures read_back { OnOk result ((rest : List ℕ)
+        → error_of (error_octets class code ++ rest) ≡ Some (class, code)) }
 {
     let start = frame.len();
     write_value(frame, &Value::Enumerated(class))?;

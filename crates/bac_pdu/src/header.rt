@@ -3,7 +3,8 @@
 ghost use Rattle.std.specs.Prelude.{◌≡◌, ◌≤◌, length, IfSome, None};
 ghost use Rattle.std.specs.Option.{option_map};
 ghost use Rattle.bac_pdu.specs.Peer.{IsRoutable, network_address};
-ghost use Rattle.bac_pdu.specs.Header.{address_seen, header_seen, plain_header};
+ghost use Rattle.bac_pdu.specs.Header.{plain_header};
+ghost use Rattle.bac_pdu.specs.Inner.Header.{address_seen, header_seen};
 ghost use Rattle.bac_pdu.specs.DatagramReading.{address_at, announced_at, behind_hops, header_at};
 
 use crate::bits::has_bit;
@@ -45,8 +46,8 @@ const HOPS: u8 = 255;
 /// The octets of a header that is written, at most.
 pub(crate) const HEADER_OCTETS: usize = 13;
 
-/// The network header at the front, and the APDU behind it. None where it is cut, of another version, or a message of the
-/// network layer.
+/// The network header at the front, and the APDU behind it. None where it is cut, of another version, or a message of
+/// the network layer.
 #[tactic(auto, unfolding(crate::specs::DatagramReading::header_at))]
 pub(crate) fn header_and_rest(octets: &[u8]) -> Option<(Header<'_>, &[u8])>
     ensures { option_map (λ x. (header_seen x.0, x.1.now)) result ≡ header_at octets.now }

@@ -1,7 +1,8 @@
-//! What holds of the definitions that the contracts cite. Each function has an empty body, and its clause is the law; those at
-//! the end are `clone` or `==` of types, and say what a clone is, or what is compared.
+//! What holds of the definitions that the contracts cite. Each function has an empty body, and its clause is the law;
+//! those at the end are `clone` or `==` of types, and say what a clone is, or what is compared.
 
-ghost use Rattle.std.specs.Prelude.{IsTrue, ◌≡◌, ◌↔◌, ◌+◌, ◌<◌, ◌≤◌, ◌^◌, ◌++◌, ℕ, Bool, false, List, [], ◌∷◌, length, Option, Some, None, IfSome, Result, Ok};
+ghost use Rattle.std.specs.Prelude.{IsTrue, ◌≡◌, ◌↔◌, ◌+◌, ◌<◌, ◌≤◌, ◌^◌, ◌++◌, ℕ, Bool, false, List, [], ◌∷◌, length};
+ghost use Rattle.std.specs.Prelude.{Option, Some, None, IfSome, Result, Ok};
 ghost use Rattle.std.specs.List.{AllByRecursion};
 ghost use Rattle.bac_wire.specs.Datum.{IsDatum, enumerated};
 ghost use Rattle.bac_pdu.specs.declared.discovery.WhoIs.{WhoIs as AnyWhoIs};
@@ -14,10 +15,13 @@ ghost use Rattle.bac_pdu.specs.DatagramReading.{carried};
 ghost use Rattle.bac_pdu.specs.Apdu.{Message, message, IsLaidOut, IsWritable, laid_out};
 ghost use Rattle.bac_pdu.specs.ApduReading.{apdu_of};
 ghost use Rattle.bac_pdu.specs.Parameter.{IsParameter};
-ghost use Rattle.bac_pdu.specs.Property.{Reference, Answer, Order, reference, answer, order, reference_parameters, order_parameters, answer_parameters, IsPriority, IsReadBody, IsWriteBody, IsAckBody, read_octets, write_octets, ack_octets, ack_front, ack_end};
+ghost use Rattle.bac_pdu.specs.Property.{Reference, Answer, Order, reference, answer, order, reference_parameters};
+ghost use Rattle.bac_pdu.specs.Property.{order_parameters, answer_parameters, IsPriority, IsReadBody, IsWriteBody};
+ghost use Rattle.bac_pdu.specs.Property.{IsAckBody, read_octets, write_octets, ack_octets, ack_front, ack_end};
 ghost use Rattle.bac_pdu.specs.Reject.{IsOutcome, ReadFault, WriteFault};
 ghost use Rattle.bac_pdu.specs.PropertyReading.{read_of, write_of, ack_of};
-ghost use Rattle.bac_pdu.specs.Discovery.{Introduction, introduction, introduction_values, IsWhoIsBody, IsIAmBody, who_is_octets, i_am_octets};
+ghost use Rattle.bac_pdu.specs.Discovery.{Introduction, introduction, introduction_values, IsWhoIsBody, IsIAmBody};
+ghost use Rattle.bac_pdu.specs.Discovery.{who_is_octets, i_am_octets};
 ghost use Rattle.bac_pdu.specs.Failure.{IsErrorBody, error_octets};
 ghost use Rattle.bac_pdu.specs.ValueReading.{who_is_of, introduction_of, error_of};
 
@@ -53,7 +57,11 @@ pub fn come_back()
     ensures taken { (from : Station) (expect : Bool) (apdu datagram : List ℕ)
         → Takes None expect apdu datagram
         → carried from datagram
-        ≡ Some (record { peer = record { ip = from.ip; port = from.port; route = None }; broadcast = false; apdu = apdu }) }
+        ≡ Some (record {
+          peer = record { ip = from.ip; port = from.port; route = None };
+          broadcast = false;
+          apdu = apdu;
+        }) }
     ensures apdu { (message : Message) → IsWritable message → apdu_of (laid_out message) ≡ Some message }
     ensures read { (r : Reference) → AllByRecursion IsParameter (reference_parameters r)
         → read_of (read_octets r) ≡ Ok r }
@@ -70,7 +78,8 @@ pub fn come_back()
         → error_of (error_octets class code ++ rest) ≡ Some (class, code) }
 {}
 
-/// What is written round an APDU is a datagram in the standard's words, of so many octets; an answer is written in three parts.
+/// What is written round an APDU is a datagram in the standard's words, of so many octets; an answer is written in
+/// three parts.
 pub fn wrapped_round()
     ensures words { (to : Option NetworkAddress) (expect : Bool) (apdu : List ℕ) → IfSome to IsRoutable
         → length (wrapped to expect apdu) < 65536 → Takes to expect apdu (wrapped to expect apdu) }
@@ -93,8 +102,8 @@ pub fn one_record()
     ensures error { IsSingle IsErrorBody }
 {}
 
-/// The numbers that the code names: of the services and of the object type of devices, as the standard has them (clause 21), and
-/// how many octets an address has at most.
+/// The numbers that the code names: of the services and of the object type of devices, as the standard has them (clause
+/// 21), and how many octets an address has at most.
 pub fn numbers()
     ensures read_property { READ_PROPERTY ≡ 12 }
     ensures write_property { WRITE_PROPERTY ≡ 15 }
@@ -123,7 +132,7 @@ pub fn clones_of_datagrams<'a>(
     ))
 }
 
-/// The same of what bodies say.
+/// A clone of what a body says is what it was cloned from, and takes no memory.
 pub fn clones_of_bodies<'a>(
     limits: &WhoIs,
     i_am: &IAm,
@@ -154,7 +163,7 @@ pub fn clones_of_bodies<'a>(
     ))
 }
 
-/// The network and the address.
+/// Routes are equal that have the same network and the same address.
 pub fn same_route(route: &Route, other: &Route) -> bool
     ensures { IsTrue result ↔ (network_address route.now ≡ network_address other.now) }
 {
@@ -163,7 +172,7 @@ pub fn same_route(route: &Route, other: &Route) -> bool
     route == other
 }
 
-/// Address, port and route.
+/// Peers are equal that have the same address, the same port and the same route.
 pub fn same_peer(peer: &Peer, other: &Peer) -> bool
     ensures { IsTrue result ↔ (station peer.now ≡ station other.now) }
 {
@@ -172,56 +181,56 @@ pub fn same_peer(peer: &Peer, other: &Peer) -> bool
     peer == other
 }
 
-/// All three fields.
+/// Parts are equal in all three fields.
 pub fn same_part(part: &Part, other: &Part) -> bool
     ensures { IsTrue result ↔ (part.now ≡ other.now) }
 {
     part == other
 }
 
-/// The type, and all that it says, wherever the octets of the body lie.
+/// APDUs are equal that have the same type and say the same, wherever the octets of the body lie.
 pub fn same_apdu(apdu: &Apdu<'_>, other: &Apdu<'_>) -> bool
     ensures { IsTrue result ↔ (message apdu.now ≡ message other.now) }
 {
     apdu == other
 }
 
-/// Both limits, where there are any.
+/// Who-Is are equal that ask all, or have the same two limits.
 pub fn same_limits(limits: &WhoIs, other: &WhoIs) -> bool
     ensures { IsTrue result ↔ (limits.now ≡ other.now) }
 {
     limits == other
 }
 
-/// All four fields.
+/// I-Ams are equal in all four fields.
 pub fn same_introduction(i_am: &IAm, other: &IAm) -> bool
     ensures { IsTrue result ↔ (introduction i_am.now ≡ introduction other.now) }
 {
     i_am == other
 }
 
-/// Object, property and index.
+/// Requests are equal that have the same object, property and index.
 pub fn same_read(read: &ReadRequest, other: &ReadRequest) -> bool
     ensures { IsTrue result ↔ (reference read.now ≡ reference other.now) }
 {
     read == other
 }
 
-/// The same, and the octets of the value.
+/// Acknowledgements are equal that have the same object, property and index, and the same octets of the value.
 pub fn same_ack(ack: &Ack<'_>, other: &Ack<'_>) -> bool
     ensures { IsTrue result ↔ (answer ack.now ≡ answer other.now) }
 {
     ack == other
 }
 
-/// The same, and the priority.
+/// Writes are equal that have the same object, property and index, the same octets of the value, and the same priority.
 pub fn same_write(write: &WriteRequest<'_>, other: &WriteRequest<'_>) -> bool
     ensures { IsTrue result ↔ (order write.now ≡ order other.now) }
 {
     write == other
 }
 
-/// The reason.
+/// Reasons are equal that have the same number.
 pub fn same_reason(reason: &RejectReason, other: &RejectReason) -> bool
     ensures { IsTrue result ↔ (reason.now ≡ other.now) }
 {

@@ -1,14 +1,25 @@
 //! Headers, APDUs and service bodies of BACnet/IP (ANSI/ASHRAE 135, Annex J and clauses 6, 20.1 and 21).
 //!
-//! [`open_datagram`] says from whom a datagram is and which APDU it carries, [`read_apdu`] what that APDU is, and a reader
-//! of each service what its body says. On the way out the body is written to a frame first, then [`write_apdu`] makes the
-//! APDU, and [`wrap`] the datagram round it.
+//! On the way in, [`open_datagram`] says from whom a datagram is and which APDU it carries, [`read_apdu`] what that
+//! APDU is, and a reader of each service, as [`read_read`] or [`read_ack`], what its body says. On the way out, a
+//! writer of each service, as [`write_read`], makes the body in a frame; [`write_apdu`] makes the APDU, and [`wrap`]
+//! the datagram round it. `specs/Datagram.antt` and `specs/Apdu.antt` say what the octets mean.
+//!
+//! Of `examples_of_datagrams` in `src/examples.rt`, which is proved: a whole request, ReadProperty (0C) with invoke id
+//! 1.
+//!
+//! ```text
+//! // Seventeen octets (11), for one device (0A), which is to reply (04).
+//! ensures datagram { wrapped None true (0x00 ∷ 0x05 ∷ 0x01 ∷ 0x0c ∷ read_octets present_value) ≡
+//!     0x81 ∷ 0x0a ∷ 0x00 ∷ 0x11 ∷ 0x01 ∷ 0x04 ∷ 0x00 ∷ 0x05 ∷ 0x01 ∷ 0x0c ∷ read_octets present_value }
+//! ```
 #![tactic(auto)]
 
 mod apdu;
 mod bits;
 mod datagram;
 mod discovery;
+mod examples;
 mod failure;
 mod header;
 pub mod laws;
@@ -24,6 +35,7 @@ mod writing;
 pub use apdu::{Apdu, Part, announced, read_apdu, write_apdu};
 pub use datagram::{Carried, open_datagram, wrap, wrap_within};
 pub use discovery::{DEVICE, IAm, WhoIs, read_iam, read_whois, write_iam, write_whois};
+pub use examples::{examples_of_apdus, examples_of_datagrams, examples_of_discovery};
 pub use failure::{read_error, write_error};
 pub use peer::Peer;
 pub use property::{

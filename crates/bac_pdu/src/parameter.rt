@@ -8,9 +8,11 @@ ghost use Rattle.bac_wire.specs.Tag.{plain_tag};
 ghost use Rattle.bac_wire.specs.Region.{opening_tag, closing_tag};
 ghost use Rattle.bac_wire.specs.ItemReading.{behind_closing};
 ghost use Rattle.bac_wire.specs.Parameter.{context_octets, number_octets, object_octets, enclosed_octets};
-ghost use Rattle.bac_wire.specs.ParameterReading.{context_at, number_of_contents, number_at, object_at, behind_opening, enclosed_at};
-ghost use Rattle.bac_wire.specs.Writing.{Appends, AppendsFront};
-ghost use Rattle.bac_pdu.specs.Parameter.{optional_octets};
+ghost use Rattle.bac_wire.specs.ParameterReading.{context_at, number_of_contents, number_at, object_at, behind_opening};
+ghost use Rattle.bac_wire.specs.ParameterReading.{enclosed_at};
+ghost use Rattle.bac_wire.specs.Writing.{Appends};
+ghost use Rattle.bac_wire.specs.Inner.Writing.{AppendsFront};
+ghost use Rattle.bac_pdu.specs.Inner.Parameter.{optional_octets};
 ghost use Rattle.bac_pdu.specs.PropertyReading.{optional_at};
 
 use arrayvec::ArrayVec;
@@ -117,7 +119,7 @@ fn rest_behind_closing(octets: &[u8]) -> Option<&[u8]>
     }
 }
 
-/// Appends a number in its fewest octets, or nothing; no octet where there is no number.
+/// Appends a number in its fewest octets, where there is one. Where there is no room, nothing is appended.
 pub(crate) fn append_optional(body: &mut Frame, number: u8, n: Option<u32>) -> Result<(), Full>
     requires { number < 15 }
     ensures appended { Appends body.old (optional_octets number n) body.new result }
@@ -129,7 +131,7 @@ pub(crate) fn append_optional(body: &mut Frame, number: u8, n: Option<u32>) -> R
     }
 }
 
-/// Appends a number in its fewest octets, or nothing.
+/// Appends a number in its fewest octets. Where there is no room, nothing is appended.
 pub(crate) fn append_number(body: &mut Frame, number: u8, n: u32) -> Result<(), Full>
     requires { number < 15 }
     ensures appended { Appends body.old (number_octets number n) body.new result }
@@ -145,7 +147,8 @@ pub(crate) fn append_number(body: &mut Frame, number: u8, n: u32) -> Result<(), 
     append_context(body, number, &contents[..count])
 }
 
-/// Appends a tag of one octet, and the contents that it counts, at most four octets, or nothing.
+/// Appends a tag of one octet, and the contents that it counts, at most four octets. Where there is no room, nothing is
+/// appended.
 #[tactic(auto, using(crate::proofs::ShortTags::short_context))]
 fn append_context(body: &mut Frame, number: u8, contents: &[u8]) -> Result<(), Full>
     requires number { number < 15 }
@@ -158,7 +161,7 @@ fn append_context(body: &mut Frame, number: u8, contents: &[u8]) -> Result<(), F
     body.append(octets.as_slice())
 }
 
-/// Appends a number in one octet behind a tag of one octet, or nothing.
+/// Appends a number in one octet behind a tag of one octet. Where there is no room, nothing is appended.
 #[tactic(auto, using(crate::proofs::ShortTags::one_number))]
 fn append_octet(body: &mut Frame, number: u8, n: u8) -> Result<(), Full>
     requires { number < 15 }
@@ -167,7 +170,7 @@ fn append_octet(body: &mut Frame, number: u8, n: u8) -> Result<(), Full>
     body.append(&[16 * number + 9, n])
 }
 
-/// Appends an object's identifier, or nothing.
+/// Appends an object's identifier. Where there is no room, nothing is appended.
 pub(crate) fn append_object(body: &mut Frame, number: u8, id: ObjectId) -> Result<(), Full>
     requires { number < 15 }
     ensures appended { Appends body.old (object_octets number (identifier id)) body.new result }
@@ -178,7 +181,7 @@ pub(crate) fn append_object(body: &mut Frame, number: u8, id: ObjectId) -> Resul
     append_four(body, number, &contents)
 }
 
-/// Appends a tag of one octet, and the four octets that it counts, or nothing.
+/// Appends a tag of one octet, and the four octets that it counts. Where there is no room, nothing is appended.
 #[tactic(auto, using(crate::proofs::ShortTags::four_context))]
 fn append_four(body: &mut Frame, number: u8, contents: &[u8; 4]) -> Result<(), Full>
     requires { number < 15 }
@@ -188,7 +191,7 @@ fn append_four(body: &mut Frame, number: u8, contents: &[u8; 4]) -> Result<(), F
     body.append(&[16 * number + 12, a, b, c, d])
 }
 
-/// Appends whole items between an opening and a closing tag 3, or a front of that.
+/// Appends whole items between an opening and a closing tag 3. Where there is no room, a front of that may stay.
 pub(crate) fn append_enclosed(body: &mut Frame, items: &[u8]) -> Result<(), Full>
     ensures { AppendsFront body.old (enclosed_octets value_tag items.now) body.new result }
 {
@@ -197,7 +200,7 @@ pub(crate) fn append_enclosed(body: &mut Frame, items: &[u8]) -> Result<(), Full
     append_closing(body)
 }
 
-/// Appends an opening tag 3, or nothing.
+/// Appends an opening tag 3. Where there is no room, nothing is appended.
 #[tactic(auto, using(crate::proofs::ShortTags::opening_octet))]
 pub(crate) fn append_opening(body: &mut Frame) -> Result<(), Full>
     ensures { Appends body.old (plain_tag (opening_tag value_tag)) body.new result }
@@ -205,7 +208,7 @@ pub(crate) fn append_opening(body: &mut Frame) -> Result<(), Full>
     body.append(&[16 * VALUE + 14])
 }
 
-/// Appends a closing tag 3, or nothing.
+/// Appends a closing tag 3. Where there is no room, nothing is appended.
 #[tactic(auto, using(crate::proofs::ShortTags::closing_octet))]
 pub(crate) fn append_closing(body: &mut Frame) -> Result<(), Full>
     ensures { Appends body.old (plain_tag (closing_tag value_tag)) body.new result }

@@ -1,11 +1,13 @@
 //! Who a datagram is from, or for.
 
 ghost use Rattle.std.specs.Prelude.{◌≡◌, ◌↔◌, IsTrue, IfSome};
-ghost use Rattle.bac_pdu.specs.Peer.{IsKept, station};
+ghost use Rattle.bac_pdu.specs.Peer.{station};
+ghost use Rattle.bac_pdu.specs.Inner.Peer.{IsKept};
 
 use crate::route::Route;
 
-/// Where datagrams come from and go to: an IP address, a port and, for a station of another network, the way on from the router there.
+/// Where datagrams come from and go to: an IP address, a port and, for a station of another network, the way on from
+/// the router there.
 ///
 /// 127.0.0.1 is `0x7f00_0001`.
 #[derive(Clone, Copy, Debug, PartialEq, Eq)]
@@ -26,7 +28,7 @@ impl Peer {
     }
 }
 
-/// Nothing. What the type of a route says, for the caller's proof.
+/// Does nothing. Its clause says what the type of a route says, for the caller's proof.
 pub(crate) fn told(route: Option<Route>)
     ensures { IfSome route IsKept }
 {

@@ -5,11 +5,14 @@ ghost use Rattle.std.specs.Option.{option_map};
 ghost use Rattle.std.specs.List.{AllByRecursion};
 ghost use Rattle.bac_wire.specs.Limits.{deepest};
 ghost use Rattle.bac_wire.specs.Front.{IsShortest};
-ghost use Rattle.bac_wire.specs.Writing.{Appends, AppendsFront};
+ghost use Rattle.bac_wire.specs.Writing.{Appends};
+ghost use Rattle.bac_wire.specs.Inner.Writing.{AppendsFront};
 ghost use Rattle.bac_wire.specs.Region.{IsRegion};
 ghost use Rattle.bac_pdu.specs.Parameter.{IsParameter};
-ghost use Rattle.bac_pdu.specs.Reject.{result_seen};
-ghost use Rattle.bac_pdu.specs.Property.{reference, order, answer, reference_parameters, IsPriority, IsReadBody, IsWriteBody, IsAckBody, read_octets, write_octets, ack_octets, ack_front, ack_end};
+ghost use Rattle.bac_wire.specs.Steps.{result_seen};
+ghost use Rattle.bac_pdu.specs.Property.{reference, order, answer, reference_parameters, IsPriority, IsReadBody};
+ghost use Rattle.bac_pdu.specs.Property.{IsWriteBody, IsAckBody, read_octets, write_octets, ack_octets, ack_front};
+ghost use Rattle.bac_pdu.specs.Property.{ack_end};
 ghost use Rattle.bac_pdu.specs.PropertyReading.{reference_at, read_of, write_of, ack_of};
 
 use crate::parameter::{
@@ -83,11 +86,12 @@ fn reference_and_rest(body: &[u8]) -> Result<(ReadRequest, &[u8]), RejectReason>
     Ok((request, rest))
 }
 
-/// What the body of a ReadProperty asks for, or the first reject reason that it has.
+/// Reads the body of a ReadProperty, the second `read`: what it asks for, or the first reject reason that it has.
 ///
 /// # Errors
 ///
-/// `TooMany` where a front of the body is whole, `MissingParameter` where it is empty or an object alone, else `InvalidTag`.
+/// `TooMany` where a front of the body is whole, `MissingParameter` where it is empty or an object alone, else
+/// `InvalidTag`.
 #[tactic(auto, unfolding(crate::specs::PropertyReading::read_of))]
 pub fn read_read(body: &[u8]) -> Result<ReadRequest, RejectReason>
     ensures value { result_seen reference result ≡ read_of body.now }
@@ -98,7 +102,7 @@ pub fn read_read(body: &[u8]) -> Result<ReadRequest, RejectReason>
     }
 }
 
-/// What the body of a WriteProperty orders, or the first reject reason that it has.
+/// Reads the body of a WriteProperty, the `write`: what it orders, or the first reject reason that it has.
 ///
 /// # Errors
 ///
@@ -152,7 +156,7 @@ pub fn read_ack(body: &[u8]) -> Option<Ack<'_>>
     })
 }
 
-/// Appends the parameters that name a property, or a front of them.
+/// Appends the parameters that name a property. Where there is no room, a front of them may stay.
 fn append_reference(frame: &mut Frame, request: &ReadRequest) -> Result<(), Full>
     ensures appended { AppendsFront frame.old (read_octets (reference request.now)) frame.new result }
     ensures known { OnOk result (AllByRecursion IsParameter (reference_parameters (reference request.now))) }
@@ -162,8 +166,8 @@ fn append_reference(frame: &mut Frame, request: &ReadRequest) -> Result<(), Full
     append_optional(frame, INDEX, request.index)
 }
 
-/// Appends the body of a ReadProperty, each number in its fewest octets. `Full`, with the frame unchanged, only where
-/// there is no room for it.
+/// Appends the body of a ReadProperty, the `read`, each number in its fewest octets. `Full`, with the frame unchanged,
+/// only where there is no room for it.
 pub fn write_read(frame: &mut Frame, request: &ReadRequest) -> Result<(), Full>
     ensures appended { Appends frame.old (read_octets (reference request.now)) frame.new result }
     ensures shortest { OnOk result
@@ -189,7 +193,7 @@ pub fn write_ack(frame: &mut Frame, ack: &Ack<'_>) -> Result<(), Full>
     whole_or_nothing(frame, start, appended)
 }
 
-/// Appends the same, or a front of it.
+/// Appends the body of a ReadProperty-ACK. Where there is no room, a front of it may stay.
 fn append_ack(frame: &mut Frame, ack: &Ack<'_>) -> Result<(), Full>
     ensures appended { AppendsFront frame.old (ack_octets (answer ack.now)) frame.new result }
     ensures known { OnOk result (AllByRecursion IsParameter (reference_parameters (answer ack.now).reference)) }
@@ -203,8 +207,8 @@ fn append_ack(frame: &mut Frame, ack: &Ack<'_>) -> Result<(), Full>
     append_enclosed(frame, ack.value)
 }
 
-/// Appends the body of a WriteProperty, each number in its fewest octets. `Full`, with the frame unchanged, only where
-/// there is no room for it.
+/// Appends the body of a WriteProperty, the second `write`, each number in its fewest octets. `Full`, with the frame
+/// unchanged, only where there is no room for it.
 pub fn write_write(frame: &mut Frame, request: &WriteRequest<'_>) -> Result<(), Full>
     requires region { IsRegion deepest request.now.value.now }
     requires priority { IfSome request.now.priority IsPriority }
@@ -218,7 +222,7 @@ pub fn write_write(frame: &mut Frame, request: &WriteRequest<'_>) -> Result<(), 
     whole_or_nothing(frame, start, appended)
 }
 
-/// Appends the same, or a front of it.
+/// Appends the body of a WriteProperty. Where there is no room, a front of it may stay.
 fn append_order(frame: &mut Frame, request: &WriteRequest<'_>) -> Result<(), Full>
     ensures appended { AppendsFront frame.old (write_octets (order request.now)) frame.new result }
     ensures known { OnOk result (AllByRecursion IsParameter (reference_parameters (order request.now).reference)) }
@@ -233,8 +237,8 @@ fn append_order(frame: &mut Frame, request: &WriteRequest<'_>) -> Result<(), Ful
     append_optional(frame, PRIORITY, request.priority.map(u32::from))
 }
 
-/// Appends what stands before the value in the body of a ReadProperty-ACK, each number in its fewest octets. `Full`, with
-/// the frame unchanged, only where there is no room for it.
+/// Appends what stands before the value in the body of a ReadProperty-ACK, each number in its fewest octets. `Full`,
+/// with the frame unchanged, only where there is no room for it.
 pub fn begin_ack(frame: &mut Frame, request: &ReadRequest) -> Result<(), Full>
     ensures { Appends frame.old (ack_front (reference request.now)) frame.new result }
 {
@@ -243,7 +247,8 @@ pub fn begin_ack(frame: &mut Frame, request: &ReadRequest) -> Result<(), Full>
     whole_or_nothing(frame, start, appended)
 }
 
-/// Appends the same, or a front of it.
+/// Appends what stands before the value in the body of a ReadProperty-ACK. Where there is no room, a front of it may
+/// stay.
 fn append_ack_front(frame: &mut Frame, request: &ReadRequest) -> Result<(), Full>
     ensures { AppendsFront frame.old (ack_front (reference request.now)) frame.new result }
 {

@@ -8,7 +8,8 @@ pub const ADDRESS_OCTETS: usize = 7;
 /// The octets that are kept for an address: a word, which is copied as one.
 const ROOM: usize = ADDRESS_OCTETS + 1;
 
-/// The way from a router to a station of another network: the number of the network, and the station's address in it (clause 6.2.2).
+/// The way from a router to a station of another network: the number of the network, and the station's address in it
+/// (clause 6.2.2).
 ///
 /// The octets that an address leaves over are 0, so that routes are equal where they lead to the same station.
 #[derive(Clone, Copy, Debug, PartialEq, Eq)]

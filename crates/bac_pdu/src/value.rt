@@ -3,7 +3,8 @@
 ghost use Rattle.std.specs.Prelude.{◌≡◌};
 ghost use Rattle.std.specs.Option.{option_map};
 ghost use Rattle.bac_wire.specs.Identifier.{identifier};
-ghost use Rattle.bac_wire.specs.ParameterReading.{kind_at, unsigned_in as only_unsigned, enumerated_in as only_enumerated, object_in as only_object};
+ghost use Rattle.bac_wire.specs.ParameterReading.{kind_at, unsigned_in as only_unsigned};
+ghost use Rattle.bac_wire.specs.ParameterReading.{enumerated_in as only_enumerated, object_in as only_object};
 
 use bac_wire::{ObjectId, Value, value_and_rest};
 

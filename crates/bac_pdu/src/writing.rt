@@ -1,11 +1,13 @@
 //! What is written is appended whole, or not at all.
 
 ghost use Rattle.std.specs.Prelude.{◌≡◌, ◌≤◌, ℕ, List, length};
-ghost use Rattle.bac_wire.specs.Writing.{Appends, AppendsFront};
+ghost use Rattle.bac_wire.specs.Writing.{Appends};
+ghost use Rattle.bac_wire.specs.Inner.Writing.{AppendsFront};
 
 use bac_wire::{Frame, Full};
 
-/// What a writer appended behind the first `start` octets stays where it is whole. Else what there is of it is taken away.
+/// Keeps what a writer appended behind the first `start` octets, where it is whole. Where it is not, all of it is taken
+/// away.
 pub(crate) fn whole_or_nothing(
     frame: &mut Frame,
     start: usize,

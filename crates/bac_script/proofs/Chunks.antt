@@ -1,34 +1,41 @@
 -- The octets of a chunk: a range of its room, of which a front was searched for a line feed.
-use Rattle.std.proofs.Common.{◌≡◌, ℕ, ◌+◌, ◌-◌, ◌<◌, ◌≤◌, List, [], ◌∷◌, ◌++◌, length, take, drop, Option, Some, None, refl, sym, ◌∙◌, ap, subst, inl, inr, append-nil, arith, length-drop}
+use Rattle.std.proofs.Common.{◌≡◌, ℕ, ◌+◌, ◌-◌, ◌<◌, ◌≤◌, List, [], ◌∷◌, ◌++◌, length, take, drop, Option, Some, None}
+use Rattle.std.proofs.Common.{refl, sym, ◌∙◌, ap, subst, inl, inr, append-nil, arith, length-drop}
 use Rattle.std.specs.Prelude.{◌==◌, min, position}
 use Rattle.std.specs.List.{slice_range, copy_within}
 use Rattle.std.specs.Io.KnownBytes.{Consumes, Keeps}
 use Rattle.std.proofs.lemmas.Grind.{common_steps}
 use Rattle.std.proofs.Math.Seq.{take-add, take-append-add}
-use Rattle.std.proofs.lemmas.List.{drop-drop, drop-append-le, length-take-le, take-append-drop, take-append-le, take-take, take_all}
+use Rattle.std.proofs.lemmas.List.{drop-drop, drop-append-le, length-take-le, take-append-drop, take-append-le}
+use Rattle.std.proofs.lemmas.List.{take-take, take_all}
 use Rattle.std.proofs.lemmas.List.Edits.{take-paste}
 use Rattle.std.proofs.lemmas.Slice.{between_is, take-put_mid}
 use borrow.Rule.Slice.PartMut.{put_mid}
 use Rattle.bac_text.specs.declared.checked.Checked.{Checked}
 use Rattle.bac_text.specs.Checked.{inner_of, octets_of}
 use Rattle.bac_text.proofs.Known.{Consumes-kept}
-use Rattle.bac_script.specs.Feeds.{HasNoFeed}
-use Rattle.bac_script.specs.Limits.{line_room, chunk_room}
-use Rattle.bac_script.specs.Input.{Takes, IsCutAs}
+use Rattle.bac_script.specs.Inner.Feeds.{HasNoFeed}
+use Rattle.bac_script.specs.Inner.Limits.{line_room, chunk_room}
+use Rattle.bac_script.specs.Inner.Input.{TakesAndKeeps, IsLineCut}
 use Rattle.bac_script.specs.declared.input.Reading.TheVariants.{Open}
 use Rattle.bac_script.proofs.Taken.{no_feed, no_feed_on, feed_at}
 
-pub range_size : (xs held : List ℕ) (start end : ℕ) → slice_range xs start end ≡ held → end ≤ length xs → length held ≡ end - start
-range_size xs held start end is room = ap length (sym is) ∙ length-take-le (end - start) (drop start xs) (omega (arith, length-drop start xs))
+pub range_size : (xs held : List ℕ) (start end : ℕ) → slice_range xs start end ≡ held → end ≤ length xs
+    → length held ≡ end - start
+range_size xs held start end is room = ap length (sym is)
+    ∙ length-take-le (end - start) (drop start xs) (omega (arith, length-drop start xs))
 
 -- What is left of a range.
-pub range_skipped : (xs held : List ℕ) (start end n : ℕ) → slice_range xs start end ≡ held → slice_range xs (start + n) end ≡ drop n held
+pub range_skipped : (xs held : List ℕ) (start end n : ℕ) → slice_range xs start end ≡ held
+    → slice_range xs (start + n) end ≡ drop n held
 range_skipped xs held start end n is =
-    between_is xs (start + n) end ∙ sym (drop-drop n start (take end xs)) ∙ ap (drop n) (sym (between_is xs start end) ∙ is)
+    between_is xs (start + n) end ∙ sym (drop-drop n start (take end xs))
+    ∙ ap (drop n) (sym (between_is xs start end) ∙ is)
 
 -- ---- a search that goes on behind what was searched
 
-module _ (xs : List ℕ) (start count limit end : ℕ) (is : limit ≡ min end (start + line_room)) (within : start + count ≤ end) (room : end ≤ length xs)
+module _ (xs : List ℕ) (start count limit end : ℕ) (is : limit ≡ min end (start + line_room))
+    (within : start + count ≤ end) (room : end ≤ length xs)
     (few : count ≤ line_room) (before : HasNoFeed (take count (slice_range xs start end))) where
   abbrev held : List ℕ
   held = slice_range xs start end
@@ -44,22 +51,30 @@ module _ (xs : List ℕ) (start count limit end : ℕ) (is : limit ≡ min end (
   long = length-take-le (limit - start) held (omega (arith, size, is))
 
   here : slice_range xs (start + count) limit ≡ drop count front
-  here = range_skipped xs front start limit count (sym (take-take (limit - start) (end - start) (drop start xs) (omega (arith, is))))
+  here = range_skipped xs front start limit count
+      (sym (take-take (limit - start) (end - start) (drop start xs) (omega (arith, is))))
 
   searched : HasNoFeed (take count front)
   searched = subst HasNoFeed (sym (take-take count (limit - start) held (omega (arith, is, within, few)))) before
 
   -- The line that ends with the first line feed.
   pub cut_behind : (place : ℕ) → position (λ octet. octet == 10) (slice_range xs (start + count) limit) ≡ Some place →
-      (count + place + 1 ≤ length held) × IsCutAs Open (take (count + place + 1) held)
+      (count + place + 1 ≤ length held) × IsLineCut Open (take (count + place + 1) held)
   cut_behind place found =
       let rest = drop count front in
       let f = feed_at rest place (ap (position (λ octet. octet == 10)) (sym here) ∙ found) in
       let there : count + place + 1 ≤ limit - start = omega (arith, f.within, length-drop count front, long) in
       let all : count + place + 1 ≡ count + (place + 1) = omega arith in
       let whole : take (count + place + 1) held ≡ (take count front ++ take place rest) ++ 10 ∷ [] =
-      sym (take-take (count + place + 1) (limit - start) held there) ∙ ap (λ (n : ℕ). take n front) all ∙ grind (arith, common_steps, take-add count (place + 1) front, f.ended) in
-      (omega (arith, size, there, is), inl (take count front ++ take place rest, no_feed_on (take count front) (take place rest) searched f.before, whole))
+      sym (take-take (count + place + 1) (limit - start) held there) ∙ ap (λ (n : ℕ). take n front) all
+      ∙ grind (arith, common_steps, take-add count (place + 1) front, f.ended) in (
+        omega (arith, size, there, is),
+        inl (
+          take count front ++ take place rest,
+          no_feed_on (take count front) (take place rest) searched f.before,
+          whole,
+        ),
+      )
 
   -- There is no line feed up to where was searched.
   pub none_up_to : position (λ octet. octet == 10) (slice_range xs (start + count) limit) ≡ None → HasNoFeed front
@@ -69,18 +84,26 @@ module _ (xs : List ℕ) (start count limit end : ℕ) (is : limit ≡ min end (
 
   -- Nor among all that is held, where no more is.
   pub none_held : HasNoFeed front → limit - start < line_room → HasNoFeed held × (length held < line_room)
-  none_held none short = (subst HasNoFeed (take_all (limit - start) held (omega (arith, size, is, short))) none, omega (arith, size, is, short))
+  none_held none short = (
+    subst HasNoFeed (take_all (limit - start) held (omega (arith, size, is, short))) none,
+    omega (arith, size, is, short),
+  )
 
-  pub cut_as_long : HasNoFeed front → line_room ≤ limit - start → (limit - start ≤ length held) × IsCutAs Open front
+  pub cut_as_long : HasNoFeed front → line_room ≤ limit - start → (limit - start ≤ length held) × IsLineCut Open front
   cut_as_long none all = (omega (arith, size, is), inr (none, omega (arith, long, is, all)))
 
 -- ---- octets that are read behind what is held
 
 -- Of octets that were moved to the front.
-moved_held : (xs moved held : List ℕ) (start end : ℕ) → slice_range xs start end ≡ held → moved ≡ copy_within xs start end 0 → start ≤ end → end ≤ length xs →
+moved_held : (xs moved held : List ℕ) (start end : ℕ) → slice_range xs start end ≡ held
+    → moved ≡ copy_within xs start end 0 → start ≤ end → end ≤ length xs →
     slice_range moved 0 (end - start) ≡ held
 moved_held xs moved held start end is copied low high =
-    grind (arith, common_steps, take-paste xs 0 (drop start xs) (end - start) (omega arith) (omega (arith, length-drop start xs)))
+    grind (
+      arith,
+      common_steps,
+      take-paste xs 0 (drop start xs) (end - start) (omega arith) (omega (arith, length-drop start xs)),
+    )
 
 -- A chunk with room behind what is held.
 pub record Placed (xs : List ℕ) (start end searched : ℕ) (held : List ℕ) : Type 0 where
@@ -92,8 +115,10 @@ pub record Placed (xs : List ℕ) (start end searched : ℕ) (held : List ℕ) :
   pub before : HasNoFeed (take searched (slice_range xs start end))
 
 -- Room was made by moving what is held to the front.
-pub placed_moved : (xs moved held : List ℕ) (start end searched : ℕ) → slice_range xs start end ≡ held → moved ≡ copy_within xs start end 0 → length moved ≡ chunk_room →
-    length xs ≡ chunk_room → start + searched ≤ end → end ≤ chunk_room → length held < line_room → HasNoFeed (take searched (slice_range xs start end)) →
+pub placed_moved : (xs moved held : List ℕ) (start end searched : ℕ) → slice_range xs start end ≡ held
+    → moved ≡ copy_within xs start end 0 → length moved ≡ chunk_room →
+    length xs ≡ chunk_room → start + searched ≤ end → end ≤ chunk_room → length held < line_room
+    → HasNoFeed (take searched (slice_range xs start end)) →
     Placed moved 0 (end - start) searched held
 placed_moved xs moved held start end searched is copied size size' within room short before =
     let long = range_size xs held start end is (omega (arith, room, size')) in
@@ -107,7 +132,8 @@ placed_moved xs moved held start end searched is copied size size' within room s
       before = subst (λ (zs : List ℕ). HasNoFeed (take searched zs)) (is ∙ sym same) before;
     }
 
-module _ {xs : List ℕ} {start end searched : ℕ} {held : List ℕ} (p : Placed xs start end searched held) (ys : List ℕ) (k : ℕ) where
+module _ {xs : List ℕ} {start end searched : ℕ} {held : List ℕ} (p : Placed xs start end searched held) (ys : List ℕ)
+    (k : ℕ) where
   abbrev room : List ℕ
   room = put_mid end k xs ys
 
@@ -116,8 +142,11 @@ module _ {xs : List ℕ} {start end searched : ℕ} {held : List ℕ} (p : Place
   more count some =
       let fits : end ≤ length xs = omega (arith, p.room, p.size) in
       between_is room start (end + count)
-      ∙ ap (drop start) (sym (take-take (end + count) (end + length ys) room (omega (arith, some))) ∙ ap (take (end + count)) (take-put_mid end k xs ys (end + length ys) refl fits)
-      ∙ ap (λ (n : ℕ). take (n + count) (take end xs ++ ys)) (sym (length-take-le end xs fits)) ∙ take-append-add (take end xs) ys count)
+      ∙ ap (drop start)
+      (sym (take-take (end + count) (end + length ys) room (omega (arith, some)))
+      ∙ ap (take (end + count)) (take-put_mid end k xs ys (end + length ys) refl fits)
+      ∙ ap (λ (n : ℕ). take (n + count) (take end xs ++ ys)) (sym (length-take-le end xs fits))
+      ∙ take-append-add (take end xs) ys count)
       ∙ drop-append-le start (take end xs) (take count ys) (omega (arith, p.within, length-take-le end xs fits))
       ∙ ap (λ (zs : List ℕ). zs ++ take count ys) (sym (between_is xs start end) ∙ p.is)
 
@@ -129,23 +158,45 @@ module _ {xs : List ℕ} {start end searched : ℕ} {held : List ℕ} (p : Place
 
   pub before_more : (count : ℕ) → count ≤ length ys → HasNoFeed (take searched (slice_range room start (end + count)))
   before_more count some =
-      let long : searched ≤ length held = omega (arith, range_size xs held start end p.is (omega (arith, p.room, p.size)), p.within) in
-      subst HasNoFeed (ap (take searched) p.is ∙ sym (ap (take searched) (more count some) ∙ take-append-le searched held (take count ys) long)) p.before
+      let long : searched ≤ length held =
+      omega (arith, range_size xs held start end p.is (omega (arith, p.room, p.size)), p.within) in
+      subst HasNoFeed (ap (take searched) p.is
+      ∙ sym (ap (take searched) (more count some) ∙ take-append-le searched held (take count ys) long)) p.before
 
-  pub read_on : {R : Type 0} {remaining : R → Option (List ℕ)} {reader reader' : Checked R} (count : ℕ) → count ≤ length ys →
-      octets_of reader' ≡ octets_of reader ++ take count ys → Consumes (remaining (inner_of reader)) (remaining (inner_of reader')) (take count ys) → Takes remaining reader reader' held (slice_range room start (end + count)) []
-  read_on count some passed known = record { given = take count ys; gave = record { passed = passed; known = known }; order = sym (more count some) }
+  pub read_on : {R : Type 0} {remaining : R → Option (List ℕ)} {reader reader' : Checked R} (count : ℕ)
+      → count ≤ length ys →
+      octets_of reader' ≡ octets_of reader ++ take count ys
+      → Consumes (remaining (inner_of reader)) (remaining (inner_of reader')) (take count ys)
+      → TakesAndKeeps remaining reader reader' held (slice_range room start (end + count)) []
+  read_on count some passed known =
+      record { given = take count ys; gave = record { passed = passed; known = known }; order = sym (more count some) }
 
-  pub read_none : {R : Type 0} {remaining : R → Option (List ℕ)} {reader reader' : Checked R} → octets_of reader' ≡ octets_of reader ++ [] → Keeps (remaining (inner_of reader)) (remaining (inner_of reader')) →
-      Takes remaining reader reader' held (slice_range room start end) []
-  read_none passed kept = record { given = []; gave = record { passed = passed; known = Consumes-kept _ _ kept }; order = append-nil held ∙ sym still_held }
+  pub read_none : {R : Type 0} {remaining : R → Option (List ℕ)} {reader reader' : Checked R}
+      → octets_of reader' ≡ octets_of reader ++ [] → Keeps (remaining (inner_of reader)) (remaining (inner_of reader'))
+      →
+      TakesAndKeeps remaining reader reader' held (slice_range room start end) []
+  read_none passed kept =
+      record {
+        given = [];
+        gave = record { passed = passed; known = Consumes-kept _ _ kept };
+        order = append-nil held
+            ∙ sym still_held;
+      }
 
   pub read_ended : {R : Type 0} {remaining : R → Option (List ℕ)} {reader reader' : Checked R} (count : ℕ) → count ≡ 0 →
-      octets_of reader' ≡ octets_of reader ++ take count ys → Consumes (remaining (inner_of reader)) (remaining (inner_of reader')) (take count ys) → Takes remaining reader reader' held (slice_range room start end) []
-  read_ended count none passed known = record { given = take count ys; gave = record { passed = passed; known = known }; order = rw none (append-nil held ∙ sym still_held) }
+      octets_of reader' ≡ octets_of reader ++ take count ys
+      → Consumes (remaining (inner_of reader)) (remaining (inner_of reader')) (take count ys)
+      → TakesAndKeeps remaining reader reader' held (slice_range room start end) []
+  read_ended count none passed known =
+      record {
+        given = take count ys;
+        gave = record { passed = passed; known = known };
+        order = rw none (append-nil held ∙ sym still_held);
+      }
 
   -- What the last read gave stands behind what was held.
-  pub last_on : {last : List ℕ} (count : ℕ) → count ≤ length ys → last ≡ take count ys → slice_range room start (end + count) ≡ held ++ last
+  pub last_on : {last : List ℕ} (count : ℕ) → count ≤ length ys → last ≡ take count ys
+      → slice_range room start (end + count) ≡ held ++ last
   last_on count some gave = more count some ∙ ap (λ (zs : List ℕ). held ++ zs) (sym gave)
 
   pub last_none : {last : List ℕ} → last ≡ [] → slice_range room start end ≡ held ++ last

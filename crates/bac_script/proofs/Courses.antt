@@ -1,5 +1,6 @@
 -- The course of a script, line after line.
-use Rattle.std.proofs.Common.{◌≡◌, ℕ, ◌+◌, Bool, true, List, [], ◌∷◌, ◌++◌, length, Option, Some, None, Result, Ok, Err, refl, sym, ◌∙◌, ap, subst, append_assoc, arith}
+use Rattle.std.proofs.Common.{◌≡◌, ℕ, ◌+◌, Bool, true, List, [], ◌∷◌, ◌++◌, length, Option, Some, None, Result, Ok, Err}
+use Rattle.std.proofs.Common.{refl, sym, ◌∙◌, ap, subst, append_assoc, arith}
 use Rattle.std.specs.Prelude.{◌&&◌, slice_get, option_map, MatchOption}
 use Rattle.std.specs.List.{list_all}
 use Rattle.std.proofs.Math.Bool.{and_assoc, and-true}
@@ -8,8 +9,9 @@ use Rattle.bac_script.specs.declared.line.LineFault.{LineFault}
 use Rattle.bac_script.specs.declared.tracing.TraceEnd.{TraceEnd}
 use Rattle.bac_script.specs.declared.tracing.TraceFault.{TraceFault}
 use Rattle.bac_script.specs.Line.{Said, said}
-use Rattle.bac_script.specs.Running.{Stage, ran}
-use Rattle.bac_script.specs.Script.{lines, is_nothing, is_silent, and_then, said_from, all_said, text_of, fault_at, first_fault, EndsAs, RunsWhole}
+use Rattle.bac_script.specs.Inner.Running.{Stage, ran}
+use Rattle.bac_script.specs.Script.{lines, is_nothing, says_nothing, and_then, said_from, all_said, text_of, fault_at}
+use Rattle.bac_script.specs.Script.{first_fault, EndsAs, RunsWhole}
 use Rattle.bac_script.proofs.Machine.{first_stage, text_from, text_is}
 use Rattle.bac_script.proofs.Settled.{settings_first}
 
@@ -24,18 +26,22 @@ abbrev pub behind : List ℕ → Course → Course
 behind front later = record { text = front ++ later.text; fault = later.fault; count = later.count }
 
 pub behind_both : (xs ys : List ℕ) (later : Course) → behind xs (behind ys later) ≡ behind (xs ++ ys) later
-behind_both xs ys later = ap (λ (zs : List ℕ). let c : Course = record { text = zs; fault = later.fault; count = later.count } in c) (sym (append_assoc xs ys later.text))
+behind_both xs ys later =
+    ap (λ (zs : List ℕ). let c : Course = record { text = zs; fault = later.fault; count = later.count } in c)
+    (sym (append_assoc xs ys later.text))
 
 -- What a line says, and then the course of those behind it.
 abbrev pub and_on : Stage → ℕ → Result Said LineFault → (Said → Course) → Course
 and_on stage count (Ok one) later = behind (ran stage one).text (later one)
-and_on stage count (Err fault) later = record { text = []; fault = Some (fault_at (count + 1) (Err fault)); count = count }
+and_on stage count (Err fault) later =
+    record { text = []; fault = Some (fault_at (count + 1) (Err fault)); count = count }
 
 -- The course of these lines from a stage on, behind so many others.
 abbrev pub course : Stage → Bool → ℕ → List (List ℕ) → Course
 course stage is_first count [] = record { text = []; fault = None; count = count }
 course stage is_first count (line ∷ later) =
-    and_on stage count (said is_first line) (λ one. course (ran stage one).after (is_first && is_nothing one) (count + 1) later)
+    and_on stage count (said is_first line)
+    (λ one. course (ran stage one).after (is_first && is_nothing one) (count + 1) later)
 
 -- The same behind a line that says this.
 abbrev pub course_on : Stage → Bool → ℕ → List (List ℕ) → Said → Course
@@ -46,24 +52,31 @@ abbrev pub whole : List (List ℕ) → Course
 whole all = course first_stage true 0 all
 
 -- What a course is, by what its lines say up to the first fault: `number` is that of the line behind these.
-record IsCourse (stage : Stage) (is_first : Bool) (count : ℕ) (all : List (List ℕ)) (says : List Said) (c : Course) : Type 0 where
+record IsCourse (stage : Stage) (is_first : Bool) (count : ℕ) (all : List (List ℕ)) (says : List Said)
+    (c : Course) : Type 0 where
   text : c.text ≡ text_from stage says
-  fault : (number : ℕ) (still : Bool) → number ≡ count + length says + 1 → still ≡ (is_first && list_all is_nothing says) →
+  fault : (number : ℕ) (still : Bool) → number ≡ count + length says + 1
+      → still ≡ (is_first && list_all is_nothing says) →
       c.fault ≡ option_map (λ line. fault_at number (said still line)) (slice_get all (length says))
   counted : c.fault ≡ None → c.count ≡ count + length all
 
-is_course : (all : List (List ℕ)) (stage : Stage) (is_first : Bool) (count : ℕ) → IsCourse stage is_first count all (said_from is_first all) (course stage is_first count all)
-is_course [] stage is_first count = record { text = refl; fault = λ number still n b. refl; counted = λ none. omega arith }
+is_course : (all : List (List ℕ)) (stage : Stage) (is_first : Bool) (count : ℕ)
+    → IsCourse stage is_first count all (said_from is_first all) (course stage is_first count all)
+is_course [] stage is_first count =
+    record { text = refl; fault = λ number still n b. refl; counted = λ none. omega arith }
 is_course (line ∷ later) stage is_first count =
     go (said is_first line) refl (λ one. is_course later (ran stage one).after (is_first && is_nothing one) (count + 1))
   where
     go : (s : Result Said LineFault) → said is_first line ≡ s →
-        ((one : Said) → IsCourse (ran stage one).after (is_first && is_nothing one) (count + 1) later (said_from (is_first && is_nothing one) later)
+        ((one : Said) → IsCourse (ran stage one).after (is_first && is_nothing one) (count + 1) later
+        (said_from (is_first && is_nothing one) later)
         (course_on stage is_first count later one)) →
-        IsCourse stage is_first count (line ∷ later) (and_then s (said_from (is_first && is_silent s) later)) (and_on stage count s (course_on stage is_first count later))
+        IsCourse stage is_first count (line ∷ later) (and_then s (said_from (is_first && says_nothing s) later))
+        (and_on stage count s (course_on stage is_first count later))
     go (Ok one) is h = record {
       text = ap (λ (xs : List ℕ). (ran stage one).text ++ xs) (h one).text;
-      fault = λ number still n b. (h one).fault number still (omega arith) (b ∙ sym (and_assoc is_first (is_nothing one) _));
+      fault = λ number still n b.
+          (h one).fault number still (omega arith) (b ∙ sym (and_assoc is_first (is_nothing one) _));
       counted = λ none. let more = (h one).counted none in omega (arith, more);
     }
     go (Err fault) is h = record {
@@ -71,7 +84,8 @@ is_course (line ∷ later) stage is_first count =
       fault = λ number still n b.
           let here : count + 1 ≡ number = omega arith in
           ap (λ (k : ℕ). Some (fault_at k (Err fault))) here
-          ∙ ap (λ (s : Result Said LineFault). Some (fault_at number s)) (sym (ap (λ (first : Bool). said first line) (b ∙ and-true is_first) ∙ is));
+          ∙ ap (λ (s : Result Said LineFault). Some (fault_at number s))
+          (sym (ap (λ (first : Bool). said first line) (b ∙ and-true is_first) ∙ is));
       counted = λ none. absurd (cc);
     }
 
@@ -80,11 +94,14 @@ runs_text all = (is_course all first_stage true 0).text ∙ sym (text_is (all_sa
 
 -- The fault of a script is that of its course.
 pub fault_is : (all : List (List ℕ)) → (whole all).fault ≡ first_fault all
-fault_is all = (is_course all first_stage true 0).fault (length (all_said all) + 1) (list_all is_nothing (all_said all)) (omega arith) refl
+fault_is all = (is_course all first_stage true 0).fault (length (all_said all) + 1) (list_all is_nothing (all_said all))
+    (omega arith) refl
 
 -- A script whose course is this.
-pub runs_as : (octets : List ℕ) (reading : Reading) (one : Course) (answer : Result TraceEnd TraceFault) → whole (lines octets reading) ≡ one →
-    MatchOption one.fault (EndsAs reading one.count answer) (λ fault. answer ≡ Err fault) → RunsWhole octets reading one.text answer
+pub runs_as : (octets : List ℕ) (reading : Reading) (one : Course) (answer : Result TraceEnd TraceFault)
+    → whole (lines octets reading) ≡ one →
+    MatchOption one.fault (EndsAs reading one.count answer) (λ fault. answer ≡ Err fault)
+    → RunsWhole octets reading one.text answer
 runs_as octets reading one answer is ends =
     let all = lines octets reading in
     let faults : one.fault ≡ first_fault all =
@@ -92,13 +109,20 @@ runs_as octets reading one answer is ends =
     record {
       wrote = ap (λ (c : Course). c.text) (sym is) ∙ runs_text all;
       answered =
-          subst (λ (o : Option TraceFault). MatchOption o (EndsAs reading (length all) answer) (λ fault. answer ≡ Err fault)) faults (counted one.fault refl ends);
+          subst (λ (o : Option TraceFault).
+          MatchOption o (EndsAs reading (length all) answer) (λ fault. answer ≡ Err fault)) faults
+          (counted one.fault refl ends);
     }
   where
-    counted : (o : Option TraceFault) → one.fault ≡ o → MatchOption o (EndsAs reading one.count answer) (λ fault. answer ≡ Err fault) →
+    counted : (o : Option TraceFault) → one.fault ≡ o
+        → MatchOption o (EndsAs reading one.count answer) (λ fault. answer ≡ Err fault) →
         MatchOption o (EndsAs reading (length (lines octets reading)) answer) (λ fault. answer ≡ Err fault)
     counted None none h =
         let size : (whole (lines octets reading)).count ≡ length (lines octets reading) =
-        omega (arith, (is_course (lines octets reading) first_stage true 0).counted (ap (λ (c : Course). c.fault) is ∙ none)) in
+        omega (
+          arith,
+          (is_course (lines octets reading) first_stage true 0).counted
+              (ap (λ (c : Course). c.fault) is ∙ none),
+        ) in
         subst (λ (n : ℕ). EndsAs reading n answer) (ap (λ (c : Course). c.count) (sym is) ∙ size) h
     counted (Some fault) is h = h

@@ -1,5 +1,6 @@
 -- A script is a function of its octets and of whether they ended.
-use Rattle.std.proofs.Common.{◌≡◌, ◌⊎◌, ℕ, List, [], ◌∷◌, ◌++◌, length, Option, Some, None, Result, Ok, Err, refl, sym, ◌∙◌, ap, inl, inr, arith}
+use Rattle.std.proofs.Common.{◌≡◌, ◌⊎◌, ℕ, List, [], ◌∷◌, ◌++◌, length, Option, Some, None, Result, Ok, Err, refl, sym}
+use Rattle.std.proofs.Common.{◌∙◌, ap, inl, inr, arith}
 use Rattle.std.specs.Prelude.{MatchOption}
 use Rattle.std.proofs.lemmas.List.{append-nil}
 use Rattle.bac_text.specs.declared.checked.Checked.{Checked}
@@ -9,7 +10,7 @@ use Rattle.bac_script.specs.declared.input.Reading.TheVariants.{Open, AtEnd, Fai
 use Rattle.bac_script.specs.declared.tracing.TraceEnd.{TraceEnd}
 use Rattle.bac_script.specs.declared.tracing.TraceFault.{TraceFault}
 use Rattle.bac_script.specs.declared.tracing.TraceFault.TheVariants.{BadLine, LineTooLong, ReadFailed, WriteFailed}
-use Rattle.bac_script.specs.Input.{StandsAs}
+use Rattle.bac_script.specs.Input.{ReaderStands}
 use Rattle.bac_script.specs.Script.{lines, text, text_of, all_said, first_fault, EndsAs, RunsWhole, Runs}
 use Rattle.bac_script.specs.Tracing.{Traces}
 use Rattle.bac_script.specs.Alike.{IsFrontOf, WroteAll, AreAlike}
@@ -20,12 +21,14 @@ ends AtEnd = 1
 ends Open = 0
 ends Failed = 0
 
-ends_are : {R : Type 0} (remaining : R → Option (List ℕ)) (reading : Reading) (reader : R) (reader' : Checked R) → StandsAs remaining reading (fresh reader) reader' [] → ends_of reader' ≡ ends reading
+ends_are : {R : Type 0} (remaining : R → Option (List ℕ)) (reading : Reading) (reader : R) (reader' : Checked R)
+    → ReaderStands remaining reading (fresh reader) reader' [] → ends_of reader' ≡ ends reading
 ends_are remaining Open reader reader' stands = stands.1
 ends_are remaining AtEnd reader reader' stands = stands.2.once
 ends_are remaining Failed reader reader' stands = stands.2
 
-same_lines : (octets : List ℕ) (reading other : Reading) → ends reading ≡ ends other → lines octets reading ≡ lines octets other
+same_lines : (octets : List ℕ) (reading other : Reading) → ends reading ≡ ends other
+    → lines octets reading ≡ lines octets other
 same_lines octets AtEnd AtEnd e = refl
 same_lines octets AtEnd Open e = absurd (omega (arith, e))
 same_lines octets AtEnd Failed e = absurd (omega (arith, e))
@@ -38,14 +41,16 @@ same_lines octets Failed Failed e = refl
 
 -- ---- one run
 
-front_of : (octets : List ℕ) (reading : Reading) (written : List ℕ) (answer : Result TraceEnd TraceFault) → Runs octets reading written answer → IsFrontOf written (text octets reading)
+front_of : (octets : List ℕ) (reading : Reading) (written : List ℕ) (answer : Result TraceEnd TraceFault)
+    → Runs octets reading written answer → IsFrontOf written (text octets reading)
 front_of octets reading written (Err WriteFailed) runs = runs
 front_of octets reading written (Err ReadFailed) runs = ([], sym (append-nil written ∙ runs.wrote))
 front_of octets reading written (Err (BadLine n)) runs = ([], sym (append-nil written ∙ runs.wrote))
 front_of octets reading written (Err (LineTooLong n)) runs = ([], sym (append-nil written ∙ runs.wrote))
 front_of octets reading written (Ok end) runs = ([], sym (append-nil written ∙ runs.wrote))
 
-whole_of : (octets : List ℕ) (reading : Reading) (written : List ℕ) (answer : Result TraceEnd TraceFault) → WroteAll answer → Runs octets reading written answer → RunsWhole octets reading written answer
+whole_of : (octets : List ℕ) (reading : Reading) (written : List ℕ) (answer : Result TraceEnd TraceFault)
+    → WroteAll answer → Runs octets reading written answer → RunsWhole octets reading written answer
 whole_of octets reading written (Err WriteFailed) all runs = absurd (all refl)
 whole_of octets reading written (Err ReadFailed) all runs = runs
 whole_of octets reading written (Err (BadLine n)) all runs = runs
@@ -55,7 +60,8 @@ whole_of octets reading written (Ok end) all runs = runs
 -- ---- two runs
 
 -- Two fronts of one list.
-one_more : (x : ℕ) (xs ys : List ℕ) → IsFrontOf xs ys ⊎ IsFrontOf ys xs → IsFrontOf (x ∷ xs) (x ∷ ys) ⊎ IsFrontOf (x ∷ ys) (x ∷ xs)
+one_more : (x : ℕ) (xs ys : List ℕ) → IsFrontOf xs ys ⊎ IsFrontOf ys xs → IsFrontOf (x ∷ xs) (x ∷ ys)
+    ⊎ IsFrontOf (x ∷ ys) (x ∷ xs)
 one_more x xs ys (inl h) = inl (h.0, ap (λ zs. x ∷ zs) h.1)
 one_more x xs ys (inr h) = inr (h.0, ap (λ zs. x ∷ zs) h.1)
 
@@ -67,8 +73,10 @@ fronts (x ∷ xs) (y ∷ ys) rest others e =
     let later : xs ++ rest ≡ ys ++ others = cc in
     rw (← same) (one_more x xs ys (fronts xs ys rest others later))
 
-same_answer : (fault : Option TraceFault) (reading other : Reading) (count : ℕ) (answer answer' : Result TraceEnd TraceFault) → ends reading ≡ ends other →
-    MatchOption fault (EndsAs reading count answer) (λ fault. answer ≡ Err fault) → MatchOption fault (EndsAs other count answer') (λ fault. answer' ≡ Err fault) → answer ≡ answer'
+same_answer : (fault : Option TraceFault) (reading other : Reading) (count : ℕ)
+    (answer answer' : Result TraceEnd TraceFault) → ends reading ≡ ends other →
+    MatchOption fault (EndsAs reading count answer) (λ fault. answer ≡ Err fault)
+    → MatchOption fault (EndsAs other count answer') (λ fault. answer' ≡ Err fault) → answer ≡ answer'
 same_answer (Some fault) reading other count answer answer' e h h' = h ∙ sym h'
 same_answer None Open other count answer answer' e h h' = absurd h
 same_answer None AtEnd Open count answer answer' e h h' = absurd h'
@@ -78,7 +86,8 @@ same_answer None Failed Open count answer answer' e h h' = absurd h'
 same_answer None Failed AtEnd count answer answer' e h h' = absurd (omega (arith, e))
 same_answer None Failed Failed count answer answer' e h h' = h ∙ sym h'
 
-module _ (octets : List ℕ) (reading other : Reading) (alike : ends reading ≡ ends other) (written written' : List ℕ) (answer answer' : Result TraceEnd TraceFault)
+module _ (octets : List ℕ) (reading other : Reading) (alike : ends reading ≡ ends other) (written written' : List ℕ)
+    (answer answer' : Result TraceEnd TraceFault)
     (runs : Runs octets reading written answer) (runs' : Runs octets other written' answer') where
   same_text : text octets reading ≡ text octets other
   same_text = ap (λ (all : List (List ℕ)). text_of (all_said all)) (same_lines octets reading other alike)
@@ -92,7 +101,8 @@ module _ (octets : List ℕ) (reading other : Reading) (alike : ends reading ≡
             let whole = whole_of octets reading written answer all runs in
             let whole' = whole_of octets other written' answer' all' runs' in (
               whole.wrote ∙ same_text ∙ sym whole'.wrote,
-              same_answer (first_fault (lines octets other)) reading other (length (lines octets other)) answer answer' alike
+              same_answer (first_fault (lines octets other)) reading other (length (lines octets other)) answer answer'
+                  alike
                   (rw (← same_lines octets reading other alike) whole.answered) whole'.answered,
             );
         front = λ all'. (front.0, (whole_of octets other written' answer' all' runs').wrote ∙ sym same_text ∙ front.1);
@@ -100,14 +110,21 @@ module _ (octets : List ℕ) (reading other : Reading) (alike : ends reading ≡
         either = fronts written written' front.0 front'.0 (sym front.1 ∙ same_text ∙ front'.1);
       }
 
-pub traces_alike : {R S V W : Type 0} {remaining : R → Option (List ℕ)} {remaining' : S → Option (List ℕ)} {contents : V → Option (List ℕ)} {contents' : W → Option (List ℕ)}
-    (reader : R) (other_reader : S) (reader' : Checked R) (other_reader' : Checked S) (writer : V) (other_writer : W) (writer' : Checked V) (other_writer' : Checked W)
-    (answer other_answer : Result TraceEnd TraceFault) → Traces remaining contents (fresh reader) reader' (fresh writer) writer' answer →
+pub traces_alike : {R S V W : Type 0} {remaining : R → Option (List ℕ)} {remaining' : S → Option (List ℕ)}
+    {contents : V → Option (List ℕ)} {contents' : W → Option (List ℕ)}
+    (reader : R) (other_reader : S) (reader' : Checked R) (other_reader' : Checked S) (writer : V) (other_writer : W)
+    (writer' : Checked V) (other_writer' : Checked W)
+    (answer other_answer : Result TraceEnd TraceFault)
+    → Traces remaining contents (fresh reader) reader' (fresh writer) writer' answer →
     Traces remaining' contents' (fresh other_reader) other_reader' (fresh other_writer) other_writer' other_answer →
-    octets_of reader' ≡ octets_of other_reader' → ends_of reader' ≡ ends_of other_reader' → AreAlike (octets_of writer') answer (octets_of other_writer') other_answer
-traces_alike {remaining = remaining} {remaining' = remaining'} reader other_reader reader' other_reader' writer other_writer writer' other_writer' answer other_answer run other same_octets same_ends =
+    octets_of reader' ≡ octets_of other_reader' → ends_of reader' ≡ ends_of other_reader'
+    → AreAlike (octets_of writer') answer (octets_of other_writer') other_answer
+traces_alike {remaining = remaining} {remaining' = remaining'} reader other_reader reader' other_reader' writer
+    other_writer writer' other_writer' answer other_answer run other same_octets same_ends =
     let given : run.given ≡ other.given = sym run.read.gave.passed ∙ same_octets ∙ other.read.gave.passed in
     let alike : ends run.reading ≡ ends other.reading =
-    sym (ends_are remaining run.reading reader reader' run.read.stopped) ∙ same_ends ∙ ends_are remaining' other.reading other_reader other_reader' other.read.stopped in
+    sym (ends_are remaining run.reading reader reader' run.read.stopped) ∙ same_ends
+    ∙ ends_are remaining' other.reading other_reader other_reader' other.read.stopped in
     rw (run.took.passed, other.took.passed)
-    (runs_alike other.given run.reading other.reading alike run.written other.written answer other_answer (rw (← given) run.runs) other.runs)
+    (runs_alike other.given run.reading other.reading alike run.written other.written answer other_answer
+    (rw (← given) run.runs) other.runs)

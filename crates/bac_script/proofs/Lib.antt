@@ -5,5 +5,4 @@ pub mod Machine
 pub mod Settled
 pub mod Courses
 pub mod SoFar
-pub mod Asking
 pub mod Functions

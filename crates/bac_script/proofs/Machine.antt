@@ -1,5 +1,6 @@
 -- What the machine prints for all that a script says is what the look-ahead gives.
-use Rattle.std.proofs.Common.{◌≡◌, ℕ, zero, suc, List, [], ◌∷◌, ◌++◌, drop, length, Option, Some, slice_get, refl, sym, ◌∙◌, ap}
+use Rattle.std.proofs.Common.{◌≡◌, ℕ, zero, suc, List, [], ◌∷◌, ◌++◌, drop, length, Option, Some, slice_get, refl, sym}
+use Rattle.std.proofs.Common.{◌∙◌, ap}
 use Rattle.std.specs.List.{AllByRecursion}
 use Rattle.bac_tsm.specs.Events.{Event, Note}
 use Rattle.bac_pdu.specs.Peer.{Station}
@@ -14,7 +15,8 @@ use Rattle.bac_device.specs.Demo.{demo_points}
 use Rattle.bac_device.specs.Turns.{replies_to}
 use Rattle.bac_script.specs.Line.{Said, Nothing, Settings, Happens, Asks}
 use Rattle.bac_script.specs.Text.{notes_text}
-use Rattle.bac_script.specs.Running.{Stage, new_client, small_device, ran, reply_after, writes_with}
+use Rattle.bac_script.specs.Running.{small_device}
+use Rattle.bac_script.specs.Inner.Running.{Stage, new_client, ran, reply_after, writes_with}
 use Rattle.bac_script.specs.Script.{settings_in, events_in, arrivals_in, requests_in, printed, text_of}
 
 -- What a script runs on before its first line.
@@ -47,7 +49,8 @@ drop_next : (events : List Event) (n : ℕ) (event : Event) (later : List Event)
     (slice_get events n ≡ Some event) × (drop (suc n) events ≡ later)
 drop_next [] zero event later e = absurd (cc)
 drop_next [] (suc n) event later e = absurd (cc)
-drop_next (x ∷ events) zero event later e = (ap (λ (xs : List Event). slice_get xs 0) e, ap (λ (xs : List Event). drop 1 xs) e)
+drop_next (x ∷ events) zero event later e =
+    (ap (λ (xs : List Event). slice_get xs 0) e, ap (λ (xs : List Event). drop 1 xs) e)
 drop_next (x ∷ events) (suc n) event later e = drop_next events n event later e
 
 -- The replies of a script's device after these writes.
@@ -58,7 +61,11 @@ module _ (timeout retries first_ticket : ℕ) (events : List Event) where
   -- The stage at a position of the events, after these writes.
   abbrev stage_at : ℕ → List Write → Stage
   stage_at n writes = record {
-    client = record { timeout = timeout; retries = retries; state = state_at (client_rules timeout retries) first_ticket events n };
+    client = record {
+      timeout = timeout;
+      retries = retries;
+      state = state_at (client_rules timeout retries) first_ticket events n;
+    };
     writes = writes;
   }
 
@@ -69,7 +76,8 @@ module _ (timeout retries first_ticket : ℕ) (events : List Event) where
   -- What is printed after a step of the client.
   abbrev text_after : ℕ → List Write → List Said → Stepped → List ℕ
   text_after n writes later one =
-      notes_text one.notes ++ text_from (record { client = keeping (stage_at n writes).client one.after; writes = writes }) later
+      notes_text one.notes
+      ++ text_from (record { client = keeping (stage_at n writes).client one.after; writes = writes }) later
 
   pub prints_output : (n : ℕ) (writes : List Write) (all : List Said) → NoSettings all → drop n events ≡ events_in all →
       text_from (stage_at n writes) all ≡ printed notes n all (replies_after writes all)
@@ -78,16 +86,20 @@ module _ (timeout retries first_ticket : ℕ) (events : List Event) where
   prints_output n writes (Settings t r f ∷ later) h e = absurd h.0
   prints_output n writes (Happens event ∷ later) h e =
       let here = drop_next events n event (events_in later) e in
-      let now = one_step (client_rules timeout retries) first_ticket events (by_number timeout retries) few_places n event here.0 in
+      let now = one_step (client_rules timeout retries) first_ticket events (by_number timeout retries) few_places n
+      event here.0 in
       ap (text_after n writes later) now
       ∙ ap (λ (xs : List ℕ). notes_text (notes n) ++ xs) (prints_output (suc n) writes later h.1 here.1)
   prints_output n writes (Asks arrival ∷ later) h e =
       ap (λ (xs : List ℕ). reply_after writes arrival ++ xs) (prints_output n (writes_with writes arrival) later h.1 e)
 
   pub prints_all : (all : List Said) → NoSettings all → events ≡ events_in all →
-      text_from (record { client = new_client timeout retries first_ticket; writes = [] }) all ≡ printed notes 0 all (replies_after [] all)
+      text_from (record { client = new_client timeout retries first_ticket; writes = [] }) all
+      ≡ printed notes 0 all (replies_after [] all)
   prints_all all h e =
-      ap (λ (state : State). text_from (record { client = record { timeout = timeout; retries = retries; state = state }; writes = [] }) all)
+      ap (λ (state : State).
+      text_from (record { client = record { timeout = timeout; retries = retries; state = state }; writes = [] })
+      all)
       (begins (client_rules timeout retries) first_ticket events (by_number timeout retries) few_places)
       ∙ prints_output 0 [] all h e
 
@@ -96,11 +108,13 @@ pub text_is : (all : List Said) → SettingsFirst all → text_of all ≡ text_f
 text_is [] h = refl
 text_is (Nothing ∷ later) h = text_is later h
 text_is (Settings t r f ∷ later) h = sym (prints_all t r f (events_in later) later h refl)
-text_is (Happens event ∷ later) h = sym (prints_all 3000 3 0 (events_in (Happens event ∷ later)) (Happens event ∷ later) (tt, h) refl)
+text_is (Happens event ∷ later) h =
+    sym (prints_all 3000 3 0 (events_in (Happens event ∷ later)) (Happens event ∷ later) (tt, h) refl)
 text_is (Asks arrival ∷ later) h = sym (prints_all 3000 3 0 (events_in later) (Asks arrival ∷ later) (tt, h) refl)
 
 -- Between two requests of a script with the same number many others are accepted.
 pub requests_late : (all : List Said) → NumbersComeBackLate table_size (requests_in all)
 requests_late all =
     let settings = settings_in all in
-    back_late (client_rules settings.timeout settings.retries) settings.first_ticket (events_in all) few_places (length (events_in all))
+    back_late (client_rules settings.timeout settings.retries) settings.first_ticket (events_in all) few_places
+    (length (events_in all))

@@ -1,5 +1,6 @@
 -- Where the octets of a script are cut.
-use Rattle.std.proofs.Common.{◌≡◌, ◌≢◌, ℕ, ◌<◌, Bool, true, false, List, [], ◌∷◌, ◌++◌, length, get_or, refl, sym, ◌∙◌, ap, append_assoc, arith, Err}
+use Rattle.std.proofs.Common.{◌≡◌, ◌≢◌, ℕ, ◌<◌, Bool, true, false, List, [], ◌∷◌, ◌++◌, length, get_or, refl, sym, ◌∙◌}
+use Rattle.std.proofs.Common.{ap, append_assoc, arith, Err}
 use Rattle.std.specs.Prelude.{◌||◌, nat_lt, filter}
 use Rattle.std.specs.List.{onto_first}
 use Rattle.std.proofs.lemmas.List.{append-nil, length-append}
@@ -7,11 +8,11 @@ use Rattle.std.proofs.lemmas.Grind.{common_steps}
 use Rattle.std.proofs.lemmas.Bool.{ne_eqb}
 use Rattle.std.proofs.lemmas.Bool.Decides.{nat_tests}
 use Rattle.bac_text.specs.Limits.{longest_line}
-use Rattle.bac_script.specs.Limits.{line_room}
+use Rattle.bac_script.specs.Inner.Limits.{line_room}
 use Rattle.bac_script.specs.declared.input.Reading.{Reading}
 use Rattle.bac_script.specs.declared.input.Reading.TheVariants.{Open, AtEnd, Failed}
 use Rattle.bac_script.specs.declared.line.LineFault.TheVariants.{TooLong}
-use Rattle.bac_script.specs.Feeds.{HasNoFeed}
+use Rattle.bac_script.specs.Inner.Feeds.{HasNoFeed}
 use Rattle.bac_script.specs.Line.{ends_with_feed, without_feed, said}
 use Rattle.bac_script.specs.Script.{pieces, lines, is_line}
 
@@ -29,7 +30,8 @@ pub record Begun (line more : List ℕ) : Type 0 where
   pub others : List (List ℕ)
   pub is : pieces (line ++ more) ≡ (line ++ front) ∷ others
 
-onto_begun : (x : ℕ) (ps : List (List ℕ)) → (front : List ℕ) × (others : List (List ℕ)) × (onto_first x ps ≡ (x ∷ front) ∷ others)
+onto_begun : (x : ℕ) (ps : List (List ℕ)) → (front : List ℕ) × (others : List (List ℕ))
+    × (onto_first x ps ≡ (x ∷ front) ∷ others)
 onto_begun x [] = ([], [], refl)
 onto_begun x (p ∷ ps) = (p, ps, refl)
 
@@ -52,14 +54,20 @@ ends_with_feed-none (x ∷ xs) h = grind (arith, common_steps, last_no_feed x xs
 pub ends_with_feed-push : (text : List ℕ) → ends_with_feed (text ++ 10 ∷ []) ≡ true
 ends_with_feed-push text = grind (arith, common_steps)
 
-is_line-sure : (reading : Reading) (line : List ℕ) → (ends_with_feed line || nat_lt longest_line (length line)) ≡ true → is_line reading line ≡ true
+is_line-sure : (reading : Reading) (line : List ℕ) → (ends_with_feed line || nat_lt longest_line (length line)) ≡ true
+    → is_line reading line ≡ true
 is_line-sure AtEnd line h = refl
 is_line-sure Open line h = h
 is_line-sure Failed line h = h
 
-pub lines-ended : (text more : List ℕ) (reading : Reading) → HasNoFeed text → lines ((text ++ 10 ∷ []) ++ more) reading ≡ (text ++ 10 ∷ []) ∷ lines more reading
+pub lines-ended : (text more : List ℕ) (reading : Reading) → HasNoFeed text
+    → lines ((text ++ 10 ∷ []) ++ more) reading ≡ (text ++ 10 ∷ []) ∷ lines more reading
 lines-ended text more reading h =
-    rw (append_assoc text (10 ∷ []) more, pieces-line text more h, is_line-sure reading (text ++ 10 ∷ []) (rw (ends_with_feed-push text) refl)) refl
+    rw (
+      append_assoc text (10 ∷ []) more,
+      pieces-line text more h,
+      is_line-sure reading (text ++ 10 ∷ []) (rw (ends_with_feed-push text) refl),
+    ) refl
 
 -- What no line feed ends, and is not too long, is a line only at the end
 pub lines-rest : (line : List ℕ) → HasNoFeed line → length line < line_room → lines line Failed ≡ []
@@ -73,12 +81,14 @@ lines-last [] h some = absurd (omega arith)
 lines-last (x ∷ xs) h some = rw (pieces-open x xs h) refl
 
 -- A line is as long without its line feed as it is, or one shorter
-without_feed_long : (line front : List ℕ) → HasNoFeed line → length line ≡ line_room → longest_line < length (without_feed (line ++ front))
+without_feed_long : (line front : List ℕ) → HasNoFeed line → length line ≡ line_room
+    → longest_line < length (without_feed (line ++ front))
 without_feed_long line [] h long =
     rw (append-nil line, ends_with_feed-none line h) (omega arith)
 without_feed_long line (x ∷ xs) h long = grind (arith, common_steps, length-append line (x ∷ xs))
 
-pub said-long : (is_first : Bool) (line : List ℕ) → longest_line < length (without_feed line) → said is_first line ≡ Err TooLong
+pub said-long : (is_first : Bool) (line : List ℕ) → longest_line < length (without_feed line)
+    → said is_first line ≡ Err TooLong
 said-long is_first line h =
     let e : nat_lt longest_line (length (without_feed line)) ≡ true = grind (arith, nat_tests) in rw e refl
 
@@ -89,25 +99,41 @@ pub record NextLine (line held : List ℕ) (reading : Reading) : Type 0 where
   pub split : lines (line ++ held) reading ≡ whole ∷ others
   pub same : (is_first : Bool) → said is_first whole ≡ said is_first line
 
-pub next_long : (line held : List ℕ) (reading : Reading) → HasNoFeed line → length line ≡ line_room → NextLine line held reading
+pub next_long : (line held : List ℕ) (reading : Reading) → HasNoFeed line → length line ≡ line_room
+    → NextLine line held reading
 next_long [] held reading h long = absurd (omega arith)
 next_long (x ∷ xs) held reading h long =
     let b = pieces-begun x xs held h in
     let long' : longest_line < length ((x ∷ xs) ++ b.front) = omega (arith, length-append (x ∷ xs) b.front) in
-    let sure : (ends_with_feed ((x ∷ xs) ++ b.front) || nat_lt longest_line (length ((x ∷ xs) ++ b.front))) ≡ true = grind (arith, nat_tests, long') in
+    let sure : (ends_with_feed ((x ∷ xs) ++ b.front) || nat_lt longest_line (length ((x ∷ xs) ++ b.front))) ≡ true =
+    grind (arith, nat_tests, long') in
     let too_long : longest_line < length (without_feed (x ∷ xs)) = rw (ends_with_feed-none (x ∷ xs) h) (omega arith) in
     record {
       whole = (x ∷ xs) ++ b.front;
       others = filter (is_line reading) b.others;
       split = rw (b.is, is_line-sure reading ((x ∷ xs) ++ b.front) sure) refl;
-      same = λ is_first. said-long is_first ((x ∷ xs) ++ b.front) (without_feed_long (x ∷ xs) b.front h long) ∙ sym (said-long is_first (x ∷ xs) too_long);
+      same = λ is_first. said-long is_first ((x ∷ xs) ++ b.front) (without_feed_long (x ∷ xs) b.front h long)
+          ∙ sym (said-long is_first (x ∷ xs) too_long);
     }
 
 pub next_ended : (text held : List ℕ) (reading : Reading) → HasNoFeed text → NextLine (text ++ 10 ∷ []) held reading
-next_ended text held reading h = record { whole = text ++ 10 ∷ []; others = lines held reading; split = lines-ended text held reading h; same = λ is_first. refl }
+next_ended text held reading h =
+    record {
+      whole = text ++ 10 ∷ [];
+      others = lines held reading;
+      split = lines-ended text held reading h;
+      same = λ is_first. refl;
+    }
 
 pub next_last : (line : List ℕ) → HasNoFeed line → 0 < length line → NextLine line [] AtEnd
-next_last line h some = record { whole = line; others = []; split = ap (λ zs. lines zs AtEnd) (append-nil line) ∙ lines-last line h some; same = λ is_first. refl }
+next_last line h some =
+    record {
+      whole = line;
+      others = [];
+      split = ap (λ zs. lines zs AtEnd) (append-nil line) ∙ lines-last line h some;
+      same = λ is_first. refl;
+    }
 
-pub said-whole_long : (is_first : Bool) (line : List ℕ) → HasNoFeed line → length line ≡ line_room → said is_first line ≡ Err TooLong
+pub said-whole_long : (is_first : Bool) (line : List ℕ) → HasNoFeed line → length line ≡ line_room
+    → said is_first line ≡ Err TooLong
 said-whole_long is_first line h long = said-long is_first line (rw (ends_with_feed-none line h) (omega arith))

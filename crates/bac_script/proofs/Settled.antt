@@ -6,24 +6,29 @@ use Rattle.std.specs.Str.{is_utf8}
 use Rattle.bac_script.specs.declared.line.LineFault.{LineFault}
 use Rattle.bac_script.specs.declared.line.LineFault.TheVariants.{Bad}
 use Rattle.bac_text.specs.Words.{words_of}
-use Rattle.bac_script.specs.Line.{Said, Nothing, Happens, Asks, reading_of, writing_of, arrival_of, handed, tick_of, said_by, said_in, text_of_line, said}
-use Rattle.bac_script.specs.Script.{is_silent, and_then, said_from, all_said}
+use Rattle.bac_script.specs.Line.{Said, Nothing, Happens, Asks, reading_of, writing_of, arrival_of, handed, tick_of}
+use Rattle.bac_script.specs.Line.{said_by, said_in, text_of_line, said}
+use Rattle.bac_script.specs.Script.{says_nothing, and_then, said_from, all_said}
 use Rattle.bac_script.proofs.Machine.{IsOther, NoSettings, SettingsFirst}
 
 -- What was found, mapped to what is no settings.
-mapped_other : {A : Type 0} (say : A → Said) (found : Option A) → ((a : A) → IsOther (say a)) → IfSome (option_map say found) IsOther
+mapped_other : {A : Type 0} (say : A → Said) (found : Option A) → ((a : A) → IsOther (say a))
+    → IfSome (option_map say found) IsOther
 mapped_other say None h = tt
 mapped_other say (Some a) h = h a
 
 words_other : (words : List (List ℕ)) → IfSome (said_by false words) IsOther
 words_other [] = tt
 words_other (name ∷ others) =
-    go (slice_index name 0 == 35) (bytes_eq name (codes "read")) (bytes_eq name (codes "write")) (bytes_eq name (codes "data")) (bytes_eq name (codes "tick"))
+    go (slice_index name 0 == 35) (bytes_eq name (codes "read")) (bytes_eq name (codes "write"))
+    (bytes_eq name (codes "data")) (bytes_eq name (codes "tick"))
     (bytes_eq name (codes "ask"))
   where
     go : (remark reads writes hands ticks asks : Bool) →
-        IfSome (if remark then Some Nothing else if reads then option_map Happens (reading_of others) else if writes then option_map Happens (writing_of others)
-        else if hands then option_map handed (arrival_of others) else if ticks then option_map Happens (tick_of others) else if asks then option_map Asks (arrival_of others) else None) IsOther
+        IfSome (if remark then Some Nothing else if reads then option_map Happens (reading_of others) else if writes
+        then option_map Happens (writing_of others)
+        else if hands then option_map handed (arrival_of others) else if ticks then option_map Happens (tick_of others)
+        else if asks then option_map Asks (arrival_of others) else None) IsOther
     go true reads writes hands ticks asks = tt
     go false true writes hands ticks asks = mapped_other Happens (reading_of others) (λ event. tt)
     go false false true hands ticks asks = mapped_other Happens (writing_of others) (λ event. tt)
@@ -39,19 +44,23 @@ found_other (Some one) fault h = h
 text_other : (r : Result (List ℕ) LineFault) → IfOk (said_in false r) IsOther
 text_other (Err fault) = tt
 text_other (Ok text) =
-    cond_both (is_utf8 text) (ok_or (said_by false (words_of text)) Bad) (Err Bad) (λ r. IfOk r IsOther) (λ e. found_other (said_by false (words_of text)) Bad (words_other (words_of text))) (λ e. tt)
+    cond_both (is_utf8 text) (ok_or (said_by false (words_of text)) Bad) (Err Bad) (λ r. IfOk r IsOther)
+    (λ e. found_other (said_by false (words_of text)) Bad (words_other (words_of text))) (λ e. tt)
 
-other_then : (s : Result Said LineFault) (later : List Said) → IfOk s IsOther → NoSettings later → NoSettings (and_then s later)
+other_then : (s : Result Said LineFault) (later : List Said) → IfOk s IsOther → NoSettings later
+    → NoSettings (and_then s later)
 other_then (Err fault) later h rest = tt
 other_then (Ok one) later h rest = (h, rest)
 
 -- Once something was said, no settings are.
 others_settled : (lines : List (List ℕ)) → NoSettings (said_from false lines)
 others_settled [] = tt
-others_settled (line ∷ lines) = other_then (said false line) (said_from false lines) (text_other (text_of_line line)) (others_settled lines)
+others_settled (line ∷ lines) =
+    other_then (said false line) (said_from false lines) (text_other (text_of_line line)) (others_settled lines)
 
-first_then : (s : Result Said LineFault) (lines : List (List ℕ)) → SettingsFirst (said_from true lines) → NoSettings (said_from false lines) →
-    SettingsFirst (and_then s (said_from (is_silent s) lines))
+first_then : (s : Result Said LineFault) (lines : List (List ℕ)) → SettingsFirst (said_from true lines)
+    → NoSettings (said_from false lines) →
+    SettingsFirst (and_then s (said_from (says_nothing s) lines))
 first_then (Err fault) lines first others = tt
 first_then (Ok Nothing) lines first others = first
 first_then (Ok _) lines first others = others

@@ -1,5 +1,7 @@
 -- What holds between two lines of a script, and where it stops.
-use Rattle.std.proofs.Common.{◌≡◌, ◌≢◌, ℕ, ◌+◌, ◌<◌, ◌≤◌, Bool, true, false, List, [], ◌∷◌, ◌++◌, length, take, drop, Option, Some, None, Result, Ok, Err, refl, sym, ◌∙◌, ap, subst, inl, inr, append_assoc, arith}
+use Rattle.std.proofs.Common.{◌≡◌, ◌≢◌, ℕ, ◌+◌, ◌<◌, ◌≤◌, Bool, true, false, List, [], ◌∷◌, ◌++◌, length, take, drop}
+use Rattle.std.proofs.Common.{Option, Some, None, Result, Ok, Err, refl, sym, ◌∙◌, ap, subst, inl, inr, append_assoc}
+use Rattle.std.proofs.Common.{arith}
 use Rattle.std.specs.Prelude.{◌&&◌}
 use Rattle.std.proofs.lemmas.List.{append-nil, length-append, take-append-drop}
 use Rattle.bac_tsm.specs.Client.{Client}
@@ -14,89 +16,110 @@ use Rattle.bac_script.specs.declared.tracing.TraceEnd.{TraceEnd}
 use Rattle.bac_script.specs.declared.tracing.TraceFault.{TraceFault}
 use Rattle.bac_script.specs.declared.tracing.TraceFault.TheVariants.{BadLine, LineTooLong, ReadFailed, WriteFailed}
 use Rattle.bac_text.specs.Checked.{has_failed, ends_with, reads_of, last_of}
-use Rattle.bac_script.specs.Input.{Takes, HasNotEnded, IsSpared, ReadForLine, StandsAs, over, IsCutAs}
-use Rattle.bac_script.specs.Feeds.{HasNoFeed}
-use Rattle.bac_script.specs.Limits.{line_room}
+use Rattle.bac_script.specs.Input.{HasNotEnded, ReadsNoMore, ReaderStands}
+use Rattle.bac_script.specs.Inner.Input.{TakesAndKeeps, ReadForLine, empty_reads, IsLineCut}
+use Rattle.bac_script.specs.Inner.Feeds.{HasNoFeed}
+use Rattle.bac_script.specs.Inner.Limits.{line_room}
 use Rattle.bac_script.specs.Line.{Said, said}
-use Rattle.bac_script.specs.Running.{Stage, Stands, new_client, device_with, ran}
+use Rattle.bac_script.specs.Inner.Running.{Stage, Stands, new_client, device_with, ran}
 use Rattle.bac_script.specs.Script.{lines, is_nothing, fault_at, first_fault, RunsWhole, Runs}
 use Rattle.bac_text.specs.Page.{held, writer_of, Writes, Prints}
-use Rattle.bac_script.specs.Tracing.{IsNeeded, Traces, RunsOn}
-use Rattle.bac_script.proofs.Pieces.{NextLine, next_ended, next_long, next_last, lines-rest, lines-last, lines-ended, said-whole_long}
+use Rattle.bac_script.specs.Tracing.{IsNeeded, Traces}
+use Rattle.bac_script.specs.Inner.Tracing.{RunsOn}
+use Rattle.bac_script.proofs.Pieces.{NextLine, next_ended, next_long, next_last, lines-rest, lines-last, lines-ended}
+use Rattle.bac_script.proofs.Pieces.{said-whole_long}
 use Rattle.bac_script.proofs.Taken.{Takes-more, Takes-front}
 use Rattle.bac_text.proofs.Printed.{◌⨾◌, prints_nothing}
 use Rattle.bac_text.proofs.Known.{Gave-none}
 use Rattle.bac_text.proofs.Shown.{finished, all_written}
 use Rattle.bac_script.proofs.Machine.{first_stage}
-use Rattle.bac_script.proofs.Courses.{Course, behind, behind_both, and_on, course, course_on, whole, runs_text, fault_is, runs_as}
+use Rattle.bac_script.proofs.Courses.{Course, behind, behind_both, and_on, course, course_on, whole, runs_text}
+use Rattle.bac_script.proofs.Courses.{fault_is, runs_as}
 
 -- The course of each script that begins with these octets: this text, and then the course from this stage on.
 abbrev GoesOn : List ℕ → List ℕ → Stage → Bool → ℕ → Type 0
 GoesOn octets text stage is_first count =
-    (more : List ℕ) (reading : Reading) → whole (lines (octets ++ more) reading) ≡ behind text (course stage is_first count (lines more reading))
+    (more : List ℕ) (reading : Reading)
+    → whole (lines (octets ++ more) reading) ≡ behind text (course stage is_first count (lines more reading))
 
 -- The lines so far were taken and run.
-pub record SoFar {R W : Type 0} (remaining : R → Option (List ℕ)) (contents : W → Option (List ℕ)) (reader reader' : Checked R) (held : List ℕ)
+pub record SoFar {R W : Type 0} (remaining : R → Option (List ℕ)) (contents : W → Option (List ℕ))
+    (reader reader' : Checked R) (held : List ℕ)
     (page page' : Page W) (count : ℕ) (is_first : Bool) (client : Client) (device : DeviceState) : Type 0 where
   pub octets : List ℕ
   pub text : List ℕ
   pub stage : Stage
-  pub taken : Takes remaining reader reader' [] held octets
+  pub taken : TakesAndKeeps remaining reader reader' [] held octets
   pub asked : reads_of reader' ≤ reads_of reader + length taken.given
   pub needed : IsNeeded reader reader' taken.given
   pub sound : has_failed reader' ≡ false
   pub unended : HasNotEnded reader reader'
-  pub spared : IsSpared reader reader'
+  pub spared : ReadsNoMore reader reader'
   pub goes_on : GoesOn octets text stage is_first count
   pub kept : Stands stage client device
   pub printed : Prints contents page page' text
 
 -- The course where the line behind those so far is this.
-goes_to : (octets line held text : List ℕ) (stage : Stage) (is_first : Bool) (count : ℕ) (reading : Reading) (all : List (List ℕ)) → GoesOn octets text stage is_first count →
-    lines (line ++ held) reading ≡ all → whole (lines ((octets ++ line) ++ held) reading) ≡ behind text (course stage is_first count all)
+goes_to : (octets line held text : List ℕ) (stage : Stage) (is_first : Bool) (count : ℕ) (reading : Reading)
+    (all : List (List ℕ)) → GoesOn octets text stage is_first count →
+    lines (line ++ held) reading ≡ all
+    → whole (lines ((octets ++ line) ++ held) reading) ≡ behind text (course stage is_first count all)
 goes_to octets line held text stage is_first count reading all goes_on are =
     ap (λ (os : List ℕ). whole (lines os reading)) (append_assoc octets line held) ∙ goes_on (line ++ held) reading
     ∙ ap (λ (ls : List (List ℕ)). behind text (course stage is_first count ls)) are
 
 -- One more line.
-goes_further : (octets line text : List ℕ) (stage : Stage) (is_first is_first' : Bool) (count : ℕ) (one : Said) → GoesOn octets text stage is_first count → IsCutAs Open line →
-    said is_first line ≡ Ok one → is_first' ≡ (is_first && is_nothing one) → GoesOn (octets ++ line) (text ++ (ran stage one).text) (ran stage one).after is_first' (count + 1)
-goes_further octets line text stage is_first is_first' count one goes_on (inr c) ok still = λ more reading. absurd (let long = said-whole_long is_first line c.0 c.1 in cc)
+goes_further : (octets line text : List ℕ) (stage : Stage) (is_first is_first' : Bool) (count : ℕ) (one : Said)
+    → GoesOn octets text stage is_first count → IsLineCut Open line →
+    said is_first line ≡ Ok one → is_first' ≡ (is_first && is_nothing one)
+    → GoesOn (octets ++ line) (text ++ (ran stage one).text) (ran stage one).after is_first' (count + 1)
+goes_further octets line text stage is_first is_first' count one goes_on (inr c) ok still =
+    λ more reading. absurd (let long = said-whole_long is_first line c.0 c.1 in cc)
 goes_further octets line text stage is_first is_first' count one goes_on (inl c) ok still = λ more reading.
     let later = λ (s : Said) (first : Bool). course (ran stage s).after first (count + 1) (lines more reading) in
-    goes_to octets line more text stage is_first count reading (line ∷ lines more reading) goes_on (rw c.2 (lines-ended c.0 more reading c.1))
-    ∙ ap (λ (r : Result Said LineFault). behind text (and_on stage count r (λ s. later s (is_first && is_nothing s)))) ok
+    goes_to octets line more text stage is_first count reading (line ∷ lines more reading) goes_on
+    (rw c.2 (lines-ended c.0 more reading c.1))
+    ∙ ap (λ (r : Result Said LineFault). behind text (and_on stage count r (λ s. later s (is_first && is_nothing s))))
+    ok
     ∙ behind_both text (ran stage one).text (later one (is_first && is_nothing one))
     ∙ ap (λ (first : Bool). behind (text ++ (ran stage one).text) (later one first)) (sym still)
 
 -- The line that was taken, as the script has it.
-pub NextLine-from : {R : Type 0} (remaining : R → Option (List ℕ)) (reading : Reading) (before reader : Checked R) (line held : List ℕ) → IsCutAs reading line →
-    StandsAs remaining reading before reader held → reading ≢ Failed → 0 < length line → NextLine line held reading
-NextLine-from remaining Open before reader line held (inl c) stands going some = subst (λ l. NextLine l held Open) (sym c.2) (next_ended c.0 held Open c.1)
+pub NextLine-from : {R : Type 0} (remaining : R → Option (List ℕ)) (reading : Reading) (before reader : Checked R)
+    (line held : List ℕ) → IsLineCut reading line →
+    ReaderStands remaining reading before reader held → reading ≢ Failed → 0 < length line → NextLine line held reading
+NextLine-from remaining Open before reader line held (inl c) stands going some =
+    subst (λ l. NextLine l held Open) (sym c.2) (next_ended c.0 held Open c.1)
 NextLine-from remaining Open before reader line held (inr c) stands going some = next_long line held Open c.0 c.1
-NextLine-from remaining AtEnd before reader line held cut stands going some = subst (λ h. NextLine line h AtEnd) (sym stands.0) (next_last line cut.0 some)
+NextLine-from remaining AtEnd before reader line held cut stands going some =
+    subst (λ h. NextLine line h AtEnd) (sym stands.0) (next_last line cut.0 some)
 NextLine-from remaining Failed before reader line held cut stands going some = absurd (going refl)
 
 -- How reading stands since the first line.
-stands_more : {R : Type 0} (remaining : R → Option (List ℕ)) (reading : Reading) (first second third : Checked R) (held : List ℕ) → HasNotEnded first second →
-    StandsAs remaining reading second third held → StandsAs remaining reading first third []
+stands_more : {R : Type 0} (remaining : R → Option (List ℕ)) (reading : Reading) (first second third : Checked R)
+    (held : List ℕ) → HasNotEnded first second →
+    ReaderStands remaining reading second third held → ReaderStands remaining reading first third []
 stands_more remaining Open first second third held p h = (h.0, h.1 ∙ p)
-stands_more remaining AtEnd first second third held p h = (refl, h.1, record { last = h.2.last; once = h.2.once ∙ ap (λ (n : ℕ). ends_with n true) p; known = h.2.known })
+stands_more remaining AtEnd first second third held p h =
+    (refl, h.1, record { last = h.2.last; once = h.2.once ∙ ap (λ (n : ℕ). ends_with n true) p; known = h.2.known })
 stands_more remaining Failed first second third held p h = (refl, h.1, h.2 ∙ p)
 
-over_one : (reading : Reading) → over reading ≤ 1
-over_one Open = omega arith
-over_one AtEnd = omega arith
-over_one Failed = omega arith
+one_empty_read : (reading : Reading) → empty_reads reading ≤ 1
+one_empty_read Open = omega arith
+one_empty_read AtEnd = omega arith
+one_empty_read Failed = omega arith
 
-fault_runs : (octets : List ℕ) (reading : Reading) (text : List ℕ) (number : ℕ) (fault : LineFault) → RunsWhole octets reading text (Err (fault_at number (Err fault))) →
+fault_runs : (octets : List ℕ) (reading : Reading) (text : List ℕ) (number : ℕ) (fault : LineFault)
+    → RunsWhole octets reading text (Err (fault_at number (Err fault))) →
     Runs octets reading text (Err (fault_at number (Err fault)))
 fault_runs octets reading text number Bad runs = runs
 fault_runs octets reading text number TooLong runs = runs
 
 -- An empty line is cut only at the end.
-at_end : (reading : Reading) (line : List ℕ) → IsCutAs reading line → reading ≢ Failed → length line ≡ 0 → reading ≡ AtEnd
-at_end Open line (inl c) going none = absurd (let size = ap length c.2 in omega (arith, none, simp length-append at size))
+at_end : (reading : Reading) (line : List ℕ) → IsLineCut reading line → reading ≢ Failed → length line ≡ 0
+    → reading ≡ AtEnd
+at_end Open line (inl c) going none =
+    absurd (let size = ap length c.2 in omega (arith, none, simp length-append at size))
 at_end Open line (inr c) going none = absurd (omega (arith, none, c.1))
 at_end AtEnd line cut going none = refl
 at_end Failed line cut going none = absurd (going refl)
@@ -106,21 +129,26 @@ open_from Open f e = refl
 open_from AtEnd f e = absurd (e refl)
 open_from Failed f e = absurd (f refl)
 
-module _ {R W : Type 0} {remaining : R → Option (List ℕ)} {contents : W → Option (List ℕ)} {reader middle reader' : Checked R} {held now : List ℕ}
-    {page between kept : Page W} {count : ℕ} {is_first : Bool} {client : Client} {device : DeviceState} (reading : Reading) (n : ℕ)
-    (s : SoFar remaining contents reader middle held page between count is_first client device) (q : Takes remaining middle reader' held now [])
-    (stands : StandsAs remaining reading middle reader' (drop n now)) (asked : reads_of reader' + length held ≤ reads_of middle + length now + over reading)
-    (need : ReadForLine middle reader' held now) (spared : IsSpared middle reader') (handed : Prints contents between kept []) where
+module _ {R W : Type 0} {remaining : R → Option (List ℕ)} {contents : W → Option (List ℕ)}
+    {reader middle reader' : Checked R} {held now : List ℕ}
+    {page between kept : Page W} {count : ℕ} {is_first : Bool} {client : Client} {device : DeviceState}
+    (reading : Reading) (n : ℕ)
+    (s : SoFar remaining contents reader middle held page between count is_first client device)
+    (q : TakesAndKeeps remaining middle reader' held now [])
+    (stands : ReaderStands remaining reading middle reader' (drop n now))
+    (asked : reads_of reader' + length held ≤ reads_of middle + length now + empty_reads reading)
+    (need : ReadForLine middle reader' held now) (spared : ReadsNoMore middle reader')
+    (handed : Prints contents between kept []) where
   abbrev line : List ℕ
   line = take n now
 
   abbrev rest : List ℕ
   rest = drop n now
 
-  taken : Takes remaining reader reader' [] rest (s.octets ++ line)
+  taken : TakesAndKeeps remaining reader reader' [] rest (s.octets ++ line)
   taken = Takes-more s.taken (Takes-front n q)
 
-  reads : reads_of reader' ≤ reads_of reader + length taken.given + over reading
+  reads : reads_of reader' ≤ reads_of reader + length taken.given + empty_reads reading
   reads =
       let before : length s.taken.given ≡ length (s.octets ++ held) = ap length s.taken.order in
       let after : length taken.given ≡ length ((s.octets ++ line) ++ rest) = ap length taken.order in
@@ -129,37 +157,51 @@ module _ {R W : Type 0} {remaining : R → Option (List ℕ)} {contents : W → 
 
   -- What the reader gave: the lines so far, and what is held now.
   given_is : taken.given ≡ s.octets ++ now
-  given_is = taken.order ∙ append_assoc s.octets line rest ∙ ap (λ (zs : List ℕ). s.octets ++ zs) (take-append-drop n now)
+  given_is = taken.order ∙ append_assoc s.octets line rest
+      ∙ ap (λ (zs : List ℕ). s.octets ++ zs) (take-append-drop n now)
 
   -- Where no line is held, the lines so far are all, and none has a fault.
-  no_fault : (more : List ℕ) → HasNoFeed more → length more < line_room → first_fault (lines (s.octets ++ more) Open) ≡ None
+  no_fault : (more : List ℕ) → HasNoFeed more → length more < line_room
+      → first_fault (lines (s.octets ++ more) Open) ≡ None
   no_fault more none short =
       sym (fault_is (lines (s.octets ++ more) Open)) ∙ ap (λ (c : Course). c.fault) (s.goes_on more Open)
-      ∙ ap (λ (all : List (List ℕ)). (behind s.text (course s.stage is_first count all)).fault) (lines-rest more none short)
+      ∙ ap (λ (all : List (List ℕ)). (behind s.text (course s.stage is_first count all)).fault)
+      (lines-rest more none short)
 
   -- The last read was needed.
   needed : IsNeeded reader reader' taken.given
   needed = elim need [
     | inl same ↦
         subst (λ (r : Checked R). IsNeeded reader r taken.given) (sym same.0)
-        (subst (IsNeeded reader middle) (s.taken.order ∙ ap (λ (zs : List ℕ). s.octets ++ zs) (sym same.1) ∙ sym given_is) s.needed)
+        (subst (IsNeeded reader middle)
+        (s.taken.order ∙ ap (λ (zs : List ℕ). s.octets ++ zs) (sym same.1) ∙ sym given_is) s.needed)
     | inr r ↦ inr (record {
       before = s.octets ++ (held ++ r.before);
-      order = given_is ∙ ap (λ (zs : List ℕ). s.octets ++ zs) r.order ∙ sym (append_assoc s.octets (held ++ r.before) (last_of reader'));
+      order = given_is ∙ ap (λ (zs : List ℕ). s.octets ++ zs) r.order
+          ∙ sym (append_assoc s.octets (held ++ r.before) (last_of reader'));
       asked =
           let size : length s.taken.given ≡ length (s.octets ++ held) = ap length s.taken.order in
-          omega (arith, r.asked, s.asked, simp length-append at size, length-append s.octets (held ++ r.before), length-append held r.before);
+          omega (
+            arith,
+            r.asked,
+            s.asked,
+            simp length-append at size,
+            length-append s.octets (held ++ r.before),
+            length-append held r.before,
+          );
       going = no_fault (held ++ r.before) r.no_feed r.short;
     })
   ]
 
   -- The course where these lines are left.
-  left : (all : List (List ℕ)) → lines (line ++ rest) reading ≡ all → whole (lines ((s.octets ++ line) ++ rest) reading) ≡ behind s.text (course s.stage is_first count all)
+  left : (all : List (List ℕ)) → lines (line ++ rest) reading ≡ all
+      → whole (lines ((s.octets ++ line) ++ rest) reading) ≡ behind s.text (course s.stage is_first count all)
   left all are = goes_to s.octets line rest s.text s.stage is_first count reading all s.goes_on are
 
   -- The run stops here.
   stops : {last : Page W} {printed : List ℕ} (answer : Result TraceEnd TraceFault) → Prints contents page last printed →
-      Runs ((s.octets ++ line) ++ rest) reading printed answer → RunsOn remaining contents reader reader' page last answer
+      Runs ((s.octets ++ line) ++ rest) reading printed answer
+      → RunsOn remaining contents reader reader' page last answer
   stops {printed = printed} answer prints runs = record {
     given = taken.given;
     reading = reading;
@@ -175,55 +217,76 @@ module _ {R W : Type 0} {remaining : R → Option (List ℕ)} {contents : W → 
   }
 
   -- The writer has failed.
-  pub unwritten : (answer : Result TraceEnd TraceFault) → answer ≡ Err WriteFailed → RunsOn remaining contents reader reader' page kept answer
+  pub unwritten : (answer : Result TraceEnd TraceFault) → answer ≡ Err WriteFailed
+      → RunsOn remaining contents reader reader' page kept answer
   unwritten answer is =
       let later = (course s.stage is_first count (lines (line ++ rest) reading)).text in
       stops answer (s.printed ⨾ handed)
-      (rw is (later, sym (runs_text (lines ((s.octets ++ line) ++ rest) reading)) ∙ ap (λ (c : Course). c.text) (left (lines (line ++ rest) reading) refl) ∙ sym (append_assoc s.text [] later)))
+      (rw is (
+        later,
+        sym (runs_text (lines ((s.octets ++ line) ++ rest) reading))
+            ∙ ap (λ (c : Course). c.text) (left (lines (line ++ rest) reading) refl)
+            ∙ sym (append_assoc s.text [] later),
+      ))
 
   -- The reader fails, or its reads are spent.
-  pub unread : reading ≡ Failed → IsCutAs reading line → RunsOn remaining contents reader reader' page kept (Err ReadFailed)
+  pub unread : reading ≡ Failed → IsLineCut reading line
+      → RunsOn remaining contents reader reader' page kept (Err ReadFailed)
   unread is cut =
       let c = rw is at cut in
       let h = rw is at stands in
       stops (Err ReadFailed) (s.printed ⨾ handed)
-      (runs_as _ reading (behind s.text (course s.stage is_first count [])) (Err ReadFailed) (left [] (rw (is, h.0, append-nil line) (lines-rest line c.0 c.1))) (rw is refl))
+      (runs_as _ reading (behind s.text (course s.stage is_first count [])) (Err ReadFailed)
+      (left [] (rw (is, h.0, append-nil line) (lines-rest line c.0 c.1))) (rw is refl))
 
   -- The input ends after a line feed.
-  pub to_end : reading ≢ Failed → IsCutAs reading line → n ≡ 0 → RunsOn remaining contents reader reader' page kept (Ok (record { lines = count }))
+  pub to_end : reading ≢ Failed → IsLineCut reading line → n ≡ 0
+      → RunsOn remaining contents reader reader' page kept (Ok (record { lines = count }))
   to_end going cut none =
       let empty : line ≡ [] = rw none refl in
       let is = at_end reading line cut going (ap length empty) in
       let h = rw is at stands in
-      let over : rest ≡ [] = h.0 in
+      let empty_reads : rest ≡ [] = h.0 in
       stops (Ok (record { lines = count })) (s.printed ⨾ handed)
-      (runs_as _ reading (behind s.text (course s.stage is_first count [])) (Ok (record { lines = count })) (left [] (rw (empty, over) refl)) (rw is refl))
+      (runs_as _ reading (behind s.text (course s.stage is_first count [])) (Ok (record { lines = count }))
+      (left [] (rw (empty, empty_reads) refl)) (rw is refl))
 
   -- A line stops it.
-  pub faulty : (fault : LineFault) → reading ≢ Failed → IsCutAs reading line → 0 < length line → said is_first line ≡ Err fault →
+  pub faulty : (fault : LineFault) → reading ≢ Failed → IsLineCut reading line → 0 < length line
+      → said is_first line ≡ Err fault →
       RunsOn remaining contents reader reader' page kept (Err (fault_at (count + 1) (Err fault)))
   faulty fault going cut some bad =
       let next = NextLine-from remaining reading middle reader' line rest cut stands going some in
       let at = next.same is_first ∙ bad in
       stops (Err (fault_at (count + 1) (Err fault))) (s.printed ⨾ handed)
-      (fault_runs _ reading (s.text ++ []) (count + 1) fault (runs_as _ reading (record { text = s.text ++ []; fault = Some (fault_at (count + 1) (Err fault)); count = count }) (Err (fault_at (count + 1) (Err fault)))
+      (fault_runs _ reading (s.text ++ []) (count + 1) fault
+      (runs_as _ reading
+      (record { text = s.text ++ []; fault = Some (fault_at (count + 1) (Err fault)); count = count })
+      (Err (fault_at (count + 1) (Err fault)))
       (left (next.whole ∷ next.others) next.split
-      ∙ ap (λ (r : Result Said LineFault). behind s.text (and_on s.stage count r (course_on s.stage is_first count next.others))) at) refl))
+      ∙ ap (λ (r : Result Said LineFault).
+      behind s.text (and_on s.stage count r (course_on s.stage is_first count next.others))) at) refl))
 
   -- The input ends in a line without its line feed.
-  pub to_last : {last : Page W} (one : Said) → reading ≡ AtEnd → IsCutAs reading line → 0 < length line → said is_first line ≡ Ok one →
-      Prints contents kept last (ran s.stage one).text → RunsOn remaining contents reader reader' page last (Ok (record { lines = count + 1 }))
+  pub to_last : {last : Page W} (one : Said) → reading ≡ AtEnd → IsLineCut reading line → 0 < length line
+      → said is_first line ≡ Ok one →
+      Prints contents kept last (ran s.stage one).text
+      → RunsOn remaining contents reader reader' page last (Ok (record { lines = count + 1 }))
   to_last {last} one is cut some ok printed =
       let c = rw is at cut in
       let h = rw is at stands in
       stops (Ok (record { lines = count + 1 })) (s.printed ⨾ handed ⨾ printed ⨾ prints_nothing last)
-      (runs_as _ reading (behind s.text (behind (ran s.stage one).text (course_on s.stage is_first count [] one))) (Ok (record { lines = count + 1 }))
+      (runs_as _ reading (behind s.text (behind (ran s.stage one).text (course_on s.stage is_first count [] one)))
+      (Ok (record { lines = count + 1 }))
       (left (line ∷ []) (rw (is, h.0, append-nil line) (lines-last line c.0 some))
-      ∙ ap (λ (r : Result Said LineFault). behind s.text (and_on s.stage count r (course_on s.stage is_first count []))) ok) (rw is refl))
+      ∙ ap (λ (r : Result Said LineFault). behind s.text (and_on s.stage count r (course_on s.stage is_first count [])))
+      ok) (rw is refl))
 
   -- One more line was run.
-  pub goes_on : {page' : Page W} {is_first' : Bool} {client' : Client} {device' : DeviceState} (one : Said) → reading ≢ Failed → reading ≢ AtEnd → IsCutAs reading line →
-      said is_first line ≡ Ok one → is_first' ≡ (is_first && is_nothing one) → Stands (ran s.stage one).after client' device' → Prints contents kept page' (ran s.stage one).text →
+  pub goes_on : {page' : Page W} {is_first' : Bool} {client' : Client} {device' : DeviceState} (one : Said)
+      → reading ≢ Failed → reading ≢ AtEnd → IsLineCut reading line →
+      said is_first line ≡ Ok one → is_first' ≡ (is_first && is_nothing one)
+      → Stands (ran s.stage one).after client' device' → Prints contents kept page' (ran s.stage one).text →
       SoFar remaining contents reader reader' rest page page' (count + 1) is_first' client' device'
   goes_on one going more cut ok still stage printed =
       let is = open_from reading going more in
@@ -233,7 +296,7 @@ module _ {R W : Type 0} {remaining : R → Option (List ℕ)} {contents : W → 
         text = s.text ++ (ran s.stage one).text;
         stage = (ran s.stage one).after;
         taken = taken;
-        asked = let none = ap over is in omega (arith, none, reads);
+        asked = let none = ap empty_reads is in omega (arith, none, reads);
         needed = needed;
         sound = h.0;
         unended = h.1 ∙ s.unended;
@@ -243,8 +306,10 @@ module _ {R W : Type 0} {remaining : R → Option (List ℕ)} {contents : W → 
         printed = s.printed ⨾ handed ⨾ printed;
       }
 
-pub SoFar-none : {R W : Type 0} (remaining : R → Option (List ℕ)) (contents : W → Option (List ℕ)) (reader : Checked R) (held : List ℕ) (page : Page W)
-    (client : Client) (device : DeviceState) → has_failed reader ≡ false → held ≡ [] → client ≡ new_client 3000 3 0 → device ≡ device_with [] →
+pub SoFar-none : {R W : Type 0} (remaining : R → Option (List ℕ)) (contents : W → Option (List ℕ)) (reader : Checked R)
+    (held : List ℕ) (page : Page W)
+    (client : Client) (device : DeviceState) → has_failed reader ≡ false → held ≡ [] → client ≡ new_client 3000 3 0
+    → device ≡ device_with [] →
     SoFar remaining contents reader reader held page page 0 true client device
 SoFar-none remaining contents reader held page client device sound none fresh unwritten = record {
   octets = [];
@@ -262,7 +327,8 @@ SoFar-none remaining contents reader held page client device sound none fresh un
 }
 
 -- Of whatever is the text, or a front of it, a front is a front of the text.
-pub front_runs : (octets : List ℕ) (reading : Reading) (printed taken rest : List ℕ) (answer : Result TraceEnd TraceFault) → Runs octets reading printed answer →
+pub front_runs : (octets : List ℕ) (reading : Reading) (printed taken rest : List ℕ)
+    (answer : Result TraceEnd TraceFault) → Runs octets reading printed answer →
     printed ≡ taken ++ rest → Runs octets reading taken (Err WriteFailed)
 front_runs octets reading printed written rest (Err WriteFailed) runs e =
     (rest ++ runs.0, runs.1 ∙ ap (λ (xs : List ℕ). xs ++ runs.0) e ∙ append_assoc written rest runs.0)
@@ -271,11 +337,14 @@ front_runs octets reading printed written rest (Err (BadLine n)) runs e = (rest,
 front_runs octets reading printed written rest (Err (LineTooLong n)) runs e = (rest, sym runs.wrote ∙ e)
 front_runs octets reading printed written rest (Ok end) runs e = (rest, sym runs.wrote ∙ e)
 
-module _ {R W : Type 0} {remaining : R → Option (List ℕ)} {contents : W → Option (List ℕ)} {reader reader' : Checked R} {writer after back : Checked W}
+module _ {R W : Type 0} {remaining : R → Option (List ℕ)} {contents : W → Option (List ℕ)} {reader reader' : Checked R}
+    {writer after back : Checked W}
     {first last : Page W} {answer : Result TraceEnd TraceFault} where
   -- The page of a run was finished, and all was written.
-  pub traces_all : after ≡ back → RunsOn remaining contents reader reader' first last answer → writer_of first ≡ writer → held first ≡ [] →
-      Writes contents (writer_of last) after (held last) [] [] → has_failed after ≡ false → Traces remaining contents reader reader' writer back answer
+  pub traces_all : after ≡ back → RunsOn remaining contents reader reader' first last answer → writer_of first ≡ writer
+      → held first ≡ [] →
+      Writes contents (writer_of last) after (held last) [] [] → has_failed after ≡ false
+      → Traces remaining contents reader reader' writer back answer
   traces_all is s same empty gone good =
       subst (λ (w : Checked W). Traces remaining contents reader reader' writer w answer) is
       (record {
@@ -288,8 +357,10 @@ module _ {R W : Type 0} {remaining : R → Option (List ℕ)} {contents : W → 
       })
 
   -- The same where the writer has failed.
-  pub traces_front : (told : Result TraceEnd TraceFault) → told ≡ Err WriteFailed → after ≡ back → RunsOn remaining contents reader reader' first last answer →
-      writer_of first ≡ writer → held first ≡ [] → Writes contents (writer_of last) after (held last) [] [] → Traces remaining contents reader reader' writer back told
+  pub traces_front : (told : Result TraceEnd TraceFault) → told ≡ Err WriteFailed → after ≡ back
+      → RunsOn remaining contents reader reader' first last answer →
+      writer_of first ≡ writer → held first ≡ [] → Writes contents (writer_of last) after (held last) [] []
+      → Traces remaining contents reader reader' writer back told
   traces_front told failed is s same empty gone =
       let w = finished same empty s.prints gone in
       subst (λ (w : Checked W). Traces remaining contents reader reader' writer w told) is
@@ -299,5 +370,6 @@ module _ {R W : Type 0} {remaining : R → Option (List ℕ)} {contents : W → 
         written = w.taken;
         read = s.read;
         took = w.took;
-        runs = subst (λ (a : Result TraceEnd TraceFault). Runs s.given s.reading w.taken a) (sym failed) (front_runs s.given s.reading s.printed w.taken w.rest answer s.runs w.whole);
+        runs = subst (λ (a : Result TraceEnd TraceFault). Runs s.given s.reading w.taken a) (sym failed)
+            (front_runs s.given s.reading s.printed w.taken w.rest answer s.runs w.whole);
       })

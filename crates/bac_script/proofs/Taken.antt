@@ -1,5 +1,7 @@
 -- What is taken in several steps.
-use Rattle.std.proofs.Common.{◌≡◌, ◌⊎◌, ℕ, ◌+◌, ◌<◌, ◌≤◌, zero, suc, Bool, false, List, [], ◌∷◌, ◌++◌, length, take, drop, get_or, Option, Some, None, sym, ◌∙◌, ap, subst, inl, inr, append_assoc, length-append, arith}
+use Rattle.std.proofs.Common.{◌≡◌, ◌⊎◌, ℕ, ◌+◌, ◌<◌, ◌≤◌, zero, suc, Bool, false, List, [], ◌∷◌, ◌++◌, length, take}
+use Rattle.std.proofs.Common.{drop, get_or, Option, Some, None, sym, ◌∙◌, ap, subst, inl, inr, append_assoc}
+use Rattle.std.proofs.Common.{length-append, arith}
 use Rattle.std.specs.Prelude.{◌==◌, position}
 use Rattle.std.proofs.lemmas.Bool.{eqb-false, eqb-true}
 use Rattle.std.proofs.lemmas.Bool.Decides.{nat_tests}
@@ -8,28 +10,33 @@ use Rattle.std.proofs.lemmas.List.Sums.{fails_before_first}
 use Rattle.std.proofs.lemmas.List.Quantifiers.{position-Some}
 use Rattle.bac_text.specs.declared.checked.Checked.{Checked}
 use Rattle.bac_text.specs.Checked.{reads_of, last_of}
-use Rattle.bac_script.specs.Feeds.{HasNoFeed}
-use Rattle.bac_script.specs.Limits.{line_room}
-use Rattle.bac_script.specs.Input.{Takes, ReadForLine}
+use Rattle.bac_script.specs.Inner.Feeds.{HasNoFeed}
+use Rattle.bac_script.specs.Inner.Limits.{line_room}
+use Rattle.bac_script.specs.Inner.Input.{TakesAndKeeps, ReadForLine}
 use Rattle.bac_text.proofs.Known.{Gave-more}
 
-pub Takes-more : {R : Type 0} {remaining : R → Option (List ℕ)} {a b c : Checked R} {held mid kept xs ys : List ℕ} → Takes remaining a b held mid xs → Takes remaining b c mid kept ys →
-    Takes remaining a c held kept (xs ++ ys)
+pub Takes-more : {R : Type 0} {remaining : R → Option (List ℕ)} {a b c : Checked R} {held mid kept xs ys : List ℕ}
+    → TakesAndKeeps remaining a b held mid xs → TakesAndKeeps remaining b c mid kept ys →
+    TakesAndKeeps remaining a c held kept (xs ++ ys)
 Takes-more {remaining = remaining} {a = a} {b = b} {c = c} {held = held} {kept = kept} {xs = xs} {ys = ys} p q =
     record {
       given = p.given ++ q.given;
       gave = Gave-more p.gave q.gave;
-      order = sym (append_assoc held p.given q.given) ∙ ap (λ zs. zs ++ q.given) p.order ∙ append_assoc xs _ q.given ∙ ap (λ zs. xs ++ zs) q.order ∙ sym (append_assoc xs ys kept);
+      order = sym (append_assoc held p.given q.given) ∙ ap (λ zs. zs ++ q.given) p.order ∙ append_assoc xs _ q.given
+          ∙ ap (λ zs. xs ++ zs) q.order ∙ sym (append_assoc xs ys kept);
     }
 
 -- The first of what is held were taken.
-pub Takes-front : {R : Type 0} {remaining : R → Option (List ℕ)} {a b : Checked R} {held mid : List ℕ} (n : ℕ) → Takes remaining a b held mid [] →
-    Takes remaining a b held (drop n mid) (take n mid)
+pub Takes-front : {R : Type 0} {remaining : R → Option (List ℕ)} {a b : Checked R} {held mid : List ℕ} (n : ℕ)
+    → TakesAndKeeps remaining a b held mid [] →
+    TakesAndKeeps remaining a b held (drop n mid) (take n mid)
 Takes-front {mid = mid} n p = record { given = p.given; gave = p.gave; order = p.order ∙ sym (take-append-drop n mid) }
 
 -- One more read, where no line is held, or none, since the reads are spent.
-pub read_for_line : {R : Type 0} {remaining : R → Option (List ℕ)} {a b c : Checked R} {held now later : List ℕ} → Takes remaining a b held now [] →
-    ReadForLine a b held now → reads_of b + length held ≤ reads_of a + length now → HasNoFeed now → length now < line_room →
+pub read_for_line : {R : Type 0} {remaining : R → Option (List ℕ)} {a b c : Checked R} {held now later : List ℕ}
+    → TakesAndKeeps remaining a b held now [] →
+    ReadForLine a b held now → reads_of b + length held ≤ reads_of a + length now → HasNoFeed now
+    → length now < line_room →
     ((c ≡ b) × (later ≡ now)) ⊎ (later ≡ now ++ last_of c) → reads_of c ≤ reads_of b + 1 → ReadForLine a c held later
 read_for_line {a = a} {held = held} {later = later} p before asked none short (inl same) once =
     subst (λ r. ReadForLine a r held later) (sym same.0) (subst (ReadForLine a _ held) (sym same.1) before)
@@ -47,18 +54,22 @@ no_feed_below : (xs : List ℕ) (i : ℕ) → ((k : ℕ) → k < i → (get_or x
 no_feed_below [] zero h = tt
 no_feed_below [] (suc i) h = tt
 no_feed_below (x ∷ xs) zero h = tt
-no_feed_below (x ∷ xs) (suc i) h = (eqb-false x 10 (h 0 (omega arith)), no_feed_below xs i (λ k below. h (suc k) (omega arith)))
+no_feed_below (x ∷ xs) (suc i) h =
+    (eqb-false x 10 (h 0 (omega arith)), no_feed_below xs i (λ k below. h (suc k) (omega arith)))
 
 pub no_feed_on : (xs ys : List ℕ) → HasNoFeed xs → HasNoFeed ys → HasNoFeed (xs ++ ys)
 no_feed_on [] ys h k = k
 no_feed_on (x ∷ xs) ys h k = (h.0, no_feed_on xs ys h.1 k)
 
 -- Where none was found that passes, each fails.
-pub none_passes : (p : ℕ → Bool) (xs : List ℕ) → position p xs ≡ None → (k : ℕ) → k < length xs → p (get_or xs k 0) ≡ false
+pub none_passes : (p : ℕ → Bool) (xs : List ℕ) → position p xs ≡ None → (k : ℕ) → k < length xs
+    → p (get_or xs k 0) ≡ false
 none_passes p xs none k within = fails_before_first p xs k 0 (grind (arith, nat_tests))
 
 pub no_feed : (xs : List ℕ) → position (λ octet. octet == 10) xs ≡ None → HasNoFeed xs
-no_feed xs none = subst HasNoFeed (take_all (length xs) xs (omega arith)) (no_feed_below xs (length xs) (none_passes (λ octet. octet == 10) xs none))
+no_feed xs none =
+    subst HasNoFeed (take_all (length xs) xs (omega arith))
+    (no_feed_below xs (length xs) (none_passes (λ octet. octet == 10) xs none))
 
 -- The line that ends with the first line feed.
 pub record FeedAt (held : List ℕ) (i : ℕ) : Type 0 where

@@ -4,16 +4,16 @@ use Rattle.bac_script.specs.declared.tracing.TraceEnd.{TraceEnd}
 use Rattle.bac_script.specs.declared.tracing.TraceFault.{TraceFault}
 use Rattle.bac_script.specs.declared.tracing.TraceFault.TheVariants.{WriteFailed}
 
--- These octets, and then some more or none, are those.
+-- The first octets are the beginning of the second, or all of them.
 abbrev pub IsFrontOf : List ℕ → List ℕ → Type 0
 IsFrontOf front whole = (rest : List ℕ) × (whole ≡ front ++ rest)
 
--- Its writer did not fail.
+-- The writer of this run did not fail.
 abbrev pub WroteAll : Result TraceEnd TraceFault → Type 0
 WroteAll answer = answer ≢ Err WriteFailed
 
--- Where no writer failed, the same was written and answered. What was written before a writer failed is a front of what the other run
--- wrote, or where both failed, one of them is a front of the other.
+-- Where no writer failed, both runs wrote the same and ended alike. Where one writer failed, its run wrote a front of
+-- what the other run wrote. Where both failed, one of them wrote a front of what the other wrote.
 pub record AreAlike (written : List ℕ) (answer : Result TraceEnd TraceFault) (other : List ℕ)
     (other_answer : Result TraceEnd TraceFault) : Type 0 where
   pub same : WroteAll answer → WroteAll other_answer → (written ≡ other) × (answer ≡ other_answer)

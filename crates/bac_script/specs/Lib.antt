@@ -1,13 +1,9 @@
-pub mod Feeds
-pub mod Limits
 pub mod Input
 pub mod Line
-pub mod LongBody
-pub mod LineSeen
 pub mod Text
 pub mod Running
 pub mod Script
 pub mod Tracing
-pub mod Fits
 pub mod Alike
 pub mod Examples
+pub mod Inner

@@ -1,5 +1,6 @@
 -- The lines of a script, and what each says.
-use Rattle.std.specs.Prelude.{◌≡◌, ℕ, ◌-◌, ◌^◌, ◌==◌, ◌&&◌, Bool, nat_lt, List, [], ◌∷◌, length, take, slice_index, bytes_eq, codes, Option, Some, None, option_map, Result, Ok, Err, ok_or, if◌then◌else◌}
+use Rattle.std.specs.Prelude.{ℕ, ◌-◌, ◌^◌, ◌==◌, ◌&&◌, Bool, nat_lt, List, [], ◌∷◌, length, take, slice_index, bytes_eq}
+use Rattle.std.specs.Prelude.{codes, Option, Some, None, option_map, Result, Ok, Err, ok_or, if◌then◌else◌}
 use Rattle.std.specs.Str.{is_utf8}
 use Rattle.std.specs.Str.Lines.{strip_carriage_return}
 use Rattle.bac_tsm.specs.Events.{Event, Ask, Data, Tick}
@@ -15,18 +16,15 @@ use Rattle.bac_pdu.specs.Property.{Reference, read_octets}
 use Rattle.bac_pdu.specs.Peer.{Station}
 use Rattle.bac_text.specs.Pairs.{whole_body_of}
 
--- What a line says: nothing, the client's settings, an event of the client, or a datagram that the device is asked with.
+-- What a line says: nothing, the client's settings, an event of the client, or a datagram that the device is asked
+-- with.
 pub data Said : Type 0 where
   Nothing : Said
   Settings : (timeout retries first_ticket : ℕ) → Said
   Happens : (event : Event) → Said
   Asks : (arrival : Arrival) → Said
 
--- A word is left.
-abbrev pub IsLeft : List (List ℕ) → Type 0
-IsLeft words = (word : List ℕ) × (others : List (List ℕ)) × (words ≡ word ∷ others)
-
--- TIMEOUT, at least 1, RETRIES and TICKET.
+-- The settings TIMEOUT, at least 1, RETRIES and TICKET.
 abbrev pub settings_of : List (List ℕ) → Option Said
 settings_of words = do
   timeout ← next_as (number_up_to (2 ^ 32 - 1)) words
@@ -43,7 +41,7 @@ abbrev pub reference_to : ℕ → ℕ → ℕ → Option ℕ → Reference
 reference_to kind instance property index =
     record { object = record { kind = kind; instance = instance }; property = property; index = index }
 
--- PEER, KIND, INSTANCE, PROPERTY and, where there is one, INDEX, of a ReadProperty request (service 12).
+-- A ReadProperty request (service 12): PEER, KIND, INSTANCE, PROPERTY and, where there is one, INDEX.
 abbrev pub reading_of : List (List ℕ) → Option Event
 reading_of words = do
   peer ← next_as peer_of words
@@ -53,11 +51,12 @@ reading_of words = do
   index ← index_in property.1
   at_end index.1 (Ask peer.0 12 (read_octets (reference_to kind.0 instance.0 property.0 index.0)))
 
--- PRIORITY, 0 to 16.
+-- The PRIORITY that a word says, 0 to 16.
 abbrev pub priority_of : List ℕ → Option (Option ℕ)
 priority_of word = option_map priority_from (number_up_to 16 word)
 
--- PEER, KIND, INSTANCE, PROPERTY, PRIORITY, INDEX, and tags and values: whom a body is for, and the body, however long it is.
+-- The peer that a body is for, and the body, however long it is: PEER, KIND, INSTANCE, PROPERTY, PRIORITY, INDEX, and
+-- tags and values.
 abbrev pub body_for : List (List ℕ) → Option (Station × Result (List ℕ) ℕ)
 body_for words = do
   peer ← next_as peer_of words
@@ -68,7 +67,7 @@ body_for words = do
   index ← next_as write_index_of priority.1
   Some (peer.0, whole_body_of (record { kind = kind.0; instance = instance.0 }) property.0 index.0 priority.0 index.1)
 
--- A WriteProperty request with this body (service 15), if it could be read.
+-- A WriteProperty request (service 15) with this body, where the body could be read.
 abbrev pub requested : Station → Result (List ℕ) ℕ → Option Event
 requested peer (Ok body) = Some (Ask peer 15 body)
 requested peer (Err n) = None
@@ -76,18 +75,18 @@ requested peer (Err n) = None
 abbrev pub writing_of : List (List ℕ) → Option Event
 writing_of words = body_for words >>= (λ one. requested one.0 one.1)
 
--- PEER and HEX, of a datagram that comes from the peer.
+-- A datagram that comes from a peer: PEER and HEX.
 abbrev pub arrival_of : List (List ℕ) → Option Arrival
 arrival_of words = do
   peer ← next_as plain_peer_of words
   octets ← next_as octets_of peer.1
   at_end octets.1 (record { from = peer.0; datagram = octets.0 })
 
--- The client is handed the datagram.
+-- The line says that the client is handed this datagram.
 abbrev pub handed : Arrival → Said
 handed arrival = Happens (Data arrival.from arrival.datagram)
 
--- N, the time of a tick.
+-- The time of a tick: N.
 abbrev pub tick_of : List (List ℕ) → Option Event
 tick_of words = do
   now ← next_as (number_up_to (2 ^ 64 - 1)) words
@@ -107,7 +106,7 @@ said_by is_first (name ∷ others) =
     else if bytes_eq name (codes "ask") then option_map Asks (arrival_of others)
     else None
 
--- A line feed (10) ends the line.
+-- The line ends with a line feed (10).
 abbrev pub ends_with_feed : List ℕ → Bool
 ends_with_feed line = slice_index line (length line - 1) == 10
 
@@ -125,6 +124,6 @@ abbrev pub said_in : Bool → Result (List ℕ) LineFault → Result Said LineFa
 said_in is_first (Ok text) = if is_utf8 text then ok_or (said_by is_first (words_of text)) Bad else Err Bad
 said_in is_first (Err fault) = Err fault
 
--- What a line says, where it is, or isn't, the first that says something.
+-- What a line says. Only the first line that says something may say settings; the flag says whether this may be it.
 abbrev pub said : Bool → List ℕ → Result Said LineFault
 said is_first line = said_in is_first (text_of_line line)

@@ -6,14 +6,12 @@ use Rattle.bac_script.specs.declared.input.Reading.TheVariants.{Open}
 use Rattle.bac_script.specs.declared.tracing.TraceEnd.{TraceEnd}
 use Rattle.bac_script.specs.declared.tracing.TraceFault.{TraceFault}
 use Rattle.bac_script.specs.declared.tracing.TraceFault.TheVariants.{BadLine, LineTooLong, ReadFailed, WriteFailed}
-use Rattle.bac_text.specs.declared.page.Page.{Page}
 use Rattle.bac_text.specs.Checked.{reads_of, last_of, Took, Gave}
-use Rattle.bac_script.specs.Input.{StandsAs, IsSpared}
-use Rattle.bac_text.specs.Page.{Prints}
+use Rattle.bac_script.specs.Input.{ReaderStands, ReadsNoMore}
 use Rattle.bac_script.specs.Script.{lines, first_fault, Runs}
 
--- No line with a fault was among the octets that the reader gave before its last read: so that read was needed. It was asked at most
--- once for each of those octets, and once more.
+-- No line with a fault was among the octets that the reader gave before its last read: so that read was needed. It was
+-- asked at most once for each of those octets, and once more.
 pub record LastIsNeeded {R : Type 0} (reader reader' : Checked R) (given : List ℕ) : Type 0 where
   pub before : List ℕ
   pub order : given ≡ before ++ last_of reader'
@@ -25,30 +23,22 @@ abbrev pub IsNeeded : {R : Type 0} → Checked R → Checked R → List ℕ → 
 IsNeeded reader reader' given = ((reader' ≡ reader) × (given ≡ [])) ⊎ LastIsNeeded reader reader' given
 
 -- The reader gave these octets, and reading stopped so.
-pub record HasRead {R : Type 0} (remaining : R → Option (List ℕ)) (reader reader' : Checked R) (given : List ℕ) (reading : Reading) : Type 0 where
+pub record HasRead {R : Type 0} (remaining : R → Option (List ℕ)) (reader reader' : Checked R) (given : List ℕ)
+    (reading : Reading) : Type 0 where
   pub gave : Gave remaining reader reader' given
-  pub stopped : StandsAs remaining reading reader reader' []
+  pub stopped : ReaderStands remaining reading reader reader' []
   pub needed : IsNeeded reader reader' given
-  pub spared : IsSpared reader reader'
+  pub spared : ReadsNoMore reader reader'
 
--- What was written and answered is that of the script of the octets that the reader gave, and of how reading stopped
-pub record Traces {R W : Type 0} (remaining : R → Option (List ℕ)) (contents : W → Option (List ℕ)) (reader reader' : Checked R) (writer writer' : Checked W) (answer : Result TraceEnd TraceFault) : Type 0 where
+-- What was written and answered is that of the script of the octets that the reader gave, and of how reading stopped.
+pub record Traces {R W : Type 0} (remaining : R → Option (List ℕ)) (contents : W → Option (List ℕ))
+    (reader reader' : Checked R) (writer writer' : Checked W) (answer : Result TraceEnd TraceFault) : Type 0 where
   pub given : List ℕ
   pub reading : Reading
   pub written : List ℕ
   pub read : HasRead remaining reader reader' given reading
   pub took : Took contents writer writer' written
   pub runs : Runs given reading written answer
-
--- The same while some of the text may still be on the page: the text that was printed is that of the script, or, where the
--- writer failed, a front of it.
-pub record RunsOn {R W : Type 0} (remaining : R → Option (List ℕ)) (contents : W → Option (List ℕ)) (reader reader' : Checked R) (page page' : Page W) (answer : Result TraceEnd TraceFault) : Type 0 where
-  pub given : List ℕ
-  pub reading : Reading
-  pub printed : List ℕ
-  pub read : HasRead remaining reader reader' given reading
-  pub prints : Prints contents page page' printed
-  pub runs : Runs given reading printed answer
 
 -- The status of the program: a script to its end, a bad or too long line, a failed reader or writer.
 abbrev pub trace_status_of : Result TraceEnd TraceFault → ℕ

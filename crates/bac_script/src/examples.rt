@@ -16,7 +16,8 @@ pub fn examples_of_a_client()
         (sent ∷ sent ∷ sent ∷ sent ∷ "timeout 0" ∷ []) (ended 6) }
 
     // A timeout of one second, no retry, and a first ticket. What comes late answers nothing.
-    ensures late { IsTraced ("client 1000 0 0" ∷ read ∷ "tick 1000" ∷ answer ∷ []) (sent ∷ "timeout 0" ∷ "drop" ∷ []) (ended 4) }
+    ensures late { IsTraced ("client 1000 0 0" ∷ read ∷ "tick 1000" ∷ answer ∷ []) (sent ∷ "timeout 0" ∷ "drop" ∷ [])
+        (ended 4) }
 
     // A Real is written to analog-output 1 at priority 16.
     ensures written { IsTraced ("write 127.0.0.1 1 1 85 16 -1 4 41a00000" ∷ "data 127.0.0.1 810a0009010020010f" ∷ [])

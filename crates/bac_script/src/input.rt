@@ -1,9 +1,12 @@
 //! The lines of a reader, one at a time.
-ghost use Rattle.std.specs.Prelude.{◌≡◌, ◌≢◌, ◌==◌, ◌+◌, ◌<◌, ◌≤◌, ◌⊎◌, ◌++◌, [], length, take, drop, position, true, false, MatchOption, MatchResult};
+ghost use Rattle.std.specs.Prelude.{◌≡◌, ◌≢◌, ◌==◌, ◌+◌, ◌<◌, ◌≤◌, ◌⊎◌, ◌++◌, [], length, take, drop, position, true};
+ghost use Rattle.std.specs.Prelude.{false, MatchOption, MatchResult};
 ghost use Rattle.bac_text.specs.Checked.{has_failed, reads_of, last_of};
 ghost use Rattle.bac_text.specs.Page.{held, writer_of, Prints};
-ghost use Rattle.bac_script.specs.Feeds.{HasNoFeed};
-ghost use Rattle.bac_script.specs.Input.{may_come, may_read, over, Takes, StandsAs, IsSpared, ReadForLine, IsCutAs, IsNext};
+ghost use Rattle.bac_script.specs.Inner.Feeds.{HasNoFeed};
+ghost use Rattle.bac_script.specs.Input.{ReaderStands, ReadsNoMore};
+ghost use Rattle.bac_script.specs.Inner.Input.{most_to_come, may_read, empty_reads, TakesAndKeeps, ReadForLine};
+ghost use Rattle.bac_script.specs.Inner.Input.{IsLineCut, IsNext};
 
 use bac_text::{Checked, End, LONGEST_LINE, Page, WriteFailed, place_of_end};
 use std::io::{Read, Write};
@@ -12,7 +15,8 @@ use std::marker::Model;
 /// Room for what is held: a line that isn't whole yet, and what a read gives behind it.
 const CHUNK_ROOM: usize = 32_768;
 
-/// The octets of the longest line with its line feed. So many without a line feed among them are a line that is too long.
+/// The octets of the longest line with its line feed. So many without a line feed among them are a line that is too
+/// long.
 const LINE_ROOM: usize = LONGEST_LINE + 1;
 
 /// How reading stands.
@@ -26,7 +30,7 @@ pub(crate) enum Reading {
     Failed,
 }
 
-/// The next line: so many of the first octets that are held. Where reading is over, they are all that was left.
+/// The next line is so many of the first octets that are held. Where reading is over, it is all that was left.
 #[derive(Clone, Copy)]
 pub(crate) struct Next {
     pub(crate) reading: Reading,
@@ -45,14 +49,15 @@ pub(crate) struct Chunk {
 
 impl Model for Chunk {
     ghost use Rattle.std.specs.Prelude.{ℕ, ◌+◌, ◌≤◌, List, take, slice_range};
-    ghost use Rattle.bac_script.specs.Feeds.{HasNoFeed};
-    ghost use Rattle.bac_script.specs.Limits.{chunk_room, line_room};
+    ghost use Rattle.bac_script.specs.Inner.Feeds.{HasNoFeed};
+    ghost use Rattle.bac_script.specs.Inner.Limits.{chunk_room, line_room};
 
     ghost Value = { List ℕ };
 
     ghost view = { λ chunk. slice_range chunk.octets chunk.start chunk.end };
 
-    ghost invariant = { λ chunk. (chunk.start + chunk.searched ≤ chunk.end) × (chunk.end ≤ chunk_room) × (chunk.searched ≤ line_room)
+    ghost invariant = { λ chunk. (chunk.start + chunk.searched ≤ chunk.end) × (chunk.end ≤ chunk_room)
+        × (chunk.searched ≤ line_room)
         × HasNoFeed (take chunk.searched (slice_range chunk.octets chunk.start chunk.end)) };
 }
 
@@ -94,8 +99,8 @@ impl Chunk {
         self.searched = 0;
     }
 
-    /// Finds the next line, and reads until it is held. Before each read the page is turned in, so that nobody waits for text
-    /// that was printed.
+    /// Finds the next line, and reads until it is held. Before each read the page is turned in, so that nobody waits
+    /// for text that was printed.
     ///
     /// # Errors
     ///
@@ -107,18 +112,19 @@ impl Chunk {
         page: &mut Page<'_, W>,
     ) -> Result<Next, WriteFailed>
         requires { has_failed reader.old ≡ false }
-        ensures given { Takes R.remaining reader.old reader.new self.old self.new [] }
+        ensures given { TakesAndKeeps R.remaining reader.old reader.new self.old self.new [] }
         ensures printed { Prints W.contents page.old page.new [] }
         ensures next { MatchResult result
             (λ next. IsNext R.remaining reader.old reader.new self.new next.reading next.length)
-            (λ _. StandsAs R.remaining Reading.Open reader.old reader.new self.new) }
+            (λ _. ReaderStands R.remaining Reading.Open reader.old reader.new self.new) }
         ensures writer { MatchResult result (λ _. Unit {0}) (λ _. has_failed (writer_of page.new) ≡ true) }
         ensures asked { MatchResult result
-            (λ next. reads_of reader.new + length self.old ≤ reads_of reader.old + length self.new + over next.reading)
+            (λ next. reads_of reader.new + length self.old ≤ reads_of reader.old + length self.new
+            + empty_reads next.reading)
             (λ _. reads_of reader.new + length self.old ≤ reads_of reader.old + length self.new) }
         ensures needed { ReadForLine reader.old reader.new self.old self.new }
-        ensures spared { IsSpared reader.old reader.new }
-        ensures room { may_come reader.new self.new ≤ may_come reader.old self.old }
+        ensures spared { ReadsNoMore reader.old reader.new }
+        ensures room { most_to_come reader.new self.new ≤ most_to_come reader.old self.old }
     {
         loop {
             if let Some(length) = self.line_length() {
@@ -137,11 +143,12 @@ impl Chunk {
         }
     }
 
-    // How many octets the next line has, where it is whole among those that are held. What was searched isn't searched again.
+    // How many octets the next line has, where it is whole among those that are held. What was searched isn't searched
+    // again.
     fn line_length(&mut self) -> Option<usize>
         ensures held { self.new ≡ self.old }
         ensures line { MatchOption result (HasNoFeed self.old × (length self.old < LINE_ROOM))
-            (λ count. (count ≤ length self.old) × IsCutAs Reading.Open (take count self.old)) }
+            (λ count. (count ≤ length self.old) × IsLineCut Reading.Open (take count self.old)) }
     {
         let limit = self.end.min(self.start + LINE_ROOM);
         if let Some(place) = feed_place(&self.octets[self.start + self.searched..limit]) {
@@ -155,21 +162,23 @@ impl Chunk {
         }
     }
 
-    // Reads once more behind what is held. The page is empty and its writer has not failed, so that nobody waits for text that
-    // was printed, and nothing is read for a text that can't be written. No clause of `trace` says so: it stands on these
-    // conditions, and on this being the one place that reads.
+    // Reads once more behind what is held. The page is empty and its writer has not failed, so that nobody waits for
+    // text that was printed, and nothing is read for a text that can't be written. No clause of `trace` says so: it
+    // stands on these conditions, and on this being the one place that reads.
     fn read_more<R: Read, W>(&mut self, reader: &mut Checked<R>, _page: &Page<'_, W>) -> Reading
         requires reader { has_failed reader.old ≡ false }
         requires short { length self.old < LINE_ROOM }
         requires turned_in { held _page.now ≡ [] }
         requires writer { has_failed (writer_of _page.now) ≡ false }
-        ensures given { Takes R.remaining reader.old reader.new self.old self.new [] }
-        ensures stands { StandsAs R.remaining result reader.old reader.new [] }
-        ensures asked { reads_of reader.new + length self.old ≤ reads_of reader.old + length self.new + over result }
+        ensures given { TakesAndKeeps R.remaining reader.old reader.new self.old self.new [] }
+        ensures stands { ReaderStands R.remaining result reader.old reader.new [] }
+        ensures asked { reads_of reader.new + length self.old ≤ reads_of reader.old + length self.new
+            + empty_reads result }
         ensures once { reads_of reader.new ≤ reads_of reader.old + 1 }
-        ensures last { ((reader.new ≡ reader.old) × (self.new ≡ self.old)) ⊎ (self.new ≡ self.old ++ last_of reader.new) }
-        ensures spared { IsSpared reader.old reader.new }
-        ensures room { may_come reader.new self.new ≤ may_come reader.old self.old }
+        ensures last { ((reader.new ≡ reader.old) × (self.new ≡ self.old))
+            ⊎ (self.new ≡ self.old ++ last_of reader.new) }
+        ensures spared { ReadsNoMore reader.old reader.new }
+        ensures room { most_to_come reader.new self.new ≤ most_to_come reader.old self.old }
         ensures more { result ≡ Reading.Open → may_read reader.new < may_read reader.old }
         ensures same { result ≢ Reading.Open → self.new ≡ self.old }
     {

@@ -1,30 +1,28 @@
-//! What holds of the definitions that the contracts cite. Each function has an empty body, or only compares, and its clause is the
-//! law.
-ghost use Rattle.std.specs.Prelude.{◌≡◌, ◌↔◌, ℕ, List, [], Result, IsTrue};
-ghost use Rattle.bac_device.specs.Demo.{demo_points};
-ghost use Rattle.bac_device.specs.Turns.{replies_to};
+//! What holds of the definitions that the contracts cite. Each function has an empty body, or only compares, and its
+//! clause is the law.
+ghost use Rattle.std.specs.Prelude.{◌≡◌, ◌↔◌, ℕ, List, Result, IsTrue};
 ghost use Rattle.bac_tsm.specs.Laws.{NumbersComeBackLate};
 ghost use Rattle.bac_tsm.specs.Limits.{table_size};
 ghost use Rattle.bac_text.specs.declared.checked.Checked.{Checked};
 ghost use Rattle.bac_text.specs.Checked.{fresh, ends_of, octets_of};
 ghost use Rattle.bac_script.specs.declared.input.Reading.{Reading};
 ghost use Rattle.bac_script.specs.Alike.{AreAlike};
-ghost use Rattle.bac_script.specs.Fits.{AllFit};
-ghost use Rattle.bac_script.specs.Running.{small_device};
-ghost use Rattle.bac_script.specs.Script.{lines, all_said, requests_in, arrivals_in};
+ghost use Rattle.bac_script.specs.Script.{lines, all_said, requests_in};
 ghost use Rattle.bac_script.specs.Tracing.{Traces};
 
 use crate::tracing::{TraceEnd, TraceFault};
 use std::io::{Read, Write};
 
-/// A script is a function of its octets. Two runs whose readers gave the same octets, and both met their end or both did not, write the
-/// same and answer the same; what was written before a writer failed is a front of what the other run writes.
+/// A script is a function of its octets. Two runs whose readers gave the same octets, and both met their end or both
+/// did not, write the same and answer the same; what was written before a writer failed is a front of what the other
+/// run writes.
 pub fn a_script_is_a_function<R: Read, S: Read, V: Write, W: Write>()
     ensures { (reader : R) (other_reader : S) (reader' : Checked R) (other_reader' : Checked S)
         (writer : V) (other_writer : W) (writer' : Checked V) (other_writer' : Checked W)
         (answer other_answer : Result TraceEnd TraceFault)
         → Traces R.remaining V.contents (fresh reader) reader' (fresh writer) writer' answer
-        → Traces S.remaining W.contents (fresh other_reader) other_reader' (fresh other_writer) other_writer' other_answer
+        → Traces S.remaining W.contents (fresh other_reader) other_reader' (fresh other_writer) other_writer'
+        other_answer
         → octets_of reader' ≡ octets_of other_reader' → ends_of reader' ≡ ends_of other_reader'
         → AreAlike (octets_of writer') answer (octets_of other_writer') other_answer }
 {}
@@ -32,16 +30,8 @@ pub fn a_script_is_a_function<R: Read, S: Read, V: Write, W: Write>()
 /// Between two requests of a script with the same number at least 192 others are accepted.
 #[tactic(auto, using(crate::proofs::Machine::requests_late))]
 pub fn numbers_come_back_late()
-    ensures { (octets : List ℕ) (reading : Reading) → NumbersComeBackLate table_size (requests_in (all_said (lines octets reading))) }
-{}
-
-/// The device's reply to a confirmed request of an `ask` line has at most the octets that the request announces, or is the Abort
-/// 71 id 04.
-#[tactic(auto, using(crate::proofs::Asking::replies_fit))]
-pub fn replies_fit()
     ensures { (octets : List ℕ) (reading : Reading)
-        → AllFit (arrivals_in (all_said (lines octets reading)))
-        (replies_to small_device demo_points [] (arrivals_in (all_said (lines octets reading)))) }
+        → NumbersComeBackLate table_size (requests_in (all_said (lines octets reading))) }
 {}
 
 /// Ends of scripts are equal just where they are the same.

@@ -1,14 +1,17 @@
 //! The lines of a script.
-ghost use Rattle.std.specs.Prelude.{◌≡◌, ◌==◌, ◌≤◌, ◌^◌, ◌<◌, [], ◌∷◌, true, length, option_map, ⊤, None, Some, IfSome, MatchOption, MatchResult, Ok, Err};
+ghost use Rattle.std.specs.Prelude.{◌≡◌, [], option_map, None, Some, IfSome, MatchOption, MatchResult, Ok, Err};
 ghost use Rattle.std.specs.Str.{is_utf8};
 ghost use Rattle.bac_pdu.specs.Peer.{station};
 ghost use Rattle.bac_pdu.specs.Property.{IsPriority};
-ghost use Rattle.bac_text.specs.Words.{number_up_to, octets_of, next_as, at_end};
+ghost use Rattle.bac_text.specs.Words.{octets_of, next_as};
 ghost use Rattle.bac_text.specs.Address.{plain_peer_of, peer_of};
 ghost use Rattle.bac_text.specs.Parameters.{write_index_of};
-ghost use Rattle.bac_script.specs.Line.{Happens, settings_of, IsLeft, index_in, reading_of, priority_of, writing_of, arrival_of, tick_of, said_by, text_of_line, said};
+ghost use Rattle.bac_script.specs.Line.{Happens, settings_of, index_in, reading_of, priority_of, writing_of};
+ghost use Rattle.bac_script.specs.Line.{arrival_of, tick_of, said_by, text_of_line, said};
+ghost use Rattle.bac_script.specs.Inner.Line.{IsLeft};
 ghost use Rattle.bac_script.specs.Script.{is_nothing};
-ghost use Rattle.bac_script.specs.LineSeen.{arrival_seen, line_seen, result_seen};
+ghost use Rattle.bac_script.specs.Inner.LineSeen.{arrival_seen, line_seen};
+ghost use Rattle.bac_wire.specs.Steps.{result_seen};
 
 use crate::long_write::LongWrite;
 use bac_pdu::{Peer, READ_PROPERTY, ReadRequest, WRITE_PROPERTY};
@@ -86,13 +89,13 @@ pub(crate) enum LineFault {
     TooLong,
 }
 
-/// What a line says, with its line feed if it has one, and first among those that say something or not.
+/// What a line says, which may end with a line feed. `is_first` says whether no line before it said anything.
 pub(crate) fn read_line<'a>(
     line: &'a [u8],
     is_first: bool,
     room: &'a mut LineRoom,
 ) -> Result<Line<'a>, LineFault>
-    ensures { result_seen result ≡ said is_first line.now }
+    ensures { result_seen line_seen result ≡ said is_first line.now }
 {
     let text = line_text(line)?;
     if !is_text(text) {
@@ -113,7 +116,8 @@ fn is_text(octets: &[u8]) -> bool
 
 // The octets of a line without its line feed and a carriage return before that.
 fn line_text(line: &[u8]) -> Result<&[u8], LineFault>
-    ensures { MatchResult result (λ text. text_of_line line.now ≡ Ok text.now) (λ fault. text_of_line line.now ≡ Err fault) }
+    ensures { MatchResult result (λ text. text_of_line line.now ≡ Ok text.now)
+        (λ fault. text_of_line line.now ≡ Err fault) }
 {
     let (text, is_ended) = match line {
         [text @ .., b'\n'] => (text, true),
@@ -256,7 +260,8 @@ fn next_index(words: &mut Words<'_>) -> Option<Option<u32>>
 
 // The priority, where the number is not 0.
 fn next_priority(words: &mut Words<'_>) -> Option<Option<u8>>
-    ensures value { MatchOption result (next_as priority_of words.old ≡ None) (λ priority. next_as priority_of words.old ≡ Some (priority, words.new)) }
+    ensures value { MatchOption result (next_as priority_of words.old ≡ None)
+        (λ priority. next_as priority_of words.old ≡ Some (priority, words.new)) }
     ensures priority { IfSome result (λ priority. IfSome priority IsPriority) }
 {
     let number = words.next_number(16)?;
@@ -265,21 +270,24 @@ fn next_priority(words: &mut Words<'_>) -> Option<Option<u8>>
 
 // The number of an element, where the word is not -1.
 fn next_write_index(words: &mut Words<'_>) -> Option<Option<u32>>
-    ensures { MatchOption result (next_as write_index_of words.old ≡ None) (λ index. next_as write_index_of words.old ≡ Some (index, words.new)) }
+    ensures { MatchOption result (next_as write_index_of words.old ≡ None)
+        (λ index. next_as write_index_of words.old ≡ Some (index, words.new)) }
 {
     let word = words.next_word()?;
     read_write_index(word)
 }
 
 fn next_peer(words: &mut Words<'_>) -> Option<Peer>
-    ensures { MatchOption result (next_as peer_of words.old ≡ None) (λ peer. next_as peer_of words.old ≡ Some (station peer, words.new)) }
+    ensures { MatchOption result (next_as peer_of words.old ≡ None)
+        (λ peer. next_as peer_of words.old ≡ Some (station peer, words.new)) }
 {
     let word = words.next_word()?;
     peer_in(word)
 }
 
 fn next_plain_peer(words: &mut Words<'_>) -> Option<Peer>
-    ensures { MatchOption result (next_as plain_peer_of words.old ≡ None) (λ peer. next_as plain_peer_of words.old ≡ Some (station peer, words.new)) }
+    ensures { MatchOption result (next_as plain_peer_of words.old ≡ None)
+        (λ peer. next_as plain_peer_of words.old ≡ Some (station peer, words.new)) }
 {
     let word = words.next_word()?;
     plain_peer_in(word)
@@ -289,7 +297,8 @@ fn next_datagram<'a>(
     words: &mut Words<'_>,
     room: &'a mut [u8; LONGEST_DATAGRAM],
 ) -> Option<&'a [u8]>
-    ensures { MatchOption result (next_as octets_of words.old ≡ None) (λ datagram. next_as octets_of words.old ≡ Some (datagram.now, words.new)) }
+    ensures { MatchOption result (next_as octets_of words.old ≡ None)
+        (λ datagram. next_as octets_of words.old ≡ Some (datagram.now, words.new)) }
 {
     let word = words.next_word()?;
     read_datagram(word, room)

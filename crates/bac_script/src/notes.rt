@@ -5,7 +5,7 @@ ghost use Rattle.hex.specs.Hex.{encode_lower};
 ghost use Rattle.bac_pdu.specs.Peer.{station};
 ghost use Rattle.bac_tsm.specs.Events.{Done, Refused, TimedOut};
 ghost use Rattle.bac_tsm.specs.Machine.{sent, due_notes};
-ghost use Rattle.bac_tsm.specs.Client.{end_seen, outcome_seen};
+ghost use Rattle.bac_tsm.specs.Client.{outcome_seen};
 ghost use Rattle.bac_text.specs.Checked.{has_failed, Puts};
 ghost use Rattle.bac_text.specs.Page.{Prints};
 ghost use Rattle.bac_text.specs.PeerTexts.{peer_text};
@@ -79,7 +79,8 @@ pub(crate) fn print_refusal<W: Write>(page: &mut Page<'_, W>, fault: SubmitFault
 
 /// Prints the end of a request.
 pub(crate) fn print_end<W: Write>(page: &mut Page<'_, W>, ended: Ended<'_>)
-    ensures { Prints W.contents page.old page.new (note_text (Done ended.entry.ticket (outcome_seen ended.entry.outcome))) }
+    ensures { Prints W.contents page.old page.new
+        (note_text (Done ended.entry.ticket (outcome_seen ended.entry.outcome))) }
 {
     page.print(b"done ");
     page.print_number(ended.ticket);
@@ -134,7 +135,8 @@ pub(crate) fn print_answer<W: Write>(page: &mut Page<'_, W>, to: Option<Peer>, o
 #[inline(always)]
 #[tactic(auto, using(bac_text::proofs::Printed::printing))]
 fn print_datagram<W: Write>(page: &mut Page<'_, W>, peer: Peer, octets: &[u8])
-    ensures { Prints W.contents page.old page.new (peer_text (station peer) ++ 32 ∷ (encode_lower octets.now ++ 10 ∷ [])) }
+    ensures { Prints W.contents page.old page.new
+        (peer_text (station peer) ++ 32 ∷ (encode_lower octets.now ++ 10 ∷ [])) }
 {
     page.print_peer(peer);
     page.print(b" ");

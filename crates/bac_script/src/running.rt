@@ -2,11 +2,11 @@
 ghost use Rattle.std.specs.Prelude.{◌≡◌, List, []};
 ghost use Rattle.bac_tsm.specs.Events.{Ask, Data, Tick};
 ghost use Rattle.bac_tsm.specs.Client.{keeping};
-ghost use Rattle.bac_script.specs.LineSeen.{arrival_seen, line_seen};
+ghost use Rattle.bac_script.specs.Inner.LineSeen.{arrival_seen, line_seen};
 ghost use Rattle.bac_pdu.specs.Peer.{station};
 ghost use Rattle.bac_device.specs.Places.{Write as Written};
 ghost use Rattle.bac_text.specs.Page.{Prints};
-ghost use Rattle.bac_script.specs.Running.{Stage, Stands, step_of, device_with, writes_with, reply_after, ran};
+ghost use Rattle.bac_script.specs.Inner.Running.{Stage, Stands, step_of, device_with, writes_with, reply_after, ran};
 ghost use Rattle.bac_script.specs.Text.{notes_text};
 
 use crate::line::{Line, Received};
@@ -38,8 +38,10 @@ pub(crate) fn run_line<W: Write>(
     reply: &mut Frame,
     page: &mut Page<'_, W>,
 )
-    ensures stage { (stage : Stage) → Stands stage client.old device.old → Stands (ran stage (line_seen line.entry)).after client.new device.new }
-    ensures text { (stage : Stage) → Stands stage client.old device.old → Prints W.contents page.old page.new (ran stage (line_seen line.entry)).text }
+    ensures stage { (stage : Stage) → Stands stage client.old device.old
+        → Stands (ran stage (line_seen line.entry)).after client.new device.new }
+    ensures text { (stage : Stage) → Stands stage client.old device.old
+        → Prints W.contents page.old page.new (ran stage (line_seen line.entry)).text }
 {
     match line {
         Line::Skipped => {}
@@ -61,7 +63,8 @@ fn submit<W: Write>(
     page: &mut Page<'_, W>,
 )
     ensures client { client.new ≡ keeping client.old (step_of client.old (Ask (station peer) service body.now)).after }
-    ensures text { Prints W.contents page.old page.new (notes_text (step_of client.old (Ask (station peer) service body.now)).notes) }
+    ensures text { Prints W.contents page.old page.new
+        (notes_text (step_of client.old (Ask (station peer) service body.now)).notes) }
 {
     match client.submit(peer, service, body) {
         Ok(ticket) => print_sent(page, client, ticket),
@@ -71,8 +74,12 @@ fn submit<W: Write>(
 
 // Hands the client a datagram.
 fn hand_in<W: Write>(client: &mut Client, received: Received<'_>, page: &mut Page<'_, W>)
-    ensures client { client.new ≡ keeping client.old (step_of client.old (Data (arrival_seen received.entry).from (arrival_seen received.entry).datagram)).after }
-    ensures text { Prints W.contents page.old page.new (notes_text (step_of client.old (Data (arrival_seen received.entry).from (arrival_seen received.entry).datagram)).notes) }
+    ensures client { client.new
+        ≡ keeping client.old
+        (step_of client.old (Data (arrival_seen received.entry).from (arrival_seen received.entry).datagram)).after }
+    ensures text { Prints W.contents page.old page.new
+        (notes_text (step_of client.old
+        (Data (arrival_seen received.entry).from (arrival_seen received.entry).datagram)).notes) }
 {
     match client.datagram(*received.from, received.datagram) {
         Some(ended) => print_end(page, ended),
@@ -96,8 +103,10 @@ fn ask<W: Write>(
     reply: &mut Frame,
     page: &mut Page<'_, W>,
 )
-    ensures device { (writes : List Written) → device.old ≡ device_with writes → device.new ≡ device_with (writes_with writes (arrival_seen received.entry)) }
-    ensures text { (writes : List Written) → device.old ≡ device_with writes → Prints W.contents page.old page.new (reply_after writes (arrival_seen received.entry)) }
+    ensures device { (writes : List Written) → device.old ≡ device_with writes
+        → device.new ≡ device_with (writes_with writes (arrival_seen received.entry)) }
+    ensures text { (writes : List Written) → device.old ≡ device_with writes
+        → Prints W.contents page.old page.new (reply_after writes (arrival_seen received.entry)) }
 {
     let to = device.answer(*received.from, received.datagram, reply);
     print_answer(page, to, reply.as_slice());

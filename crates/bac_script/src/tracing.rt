@@ -1,11 +1,12 @@
 //! A script, run as it is read.
-ghost use Rattle.std.specs.Prelude.{◌≡◌, ◌⊎◌, ◌↔◌, [], true, false, Err};
+ghost use Rattle.std.specs.Prelude.{◌≡◌, ◌⊎◌, ◌↔◌, true, false, Err};
 ghost use Rattle.bac_text.specs.Checked.{has_failed};
 ghost use Rattle.bac_script.specs.Input.{AreSpent};
-ghost use Rattle.bac_script.specs.Running.{new_client};
+ghost use Rattle.bac_script.specs.Inner.Running.{new_client};
 ghost use Rattle.bac_script.specs.Script.{fault_at};
 ghost use Rattle.bac_text.specs.Page.{writer_of};
-ghost use Rattle.bac_script.specs.Tracing.{Traces, RunsOn, trace_status_of};
+ghost use Rattle.bac_script.specs.Tracing.{Traces, trace_status_of};
+ghost use Rattle.bac_script.specs.Inner.Tracing.{RunsOn};
 
 use crate::input::{Chunk, Reading};
 use crate::line::{LineFault, LineRoom, read_line};
@@ -67,8 +68,8 @@ pub fn trace<R: Read, W: Write>(
     answer
 }
 
-// Runs each line of a script. What is printed goes to the writer before more is read; in the end some of it may still be on the
-// page.
+// Runs each line of a script. What is printed goes to the writer before more is read; in the end some of it may still
+// be on the page.
 fn run_script<R: Read, W: Write>(
     reader: &mut Checked<R>,
     page: &mut Page<'_, W>,

@@ -1,5 +1,6 @@
 -- The body of words orders the values that they write, in the standard's words.
-use Rattle.std.proofs.Common.{◌≡◌, ℕ, ◌^◌, ◌<◌, ◌≤◌, List, length, Option, Some, None, Result, Ok, Err, refl, sym, subst, arith}
+use Rattle.std.proofs.Common.{◌≡◌, ℕ, ◌^◌, ◌<◌, ◌≤◌, List, length, Option, Some, None, Result, Ok, Err, refl, sym}
+use Rattle.std.proofs.Common.{subst, arith}
 use Rattle.std.specs.Prelude.{IfSome}
 use Rattle.std.specs.List.{AllByRecursion}
 use Rattle.bac_wire.specs.Datum.{Datum, Spells, InRange, IsDatum, plain}
@@ -20,7 +21,8 @@ use Rattle.bac_text.proofs.WordValues.{at_most_found}
 use Rattle.bac_text.proofs.WriteBodies.{region_within}
 
 -- The values of words whose spellings fit a frame, one after another.
-values_written : (words : List (List ℕ)) (values : List Datum) → values_in words ≡ Ok values → length (plain_all plain values) ≤ 1497 → AreWritten words (plain_all plain values)
+values_written : (words : List (List ℕ)) (values : List Datum) → values_in words ≡ Ok values
+    → length (plain_all plain values) ≤ 1497 → AreWritten words (plain_all plain values)
 values_written words values said fits =
     let range : AllByRecursion InRange values = rw said at (values_range words) in
     let spelled = whole_spell Spells plain IsDatum plain_spells values (values_spelled values range fits) in
@@ -30,13 +32,15 @@ values_written words values said fits =
 pub region_written : (words : List (List ℕ)) (region : List ℕ) → region_of words ≡ Ok region → AreWritten words region
 region_written words region e = go (values_in words) refl e
   where
-    go : (found : Result (List Datum) ℕ) → values_in words ≡ found → region_with found ≡ Ok region → AreWritten words region
+    go : (found : Result (List Datum) ℕ) → values_in words ≡ found → region_with found ≡ Ok region
+        → AreWritten words region
     go (Err n) said e = absurd (cc)
     go (Ok values) said e =
         let is = at_most_found TooLong 1497 (plain_all plain values) region e in
         subst (AreWritten words) (sym is.0) (values_written words values said is.1)
 
-named : (object : Identifier) (property : ℕ) (index priority : Option ℕ) (region : List ℕ) → IsIdentifier object → property < 2 ^ 32 → IfSome index (λ n. n < 2 ^ 32) →
+named : (object : Identifier) (property : ℕ) (index priority : Option ℕ) (region : List ℕ) → IsIdentifier object
+    → property < 2 ^ 32 → IfSome index (λ n. n < 2 ^ 32) →
     AllByRecursion IsParameter (reference_parameters (order_of object property index priority region).reference)
 named object property None priority region id low h = (id, (low, tt))
 named object property (Some index) priority region id low h = (id, (low, (h, tt)))
@@ -44,7 +48,8 @@ named object property (Some index) priority region id low h = (id, (low, (h, tt)
 pub bodies_written : BodiesAreWritten
 bodies_written object property index priority words body id low h urgent e = go (values_in words) refl e
   where
-    go : (found : Result (List Datum) ℕ) → values_in words ≡ found → body_with object property index priority found ≡ Ok body → IsWritten object property index priority words body
+    go : (found : Result (List Datum) ℕ) → values_in words ≡ found
+        → body_with object property index priority found ≡ Ok body → IsWritten object property index priority words body
     go (Err n) said e = absurd (cc)
     go (Ok values) said e =
         let region = plain_all plain values in
@@ -52,5 +57,10 @@ bodies_written object property index priority words body id low h urgent e = go 
         let is = at_most_found TooLong 476 (write_octets order) body e in
         let within = region_within order in
         let written = values_written words values said (omega arith) in
-        let ordered = order_is_written order (named object property index priority region id low h) (values_are_region written.values region written.spelled) urgent in
-        record { region = region; written = written; ordered = subst (λ (w : List ℕ). IsShortest IsWriteBody w order) (sym is.0) ordered }
+        let ordered = order_is_written order (named object property index priority region id low h)
+        (values_are_region written.values region written.spelled) urgent in
+        record {
+          region = region;
+          written = written;
+          ordered = subst (λ (w : List ℕ). IsShortest IsWriteBody w order) (sym is.0) ordered;
+        }

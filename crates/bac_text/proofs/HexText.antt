@@ -1,5 +1,6 @@
 -- Octets in hexadecimal digits.
-use Rattle.std.proofs.Common.{◌*◌, ◌≡◌, ℕ, ◌%◌, ◌<◌, ◌≤◌, true, false, List, [], ◌∷◌, length, Some, None, Result, Ok, Err, refl, sym, ◌∙◌, arith}
+use Rattle.std.proofs.Common.{◌*◌, ◌≡◌, ℕ, ◌%◌, ◌<◌, ◌≤◌, true, false, List, [], ◌∷◌, length, Some, None, Result, Ok}
+use Rattle.std.proofs.Common.{Err, refl, sym, ◌∙◌, arith}
 use Rattle.std.specs.Prelude.{is_ok, IsTrue}
 use Rattle.std.specs.List.{list_all}
 use Rattle.std.specs.Result.{result_ok}
@@ -9,7 +10,8 @@ use Rattle.std.proofs.lemmas.List.Sums.{AllPass-from_list_all, list_all-from_All
 use Rattle.hex.specs.Hex.{decode_of, is_hex_digit}
 use Rattle.hex.specs.declared.error.FromHexError.{FromHexError}
 use Rattle.hex.proofs.HexLemmas.{decode_of-ok, decode_of-digits}
-use Rattle.bac_text.specs.Words.{octets_of, octets_in}
+use Rattle.bac_text.specs.Words.{octets_of}
+use Rattle.bac_text.specs.Inner.Words.{octets_in}
 use Rattle.bac_text.specs.Address.{routable}
 
 same_digit : (c : ℕ) → is_ascii_hexdigit c ≡ is_hex_digit c
@@ -19,13 +21,17 @@ pub same_digits : (word : List ℕ) → list_all is_ascii_hexdigit word ≡ list
 same_digits [] = refl
 same_digits (c ∷ cs) = rw (same_digit c, same_digits cs) refl
 
-pub digits_decoded : (word : List ℕ) → length word % 2 ≡ 0 → list_all is_ascii_hexdigit word ≡ true → (octets : List ℕ) × (decode_of word ≡ Ok octets)
-digits_decoded word even digits = decode_of-digits word even (AllPass-from_list_all is_hex_digit word (sym (same_digits word) ∙ digits))
+pub digits_decoded : (word : List ℕ) → length word % 2 ≡ 0 → list_all is_ascii_hexdigit word ≡ true → (octets : List ℕ)
+    × (decode_of word ≡ Ok octets)
+digits_decoded word even digits =
+    decode_of-digits word even (AllPass-from_list_all is_hex_digit word (sym (same_digits word) ∙ digits))
 
-pub digits_are_read : (word : List ℕ) → length word % 2 ≡ 0 → list_all is_ascii_hexdigit word ≡ true → IsTrue (is_ok (decode_of word))
+pub digits_are_read : (word : List ℕ) → length word % 2 ≡ 0 → list_all is_ascii_hexdigit word ≡ true
+    → IsTrue (is_ok (decode_of word))
 digits_are_read word even digits = let found = digits_decoded word even digits in grind arith
 
-pub octets_of_digits : (word : List ℕ) → 0 < length word → length word ≤ 4096 → length word % 2 ≡ 0 → list_all is_ascii_hexdigit word ≡ true →
+pub octets_of_digits : (word : List ℕ) → 0 < length word → length word ≤ 4096 → length word % 2 ≡ 0
+    → list_all is_ascii_hexdigit word ≡ true →
     Some (octets_in word) ≡ octets_of word
 octets_of_digits word some fits even digits = let found = digits_decoded word even digits in grind (arith, nat_tests)
 
@@ -34,13 +40,16 @@ others_refused word others = go (decode_of word) refl
   where
     go : (r : Result (List ℕ) FromHexError) → decode_of word ≡ r → result_ok r ≡ None
     go (Err why) is = refl
-    go (Ok octets) is = absurd (let all = list_all-from_AllPass is_hex_digit word (decode_of-ok word octets is).1 in grind (arith, same_digits))
+    go (Ok octets) is =
+        absurd (let all = list_all-from_AllPass is_hex_digit word (decode_of-ok word octets is).1 in
+        grind (arith, same_digits))
 
 pub octets_of_others : (word : List ℕ) → list_all is_ascii_hexdigit word ≡ false → None ≡ octets_of word
 octets_of_others word others = grind (arith, others_refused)
 
 -- Two digits write an octet.
-pub length-octets_in : (digits : List ℕ) → IsTrue (is_ok (decode_of digits)) → length digits ≡ 2 * length (octets_in digits)
+pub length-octets_in : (digits : List ℕ) → IsTrue (is_ok (decode_of digits))
+    → length digits ≡ 2 * length (octets_in digits)
 length-octets_in digits read = grind (arith, decode_of-ok)
 
 pub ruleset digits_of_words = (digits_are_read, octets_of_digits, octets_of_others)

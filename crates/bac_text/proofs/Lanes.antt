@@ -1,16 +1,19 @@
 -- From the mask of one load to the octets that pass a test.
-use Rattle.std.proofs.Common.{◌≡◌, ℕ, ◌+◌, ◌-◌, ◌%◌, ◌^◌, ◌<◌, ◌≤◌, cond, Bool, true, false, not, List, map, length, get_or, Some, None, refl, sym, ap, ◌∙◌, subst, arith}
+use Rattle.std.proofs.Common.{◌≡◌, ℕ, ◌+◌, ◌-◌, ◌%◌, ◌^◌, ◌<◌, ◌≤◌, cond, Bool, true, false, not, List, map, length}
+use Rattle.std.proofs.Common.{get_or, Some, None, refl, sym, ap, ◌∙◌, subst, arith}
 use Rattle.std.specs.Prelude.{◌||◌, position, bit_or}
 use Rattle.std.specs.List.{prefix_len, position_or_len}
 use Rattle.std.proofs.lemmas.Bool.{not-true, not-false}
 use Rattle.std.proofs.lemmas.Bool.Decides.{nat_tests}
-use Rattle.std.proofs.lemmas.Simd.{map-map, mask_l-mod, length-chunk, get_or-chunk, leading_from_mask_l, trailing_mask_l}
+use Rattle.std.proofs.lemmas.Simd.{map-map, mask_l-mod, length-chunk, get_or-chunk, leading_from_mask_l}
+use Rattle.std.proofs.lemmas.Simd.{trailing_mask_l}
 use Rattle.std.proofs.lemmas.List.{length-map}
 use Rattle.std.proofs.lemmas.List.Sums.{prefix_len-le-length, prefix_len_passes, prefix_len_stops, position_or_len_is}
 use lib.Lanes.{chunk, mask_l, top}
-use Rattle.bac_text.specs.Search.{first_set, IsRunIn}
+use Rattle.bac_text.specs.Inner.Search.{first_set, IsRunIn}
 
-run_is : (p : ℕ → Bool) (v : List ℕ) (n : ℕ) → length v ≡ n → n ≤ 64 → first_set (mask_l (map p v)) n ≡ prefix_len (λ x. not (p x)) v
+run_is : (p : ℕ → Bool) (v : List ℕ) (n : ℕ) → length v ≡ n → n ≤ 64
+    → first_set (mask_l (map p v)) n ≡ prefix_len (λ x. not (p x)) v
 run_is p v n long few = grind (arith, nat_tests, leading_from_mask_l, trailing_mask_l)
 
 -- Comparing sets all bits of a lane or none.
@@ -36,7 +39,8 @@ module _ (q : ℕ → Bool) (d : List ℕ) (i n r : ℕ) (z : List ℕ) (room : 
   counted : r ≡ prefix_len (λ x. not (stops x)) (chunk i n d)
   counted =
       let v = chunk i n d in
-      let mask = ap (λ l. mask_l l % 2 ^ 64) (ap (map (top 7)) lanes ∙ map-map (top 7) f v) ∙ mask_l-mod (map stops v) 64 (omega (arith, length-map v stops, long)) in
+      let mask = ap (λ l. mask_l l % 2 ^ 64) (ap (map (top 7)) lanes ∙ map-map (top 7) f v)
+      ∙ mask_l-mod (map stops v) 64 (omega (arith, length-map v stops, long)) in
       found ∙ ap (λ m. first_set m n) mask ∙ run_is stops v n long few
 
   goes_on : (k : ℕ) → i ≤ k → k < i + r → stops (get_or d k 0) ≡ false
@@ -44,7 +48,8 @@ module _ (q : ℕ → Bool) (d : List ℕ) (i n r : ℕ) (z : List ℕ) (room : 
       let back : i + (k - i) ≡ k = omega arith in
       let bound = prefix_len-le-length (λ x. not (stops x)) (chunk i n d) in
       let at = get_or-chunk i n d (k - i) 0 (omega (arith, counted, long)) ∙ ap (λ j. get_or d j 0) back in
-      subst (λ x. stops x ≡ false) at (not-true _ (prefix_len_passes (λ x. not (stops x)) (chunk i n d) (k - i) 0 (omega (arith, counted))))
+      subst (λ x. stops x ≡ false) at
+      (not-true _ (prefix_len_passes (λ x. not (stops x)) (chunk i n d) (k - i) 0 (omega (arith, counted))))
 
   -- A lane stops just where the test passes.
   pub run_in : IsRunIn q d i n r
@@ -53,21 +58,27 @@ module _ (q : ℕ → Bool) (d : List ℕ) (i n r : ℕ) (z : List ℕ) (room : 
     fail = λ k from to. sym (all k) ∙ goes_on k from to;
     stops = λ short.
         let at = ap (λ j. get_or (chunk i n d) j 0) (sym counted) ∙ get_or-chunk i n d r 0 short in
-        let set = subst (λ x. stops x ≡ true) at (not-false _ (prefix_len_stops (λ x. not (stops x)) (chunk i n d) 0 (omega (arith, counted, long)))) in
+        let set = subst (λ x. stops x ≡ true) at
+        (not-false _ (prefix_len_stops (λ x. not (stops x)) (chunk i n d) 0 (omega (arith, counted, long)))) in
         sym (all (i + r)) ∙ set;
   }
 
-pub position_is : (p : ℕ → Bool) (xs : List ℕ) (i : ℕ) → i < length xs → ((k : ℕ) → k < i → p (get_or xs k 0) ≡ false) → p (get_or xs i 0) ≡ true →
+pub position_is : (p : ℕ → Bool) (xs : List ℕ) (i : ℕ) → i < length xs → ((k : ℕ) → k < i → p (get_or xs k 0) ≡ false)
+    → p (get_or xs i 0) ≡ true →
     Some i ≡ position p xs
 position_is p xs i within before here =
-    let at : position_or_len p xs ≡ i = position_or_len_is p xs i 0 (omega arith) before (λ _. here) in grind (arith, nat_tests)
+    let at : position_or_len p xs ≡ i = position_or_len_is p xs i 0 (omega arith) before (λ _. here) in
+    grind (arith, nat_tests)
 
-pub position_none : (p : ℕ → Bool) (xs : List ℕ) → ((k : ℕ) → k < length xs → p (get_or xs k 0) ≡ false) → None ≡ position p xs
+pub position_none : (p : ℕ → Bool) (xs : List ℕ) → ((k : ℕ) → k < length xs → p (get_or xs k 0) ≡ false)
+    → None ≡ position p xs
 position_none p xs before =
-    let at : position_or_len p xs ≡ length xs = position_or_len_is p xs (length xs) 0 (omega arith) before (λ less. absurd (omega arith)) in
+    let at : position_or_len p xs ≡ length xs =
+    position_or_len_is p xs (length xs) 0 (omega arith) before (λ less. absurd (omega arith)) in
     grind (arith, nat_tests)
 
 -- The octets before a load, and those of it.
-pub all_before : (p : ℕ → Bool) (xs : List ℕ) (start at n run : ℕ) → at ≤ start → ((k : ℕ) → k < start → p (get_or xs k 0) ≡ false) →
+pub all_before : (p : ℕ → Bool) (xs : List ℕ) (start at n run : ℕ) → at ≤ start
+    → ((k : ℕ) → k < start → p (get_or xs k 0) ≡ false) →
     IsRunIn p xs at n run → (k : ℕ) → k < at + run → p (get_or xs k 0) ≡ false
 all_before p xs start at n run over before found k below = grind (arith, before, found.fail)

@@ -1,5 +1,6 @@
 -- The values that a region is, from its front.
-use Rattle.std.proofs.Common.{◌≡◌, ℕ, zero, suc, ◌+◌, ◌<◌, ◌≤◌, List, [], ◌∷◌, length, Option, Some, None, refl, sym, ◌∙◌, ap, subst, arith}
+use Rattle.std.proofs.Common.{◌≡◌, ℕ, zero, suc, ◌+◌, ◌<◌, ◌≤◌, List, [], ◌∷◌, length, Option, Some, None, refl, sym}
+use Rattle.std.proofs.Common.{◌∙◌, ap, subst, arith}
 use Rattle.std.specs.Prelude.{option_map}
 use Rattle.std.proofs.lemmas.Bool.Decides.{nat_tests}
 use Rattle.std.proofs.lemmas.Option.{none-some}
@@ -14,17 +15,20 @@ use Rattle.bac_text.specs.ValuesInWords.{AreSpelled}
 use Rattle.bac_text.specs.Values.{values_within, values_of}
 
 -- A value has an octet at least.
-pub value-shorter : (octets : List ℕ) (value : Datum) (rest : List ℕ) → value_at octets ≡ Some (value, rest) → length rest < length octets
+pub value-shorter : (octets : List ℕ) (value : Datum) (rest : List ℕ) → value_at octets ≡ Some (value, rest)
+    → length rest < length octets
 value-shorter octets value rest e =
     let b = begins Spells value_at value_reader octets value rest e in
-    subst (λ (w : List ℕ). length rest < length w) (sym b.whole) (tag_shorter b.spelled.tag b.spelled.contents b.front rest _ b.spelled.tagged b.spelled.whole)
+    subst (λ (w : List ℕ). length rest < length w) (sym b.whole)
+    (tag_shorter b.spelled.tag b.spelled.contents b.front rest _ b.spelled.tagged b.spelled.whole)
 
 -- The values of the octets behind the first, after it.
 abbrev then_others : ℕ → Option (Datum × List ℕ) → Option (List Datum)
 then_others count found = found >>= (λ first. values_within count first.1 >>= (λ others. Some (first.0 ∷ others)))
 
 -- Any count that is large enough gives the same.
-enough : (count other : ℕ) (octets : List ℕ) → length octets ≤ count → length octets ≤ other → values_within count octets ≡ values_within other octets
+enough : (count other : ℕ) (octets : List ℕ) → length octets ≤ count → length octets ≤ other
+    → values_within count octets ≡ values_within other octets
 unfolding values_within
 enough zero zero [] h k = refl
 enough zero (suc n) [] h k = refl
@@ -39,7 +43,8 @@ enough (suc m) (suc n) (x ∷ xs) h k = go (λ rest. enough m n rest) (value_at 
     go same None e = refl
     go same (Some first) e =
         let short = value-shorter (x ∷ xs) first.0 first.1 e in
-        ap (λ (found : Option (List Datum)). found >>= (λ others. Some (first.0 ∷ others))) (same first.1 (omega arith) (omega arith))
+        ap (λ (found : Option (List Datum)). found >>= (λ others. Some (first.0 ∷ others)))
+        (same first.1 (omega arith) (omega arith))
 
 -- Where no value stands at the front of octets, they are no values.
 pub values-none : (octets : List ℕ) → value_at octets ≡ None → 0 < length octets → values_of octets ≡ None
@@ -70,15 +75,20 @@ pub record Counted (region rest : List ℕ) (count : ℕ) : Type 0 where
 pub counted_none : (region : List ℕ) → Counted region region 0
 counted_none region = record { is = grind arith }
 
-pub counted_more : (region rest behind : List ℕ) (count : ℕ) (value : Datum) → Counted region rest count → value_at rest ≡ Some (value, behind) →
+pub counted_more : (region rest behind : List ℕ) (count : ℕ) (value : Datum) → Counted region rest count
+    → value_at rest ≡ Some (value, behind) →
     Counted region behind (count + 1)
-counted_more region rest behind count value h found = let more = values-first rest value behind found in record { is = grind arith }
+counted_more region rest behind count value h found =
+    let more = values-first rest value behind found in
+    record { is = grind arith }
 
-pub counted_stuck : (region rest : List ℕ) (count : ℕ) → Counted region rest count → value_at rest ≡ None → 0 < length rest →
+pub counted_stuck : (region rest : List ℕ) (count : ℕ) → Counted region rest count → value_at rest ≡ None
+    → 0 < length rest →
     None ≡ option_map length (values_of region)
 counted_stuck region rest count h none some = let stuck = values-none rest none some in grind arith
 
-pub counted_all : (region rest : List ℕ) (count : ℕ) → Counted region rest count → length rest ≡ 0 → Some count ≡ option_map length (values_of region)
+pub counted_all : (region rest : List ℕ) (count : ℕ) → Counted region rest count → length rest ≡ 0
+    → Some count ≡ option_map length (values_of region)
 unfolding values_within
 counted_all region [] count h e = grind arith
 counted_all region (x ∷ xs) count h e = absurd (omega arith)
@@ -94,7 +104,8 @@ spelled [] octets e = values-empty octets e
 spelled (value ∷ others) [] e = absurd (let bad : [] ≡ value ∷ others = cc in cc)
 spelled (value ∷ others) (x ∷ xs) e = go (λ rest. spelled others rest) (value_at (x ∷ xs)) refl
   where
-    parts : (first : Datum) (found : Option (List Datum)) → option_map (λ more. first ∷ more) found ≡ Some (value ∷ others) → (first ≡ value) × (found ≡ Some others)
+    parts : (first : Datum) (found : Option (List Datum))
+        → option_map (λ more. first ∷ more) found ≡ Some (value ∷ others) → (first ≡ value) × (found ≡ Some others)
     parts first found h = grind arith
 
     go : ((rest : List ℕ) → values_of rest ≡ Some others → SpellsAll Spells rest others) →
@@ -102,8 +113,12 @@ spelled (value ∷ others) (x ∷ xs) e = go (λ rest. spelled others rest) (val
     go after None f = absurd (none-some (value ∷ others) (sym (values-none (x ∷ xs) f (omega arith)) ∙ e))
     go after (Some first) f =
         let found : value_at (x ∷ xs) ≡ Some (first.0, first.1) = f in
-        let both = parts first.0 (values_of first.1) (sym (values-first (x ∷ xs) first.0 first.1 found) ∙ e) in
-        (first.1, begins Spells value_at value_reader (x ∷ xs) value first.1 (found ∙ ap (λ (v : Datum). Some (v, first.1)) both.0), after first.1 both.1)
+        let both = parts first.0 (values_of first.1) (sym (values-first (x ∷ xs) first.0 first.1 found) ∙ e) in (
+          first.1,
+          begins Spells value_at value_reader (x ∷ xs) value first.1
+              (found ∙ ap (λ (v : Datum). Some (v, first.1)) both.0),
+          after first.1 both.1,
+        )
 
 -- what octets spell, their values are
 pub read_all : (values : List Datum) (octets : List ℕ) → SpellsAll Spells octets values → values_of octets ≡ Some values

@@ -5,7 +5,8 @@ use Rattle.bac_wire.specs.Datum.{Datum, Spells, StandsFor, tag_number, tag_befor
 use Rattle.bac_wire.specs.Region.{Counts, IsSequence, none, more, IsItem, IsRegion}
 use Rattle.bac_wire.specs.Front.{SpellsAll}
 
-contents_counted : (contents : List ℕ) (value : Datum) → StandsFor contents value → Counts (tag_number value) (tag_before value (length contents)).shape (length contents)
+contents_counted : (contents : List ℕ) (value : Datum) → StandsFor contents value
+    → Counts (tag_number value) (tag_before value (length contents)).shape (length contents)
 contents_counted contents values.null held = refl
 contents_counted contents (values.boolean b) held = ap length held
 contents_counted contents (values.unsigned n) held = refl
@@ -33,4 +34,5 @@ value_item octets value s = inl (record {
 pub values_are_region : (values : List Datum) (region : List ℕ) → SpellsAll Spells region values → IsRegion 32 region
 values_are_region [] region s = subst (IsSequence (IsItem 32)) (sym s) none
 values_are_region (value ∷ others) region s =
-    subst (IsSequence (IsItem 32)) (sym s.1.whole) (more (value_item s.1.front value s.1.spelled) (values_are_region others s.0 s.2))
+    subst (IsSequence (IsItem 32)) (sym s.1.whole)
+    (more (value_item s.1.front value s.1.spelled) (values_are_region others s.0 s.2))

@@ -1,5 +1,6 @@
 -- The texts of values, and of what they are made of.
-use Rattle.std.proofs.Common.{◌≡◌, ℕ, ◌+◌, ◌-◌, ◌<◌, false, List, [], ◌∷◌, ◌++◌, length, take, get_or, Option, Some, None, refl, sym, ◌∙◌, ap, arith, append_assoc, decimal}
+use Rattle.std.proofs.Common.{◌≡◌, ℕ, ◌+◌, ◌-◌, ◌<◌, false, List, [], ◌∷◌, ◌++◌, length, take, get_or, Option, Some}
+use Rattle.std.proofs.Common.{None, refl, sym, ◌∙◌, ap, arith, append_assoc, decimal}
 use Rattle.std.specs.Prelude.{◌==◌, ℤ, pos, negsuc, ◌<ℤ◌, unsigned_abs, option_map, IfSome}
 use Rattle.std.specs.Fmt.{signed_decimal}
 use Rattle.std.specs.List.{flat_map}
@@ -13,7 +14,9 @@ use Rattle.bac_text.specs.declared.page.Page.{Page}
 use Rattle.bac_text.specs.Page.{Prints}
 use Rattle.std.specs.Prelude.{codes}
 use Rattle.hex.specs.Hex.{encode_lower}
-use Rattle.bac_text.specs.Values.{octet_bits, bits_text, datum_text, separator, values_within, values_of, joined, text_or_octets, region_text}
+use Rattle.bac_text.specs.Values.{octet_bits, bits_text, datum_text, values_within, values_of, joined, text_or_octets}
+use Rattle.bac_text.specs.Values.{region_text}
+use Rattle.bac_text.specs.Inner.Values.{separator}
 use Rattle.bac_text.proofs.Printed.{◌⨾◌, printed_as, prints_nothing}
 use Rattle.bac_text.proofs.ValueLists.{values-none, values-first, values-empty}
 
@@ -42,10 +45,12 @@ unfolding values_within
 one_more first [] [] e = sym (append-nil (datum_text first ++ []) ∙ append-nil (datum_text first))
 one_more first (second ∷ more) [] e = grind arith
 one_more first [] (octet ∷ octets) e = absurd (let bad = values-empty (octet ∷ octets) e in cc)
-one_more first (second ∷ more) (octet ∷ octets) e = sym (append_assoc (datum_text first) (44 ∷ []) (joined (second ∷ more)))
+one_more first (second ∷ more) (octet ∷ octets) e =
+    sym (append_assoc (datum_text first) (44 ∷ []) (joined (second ∷ more)))
 
 -- What stands behind the first of the values.
-behind_first : (value : Datum) (others : List Datum) (found : Option (List Datum)) → option_map (λ more. value ∷ more) found ≡ Some others →
+behind_first : (value : Datum) (others : List Datum) (found : Option (List Datum))
+    → option_map (λ more. value ∷ more) found ≡ Some others →
     (more : List Datum) × (found ≡ Some more) × (others ≡ value ∷ more)
 behind_first value others None e = absurd (none-some others e)
 behind_first value others (Some more) e = (more, refl, cc)
@@ -56,13 +61,16 @@ nothing_left [] others none e = cc
 nothing_left (octet ∷ octets) others none e = grind (arith, values-none)
 
 -- If the region is values and nothing else, the texts of those before the rest were printed.
-pub record PrintsFront {W : Type 0} (contents : W → Option (List ℕ)) (before after : Page W) (region rest : List ℕ) : Type 0 where
+pub record PrintsFront {W : Type 0} (contents : W → Option (List ℕ)) (before after : Page W)
+    (region rest : List ℕ) : Type 0 where
   pub front : (values : List Datum) → values_of region ≡ Some values →
-      (text : List ℕ) × (others : List Datum) × (values_of rest ≡ Some others) × (joined values ≡ text ++ joined others) × Prints contents before after text
+      (text : List ℕ) × (others : List Datum) × (values_of rest ≡ Some others) × (joined values ≡ text ++ joined others)
+      × Prints contents before after text
 
 -- The values were printed, where the region is values.
 abbrev pub PrintsValues : {W : Type 0} → (W → Option (List ℕ)) → Page W → Page W → List ℕ → Type 0
-PrintsValues contents before after region = IfSome (values_of region) (λ values. Prints contents before after (joined values))
+PrintsValues contents before after region =
+    IfSome (values_of region) (λ values. Prints contents before after (joined values))
 
 module _ {W : Type 0} {contents : W → Option (List ℕ)} where
   pub front_none : (page : Page W) (region : List ℕ) → PrintsFront contents page page region region
@@ -70,7 +78,8 @@ module _ {W : Type 0} {contents : W → Option (List ℕ)} where
 
   pub front_more : {before middle next after : Page W} {region rest behind : List ℕ} {value : Datum} →
       PrintsFront contents before middle region rest →
-      value_at rest ≡ Some (value, behind) → Prints contents middle next (datum_text value) → Prints contents next after (separator behind) →
+      value_at rest ≡ Some (value, behind) → Prints contents middle next (datum_text value)
+      → Prints contents next after (separator behind) →
       PrintsFront contents before after region behind
   front_more {rest = rest} {behind = behind} {value = value} so_far found first second = record {
     front = λ values e.
@@ -79,29 +88,37 @@ module _ {W : Type 0} {contents : W → Option (List ℕ)} where
           f.0 ++ (datum_text value ++ separator behind),
           more.0,
           more.1,
-          f.3 ∙ ap (λ (all : List Datum). f.0 ++ joined all) more.2 ∙ ap (λ (text : List ℕ). f.0 ++ text) (one_more value more.0 behind more.1)
+          f.3 ∙ ap (λ (all : List Datum). f.0 ++ joined all) more.2
+              ∙ ap (λ (text : List ℕ). f.0 ++ text) (one_more value more.0 behind more.1)
               ∙ sym (append_assoc f.0 (datum_text value ++ separator behind) (joined more.0)),
           f.4 ⨾ first ⨾ second,
         );
   }
 
-  pub front_whole : {before after : Page W} {region rest : List ℕ} → PrintsFront contents before after region rest → value_at rest ≡ None →
+  pub front_whole : {before after : Page W} {region rest : List ℕ} → PrintsFront contents before after region rest
+      → value_at rest ≡ None →
       PrintsValues contents before after region
   front_whole {before} {after} {region} {rest} so_far none = go (values_of region) refl
     where
-      go : (found : Option (List Datum)) → values_of region ≡ found → IfSome found (λ values. Prints contents before after (joined values))
+      go : (found : Option (List Datum)) → values_of region ≡ found
+          → IfSome found (λ values. Prints contents before after (joined values))
       go None e = tt
       go (Some values) e =
           let f = so_far.front values e in
-          printed_as f.4 (sym (f.3 ∙ ap (λ (all : List Datum). f.0 ++ joined all) (nothing_left rest f.1 none f.2) ∙ append-nil f.0))
+          printed_as f.4 (sym
+          (f.3 ∙ ap (λ (all : List Datum). f.0 ++ joined all) (nothing_left rest f.1 none f.2) ∙ append-nil f.0))
 
   -- None or several stand in braces.
-  pub printed_in_braces : {before first second after : Page W} (region : List ℕ) (count : ℕ) → Some count ≡ option_map length (values_of region) →
-      (count == 1) ≡ false → Prints contents before first (123 ∷ []) → PrintsValues contents first second region → Prints contents second after (125 ∷ []) →
+  pub printed_in_braces : {before first second after : Page W} (region : List ℕ) (count : ℕ)
+      → Some count ≡ option_map length (values_of region) →
+      (count == 1) ≡ false → Prints contents before first (123 ∷ []) → PrintsValues contents first second region
+      → Prints contents second after (125 ∷ []) →
       Prints contents before after (region_text region)
-  printed_in_braces {before} {first} {second} {after} region count counted several opened printed closed = go (values_of region) counted printed
+  printed_in_braces {before} {first} {second} {after} region count counted several opened printed closed =
+      go (values_of region) counted printed
     where
-      go : (found : Option (List Datum)) → Some count ≡ option_map length found → IfSome found (λ values. Prints contents first second (joined values)) →
+      go : (found : Option (List Datum)) → Some count ≡ option_map length found
+          → IfSome found (λ values. Prints contents first second (joined values)) →
           Prints contents before after (text_or_octets region found)
       go None e p = absurd (none-some count (sym e))
       go (Some values) e p =

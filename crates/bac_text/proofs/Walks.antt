@@ -1,7 +1,7 @@
--- What walks by hand over ghost data share. `Transcript::new` and `Transcript::and` make a struct without fields, whose ghost data their
--- clauses name. The prover writes no proof that picks ghost data, so each has a `Proof.antt`, step by step: the arguments are taken, the
--- struct is made, and the ghost data is named at the return. Their form is that of the toolchain's own crates that keep such a log,
--- `serde_json` and `http_server`.
+-- What walks by hand over ghost data share. `Transcript::new` and `Transcript::and` make a struct without fields, whose
+-- ghost data their clauses name. The prover writes no proof that picks ghost data, so each has a `Proof.antt`, step by
+-- step: the arguments are taken, the struct is made, and the ghost data is named at the return. Their form is that of
+-- the toolchain's own crates that keep such a log, `serde_json` and `http_server`.
 use Rattle.std.proofs.Common.{List, [], ◌∷◌, refl}
 use seplogic.Ra.Ura.{Ura}
 use mir.Val.{Val, vstruct, vnil}
@@ -17,7 +17,8 @@ none = vstruct vnil
 abbrev pub fieldless : RattleType
 fieldless = Struct (record { name = []; args = []; types = []; fields = [] })
 
-pub none_made : {M : Type 1} {𝓤 : Ura M} {𝓛 : Logic 𝓤} {K : Type 0} {Γ : List (Item 𝓤)} {G : Goal 𝓤 𝓛.H} → K → Step K 𝓛 (‵ (fieldless.own_val tt (none ∷ [])) ∷ Γ) G Γ G
+pub none_made : {M : Type 1} {𝓤 : Ura M} {𝓛 : Logic 𝓤} {K : Type 0} {Γ : List (Item 𝓤)} {G : Goal 𝓤 𝓛.H} → K
+    → Step K 𝓛 (‵ (fieldless.own_val tt (none ∷ [])) ∷ Γ) G Γ G
 none_made t = step (λ s.
     nothing t $ feq_i t (List Val) (none ∷ []) (none ∷ []) refl $ fjoin t $
     fpack t (Valss []) (within (record { name = []; args = []; types = []; fields = [] }) tt (none ∷ [])) tt $ s)

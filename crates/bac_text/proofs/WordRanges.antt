@@ -1,5 +1,6 @@
 -- The values that words write are within the ranges of their kinds, so they have spellings.
-use Rattle.std.proofs.Common.{◌≡◌, ℕ, ◌+◌, ◌≤◌, Bool, true, false, List, [], ◌∷◌, length, Option, Result, arith, length-append}
+use Rattle.std.proofs.Common.{◌≡◌, ℕ, ◌+◌, ◌≤◌, Bool, true, false, List, [], ◌∷◌, length, Option, Result, arith}
+use Rattle.std.proofs.Common.{length-append}
 use Rattle.std.specs.Prelude.{◌==◌, if◌then◌else◌, option_map, IfSome, IfOk}
 use Rattle.std.specs.List.{AllByRecursion}
 use Rattle.std.proofs.lemmas.Bool.Decides.{nat_tests}
@@ -57,7 +58,8 @@ under_range number word =
 value_range : (tag word : List ℕ) → IfSome (value_in tag word) InRange
 value_range tag word = grind (arith, under_range)
 
-before_range : (n : ℕ) (first : Option Datum) (more : Result (List Datum) ℕ) → IfSome first InRange → IfOk more (AllByRecursion InRange) →
+before_range : (n : ℕ) (first : Option Datum) (more : Result (List Datum) ℕ) → IfSome first InRange
+    → IfOk more (AllByRecursion InRange) →
     IfOk (value_before n first more) (AllByRecursion InRange)
 before_range n first more h k = grind arith
 
@@ -72,7 +74,8 @@ values_range [] = tt
 values_range (tag ∷ others) = pairs_range 1 (tag ∷ others)
 
 -- Values whose spellings fit a frame are spelled by them.
-pub values_spelled : (values : List Datum) → AllByRecursion InRange values → length (plain_all plain values) ≤ 1497 → AllByRecursion IsDatum values
+pub values_spelled : (values : List Datum) → AllByRecursion InRange values → length (plain_all plain values) ≤ 1497
+    → AllByRecursion IsDatum values
 values_spelled [] h fits = tt
 values_spelled (value ∷ others) h fits =
     let size = length-append (plain value) (plain_all plain others) in

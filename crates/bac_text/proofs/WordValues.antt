@@ -1,5 +1,6 @@
 -- What is appended of a value, and the words of each kind.
-use Rattle.std.proofs.Common.{◌≡◌, ℕ, ◌+◌, ◌-◌, ◌*◌, ◌/◌, ◌%◌, ◌<◌, ◌≤◌, true, List, length, take, drop, get_or, Some, Result, Ok, Err, refl, ◌∙◌, arith, length-append}
+use Rattle.std.proofs.Common.{◌≡◌, ℕ, ◌+◌, ◌-◌, ◌*◌, ◌/◌, ◌%◌, ◌<◌, ◌≤◌, true, List, length, take, drop, get_or, Some}
+use Rattle.std.proofs.Common.{Result, Ok, Err, refl, ◌∙◌, arith, length-append}
 use Rattle.std.specs.Prelude.{option_map, map, MatchResult}
 use Rattle.std.specs.Char.{is_ascii_hexdigit}
 use Rattle.std.specs.List.{list_all, range_with_len}
@@ -13,36 +14,43 @@ use Rattle.bac_wire.specs.Datum.{Datum, octet_string, bit_string, plain, plain_c
 use Rattle.bac_wire.specs.Tag.{plain_tag}
 use Rattle.bac_text.proofs.HexText.{digits_decoded}
 use Rattle.bac_text.specs.declared.value_words.ValueFault.TheVariants.{TooLong}
-use Rattle.bac_text.specs.ValueWords.{hex_in, is_bit_digit, bits_octet, octets_for, bits_octets, bits_in, at_most, appended}
+use Rattle.bac_text.specs.ValueWords.{hex_in, is_bit_digit, bits_octet, octets_for, bits_octets, bits_in, at_most}
+use Rattle.bac_text.specs.Inner.ValueWords.{appended}
 
 -- What has no more octets than it may is as it was.
 pub at_most_found : {E : Type 0} (fault : E) (most : ℕ) (octets found : List ℕ) → at_most fault most octets ≡ Ok found →
     (found ≡ octets) × (length octets ≤ most)
 at_most_found fault most octets found e = grind (arith, nat_tests)
 
-pub at_most_fault : {E : Type 0} (fault other : E) (most : ℕ) (octets : List ℕ) → at_most fault most octets ≡ Err other →
+pub at_most_fault : {E : Type 0} (fault other : E) (most : ℕ) (octets : List ℕ) → at_most fault most octets ≡ Err other
+    →
     (fault ≡ other) × (most < length octets)
 at_most_fault fault other most octets e = grind (arith, nat_tests)
 
-pub appended-full : (old : List ℕ) (value : Datum) → 1497 < length old + length (plain value) → appended old (Some value) ≡ Err TooLong
+pub appended-full : (old : List ℕ) (value : Datum) → 1497 < length old + length (plain value)
+    → appended old (Some value) ≡ Err TooLong
 appended-full old value h = grind (arith, nat_tests, length-append)
 
 -- A spelling has the contents in it.
 pub plain_length : (value : Datum) → length (plain_contents value) ≤ length (plain value)
 unfolding plain
-plain_length value = omega (arith, length-append (plain_tag (tag_before value (length (plain_contents value)))) (plain_contents value))
+plain_length value =
+    omega (arith, length-append (plain_tag (tag_before value (length (plain_contents value)))) (plain_contents value))
 
 -- ---- hexadecimal digits
 
-pub octets-decoded : (word out room : List ℕ) (n : ℕ) (r : Result Unit FromHexError) → list_all is_ascii_hexdigit word ≡ true →
+pub octets-decoded : (word out room : List ℕ) (n : ℕ) (r : Result Unit FromHexError)
+    → list_all is_ascii_hexdigit word ≡ true →
     length word ≡ 2 * n → n ≤ length room →
-    MatchResult (decode_sized word (length (take n room))) (λ bytes. (r ≡ Ok tt) × (out ≡ bytes)) (λ e. r ≡ Err e) → hex_in word ≡ Some out
+    MatchResult (decode_sized word (length (take n room))) (λ bytes. (r ≡ Ok tt) × (out ≡ bytes)) (λ e. r ≡ Err e)
+    → hex_in word ≡ Some out
 octets-decoded word out room n r digits size fits match =
     let found = digits_decoded word (omega arith) digits in
     let same = rw (length-take-le n room fits, decode_sized-twice word n size, found.1) at match in
     grind arith
 
-pub octets-long : (region word : List ℕ) → length word % 2 ≡ 0 → list_all is_ascii_hexdigit word ≡ true → 1497 < length word / 2 →
+pub octets-long : (region word : List ℕ) → length word % 2 ≡ 0 → list_all is_ascii_hexdigit word ≡ true
+    → 1497 < length word / 2 →
     appended region (option_map octet_string (hex_in word)) ≡ Err TooLong
 octets-long region word even digits long =
     let found = digits_decoded word even digits in
@@ -52,15 +60,18 @@ octets-long region word even digits long =
 
 -- ---- bits
 
-pub bits-written : (digits room : List ℕ) (count unused : ℕ) → list_all is_bit_digit digits ≡ true → count ≡ octets_for (length digits) → count ≤ length room →
+pub bits-written : (digits room : List ℕ) (count unused : ℕ) → list_all is_bit_digit digits ≡ true
+    → count ≡ octets_for (length digits) → count ≤ length room →
     ((k : ℕ) → k < count → get_or room k 0 ≡ bits_octet (drop (8 * k) digits)) → unused ≡ 8 * count - length digits →
     bits_in digits ≡ Some (bit_string unused (take count room))
 bits-written digits room count unused bits size room_for each rest =
     let same : take count room ≡ map (λ k. bits_octet (drop (8 * k) digits)) (range_with_len 0 count) =
-    fill_by_all (λ k. bits_octet (drop (8 * k) digits)) (take count room) count 0 (length-take-le count room room_for) (λ k h. get_or-take count room k 0 h ∙ each k h) in
+    fill_by_all (λ k. bits_octet (drop (8 * k) digits)) (take count room) count 0 (length-take-le count room room_for)
+    (λ k h. get_or-take count room k 0 h ∙ each k h) in
     rw (bits, rest, same, size) refl
 
-pub bits-long : (region digits : List ℕ) → list_all is_bit_digit digits ≡ true → 1497 < octets_for (length digits) → appended region (bits_in digits) ≡ Err TooLong
+pub bits-long : (region digits : List ℕ) → list_all is_bit_digit digits ≡ true → 1497 < octets_for (length digits)
+    → appended region (bits_in digits) ≡ Err TooLong
 bits-long region digits bits long =
     let value = bit_string (8 * octets_for (length digits) - length digits) (bits_octets digits) in
     let size = plain_length value in

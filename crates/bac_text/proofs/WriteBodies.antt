@@ -15,23 +15,37 @@ use Rattle.bac_text.specs.ValueWords.{at_most}
 use Rattle.bac_text.specs.Pairs.{values_in, region_with, region_of, order_of, body_with, body_of}
 use Rattle.bac_text.proofs.WordValues.{at_most_fault}
 
-parameters_within : (front behind : List Parameter) (region : List ℕ) → length region ≤ length (plain_all plain_parameter (front ++ parameters.value region ∷ behind))
+parameters_within : (front behind : List Parameter) (region : List ℕ)
+    → length region ≤ length (plain_all plain_parameter (front ++ parameters.value region ∷ behind))
 unfolding plain_parameter
 parameters_within [] behind region =
-    omega (arith, length-append (enclosed_octets 3 region) (plain_all plain_parameter behind), length-append (plain_tag (opening_tag 3)) (region ++ plain_tag (closing_tag 3)), length-append region (plain_tag (closing_tag 3)))
+    omega (
+      arith,
+      length-append (enclosed_octets 3 region) (plain_all plain_parameter behind),
+      length-append (plain_tag (opening_tag 3)) (region ++ plain_tag (closing_tag 3)),
+      length-append region (plain_tag (closing_tag 3)),
+    )
 parameters_within (first ∷ others) behind region =
     let rest = parameters_within others behind region in
-    omega (arith, length-append (plain_parameter first) (plain_all plain_parameter (others ++ parameters.value region ∷ behind)), rest)
+    omega (
+      arith,
+      length-append (plain_parameter first)
+          (plain_all plain_parameter (others ++ parameters.value region ∷ behind)),
+      rest,
+    )
 
 -- A body has its region in it.
 pub region_within : (o : Order) → length o.value ≤ length (write_octets o)
 region_within o = parameters_within (reference_parameters o.reference) (optional parameters.priority o.priority) o.value
 
-pub body-fault : (object : Identifier) (property : ℕ) (index priority : Option ℕ) (words : List (List ℕ)) (fault : PairFault) →
+pub body-fault : (object : Identifier) (property : ℕ) (index priority : Option ℕ) (words : List (List ℕ))
+    (fault : PairFault) →
     region_of words ≡ Err fault → body_of object property index priority words ≡ Err fault
 body-fault object property index priority words fault e = go (values_in words) e
   where
-    within : (values : List Datum) → length (plain_all plain values) ≤ length (write_octets (order_of object property index priority (plain_all plain values)))
+    within : (values : List Datum)
+        → length (plain_all plain values) ≤ length
+        (write_octets (order_of object property index priority (plain_all plain values)))
     within values = region_within (order_of object property index priority (plain_all plain values))
 
     long : (values : List Datum) → at_most TooLong 1497 (plain_all plain values) ≡ Err fault →
@@ -41,6 +55,7 @@ body-fault object property index priority words fault e = go (values_in words) e
         let size = within values in
         grind (arith, nat_tests)
 
-    go : (found : Result (List Datum) ℕ) → region_with found ≡ Err fault → body_with object property index priority found ≡ Err fault
+    go : (found : Result (List Datum) ℕ) → region_with found ≡ Err fault
+        → body_with object property index priority found ≡ Err fault
     go (Err n) e = e
     go (Ok values) e = long values e

@@ -1,20 +1,16 @@
 -- A peer as it is written: four numbers joined by dots, a port after a colon, and a route after a slash.
-use Rattle.std.specs.Prelude.{ℕ, ◌+◌, ◌-◌, ◌*◌, ◌==◌, nat_le, List, length, take, drop, Option, Some, None, option_map, position, if◌then◌else◌}
-use Rattle.std.specs.Char.{is_ascii_digit}
+use Rattle.std.specs.Prelude.{ℕ, ◌+◌, ◌*◌, ◌==◌, nat_le, List, length, take, drop, Option, Some, None, option_map}
+use Rattle.std.specs.Prelude.{position, if◌then◌else◌}
 use Rattle.bac_pdu.specs.Peer.{NetworkAddress, Station}
 use Rattle.bac_pdu.specs.DatagramReading.{is_routable}
 use Rattle.bac_wire.specs.Steps.{◌>>=◌}
 use Rattle.bac_text.specs.Words.{number_up_to, octets_of}
 
--- What stands before and after the first such octet, if there is one.
+-- What stands before the first such octet and what stands behind it, if there is one.
 abbrev pub cut_at : ℕ → List ℕ → Option (List ℕ × List ℕ)
 cut_at octet text = option_map (λ i. (take i text, drop (i + 1) text)) (position (λ o. o == octet) text)
 
--- The number that a decimal digit (48 to 57) writes.
-abbrev pub digit : ℕ → Option ℕ
-digit octet = if is_ascii_digit octet then Some (octet - 48) else None
-
--- A number of at most so many digits, up to a limit.
+-- The number of a word of at most so many digits, up to a limit.
 abbrev pub short_number : ℕ → ℕ → List ℕ → Option ℕ
 short_number digits limit text = if nat_le (length text) digits then number_up_to limit text else None
 
@@ -57,7 +53,9 @@ plain_peer_of text = station_cut text (cut_at 58 text)
 -- A network 1 to 65534 and an address of one to seven octets in it.
 abbrev pub routable : ℕ → List ℕ → Option NetworkAddress
 routable network address =
-    if is_routable (record { network = network; address = address }) then Some (record { network = network; address = address }) else None
+    if is_routable (record { network = network; address = address })
+    then Some (record { network = network; address = address })
+    else None
 
 -- The number of the network, a slash (47) and the address in hexadecimal digits.
 abbrev pub route_of : List ℕ → Option NetworkAddress

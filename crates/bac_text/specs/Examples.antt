@@ -8,7 +8,8 @@ use Rattle.bac_text.specs.Values.{region_text}
 
 -- A tag's number and a word write these octets, and these octets are printed so.
 abbrev pub IsWritten : String → String → List ℕ → String → Type 0
-IsWritten tag word octets text = (region_of (codes tag ∷ codes word ∷ []) ≡ Ok octets) × (region_text octets ≡ codes text)
+IsWritten tag word octets text = (region_of (codes tag ∷ codes word ∷ []) ≡ Ok octets)
+    × (region_text octets ≡ codes text)
 
 -- 127.0.0.1, port 47808.
 abbrev pub device : Station

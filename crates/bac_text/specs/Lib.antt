@@ -3,8 +3,6 @@ pub mod Checked
 pub mod Page
 pub mod Words
 pub mod Search
-pub mod Leading
-pub mod HexLanes
 pub mod Address
 pub mod PeerTexts
 pub mod Values
@@ -14,3 +12,4 @@ pub mod Parameters
 pub mod Pairs
 pub mod PairsInWords
 pub mod Examples
+pub mod Inner

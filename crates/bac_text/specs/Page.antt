@@ -14,7 +14,8 @@ writer_of page = page.writer.now
 
 -- The octets that were held and then the text are those that the writer took and then those that are kept.
 -- Once a write has failed the writer stays as it is, and the rest is lost.
-pub record Writes {W : Type 0} (contents : W → Option (List ℕ)) (before after : Checked W) (held kept text : List ℕ) : Type 0 where
+pub record Writes {W : Type 0} (contents : W → Option (List ℕ)) (before after : Checked W)
+    (held kept text : List ℕ) : Type 0 where
   pub taken : List ℕ
   pub rest : List ℕ
   pub took : Took contents before after taken
@@ -22,7 +23,7 @@ pub record Writes {W : Type 0} (contents : W → Option (List ℕ)) (before afte
   pub sound : has_failed after ≡ false → (has_failed before ≡ false) × (rest ≡ kept)
   pub stopped : has_failed before ≡ true → (after ≡ before) × (taken ≡ [])
 
--- What that says of a page: of the writer that it is on its way to, and of the text that it holds.
+-- `Writes`, said of the page itself: of the writer that it is on its way to, and of the text that it holds.
 unfoldable pub Wrote : {W : Type 0} → (W → Option (List ℕ)) → Page W → Page W → List ℕ → Type 0
 Wrote contents before after text = Writes contents (writer_of before) (writer_of after) (held before) (held after) text
 

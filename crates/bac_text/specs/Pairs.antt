@@ -28,7 +28,7 @@ abbrev pub values_in : List (List ℕ) → Result (List Datum) ℕ
 values_in [] = Err 1
 values_in (tag ∷ others) = pairs_from 1 (tag ∷ others)
 
--- Their shortest spellings one after another, where a frame has room for them.
+-- The shortest spellings of these values, one after another, where a frame has room for them.
 abbrev pub region_with : Result (List Datum) ℕ → Result (List ℕ) PairFault
 region_with (Ok values) = at_most TooLong frame_room (plain_all plain values)
 region_with (Err n) = Err (Bad n)
@@ -45,7 +45,11 @@ region_of words = region_with (values_in words)
 -- What a WriteProperty request orders: that a property has these octets as its value.
 abbrev pub order_of : Identifier → ℕ → Option ℕ → Option ℕ → List ℕ → Order
 order_of object property index priority region =
-    record { reference = record { object = object; property = property; index = index }; value = region; priority = priority }
+    record {
+      reference = record { object = object; property = property; index = index };
+      value = region;
+      priority = priority;
+    }
 
 -- The body that orders these values, however long it is (clause 15.9).
 abbrev pub whole_body_with : Identifier → ℕ → Option ℕ → Option ℕ → Result (List Datum) ℕ → Result (List ℕ) ℕ
@@ -57,7 +61,7 @@ whole_body_with object property index priority (Err n) = Err n
 abbrev pub whole_body_of : Identifier → ℕ → Option ℕ → Option ℕ → List (List ℕ) → Result (List ℕ) ℕ
 whole_body_of object property index priority words = whole_body_with object property index priority (values_in words)
 
--- A body that a client sends is no longer than the longest.
+-- The body, where it is no longer than a client sends.
 abbrev pub sendable : Result (List ℕ) ℕ → Result (List ℕ) PairFault
 sendable (Ok body) = at_most TooLong longest_body body
 sendable (Err n) = Err (Bad n)

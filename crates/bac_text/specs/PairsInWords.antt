@@ -15,7 +15,8 @@ pub record AreWritten (words : List (List ℕ)) (region : List ℕ) : Type 0 whe
   pub read : values_of region ≡ Some values
 
 -- A body orders that the property has such a region as its value, in the fewest octets.
-pub record IsWritten (object : Identifier) (property : ℕ) (index priority : Option ℕ) (words : List (List ℕ)) (body : List ℕ) : Type 0 where
+pub record IsWritten (object : Identifier) (property : ℕ) (index priority : Option ℕ) (words : List (List ℕ))
+    (body : List ℕ) : Type 0 where
   pub region : List ℕ
   pub written : AreWritten words region
   pub ordered : IsShortest IsWriteBody body (order_of object property index priority region)

@@ -1,14 +1,14 @@
 -- The value that two words write: the number of its application tag, and a word that is read by that number.
-use Rattle.std.specs.Prelude.{ℕ, ℤ, pos, neg_ℤ, ◌+◌, ◌-◌, ◌*◌, ◌^◌, ◌==◌, ◌||◌, nat_le, Bool, true, false, List, [], ◌∷◌, ◌++◌, length, map, drop, slice_index, bytes_eq, codes, Option, Some, None, option_map, Result, Ok, Err, if◌then◌else◌}
+use Rattle.std.specs.Prelude.{ℕ, ℤ, pos, neg_ℤ, ◌+◌, ◌-◌, ◌*◌, ◌^◌, ◌==◌, ◌||◌, nat_le, Bool, true, false, List, []}
+use Rattle.std.specs.Prelude.{◌∷◌, length, map, drop, slice_index, bytes_eq, codes, Option, Some, None, option_map}
+use Rattle.std.specs.Prelude.{Result, Ok, Err, if◌then◌else◌}
 use Rattle.std.specs.Int.{div_ceil}
 use Rattle.std.specs.List.{list_all, range_with_len}
 use Rattle.std.specs.Result.{result_ok}
 use Rattle.hex.specs.Hex.{decode_of}
-use Rattle.bac_wire.specs.Datum.{Datum, null, boolean, unsigned, signed, real, double, octet_string, char_string, bit_string, enumerated, date, time, object, plain}
+use Rattle.bac_wire.specs.Datum.{Datum, null, boolean, unsigned, signed, real, double, octet_string, char_string}
+use Rattle.bac_wire.specs.Datum.{bit_string, enumerated, date, time, object}
 use Rattle.bac_wire.specs.Identifier.{Identifier}
-use Rattle.bac_wire.specs.Limits.{frame_room}
-use Rattle.bac_text.specs.declared.value_words.ValueFault.{ValueFault}
-use Rattle.bac_text.specs.declared.value_words.ValueFault.TheVariants.{Bad, TooLong}
 use Rattle.bac_wire.specs.Steps.{◌>>=◌}
 use Rattle.bac_text.specs.Words.{number_up_to}
 use Rattle.bac_text.specs.Address.{cut_at}
@@ -27,11 +27,11 @@ signed_in (first ∷ digits) =
     if first == 45 then option_map (λ n. neg_ℤ (pos n)) (number_up_to (2 ^ 63) digits)
     else option_map pos (number_up_to (2 ^ 63 - 1) (first ∷ digits))
 
--- The octets that an even number of hexadecimal digits write; no digit writes none.
+-- The octets that an even number of hexadecimal digits write; a word without digits writes no octet.
 abbrev pub hex_in : List ℕ → Option (List ℕ)
 hex_in word = result_ok (decode_of word)
 
--- So many octets, in twice as many digits.
+-- So many octets, that twice as many digits write.
 abbrev pub octets_exactly : ℕ → List ℕ → Option (List ℕ)
 octets_exactly count word = if length word == 2 * count then hex_in word else None
 
@@ -49,7 +49,7 @@ bits_octet digits =
     128 * bit_at digits 0 + 64 * bit_at digits 1 + 32 * bit_at digits 2 + 16 * bit_at digits 3
     + 8 * bit_at digits 4 + 4 * bit_at digits 5 + 2 * bit_at digits 6 + bit_at digits 7
 
--- How many octets so many bits take.
+-- How many octets it takes to hold so many bits.
 abbrev pub octets_for : ℕ → ℕ
 octets_for bits = div_ceil bits 8
 
@@ -96,8 +96,3 @@ value_in tag word = number_up_to 12 tag >>= (λ number. value_under number word)
 -- Octets, where they are at most so many, else the fault.
 abbrev pub at_most : {E : Type 0} → E → ℕ → List ℕ → Result (List ℕ) E
 at_most fault most octets = if nat_le (length octets) most then Ok octets else Err fault
-
--- Octets and, behind them, the shortest spelling of the value that a pair writes, where a frame has room for both.
-abbrev pub appended : List ℕ → Option Datum → Result (List ℕ) ValueFault
-appended octets (Some value) = at_most TooLong frame_room (octets ++ plain value)
-appended octets None = Err Bad

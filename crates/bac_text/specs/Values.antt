@@ -1,9 +1,11 @@
 -- What is printed of values, and of a region of values one after another.
-use Rattle.std.specs.Prelude.{ℕ, zero, suc, ◌+◌, ◌-◌, ◌/◌, ◌%◌, ◌==◌, ◌||◌, ◌&&◌, nat_le, Bool, true, false, List, [], ◌∷◌, ◌++◌, length, map, take, codes, decimal, Option, Some, None, if◌then◌else◌}
+use Rattle.std.specs.Prelude.{ℕ, zero, suc, ◌+◌, ◌-◌, ◌/◌, ◌%◌, ◌==◌, ◌||◌, ◌&&◌, nat_le, Bool, true, false, List, []}
+use Rattle.std.specs.Prelude.{◌∷◌, ◌++◌, length, map, take, codes, decimal, Option, Some, None, if◌then◌else◌}
 use Rattle.std.specs.Fmt.{signed_decimal}
 use Rattle.std.specs.List.{flat_map, join_with_byte}
 use Rattle.hex.specs.Hex.{encode_lower}
-use Rattle.bac_wire.specs.Datum.{Datum, null, boolean, unsigned, signed, real, double, octet_string, char_string, bit_string, enumerated, date, time, object}
+use Rattle.bac_wire.specs.Datum.{Datum, null, boolean, unsigned, signed, real, double, octet_string, char_string}
+use Rattle.bac_wire.specs.Datum.{bit_string, enumerated, date, time, object}
 use Rattle.bac_wire.specs.DatumReading.{value_at}
 use Rattle.bac_wire.specs.Identifier.{Identifier}
 use Rattle.bac_pdu.specs.Property.{Answer}
@@ -14,7 +16,7 @@ use Rattle.bac_wire.specs.Steps.{◌>>=◌}
 abbrev pub is_escaped : ℕ → Bool
 is_escaped octet = octet == 34 || octet == 92
 
--- The octets from 20 to 7E in hexadecimal.
+-- An octet from 20 to 7E in hexadecimal, which stands for itself.
 abbrev pub is_printable : ℕ → Bool
 is_printable octet = nat_le 32 octet && nat_le octet 126
 
@@ -45,7 +47,8 @@ bit_digit n = 48 + n % 2
 -- The eight bits of an octet, the highest first.
 abbrev pub octet_bits : ℕ → List ℕ
 octet_bits octet =
-    bit_digit (octet / 128) ∷ bit_digit (octet / 64) ∷ bit_digit (octet / 32) ∷ bit_digit (octet / 16) ∷ bit_digit (octet / 8)
+    bit_digit (octet / 128) ∷ bit_digit (octet / 64) ∷ bit_digit (octet / 32) ∷ bit_digit (octet / 16)
+    ∷ bit_digit (octet / 8)
     ∷ bit_digit (octet / 4) ∷ bit_digit (octet / 2) ∷ bit_digit octet ∷ []
 
 -- The bits of octets in their order, but for the last ones, which are unused (clause 20.2.10).
@@ -94,11 +97,6 @@ values_of region = values_within (length region) region
 -- The texts of values, joined by commas (44).
 abbrev pub joined : List Datum → List ℕ
 joined values = join_with_byte 44 (map datum_text values)
-
--- A comma, where octets follow.
-abbrev pub separator : List ℕ → List ℕ
-separator [] = []
-separator (octet ∷ octets) = 44 ∷ []
 
 -- One value stands alone, none or several in braces (123, 125).
 abbrev pub values_text : List Datum → List ℕ

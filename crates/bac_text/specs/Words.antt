@@ -1,9 +1,10 @@
 -- The words of a line, and what they write: numbers and octets.
-use Rattle.std.specs.Prelude.{◌≡◌, ℕ, Bool, ◌&&◌, ◌||◌, ◌==◌, nat_lt, nat_le, List, [], ◌∷◌, length, filter, Option, Some, None, option_map, if◌then◌else◌}
+use Rattle.std.specs.Prelude.{ℕ, Bool, ◌&&◌, ◌||◌, ◌==◌, nat_lt, nat_le, List, [], ◌∷◌, length, filter, Option, Some}
+use Rattle.std.specs.Prelude.{None, option_map, if◌then◌else◌}
 use Rattle.std.specs.Str.{all_ascii_digits}
 use Rattle.std.specs.Str.Parse.{digits_value}
 use Rattle.std.specs.List.{slice_split}
-use Rattle.std.specs.Result.{result_ok, result_unwrap_or}
+use Rattle.std.specs.Result.{result_ok}
 use Rattle.hex.specs.Hex.{decode_of}
 use Rattle.bac_text.specs.Limits.{longest_line}
 
@@ -14,41 +15,27 @@ is_blank octet = octet == 32 || octet == 9
 abbrev pub is_not_empty : List ℕ → Bool
 is_not_empty word = nat_lt 0 (length word)
 
--- The runs of other octets between blanks.
+-- The words of a line: the runs of octets that are no blanks.
 abbrev pub words_of : List ℕ → List (List ℕ)
 words_of text = filter is_not_empty (slice_split is_blank text)
 
--- One or more decimal digits, of a number that is at most this.
+-- The number that one or more decimal digits write, where it is at most this.
 abbrev pub number_up_to : ℕ → List ℕ → Option ℕ
 number_up_to most word =
     if is_not_empty word && (all_ascii_digits word && nat_le (digits_value 10 word) most)
     then Some (digits_value 10 word) else None
-
--- A number, where it is at most this.
-abbrev pub up_to : ℕ → ℕ → Option ℕ
-up_to most number = if nat_le number most then Some number else None
-
--- The first word writes the number, and the others follow it.
-pub record IsFirstNumber (text : List ℕ) (number : ℕ) (rest : List ℕ) : Type 0 where
-  pub word : List ℕ
-  pub first : words_of text ≡ word ∷ words_of rest
-  pub value : (most : ℕ) → number_up_to most word ≡ up_to most number
-
--- The octets that hexadecimal digits write.
-abbrev pub octets_in : List ℕ → List ℕ
-octets_in digits = result_unwrap_or (decode_of digits) []
 
 -- The octets that a word writes, as a positive even number of hexadecimal digits of either case. No word of
 -- a line is longer than the longest line.
 abbrev pub octets_of : List ℕ → Option (List ℕ)
 octets_of word = if is_not_empty word && nat_le (length word) longest_line then result_ok (decode_of word) else None
 
--- The first word, read so, and the words after it.
+-- The first word, read by this function, and the words after it.
 abbrev pub next_as : {A : Type 0} → (List ℕ → Option A) → List (List ℕ) → Option (A × List (List ℕ))
 next_as read [] = None
 next_as read (word ∷ others) = option_map (λ x. (x, others)) (read word)
 
--- This, where no word is left.
+-- This, where no word is left; else nothing.
 abbrev pub at_end : {A : Type 0} → List (List ℕ) → A → Option A
 at_end [] x = Some x
 at_end (word ∷ others) x = None

@@ -40,13 +40,13 @@ impl BodyRoom {
         self.body.as_slice()
     }
 
-    /// The body of the WriteProperty request that gives a property the values of the words (clause 15.9). They are all taken, or
-    /// those up to the first pair that is bad.
+    /// The body of the WriteProperty request that gives a property the values of the words (clause 15.9). They are all
+    /// taken, or those up to the first pair that is bad.
     ///
     /// # Errors
     ///
-    /// `Bad` with the number of the first pair whose words are no tag and a value of it, or which lacks its value, or with 1
-    /// where there is no word; and then `TooLong` where the body would have more than `LONGEST_BODY` octets.
+    /// `Bad` with the number of the first pair whose words are no tag and a value of it, or which lacks its value, or
+    /// with 1 where there is no word; and then `TooLong` where the body would have more than `LONGEST_BODY` octets.
     pub fn write_body<'a, S: WordSource<'a>>(
         &mut self,
         object: ObjectId,
@@ -87,7 +87,7 @@ pub fn read_body(request: &ReadRequest) -> ArrayVec<u8, LONGEST_BODY>
     kept(room.read_body(request))
 }
 
-/// The body of the WriteProperty request that gives a property the values of the words (clause 15.9), to be kept.
+/// Reads words, and makes the body of the WriteProperty request that they order (clause 15.9), to be kept.
 ///
 /// # Errors
 ///
@@ -110,7 +110,7 @@ pub fn read_write_body<'a, S: WordSource<'a>>(
     Ok(kept(body))
 }
 
-// A body in room of its own.
+// A copy of the body, in room of its own.
 fn kept(body: &[u8]) -> ArrayVec<u8, LONGEST_BODY>
     requires { length body.now ≤ LONGEST_BODY }
     ensures { result.items ≡ body.now }

@@ -2,13 +2,15 @@
 ghost use Rattle.std.specs.Prelude.{◌≡◌, ◌+◌, ◌-◌, ◌^◌, ◌++◌, ◌||◌, min, false, is_err};
 ghost use Rattle.std.specs.Io.{ReadsAtMost, WritesAtMost};
 ghost use Rattle.std.specs.Io.KnownBytes.{ReadConsumes, WriteAppends, Keeps};
-ghost use Rattle.bac_text.specs.Checked.{inner_of, has_failed, has_ended, ends_of, reads_of, octets_of, last_of, gone, having_passed, HasNotRead, fresh, is_end, ends_with, is_failed_write, Puts};
+ghost use Rattle.bac_text.specs.Checked.{inner_of, has_failed, has_ended, ends_of, reads_of, octets_of, last_of, gone};
+ghost use Rattle.bac_text.specs.Checked.{HasNotRead, fresh, is_end, ends_with, is_failed_write, Puts};
+ghost use Rattle.bac_text.specs.Inner.Checked.{having_passed};
 
 use crate::transcript::{Part, Transcript};
 use std::io::{self, Read, Write};
 
-/// A reader or a writer that remembers whether it failed and whether its end was read, and counts its reads and those of them
-/// that gave nothing.
+/// A reader or a writer that remembers whether it failed and whether its end was read, and counts its reads and those
+/// of them that gave nothing.
 #[derive(Drop)]
 pub struct Checked<T> {
     inner: T,
@@ -83,7 +85,8 @@ impl<R: Read> Read for Checked<R> {
 
     fn read(&mut self, buf: &mut [u8]) -> io::Result<usize>
         ensures bound { ReadsAtMost result buf.new }
-        ensures bytes { ReadConsumes (R.remaining (inner_of self.old)) (R.remaining (inner_of self.new)) result buf.new }
+        ensures bytes { ReadConsumes (R.remaining (inner_of self.old)) (R.remaining (inner_of self.new)) result
+            buf.new }
         ensures failed { has_failed self.new ≡ (has_failed self.old || is_err result) }
         ensures ended { has_ended self.new ≡ is_end result buf.new }
         ensures ends { ends_of self.new ≡ ends_with (ends_of self.old) (is_end result buf.new) }

@@ -8,8 +8,8 @@ ghost use Rattle.bac_text.specs.PeerTexts.{peer_text};
 ghost use Rattle.bac_text.specs.Values.{region_text};
 ghost use Rattle.bac_text.specs.Words.{words_of};
 
-/// A value of each kind: the number of its tag and a word, the octets that they write (ANSI/ASHRAE 135, 20.2), and the text of these
-/// octets.
+/// A value of each kind: the number of its tag and a word, the octets that they write (ANSI/ASHRAE 135, 20.2), and the
+/// text of these octets.
 #[tactic(none)]
 pub fn examples_of_values()
     ensures null { IsWritten "0" "any" (0x00 ∷ []) "null" }

@@ -3,7 +3,8 @@ ghost use Rattle.std.specs.Prelude.{◌≡◌, ◌≤◌, length, option_map, is
 ghost use Rattle.std.specs.List.{list_all};
 ghost use Rattle.std.specs.Char.{is_ascii_hexdigit};
 ghost use Rattle.hex.specs.Hex.{decode_of};
-ghost use Rattle.bac_text.specs.Words.{octets_of, octets_in};
+ghost use Rattle.bac_text.specs.Words.{octets_of};
+ghost use Rattle.bac_text.specs.Inner.Words.{octets_in};
 
 use crate::hex_lanes::octets_from;
 

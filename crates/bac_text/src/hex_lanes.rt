@@ -3,8 +3,8 @@ ghost use Rattle.std.specs.Prelude.{◌≡◌, ◌+◌, ◌*◌, ◌≤◌, not,
 ghost use Rattle.std.specs.Simd.Lanes.{chunk};
 ghost use Rattle.std.specs.Result.{result_ok};
 ghost use Rattle.hex.specs.Hex.{encode_lower, decode_of, is_hex_digit};
-ghost use Rattle.bac_text.specs.Search.{IsRunIn};
-ghost use Rattle.bac_text.specs.HexLanes.{octets_by_lanes};
+ghost use Rattle.bac_text.specs.Inner.Search.{IsRunIn};
+ghost use Rattle.bac_text.specs.Inner.HexLanes.{octets_by_lanes};
 
 use crate::search::first_set;
 use std::simd::prelude::*;
@@ -12,7 +12,7 @@ use std::simd::prelude::*;
 /// The octets that are taken at a time.
 const OCTETS: usize = 8;
 
-/// Their digits.
+/// The digits of so many octets.
 const DIGITS: usize = 16;
 
 /// Writes the digits of the octets, in lower case, into room for just these.

@@ -1,5 +1,5 @@
-//! What holds of the definitions that the contracts cite. Each function has an empty body, or only compares, and its clause is the
-//! law.
+//! What holds of the definitions that the contracts cite. Each function has an empty body, or only compares, and its
+//! clause is the law.
 ghost use Rattle.std.specs.Prelude.{◌≡◌, ◌↔◌, IsTrue};
 ghost use Rattle.bac_text.specs.PairsInWords.{BodiesAreWritten};
 ghost use Rattle.bac_text.specs.ValuesInWords.{AreSpelled};

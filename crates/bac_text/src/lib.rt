@@ -1,4 +1,18 @@
-//! Texts of BACnet: the words of a line or a command as numbers, octets, peers and values, and values as they are printed.
+//! Texts of BACnet: the words of a line or a command as numbers, octets, peers and values, and values as they are
+//! printed.
+//!
+//! [`Words`] takes a line apart, and [`read_number`], [`read_datagram`] and [`peer_in`] read its words. [`BodyRoom`]
+//! makes service bodies of them. On the way out, [`Checked`] is a reader or a writer that remembers whether it failed,
+//! [`Page`] gathers text for one, and [`show_value`] prints values. `specs/ValueWords.antt` says which value a word
+//! writes, and `specs/Values.antt` what is printed of it.
+//!
+//! Of `examples_of_values` in `src/examples.rt`, which is proved: a tag's number and a word, the octets that they
+//! write, and what is printed of these.
+//!
+//! ```text
+//! ensures real { IsWritten "4" "4290999A" (0x44 ∷ 0x42 ∷ 0x90 ∷ 0x99 ∷ 0x9a ∷ []) "4290999a" }
+//! ensures octet_string { IsWritten "6" "1234ff" (0x63 ∷ 0x12 ∷ 0x34 ∷ 0xff ∷ []) "X'1234ff'" }
+//! ```
 #![tactic(auto)]
 
 mod bodies;

@@ -1,7 +1,7 @@
 //! Numbers in decimal digits.
 ghost use Rattle.std.specs.Prelude.{◌≡◌, ◌-◌, ◌^◌, ◌≤◌, IfSome};
 ghost use Rattle.bac_text.specs.Words.{number_up_to};
-ghost use Rattle.bac_text.specs.Leading.{IsLeading};
+ghost use Rattle.bac_text.specs.Inner.Leading.{IsLeading};
 
 /// The number that a word of one or more decimal digits writes, if it is at most `most`.
 pub fn read_number(word: &[u8], most: u64) -> Option<u64>
@@ -34,7 +34,7 @@ fn plain_number(word: &[u8]) -> Option<u64>
     Some(number)
 }
 
-// The number that the first digits write, but no more than so many of them, and how many these are.
+// The number that the first digits write, of which no more than so many are looked at; and how many these are.
 #[inline(always)]
 #[tactic(auto, using(crate::proofs::LeadingDigits::leading_numbers))]
 pub(crate) fn leading_number(text: &[u8], most: usize) -> (u32, usize)

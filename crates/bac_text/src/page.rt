@@ -18,9 +18,9 @@ const HEX_PART: usize = 32;
 /// The digits of the longest number.
 const LONGEST_NUMBER: usize = 20;
 
-/// Text on its way to a writer: it is gathered in fixed room, and goes to the writer when the room is full or the page is
-/// turned in. After a failed write what is printed is lost, so that only the page need be asked, once, whether it failed.
-/// A page can't be dropped: it is finished.
+/// Text on its way to a writer. It is gathered in fixed room, and goes to the writer when the room is full or the page
+/// is turned in. After a failed write what is printed is lost, so that it is enough to ask the page once whether it
+/// failed. A page can't be dropped: it is finished.
 pub struct Page<'w, W> {
     writer: &'w mut Checked<W>,
     held: ArrayVec<u8, PAGE_ROOM>,

@@ -16,13 +16,13 @@ pub enum PairFault {
     TooLong,
 }
 
-/// Puts the values of the words into the region, spelled one after another. A word that can't be read is found however long
-/// the others are.
+/// Puts the values of the words into the region, spelled one after another. A word that can't be read is found however
+/// long the others are.
 ///
 /// # Errors
 ///
-/// `Bad` with the number of the first pair whose words are no tag and a value of it, or which lacks its value, or with 1
-/// where there is no word; and then `TooLong` where a frame has no room for the values.
+/// `Bad` with the number of the first pair whose words are no tag and a value of it, or which lacks its value, or with
+/// 1 where there is no word; and then `TooLong` where a frame has no room for the values.
 #[tactic(auto, using(crate::proofs::PairLemmas::progress))]
 pub(crate) fn read_pairs<'a, S: WordSource<'a>>(
     words: &mut S,
@@ -48,7 +48,7 @@ pub(crate) fn read_pairs<'a, S: WordSource<'a>>(
     if is_too_long {
         return Err(PairFault::TooLong);
     }
-    // no value is spelled by nothing: no pair was there
+    // Each value is spelled by at least one octet, so an empty region means that there was no pair.
     if region.is_empty() {
         return Err(PairFault::Bad(1));
     }

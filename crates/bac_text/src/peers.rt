@@ -1,8 +1,10 @@
 //! A peer as it is written.
 ghost use Rattle.std.specs.Prelude.{◌≡◌, ◌≤◌, IfSome, option_map};
 ghost use Rattle.bac_pdu.specs.Peer.{station, network_address};
-ghost use Rattle.bac_text.specs.Words.{octets_in};
-ghost use Rattle.bac_text.specs.Address.{cut_at, digit, short_number, number_before_dot, address_of, routable, plain_peer_of, route_of, peer_of};
+ghost use Rattle.bac_text.specs.Inner.Words.{octets_in};
+ghost use Rattle.bac_text.specs.Address.{cut_at, short_number, number_before_dot, address_of, routable, plain_peer_of};
+ghost use Rattle.bac_text.specs.Address.{route_of, peer_of};
+ghost use Rattle.bac_text.specs.Inner.Address.{digit};
 
 use crate::hex_digits::{HexDigits, read_hex};
 use crate::numbers::{leading_number, read_number};
@@ -12,16 +14,18 @@ use bac_pdu::{ADDRESS_OCTETS, Peer, Route};
 /// The port of BACnet/IP where none is written (Annex J.1.2).
 const USUAL_PORT: u16 = 47_808;
 
-/// The peer that a text names, as `127.0.0.1`, `127.0.0.1:47808` or `127.0.0.1:47808/5/07`: the last is the station with
-/// the address 07 in network 5, behind the router at this address and port. It is `None` where the text names none.
+/// The peer that a text names, as `127.0.0.1`, `127.0.0.1:47808` or `127.0.0.1:47808/5/07`: the last is the station
+/// with the address 07 in network 5, behind the router at this address and port. It is `None` where the text names
+/// none.
 pub fn read_peer(text: &str) -> Option<Peer>
     ensures { option_map station result ≡ peer_of text.now }
 {
     peer_in(text.as_bytes())
 }
 
-/// The peer that octets name: an IP address in dotted decimal, then, where it isn't the usual one, `:` and the port, and
-/// for a station of another network `/`, the number of the network, `/` and the address there in hexadecimal digits.
+/// The peer that octets name: an IP address in dotted decimal, then, where it isn't the usual one, `:` and the port,
+/// and for a station of another network `/`, the number of the network, `/` and the address there in hexadecimal
+/// digits.
 pub fn peer_in(text: &[u8]) -> Option<Peer>
     ensures { option_map station result ≡ peer_of text.now }
 {

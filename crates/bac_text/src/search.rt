@@ -1,6 +1,7 @@
 //! The first octet that ends a piece of text, searched for several octets at a time.
-ghost use Rattle.std.specs.Prelude.{◌≡◌, ◌==◌, ◌+◌, ◌≤◌, length, position};
-ghost use Rattle.bac_text.specs.Search.{ends_at, first_set, IsRunIn};
+ghost use Rattle.std.specs.Prelude.{◌≡◌, ◌+◌, ◌≤◌, length, position};
+ghost use Rattle.bac_text.specs.Search.{ends_at};
+ghost use Rattle.bac_text.specs.Inner.Search.{first_set, IsRunIn};
 
 use crate::words::is_blank;
 use std::simd::prelude::*;
@@ -21,7 +22,7 @@ pub enum End {
     PastAscii,
 }
 
-/// Where the first octet stands that ends a piece.
+/// The position of the first octet that ends a piece, or the length where none does.
 pub fn place_of_end(octets: &[u8], end: End) -> Option<usize>
     ensures { result ≡ position (ends_at end) octets.now }
 {
@@ -44,7 +45,7 @@ pub fn place_of_end(octets: &[u8], end: End) -> Option<usize>
     None
 }
 
-// The same of a text that one or two small loads take.
+// The same of a short text, which one or two small loads take.
 fn place_in_few(octets: &[u8], end: End) -> Option<usize>
     requires least { FEW_LANES ≤ length octets.now }
     requires most { length octets.now ≤ LANES }
@@ -90,7 +91,7 @@ fn run_before<const N: usize>(octets: &[u8], at: usize, end: End) -> usize
     first_set(ends, N)
 }
 
-// The place of the lowest bit that is set, or the lanes.
+// The position of the lowest bit that is set, or the number of lanes where none is.
 #[inline(always)]
 pub(crate) fn first_set(mask: u64, lanes: usize) -> usize
     ensures { result ≡ first_set mask lanes }

@@ -30,9 +30,10 @@ impl Transcript {
         Transcript {}
     }
 
-    /// The same, and this behind it.
+    /// The transcript, and these octets behind it.
     pub fn and(&self, _part: &Part<'_>) -> Transcript
-        ensures { let octets = take _part.now.count _part.now.octets.now in result ≡ record { octets = self.now.octets ++ octets; last = octets } }
+        ensures { let octets = take _part.now.count _part.now.octets.now in
+            result ≡ record { octets = self.now.octets ++ octets; last = octets } }
     {
         Transcript {}
     }

@@ -1,9 +1,11 @@
 //! A value as two words: the number of its application tag, and the value by that number.
-ghost use Rattle.std.specs.Prelude.{◌≡◌, ◌≢◌, ◌≤◌, ◌<◌, length, option_map, IfSome, MatchResult, OnErr, Ok, Err};
+ghost use Rattle.std.specs.Prelude.{◌≡◌, ◌≢◌, ◌≤◌, option_map, IfSome, MatchResult, OnErr, Ok, Err};
 ghost use Rattle.std.specs.List.{list_all};
 ghost use Rattle.bac_wire.specs.Datum.{datum, octet_string, IsSound};
 ghost use Rattle.bac_wire.specs.Identifier.{identifier};
-ghost use Rattle.bac_text.specs.ValueWords.{boolean_in, signed_in, hex_in, octets_exactly, is_bit_digit, bit_at, bits_octet, bits_in, object_in, value_under, value_in, appended};
+ghost use Rattle.bac_text.specs.ValueWords.{boolean_in, signed_in, hex_in, octets_exactly, is_bit_digit, bit_at};
+ghost use Rattle.bac_text.specs.ValueWords.{bits_octet, bits_in, object_in, value_under, value_in};
+ghost use Rattle.bac_text.specs.Inner.ValueWords.{appended};
 
 use crate::hex_digits::is_hex;
 use crate::numbers::read_number;
@@ -23,7 +25,8 @@ pub(crate) enum ValueFault {
 ///
 /// # Errors
 ///
-/// `Bad` where the tag is no number up to 12 or the word no value of it, and then `TooLong` where the frame has no room.
+/// `Bad` where the tag is no number up to 12 or the word no value of it, and then `TooLong` where the frame has no
+/// room.
 #[tactic(auto, unfolding(crate::specs::ValueWords::value_under))]
 pub(crate) fn append_pair(region: &mut Frame, tag: &[u8], word: &[u8]) -> Result<(), ValueFault>
     ensures value { MatchResult result
@@ -168,7 +171,7 @@ fn bits_octet(digits: &[u8]) -> u8
     high + middle + 2 * bit_at(digits, 6) + bit_at(digits, 7)
 }
 
-// The bit at a place, 0 where there is none.
+// The bit that the digit at this position writes, and 0 where there is none.
 fn bit_at(digits: &[u8], place: usize) -> u8
     ensures value { result ≡ bit_at digits.now place }
     ensures bit { result ≤ 1 }

@@ -1,14 +1,16 @@
 //! What is printed of values.
-ghost use Rattle.std.specs.Prelude.{◌≡◌, ◌<◌, ◌+◌, ◌∷◌, ◌++◌, [], false, length, map, option_map, is_err, IfSome};
-ghost use Rattle.std.specs.List.{flat_map, join_with_byte};
+ghost use Rattle.std.specs.Prelude.{◌≡◌, ◌<◌, false, length, option_map, is_err, IfSome};
+ghost use Rattle.std.specs.List.{flat_map};
 ghost use Rattle.std.specs.Fmt.{signed_decimal};
-ghost use Rattle.hex.specs.Hex.{encode_lower};
 ghost use Rattle.bac_wire.specs.Datum.{datum, bit_string};
 ghost use Rattle.bac_wire.specs.DatumReading.{value_at};
 ghost use Rattle.bac_wire.specs.Identifier.{identifier};
 ghost use Rattle.bac_text.specs.Checked.{has_failed, Puts};
 ghost use Rattle.bac_text.specs.Page.{Prints};
-ghost use Rattle.bac_text.specs.Values.{is_escaped, is_printable, bit_digit, separator, quoted_octet, quoted, string_text, lettered, octet_bits, bits_text, boolean_text, object_text, datum_text, values_of, joined, region_text, ack_text};
+ghost use Rattle.bac_text.specs.Values.{is_escaped, is_printable, bit_digit, quoted_octet, quoted, string_text};
+ghost use Rattle.bac_text.specs.Values.{lettered, octet_bits, bits_text, boolean_text, object_text, datum_text};
+ghost use Rattle.bac_text.specs.Values.{values_of, joined, region_text, ack_text};
+ghost use Rattle.bac_text.specs.Inner.Values.{separator};
 
 use crate::checked::{Checked, WriteFailed};
 use crate::page::Page;

@@ -1,6 +1,8 @@
 //! Words that are taken one after another.
-ghost use Rattle.std.specs.Prelude.{◌≡◌, ◌<◌, ◌≤◌, ◌^◌, ℕ, List, [], ◌∷◌, length, drop, not, position, None, Some, IfSome, MatchOption};
-ghost use Rattle.bac_text.specs.Words.{is_blank, words_of, number_up_to, next_as, IsFirstNumber};
+ghost use Rattle.std.specs.Prelude.{◌≡◌, ◌<◌, ◌≤◌, ◌^◌, ℕ, List, [], ◌∷◌, length, drop, not, position, None, Some};
+ghost use Rattle.std.specs.Prelude.{IfSome, MatchOption};
+ghost use Rattle.bac_text.specs.Words.{is_blank, words_of, number_up_to, next_as};
+ghost use Rattle.bac_text.specs.Inner.Words.{IsFirstNumber};
 
 use crate::numbers::{leading_number, read_number};
 use crate::search::{End, place_of_end};
@@ -13,9 +15,10 @@ pub trait WordSource<'a> {
 
     /// Takes the next word.
     fn next_word(&mut self) -> Option<&'a [u8]>
-        ensures { MatchOption result ((left self.old ≡ []) × (left self.new ≡ [])) (λ word. left self.old ≡ word.now ∷ left self.new) };
+        ensures { MatchOption result ((left self.old ≡ []) × (left self.new ≡ []))
+            (λ word. left self.old ≡ word.now ∷ left self.new) };
 
-    /// There are fewer than 2^64 of them.
+    /// Does nothing. Its clause says that there are fewer than 2^64 words.
     fn are_countable(&self)
         ensures { length (left self.now) < 2 ^ 64 };
 }
@@ -43,8 +46,8 @@ impl<'a> Words<'a> {
         Words { rest: text }
     }
 
-    /// Takes the next word and reads it as a number, if it is one of decimal digits and at most `most`. What is no such number is
-    /// taken too.
+    /// Takes the next word and reads it as a number, if it is one of decimal digits and at most `most`. What is no such
+    /// number is taken too.
     pub fn next_number(&mut self, most: u64) -> Option<u64>
         ensures value { MatchOption result (next_as (number_up_to most) self.old ≡ None)
             (λ number. next_as (number_up_to most) self.old ≡ Some (number, self.new)) }

@@ -12,6 +12,7 @@ tool_status (Ok Good) = lit≤ tt
 tool_status (Ok Bad) = lit≤ tt
 tool_status (Err fault) = refl
 
-pub trace_status : (answer : Result TraceEnd TraceFault) → IsStatusOf (trace_report answer).fault (trace_report answer).status
+pub trace_status : (answer : Result TraceEnd TraceFault)
+    → IsStatusOf (trace_report answer).fault (trace_report answer).status
 trace_status (Ok end) = lit≤ tt
 trace_status (Err fault) = refl

@@ -6,11 +6,11 @@ use Rattle.bac_words.specs.declared.jobs.Job.{Job}
 use Rattle.bac_words.specs.declared.jobs.Job.TheVariants.{Read, Write, WhoIs, Device, Trace}
 use Rattle.bac_tools.specs.declared.binding.Binding.{Binding}
 
--- A client's socket has every address of the machine, and fails where the system refuses what it sends.
+-- A client's socket: it has every address of the machine, and a send that the system refuses fails.
 abbrev pub client_at : ℕ → Binding
 client_at port = record { at = record { ip = 0; port = port; route = None }; refused = Fails }
 
--- A server's goes on then.
+-- A server's socket: it goes on where the system refuses what it sends.
 abbrev pub server_at : ℕ → Binding
 server_at port = record { at = record { ip = 0; port = port; route = None }; refused = IsLost }
 
@@ -21,13 +21,13 @@ binding_of (WhoIs search) = Some (client_at search.port)
 binding_of (Device serve) = Some (server_at serve.port)
 binding_of Trace = None
 
--- A link that has not failed, or a socket that could not be had.
-abbrev pub IsSound : {L : Type 0} → (L → Bool) → Option (Result L LinkFault) → Type 0
-IsSound failed None = ⊥
-IsSound failed (Some (Ok link)) = failed link ≡ false
-IsSound failed (Some (Err fault)) = ⊤
+-- There is a link that has not failed, or a fault that says why there is none.
+abbrev pub IsUnfailed : {L : Type 0} → (L → Bool) → Option (Result L LinkFault) → Type 0
+IsUnfailed failed None = ⊥
+IsUnfailed failed (Some (Ok link)) = failed link ≡ false
+IsUnfailed failed (Some (Err fault)) = ⊤
 
--- Where the job asks for a socket, this is what was to be had.
+-- Where the job asks for a socket, there is a link that has not failed, or a fault.
 abbrev pub IsOpened : {L : Type 0} → (L → Bool) → Option Binding → Option (Result L LinkFault) → Type 0
 IsOpened failed None opened = ⊤
-IsOpened failed (Some binding) opened = IsSound failed opened
+IsOpened failed (Some binding) opened = IsUnfailed failed opened

@@ -3,3 +3,5 @@ pub mod Report
 pub mod Outside
 pub mod Runs
 pub mod Program
+pub mod Alike
+pub mod Inner

@@ -15,11 +15,12 @@ use Rattle.bac_tools.specs.Report.{usage_report}
 use Rattle.bac_tools.specs.Runs.{Runs}
 use Rattle.bac_tools.specs.declared.binding.Binding.{Binding}
 use Rattle.bac_tools.specs.declared.program.Ran.{Ran}
-use Rattle.bac_tools.specs.declared.report.Report.{Report}
 
 module _ {N L R W : Type 0} (gives : N → Binding → Result L LinkFault → Type 0) (out : Outside L R W) where
-  -- The words give no job: memory ran out, `clap` asks for help or refuses them, or they have a first fault.
-  pub record Refuses (reader reader' : Checked R) (writer writer' : Checked W) (ran : Ran L) (words : List Text) : Type 0 where
+  -- The words give no job, and the report says why: memory ran out, `clap` asks for help or refuses them, or they have
+  -- a first fault.
+  pub record Refuses (reader reader' : Checked R) (writer writer' : Checked W) (ran : Ran L) (words : List Text) : Type
+      0 where
     pub fault : UsageFault
     pub wrong : IsRefused words (Err fault) ⊎ Answers words (Err fault)
     pub unread : reader' ≡ reader
@@ -34,7 +35,8 @@ module _ {N L R W : Type 0} (gives : N → Binding → Result L LinkFault → Ty
   IsGiven network (Some binding) (Some socket) = gives network binding socket
 
   -- The words ask for a job, which is run over the socket that it asks for.
-  pub record Obeys (network : N) (reader reader' : Checked R) (writer writer' : Checked W) (ran : Ran L) (words : List Text) : Type 0 where
+  pub record Obeys (network : N) (reader reader' : Checked R) (writer writer' : Checked W) (ran : Ran L)
+      (words : List Text) : Type 0 where
     pub job : Job
     pub asked : Answers words (Ok job)
     pub opened : Option (Result L LinkFault)
@@ -42,10 +44,11 @@ module _ {N L R W : Type 0} (gives : N → Binding → Result L LinkFault → Ty
     pub runs : Runs out reader reader' writer writer' ran.report job opened ran.socket
 
   abbrev pub Program : N → Checked R → Checked R → Checked W → Checked W → Ran L → List Text → Type 0
-  Program network reader reader' writer writer' ran words = Refuses reader reader' writer writer' ran words ⊎ Obeys network reader reader' writer writer' ran words
+  Program network reader reader' writer writer' ran words = Refuses reader reader' writer writer' ran words
+      ⊎ Obeys network reader reader' writer writer' ran words
 
-  -- A program that was called with these words: its report, and what is left of the socket that it had, its reader and its writer, through
-  -- which nothing had passed.
+  -- A program that was called with these words: its report, and what is left of the socket that it had, its reader and
+  -- its writer, through which nothing had passed.
   pub record Called (ran : Ran L) (reader' : Checked R) (writer' : Checked W) (typed : List Text) : Type 0 where
     pub network : N
     pub reader : Checked R
@@ -54,7 +57,7 @@ module _ {N L R W : Type 0} (gives : N → Binding → Result L LinkFault → Ty
     pub unprinted : octets_of writer ≡ []
     pub program : Program network reader reader' writer writer' ran (words_called typed)
 
-  -- Or there was no memory for them.
+  -- There was no memory for the words.
   pub record Lacks (ran : Ran L) (reader' : Checked R) (writer' : Checked W) : Type 0 where
     pub unread : octets_of reader' ≡ []
     pub unprinted : octets_of writer' ≡ []

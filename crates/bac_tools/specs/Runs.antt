@@ -34,13 +34,14 @@ pub record DevicePlays (serve : Serve) (told left : Account) (answer : Result Ex
 
 -- ---- the tools over a link: what each does to its writer and its link, and its answer
 
-module _ {W : Type 0} (contents : W → Option (List ℕ)) (writer writer' : Checked W) (told left : Account) (answer : Result Exit ToolFault) where
+module _ {W : Type 0} (contents : W → Option (List ℕ)) (writer writer' : Checked W) (told left : Account)
+    (answer : Result Exit ToolFault) where
   -- Only where the writer is at fault was anything printed of a call that met a fault.
   abbrev pub Unprinted : Type 0
   Unprinted = IfErr answer (λ fault. fault ≢ WriteFailed → writer' ≡ writer)
 
-  -- A request tells its events, its sends, its end and the line of that, by the look-ahead; a search the devices that it finds,
-  -- and their lines; a device its replies, and it prints nothing.
+  -- A request tells its events, its sends, its end and the line of that, by the look-ahead; a search the devices that
+  -- it finds, and their lines; a device its replies, and it prints nothing.
   abbrev pub ToolRuns : Job → Type 0
   ToolRuns (Read call) = ReadTells call contents writer writer' told left answer × Unprinted
   ToolRuns (Write call) = WriteTells call contents writer writer' told left answer × Unprinted
@@ -50,8 +51,10 @@ module _ {W : Type 0} (contents : W → Option (List ℕ)) (writer writer' : Che
 
 -- ---- the whole
 
-module _ {L R W : Type 0} (out : Outside L R W) (reader reader' : Checked R) (writer writer' : Checked W) (report : Report) where
-  -- Over a link: the tool's answer is the report. Link and writer have failed exactly where it is their fault.
+module _ {L R W : Type 0} (out : Outside L R W) (reader reader' : Checked R) (writer writer' : Checked W)
+    (report : Report) where
+  -- A job was run over a link: the report is that of the tool's answer. Link and writer have failed exactly where it is
+  -- their fault.
   pub record RunsOver (job : Job) (link link' : L) : Type 0 where
     pub answer : Result Exit ToolFault
     pub tool : ToolRuns out.contents writer writer' (out.told link) (out.told link') answer job
@@ -60,13 +63,14 @@ module _ {L R W : Type 0} (out : Outside L R W) (reader reader' : Checked R) (wr
     pub unread : reader' ≡ reader
     pub reported : report ≡ tool_report answer
 
-  -- Where no socket was to be had, nothing is read and nothing printed.
-  pub record RunsUnbound (fault : LinkFault) : Type 0 where
+  -- No socket was to be had: nothing was read and nothing printed, and why there was none is handed back.
+  pub record RunsUnbound (fault : LinkFault) (opened' : Option (Result L LinkFault)) : Type 0 where
+    pub refused : opened' ≡ Some (Err fault)
     pub unread : reader' ≡ reader
     pub unprinted : writer' ≡ writer
     pub reported : report ≡ unbound_report fault
 
-  -- A script: its text, and how it ends.
+  -- A script was run: its text was printed, and the report says how it ended.
   pub record RunsScript : Type 0 where
     pub answer : Result TraceEnd TraceFault
     pub script : Traces out.remaining out.contents reader reader' writer writer' answer
@@ -74,10 +78,10 @@ module _ {L R W : Type 0} (out : Outside L R W) (reader reader' : Checked R) (wr
     pub write_fault : (has_failed writer' ≡ true) ↔ (answer ≡ Err stops.WriteFailed)
     pub reported : report ≡ trace_report answer
 
-  -- With the socket that was to be had, which is there afterwards.
+  -- A job was run over the socket that was to be had, which is there afterwards.
   abbrev pub RunsOpened : Job → Option (Result L LinkFault) → Option (Result L LinkFault) → Type 0
   RunsOpened job None opened' = ⊥
-  RunsOpened job (Some (Err fault)) opened' = RunsUnbound fault
+  RunsOpened job (Some (Err fault)) opened' = RunsUnbound fault opened'
   RunsOpened job (Some (Ok link)) (Some (Ok link')) = RunsOver job link link'
   RunsOpened job (Some (Ok link)) (Some (Err fault)) = ⊥
   RunsOpened job (Some (Ok link)) None = ⊥

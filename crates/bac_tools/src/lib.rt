@@ -1,10 +1,16 @@
-//! The tools: the words that ask for them, the links and loops of `bacrp`, `bacwp`, `bacwi` and `bacdev`, and the script of `bactrace`.
+//! The tools, from the words that ask for them to the status of the program. Here is every name that a program needs.
 //!
-//! Here is every name that a program needs, and `run_words`, which runs what the words ask for. What each of the others does is said,
-//! and proved, where it stands.
+//! [`words_of`] and [`parse_words`] read the words, and [`run_words`] does all of it: it reads them, asks a [`Network`]
+//! for the one socket that the job wants, runs the job, and answers a [`Report`] with the status and the fault that is
+//! told. [`run_job`] runs a job over a link that one has already; [`binding_for`] says which socket a job asks for.
+//! `specs/Program.antt` says what comes of the words. The other names are of the crates below, where each is said and
+//! proved.
+//!
+//! Whole runs, from the words to the status, are tests of `tool_trials` (`src/tests/tools.rt`).
 #![tactic(auto)]
 
 mod binding;
+pub mod laws;
 mod program;
 mod report;
 mod running;

@@ -42,9 +42,10 @@ pub struct Ran<L: Drop> {
 
 /// Runs what the words ask for, the first of which is the program's name.
 ///
-/// Words that give no job are told in the report: help, what `clap` refuses, or their first fault; nothing is read, printed or
-/// sent then. Any other words ask for a job, which is run over the reader and the writer, and over the one socket that it asks for, where
-/// it asks for one. However that goes, the status is that of the fault that is told, and 0 or 1 where none is.
+/// Words that give no job are told in the report: help, what `clap` refuses, or their first fault; nothing is read,
+/// printed or sent then. Any other words ask for a job, which is run over the reader and the writer, and over the one
+/// socket that it asks for, where it asks for one. However that goes, the status is that of the fault that is told, and
+/// 0 or 1 where none is.
 pub fn run_words<N: Network + Drop, R: Read, W: Write>(
     alloc: Global,
     words: &[&str],
@@ -54,7 +55,8 @@ pub fn run_words<N: Network + Drop, R: Read, W: Write>(
 ) -> Ran<N::Socket>
     requires reader { has_failed reader.old ≡ false }
     requires writer { has_failed writer.old ≡ false }
-    ensures runs { Program N.gives record { told = N.Socket.told; failed = N.Socket.has_failed; remaining = R.remaining; contents = W.contents }
+    ensures runs { Program N.gives
+        record { told = N.Socket.told; failed = N.Socket.has_failed; remaining = R.remaining; contents = W.contents }
         network reader.old reader.new writer.old writer.new result (texts words.now) }
     ensures status { IsStatusOf result.report.fault result.report.status }
 {

@@ -1,6 +1,7 @@
 //! How the program ends.
 ghost use Rattle.std.specs.Prelude.{◌≡◌};
-ghost use Rattle.bac_tools.specs.Report.{tool_report, trace_report, unbound_report, unread_report, usage_report};
+ghost use Rattle.bac_tools.specs.Report.{tool_report, trace_report, unbound_report, usage_report};
+ghost use Rattle.bac_tools.specs.Inner.Report.{unread_report};
 
 use bac_links::{Exit, LinkFault, ToolFault, status};
 use bac_script::{TraceEnd, TraceFault, trace_status};

@@ -15,9 +15,9 @@ use bac_text::Checked;
 use bac_words::{Job, Serve};
 use std::io::{Read, Write};
 
-/// Runs a job: a script over the reader and the writer, any other over the writer and the link that it asks for. What is printed,
-/// what is sent, and the report are those that the definition of its tool gives for the script, or for what the link gave. The status is
-/// that of the fault that is told, and 0 or 1 where none is.
+/// Runs a job: a script over the reader and the writer, any other over the writer and the link that it asks for. What
+/// is printed, what is sent, and the report are those that the definition of its tool gives for the script, or for what
+/// the link gave. The status is that of the fault that is told, and 0 or 1 where none is.
 #[tactic(auto, using(crate::proofs::Statuses::tool_status, crate::proofs::Statuses::trace_status))]
 pub fn run_job<L: Link, R: Read, W: Write>(
     job: Job,

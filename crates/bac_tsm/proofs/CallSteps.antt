@@ -1,5 +1,6 @@
 -- A tick, and what a client keeps through each call.
-use Rattle.std.proofs.Common.{◌≡◌, ℕ, max, ◌<◌, ◌≤◌, List, Bool, All, ap, subst, arith, [], ◌∷◌, length, map, Option, Some, None, not, if◌then◌else◌, refl, sym, ◌∙◌}
+use Rattle.std.proofs.Common.{◌≡◌, ℕ, max, ◌<◌, ◌≤◌, List, Bool, All, ap, subst, arith, [], ◌∷◌, length, map, Option}
+use Rattle.std.proofs.Common.{Some, None, not, if◌then◌else◌, refl, sym, ◌∙◌}
 use Rattle.std.specs.List.{filter, flat_map, slice_get}
 use Rattle.std.proofs.lemmas.List.Elements.{All-filter, All-weaker}
 use Rattle.bac_tsm.specs.declared.due.Entry.{Entry}
@@ -26,28 +27,34 @@ Ticks old now answer new =
     (answer ≡ (tick (rules_of old) old.state now).answer)
     × (new ≡ keeping old (tick (rules_of old) old.state now).after)
 
-pub ticked : (timeout retries clock last next : ℕ) (ws : List Waiting) (now later : ℕ) → later ≡ max now clock → (answer : List Entry) (after : List Waiting) →
-    (answer ≡ flat_map (due_answer (client_rules timeout retries) later) ws) × (after ≡ flat_map (kept (client_rules timeout retries) later) ws) →
-    (client : Client) → seen_as timeout retries clock last next ws ≡ client → Ticks client now answer (seen_as timeout retries later last next after)
+pub ticked : (timeout retries clock last next : ℕ) (ws : List Waiting) (now later : ℕ) → later ≡ max now clock
+    → (answer : List Entry) (after : List Waiting) →
+    (answer ≡ flat_map (due_answer (client_rules timeout retries) later) ws)
+    × (after ≡ flat_map (kept (client_rules timeout retries) later) ws) →
+    (client : Client) → seen_as timeout retries clock last next ws ≡ client
+    → Ticks client now answer (seen_as timeout retries later last next after)
 ticked timeout retries clock last next ws now later is answer after both client same =
     subst (λ (old : Client). Ticks old now answer (seen_as timeout retries later last next after)) same
     (rw (← is) (both.0, ap (λ (vs : List Waiting). seen_as timeout retries later last next vs) both.1))
 
-pub timely-filter : (p : Waiting → Bool) (clock next : ℕ) (ws : List Waiting) → IsTimely clock next ws → IsTimely clock next (filter p ws)
+pub timely-filter : (p : Waiting → Bool) (clock next : ℕ) (ws : List Waiting) → IsTimely clock next ws
+    → IsTimely clock next (filter p ws)
 timely-filter p clock next ws t = record {
   below = All-filter p (λ w. w.request.ticket < next) ws t.below;
   past = All-filter p (λ w. w.base ≤ clock) ws t.past;
 }
 
-module _ {clock next : ℕ} {ws : List Waiting} (t : IsTimely clock next ws) (now later : ℕ) (is : later ≡ max now clock) where
-  pub past_later : All (λ w. w.base ≤ later) ws
-  past_later = All-weaker (λ w. w.base ≤ clock) (λ w. w.base ≤ later) (λ w le. omega arith) ws t.past
+module _ {clock next : ℕ} {ws : List Waiting} (t : IsTimely clock next ws) (now later : ℕ) (is : later ≡ max now clock)
+  where
+    pub past_later : All (λ w. w.base ≤ later) ws
+    past_later = All-weaker (λ w. w.base ≤ clock) (λ w. w.base ≤ later) (λ w le. omega arith) ws t.past
 
-  pub timely-tick : (rules : Rules) (after : List Waiting) → after ≡ flat_map (kept rules later) ws → IsTimely later next after
-  timely-tick rules after to = rw to (record {
-    below = kept_of_all rules (λ w. w.request.ticket < next) later (λ w lt. lt) ws t.below;
-    past = kept_of_all rules (λ w. w.base ≤ later) later (λ w le. omega arith) ws past_later;
-  })
+    pub timely-tick : (rules : Rules) (after : List Waiting) → after ≡ flat_map (kept rules later) ws
+        → IsTimely later next after
+    timely-tick rules after to = rw to (record {
+      below = kept_of_all rules (λ w. w.request.ticket < next) later (λ w lt. lt) ws t.below;
+      past = kept_of_all rules (λ w. w.base ≤ later) later (λ w le. omega arith) ws past_later;
+    })
 
 -- ---- what a datagram answers and leaves
 
@@ -55,7 +62,8 @@ module _ {clock next : ℕ} {ws : List Waiting} (t : IsTimely clock next ws) (no
 abbrev ended_with : Outcome → Waiting → ℕ × Outcome
 ended_with outcome w = (w.request.ticket, outcome)
 
-module _ (p : Request → Bool) (o : Outcome) (f : Request → Option Outcome) (same : (r : Request) → f r ≡ (if p r then Some o else None)) where
+module _ (p : Request → Bool) (o : Outcome) (f : Request → Option Outcome)
+    (same : (r : Request) → f r ≡ (if p r then Some o else None)) where
   delivers_none : (ws : List Waiting) → filter (λ w. p w.request) ws ≡ [] →
       (deliver f ws ≡ record { answer = None; waiting = ws }) × (filter (λ w. not (p w.request)) ws ≡ ws)
   delivers_none [] h = (refl, refl)
@@ -68,7 +76,15 @@ module _ (p : Request → Bool) (o : Outcome) (f : Request → Option Outcome) (
         waiting = filter (λ w. not (p w.request)) ws;
       }
   delivers_one [] h = refl
-  delivers_one (w ∷ ws) h = grind (arith, delivers_one ws, delivers_none ws, same w.request, nil_from_length (filter (λ w. p w.request) ws), h)
+  delivers_one (w ∷ ws) h =
+      grind (
+        arith,
+        delivers_one ws,
+        delivers_none ws,
+        same w.request,
+        nil_from_length (filter (λ w. p w.request) ws),
+        h,
+      )
 
 -- A datagram that carries no answer changes nothing.
 delivers_nothing : (f : Request → Option Outcome) → ((r : Request) → f r ≡ None) → (ws : List Waiting) →
@@ -86,13 +102,15 @@ Delivers old peer bytes answer new =
 abbrev with_waiting : Client → List Waiting → Client
 with_waiting client waiting = keeping client (record client.state { waiting = waiting })
 
-delivers_by : (client : Client) (peer : Station) (bytes : List ℕ) (answer : Option (ℕ × Outcome)) (waiting : List Waiting) →
+delivers_by : (client : Client) (peer : Station) (bytes : List ℕ) (answer : Option (ℕ × Outcome))
+    (waiting : List Waiting) →
     deliver (λ r. outcome_of r peer bytes) client.state.waiting ≡ record { answer = answer; waiting = waiting } →
     Delivers client peer bytes answer (with_waiting client waiting)
 delivers_by client peer bytes answer waiting e =
     (sym (ap (λ (d : Delivered). d.answer) e), ap (with_waiting client) (sym (ap (λ (d : Delivered). d.waiting) e)))
 
-pub no_answer : (client : Client) (peer : Station) (bytes : List ℕ) → answer_in_datagram peer bytes ≡ None → Delivers client peer bytes None client
+pub no_answer : (client : Client) (peer : Station) (bytes : List ℕ) → answer_in_datagram peer bytes ≡ None
+    → Delivers client peer bytes None client
 no_answer client peer bytes e =
     delivers_by client peer bytes None client.state.waiting (delivers_nothing _ (λ r. rw e refl) client.state.waiting)
 
@@ -107,14 +125,18 @@ few_of_one (w ∷ []) (Some t) told outcome = (omega arith, let e : t ≡ w.requ
 
 module _ (timeout retries clock last next : ℕ) (ws : List Waiting) (peer : Station) (bytes : List ℕ)
     (answer : Answer) (carried : answer_in_datagram peer bytes ≡ Some answer) where
-  pub closed : (client : Client) → seen_as timeout retries clock last next ws ≡ client → (ended : Option ℕ) (after : List Waiting) →
+  pub closed : (client : Client) → seen_as timeout retries clock last next ws ≡ client
+      → (ended : Option ℕ) (after : List Waiting) →
       option_to_list ended ≡ map ticket_in (filter (λ w. is_answer_to w.request answer) ws) →
       after ≡ filter (λ w. not (is_answer_to w.request answer)) ws →
-      Delivers client peer bytes (option_map (λ t. (t, answer.outcome)) ended) (seen_as timeout retries clock last next after)
+      Delivers client peer bytes (option_map (λ t. (t, answer.outcome)) ended)
+      (seen_as timeout retries clock last next after)
   closed client same ended after told left =
       let p = λ (w : Waiting). is_answer_to w.request answer in
       let few = few_of_one (filter p ws) ended told answer.outcome in
-      subst (λ (old : Client). Delivers old peer bytes (option_map (λ t. (t, answer.outcome)) ended) (seen_as timeout retries clock last next after)) same
+      subst (λ (old : Client).
+      Delivers old peer bytes (option_map (λ t. (t, answer.outcome)) ended)
+      (seen_as timeout retries clock last next after)) same
       (delivers_by (seen_as timeout retries clock last next ws) peer bytes _ _
       (delivers_one (λ r. is_answer_to r answer) answer.outcome _ (λ r. rw carried refl) ws few.0
       ∙ (λ i. record { answer = few.1 i; waiting = sym left i })))

@@ -1,8 +1,10 @@
 -- The requests at the places of a list, where a place or the list changes.
-use Rattle.std.proofs.Common.{◌≡◌, ℕ, zero, suc, ◌<◌, ◌≤◌, List, [], ◌∷◌, ◌++◌, length, map, take, drop, set, get_or, refl, ap, ap₂, sym, subst, ◌∙◌, arith, ◌+◌, Bool, true, not, nat_eq, if◌then◌else◌}
+use Rattle.std.proofs.Common.{◌≡◌, ℕ, zero, suc, ◌<◌, ◌≤◌, List, [], ◌∷◌, ◌++◌, length, map, take, drop, set, get_or}
+use Rattle.std.proofs.Common.{refl, ap, ap₂, sym, subst, ◌∙◌, arith, ◌+◌, Bool, true, not, nat_eq, if◌then◌else◌}
 use Rattle.std.specs.Prelude.{remove}
 use Rattle.std.proofs.lemmas.Bool.{eq-eqb, ne_eqb}
-use Rattle.std.proofs.lemmas.List.{map-append, take-map, drop-map, get_or-set_same, get_or-set_other, get_or-map, get_or_default, length-append}
+use Rattle.std.proofs.lemmas.List.{map-append, take-map, drop-map, get_or-set_same, get_or-set_other, get_or-map}
+use Rattle.std.proofs.lemmas.List.{get_or_default, length-append}
 use Rattle.bac_tsm.specs.Machine.{Waiting}
 use Rattle.bac_tsm.specs.Table.{held_at, times_of_place, times}
 use Rattle.bac_tsm.specs.Waiting.{nothing}
@@ -29,7 +31,13 @@ module _ {A : Type 0} (key : A → ℕ) where
       times key n (remove xs i) + times key n (get_or xs i d ∷ []) ≡ times key n xs
   times-remove n xs i d lt =
       let count = length-filter (λ x. nat_eq (key x) n) in
-      omega (arith, count (remove xs i), count (get_or xs i d ∷ []), count xs, sum_by-remove (λ x. if nat_eq (key x) n then 1 else 0) xs i d lt)
+      omega (
+        arith,
+        count (remove xs i),
+        count (get_or xs i d ∷ []),
+        count xs,
+        sum_by-remove (λ x. if nat_eq (key x) n then 1 else 0) xs i d lt,
+      )
 
   pub times_got : (xs : List A) (i : ℕ) (d : A) → i < length xs → 0 < times key (key (get_or xs i d)) xs
   times_got xs i d lt =
@@ -62,7 +70,8 @@ at_place places place = get_or places place nothing
 held_elsewhere : (places : List Waiting) (place : ℕ) (w : Waiting) (order : List ℕ) → times_of_place place order ≡ 0 →
     held_at (set places place w) order ≡ held_at places order
 held_elsewhere places place w [] none = refl
-held_elsewhere places place w (q ∷ qs) none = grind (arith, nat_tests, get_or-set_other places place q w nothing, held_elsewhere places place w qs)
+held_elsewhere places place w (q ∷ qs) none =
+    grind (arith, nat_tests, get_or-set_other places place q w nothing, held_elsewhere places place w qs)
 
 pub held-set : (places : List Waiting) (place : ℕ) (w : Waiting) (order : List ℕ) (i : ℕ) → place < length places →
     i < length order → get_or order i 0 ≡ place → times_of_place place order ≤ 1 →
@@ -71,15 +80,23 @@ held-set places place w [] i there lt is once = absurd (omega arith)
 held-set places place w (q ∷ qs) zero there lt is once =
     grind (arith, nat_tests, get_or-set_same places place w nothing there, held_elsewhere places place w qs)
 held-set places place w (q ∷ qs) (suc i) there lt is once =
-    let later : 0 < times_of_place place qs = subst (λ (k : ℕ). 0 < times_of_place k qs) is (times_got itself qs i 0 (omega arith)) in
-    grind (arith, nat_tests, get_or-set_other places place q w nothing, held-set places place w qs i there (omega arith) is)
+    let later : 0 < times_of_place place qs =
+    subst (λ (k : ℕ). 0 < times_of_place k qs) is (times_got itself qs i 0 (omega arith)) in
+    grind (
+      arith,
+      nat_tests,
+      get_or-set_other places place q w nothing,
+      held-set places place w qs i there (omega arith) is,
+    )
 
 -- A place that is not among these is filled, and put behind them.
-pub held-push : (places : List Waiting) (place : ℕ) (w : Waiting) (order : List ℕ) → place < length places → times_of_place place order ≡ 0 →
+pub held-push : (places : List Waiting) (place : ℕ) (w : Waiting) (order : List ℕ) → place < length places
+    → times_of_place place order ≡ 0 →
     held_at (set places place w) (order ++ place ∷ []) ≡ held_at places order ++ w ∷ []
 held-push places place w order there none =
     map-append (at_place (set places place w)) order (place ∷ [])
-    ∙ ap₂ ◌++◌ (held_elsewhere places place w order none) (ap (λ (v : Waiting). v ∷ []) (get_or-set_same places place w nothing there))
+    ∙ ap₂ ◌++◌ (held_elsewhere places place w order none)
+    (ap (λ (v : Waiting). v ∷ []) (get_or-set_same places place w nothing there))
 
 pub map-remove : {A B : Type 0} (f : A → B) (xs : List A) (i : ℕ) → map f (remove xs i) ≡ remove (map f xs) i
 map-remove f xs i =
@@ -90,5 +107,6 @@ pub held_got : (places : List Waiting) (order : List ℕ) (i place : ℕ) → i 
     get_or (held_at places order) i nothing ≡ get_or places place nothing
 held_got places order i place lt is = get_or-map (at_place places) order i 0 nothing lt ∙ ap (at_place places) is
 
-pub same_turn : (order : List ℕ) (i place : ℕ) → i < length order → place ≡ get_or order i place → place ≡ get_or order i 0
+pub same_turn : (order : List ℕ) (i place : ℕ) → i < length order → place ≡ get_or order i place
+    → place ≡ get_or order i 0
 same_turn order i place lt is = is ∙ get_or_default order i place 0 lt

@@ -1,5 +1,6 @@
 -- A request that is due goes on, and where the first to have been sent is not due, none is.
-use Rattle.std.proofs.Common.{◌≡◌, ℕ, suc, ◌-◌, ◌<◌, ◌≤◌, List, [], ◌∷◌, ◌++◌, take, drop, length, set, get_or, Option, Some, None, true, false, nat_le, nat_lt, All, refl, ap, sym, subst, ◌∙◌, inl, inr, arith}
+use Rattle.std.proofs.Common.{◌≡◌, ℕ, suc, ◌-◌, ◌<◌, ◌≤◌, List, [], ◌∷◌, ◌++◌, take, drop, length, set, get_or, Option}
+use Rattle.std.proofs.Common.{Some, None, true, false, nat_le, nat_lt, All, refl, ap, sym, subst, ◌∙◌, inl, inr, arith}
 use Rattle.std.specs.Prelude.{remove}
 use Rattle.std.specs.List.{slice_get, list_any}
 use Rattle.std.proofs.lemmas.Bool.{cases_Bool, leb-false, false≢true}
@@ -11,36 +12,51 @@ use Rattle.bac_tsm.specs.Limits.{table_size}
 use Rattle.bac_tsm.specs.declared.due.Entry.TheVariants.{Resend, TimedOut as Expired}
 use Rattle.bac_tsm.specs.Events.{Rules}
 use Rattle.bac_tsm.specs.Machine.{Waiting, is_due, due_entry, kept}
-use Rattle.bac_tsm.specs.Table.{held_at, times_of_place, open_places, waiting_in, IsTable, IsTurnOf, IsPassed, AreBySend}
-use Rattle.bac_tsm.specs.Waiting.{nothing, sent_at, ticket_in}
+use Rattle.bac_tsm.specs.Table.{held_at, times_of_place, open_places, waiting_in, IsTable, AreBySend}
+use Rattle.bac_tsm.specs.Inner.Table.{IsTurnOf, IsPassed}
+use Rattle.bac_tsm.specs.Waiting.{nothing, ticket_in}
+use Rattle.bac_tsm.specs.Inner.Waiting.{sent_at}
 use Rattle.bac_tsm.proofs.Held.{itself, held_got, times_got}
-use Rattle.bac_tsm.proofs.TableReads.{times_split, turn, turn_lt, stands, open_below, open_read, one_turn, as_many, count}
+use Rattle.bac_tsm.proofs.TableReads.{times_split, turn, turn_lt, stands, open_below, open_read, one_turn, as_many}
+use Rattle.bac_tsm.proofs.TableReads.{count}
 use Rattle.bac_tsm.proofs.TableEdits.{changed_by, all_opened, queue-again}
 
-younger : (timeout clock early late : ℕ) → nat_le timeout (clock - early) ≡ false → early ≤ late → nat_le timeout (clock - late) ≡ false
-younger timeout clock early late young le = let less = leb-false timeout (clock - early) young in grind (arith, nat_tests)
+younger : (timeout clock early late : ℕ) → nat_le timeout (clock - early) ≡ false → early ≤ late
+    → nat_le timeout (clock - late) ≡ false
+younger timeout clock early late young le =
+    let less = leb-false timeout (clock - early) young in
+    grind (arith, nat_tests)
 
 -- Where some request is due, some was sent first.
-pub first_sent : {places : List Waiting} {numbers : List (Option ℕ)} {order tickets sends : List ℕ} → IsTable places numbers order tickets →
-    AreBySend places (open_places order tickets) sends → (ws : List Waiting) → waiting_in places order tickets ≡ ws → (rules : Rules) (clock : ℕ) →
-    list_any (is_due rules clock) ws ≡ true → (items : List ℕ) → items ≡ sends → Some (get_or items 0 0) ≡ slice_get items 0
+pub first_sent : {places : List Waiting} {numbers : List (Option ℕ)} {order tickets sends : List ℕ}
+    → IsTable places numbers order tickets →
+    AreBySend places (open_places order tickets) sends → (ws : List Waiting) → waiting_in places order tickets ≡ ws
+    → (rules : Rules) (clock : ℕ) →
+    list_any (is_due rules clock) ws ≡ true → (items : List ℕ) → items ≡ sends
+    → Some (get_or items 0 0) ≡ slice_get items 0
 first_sent t q [] view rules clock due items are = absurd (false≢true due)
 first_sent t q (w ∷ ws) view rules clock due items are =
-    let some : 0 < length items = let e = ap length are in let f = q.all in let g = as_many t in let h = count t (w ∷ ws) view in omega arith in
+    let some : 0 < length items = let e = ap length are in let f = q.all in let g = as_many t in
+    let h = count t (w ∷ ws) view in omega arith in
     sym (slice_get-get_or items 0 0 some)
 
 module _ (rules : Rules) (clock : ℕ) (w : Waiting) where
   is_again : (ticket : ℕ) → due_entry rules w ≡ Resend ticket → nat_lt w.count rules.retries ≡ true
   is_again ticket is = grind (arith, nat_tests, is)
 
-  is_over : (ticket : ℕ) → due_entry rules w ≡ Expired ticket → (nat_lt w.count rules.retries ≡ false) × (w.request.ticket ≡ ticket)
+  is_over : (ticket : ℕ) → due_entry rules w ≡ Expired ticket → (nat_lt w.count rules.retries ≡ false)
+      × (w.request.ticket ≡ ticket)
   is_over ticket is = grind (arith, nat_tests, is)
 
-module _ {places : List Waiting} {numbers : List (Option ℕ)} {order tickets sends : List ℕ} (t : IsTable places numbers order tickets)
-    (q : AreBySend places (open_places order tickets) sends) (ws : List Waiting) (view : waiting_in places order tickets ≡ ws)
+module _ {places : List Waiting} {numbers : List (Option ℕ)} {order tickets sends : List ℕ}
+    (t : IsTable places numbers order tickets)
+    (q : AreBySend places (open_places order tickets) sends) (ws : List Waiting)
+    (view : waiting_in places order tickets ≡ ws)
     (items : List ℕ) (are : items ≡ sends) (place : ℕ) (front : Some place ≡ slice_get items 0) where
   first : (0 < length sends) × (get_or sends 0 0 ≡ place)
-  first = let e = sym (front ∙ ap (λ (xs : List ℕ). slice_get xs 0) are) in (slice_get_within sends 0 place e, get_or_from_slice_get sends 0 place 0 e)
+  first =
+      let e = sym (front ∙ ap (λ (xs : List ℕ). slice_get xs 0) are) in
+      (slice_get_within sends 0 place e, get_or_from_slice_get sends 0 place 0 e)
 
   some : 0 < times_of_place place (open_places order tickets)
   some =
@@ -62,29 +78,37 @@ module _ {places : List Waiting} {numbers : List (Option ℕ)} {order tickets se
     none_due young =
         subst (All (λ v. is_due rules clock v ≡ false)) view
         (all_opened q (λ v. is_due rules clock v ≡ false) (λ k e lt.
-        younger rules.timeout clock (get_or (held_at places sends) 0 e).base (get_or (held_at places sends) k e).base (rw (here e) young) (later k e lt)))
+        younger rules.timeout clock (get_or (held_at places sends) 0 e).base (get_or (held_at places sends) k e).base
+        (rw (here e) young) (later k e lt)))
       where
         here : (e : Waiting) → get_or (held_at places sends) 0 e ≡ w
-        here e = get_or_default (held_at places sends) 0 e nothing (rw length-map first.0) ∙ held_got places sends 0 place first.0 first.1 ∙ sym reads
+        here e = get_or_default (held_at places sends) 0 e nothing (rw length-map first.0)
+            ∙ held_got places sends 0 place first.0 first.1 ∙ sym reads
 
-        later : (k : ℕ) (e : Waiting) → k < length (held_at places sends) → (get_or (held_at places sends) 0 e).base ≤ (get_or (held_at places sends) k e).base
+        later : (k : ℕ) (e : Waiting) → k < length (held_at places sends)
+            → (get_or (held_at places sends) 0 e).base ≤ (get_or (held_at places sends) k e).base
         later k e lt = grind (arith, q.by_send 0 k e)
 
     pub some_due : is_due rules clock w ≡ list_any (is_due rules clock) ws
     some_due = elim (cases_Bool (is_due rules clock w)) [
-      | inl due ↦ due ∙ sym (list_any_at (is_due rules clock) ws i nothing (turn_lt t ws view place some) (ap (is_due rules clock) (sym read) ∙ due))
+      | inl due ↦ due ∙ sym
+          (list_any_at (is_due rules clock) ws i nothing (turn_lt t ws view place some)
+          (ap (is_due rules clock) (sym read) ∙ due))
       | inr young ↦ young ∙ sym (list_any_none (is_due rules clock) ws (none_due young))
     ]
 
     pub not_found : (ticket : ℕ) → due_entry rules w ≡ Expired ticket → IsTurnOf ticket ws None → ⊥
-    not_found ticket over none = none i nothing (turn_lt t ws view place some) (ap ticket_in (sym read) ∙ (is_over rules clock w ticket over).1)
+    not_found ticket over none =
+        none i nothing (turn_lt t ws view place some) (ap ticket_in (sym read) ∙ (is_over rules clock w ticket over).1)
 
     module _ (due : list_any (is_due rules clock) ws ≡ true) where
       due_there : is_due rules clock (get_or ws i nothing) ≡ true
       due_there = ap (is_due rules clock) (sym read) ∙ some_due ∙ due
 
-      pub sent_again : All (λ v. v.base ≤ clock) ws → (ticket : ℕ) → due_entry rules w ≡ Resend ticket → (changed : List Waiting) (rest after : List ℕ) →
-          changed ≡ set places place (sent_at clock (get_or places place nothing)) → rest ≡ remove sends 0 → after ≡ rest ++ place ∷ [] →
+      pub sent_again : All (λ v. v.base ≤ clock) ws → (ticket : ℕ) → due_entry rules w ≡ Resend ticket
+          → (changed : List Waiting) (rest after : List ℕ) →
+          changed ≡ set places place (sent_at clock (get_or places place nothing)) → rest ≡ remove sends 0
+          → after ≡ rest ++ place ∷ [] →
           IsPassed rules clock ws (due_entry rules w) (waiting_in changed order tickets)
           × IsTable changed numbers order tickets × AreBySend changed (open_places order tickets) after
       sent_again past ticket again changed rest after is out back =
@@ -92,19 +116,42 @@ module _ {places : List Waiting} {numbers : List (Option ℕ)} {order tickets se
           let lt = turn_lt t ws view place some in
           let moved = changed_by t ws view i lt place (stands t ws view place some) v refl in
           let kept_now : v ∷ [] ≡ kept rules clock (get_or ws i nothing) =
-          rw (due_there, ap (λ (u : Waiting). nat_lt u.count rules.retries) (sym read) ∙ is_again rules clock w ticket again)
+          rw (
+            due_there,
+            ap (λ (u : Waiting). nat_lt u.count rules.retries) (sym read)
+                ∙ is_again rules clock w ticket again,
+          )
           (ap (λ (u : Waiting). sent_at clock u ∷ []) (open_read t ws view place some)) in
           rw (is, back) (
-            (i, lt, due_there, ap (due_entry rules) read, moved.0 ∙ set_split ws i v lt ∙ ap (λ (xs : List Waiting). take i ws ++ (xs ++ drop (suc i) ws)) kept_now),
+            (
+              i,
+              lt,
+              due_there,
+              ap (due_entry rules) read,
+              moved.0 ∙ set_split ws i v lt
+                  ∙ ap (λ (xs : List Waiting). take i ws ++ (xs ++ drop (suc i) ws)) kept_now,
+            ),
             moved.1,
-            queue-again q place rest (0, first.0, first.1, out) v (let all = t.all_places in let below = front_below in omega arith)
-                (let e = t.once place in let f = times_split t place (length tickets) in omega arith) (subst (All (λ u. u.base ≤ clock)) (sym view) past),
+            queue-again q place rest (0, first.0, first.1, out) v
+                (let all = t.all_places in let below = front_below in omega arith)
+                (let e = t.once place in let f = times_split t place (length tickets) in omega arith)
+                (subst (All (λ u. u.base ≤ clock)) (sym view) past),
           )
 
-      pub ended : (ticket j : ℕ) → due_entry rules w ≡ Expired ticket → IsTurnOf ticket ws (Some j) → (after : List Waiting) → after ≡ remove ws j →
+      pub ended : (ticket j : ℕ) → due_entry rules w ≡ Expired ticket → IsTurnOf ticket ws (Some j)
+          → (after : List Waiting) → after ≡ remove ws j →
           IsPassed rules clock ws (Expired ticket) after
       ended ticket j over its after to =
           let gone = is_over rules clock w ticket over in
-          let same_turn : j ≡ i = one_turn t ws view j i its.0 (turn_lt t ws view place some) (its.1 ∙ sym gone.1 ∙ ap ticket_in read) in
-          let none : kept rules clock (get_or ws i nothing) ≡ [] = rw (due_there, ap (λ (u : Waiting). nat_lt u.count rules.retries) (sym read) ∙ gone.0) refl in
-          (i, turn_lt t ws view place some, due_there, sym over ∙ ap (due_entry rules) read, to ∙ ap (remove ws) same_turn ∙ ap (λ (xs : List Waiting). take i ws ++ (xs ++ drop (suc i) ws)) (sym none))
+          let same_turn : j ≡ i =
+          one_turn t ws view j i its.0 (turn_lt t ws view place some) (its.1 ∙ sym gone.1 ∙ ap ticket_in read) in
+          let none : kept rules clock (get_or ws i nothing) ≡ [] =
+          rw (due_there, ap (λ (u : Waiting). nat_lt u.count rules.retries) (sym read) ∙ gone.0) refl in (
+            i,
+            turn_lt t ws view place some,
+            due_there,
+            sym over ∙ ap (due_entry rules) read,
+            to
+                ∙ ap (remove ws) same_turn
+                ∙ ap (λ (xs : List Waiting). take i ws ++ (xs ++ drop (suc i) ws)) (sym none),
+          )

@@ -1,5 +1,6 @@
 -- A request that waits is due, and ends, as timeouts pass; and how far the clock comes meanwhile.
-use Rattle.std.proofs.Common.{◌≡◌, ℕ, zero, suc, ◌+◌, ◌-◌, ◌*◌, ◌<◌, ◌≤◌, Bool, true, false, List, [], ◌∷◌, length, Option, Some, None, IsSomeAnd, subst, arith, refl, ◌∙◌, sym, inl, inr}
+use Rattle.std.proofs.Common.{◌≡◌, ℕ, zero, suc, ◌+◌, ◌-◌, ◌*◌, ◌<◌, ◌≤◌, Bool, true, false, List, [], ◌∷◌, length}
+use Rattle.std.proofs.Common.{Option, Some, None, IsSomeAnd, subst, arith, refl, ◌∙◌, sym, inl, inr}
 use Rattle.std.proofs.Math.Nat.{mul-le-mul_right}
 use Rattle.std.proofs.lemmas.Bool.{cases_Bool, cases_lt}
 use Rattle.std.proofs.lemmas.Bool.Decides.{nat_tests}
@@ -18,7 +19,8 @@ clock_rises (e ∷ events) (suc i) zero le = absurd (omega arith)
 clock_rises (event ∷ events) (suc i) (suc j) le = grind (arith, clock_rises events i j (omega arith))
 
 -- The first that passes a test is no later than one that passes it.
-found_by : (test : ℕ → Bool) (i n m : ℕ) → i ≤ m → m < i + n → test m ≡ true → IsSomeAnd (first_within test i n) (λ j. j ≤ m)
+found_by : (test : ℕ → Bool) (i n m : ℕ) → i ≤ m → m < i + n → test m ≡ true
+    → IsSomeAnd (first_within test i n) (λ j. j ≤ m)
 found_by test i zero m low high t = absurd (omega arith)
 found_by test i (suc n) m low high t = grind (arith, nat_tests, found_by test (suc i) n m, t)
 
@@ -57,14 +59,16 @@ module _ (rules : Rules) (events : List Event) where
   quiet_until p zero lt none = absurd (omega arith)
   quiet_until p (suc n) lt none = elim (cases_lt p n) [
     | inl below ↦
-        let before : clock events n ≤ clock events (suc p) + rules.timeout = quiet_until p n below (λ j low high. none j low (omega arith)) in
+        let before : clock events n ≤ clock events (suc p) + rules.timeout =
+        quiet_until p n below (λ j low high. none j low (omega arith)) in
         let not_yet : has_waited rules events p n ≡ false = none n below (omega arith) in
         grind (arith, nat_tests, not_yet, clock_quiet events n)
     | inr above ↦ let same : n ≡ p = omega arith in rw same (omega arith)
   ]
 
   -- While every event behind position a moves the clock by at most d, each time due comes so soon.
-  due_soon : (a d : ℕ) → ((j : ℕ) → a < j → clock events (suc j) ≤ clock events j + d) → (k j : ℕ) → due rules events a k ≡ Some j →
+  due_soon : (a d : ℕ) → ((j : ℕ) → a < j → clock events (suc j) ≤ clock events j + d) → (k j : ℕ)
+      → due rules events a k ≡ Some j →
       (a ≤ j) × (clock events (suc j) ≤ clock events (suc a) + k * (rules.timeout + d))
   due_soon a d steady zero j is = let same : a ≡ j = same_Some a j is in (omega arith, rw same (omega arith))
   due_soon a d steady (suc k) j is =
@@ -73,7 +77,8 @@ module _ (rules : Rules) (events : List Event) where
       let behind : back.0 < j = (first_after_from events (has_waited rules events back.0) back.0 j back.2).0 in
       let until : clock events j ≤ clock events (suc back.0) + rules.timeout =
       quiet_until back.0 j behind
-      (λ m low high. first_least (has_waited rules events back.0) (suc back.0) (length events - suc back.0) j m back.2 (omega arith) high) in
+      (λ m low high. first_least (has_waited rules events back.0) (suc back.0) (length events - suc back.0) j m back.2
+      (omega arith) high) in
       let step : clock events (suc j) ≤ clock events j + d = steady j (omega (arith, before.0)) in
       (omega (arith, before.0), omega (arith, before.1))
 
@@ -89,13 +94,16 @@ module _ (rules : Rules) (events : List Event) where
     from (Some j) is earlier = (k, j, omega arith, is, none)
 
   -- A request that is not due once more than r times has waited no longer than this.
-  pub open_soon : (a d r n : ℕ) → ((j : ℕ) → a < j → clock events (suc j) ≤ clock events j + d) → due rules events a (suc r) ≡ None →
+  pub open_soon : (a d r n : ℕ) → ((j : ℕ) → a < j → clock events (suc j) ≤ clock events j + d)
+      → due rules events a (suc r) ≡ None →
       clock events n ≤ clock events (suc a) + r * (rules.timeout + d) + rules.timeout
   open_soon a d r n steady none =
       let last = last_due a (suc r) none in
       let soon = due_soon a d steady last.0 last.1 last.3 in
-      let over : first_after events (has_waited rules events last.1) last.1 ≡ None = sym (due_next rules events a last.0 last.1 last.3) ∙ last.4 in
-      let few : last.0 * (rules.timeout + d) ≤ r * (rules.timeout + d) = mul-le-mul_right (rules.timeout + d) (omega (arith, last.2)) in
+      let over : first_after events (has_waited rules events last.1) last.1 ≡ None =
+      sym (due_next rules events a last.0 last.1 last.3) ∙ last.4 in
+      let few : last.0 * (rules.timeout + d) ≤ r * (rules.timeout + d) =
+      mul-le-mul_right (rules.timeout + d) (omega (arith, last.2)) in
       elim (cases_lt last.1 n) [
         | inl behind ↦
             let until : clock events n ≤ clock events (suc last.1) + rules.timeout =
@@ -103,7 +111,8 @@ module _ (rules : Rules) (events : List Event) where
               | inr not_yet ↦ not_yet
               | inl enough ↦
                   let within = waited_within last.1 m enough in
-                  none_within (has_waited rules events last.1) (suc last.1) (length events - suc last.1) m over (omega arith) (omega arith)
+                  none_within (has_waited rules events last.1) (suc last.1) (length events - suc last.1) m over
+                  (omega arith) (omega arith)
             ]) in
             omega (arith, soon.1, few)
         | inr before ↦

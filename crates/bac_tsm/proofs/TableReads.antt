@@ -1,5 +1,7 @@
 -- What is read of the table of open requests.
-use Rattle.std.proofs.Common.{◌≡◌, ℕ, zero, suc, nat_lt, ◌+◌, ◌<◌, ◌≤◌, List, [], ◌∷◌, length, map, take, drop, get_or, Option, Some, None, Result, Ok, Err, Bool, true, false, not, nat_eq, if◌then◌else◌, refl, ap, sym, subst, ◌∙◌, arith, ◌%◌, unwrap_or, below_more}
+use Rattle.std.proofs.Common.{◌≡◌, ℕ, zero, suc, nat_lt, ◌+◌, ◌<◌, ◌≤◌, List, [], ◌∷◌, length, map, take, drop, get_or}
+use Rattle.std.proofs.Common.{Option, Some, None, Result, Ok, Err, Bool, true, false, not, nat_eq, if◌then◌else◌, refl}
+use Rattle.std.proofs.Common.{ap, sym, subst, ◌∙◌, arith, ◌%◌, unwrap_or, below_more}
 use Rattle.std.specs.Prelude.{remove, position, MatchResult}
 use Rattle.std.specs.List.{filter, find, list_any, slice_get, position_or_len}
 use Rattle.std.proofs.lemmas.Option.{slice_get_within, get_or_from_slice_get}
@@ -15,7 +17,8 @@ use Rattle.std.proofs.lemmas.Bool.Decides.{nat_tests}
 use Rattle.bac_tsm.specs.Limits.{table_size}
 use Rattle.bac_tsm.specs.Machine.{Waiting}
 use Rattle.bac_tsm.specs.Answers.{Answer, is_answer_to}
-use Rattle.bac_tsm.specs.Table.{times, held_at, times_of_place, open_places, waiting_in, Names, IsTable, IsTurnOf}
+use Rattle.bac_tsm.specs.Table.{times, held_at, times_of_place, open_places, waiting_in, Names, IsTable}
+use Rattle.bac_tsm.specs.Inner.Table.{IsTurnOf}
 use Rattle.bac_tsm.specs.Waiting.{ticket_in, number_in, nothing}
 use Rattle.bac_tsm.proofs.CallNotes.{TicketsRise, by_ticket, pairs_tail}
 use Rattle.bac_tsm.proofs.Held.{itself, held_got, times-append, times_got, none_passes, one_passes}
@@ -24,7 +27,8 @@ use Rattle.bac_tsm.proofs.RequestLife.{NotBefore, first_from, first_at}
 use Rattle.bac_tsm.proofs.NumberCycle.{is_free, a_step}
 
 -- A number is found among these where one of them has it.
-pub any_number : (number : ℕ) (ws : List Waiting) → list_any (λ w. nat_eq number w.request.number) ws ≡ nat_lt 0 (times number_in number ws)
+pub any_number : (number : ℕ) (ws : List Waiting)
+    → list_any (λ w. nat_eq number w.request.number) ws ≡ nat_lt 0 (times number_in number ws)
 any_number number [] = refl
 any_number number (w ∷ ws) = grind (arith, nat_tests, any_number number ws)
 
@@ -37,33 +41,47 @@ pub record StandsAt (place : ℕ) (order : List ℕ) (i : ℕ) : Type 0 where
 pub found_at : (place : ℕ) (order : List ℕ) → 0 < times_of_place place order → (i : ℕ) × StandsAt place order i
 found_at place order some =
     let test = λ (other : ℕ). nat_eq other place in
-    let within = first order some in
-    (position_or_len test order, record { found = rw (lt-ltb _ _ within) refl; within = within; there = eqb-true _ _ (passes_at_first test order 0 within) })
+    let within = first order some in (
+      position_or_len test order,
+      record {
+        found = rw (lt-ltb _ _ within) refl;
+        within = within;
+        there = eqb-true _ _ (passes_at_first test order 0 within);
+      },
+    )
   where
-    first : (order : List ℕ) → 0 < times_of_place place order → position_or_len (λ other. nat_eq other place) order < length order
+    first : (order : List ℕ) → 0 < times_of_place place order
+        → position_or_len (λ other. nat_eq other place) order < length order
     first [] some = absurd (omega arith)
     first (q ∷ qs) some = grind (arith, nat_tests, first qs, some)
 
 -- Where tickets rise, the one request with a ticket is the first with it.
-find_turn : (t : ℕ) (ws : List Waiting) (i : ℕ) → TicketsRise ws → i < length ws → (get_or ws i nothing).request.ticket ≡ t →
+find_turn : (t : ℕ) (ws : List Waiting) (i : ℕ) → TicketsRise ws → i < length ws
+    → (get_or ws i nothing).request.ticket ≡ t →
     find (by_ticket t) ws ≡ Some (get_or ws i nothing)
 find_turn t [] i rise lt is = absurd (omega arith)
 find_turn t (w ∷ ws) zero rise lt is = rw (eq-eqb w.request.ticket t is) refl
 find_turn t (w ∷ ws) (suc i) rise lt is =
-    let less : w.request.ticket < (get_or ws i nothing).request.ticket = rise 0 (suc i) nothing (omega arith) (omega arith) in
-    rw (ne_eqb w.request.ticket t (λ q. omega arith)) (find_turn t ws i (pairs_tail (λ v w. v.request.ticket < w.request.ticket) w ws rise) (omega arith) is)
+    let less : w.request.ticket < (get_or ws i nothing).request.ticket =
+    rise 0 (suc i) nothing (omega arith) (omega arith) in
+    rw (ne_eqb w.request.ticket t (λ q. omega arith))
+    (find_turn t ws i (pairs_tail (λ v w. v.request.ticket < w.request.ticket) w ws rise) (omega arith) is)
 
-module _ {places : List Waiting} {numbers : List (Option ℕ)} {order tickets : List ℕ} (t : IsTable places numbers order tickets) where
+module _ {places : List Waiting} {numbers : List (Option ℕ)} {order tickets : List ℕ}
+    (t : IsTable places numbers order tickets) where
   abbrev opened : List ℕ
   opened = open_places order tickets
 
   pub as_many : length opened ≡ length tickets
   as_many =
-      sym (length-map opened (λ place. get_or places place nothing)) ∙ sym (length-map (waiting_in places order tickets) ticket_in) ∙ ap length t.ticketed
+      sym (length-map opened (λ place. get_or places place nothing))
+      ∙ sym (length-map (waiting_in places order tickets) ticket_in) ∙ ap length t.ticketed
 
   -- Those before and those after a turn of the order are the order.
-  pub times_split : (place n : ℕ) → times_of_place place order ≡ times_of_place place (take n order) + times_of_place place (drop n order)
-  times_split place n = ap (times_of_place place) (sym (take-append-drop n order)) ∙ times-append itself place (take n order) (drop n order)
+  pub times_split : (place n : ℕ)
+      → times_of_place place order ≡ times_of_place place (take n order) + times_of_place place (drop n order)
+  times_split place n = ap (times_of_place place) (sym (take-append-drop n order))
+      ∙ times-append itself place (take n order) (drop n order)
 
   pub few : length tickets ≤ length order
   few = let e = length-take (length tickets) order in let f = as_many in omega arith
@@ -92,18 +110,22 @@ module _ {places : List Waiting} {numbers : List (Option ℕ)} {order tickets : 
     pub here : (i place : ℕ) → i < length ws → get_or order i 0 ≡ place → get_or opened i 0 ≡ place
     here i place lt is = get_or-take (length tickets) order i 0 (let e = count in omega arith) ∙ is
 
-    pub read_held : (i place : ℕ) → i < length ws → get_or order i 0 ≡ place → get_or places place nothing ≡ get_or ws i nothing
+    pub read_held : (i place : ℕ) → i < length ws → get_or order i 0 ≡ place
+        → get_or places place nothing ≡ get_or ws i nothing
     read_held i place lt is =
-        sym (held_got places opened i place (turn_opened i lt) (here i place lt is)) ∙ ap (λ (vs : List Waiting). get_or vs i nothing) view
+        sym (held_got places opened i place (turn_opened i lt) (here i place lt is))
+        ∙ ap (λ (vs : List Waiting). get_or vs i nothing) view
 
     -- The first free place, where there is one.
     pub next_free : length ws < table_size → get_or order (length tickets) 0 < table_size
     next_free room = read_within (length tickets) _ (let e = count in let g = t.all_turns in omega arith) refl
 
     -- The tickets are those of the requests.
-    pub ticket_got : (i : ℕ) → i < length ws → (d : Waiting) (e : ℕ) → get_or tickets i e ≡ (get_or ws i d).request.ticket
+    pub ticket_got : (i : ℕ) → i < length ws → (d : Waiting) (e : ℕ)
+        → get_or tickets i e ≡ (get_or ws i d).request.ticket
     ticket_got i lt d e =
-        ap (λ (ts : List ℕ). get_or ts i e) (sym t.ticketed ∙ ap (map ticket_in) view) ∙ get_or-map ticket_in ws i d e lt
+        ap (λ (ts : List ℕ). get_or ts i e) (sym t.ticketed ∙ ap (map ticket_in) view)
+        ∙ get_or-map ticket_in ws i d e lt
 
     pub rising : TicketsRise ws
     rising i j d early late =
@@ -113,11 +135,13 @@ module _ {places : List Waiting} {numbers : List (Option ℕ)} {order tickets : 
         omega arith
 
     -- A ticket stands at one turn.
-    pub one_turn : (i j : ℕ) → i < length ws → j < length ws → (get_or ws i nothing).request.ticket ≡ (get_or ws j nothing).request.ticket → i ≡ j
+    pub one_turn : (i j : ℕ) → i < length ws → j < length ws
+        → (get_or ws i nothing).request.ticket ≡ (get_or ws j nothing).request.ticket → i ≡ j
     one_turn i j lt most same = grind (arith, rising i j nothing, rising j i nothing)
 
     -- A turn at which the ticket stands.
-    pub likely_turn : (ticket : ℕ) (items : List ℕ) → items ≡ tickets → (i : ℕ) → slice_get items i ≡ Some ticket → IsTurnOf ticket ws (Some i)
+    pub likely_turn : (ticket : ℕ) (items : List ℕ) → items ≡ tickets → (i : ℕ) → slice_get items i ≡ Some ticket
+        → IsTurnOf ticket ws (Some i)
     likely_turn ticket items are i there =
         let got = ap (λ (ts : List ℕ). slice_get ts i) (sym are) ∙ there in
         let e = count in
@@ -130,13 +154,15 @@ module _ {places : List Waiting} {numbers : List (Option ℕ)} {order tickets : 
     pub searched_turn : (ticket : ℕ) (items : List ℕ) → items ≡ tickets → (r : Result ℕ ℕ) →
         IsBinarySearchResult (λ y. nat_cmp y ticket) items r → IsTurnOf ticket ws (result_ok r)
     searched_turn ticket items are r found =
-        by r (searched tickets ticket r (subst (λ (xs : List ℕ). IsBinarySearchResult (λ y. nat_cmp y ticket) xs r) are found) up)
+        by r (searched tickets ticket r
+        (subst (λ (xs : List ℕ). IsBinarySearchResult (λ y. nat_cmp y ticket) xs r) are found) up)
       where
         up : (i j : ℕ) → i ≤ j → j < length tickets → get_or tickets i 0 ≤ get_or tickets j 0
         up i j le lt = grind (arith, t.rise i j 0)
 
         by : (r : Result ℕ ℕ) → MatchResult r (λ i. (i < length tickets) × (get_or tickets i 0 ≡ ticket))
-            (λ i. (i ≤ length tickets) × ((k : ℕ) → k < i → get_or tickets k 0 < ticket) × ((k : ℕ) → i ≤ k → k < length tickets → ticket < get_or tickets k 0)) →
+            (λ i. (i ≤ length tickets) × ((k : ℕ) → k < i → get_or tickets k 0 < ticket)
+            × ((k : ℕ) → i ≤ k → k < length tickets → ticket < get_or tickets k 0)) →
             IsTurnOf ticket ws (result_ok r)
         by (Ok i) h =
             let e = count in
@@ -149,7 +175,8 @@ module _ {places : List Waiting} {numbers : List (Option ℕ)} {order tickets : 
             grind (arith, h.1 k, h.2 k)
 
   -- An open place, and the turn of the request there.
-  module _ (ws : List Waiting) (view : waiting_in places order tickets ≡ ws) (place : ℕ) (some : 0 < times_of_place place opened) where
+  module _ (ws : List Waiting) (view : waiting_in places order tickets ≡ ws) (place : ℕ)
+      (some : 0 < times_of_place place opened) where
     pub turn : (i : ℕ) × StandsAt place opened i
     turn = found_at place opened some
 
@@ -157,7 +184,8 @@ module _ {places : List Waiting} {numbers : List (Option ℕ)} {order tickets : 
     turn_lt = let e = count ws view in let f = as_many in let lt = turn.1.within in omega arith
 
     pub stands : get_or order turn.0 0 ≡ place
-    stands = sym (get_or-take (length tickets) order turn.0 0 (let lt = turn_lt in let e = count ws view in omega arith)) ∙ turn.1.there
+    stands = sym (get_or-take (length tickets) order turn.0 0
+        (let lt = turn_lt in let e = count ws view in omega arith)) ∙ turn.1.there
 
     pub open_below : place < table_size
     open_below = read_within turn.0 place (turn_within ws view turn.0 turn_lt) stands
@@ -175,17 +203,22 @@ module _ {places : List Waiting} {numbers : List (Option ℕ)} {order tickets : 
         is_some (get_or numbers index None) ≡ list_any (λ w. nat_eq number w.request.number) ws
     taken index is ws view = rw (is, ← view) (by (get_or numbers number None) refl)
       where
-        by : (entry : Option ℕ) → get_or numbers number None ≡ entry → is_some entry ≡ list_any (λ w. nat_eq number w.request.number) (waiting_in places order tickets)
-        by None is = sym (any_number number (held_at places opened) ∙ ap (nat_lt 0) (subst (Names places opened number) is (t.numbered.named number fits)))
+        by : (entry : Option ℕ) → get_or numbers number None ≡ entry
+            → is_some entry ≡ list_any (λ w. nat_eq number w.request.number) (waiting_in places order tickets)
+        by None is = sym
+            (any_number number (held_at places opened)
+            ∙ ap (nat_lt 0) (subst (Names places opened number) is (t.numbered.named number fits)))
         by (Some place) is =
             let turn = found_at place opened (named place is).0 in
-            let has = ap number_in (held_got places opened turn.0 place turn.1.within turn.1.there) ∙ (named place is).1 in
+            let has = ap number_in (held_got places opened turn.0 place turn.1.within turn.1.there)
+            ∙ (named place is).1 in
             sym (any_number number (held_at places opened) ∙ lt-ltb 0 _
             (subst (λ (k : ℕ). 0 < times number_in k (held_at places opened)) has
             (times_got number_in (held_at places opened) turn.0 nothing (rw length-map turn.1.within))))
 
   -- What an answer ends.
-  module _ (answer : Answer) (number : ℕ) (its : number ≡ answer.number) (fits : number < 256) (ws : List Waiting) (view : waiting_in places order tickets ≡ ws) where
+  module _ (answer : Answer) (number : ℕ) (its : number ≡ answer.number) (fits : number < 256) (ws : List Waiting)
+      (view : waiting_in places order tickets ≡ ws) where
     abbrev ends : Waiting → Bool
     ends w = is_answer_to w.request answer
 
@@ -200,7 +233,8 @@ module _ {places : List Waiting} {numbers : List (Option ℕ)} {order tickets : 
     pub closed_none : get_or numbers number None ≡ None → Ends [] ws
     closed_none is =
         let none = none_passes number_in ends number says ws
-        (subst (λ (vs : List Waiting). times number_in number vs ≡ 0) view (subst (Names places opened number) is (t.numbered.named number fits))) in
+        (subst (λ (vs : List Waiting). times number_in number vs ≡ 0) view
+        (subst (Names places opened number) is (t.numbered.named number fits))) in
         (sym (ap (map ticket_in) none.0), sym none.1)
 
     module _ (place : ℕ) (is : get_or numbers number None ≡ Some place) where
@@ -217,7 +251,8 @@ module _ {places : List Waiting} {numbers : List (Option ℕ)} {order tickets : 
         read : w ≡ get_or ws i nothing
         read = reads ∙ open_read ws view place some
 
-        found : (filter ends ws ≡ (if ends w then w ∷ [] else [])) × (filter (λ v. not (ends v)) ws ≡ (if ends w then remove ws i else ws))
+        found : (filter ends ws ≡ (if ends w then w ∷ [] else []))
+            × (filter (λ v. not (ends v)) ws ≡ (if ends w then remove ws i else ws))
         found =
             rw read
             (one_passes number_in ends number says ws i nothing (turn_lt ws view place some)
@@ -231,14 +266,21 @@ module _ {places : List Waiting} {numbers : List (Option ℕ)} {order tickets : 
           pub closed_some_turn : IsTurnOf ticket ws None → ⊥
           closed_some_turn none = none i nothing (turn_lt ws view place some) (sym (named ∙ ap ticket_in read))
 
-          pub closed_that : ends w ≡ true → (j : ℕ) → IsTurnOf ticket ws (Some j) → (after : List Waiting) → after ≡ remove ws j → Ends (ticket ∷ []) after
+          pub closed_that : ends w ≡ true → (j : ℕ) → IsTurnOf ticket ws (Some j) → (after : List Waiting)
+              → after ≡ remove ws j → Ends (ticket ∷ []) after
           closed_that passes j its after to =
               let both = rw passes at found in
-              rw (named, to, one_turn ws view j i its.0 (turn_lt ws view place some) (its.1 ∙ named ∙ ap ticket_in read)) (sym (ap (map ticket_in) both.0), sym both.1)
+              rw (
+                named,
+                to,
+                one_turn ws view j i its.0 (turn_lt ws view place some)
+                    (its.1 ∙ named ∙ ap ticket_in read),
+              ) (sym (ap (map ticket_in) both.0), sym both.1)
 
 -- ---- the look for a free number, one step at a time
 
-list_any-map : {A : Type 0} (f : A → ℕ) (p : ℕ → Bool) (xs : List A) → list_any p (map f xs) ≡ list_any (λ x. p (f x)) xs
+list_any-map : {A : Type 0} (f : A → ℕ) (p : ℕ → Bool) (xs : List A)
+    → list_any p (map f xs) ≡ list_any (λ x. p (f x)) xs
 list_any-map f p [] = refl
 list_any-map f p (x ∷ xs) = grind (arith, list_any-map f p xs)
 
@@ -261,10 +303,12 @@ module _ (last : ℕ) (ws : List Waiting) where
       let found = first_from (is_free last (map number_in ws)) 1 256 j e in
       grind (arith, nat_tests, found, list_any-map number_in (nat_eq ((last + j) % 256)) ws, before j)
 
-  pub free_is : (d : ℕ) → TakenBefore d → 1 ≤ d → d < 257 → is_taken d ≡ false → (last + d) % 256 ≡ next_number last (map number_in ws)
+  pub free_is : (d : ℕ) → TakenBefore d → 1 ≤ d → d < 257 → is_taken d ≡ false
+      → (last + d) % 256 ≡ next_number last (map number_in ws)
   unfolding next_number
   free_is d before low high free =
-      rw (first_at (is_free last (map number_in ws)) 1 256 d low high (rw (list_any-map number_in _ ws, free) refl) (not_before d before)) refl
+      rw (first_at (is_free last (map number_in ws)) 1 256 d low high (rw (list_any-map number_in _ ws, free) refl)
+      (not_before d before)) refl
 
   -- Where all others are taken, the last one is given again.
   pub last_is : last < 256 → TakenBefore 256 → last ≡ next_number last (map number_in ws)
@@ -279,9 +323,11 @@ module _ (last : ℕ) (ws : List Waiting) where
           omega arith
 
 -- No open request has the next number.
-pub number_unused : (last number : ℕ) (ws : List Waiting) → number ≡ next_number last (map number_in ws) → length ws < 256 → times number_in number ws ≡ 0
+pub number_unused : (last number : ℕ) (ws : List Waiting) → number ≡ next_number last (map number_in ws)
+    → length ws < 256 → times number_in number ws ≡ 0
 number_unused last number ws is few =
     let step = a_step last (map number_in ws) (rw length-map few) in
     let n : ℕ = (last + step.0) % 256 in
-    let none = ltb-false 0 (times number_in n ws) (sym (any_number n ws) ∙ sym (list_any-map number_in (nat_eq n) ws) ∙ step.1.free) in
+    let none = ltb-false 0 (times number_in n ws)
+    (sym (any_number n ws) ∙ sym (list_any-map number_in (nat_eq n) ws) ∙ step.1.free) in
     rw (is, step.1.next) (omega arith)

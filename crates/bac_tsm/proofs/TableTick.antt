@@ -1,11 +1,14 @@
 -- The loop over the open requests that are due at a tick.
-use Rattle.std.proofs.Common.{◌≡◌, ℕ, suc, ◌<◌, ◌≤◌, List, [], ◌∷◌, ◌++◌, length, map, take, drop, get_or, true, false, All, refl, ap, sym, ◌∙◌, add-one, arith, zero, ◌+◌, Bool, nat_lt, nat_le, if◌then◌else◌}
+use Rattle.std.proofs.Common.{◌≡◌, ℕ, suc, ◌<◌, ◌≤◌, List, [], ◌∷◌, ◌++◌, length, map, take, drop, get_or, true, false}
+use Rattle.std.proofs.Common.{All, refl, ap, sym, ◌∙◌, add-one, arith, zero, ◌+◌, Bool, nat_lt, nat_le, if◌then◌else◌}
 use Rattle.std.specs.List.{filter, flat_map, list_any, refill, AllPairs, count_by}
 use Rattle.std.specs.List.Sorted.{IsPermutation, IsNonDecreasingBy}
 use Rattle.std.proofs.lemmas.Bool.{false≢true}
-use Rattle.std.proofs.lemmas.List.{length-append, length-map, append-nil, append_assoc, take_all, drop_all, take-append-drop, drop_more, get_or_default, same_lists}
+use Rattle.std.proofs.lemmas.List.{length-append, length-map, append-nil, append_assoc, take_all, drop_all}
+use Rattle.std.proofs.lemmas.List.{take-append-drop, drop_more, get_or_default, same_lists}
 use Rattle.std.proofs.lemmas.List.Elements.{All-append, All-take, All-drop, Contains-get_or}
-use Rattle.std.proofs.lemmas.List.Sorted.{length_permutation, IsPermutation-trans, IsPermutation-append_right, IsPermutation-middle, Contains-permutation, sum_by-IsPermutation}
+use Rattle.std.proofs.lemmas.List.Sorted.{length_permutation, IsPermutation-trans, IsPermutation-append_right}
+use Rattle.std.proofs.lemmas.List.Sorted.{IsPermutation-middle, Contains-permutation, sum_by-IsPermutation}
 use Rattle.std.proofs.lemmas.List.Folds.{list_any_none}
 use Rattle.std.proofs.lemmas.Grind.{flat_map-append}
 use Rattle.std.proofs.lemmas.List.Kept.{AllPairs-filter}
@@ -13,8 +16,9 @@ use Rattle.std.proofs.lemmas.List.Sums.{length-filter, count_by-le-length, sum_b
 use Rattle.std.proofs.lemmas.Bool.Decides.{nat_tests}
 use Rattle.bac_tsm.specs.declared.due.Entry.{Entry}
 use Rattle.bac_tsm.specs.Events.{Rules}
-use Rattle.bac_tsm.specs.Machine.{Waiting, is_due, due_entry, due_answer, kept, ticket_of}
-use Rattle.bac_tsm.specs.Table.{IsPassed}
+use Rattle.bac_tsm.specs.Machine.{Waiting, is_due, due_entry, due_answer, kept}
+use Rattle.bac_tsm.specs.Inner.Machine.{ticket_of}
+use Rattle.bac_tsm.specs.Inner.Table.{IsPassed}
 use Rattle.bac_tsm.specs.Waiting.{nothing}
 use Rattle.bac_tsm.proofs.CallNotes.{TicketsRise, kept_of_one, pairs_map}
 
@@ -25,13 +29,29 @@ module _ {A : Type 0} (p : A → Bool) (d : A) where
   at_least : (xs : List A) (n : ℕ) → n ≤ length xs → ((i : ℕ) → i < n → p (get_or xs i d) ≡ true) → n ≤ count_by p xs
   at_least xs zero le all = omega arith
   at_least [] (suc n) le all = absurd (omega arith)
-  at_least (x ∷ xs) (suc n) le all = grind (arith, sum_by-cons (λ y. if p y then 1 else 0) x xs, all 0 (omega arith), at_least xs n (omega arith) (λ i lt. all (suc i) (omega arith)))
+  at_least (x ∷ xs) (suc n) le all =
+      grind (
+        arith,
+        sum_by-cons (λ y. if p y then 1 else 0) x xs,
+        all 0 (omega arith),
+        at_least xs n (omega arith) (λ i lt. all (suc i) (omega arith)),
+      )
 
   at_most : (xs : List A) (n : ℕ) → ((i : ℕ) → n ≤ i → i < length xs → p (get_or xs i d) ≡ false) → count_by p xs ≤ n
   at_most [] n none = omega arith
   at_most (x ∷ xs) zero none =
-      grind (arith, sum_by-cons (λ y. if p y then 1 else 0) x xs, none 0 (omega arith) (omega arith), at_most xs zero (λ i le lt. none (suc i) (omega arith) (omega arith)))
-  at_most (x ∷ xs) (suc n) none = grind (arith, sum_by-cons (λ y. if p y then 1 else 0) x xs, at_most xs n (λ i le lt. none (suc i) (omega arith) (omega arith)))
+      grind (
+        arith,
+        sum_by-cons (λ y. if p y then 1 else 0) x xs,
+        none 0 (omega arith) (omega arith),
+        at_most xs zero (λ i le lt. none (suc i) (omega arith) (omega arith)),
+      )
+  at_most (x ∷ xs) (suc n) none =
+      grind (
+        arith,
+        sum_by-cons (λ y. if p y then 1 else 0) x xs,
+        at_most xs n (λ i le lt. none (suc i) (omega arith) (omega arith)),
+      )
 
 module _ {A : Type 0} (key : A → ℕ) where
   abbrev Rise : List A → Type 0
@@ -49,10 +69,13 @@ module _ {A : Type 0} (key : A → ℕ) where
           let its = ap key is in
           let lower = λ (y : A). nat_lt (key y) (key x) in
           let up_to = λ (y : A). nat_le (key y) (key x) in
-          let e = at_least lower d xs k (omega arith) (λ i less. let f = rise i k d less lt in grind (arith, nat_tests)) in
+          let e = at_least lower d xs k (omega arith)
+          (λ i less. let f = rise i k d less lt in grind (arith, nat_tests)) in
           let f = at_most lower d ys j (λ i le most. let g = up j i d le most in grind (arith, nat_tests)) in
-          let g = at_least up_to d ys (j + 1) (omega arith) (λ i less. let h = up i j d (omega arith) within in grind (arith, nat_tests)) in
-          let h = at_most up_to d xs (k + 1) (λ i le most. let e = rise k i d (omega arith) most in grind (arith, nat_tests)) in
+          let g = at_least up_to d ys (j + 1) (omega arith)
+          (λ i less. let h = up i j d (omega arith) within in grind (arith, nat_tests)) in
+          let h = at_most up_to d xs (k + 1)
+          (λ i le most. let e = rise k i d (omega arith) most in grind (arith, nat_tests)) in
           let counts = sum_by-IsPermutation (λ y. if lower y then 1 else 0) xs ys moved in
           let more = sum_by-IsPermutation (λ y. if up_to y then 1 else 0) xs ys moved in
           let same : j ≡ k = omega arith in
@@ -61,7 +84,8 @@ module _ {A : Type 0} (key : A → ℕ) where
 -- A sort in place leaves what it sorts to.
 pub refilled : (xs ys : List Entry) → length ys ≡ length xs → refill (length xs) xs ys ≡ ys
 refilled xs ys long =
-    ap (λ (zs : List Entry). take (length xs) (ys ++ zs)) (drop_all (length ys) xs (omega arith)) ∙ ap (take (length xs)) (append-nil ys)
+    ap (λ (zs : List Entry). take (length xs) (ys ++ zs)) (drop_all (length ys) xs (omega arith))
+    ∙ ap (take (length xs)) (append-nil ys)
     ∙ take_all (length xs) ys (omega arith)
 
 module _ (rules : Rules) (clock : ℕ) where
@@ -71,13 +95,16 @@ module _ (rules : Rules) (clock : ℕ) where
   abbrev pub kept_of : List Waiting → List Waiting
   kept_of = flat_map (kept rules clock)
 
-  -- Some of the requests that were due have gone on to the clock: these are all the entries, those so far, and what is kept.
-  pub record HasTicked (all : List Entry) (kept_in_all : List Waiting) (entries : List Entry) (ws : List Waiting) : Type 0 where
+  -- Some of the requests that were due have gone on to the clock: these are all the entries, those so far, and what is
+  -- kept.
+  pub record HasTicked (all : List Entry) (kept_in_all : List Waiting) (entries : List Entry) (ws : List Waiting) : Type
+      0 where
     pub told : IsPermutation all (entries ++ due_of ws)
     pub stay : kept_of ws ≡ kept_in_all
     pub past : All (λ w. w.base ≤ clock) ws
 
-  pub nothing_due : (ws : List Waiting) → list_any (is_due rules clock) ws ≡ false → (due_of ws ≡ []) × (kept_of ws ≡ ws)
+  pub nothing_due : (ws : List Waiting) → list_any (is_due rules clock) ws ≡ false → (due_of ws ≡ [])
+      × (kept_of ws ≡ ws)
   nothing_due [] young = (refl, refl)
   nothing_due (w ∷ ws) young = grind (arith, nothing_due ws, young)
 
@@ -85,7 +112,8 @@ module _ (rules : Rules) (clock : ℕ) where
   again : 0 < rules.timeout → (w : Waiting) → is_due rules clock w ≡ true →
       (due_of (kept rules clock w) ≡ []) × (kept_of (kept rules clock w) ≡ kept rules clock w)
   again some w due = nothing_due (kept rules clock w)
-      (list_any_none (is_due rules clock) (kept rules clock w) (kept_of_one rules (λ v. is_due rules clock v ≡ false) clock w (λ young. young) (grind (arith, nat_tests))))
+      (list_any_none (is_due rules clock) (kept rules clock w)
+      (kept_of_one rules (λ v. is_due rules clock v ≡ false) clock w (λ young. young) (grind (arith, nat_tests))))
 
   due_is : (ws : List Waiting) → due_of ws ≡ map (due_entry rules) (filter (is_due rules clock) ws)
   due_is [] = refl
@@ -101,40 +129,53 @@ module _ (rules : Rules) (clock : ℕ) where
       let g = AllPairs-filter (λ v w. v.request.ticket < w.request.ticket) (is_due rules clock) ws rise i j d less lt in
       grind arith))
 
-  module _ (some : 0 < rules.timeout) {all : List Entry} {kept_in_all : List Waiting} {entries : List Entry} {ws : List Waiting} (h : HasTicked all kept_in_all entries ws) where
+  module _ (some : 0 < rules.timeout) {all : List Entry} {kept_in_all : List Waiting} {entries : List Entry}
+      {ws : List Waiting} (h : HasTicked all kept_in_all entries ws) where
     -- One more has gone on.
-    one_more : (entry : Entry) (after : List Waiting) (turn : ℕ) (w : Waiting) → turn < length ws → get_or ws turn nothing ≡ w → is_due rules clock w ≡ true → entry ≡ due_entry rules w →
-        after ≡ take turn ws ++ (kept rules clock w ++ drop (suc turn) ws) → HasTicked all kept_in_all (entries ++ entry ∷ []) after
+    one_more : (entry : Entry) (after : List Waiting) (turn : ℕ) (w : Waiting) → turn < length ws
+        → get_or ws turn nothing ≡ w → is_due rules clock w ≡ true → entry ≡ due_entry rules w →
+        after ≡ take turn ws ++ (kept rules clock w ++ drop (suc turn) ws)
+        → HasTicked all kept_in_all (entries ++ entry ∷ []) after
     one_more entry after turn w lt here due is to = record {
       told =
           IsPermutation-trans _ _ _ (rw told_before at h.told)
-          (rw (told_after, append_assoc) (IsPermutation-append_right entries _ _ (rw is (IsPermutation-middle (due_of (take turn ws)) (due_entry rules w) (due_of (drop (suc turn) ws))))));
-      stay = simp (to, flat_map-append, (again some w due).1) (simp flat_map-append at (ap kept_of (sym split) ∙ h.stay));
+          (rw (told_after, append_assoc)
+          (IsPermutation-append_right entries _ _
+          (rw is (IsPermutation-middle (due_of (take turn ws)) (due_entry rules w)
+          (due_of (drop (suc turn) ws))))));
+      stay = simp (to, flat_map-append, (again some w due).1)
+          (simp flat_map-append at (ap kept_of (sym split) ∙ h.stay));
       past =
           rw to
-          (All-append (λ v. v.base ≤ clock) (take turn ws) (kept rules clock w ++ drop (suc turn) ws) (All-take (λ v. v.base ≤ clock) turn ws h.past)
+          (All-append (λ v. v.base ≤ clock) (take turn ws) (kept rules clock w ++ drop (suc turn) ws)
+          (All-take (λ v. v.base ≤ clock) turn ws h.past)
           (All-append (λ v. v.base ≤ clock) (kept rules clock w) (drop (suc turn) ws)
-          (kept_of_one rules (λ v. v.base ≤ clock) clock w (λ young. absurd (false≢true (sym young ∙ due))) (omega arith))
+          (kept_of_one rules (λ v. v.base ≤ clock) clock w (λ young. absurd (false≢true (sym young ∙ due)))
+          (omega arith))
           (All-drop (λ v. v.base ≤ clock) (suc turn) ws h.past)));
     }
       where
         split : ws ≡ take turn ws ++ (w ∷ drop (suc turn) ws)
-        split = sym (take-append-drop turn ws) ∙ ap (λ (xs : List Waiting). take turn ws ++ xs) (rw (add-one, here) at (drop_more ws turn nothing lt))
+        split = sym (take-append-drop turn ws)
+            ∙ ap (λ (xs : List Waiting). take turn ws ++ xs) (rw (add-one, here) at (drop_more ws turn nothing lt))
 
         told_before : due_of ws ≡ due_of (take turn ws) ++ (due_entry rules w ∷ due_of (drop (suc turn) ws))
-        told_before = ap due_of split ∙ flat_map-append (due_answer rules clock) (take turn ws) (w ∷ drop (suc turn) ws) ∙ rw due refl
+        told_before = ap due_of split ∙ flat_map-append (due_answer rules clock) (take turn ws) (w ∷ drop (suc turn) ws)
+            ∙ rw due refl
 
         told_after : due_of after ≡ due_of (take turn ws) ++ due_of (drop (suc turn) ws)
         told_after = simp (to, flat_map-append, (again some w due).0)
 
-    pub passed : (entry : Entry) (after : List Waiting) → IsPassed rules clock ws entry after → HasTicked all kept_in_all (entries ++ entry ∷ []) after
+    pub passed : (entry : Entry) (after : List Waiting) → IsPassed rules clock ws entry after
+        → HasTicked all kept_in_all (entries ++ entry ∷ []) after
     passed entry after (turn, lt, due, is, to) = one_more entry after turn (get_or ws turn nothing) lt refl due is to
 
     pub fewer : (entry : Entry) (after : List Waiting) → IsPassed rules clock ws entry after →
         (length entries < length all) × (length (due_of after) < length (due_of ws))
     fewer entry after is =
         let now = sym (length-append entries (due_of ws)) ∙ length_permutation _ _ h.told in
-        let next = sym (length-append (entries ++ entry ∷ []) (due_of after)) ∙ length_permutation _ _ (passed entry after is).told in
+        let next = sym (length-append (entries ++ entry ∷ []) (due_of after))
+        ∙ length_permutation _ _ (passed entry after is).told in
         let one = length-append entries (entry ∷ []) in
         (omega arith, omega arith)
 

@@ -1,5 +1,6 @@
 -- What a new request gets, or why it is refused.
-use Rattle.std.specs.Prelude.{ℕ, ◌+◌, ◌-◌, ◌%◌, ◌^◌, List, length, Option, Some, None, not, nat_lt, nat_le, nat_eq, if◌then◌else◌, unwrap_or, Result, Ok, Err}
+use Rattle.std.specs.Prelude.{ℕ, ◌+◌, ◌-◌, ◌%◌, ◌^◌, List, length, Option, Some, None, not, nat_lt, nat_le, nat_eq}
+use Rattle.std.specs.Prelude.{if◌then◌else◌, unwrap_or, Result, Ok, Err}
 use Rattle.std.specs.List.{list_any}
 use Rattle.bac_tsm.specs.Limits.{longest_body}
 use Rattle.bac_tsm.specs.declared.client.SubmitFault.{SubmitFault}
@@ -12,14 +13,14 @@ unfoldable pub next_number : ℕ → List ℕ → ℕ
 next_number last taken =
     (last + unwrap_or (first_within (λ d. not (list_any (nat_eq ((last + d) % 256)) taken)) 1 256) 0) % 256
 
--- The first reason against a request with this body, with so many places, so many open and this ticket the next.
+-- The first reason to refuse a request with this body, by the places, the open requests and the next ticket.
 unfoldable pub refusal_of : ℕ → List ℕ → ℕ → ℕ → Option SubmitFault
 refusal_of places body open_count ticket =
     if nat_lt longest_body (length body) then Some TooLong
     else if nat_le places open_count then Some TableFull
     else if nat_lt ticket (2 ^ 64 - 1) then None else Some TicketsSpent
 
--- The request itself, if there is no reason against it.
+-- The request itself, where there is no reason to refuse it.
 abbrev pub unless_refused : {A : Type 0} → Option SubmitFault → A → Result A SubmitFault
 unless_refused None request = Ok request
 unless_refused (Some why) request = Err why

@@ -16,3 +16,4 @@ pub mod Examples
 pub mod Waiting
 pub mod Table
 pub mod Progress
+pub mod Inner

@@ -1,10 +1,10 @@
 -- The limits of a client. The code has constants of the same numbers.
 use Rattle.std.specs.Prelude.{ℕ}
 
--- the requests that may be open at once
+-- The requests that may be open at once.
 abbrev pub table_size : ℕ
 table_size = 64
 
--- the octets of the longest service body that is sent
+-- The octets of the longest service body that is sent.
 abbrev pub longest_body : ℕ
 longest_body = 476

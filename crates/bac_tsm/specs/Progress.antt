@@ -11,4 +11,5 @@ last_of first (next ∷ later) = last_of next later
 -- After position i ticks stand at these positions, one behind the other, and from each to the next the timeout passes.
 abbrev pub TimeoutsPass : Rules → List Event → ℕ → List ℕ → Type 0
 TimeoutsPass rules events i [] = ⊤
-TimeoutsPass rules events i (j ∷ later) = (i < j) × (has_waited rules events i j ≡ true) × TimeoutsPass rules events j later
+TimeoutsPass rules events i (j ∷ later) = (i < j) × (has_waited rules events i j ≡ true)
+    × TimeoutsPass rules events j later

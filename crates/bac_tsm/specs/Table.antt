@@ -1,10 +1,8 @@
 -- The table of open requests, and what is true of it.
-use Rattle.std.specs.Prelude.{◌≡◌, ◌≢◌, ℕ, suc, ◌<◌, ◌≤◌, List, ◌++◌, length, map, take, drop, remove, get_or, Option, Some, None, true, nat_eq}
-use Rattle.std.specs.List.{All, AllPairs, filter, find}
+use Rattle.std.specs.Prelude.{◌≡◌, ℕ, ◌<◌, ◌≤◌, List, length, map, take, get_or, Option, Some, None, nat_eq}
+use Rattle.std.specs.List.{AllPairs, filter}
 use Rattle.bac_tsm.specs.Limits.{table_size}
-use Rattle.bac_tsm.specs.Events.{Rules}
-use Rattle.bac_tsm.specs.declared.due.Entry.{Entry}
-use Rattle.bac_tsm.specs.Machine.{Waiting, is_due, due_entry, kept}
+use Rattle.bac_tsm.specs.Machine.{Waiting}
 use Rattle.bac_tsm.specs.Waiting.{ticket_in, number_in, nothing}
 
 -- The request at each of these places.
@@ -15,11 +13,11 @@ held_at places order = map (λ place. get_or places place nothing) order
 abbrev pub number_at : List Waiting → ℕ → ℕ
 number_at places place = (get_or places place nothing).request.number
 
--- How many of these have this key.
+-- How many of these things have this key.
 abbrev pub times : {A : Type 0} → (A → ℕ) → ℕ → List A → ℕ
 times key n xs = length (filter (λ x. nat_eq (key x) n) xs)
 
--- How often this place is among these.
+-- How often this place stands among these.
 abbrev pub times_of_place : ℕ → List ℕ → ℕ
 times_of_place = times (λ place. place)
 
@@ -31,7 +29,7 @@ open_places order tickets = take (length tickets) order
 abbrev pub waiting_in : List Waiting → List ℕ → List ℕ → List Waiting
 waiting_in places order tickets = held_at places (open_places order tickets)
 
--- What the entry of a number says: none that no open request has it, and a place that the request there does.
+-- The entry of a number: none where no open request has it, else the place of the one that has it.
 abbrev pub Names : List Waiting → List ℕ → ℕ → Option ℕ → Type 0
 Names places order number None = times number_in number (held_at places order) ≡ 0
 Names places order number (Some place) = (0 < times_of_place place order) × (number_at places place ≡ number)
@@ -42,8 +40,8 @@ pub record AreNamed (places : List Waiting) (numbers : List (Option ℕ)) (order
   pub apart : (number : ℕ) → times number_in number (held_at places order) ≤ 1
   pub named : (number : ℕ) → number < 256 → Names places order number (get_or numbers number None)
 
--- The parts of the table fit each other: each place stands in the order once, and the tickets are those of the open requests
--- and rise.
+-- The parts of the table fit each other: each place stands in the order once, and the tickets are those of the open
+-- requests and rise.
 pub record IsTable (places : List Waiting) (numbers : List (Option ℕ)) (order tickets : List ℕ) : Type 0 where
   pub all_places : length places ≡ table_size
   pub all_turns : length order ≡ table_size
@@ -53,26 +51,8 @@ pub record IsTable (places : List Waiting) (numbers : List (Option ℕ)) (order 
   pub ticketed : map ticket_in (waiting_in places order tickets) ≡ tickets
   pub rise : AllPairs (λ early late. early < late) tickets
 
--- The turn at which the request with this ticket stands, if one has it.
-abbrev pub IsTurnOf : ℕ → List Waiting → Option ℕ → Type 0
-IsTurnOf ticket ws None = All (λ w. w.request.ticket ≢ ticket) ws
-IsTurnOf ticket ws (Some turn) =
-    (turn < length ws) × ((get_or ws turn nothing).request.ticket ≡ ticket)
-    × (find (λ w. nat_eq w.request.ticket ticket) ws ≡ Some (get_or ws turn nothing))
-
 -- The places of the open requests stand in the order of their last sends, each once.
 pub record AreBySend (places : List Waiting) (opened sends : List ℕ) : Type 0 where
   pub all : length sends ≡ length opened
   pub same : (place : ℕ) → times_of_place place sends ≡ times_of_place place opened
   pub by_send : AllPairs (λ early late. early.base ≤ late.base) (held_at places sends)
-
--- One of the turns at which this place stood is taken out.
-abbrev pub IsTakenOut : ℕ → List ℕ → List ℕ → Type 0
-IsTakenOut place before after = (turn : ℕ) × (turn < length before) × (get_or before turn 0 ≡ place) × (after ≡ remove before turn)
-
--- One request that is due at this clock goes on to it, with this entry.
-abbrev pub IsPassed : Rules → ℕ → List Waiting → Entry → List Waiting → Type 0
-IsPassed rules clock before entry after =
-    (turn : ℕ) × (turn < length before) × (is_due rules clock (get_or before turn nothing) ≡ true)
-    × (entry ≡ due_entry rules (get_or before turn nothing))
-    × (after ≡ take turn before ++ (kept rules clock (get_or before turn nothing) ++ drop (suc turn) before))

@@ -31,8 +31,8 @@ pub enum SubmitFault {
 
 /// A client: its settings, its clock, and the requests that are open.
 ///
-/// It has a fixed size, takes no memory, and sends nothing itself: after a [`Client::submit`] that answers a ticket, and
-/// at each [`Entry::Resend`] of a tick, the caller sends what [`Client::to_send`] lends.
+/// It has a fixed size, takes no memory, and sends nothing itself: after a [`Client::submit`] that answers a ticket,
+/// and at each [`Entry::Resend`] of a tick, the caller sends what [`Client::to_send`] lends.
 #[derive(Drop)]
 pub struct Client {
     config: Config,
@@ -175,7 +175,8 @@ impl Client {
     // The first reason against a request with this body.
     #[tactic(auto, unfolding(crate::specs::Lookahead::refusal_of))]
     fn refusal(&self, body: &[u8]) -> Option<SubmitFault>
-        ensures reason { result ≡ refusal_of table_size body.now (length self.now.state.waiting) self.now.state.next_ticket }
+        ensures reason { result
+            ≡ refusal_of table_size body.now (length self.now.state.waiting) self.now.state.next_ticket }
         ensures short { IfNone result (length body.now ≤ longest_body) }
         ensures room { IfNone result (length self.now.state.waiting < table_size) }
         ensures ticket { IfNone result (self.now.state.next_ticket < u64.MAX) }

@@ -7,28 +7,28 @@ use crate::client::SubmitFault;
 use crate::due::Entry;
 use crate::outcome::{Ended, Outcome};
 
-/// `==` on faults.
+/// Faults are equal that are the same of the three.
 pub fn same_fault(fault: SubmitFault, other: SubmitFault) -> bool
     ensures { IsTrue result ↔ (fault ≡ other) }
 {
     fault == other
 }
 
-/// `==` on the entries of a tick.
+/// Entries of a tick are equal that are of the same kind and have the same ticket.
 pub fn same_entry(entry: Entry, other: Entry) -> bool
     ensures { IsTrue result ↔ (entry ≡ other) }
 {
     entry == other
 }
 
-/// `==` on outcomes, with the octets that they lend.
+/// Outcomes are equal that say the same, with the octets that they lend.
 pub fn same_outcome(outcome: Outcome<'_>, other: Outcome<'_>) -> bool
     ensures { IsTrue result ↔ (outcome_seen outcome.entry ≡ outcome_seen other.entry) }
 {
     outcome == other
 }
 
-/// `==` on ends, with the octets that they lend.
+/// Ends are equal that have the same ticket and the same outcome, with the octets that it lends.
 pub fn same_end(end: Ended<'_>, other: Ended<'_>) -> bool
     ensures { IsTrue result ↔ (end_seen end.entry ≡ end_seen other.entry) }
 {

@@ -1,8 +1,22 @@
 //! The client's side of BACnet transactions, without sockets: which requests are open, when each is sent, and how it
 //! ends. The caller hands in requests, datagrams and the time, and sends what the client tells it to send.
 //!
+//! [`Config::new`] has the timeout and the retries, and [`Client::new`] makes a client of it. [`Client::submit`] opens
+//! a request and answers its ticket; [`Client::to_send`] lends the datagram that the caller sends. [`Client::datagram`]
+//! is handed what comes, and says which request that ends. [`Client::tick`] is handed the time, and says which requests
+//! are to be sent again and which have ended.
+//!
 //! Each call of [`Client`] is one step of a machine that `specs/Machine.antt` defines, and `specs/Lookahead.antt` says
 //! what comes of a whole list of calls without a machine. [`run_is_lookahead`] states that these two agree.
+//!
+//! Of `examples_of_a_request` in `src/examples.rt`, which is proved: what is told of a read under ticket 0 and number
+//! 1, each time with the position of the event.
+//!
+//! ```text
+//! // No answer comes.
+//! ensures retries { told usual 0 (read ∷ Tick 2999 ∷ Tick 3000 ∷ Tick 6000 ∷ Tick 9000 ∷ Tick 12000 ∷ []) ≡
+//!     (0, sent 0 1) ∷ (2, sent 0 1) ∷ (3, sent 0 1) ∷ (4, sent 0 1) ∷ (5, TimedOut 0) ∷ [] }
+//! ```
 #![tactic(auto)]
 
 mod answer;

@@ -6,9 +6,9 @@ ghost use Rattle.bac_tsm.specs.Machine.{is_due, due_entry};
 ghost use Rattle.bac_pdu.specs.Peer.{station};
 ghost use Rattle.std.specs.Option.{option_map_or};
 ghost use Rattle.bac_tsm.specs.Answers.{same_station, is_answer_to};
-ghost use Rattle.bac_tsm.specs.Seen.{answer_seen};
+ghost use Rattle.bac_tsm.specs.Inner.Seen.{answer_seen};
 ghost use Rattle.bac_tsm.specs.Client.{client_rules};
-ghost use Rattle.bac_tsm.specs.Waiting.{begun};
+ghost use Rattle.bac_tsm.specs.Inner.Waiting.{begun};
 
 use crate::answer::Answer;
 use crate::config::Config;
@@ -18,7 +18,8 @@ use bac_pdu::Peer;
 use bac_wire::Frame;
 use std::marker::Model;
 
-/// What a request is opened with: its ticket, whom it goes to, its service and number, and the clock at which it is sent.
+/// What a request is opened with: its ticket, whom it goes to, its service and number, and the clock at which it is
+/// sent.
 #[derive(Clone, Copy)]
 pub(crate) struct Asked {
     pub(crate) ticket: u64,

@@ -1,17 +1,21 @@
 //! The open requests.
 
-ghost use Rattle.std.specs.Prelude.{◌≡◌, None, replicate, ◌<◌, ◌≤◌, ◌++◌, [], ◌∷◌, ℕ, true, not, length, map, nat_eq, position, get_or, remove, set};
+ghost use Rattle.std.specs.Prelude.{◌≡◌, None, replicate, ◌<◌, ◌≤◌, ◌++◌, [], ◌∷◌, ℕ, true, not, length, map, nat_eq};
+ghost use Rattle.std.specs.Prelude.{position, get_or, remove, set};
 ghost use Rattle.std.specs.List.{All, AllPairs, filter, find, flat_map, list_any};
 ghost use Rattle.std.specs.Option.{option_copied, option_to_list};
 ghost use Rattle.bac_tsm.specs.Limits.{longest_body, table_size};
 ghost use Rattle.bac_tsm.specs.Lookahead.{next_number};
 ghost use Rattle.std.specs.List.Sorted.{IsPermutation, IsNonDecreasingBy};
-ghost use Rattle.bac_tsm.specs.Machine.{is_due, due_answer, kept, ticket_of};
+ghost use Rattle.bac_tsm.specs.Machine.{is_due, due_answer, kept};
+ghost use Rattle.bac_tsm.specs.Inner.Machine.{ticket_of};
 ghost use Rattle.bac_tsm.specs.Answers.{is_answer_to};
-ghost use Rattle.bac_tsm.specs.Seen.{answer_seen};
+ghost use Rattle.bac_tsm.specs.Inner.Seen.{answer_seen};
 ghost use Rattle.bac_tsm.specs.Client.{client_rules};
-ghost use Rattle.bac_tsm.specs.Table.{times, times_of_place, IsTurnOf, IsPassed, IsTakenOut};
-ghost use Rattle.bac_tsm.specs.Waiting.{begun, sent_at, nothing, ticket_in, number_in};
+ghost use Rattle.bac_tsm.specs.Table.{times, times_of_place};
+ghost use Rattle.bac_tsm.specs.Inner.Table.{IsTurnOf, IsPassed, IsTakenOut};
+ghost use Rattle.bac_tsm.specs.Waiting.{nothing, ticket_in, number_in};
+ghost use Rattle.bac_tsm.specs.Inner.Waiting.{begun, sent_at};
 
 use crate::answer::Answer;
 use crate::config::Config;
@@ -24,10 +28,11 @@ use std::marker::Model;
 
 /// The open requests, in the order of their tickets.
 ///
-/// A request stays at its place until it ends. All places stand in one order, first those of the open requests, by ticket,
-/// and then the free ones. The tickets stand beside it, so that one is found without a look at the places, and the place of
-/// each number in a table. The places of the open requests stand once more in the order of their last sends, so that a tick
-/// looks at those that are due, and at the first that isn't. Each datagram is written in one frame, and then kept at its place.
+/// A request stays at its place until it ends. All places stand in one order, first those of the open requests, by
+/// ticket, and then the free ones. The tickets stand beside it, so that one is found without a look at the places, and
+/// the place of each number in a table. The places of the open requests stand once more in the order of their last
+/// sends, so that a tick looks at those that are due, and at the first that isn't. Each datagram is written in one
+/// frame, and then kept at its place.
 #[derive(Drop)]
 pub(crate) struct Table {
     places: [OpenRequest; PLACES],
@@ -82,8 +87,8 @@ impl Table {
         Some(self.at(turn))
     }
 
-    // The turn of the request with this ticket. It is looked at first where it stands if none between it and the last has
-    // ended.
+    // The turn of the request with this ticket: its index in the order. Where it stands if no request between it and
+    // the last has ended is looked at first.
     fn turn_of(&self, ticket: u64) -> Option<usize>
         ensures { IsTurnOf ticket self.now result }
     {
@@ -142,10 +147,11 @@ impl Table {
         put_last(&mut self.sends, place);
     }
 
-    // Ends the request that the answer is to, and answers its ticket. Only the request with the answer's number is looked
-    // at.
+    // Ends the request that the answer is to, and answers its ticket. Only the request with the answer's number is
+    // looked at.
     pub(crate) fn close(&mut self, answer: &Answer<'_>) -> Option<u64>
-        ensures told { option_to_list result ≡ map ticket_in (filter (λ w. is_answer_to w.request (answer_seen answer.now)) self.old) }
+        ensures told { option_to_list result
+            ≡ map ticket_in (filter (λ w. is_answer_to w.request (answer_seen answer.now)) self.old) }
         ensures others { self.new ≡ filter (λ w. not (is_answer_to w.request (answer_seen answer.now))) self.old }
     {
         let place = self.numbers[usize::from(answer.number)]?;
@@ -171,15 +177,16 @@ impl Table {
         }
     }
 
-    // Brings each request that is due to this clock, and takes down what becomes of it, in the order of tickets. It stands
-    // alone, so that a tick at which nothing is due is a comparison at its caller.
+    // Brings each request that is due to this clock, and takes down what becomes of it, in the order of tickets. It
+    // stands alone, so that a tick at which nothing is due is a comparison at its caller.
     #[inline(never)]
     pub(crate) fn pass_all(&mut self, clock: u64, config: Config, entries: &mut Entries)
         requires due { list_any (is_due (client_rules config.timeout config.retries) clock) self.old ≡ true }
         requires past { All (λ w. w.base ≤ clock) self.old }
         requires empty { entries.old.items ≡ [] }
         requires few { length self.old ≤ table_size }
-        ensures told { IsPermutation (flat_map (due_answer (client_rules config.timeout config.retries) clock) self.old) entries.new.items }
+        ensures told { IsPermutation (flat_map (due_answer (client_rules config.timeout config.retries) clock) self.old)
+            entries.new.items }
         ensures by_ticket { IsNonDecreasingBy ticket_of entries.new.items }
         ensures kept { self.new ≡ flat_map (kept (client_rules config.timeout config.retries) clock) self.old }
     {
@@ -295,7 +302,7 @@ fn turn_of_place(places: &[u8], place: u8) -> Option<usize>
     places.iter().position(|other| *other == place)
 }
 
-// No entry for any number.
+// A table of numbers of which none is taken.
 fn no_numbers() -> [Option<u8>; 256]
     ensures { result ≡ replicate 256 None }
 {

@@ -1,6 +1,7 @@
 //! The laws of the client: what its machine does is what the look-ahead says.
 
-ghost use Rattle.std.specs.Prelude.{◌≡◌, ◌≢◌, ◌↔◌, ℕ, suc, ◌+◌, ◌<◌, ◌≤◌, List, ◌∷◌, ◌++◌, length, Some, IsSomeAnd, take, true};
+ghost use Rattle.std.specs.Prelude.{◌≡◌, ◌≢◌, ◌↔◌, ℕ, suc, ◌+◌, ◌<◌, ◌≤◌, List, ◌∷◌, ◌++◌, length, Some, IsSomeAnd};
+ghost use Rattle.std.specs.Prelude.{take, true};
 ghost use Rattle.std.specs.List.{AllPairs};
 ghost use Rattle.bac_pdu.specs.Peer.{Station};
 ghost use Rattle.bac_tsm.specs.Answers.{same_station, outcome_of};
@@ -25,9 +26,11 @@ pub fn run_is_lookahead()
 
 /// The same of the rules that a client goes by.
 pub fn client_is_lookahead()
-    ensures notes { (timeout retries first_ticket : ℕ) (events : List Event) → let rules = client_rules timeout retries in
+    ensures notes { (timeout retries first_ticket : ℕ) (events : List Event)
+        → let rules = client_rules timeout retries in
         (folded rules (initial first_ticket) 0 events).notes ≡ outputs rules first_ticket events 0 (length events) }
-    ensures kept { (timeout retries first_ticket : ℕ) (events : List Event) (n : ℕ) → n ≤ length events → let rules = client_rules timeout retries in
+    ensures kept { (timeout retries first_ticket : ℕ) (events : List Event) (n : ℕ) → n ≤ length events
+        → let rules = client_rules timeout retries in
         (folded rules (initial first_ticket) 0 (take n events)).after ≡ state_at rules first_ticket events n }
 {}
 
@@ -48,13 +51,15 @@ pub fn answers_in_words()
         (outcome_of request from datagram ≡ Some outcome) ↔ IsAnsweredBy request from datagram outcome }
 {}
 
-/// At each position few requests are open, under different numbers, and each is sent only so often.
+/// At each position at most as many requests are open as there are places, under different numbers; each is sent at
+/// most once more than the retries.
 #[tactic(auto, using(crate::proofs::OpenRequests::roomy, crate::proofs::OpenRequests::tickets_rise, crate::proofs::NumberReuse::few_sends))]
 pub fn table_is_bounded()
     ensures few { (rules : Rules) (first_ticket : ℕ) (events : List Event) (n : ℕ) →
         rules.places ≤ 255 → length (open_at rules first_ticket events n) ≤ rules.places }
     ensures apart { (rules : Rules) (first_ticket : ℕ) (events : List Event) (n : ℕ) →
-        rules.places ≤ 255 → AllPairs (λ a b. a.request.number ≢ b.request.number) (open_at rules first_ticket events n) }
+        rules.places ≤ 255
+        → AllPairs (λ a b. a.request.number ≢ b.request.number) (open_at rules first_ticket events n) }
     ensures tickets { (rules : Rules) (first_ticket : ℕ) (events : List Event) (n : ℕ) →
         AllPairs (λ a b. a.request.ticket < b.request.ticket) (open_at rules first_ticket events n) }
     ensures sends { (rules : Rules) (events : List Event) (a : Accepted) →
@@ -69,26 +74,27 @@ pub fn output_looks_back()
         output rules first_ticket events n ≡ output rules first_ticket others n }
 {}
 
-/// Between two requests with the same number many others are accepted.
+/// Between two requests with the same number, at least 256 less the places others are accepted.
 #[tactic(auto, using(crate::proofs::NumberReuse::back_late))]
 pub fn numbers_come_back_late()
     ensures { (rules : Rules) (first_ticket : ℕ) (events : List Event) (n : ℕ) →
         rules.places ≤ 255 → NumbersComeBackLate rules.places (accepted rules first_ticket events n) }
 {}
 
-/// Each number that was passed since a request was accepted, given or skipped, is its own, or that of a request open then or
-/// accepted since.
+/// Each number that was passed since a request was accepted, given or skipped, is its own, or that of a request open
+/// then or accepted since.
 pub fn passed_numbers_are_held()
     ensures { (rules : Rules) (first_ticket : ℕ) (events : List Event) (n : ℕ) → rules.places ≤ 255 →
         (before since : List Accepted) (a : Accepted) → accepted rules first_ticket events n ≡ before ++ a ∷ since →
         PassedAreHeld a (open_among rules events a.position before) since }
 {}
 
-/// No request waits for ever: as often as the timeout passed, by ticks, it has been due, and once that is more often than it is sent
-/// again, it has ended (clause 5.4.4).
+/// No request waits for ever: as often as the timeout passed, by ticks, it has been due, and once that is more often
+/// than it is sent again, it has ended (clause 5.4.4).
 pub fn no_request_waits_for_ever()
     ensures due { (rules : Rules) (events : List Event) (i : ℕ) (ticks : List ℕ) → TimeoutsPass rules events i ticks →
         IsSomeAnd (due rules events i (length ticks)) (λ j. j ≤ last_of i ticks) }
-    ensures ended { (rules : Rules) (events : List Event) (a : Accepted) (ticks : List ℕ) → TimeoutsPass rules events a.position ticks →
+    ensures ended { (rules : Rules) (events : List Event) (a : Accepted) (ticks : List ℕ)
+        → TimeoutsPass rules events a.position ticks →
         length ticks ≡ suc rules.retries → IsSomeAnd (end rules events a) (λ e. e.position ≤ last_of a.position ticks) }
 {}

@@ -1,5 +1,7 @@
--- Whole items leave one rest, no item begins another, a region is no deeper than allowed, and what reads items finds what the relations say.
-use Rattle.std.proofs.Common.{◌≡◌, ℕ, zero, suc, ◌+◌, ◌-◌, ◌<◌, ◌≤◌, ltb, List, [], ◌∷◌, ◌++◌, length, take, drop, Option, Some, None, refl, sym, ap, subst, ◌∙◌, append_assoc, arith, inl, inr, ◌↔◌}
+-- Whole items leave one rest, no item begins another, a region is no deeper than allowed, and what reads items finds
+-- what the relations say.
+use Rattle.std.proofs.Common.{◌≡◌, ℕ, zero, suc, ◌+◌, ◌-◌, ◌<◌, ◌≤◌, ltb, List, [], ◌∷◌, ◌++◌, length, take, drop}
+use Rattle.std.proofs.Common.{Option, Some, None, refl, sym, ap, subst, ◌∙◌, append_assoc, arith, inl, inr, ◌↔◌}
 use Rattle.std.specs.Option.{option_map}
 use Rattle.std.proofs.lemmas.Bool.{le-ltb, ltb-false}
 use Rattle.std.proofs.lemmas.List.{append_cancel_left, append_cancel_right, append-nil, drop_at, length-take-le}
@@ -7,65 +9,92 @@ use Rattle.std.proofs.lemmas.Option.{none-some, some_pair_parts, same_Some}
 use Rattle.bac_wire.specs.declared.tag.Shape.{Shape}
 use Rattle.bac_wire.specs.declared.tag.Shape.TheVariants.{Opening, Closing}
 use Rattle.bac_wire.specs.declared.tag.Tag.{Tag}
-use Rattle.bac_wire.specs.Front.{Finds}
+use Rattle.bac_wire.specs.Inner.Front.{Finds}
 use Rattle.bac_wire.specs.Tag.{SpellsTag}
 use Rattle.bac_wire.specs.Steps.{◌>>=◌}
 use Rattle.bac_wire.specs.TagReading.{tag_at}
-use Rattle.bac_wire.specs.Region.{opening_tag, closing_tag, CountsBehind, IsSequence, none, more, IsItem, IsRegion, IsClosedBy, HasEnded, LeavesRest, LeavesBehind, IsClosedRegion, FindsRegion, SpellsClosed, Opens, here, past, into}
+use Rattle.bac_wire.specs.Region.{opening_tag, closing_tag, IsSequence, none, more, IsItem, IsRegion, IsClosedBy}
+use Rattle.bac_wire.specs.Region.{HasEnded, LeavesRest, IsClosedRegion, FindsRegion, SpellsClosed, Opens, here, past}
+use Rattle.bac_wire.specs.Region.{into}
+use Rattle.bac_wire.specs.Inner.Region.{CountsBehind, LeavesBehind}
 use Rattle.bac_wire.specs.ItemReading.{behind_count, behind_closing, behind_item, behind_items, region_at}
 use Rattle.bac_wire.proofs.Readers.{IsReader, found_at, take_front, unless}
 use Rattle.bac_wire.proofs.TagLaws.{tag_reader, bind_some}
-use Rattle.bac_wire.proofs.RegionReading.{no_octets, closing_read, after_shorter, item_shorter, item_at, ended_none, one_step, closed_takes, closed_again, item_at_takes, items_take, item_again, items_again}
+use Rattle.bac_wire.proofs.RegionReading.{no_octets, closing_read, after_shorter, item_shorter, item_at, ended_none}
+use Rattle.bac_wire.proofs.RegionReading.{one_step, closed_takes, closed_again, item_at_takes, items_take, item_again}
+use Rattle.bac_wire.proofs.RegionReading.{items_again}
 
 -- ---- one rest, and one item
 
-left_again : (count depth top : ℕ) (octets rest : List ℕ) → depth ≤ top → length octets < count → LeavesRest depth octets rest → behind_items count top octets ≡ Some rest
-left_again count depth top octets rest le short l = ap (behind_items count top) l.whole ∙ items_again count depth top l.front rest le (rw l.whole at short) l.region l.ended
+left_again : (count depth top : ℕ) (octets rest : List ℕ) → depth ≤ top → length octets < count
+    → LeavesRest depth octets rest → behind_items count top octets ≡ Some rest
+left_again count depth top octets rest le short l = ap (behind_items count top) l.whole
+    ∙ items_again count depth top l.front rest le (rw l.whole at short) l.region l.ended
 
 -- whole items leave one rest, whatever depth is allowed
-pub one_left : (depth other : ℕ) (octets rest another : List ℕ) → LeavesRest depth octets rest → LeavesRest other octets another → rest ≡ another
+pub one_left : (depth other : ℕ) (octets rest another : List ℕ) → LeavesRest depth octets rest
+    → LeavesRest other octets another → rest ≡ another
 one_left depth other octets rest another l m =
     let count : ℕ = suc (length octets) in
-    same_Some rest another (sym (left_again count depth (depth + other) octets rest (omega arith) (omega arith) l) ∙ left_again count other (depth + other) octets another (omega arith) (omega arith) m)
+    same_Some rest another
+    (sym (left_again count depth (depth + other) octets rest (omega arith) (omega arith) l)
+    ∙ left_again count other (depth + other) octets another (omega arith) (omega arith) m)
 
-pub region_leaves : (depth number : ℕ) (octets front : List ℕ) (r : IsClosedRegion depth number octets front) → LeavesRest depth octets r.behind
-region_leaves depth number octets front r = record { front = front; region = r.region; whole = r.whole; ended = inr (number, r.rest, r.closed) }
+pub region_leaves : (depth number : ℕ) (octets front : List ℕ) (r : IsClosedRegion depth number octets front)
+    → LeavesRest depth octets r.behind
+region_leaves depth number octets front r =
+    record { front = front; region = r.region; whole = r.whole; ended = inr (number, r.rest, r.closed) }
 
 -- an item in front of a rest is read, where as many octets are allowed
-pub item_read : (count depth top : ℕ) (octets item rest : List ℕ) → depth ≤ top → length octets < suc count → IsItem depth item
+pub item_read : (count depth top : ℕ) (octets item rest : List ℕ) → depth ≤ top → length octets < suc count
+    → IsItem depth item
     → octets ≡ item ++ rest → item_at (behind_items count) top octets ≡ Some rest
-item_read count depth top octets item rest le short i e = ap (item_at (behind_items count) top) e ∙ item_again (behind_items count) count depth top item rest (items_again count) le (rw e at short) i
+item_read count depth top octets item rest le short i e = ap (item_at (behind_items count) top) e
+    ∙ item_again (behind_items count) count depth top item rest (items_again count) le (rw e at short) i
 
 -- no item begins another, whatever depth is allowed to either
 pub one_item : (depth other : ℕ) (a b u v : List ℕ) → IsItem depth a → IsItem other b → a ++ u ≡ b ++ v → a ≡ b
 one_item depth other a b u v i j e =
     let count : ℕ = length (a ++ u) in
     let first = item_read count depth (depth + other) (a ++ u) a u (omega arith) (omega arith) i refl in
-    let same = same_Some u v (sym first ∙ item_read count other (depth + other) (a ++ u) b v (omega arith) (omega arith) j e) in
+    let same = same_Some u v
+    (sym first ∙ item_read count other (depth + other) (a ++ u) b v (omega arith) (omega arith) j e) in
     append_cancel_right a b v (ap (λ (w : List ℕ). a ++ w) (sym same) ∙ e)
 
 -- no item stands where the items have ended, and none begins with a closing tag
-pub item_ended : (depth : ℕ) (octets item rest : List ℕ) → HasEnded octets → IsItem depth item → octets ≡ item ++ rest → ⊥
+pub item_ended : (depth : ℕ) (octets item rest : List ℕ) → HasEnded octets → IsItem depth item → octets ≡ item ++ rest
+    → ⊥
 item_ended depth octets item rest ended i e =
-    none-some rest (sym (ended_none (behind_items (length octets)) depth octets ended) ∙ item_read (length octets) depth depth octets item rest (omega arith) (omega arith) i e)
+    none-some rest (sym (ended_none (behind_items (length octets)) depth octets ended)
+    ∙ item_read (length octets) depth depth octets item rest (omega arith) (omega arith) i e)
 
-pub item_opens : (depth number : ℕ) (item closing u v : List ℕ) → IsItem depth item → SpellsTag closing (closing_tag number) → item ++ u ≡ closing ++ v → ⊥
-item_opens depth number item closing u v i s e = item_ended depth (item ++ u) item u (inr (number, v, record { closing = closing; closed = s; whole = e })) i refl
+pub item_opens : (depth number : ℕ) (item closing u v : List ℕ) → IsItem depth item
+    → SpellsTag closing (closing_tag number) → item ++ u ≡ closing ++ v → ⊥
+item_opens depth number item closing u v i s e =
+    item_ended depth (item ++ u) item u (inr (number, v, record { closing = closing; closed = s; whole = e })) i refl
 
 -- ---- one region, and how deep it is
 
-pub one_region : (depth other number another : ℕ) (octets a b : List ℕ) → IsClosedRegion depth number octets a → IsClosedRegion other another octets b → (a ≡ b) × (number ≡ another)
+pub one_region : (depth other number another : ℕ) (octets a b : List ℕ) → IsClosedRegion depth number octets a
+    → IsClosedRegion other another octets b → (a ≡ b) × (number ≡ another)
 one_region depth other number another octets a b r s =
-    let same = one_left depth other octets r.behind s.behind (region_leaves depth number octets a r) (region_leaves other another octets b s) in
-    let tags = some_pair_parts (closing_tag number) (closing_tag another) r.rest s.rest (sym (closing_read number r.behind r.rest r.closed) ∙ ap tag_at same ∙ closing_read another s.behind s.rest s.closed) in
-    (append_cancel_right a b s.behind (ap (λ (w : List ℕ). a ++ w) (sym same) ∙ sym r.whole ∙ s.whole), ap (λ (t : Tag). t.number) tags.0)
+    let same = one_left depth other octets r.behind s.behind (region_leaves depth number octets a r)
+    (region_leaves other another octets b s) in
+    let tags = some_pair_parts (closing_tag number) (closing_tag another) r.rest s.rest
+    (sym (closing_read number r.behind r.rest r.closed) ∙ ap tag_at same
+    ∙ closing_read another s.behind s.rest s.closed) in (
+      append_cancel_right a b s.behind (ap (λ (w : List ℕ). a ++ w) (sym same) ∙ sym r.whole ∙ s.whole),
+      ap (λ (t : Tag). t.number) tags.0,
+    )
 
 -- items have not ended where an opening tag stands
-no_ended_opening : (octets : List ℕ) (number : ℕ) (after : List ℕ) → tag_at octets ≡ Some (opening_tag number, after) → HasEnded octets → ⊥
+no_ended_opening : (octets : List ℕ) (number : ℕ) (after : List ℕ) → tag_at octets ≡ Some (opening_tag number, after)
+    → HasEnded octets → ⊥
 no_ended_opening octets number after e ended = elim ended [
   | inl empty ↦ none-some (opening_tag number, after) (sym (ap tag_at empty ∙ no_octets) ∙ e)
   | inr closed ↦
-      let tags = some_pair_parts (opening_tag number) (closing_tag closed.0) after closed.1 (sym e ∙ closing_read closed.0 octets closed.1 closed.2) in
+      let tags = some_pair_parts (opening_tag number) (closing_tag closed.0) after closed.1
+      (sym e ∙ closing_read closed.0 octets closed.1 closed.2) in
       let shapes : ◌≡◌ {A = Shape} Opening Closing = ap (λ (t : Tag). t.shape) tags.0 in
       absurd cc
 ]
@@ -75,28 +104,41 @@ inside_of : (count depth number : ℕ) (after next : List ℕ)
     → behind_item (behind_items count) depth (opening_tag number) Opening after ≡ Some next
     → (below : ℕ) × (depth ≡ suc below) × (mid : List ℕ) × LeavesRest below after mid
 inside_of count zero number after next e = absurd (none-some next e)
-inside_of count (suc depth) number after next e = let a = bind_some (behind_items count depth after) (behind_closing number) next e in (depth, refl, a.0, items_take count depth after a.0 a.1)
+inside_of count (suc depth) number after next e =
+    let a = bind_some (behind_items count depth after) (behind_closing number) next e in
+    (depth, refl, a.0, items_take count depth after a.0 a.1)
 
-opens_within : (depth count : ℕ) (front region tail rest : List ℕ) → Opens count front → IsSequence (IsItem depth) region → HasEnded tail → region ++ tail ≡ front ++ rest → count ≤ depth
+opens_within : (depth count : ℕ) (front region tail rest : List ℕ) → Opens count front
+    → IsSequence (IsItem depth) region → HasEnded tail → region ++ tail ≡ front ++ rest → count ≤ depth
 opens_within depth count front region tail rest here s ended e = omega arith
 opens_within depth count front region tail rest (past {rest = others} other item i o) none ended e =
     absurd (item_ended other tail item (others ++ rest) ended i (e ∙ append_assoc item others rest))
-opens_within depth count front region tail rest (past {rest = others} other item i o) (more {first} {rest = after} j s) ended e =
-    let line : first ++ (after ++ tail) ≡ item ++ (others ++ rest) = sym (append_assoc first after tail) ∙ e ∙ append_assoc item others rest in
+opens_within depth count front region tail rest (past {rest = others} other item i o) (more {first} {rest = after} j s)
+    ended e =
+    let line : first ++ (after ++ tail) ≡ item ++ (others ++ rest) = sym (append_assoc first after tail) ∙ e
+    ∙ append_assoc item others rest in
     let same = one_item depth other first item (after ++ tail) (others ++ rest) j i line in
-    let next = append_cancel_left first (after ++ tail) (others ++ rest) (line ∙ ap (λ (w : List ℕ). w ++ (others ++ rest)) (sym same)) in
+    let next = append_cancel_left first (after ++ tail) (others ++ rest)
+    (line ∙ ap (λ (w : List ℕ). w ++ (others ++ rest)) (sym same)) in
     opens_within depth count others after tail rest o s ended next
 opens_within depth count front region tail rest (into {opening} {rest = others} number t o) none ended e =
-    absurd (no_ended_opening tail number (others ++ rest) (ap tag_at (e ∙ append_assoc opening others rest) ∙ tag_reader.again opening (opening_tag number) (others ++ rest) t) ended)
-opens_within depth count front region tail rest (into {count = fewer} {opening} {rest = others} number t o) (more {first} {rest = after} j s) ended e =
+    absurd (no_ended_opening tail number (others ++ rest)
+    (ap tag_at (e ∙ append_assoc opening others rest)
+    ∙ tag_reader.again opening (opening_tag number) (others ++ rest) t) ended)
+opens_within depth count front region tail rest (into {count = fewer} {opening} {rest = others} number t o)
+    (more {first} {rest = after} j s) ended e =
     let octets : List ℕ = opening ++ (others ++ rest) in
-    let line : octets ≡ first ++ (after ++ tail) = sym (sym (append_assoc first after tail) ∙ e ∙ append_assoc opening others rest) in
+    let line : octets ≡ first ++ (after ++ tail) =
+    sym (sym (append_assoc first after tail) ∙ e ∙ append_assoc opening others rest) in
     let read = item_read (length octets) depth depth octets first (after ++ tail) (omega arith) (omega arith) j line in
-    let inside = inside_of (length octets) depth number (others ++ rest) (after ++ tail) (rw (tag_reader.again opening (opening_tag number) (others ++ rest) t) at read) in
-    let within = opens_within inside.0 fewer others inside.3.front inside.2 rest o inside.3.region inside.3.ended (sym inside.3.whole) in
+    let inside = inside_of (length octets) depth number (others ++ rest) (after ++ tail)
+    (rw (tag_reader.again opening (opening_tag number) (others ++ rest) t) at read) in
+    let within = opens_within inside.0 fewer others inside.3.front inside.2 rest o inside.3.region inside.3.ended
+    (sym inside.3.whole) in
     omega (arith, inside.1)
 
-pub nesting : (depth count : ℕ) (octets front rest : List ℕ) → IsRegion depth octets → Opens count front → octets ≡ front ++ rest → count ≤ depth
+pub nesting : (depth count : ℕ) (octets front rest : List ℕ) → IsRegion depth octets → Opens count front
+    → octets ≡ front ++ rest → count ≤ depth
 nesting depth count octets front rest r o e =
     opens_within depth count front octets [] rest o r (inl refl) (append-nil octets ∙ e)
 
@@ -111,7 +153,8 @@ pub finds_by : {IsRest : List ℕ → Type 0} (read : Option (List ℕ)) → Rea
 finds_by None reads = λ rest is. none-some rest (reads.again rest is)
 finds_by (Some rest) reads = reads.takes rest refl
 
-pub found_by : {IsRest : List ℕ → Type 0} (read found : Option (List ℕ)) → Reads IsRest read → Finds IsRest found → read ≡ found
+pub found_by : {IsRest : List ℕ → Type 0} (read found : Option (List ℕ)) → Reads IsRest read → Finds IsRest found
+    → read ≡ found
 found_by None None reads finds = refl
 found_by (Some rest) None reads finds = absurd (finds rest (reads.takes rest refl))
 found_by read (Some rest) reads finds = reads.again rest finds
@@ -121,32 +164,50 @@ closing_reads number octets = record { takes = closed_takes number octets; again
 
 pub count_reads : (count : ℕ) (octets : List ℕ) → Reads (CountsBehind count octets) (behind_count count octets)
 count_reads count octets = record {
-  takes = λ rest e. let here = unless (ltb (length octets) count) e in record { room = ltb-false (length octets) count here.0; rest_is = sym (same_Some (drop count octets) rest here.1) };
+  takes = λ rest e. let here = unless (ltb (length octets) count) e in
+      record {
+        room = ltb-false (length octets) count here.0;
+        rest_is = sym (same_Some (drop count octets) rest here.1);
+      };
   again = λ rest c. rw (le-ltb (length octets) count c.room, c.rest_is) refl;
 }
 
-item_reads : (count depth : ℕ) (octets : List ℕ) → length octets < suc count → Reads (LeavesBehind depth octets) (item_at (behind_items count) depth octets)
+item_reads : (count depth : ℕ) (octets : List ℕ) → length octets < suc count
+    → Reads (LeavesBehind depth octets) (item_at (behind_items count) depth octets)
 item_reads count depth octets short = record {
   takes = λ rest e. item_at_takes (behind_items count) depth octets rest (items_take count) e;
   again = λ rest l. item_read count depth depth octets l.front rest (omega arith) short l.item l.whole;
 }
 
-items_read : (count depth : ℕ) (octets : List ℕ) → length octets < count → Reads (LeavesRest depth octets) (behind_items count depth octets)
-items_read count depth octets short = record { takes = items_take count depth octets; again = λ rest l. left_again count depth depth octets rest (omega arith) short l }
+items_read : (count depth : ℕ) (octets : List ℕ) → length octets < count
+    → Reads (LeavesRest depth octets) (behind_items count depth octets)
+items_read count depth octets short =
+    record {
+      takes = items_take count depth octets;
+      again = λ rest l. left_again count depth depth octets rest (omega arith) short l;
+    }
 
 -- the function and the relation say the same
-pub items_is : (depth : ℕ) (octets rest : List ℕ) → (behind_items (length octets + 1) depth octets ≡ Some rest) ↔ LeavesRest depth octets rest
-items_is depth octets rest = let reads = items_read (length octets + 1) depth octets (omega arith) in (reads.takes rest, reads.again rest)
+pub items_is : (depth : ℕ) (octets rest : List ℕ)
+    → (behind_items (length octets + 1) depth octets ≡ Some rest) ↔ LeavesRest depth octets rest
+items_is depth octets rest =
+    let reads = items_read (length octets + 1) depth octets (omega arith) in
+    (reads.takes rest, reads.again rest)
 
 pub whole_region : (depth : ℕ) (octets rest : List ℕ) → LeavesRest depth octets rest → rest ≡ [] → IsRegion depth octets
-whole_region depth octets rest l e = subst (IsRegion depth) (sym (l.whole ∙ ap (λ (w : List ℕ). l.front ++ w) e ∙ append-nil l.front)) l.region
+whole_region depth octets rest l e =
+    subst (IsRegion depth) (sym (l.whole ∙ ap (λ (w : List ℕ). l.front ++ w) e ∙ append-nil l.front)) l.region
 
 pub region_whole : (depth : ℕ) (octets : List ℕ) → IsRegion depth octets → LeavesRest depth octets []
 region_whole depth octets r = record { front = octets; region = r; whole = sym (append-nil octets); ended = inl refl }
 
 -- a region leaves nothing
-pub whole_is : (depth : ℕ) (octets : List ℕ) → (behind_items (length octets + 1) depth octets ≡ Some []) ↔ IsRegion depth octets
-whole_is depth octets = (λ e. whole_region depth octets [] ((items_is depth octets []).0 e) refl, λ r. (items_is depth octets []).1 (region_whole depth octets r))
+pub whole_is : (depth : ℕ) (octets : List ℕ)
+    → (behind_items (length octets + 1) depth octets ≡ Some []) ↔ IsRegion depth octets
+whole_is depth octets = (
+  λ e. whole_region depth octets [] ((items_is depth octets []).0 e) refl,
+  λ r. (items_is depth octets []).1 (region_whole depth octets r),
+)
 
 -- ---- the items of the code
 
@@ -154,8 +215,11 @@ whole_is depth octets = (λ e. whole_region depth octets [] ((items_is depth oct
 abbrev pub rest_of : ℕ → List ℕ → Option (List ℕ)
 rest_of depth octets = behind_items (suc (length octets)) depth octets
 
-pub rest_found : (depth : ℕ) (octets : List ℕ) (found : Option (List ℕ)) → rest_of depth octets ≡ found → Finds (LeavesRest depth octets) found
-rest_found depth octets found e = subst (Finds (LeavesRest depth octets)) e (finds_by (rest_of depth octets) (items_read (suc (length octets)) depth octets (omega arith)))
+pub rest_found : (depth : ℕ) (octets : List ℕ) (found : Option (List ℕ)) → rest_of depth octets ≡ found
+    → Finds (LeavesRest depth octets) found
+rest_found depth octets found e =
+    subst (Finds (LeavesRest depth octets)) e
+    (finds_by (rest_of depth octets) (items_read (suc (length octets)) depth octets (omega arith)))
 
 -- no tag, and so no rest
 pub rest_none : (depth : ℕ) (octets : List ℕ) → None ≡ tag_at octets → (octets ≡ [] → ⊥) → rest_of depth octets ≡ None
@@ -167,72 +231,110 @@ pub behind_shorter : (depth : ℕ) (octets rest : List ℕ) → LeavesBehind dep
 behind_shorter depth octets rest l = rw l.whole (item_shorter depth l.front rest l.item)
 
 -- an item was found, or none
-pub rest_step : (depth : ℕ) (octets : List ℕ) (tag : Tag) (after : List ℕ) (found : Option (List ℕ)) → found_at tag after ≡ tag_at octets
+pub rest_step : (depth : ℕ) (octets : List ℕ) (tag : Tag) (after : List ℕ) (found : Option (List ℕ))
+    → found_at tag after ≡ tag_at octets
     → (tag.shape ≡ Closing → ⊥) → Finds (LeavesBehind depth octets) found
     → rest_of depth octets ≡ (found >>= rest_of depth)
 rest_step depth octets tag after None e going finds =
-    one_step (length octets) depth octets tag after (sym e) going ∙ rw (found_by _ None (item_reads (length octets) depth octets (omega arith)) finds) refl
+    one_step (length octets) depth octets tag after (sym e) going
+    ∙ rw (found_by _ None (item_reads (length octets) depth octets (omega arith)) finds) refl
 rest_step depth octets tag after (Some next) e going finds =
     let reads = items_read (length octets) depth next (behind_shorter depth octets next finds) in
     one_step (length octets) depth octets tag after (sym e) going
-    ∙ rw (found_by _ (Some next) (item_reads (length octets) depth octets (omega arith)) finds) (found_by _ _ reads (rest_found depth next (rest_of depth next) refl))
+    ∙ rw (found_by _ (Some next) (item_reads (length octets) depth octets (omega arith)) finds)
+    (found_by _ _ reads (rest_found depth next (rest_of depth next) refl))
 
 -- what the tag leaves, as it is read
 pub item_found : (depth : ℕ) (octets : List ℕ) (tag : Tag) (shape : Shape) (after : List ℕ) (found : Option (List ℕ))
-    → found_at tag after ≡ tag_at octets → tag.shape ≡ shape → behind_item (behind_items (length octets)) depth tag shape after ≡ found
+    → found_at tag after ≡ tag_at octets → tag.shape ≡ shape
+    → behind_item (behind_items (length octets)) depth tag shape after ≡ found
     → Finds (LeavesBehind depth octets) found
 item_found depth octets tag shape after found e is f =
     let here = subst (λ (s : Shape). behind_item (behind_items (length octets)) depth tag s after ≡ found) (sym is) f in
     let read : item_at (behind_items (length octets)) depth octets ≡ found = rw (← e) here in
-    subst (Finds (LeavesBehind depth octets)) read (finds_by (item_at (behind_items (length octets)) depth octets) (item_reads (length octets) depth octets (omega arith)))
+    subst (Finds (LeavesBehind depth octets)) read
+    (finds_by (item_at (behind_items (length octets)) depth octets)
+    (item_reads (length octets) depth octets (omega arith)))
 
 -- the items inside of an item were found, or none
-pub opening_found : (depth below : ℕ) (octets : List ℕ) (tag : Tag) (after : List ℕ) (inside found : Option (List ℕ)) → depth ≡ suc below
+pub opening_found : (depth below : ℕ) (octets : List ℕ) (tag : Tag) (after : List ℕ) (inside found : Option (List ℕ))
+    → depth ≡ suc below
     → found_at tag after ≡ tag_at octets → tag.shape ≡ Opening → Finds (LeavesRest below after) inside
     → (inside >>= behind_closing tag.number) ≡ found → Finds (LeavesBehind depth octets) found
 opening_found depth below octets tag after inside found deeper e is finds f =
-    let within = found_by (behind_items (length octets) below after) inside (items_read (length octets) below after (after_shorter octets tag after (sym e))) finds in
+    let within = found_by (behind_items (length octets) below after) inside
+    (items_read (length octets) below after (after_shorter octets tag after (sym e))) finds in
     item_found depth octets tag Opening after found e is (rw (deeper, within) f)
 
 -- ---- a region
 
 -- a region is read up to its closing tag
-region_again : (number : ℕ) (octets region : List ℕ) (r : IsClosedRegion 32 number octets region) → region_at number octets ≡ found_at region r.rest
+region_again : (number : ℕ) (octets region : List ℕ) (r : IsClosedRegion 32 number octets region)
+    → region_at number octets ≡ found_at region r.rest
 unfolding region_at
 region_again number octets region r =
     let l : LeavesRest 32 octets r.behind = region_leaves 32 number octets region r in
-    rw (left_again (suc (length octets)) 32 32 octets r.behind (omega arith) (omega arith) l, closed_again number r.behind r.rest r.closed, (take_front octets region r.behind r.whole).2) refl
+    rw (
+      left_again (suc (length octets)) 32 32 octets r.behind (omega arith) (omega arith) l,
+      closed_again number r.behind r.rest r.closed,
+      (take_front octets region r.behind r.whole).2,
+    ) refl
 
-region_takes : (number : ℕ) (octets region rest : List ℕ) → region_at number octets ≡ found_at region rest → (r : IsClosedRegion 32 number octets region) × (r.rest ≡ rest)
+region_takes : (number : ℕ) (octets region rest : List ℕ) → region_at number octets ≡ found_at region rest
+    → (r : IsClosedRegion 32 number octets region) × (r.rest ≡ rest)
 unfolding region_at
 region_takes number octets region rest e =
-    let a = bind_some (behind_items (suc (length octets)) 32 octets) (λ closing. behind_closing number closing >>= λ rest. found_at (take (length octets - length closing) octets) rest) (region, rest) e in
-    let b = bind_some (behind_closing number a.0) (λ rest. found_at (take (length octets - length a.0) octets) rest) (region, rest) a.2 in
+    let a = bind_some (behind_items (suc (length octets)) 32 octets)
+    (λ closing. behind_closing number closing >>= λ rest.
+    found_at (take (length octets - length closing) octets) rest) (region, rest) e in
+    let b = bind_some (behind_closing number a.0) (λ rest. found_at (take (length octets - length a.0) octets) rest)
+    (region, rest) a.2 in
     let parts = some_pair_parts (take (length octets - length a.0) octets) region b.0 rest b.2 in
     let l = items_take (suc (length octets)) 32 octets a.0 a.1 in
     let same : l.front ≡ region = sym (take_front octets l.front a.0 l.whole).2 ∙ parts.0 in
-    let r : IsClosedRegion 32 number octets l.front = record { behind = a.0; rest = b.0; region = l.region; whole = l.whole; closed = closed_takes number a.0 b.0 b.1 } in
+    let r : IsClosedRegion 32 number octets l.front =
+    record {
+      behind = a.0;
+      rest = b.0;
+      region = l.region;
+      whole = l.whole;
+      closed = closed_takes number a.0 b.0 b.1;
+    } in
     subst (λ (w : List ℕ). (r : IsClosedRegion 32 number octets w) × (r.rest ≡ rest)) same (r, parts.1)
 
-abbrev closed_line : (number : ℕ) (front region rest : List ℕ) (s : SpellsClosed number front region) → IsClosedRegion 32 number (front ++ rest) region
+abbrev closed_line : (number : ℕ) (front region rest : List ℕ) (s : SpellsClosed number front region)
+    → IsClosedRegion 32 number (front ++ rest) region
 closed_line number front region rest s =
     let line = ap (λ (w : List ℕ). w ++ rest) s.whole ∙ append_assoc region s.closing rest in
-    record { behind = s.closing ++ rest; rest = rest; region = s.items; whole = line; closed = record { closing = s.closing; closed = s.closed; whole = refl } }
+    record {
+      behind = s.closing ++ rest;
+      rest = rest;
+      region = s.items;
+      whole = line;
+      closed = record { closing = s.closing; closed = s.closed; whole = refl };
+    }
 
 pub region_reader : (number : ℕ) → IsReader (SpellsClosed number) (region_at number)
 region_reader number = record {
   takes = λ octets region rest e.
       let t = region_takes number octets region rest e in
       let c = t.0.closed in
-      let line = t.0.whole ∙ ap (λ (w : List ℕ). region ++ w) (c.whole ∙ ap (λ (w : List ℕ). c.closing ++ w) t.1) ∙ sym (append_assoc region c.closing rest) in
-      record { front = region ++ c.closing; spelled = record { closing = c.closing; whole = refl; items = t.0.region; closed = c.closed }; whole = line };
+      let line = t.0.whole ∙ ap (λ (w : List ℕ). region ++ w) (c.whole ∙ ap (λ (w : List ℕ). c.closing ++ w) t.1)
+      ∙ sym (append_assoc region c.closing rest) in
+      record {
+        front = region ++ c.closing;
+        spelled = record { closing = c.closing; whole = refl; items = t.0.region; closed = c.closed };
+        whole = line;
+      };
   again = λ front region rest s. region_again number (front ++ rest) region (closed_line number front region rest s);
 }
 
 -- where no region was found none is read
-none_read : (number : ℕ) (octets : List ℕ) (read : Option (List ℕ × List ℕ)) → region_at number octets ≡ read → FindsRegion 32 number octets None → None ≡ read
+none_read : (number : ℕ) (octets : List ℕ) (read : Option (List ℕ × List ℕ)) → region_at number octets ≡ read
+    → FindsRegion 32 number octets None → None ≡ read
 none_read number octets None e finds = refl
-none_read number octets (Some x) e finds = absurd (none-some (length x.0) (finds.all x.0 (region_takes number octets x.0 x.1 e).0))
+none_read number octets (Some x) e finds =
+    absurd (none-some (length x.0) (finds.all x.0 (region_takes number octets x.0 x.1 e).0))
 
 pub no_region : (number : ℕ) (octets : List ℕ) → FindsRegion 32 number octets None → None ≡ region_at number octets
 no_region number octets finds = none_read number octets (region_at number octets) refl finds
@@ -242,11 +344,13 @@ pub region_found : (number k : ℕ) (octets front back : List ℕ) → front ≡
     → FindsRegion 32 number octets (Some k) → region_at number octets ≡ (behind_closing number back >>= found_at front)
 region_found number k octets front back f b finds =
     let r : IsClosedRegion 32 number octets front = subst (IsClosedRegion 32 number octets) (sym f) finds.found in
-    let same = b ∙ ap (drop k) r.whole ∙ drop_at front r.behind k (ap length f ∙ length-take-le k octets finds.within) in
+    let same = b ∙ ap (drop k) r.whole
+    ∙ drop_at front r.behind k (ap length f ∙ length-take-le k octets finds.within) in
     region_again number octets front r ∙ sym (rw (same, closed_again number r.behind r.rest r.closed) refl)
 
 -- a region is found where a closing tag stands behind whole items, and not where none stands there
-pub region_finds : (depth number : ℕ) (octets rest : List ℕ) (behind : Option (List ℕ)) → LeavesRest depth octets rest → Finds (IsClosedBy number rest) behind
+pub region_finds : (depth number : ℕ) (octets rest : List ℕ) (behind : Option (List ℕ)) → LeavesRest depth octets rest
+    → Finds (IsClosedBy number rest) behind
     → FindsRegion depth number octets (option_map (λ _. length octets - length rest) behind)
 region_finds depth number octets rest None l h = record {
   within = tt;
@@ -257,7 +361,8 @@ region_finds depth number octets rest None l h = record {
 }
 region_finds depth number octets rest (Some after) l h = record {
   within = omega arith;
-  found = rw (take_front octets l.front rest l.whole).2 (record { behind = rest; rest = after; region = l.region; whole = l.whole; closed = h });
+  found = rw (take_front octets l.front rest l.whole).2
+      (record { behind = rest; rest = after; region = l.region; whole = l.whole; closed = h });
   all = λ front r.
       let same = one_left depth depth octets rest r.behind l (region_leaves depth number octets front r) in
       ap Some (ap (λ (w : List ℕ). length octets - length w) same ∙ (take_front octets front r.behind r.whole).1);

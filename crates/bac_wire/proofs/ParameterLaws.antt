@@ -1,5 +1,7 @@
--- Reading a parameter, or a value of one kind, finds what its relation says, and what is written of one is a spelling of it.
-use Rattle.std.proofs.Common.{◌≡◌, ℕ, ◌^◌, ◌<◌, ◌≤◌, eqb, ltb, List, [], ◌++◌, length, take, drop, Option, Some, None, refl, sym, ap, subst, ◌∙◌, append_assoc, arith}
+-- Reading a parameter, or a value of one kind, finds what its relation says, and what is written of one is a spelling
+-- of it.
+use Rattle.std.proofs.Common.{◌≡◌, ℕ, ◌^◌, ◌<◌, ◌≤◌, eqb, ltb, List, [], ◌++◌, length, take, drop, Option, Some, None}
+use Rattle.std.proofs.Common.{refl, sym, ap, subst, ◌∙◌, append_assoc, arith}
 use Rattle.std.proofs.lemmas.Bool.{eqb-true, eq-eqb, ltb-false, le-ltb}
 use Rattle.std.proofs.lemmas.List.{take_at, drop_at, take-append-drop, length-append, length-take-le}
 use Rattle.std.proofs.lemmas.Option.{none-some, some_pair_parts, cond_some}
@@ -18,8 +20,11 @@ use Rattle.bac_wire.specs.Datum.{Datum, Spells, unsigned, enumerated, octet_coun
 use Rattle.bac_wire.specs.Datum as values
 use Rattle.bac_wire.specs.DatumReading.{value_at}
 use Rattle.bac_wire.specs.ItemReading.{region_at}
-use Rattle.bac_wire.specs.Parameter.{context_tag, SpellsContext, IsNumber, IsObject, SpellsIn, SpellsEnclosed, context_octets, number_octets, object_octets, enclosed_octets}
-use Rattle.bac_wire.specs.ParameterReading.{counted_of, context_at, number_of_contents, object_of_contents, number_at, object_at, opening_of, behind_opening, enclosed_at, unsigned_in, enumerated_in, object_in, kind_at}
+use Rattle.bac_wire.specs.Parameter.{context_tag, SpellsContext, IsNumber, IsObject, SpellsIn, SpellsEnclosed}
+use Rattle.bac_wire.specs.Parameter.{context_octets, number_octets, object_octets, enclosed_octets}
+use Rattle.bac_wire.specs.ParameterReading.{counted_of, context_at, number_of_contents, object_of_contents, number_at}
+use Rattle.bac_wire.specs.ParameterReading.{object_at, opening_of, behind_opening, enclosed_at, unsigned_in}
+use Rattle.bac_wire.specs.ParameterReading.{enumerated_in, object_in, kind_at}
 use Rattle.bac_wire.proofs.Readers.{reader_of, found_at, only_if, unless}
 use Rattle.bac_wire.proofs.TagLaws.{tag_reader, bind_some, plain_tag_spells}
 use Rattle.bac_wire.proofs.DatumLaws.{within_again, same_identifier, within_takes, value_reader}
@@ -30,34 +35,54 @@ use Rattle.bac_wire.proofs.ItemLaws.{region_reader}
 -- ---- the contents under a context tag
 
 counted_takes : (number : ℕ) (octets : List ℕ) (tag : Tag) (shape : Shape) (after contents rest : List ℕ)
-    → tag_at octets ≡ found_at tag after → tag.shape ≡ shape → counted_of number tag shape after ≡ found_at contents rest
+    → tag_at octets ≡ found_at tag after → tag.shape ≡ shape
+    → counted_of number tag shape after ≡ found_at contents rest
     → (front : List ℕ) × SpellsContext number front contents × (octets ≡ front ++ rest)
 counted_takes number octets tag (Context n) after contents rest e is f =
     let same = only_if (eqb tag.number number) f in
     let room = unless (ltb (length after) n) same.1 in
     let parts = some_pair_parts (take n after) contents (drop n after) rest room.1 in
-    let long : n ≡ length contents = sym (length-take-le n after (ltb-false (length after) n room.0)) ∙ ap length parts.0 in
-    let tag_here = tag_parts tag number (Context (length contents)) (is ∙ ap Context long) (eqb-true tag.number number same.0) in
+    let long : n ≡ length contents = sym (length-take-le n after (ltb-false (length after) n room.0))
+    ∙ ap length parts.0 in
+    let tag_here = tag_parts tag number (Context (length contents)) (is ∙ ap Context long)
+    (eqb-true tag.number number same.0) in
     let taken = tag_reader.takes octets tag after e in
-    let after_is : after ≡ contents ++ rest = sym (take-append-drop n after) ∙ ap (λ (w : List ℕ). w ++ drop n after) parts.0 ∙ ap (λ (w : List ℕ). contents ++ w) parts.1 in
-    let here : SpellsContext number (taken.front ++ contents) contents = record { tag = taken.front; whole = refl; tagged = subst (SpellsTag taken.front) tag_here taken.spelled } in
-    (taken.front ++ contents, here, taken.whole ∙ ap (λ (w : List ℕ). taken.front ++ w) after_is ∙ sym (append_assoc taken.front contents rest))
+    let after_is : after ≡ contents ++ rest = sym (take-append-drop n after)
+    ∙ ap (λ (w : List ℕ). w ++ drop n after) parts.0 ∙ ap (λ (w : List ℕ). contents ++ w) parts.1 in
+    let here : SpellsContext number (taken.front ++ contents) contents =
+    record { tag = taken.front; whole = refl; tagged = subst (SpellsTag taken.front) tag_here taken.spelled } in (
+      taken.front ++ contents,
+      here,
+      taken.whole ∙ ap (λ (w : List ℕ). taken.front ++ w) after_is
+          ∙ sym (append_assoc taken.front contents rest),
+    )
 counted_takes number octets tag _ after contents rest e is f = absurd (none-some (contents, rest) f)
 
-counted_again : (number : ℕ) (contents rest : List ℕ) → counted_of number (context_tag number (length contents)) (Context (length contents)) (contents ++ rest) ≡ found_at contents rest
+counted_again : (number : ℕ) (contents rest : List ℕ)
+    → counted_of number (context_tag number (length contents)) (Context (length contents)) (contents ++ rest)
+    ≡ found_at contents rest
 counted_again number contents rest =
     let fits : length contents ≤ length (contents ++ rest) = omega (arith, length-append contents rest) in
-    rw (eq-eqb number number refl, le-ltb (length (contents ++ rest)) (length contents) fits, take_at contents rest (length contents) refl, drop_at contents rest (length contents) refl) refl
+    rw (
+      eq-eqb number number refl,
+      le-ltb (length (contents ++ rest)) (length contents) fits,
+      take_at contents rest (length contents) refl,
+      drop_at contents rest (length contents) refl,
+    ) refl
 
-context_takes : (number : ℕ) (octets contents rest : List ℕ) → context_at number octets ≡ found_at contents rest → (front : List ℕ) × SpellsContext number front contents × (octets ≡ front ++ rest)
+context_takes : (number : ℕ) (octets contents rest : List ℕ) → context_at number octets ≡ found_at contents rest
+    → (front : List ℕ) × SpellsContext number front contents × (octets ≡ front ++ rest)
 unfolding context_at
 context_takes number octets contents rest e =
     let a = bind_some (tag_at octets) (λ x. counted_of number x.0 x.0.shape x.1) (contents, rest) e in
     counted_takes number octets a.0.0 a.0.0.shape a.0.1 contents rest a.1 refl a.2
 
-context_again : (number : ℕ) (front contents rest : List ℕ) → SpellsContext number front contents → context_at number (front ++ rest) ≡ found_at contents rest
+context_again : (number : ℕ) (front contents rest : List ℕ) → SpellsContext number front contents
+    → context_at number (front ++ rest) ≡ found_at contents rest
 unfolding context_at
-context_again number front contents rest s = rw (tag_again front s.tag contents rest (context_tag number (length contents)) s.whole s.tagged) (counted_again number contents rest)
+context_again number front contents rest s =
+    rw (tag_again front s.tag contents rest (context_tag number (length contents)) s.whole s.tagged)
+    (counted_again number contents rest)
 
 -- ---- what the contents stand for
 
@@ -67,14 +92,16 @@ object_takes contents id e =
     subst (IsObject contents) four.1 (eqb-true (length contents) 4 four.0, omega arith, omega arith)
 
 object_again : (contents : List ℕ) (id : Identifier) → IsObject contents id → object_of_contents contents ≡ Some id
-object_again contents id s = rw (eq-eqb (length contents) 4 s.0) (ap Some (same_identifier (big_number 4 contents) id s.1 s.2))
+object_again contents id s =
+    rw (eq-eqb (length contents) 4 s.0) (ap Some (same_identifier (big_number 4 contents) id s.1 s.2))
 
 -- ---- numbers and objects
 
 in_reader : {A : Type 0} (Stands : List ℕ → A → Type 0) (of : List ℕ → Option A)
     → ((contents : List ℕ) (x : A) → of contents ≡ Some x → Stands contents x)
     → ((contents : List ℕ) (x : A) → Stands contents x → of contents ≡ Some x)
-    → (number : ℕ) → IsReader (SpellsIn Stands number) (λ octets. context_at number octets >>= (λ c. of c.0 >>= (λ a. found_at a c.1)))
+    → (number : ℕ) → IsReader (SpellsIn Stands number)
+    (λ octets. context_at number octets >>= (λ c. of c.0 >>= (λ a. found_at a c.1)))
 in_reader Stands of taken_as again_as number = record {
   takes = λ octets x rest e.
       let a = bind_some (context_at number octets) (λ c. of c.0 >>= (λ a. found_at a c.1)) (x, rest) e in
@@ -86,19 +113,23 @@ in_reader Stands of taken_as again_as number = record {
         spelled = record { contents = a.0.0; context = taken.1; stands = rw parts.0 at (taken_as a.0.0 b.0 b.1) };
         whole = taken.2 ∙ ap (λ (w : List ℕ). taken.0 ++ w) parts.1;
       };
-  again = λ front x rest s. rw (context_again number front s.contents rest s.context, again_as s.contents x s.stands) refl;
+  again = λ front x rest s.
+      rw (context_again number front s.contents rest s.context, again_as s.contents x s.stands) refl;
 }
 
 pub number_reader : (number : ℕ) → IsReader (SpellsIn IsNumber number) (number_at number)
 unfolding number_at
-number_reader number = in_reader IsNumber number_of_contents (within_takes 4) (λ contents n s. within_again 4 contents s.0 s.1 ∙ ap Some (sym s.2)) number
+number_reader number =
+    in_reader IsNumber number_of_contents (within_takes 4)
+    (λ contents n s. within_again 4 contents s.0 s.1 ∙ ap Some (sym s.2)) number
 
 pub object_reader : (number : ℕ) → IsReader (SpellsIn IsObject number) (object_at number)
 unfolding object_at
 object_reader number = in_reader IsObject object_of_contents object_takes object_again number
 
 pub context_reader : (number : ℕ) → IsReader (SpellsContext number) (context_at number)
-context_reader number = reader_of (SpellsContext number) (context_at number) (context_takes number) (context_again number)
+context_reader number =
+    reader_of (SpellsContext number) (context_at number) (context_takes number) (context_again number)
 
 -- where there are no octets nothing is read
 pub no_number : (number : ℕ) → number_at number [] ≡ None
@@ -111,41 +142,58 @@ no_object number = rw no_octets refl
 
 -- ---- items between two tags
 
-opening_takes : (number : ℕ) (tag : Tag) (shape : Shape) (after rest : List ℕ) → opening_of number tag shape after ≡ Some rest → (shape ≡ Opening) × (tag.number ≡ number) × (after ≡ rest)
-opening_takes number tag Opening after rest e = let same = cond_some (eqb tag.number number) after rest e in (refl, eqb-true tag.number number same.0, same.1)
+opening_takes : (number : ℕ) (tag : Tag) (shape : Shape) (after rest : List ℕ)
+    → opening_of number tag shape after ≡ Some rest → (shape ≡ Opening) × (tag.number ≡ number) × (after ≡ rest)
+opening_takes number tag Opening after rest e =
+    let same = cond_some (eqb tag.number number) after rest e in
+    (refl, eqb-true tag.number number same.0, same.1)
 opening_takes number tag _ after rest e = absurd (none-some rest e)
 
-enclosed_takes : (number : ℕ) (octets region rest : List ℕ) → enclosed_at number octets ≡ found_at region rest → (front : List ℕ) × SpellsEnclosed number front region × (octets ≡ front ++ rest)
+enclosed_takes : (number : ℕ) (octets region rest : List ℕ) → enclosed_at number octets ≡ found_at region rest
+    → (front : List ℕ) × SpellsEnclosed number front region × (octets ≡ front ++ rest)
 unfolding enclosed_at behind_opening
 enclosed_takes number octets region rest e =
-    let a = bind_some (tag_at octets >>= λ x. opening_of number x.0 x.0.shape x.1) (region_at number) (region, rest) e in
+    let a = bind_some (tag_at octets >>= λ x. opening_of number x.0 x.0.shape x.1) (region_at number) (region, rest)
+    e in
     let o = bind_some (tag_at octets) (λ x. opening_of number x.0 x.0.shape x.1) a.0 a.1 in
     let same = opening_takes number o.0.0 o.0.0.shape o.0.1 a.0 o.2 in
     let t = tag_reader.takes octets o.0.0 o.0.1 o.1 in
     let b = (region_reader number).takes a.0 region rest a.2 in
     let opened = subst (SpellsTag t.front) (tag_parts o.0.0 number Opening same.0 same.1) t.spelled in
-    let line = t.whole ∙ ap (λ (w : List ℕ). t.front ++ w) (same.2 ∙ b.whole) ∙ sym (append_assoc t.front b.front rest) in
-    (t.front ++ b.front, record { opening = t.front; behind = b.front; whole = refl; opened = opened; closed = b.spelled }, line)
+    let line = t.whole ∙ ap (λ (w : List ℕ). t.front ++ w) (same.2 ∙ b.whole)
+    ∙ sym (append_assoc t.front b.front rest) in (
+      t.front ++ b.front,
+      record { opening = t.front; behind = b.front; whole = refl; opened = opened; closed = b.spelled },
+      line,
+    )
 
-enclosed_again : (number : ℕ) (front region rest : List ℕ) → SpellsEnclosed number front region → enclosed_at number (front ++ rest) ≡ found_at region rest
+enclosed_again : (number : ℕ) (front region rest : List ℕ) → SpellsEnclosed number front region
+    → enclosed_at number (front ++ rest) ≡ found_at region rest
 unfolding enclosed_at behind_opening
 enclosed_again number front region rest s =
-    rw (tag_again front s.opening s.behind rest (opening_tag number) s.whole s.opened, eq-eqb number number refl) ((region_reader number).again s.behind region rest s.closed)
+    rw (tag_again front s.opening s.behind rest (opening_tag number) s.whole s.opened, eq-eqb number number refl)
+    ((region_reader number).again s.behind region rest s.closed)
 
 pub enclosed_reader : (number : ℕ) → IsReader (SpellsEnclosed number) (enclosed_at number)
-enclosed_reader number = reader_of (SpellsEnclosed number) (enclosed_at number) (enclosed_takes number) (enclosed_again number)
+enclosed_reader number =
+    reader_of (SpellsEnclosed number) (enclosed_at number) (enclosed_takes number) (enclosed_again number)
 
 -- items between tags are no number
-pub enclosed_no_number : (number other : ℕ) (octets front region rest : List ℕ) → SpellsEnclosed other front region → octets ≡ front ++ rest → number_at number octets ≡ None
+pub enclosed_no_number : (number other : ℕ) (octets front region rest : List ℕ) → SpellsEnclosed other front region
+    → octets ≡ front ++ rest → number_at number octets ≡ None
 unfolding number_at context_at
-enclosed_no_number number other octets front region rest s e = rw (e, tag_again front s.opening s.behind rest (opening_tag other) s.whole s.opened) refl
+enclosed_no_number number other octets front region rest s e =
+    rw (e, tag_again front s.opening s.behind rest (opening_tag other) s.whole s.opened) refl
 
 -- ---- values of one kind
 
 -- what this function reads is spelled at the front as the thing that is made of it
-pub record IsStep {A P : Type 0} (Spells : List ℕ → P → Type 0) (made : A → P) (at : List ℕ → Option (A × List ℕ)) : Type 0 where
-  pub takes : (octets : List ℕ) (x : A) (rest : List ℕ) → at octets ≡ found_at x rest → Begins Spells octets (made x) rest
-  pub again : (octets : List ℕ) (x : A) (rest : List ℕ) → Begins Spells octets (made x) rest → at octets ≡ found_at x rest
+pub record IsStep {A P : Type 0} (Spells : List ℕ → P → Type 0) (made : A → P)
+    (at : List ℕ → Option (A × List ℕ)) : Type 0 where
+  pub takes : (octets : List ℕ) (x : A) (rest : List ℕ) → at octets ≡ found_at x rest
+      → Begins Spells octets (made x) rest
+  pub again : (octets : List ℕ) (x : A) (rest : List ℕ) → Begins Spells octets (made x) rest
+      → at octets ≡ found_at x rest
 
 kind_step : {A : Type 0} (made : A → Datum) (in_kind : Datum → Option A)
     → ((value : Datum) (x : A) → in_kind value ≡ Some x → value ≡ made x) → ((x : A) → in_kind (made x) ≡ Some x)
@@ -157,8 +205,13 @@ kind_step made in_kind takes again = record {
       let b = bind_some (in_kind a.0.0) (λ y. found_at y a.0.1) (x, rest) a.2 in
       let parts = some_pair_parts b.0 x a.0.1 rest b.2 in
       let taken = value_reader.takes octets a.0.0 a.0.1 a.1 in
-      record { front = taken.front; spelled = subst (Spells taken.front) (takes a.0.0 b.0 b.1 ∙ ap made parts.0) taken.spelled; whole = taken.whole ∙ ap (λ (w : List ℕ). taken.front ++ w) parts.1 };
-  again = λ octets x rest b. rw (ap value_at b.whole ∙ value_reader.again b.front (made x) rest b.spelled, again x) refl;
+      record {
+        front = taken.front;
+        spelled = subst (Spells taken.front) (takes a.0.0 b.0 b.1 ∙ ap made parts.0) taken.spelled;
+        whole = taken.whole ∙ ap (λ (w : List ℕ). taken.front ++ w) parts.1;
+      };
+  again = λ octets x rest b.
+      rw (ap value_at b.whole ∙ value_reader.again b.front (made x) rest b.spelled, again x) refl;
 }
 
 pub unsigned_step : IsStep Spells unsigned (kind_at unsigned_in)
@@ -172,7 +225,8 @@ object_step = kind_step values.object object_in (λ value x e. grind arith) (λ 
 
 -- ---- what is written is a spelling
 
-pub context_spells : (number : ℕ) (contents : List ℕ) → number < 255 → length contents < 2 ^ 32 → SpellsContext number (context_octets number contents) contents
+pub context_spells : (number : ℕ) (contents : List ℕ) → number < 255 → length contents < 2 ^ 32
+    → SpellsContext number (context_octets number contents) contents
 context_spells number contents low short = record {
   tag = plain_tag (context_tag number (length contents));
   whole = refl;
@@ -185,20 +239,35 @@ number_spells number n low fits =
     let long : length contents ≡ octet_count n = length-bytes_high_first (octet_count n) n in
     let least = count_low n in
     let most = count_four n fits in
-    record { contents = contents; context = context_spells number contents low (omega arith); stands = (omega arith, omega arith, number_back (octet_count n) n (count_fits n (omega arith))) }
+    record {
+      contents = contents;
+      context = context_spells number contents low (omega arith);
+      stands = (omega arith, omega arith, number_back (octet_count n) n (count_fits n (omega arith)));
+    }
 
-pub object_spells : (number : ℕ) (id : Identifier) → number < 255 → IsIdentifier id → SpellsIn IsObject number (object_octets number id) id
+pub object_spells : (number : ℕ) (id : Identifier) → number < 255 → IsIdentifier id
+    → SpellsIn IsObject number (object_octets number id) id
 object_spells number id low h =
     let kind = h.kind in
     let instance = h.instance in
     let contents = big_bytes 4 (number_of id) in
-    record { contents = contents; context = context_spells number contents low (omega arith); stands = (refl, instance, sym (number_back 4 (number_of id) (omega arith))) }
+    record {
+      contents = contents;
+      context = context_spells number contents low (omega arith);
+      stands = (refl, instance, sym (number_back 4 (number_of id) (omega arith)));
+    }
 
-pub enclosed_spells : (number : ℕ) (region : List ℕ) → number < 255 → IsRegion 32 region → SpellsEnclosed number (enclosed_octets number region) region
+pub enclosed_spells : (number : ℕ) (region : List ℕ) → number < 255 → IsRegion 32 region
+    → SpellsEnclosed number (enclosed_octets number region) region
 enclosed_spells number region low items = record {
   opening = plain_tag (opening_tag number);
   behind = region ++ plain_tag (closing_tag number);
   whole = refl;
   opened = plain_tag_spells (opening_tag number) (record { number = low; count = omega arith });
-  closed = record { closing = plain_tag (closing_tag number); whole = refl; items = items; closed = plain_tag_spells (closing_tag number) (record { number = low; count = omega arith }) };
+  closed = record {
+    closing = plain_tag (closing_tag number);
+    whole = refl;
+    items = items;
+    closed = plain_tag_spells (closing_tag number) (record { number = low; count = omega arith });
+  };
 }

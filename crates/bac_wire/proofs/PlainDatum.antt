@@ -1,5 +1,6 @@
 -- The shortest spelling of a value is a spelling.
-use Rattle.std.proofs.Common.{◌≡◌, ℕ, ℤ, pos, negsuc, suc, slice_index_or, ◌+◌, ◌-◌, ◌*◌, ◌^◌, ◌%◌, ◌<◌, ◌≤◌, min, zero, true, false, List, [], ◌∷◌, length, refl, sym, ap, ◌∙◌, arith}
+use Rattle.std.proofs.Common.{◌≡◌, ℕ, ℤ, pos, negsuc, suc, slice_index_or, ◌+◌, ◌-◌, ◌*◌, ◌^◌, ◌%◌, ◌<◌, ◌≤◌, min, zero}
+use Rattle.std.proofs.Common.{true, false, List, [], ◌∷◌, length, refl, sym, ap, ◌∙◌, arith}
 use Rattle.std.specs.Prelude.{FitsSigned}
 use Rattle.std.specs.Int.{w64}
 use Rattle.std.proofs.lemmas.Int.{ints}
@@ -10,7 +11,9 @@ use Rattle.byteorder.specs.Endian.{big_number, big_bytes, twos_complement, low_b
 use Rattle.byteorder.specs.Numbers.{big_number-reads_back, length-bytes_high_first}
 use Rattle.bac_wire.specs.Identifier.{number_of}
 use Rattle.bac_wire.specs.Tag.{IsTag, plain_tag}
-use Rattle.bac_wire.specs.Datum.{Datum, boolean, unsigned, signed, enumerated, object, StandsFor, tag_before, Spells, octet_count, plain_contents, tagged, plain, InRange, IsDatum}
+use Rattle.bac_wire.specs.Datum.{Datum, boolean, unsigned, signed, enumerated, object, StandsFor, tag_before, Spells}
+use Rattle.bac_wire.specs.Datum.{octet_count, plain_contents, plain, InRange, IsDatum}
+use Rattle.bac_wire.specs.Inner.Datum.{tagged}
 use Rattle.bac_wire.proofs.TagLaws.{plain_tag_spells}
 
 pub count_low : (n : ℕ) → 1 ≤ octet_count n
@@ -28,41 +31,72 @@ count_four n fits = grind (arith, common_steps)
 -- the octets of a number give it back
 pub number_back : (k n : ℕ) → n < 256 ^ k → n ≡ big_number (length (big_bytes k n)) (big_bytes k n)
 number_back k n fits =
-    rw (length-bytes_high_first k n) (sym (ap (big_number k) (sym (append-nil (big_bytes k n))) ∙ big_number-reads_back k n [] fits))
+    rw (length-bytes_high_first k n)
+    (sym (ap (big_number k) (sym (append-nil (big_bytes k n))) ∙ big_number-reads_back k n [] fits))
 
 -- ---- two's complement
 
 not_negative : (k n : ℕ) → n < 2 ^ (8 * k - 1) → n % 2 ^ (8 * k) ≡ n → twos_complement k (n % 2 ^ (8 * k)) ≡ pos n
 not_negative k n low same = rw (same, lt-ltb n (2 ^ (8 * k - 1)) low) refl
 
-negative : (k n x : ℕ) → x ≡ 2 ^ (8 * k) - suc n → 2 ^ (8 * k - 1) ≤ x → suc n ≤ 2 ^ (8 * k) → twos_complement k x ≡ negsuc n
+negative : (k n x : ℕ) → x ≡ 2 ^ (8 * k) - suc n → 2 ^ (8 * k - 1) ≤ x → suc n ≤ 2 ^ (8 * k)
+    → twos_complement k x ≡ negsuc n
 negative k n x e high fits = rw (le-ltb x (2 ^ (8 * k - 1)) high, e) (omega (arith, ints))
 
-signed_back : (k n : ℕ) → 1 ≤ k → k ≤ 8 → 2 * n < 256 ^ k → (twos_complement k (low_bytes w64 k (pos n)) ≡ pos n) × (twos_complement k (low_bytes w64 k (negsuc n)) ≡ negsuc n)
-signed_back (suc (suc (suc (suc (suc (suc (suc (suc zero)))))))) n low high fits = (not_negative 8 n (omega arith) (omega arith), negative 8 n (low_bytes w64 8 (negsuc n)) (omega (arith, ints)) (omega (arith, ints)) (omega arith))
-signed_back k n low high fits = (not_negative k n (omega arith) (omega arith), negative k n (low_bytes w64 k (negsuc n)) (omega (arith, ints)) (omega (arith, ints)) (omega arith))
+signed_back : (k n : ℕ) → 1 ≤ k → k ≤ 8 → 2 * n < 256 ^ k → (twos_complement k (low_bytes w64 k (pos n)) ≡ pos n)
+    × (twos_complement k (low_bytes w64 k (negsuc n)) ≡ negsuc n)
+signed_back (suc (suc (suc (suc (suc (suc (suc (suc zero)))))))) n low high fits = (
+  not_negative 8 n (omega arith) (omega arith),
+  negative 8 n (low_bytes w64 8 (negsuc n)) (omega (arith, ints)) (omega (arith, ints)) (omega arith),
+)
+signed_back k n low high fits = (
+  not_negative k n (omega arith) (omega arith),
+  negative k n (low_bytes w64 k (negsuc n)) (omega (arith, ints)) (omega (arith, ints)) (omega arith),
+)
 
 low_bytes_fit : (k : ℕ) (z : ℤ) → 1 ≤ k → k ≤ 8 → low_bytes w64 k z < 256 ^ k
 low_bytes_fit (suc (suc (suc (suc (suc (suc (suc (suc zero)))))))) z low high = omega arith
 low_bytes_fit k z low high = omega arith
 
-signed_parts : (k : ℕ) (z : ℤ) → 1 ≤ k → k ≤ 8 → z ≡ twos_complement k (low_bytes w64 k z) → StandsFor (big_bytes k (low_bytes w64 k z)) (signed z)
+signed_parts : (k : ℕ) (z : ℤ) → 1 ≤ k → k ≤ 8 → z ≡ twos_complement k (low_bytes w64 k z)
+    → StandsFor (big_bytes k (low_bytes w64 k z)) (signed z)
 signed_parts k z low high e =
     let x : ℕ = low_bytes w64 k z in
-    let long = length-bytes_high_first k x in
-    (rw long low, rw long high, e ∙ ap (twos_complement k) (number_back k x (low_bytes_fit k z low high)) ∙ ap (λ (j : ℕ). twos_complement j (big_number (length (big_bytes k x)) (big_bytes k x))) (sym long))
+    let long = length-bytes_high_first k x in (
+      rw long low,
+      rw long high,
+      e ∙ ap (twos_complement k) (number_back k x (low_bytes_fit k z low high))
+          ∙ ap (λ (j : ℕ). twos_complement j (big_number (length (big_bytes k x)) (big_bytes k x))) (sym long),
+    )
 
 signed_holds : (z : ℤ) → FitsSigned w64 z → StandsFor (plain_contents (signed z)) (signed z)
-signed_holds (pos n) h = let k : ℕ = octet_count (2 * n) in signed_parts k (pos n) (count_low (2 * n)) (count_high (2 * n)) (sym (signed_back k n (count_low (2 * n)) (count_high (2 * n)) (count_fits (2 * n) (omega (arith, h)))).0)
-signed_holds (negsuc n) h = let k : ℕ = octet_count (2 * n) in signed_parts k (negsuc n) (count_low (2 * n)) (count_high (2 * n)) (sym (signed_back k n (count_low (2 * n)) (count_high (2 * n)) (count_fits (2 * n) (omega (arith, h)))).1)
+signed_holds (pos n) h =
+    let k : ℕ = octet_count (2 * n) in
+    signed_parts k (pos n) (count_low (2 * n)) (count_high (2 * n))
+    (sym (signed_back k n (count_low (2 * n)) (count_high (2 * n)) (count_fits (2 * n) (omega (arith, h)))).0)
+signed_holds (negsuc n) h =
+    let k : ℕ = octet_count (2 * n) in
+    signed_parts k (negsuc n) (count_low (2 * n)) (count_high (2 * n))
+    (sym (signed_back k n (count_low (2 * n)) (count_high (2 * n)) (count_fits (2 * n) (omega (arith, h)))).1)
 
 -- ---- the contents
 
 plain_holds : (value : Datum) → InRange value → StandsFor (plain_contents value) value
-plain_holds (unsigned n) h = (rw (length-bytes_high_first (octet_count n) n) (count_low n), rw (length-bytes_high_first (octet_count n) n) (count_high n), number_back (octet_count n) n (count_fits n h))
+plain_holds (unsigned n) h = (
+  rw (length-bytes_high_first (octet_count n) n) (count_low n),
+  rw (length-bytes_high_first (octet_count n) n) (count_high n),
+  number_back (octet_count n) n (count_fits n h),
+)
 plain_holds (signed z) h = signed_holds z h
-plain_holds (enumerated n) h = (rw (length-bytes_high_first (octet_count n) n) (count_low n), rw (length-bytes_high_first (octet_count n) n) (count_four n h), number_back (octet_count n) n (count_fits n (omega arith)))
-plain_holds (object id) h = let low = h.kind in let limit = h.instance in (refl, h.instance, big_number-reads_back 4 (number_of id) [] (omega arith))
+plain_holds (enumerated n) h = (
+  rw (length-bytes_high_first (octet_count n) n) (count_low n),
+  rw (length-bytes_high_first (octet_count n) n) (count_four n h),
+  number_back (octet_count n) n (count_fits n (omega arith)),
+)
+plain_holds (object id) h =
+    let low = h.kind in
+    let limit = h.instance in
+    (refl, h.instance, big_number-reads_back 4 (number_of id) [] (omega arith))
 plain_holds _ h = search arith
 
 tag_fits : (value : Datum) → IsDatum value → IsTag (tag_before value (length (plain_contents value)))
@@ -81,7 +115,8 @@ plain_spells value h = record {
 }
 
 -- a tag with a number below 15 and a count below 5 is one octet
-pub short_tagged : (number : ℕ) (contents : List ℕ) → number < 15 → length contents < 5 → tagged number contents ≡ (16 * number + length contents) ∷ contents
+pub short_tagged : (number : ℕ) (contents : List ℕ) → number < 15 → length contents < 5
+    → tagged number contents ≡ (16 * number + length contents) ∷ contents
 unfolding tagged plain_tag
 short_tagged number contents low short =
     let same : 16 * min number 15 + min (length contents) 5 ≡ 16 * number + length contents = omega arith in
@@ -89,12 +124,15 @@ short_tagged number contents low short =
 
 -- the tag of four octets, and these
 pub four_tagged : (number : ℕ) (contents : List ℕ) → number < 15 → length contents ≡ 4
-    → (16 * number + 4) ∷ slice_index_or contents 0 0 ∷ slice_index_or contents 1 0 ∷ slice_index_or contents 2 0 ∷ slice_index_or contents 3 0 ∷ [] ≡ tagged number contents
+    → (16 * number + 4) ∷ slice_index_or contents 0 0 ∷ slice_index_or contents 1 0 ∷ slice_index_or contents 2 0
+    ∷ slice_index_or contents 3 0 ∷ [] ≡ tagged number contents
 four_tagged number (a ∷ b ∷ c ∷ d ∷ []) low four = sym (short_tagged number (a ∷ b ∷ c ∷ d ∷ []) low (omega arith))
 four_tagged number _ low four = absurd (omega (arith, four))
 
 -- the tag of a number in one octet, and the number
-pub one_tagged : (number n : ℕ) → number < 15 → n < 256 → tagged number (big_bytes (octet_count n) n) ≡ (16 * number + 1) ∷ n ∷ []
+pub one_tagged : (number n : ℕ) → number < 15 → n < 256
+    → tagged number (big_bytes (octet_count n) n) ≡ (16 * number + 1) ∷ n ∷ []
 one_tagged number n low one =
-    let contents : big_bytes (octet_count n) n ≡ n ∷ [] = rw (lt-ltb n 256 one) (ap (λ (octet : ℕ). octet ∷ []) (omega arith)) in
+    let contents : big_bytes (octet_count n) n ≡ n ∷ [] =
+    rw (lt-ltb n 256 one) (ap (λ (octet : ℕ). octet ∷ []) (omega arith)) in
     ap (tagged number) contents ∙ short_tagged number (n ∷ []) low (omega arith)

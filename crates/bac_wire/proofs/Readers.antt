@@ -1,5 +1,6 @@
 -- A reader on lists that takes what is spelled, and finds again what is spelled.
-use Rattle.std.proofs.Common.{Bool, true, false, cond, inl, inr, ◌≡◌, ℕ, ◌-◌, ◌≤◌, List, ◌++◌, length, take, Option, Some, None, refl, sym, ap, subst, ◌∙◌, arith, length-append}
+use Rattle.std.proofs.Common.{Bool, true, false, cond, inl, inr, ◌≡◌, ℕ, ◌-◌, ◌≤◌, List, ◌++◌, length, take, Option}
+use Rattle.std.proofs.Common.{Some, None, refl, sym, ap, subst, ◌∙◌, arith, length-append}
 use Rattle.std.specs.Prelude.{◌⊎◌}
 use Rattle.std.proofs.lemmas.List.{take_at, append_cancel_right}
 use Rattle.std.proofs.lemmas.Option.{some_pair_parts}
@@ -14,17 +15,23 @@ abbrev pub found_at : {A : Type 0} → A → List ℕ → Option (A × List ℕ)
 found_at x rest = Some (x, rest)
 
 -- a front that was taken whole
-pub took : {A : Type 0} (Spells : List ℕ → A → Type 0) (front : List ℕ) (x y : A) (after rest : List ℕ) → found_at x after ≡ found_at y rest → Spells front x → Took Spells (front ++ after) y rest
-took Spells front x y after rest e s = let same = some_pair_parts x y after rest e in (front, subst (Spells front) same.0 s, ap (λ (w : List ℕ). front ++ w) same.1)
+pub took : {A : Type 0} (Spells : List ℕ → A → Type 0) (front : List ℕ) (x y : A) (after rest : List ℕ)
+    → found_at x after ≡ found_at y rest → Spells front x → Took Spells (front ++ after) y rest
+took Spells front x y after rest e s =
+    let same = some_pair_parts x y after rest e in
+    (front, subst (Spells front) same.0 s, ap (λ (w : List ℕ). front ++ w) same.1)
 
 -- a front that was taken as one thing, and spells another one
-pub took_as : {A B : Type 0} (As : List ℕ → A → Type 0) (Spells : List ℕ → B → Type 0) (octets : List ℕ) (a : A) (x y : B) (after rest : List ℕ)
+pub took_as : {A B : Type 0} (As : List ℕ → A → Type 0) (Spells : List ℕ → B → Type 0) (octets : List ℕ) (a : A)
+    (x y : B) (after rest : List ℕ)
     → Took As octets a after → found_at x after ≡ found_at y rest → ((front : List ℕ) → As front a → Spells front x)
     → Took Spells octets y rest
 took_as As Spells octets a x y after rest t e to = rw t.2 (took Spells t.0 x y after rest e (to t.0 t.1))
 
-pub reader_of : {A : Type 0} (Spells : List ℕ → A → Type 0) (at : List ℕ → Option (A × List ℕ)) → ((octets : List ℕ) (x : A) (rest : List ℕ) → at octets ≡ Some (x, rest) → Took Spells octets x rest)
-    → ((front : List ℕ) (x : A) (rest : List ℕ) → Spells front x → at (front ++ rest) ≡ Some (x, rest)) → IsReader Spells at
+pub reader_of : {A : Type 0} (Spells : List ℕ → A → Type 0) (at : List ℕ → Option (A × List ℕ))
+    → ((octets : List ℕ) (x : A) (rest : List ℕ) → at octets ≡ Some (x, rest) → Took Spells octets x rest)
+    → ((front : List ℕ) (x : A) (rest : List ℕ) → Spells front x → at (front ++ rest) ≡ Some (x, rest))
+    → IsReader Spells at
 reader_of Spells at takes again = record {
   takes = λ octets x rest e. let t = takes octets x rest e in record { front = t.0; spelled = t.1; whole = t.2 };
   again = again;
@@ -32,10 +39,15 @@ reader_of Spells at takes again = record {
 
 -- a front, by the length of what stands behind it
 pub take_front : (octets front rest : List ℕ) → octets ≡ front ++ rest
-    → (length rest ≤ length octets) × (length octets - length rest ≡ length front) × (take (length octets - length rest) octets ≡ front)
+    → (length rest ≤ length octets) × (length octets - length rest ≡ length front)
+    × (take (length octets - length rest) octets ≡ front)
 take_front octets front rest e =
-    let long : length octets - length rest ≡ length front = omega (arith, ap length e, length-append front rest) in
-    (omega (arith, ap length e, length-append front rest), long, ap (λ (k : ℕ). take k octets) long ∙ rw e (take_at front rest (length front) refl))
+    let long : length octets - length rest ≡ length front = omega (arith, ap length e, length-append front rest) in (
+      omega (arith, ap length e, length-append front rest),
+      long,
+      ap (λ (k : ℕ). take k octets) long
+          ∙ rw e (take_at front rest (length front) refl),
+    )
 
 -- the branch that a test took
 pub chosen : {A : Type 0} (b : Bool) (x y z : A) → cond b x y ≡ z → ((b ≡ true) × (x ≡ z)) ⊎ ((b ≡ false) × (y ≡ z))
@@ -68,10 +80,13 @@ found_front {A} Spells at reader octets x rest e =
     let taken = reader.takes octets x rest (sym e) in
     let here = take_front octets taken.front rest taken.whole in
     let spelled : Spells (take (length octets - length rest) octets) x = rw here.2 taken.spelled in
-    let all : (other after : List ℕ) (y : A) → Spells other y → octets ≡ other ++ after → ◌≡◌ {A = Option (A × ℕ)} (Some (x, length octets - length rest)) (Some (y, length other)) = λ other after y t parts.
+    let all : (other after : List ℕ) (y : A) → Spells other y → octets ≡ other ++ after
+    → ◌≡◌ {A = Option (A × ℕ)} (Some (x, length octets - length rest)) (Some (y, length other)) =
+    λ other after y t parts.
     let both = some_pair_parts x y rest after (e ∙ ap at parts ∙ reader.again other y after t) in
     let there = take_front octets other after parts in
-    let same : length octets - length rest ≡ length other = ap (λ (w : List ℕ). length octets - length w) both.1 ∙ there.1 in
+    let same : length octets - length rest ≡ length other = ap (λ (w : List ℕ). length octets - length w) both.1
+    ∙ there.1 in
     rw (both.0, same) refl in
     (here.0, record { spelled = (omega arith, spelled); all = all })
 
@@ -80,9 +95,11 @@ pub none_front : {A : Type 0} (Spells : List ℕ → A → Type 0) (at : List �
     → (octets : List ℕ) → None ≡ at octets → FindsFront Spells octets None
 none_front {A} Spells at reader octets e = record {
   spelled = tt;
-  all = λ other after y t parts. let nothing : None ≡ found_at y after = e ∙ ap at parts ∙ reader.again other y after t in absurd cc;
+  all = λ other after y t parts. let nothing : None ≡ found_at y after = e ∙ ap at parts
+      ∙ reader.again other y after t in absurd cc;
 }
 
 -- a spelling is read back, whatever follows it
-pub spelled_back : {A : Type 0} (Spells : List ℕ → A → Type 0) (front : List ℕ) (x : A) → Spells front x → IsReadBack Spells front x
+pub spelled_back : {A : Type 0} (Spells : List ℕ → A → Type 0) (front : List ℕ) (x : A) → Spells front x
+    → IsReadBack Spells front x
 spelled_back Spells front x s = λ rest found finds. finds.all front rest x s refl

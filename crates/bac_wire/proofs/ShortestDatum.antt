@@ -1,5 +1,6 @@
 -- No spelling of a value has fewer octets than the plain one.
-use Rattle.std.proofs.Common.{◌≡◌, ℕ, ℤ, pos, negsuc, zero, suc, ◌+◌, ◌-◌, ◌*◌, ◌^◌, ◌<◌, ◌≤◌, List, [], ◌∷◌, ◌++◌, length, sym, ap, subst, ◌∙◌, arith, inl, inr}
+use Rattle.std.proofs.Common.{◌≡◌, ℕ, ℤ, pos, negsuc, zero, suc, ◌+◌, ◌-◌, ◌*◌, ◌^◌, ◌<◌, ◌≤◌, List, [], ◌∷◌, ◌++◌}
+use Rattle.std.proofs.Common.{length, sym, ap, subst, ◌∙◌, arith, inl, inr}
 use Rattle.std.proofs.Math.Nat.{pow-succ'}
 use Rattle.std.proofs.lemmas.Grind.{common_steps}
 use Rattle.std.proofs.lemmas.Int.{ints}
@@ -12,7 +13,8 @@ use Rattle.std.specs.Int.{w64}
 use Rattle.bac_wire.specs.declared.tag.Shape.TheVariants.{App}
 use Rattle.bac_wire.specs.Front.{AreOctets, IsShortest}
 use Rattle.bac_wire.specs.Tag.{plain_number, plain_length, plain_tag}
-use Rattle.bac_wire.specs.Datum.{Datum, boolean, unsigned, signed, enumerated, tag_number, StandsFor, shape_number, tag_before, Spells, octet_count, signed_count, plain_contents, plain, InRange, IsDatum}
+use Rattle.bac_wire.specs.Datum.{Datum, boolean, unsigned, signed, enumerated, tag_number, StandsFor, shape_number}
+use Rattle.bac_wire.specs.Datum.{tag_before, Spells, octet_count, signed_count, plain_contents, plain, InRange, IsDatum}
 use Rattle.bac_wire.proofs.TagLaws.{tag_least, behind}
 use Rattle.bac_wire.proofs.PlainDatum.{count_high, plain_spells}
 
@@ -37,21 +39,26 @@ signed_count_least k x z low fits e =
           let is : z ≡ pos x = rw (lt-ltb x (2 ^ (8 * k - 1)) small) at e in
           rw is (octet_count_least k (2 * x) low (omega arith))
       | inr large ↦
-          let is : z ≡ negsuc (2 ^ (8 * k) - suc x) = (rw (le-ltb x (2 ^ (8 * k - 1)) large) at e) ∙ omega (arith, ints) in
+          let is : z ≡ negsuc (2 ^ (8 * k) - suc x) = (rw (le-ltb x (2 ^ (8 * k - 1)) large) at e)
+          ∙ omega (arith, ints) in
           rw is (octet_count_least k (2 * (2 ^ (8 * k) - suc x)) low (omega arith))
     ]
 
 -- ---- the contents
 
-unsigned_least : (contents : List ℕ) (n : ℕ) → AreOctets contents → 1 ≤ length contents → n ≡ big_number (length contents) contents → length (big_bytes (octet_count n) n) ≤ length contents
+unsigned_least : (contents : List ℕ) (n : ℕ) → AreOctets contents → 1 ≤ length contents
+    → n ≡ big_number (length contents) contents → length (big_bytes (octet_count n) n) ≤ length contents
 unsigned_least contents n fit low e =
     let fits : n < 256 ^ length contents = rw e (big_from-lt 0 (length contents) contents fit) in
     rw (length-bytes_high_first (octet_count n) n) (octet_count_least (length contents) n low fits)
 
-contents_least : (contents : List ℕ) (value : Datum) → AreOctets contents → StandsFor contents value → length (plain_contents value) ≤ length contents
+contents_least : (contents : List ℕ) (value : Datum) → AreOctets contents → StandsFor contents value
+    → length (plain_contents value) ≤ length contents
 contents_least contents (unsigned n) fit h = unsigned_least contents n fit h.0 h.2
 contents_least contents (signed z) fit h =
-    rw (length-bytes_high_first (signed_count z) (low_bytes w64 (signed_count z) z)) (signed_count_least (length contents) (big_number (length contents) contents) z h.0 (big_from-lt 0 (length contents) contents fit) h.2)
+    rw (length-bytes_high_first (signed_count z) (low_bytes w64 (signed_count z) z))
+    (signed_count_least (length contents) (big_number (length contents) contents) z h.0
+    (big_from-lt 0 (length contents) contents fit) h.2)
 contents_least contents (enumerated n) fit h = unsigned_least contents n fit h.0 h.2
 contents_least contents _ fit h = grind (arith, common_steps)
 
@@ -60,9 +67,17 @@ contents_least contents _ fit h = grind (arith, common_steps)
 plain_length_grows : (m n : ℕ) → m ≤ n → length (plain_length m) ≤ length (plain_length n)
 plain_length_grows m n le = grind (arith, common_steps)
 
-tag_grows : (number m n : ℕ) → m ≤ n → length (plain_tag (record { number = number; shape = App m })) ≤ length (plain_tag (record { number = number; shape = App n }))
+tag_grows : (number m n : ℕ) → m ≤ n
+    → length (plain_tag (record { number = number; shape = App m })) ≤ length
+    (plain_tag (record { number = number; shape = App n }))
 unfolding plain_tag
-tag_grows number m n le = let grows = plain_length_grows m n le in omega (arith, length-append (plain_number number) (plain_length m), length-append (plain_number number) (plain_length n))
+tag_grows number m n le =
+    let grows = plain_length_grows m n le in
+    omega (
+      arith,
+      length-append (plain_number number) (plain_length m),
+      length-append (plain_number number) (plain_length n),
+    )
 
 shape_number_grows : (value : Datum) (m n : ℕ) → m ≤ n → shape_number value m ≤ shape_number value n
 shape_number_grows (boolean b) m n le = omega arith
@@ -74,23 +89,34 @@ pub ahead : (front rest : List ℕ) → AreOctets (front ++ rest) → AreOctets 
 ahead [] rest fit = λ i. omega arith
 ahead (x ∷ front) rest fit = elim [ zero ↦ fit zero | suc i ↦ ahead front rest (λ j. fit (suc j)) i ]
 
-value_least : (other : List ℕ) (value : Datum) → AreOctets other → Spells other value → length (plain value) ≤ length other
+value_least : (other : List ℕ) (value : Datum) → AreOctets other → Spells other value
+    → length (plain value) ≤ length other
 unfolding plain
 value_least other value fit s =
     let fits : AreOctets (s.tag ++ s.contents) = subst AreOctets s.whole fit in
     let contents = contents_least s.contents value (behind s.tag s.contents fits) s.held in
     let tag = tag_least s.tag (tag_before value (length s.contents)) (ahead s.tag s.contents fits) s.tagged in
     let count = shape_number_grows value (length (plain_contents value)) (length s.contents) contents in
-    let grows = tag_grows (tag_number value) (shape_number value (length (plain_contents value))) (shape_number value (length s.contents)) count in
-    omega (arith, ap length s.whole, length-append s.tag s.contents, length-append (plain_tag (tag_before value (length (plain_contents value)))) (plain_contents value))
+    let grows = tag_grows (tag_number value) (shape_number value (length (plain_contents value)))
+    (shape_number value (length s.contents)) count in
+    omega (
+      arith,
+      ap length s.whole,
+      length-append s.tag s.contents,
+      length-append (plain_tag (tag_before value (length (plain_contents value)))) (plain_contents value),
+    )
 
 pub plain_shortest : (value : Datum) → IsDatum value → IsShortest Spells (plain value) value
-plain_shortest value h = record { spelled = plain_spells value h; shortest = λ other fit s. value_least other value fit s }
+plain_shortest value h =
+    record { spelled = plain_spells value h; shortest = λ other fit s. value_least other value fit s }
 
 -- a value whose octets fit a frame has a spelling
 pub written_datum : (value : Datum) (before : ℕ) → InRange value → before + length (plain value) ≤ 1497 → IsDatum value
 unfolding plain
 written_datum value before range fits = record {
   range = range;
-  short = omega (arith, length-append (plain_tag (tag_before value (length (plain_contents value)))) (plain_contents value));
+  short = omega (
+    arith,
+    length-append (plain_tag (tag_before value (length (plain_contents value)))) (plain_contents value),
+  );
 }

@@ -1,5 +1,6 @@
 -- The values behind application tags, and the octets that spell them (ANSI/ASHRAE 135, 20.2.2 to 20.2.14).
-use Rattle.std.specs.Prelude.{FitsSigned, ◌≡◌, ℕ, ℤ, pos, negsuc, ◌*◌, ◌^◌, ◌<◌, ◌≤◌, Bool, nat_lt, if◌then◌else◌, List, [], ◌∷◌, ◌++◌, length}
+use Rattle.std.specs.Prelude.{FitsSigned, ◌≡◌, ℕ, ℤ, pos, negsuc, ◌*◌, ◌^◌, ◌<◌, ◌≤◌, Bool, nat_lt, if◌then◌else◌, List}
+use Rattle.std.specs.Prelude.{[], ◌∷◌, ◌++◌, length}
 use Rattle.std.specs.Int.{w64}
 use Rattle.byteorder.specs.Endian.{big_number, big_bytes, twos_complement, low_bytes}
 use Rattle.bac_wire.specs.declared.tag.Shape.TheVariants.{App}
@@ -9,7 +10,7 @@ use Rattle.bac_wire.specs.declared.value.Value.TheVariants as values
 use Rattle.bac_wire.specs.Identifier.{Identifier, IsIdentifier, identifier, number_of}
 use Rattle.bac_wire.specs.Tag.{SpellsTag, plain_tag}
 
--- a value as what it is, and not where its octets lie
+-- What a value is, without where its octets lie in memory.
 pub data Datum : Type 0 where
   null : Datum
   boolean : Bool → Datum
@@ -25,7 +26,7 @@ pub data Datum : Type 0 where
   time : List ℕ → Datum
   object : Identifier → Datum
 
--- what a `Value` is
+-- The datum that a `Value` of the code is.
 abbrev pub datum : Value → Datum
 datum values.Null = null
 datum (values.Bool b) = boolean b
@@ -41,7 +42,7 @@ datum (values.Date d) = date d
 datum (values.Time t) = time t
 datum (values.Object id) = object (identifier id)
 
--- the number of the application tag before a value (20.2.1.4)
+-- The number of the application tag before a value (20.2.1.4).
 abbrev pub tag_number : Datum → ℕ
 tag_number null = 0
 tag_number (boolean _) = 1
@@ -57,7 +58,7 @@ tag_number (date _) = 10
 tag_number (time _) = 11
 tag_number (object _) = 12
 
--- at most 7 bits of the last octet are unused, and none where there is no octet (20.2.10)
+-- At most 7 bits of the last octet are unused, and none where there is no octet (20.2.10).
 pub record AreBits (unused : ℕ) (x : List ℕ) : Type 0 where
   pub most : unused ≤ 7
   pub empty : x ≡ [] → unused ≡ 0
@@ -66,28 +67,31 @@ pub record AreBits (unused : ℕ) (x : List ℕ) : Type 0 where
 abbrev pub StandsFor : List ℕ → Datum → Type 0
 StandsFor contents null = contents ≡ []
 StandsFor contents (boolean _) = contents ≡ []
-StandsFor contents (unsigned n) = (1 ≤ length contents) × (length contents ≤ 8) × (n ≡ big_number (length contents) contents)
-StandsFor contents (signed z) = (1 ≤ length contents) × (length contents ≤ 8) × (z ≡ twos_complement (length contents) (big_number (length contents) contents))
+StandsFor contents (unsigned n) = (1 ≤ length contents) × (length contents ≤ 8)
+    × (n ≡ big_number (length contents) contents)
+StandsFor contents (signed z) = (1 ≤ length contents) × (length contents ≤ 8)
+    × (z ≡ twos_complement (length contents) (big_number (length contents) contents))
 StandsFor contents (real r) = (length contents ≡ 4) × (contents ≡ r)
 StandsFor contents (double d) = (length contents ≡ 8) × (contents ≡ d)
 StandsFor contents (octet_string x) = contents ≡ x
 StandsFor contents (char_string set x) = contents ≡ set ∷ x
 StandsFor contents (bit_string unused x) = (contents ≡ unused ∷ x) × AreBits unused x
-StandsFor contents (enumerated n) = (1 ≤ length contents) × (length contents ≤ 4) × (n ≡ big_number (length contents) contents)
+StandsFor contents (enumerated n) = (1 ≤ length contents) × (length contents ≤ 4)
+    × (n ≡ big_number (length contents) contents)
 StandsFor contents (date d) = (length contents ≡ 4) × (contents ≡ d)
 StandsFor contents (time t) = (length contents ≡ 4) × (contents ≡ t)
 StandsFor contents (object id) = (length contents ≡ 4) × (id.instance < 2 ^ 22) × (big_number 4 contents ≡ number_of id)
 
--- The number in the tag: the length of the contents, for a boolean its value (20.2.3).
+-- The number that the tag holds: the length of the contents, or for a Boolean its value (20.2.3).
 abbrev pub shape_number : Datum → ℕ → ℕ
 shape_number (boolean b) n = if b then 1 else 0
 shape_number _ n = n
 
--- the tag before a value with contents of this length
+-- The tag before a value with contents of this length.
 abbrev pub tag_before : Datum → ℕ → Tag
 tag_before value n = record { number = tag_number value; shape = App (shape_number value n) }
 
--- a spelling of the application tag, and the contents
+-- A spelling of a value: its application tag, and its contents.
 pub record Spells (spelling : List ℕ) (value : Datum) : Type 0 where
   pub tag : List ℕ
   pub contents : List ℕ
@@ -97,7 +101,7 @@ pub record Spells (spelling : List ℕ) (value : Datum) : Type 0 where
 
 -- ---- the shortest spelling
 
--- the fewest octets that hold the number, at least one
+-- The fewest octets that hold the number, at least one.
 abbrev pub octet_count : ℕ → ℕ
 octet_count n =
     if nat_lt n (256 ^ 1) then 1
@@ -109,12 +113,12 @@ octet_count n =
     else if nat_lt n (256 ^ 7) then 7
     else 8
 
--- the same in two's complement, where the sign takes a bit more
+-- The fewest octets that hold the number in two's complement, where the sign takes a bit more.
 abbrev pub signed_count : ℤ → ℕ
 signed_count (pos n) = octet_count (2 * n)
 signed_count (negsuc n) = octet_count (2 * n)
 
--- numbers in least octets, all else as it is
+-- The contents that are written: a number in the fewest octets, all else as it is.
 abbrev pub plain_contents : Datum → List ℕ
 plain_contents null = []
 plain_contents (boolean _) = []
@@ -130,20 +134,16 @@ plain_contents (date d) = d
 plain_contents (time t) = t
 plain_contents (object id) = big_bytes 4 (number_of id)
 
--- an application tag and the contents that it counts
-unfoldable pub tagged : ℕ → List ℕ → List ℕ
-tagged number contents = plain_tag (record { number = number; shape = App (length contents) }) ++ contents
-
--- the spelling that is written
+-- The spelling that is written of a value.
 unfoldable pub plain : Datum → List ℕ
 plain value = plain_tag (tag_before value (length (plain_contents value))) ++ plain_contents value
 
--- the values that can be written: all but bits that are none
+-- The values that can be written: all but a BitString with more than 7 unused bits, or with unused bits and no octet.
 abbrev pub IsSound : Datum → Type 0
 IsSound (bit_string unused x) = AreBits unused x
 IsSound _ = Unit {0}
 
--- a value within the range of its kind
+-- A value within the range of its kind.
 abbrev pub InRange : Datum → Type 0
 InRange null = Unit {0}
 InRange (boolean _) = Unit {0}

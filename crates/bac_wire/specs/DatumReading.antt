@@ -1,35 +1,40 @@
 -- Reading a value from left to right: by its tag, and then by the table of the kinds. `Spells` says what that means.
-use Rattle.std.specs.Prelude.{ℕ, nat_lt, ◌==◌, true, false, if◌then◌else◌, List, [], ◌∷◌, length, take, drop, Option, Some, None}
+use Rattle.std.specs.Prelude.{ℕ, nat_lt, ◌==◌, true, false, if◌then◌else◌, List, [], ◌∷◌, length, take, drop, Option}
+use Rattle.std.specs.Prelude.{Some, None}
 use Rattle.std.specs.Option.{option_map}
 use Rattle.byteorder.specs.Endian.{big_number, twos_complement}
 use Rattle.bac_wire.specs.declared.tag.Shape.{Shape}
-use Rattle.bac_wire.specs.declared.tag.Shape.TheVariants.{App, Context, Opening, Closing}
+use Rattle.bac_wire.specs.declared.tag.Shape.TheVariants.{App}
 use Rattle.bac_wire.specs.declared.tag.Tag.{Tag}
 use Rattle.bac_wire.specs.Identifier.{identifier_of}
-use Rattle.bac_wire.specs.Datum.{Datum, null, boolean, unsigned, signed, real, double, octet_string, char_string, bit_string, enumerated, date, time, object}
+use Rattle.bac_wire.specs.Datum.{Datum, null, boolean, unsigned, signed, real, double, octet_string, char_string}
+use Rattle.bac_wire.specs.Datum.{bit_string, enumerated, date, time, object}
 use Rattle.bac_wire.specs.Steps.{◌>>=◌}
 use Rattle.bac_wire.specs.TagReading.{tag_at}
 
--- contents of this length
+-- The contents, where they have this length.
 abbrev pub exactly : ℕ → List ℕ → Option (List ℕ)
 exactly n contents = if length contents == n then Some contents else None
 
--- the number in one octet up to this many
+-- The number that contents are, where they have from one octet up to this many.
 abbrev pub number_within : ℕ → List ℕ → Option ℕ
-number_within most contents = if nat_lt 0 (length contents) then (if nat_lt most (length contents) then None else Some (big_number (length contents) contents)) else None
+number_within most contents =
+    if nat_lt 0 (length contents)
+    then (if nat_lt most (length contents) then None else Some (big_number (length contents) contents))
+    else None
 
--- the set, and the text
+-- A CharacterString: the first octet is the number of its character set, the others are its text.
 abbrev pub chars_of : List ℕ → Option Datum
 chars_of [] = None
 chars_of (set ∷ x) = Some (char_string set x)
 
--- the number of unused bits, and the bits
+-- A BitString: the first octet says how many bits of the last one are unused, the others are the bits.
 abbrev pub bits_of : List ℕ → Option Datum
 bits_of [] = None
 bits_of (unused ∷ []) = if unused == 0 then Some (bit_string unused []) else None
 bits_of (unused ∷ x ∷ xs) = if nat_lt 7 unused then None else Some (bit_string unused (x ∷ xs))
 
--- what contents stand for behind an application tag of this number
+-- The value that contents stand for behind an application tag of this number.
 unfoldable pub contents_of : ℕ → List ℕ → Option Datum
 contents_of number contents =
     if number == 0 then option_map (λ _. null) (exactly 0 contents)
@@ -46,24 +51,22 @@ contents_of number contents =
     else if number == 12 then option_map (λ c. object (identifier_of (big_number 4 c))) (exactly 4 contents)
     else None
 
--- the boolean that its tag holds
+-- The Boolean that the number in its tag says.
 abbrev pub boolean_of : ℕ → Option Datum
 boolean_of n = if n == 0 then Some (boolean false) else if n == 1 then Some (boolean true) else None
 
--- the value behind an application tag of this number and length
+-- The value behind an application tag of this number and length, and the octets behind it.
 abbrev pub behind_at : ℕ → ℕ → List ℕ → Option (Datum × List ℕ)
 behind_at number n rest =
     if number == 1 then boolean_of n >>= (λ value. Some (value, rest))
     else if nat_lt (length rest) n then None
     else contents_of number (take n rest) >>= (λ value. Some (value, drop n rest))
 
--- the value behind a tag of this shape
+-- The value behind this tag, where the tag is of the application class.
 abbrev pub with_shape : Tag → Shape → List ℕ → Option (Datum × List ℕ)
 with_shape tag (App n) rest = behind_at tag.number n rest
-with_shape tag (Context n) rest = None
-with_shape tag Opening rest = None
-with_shape tag Closing rest = None
+with_shape tag _ rest = None
 
--- the value at the front
+-- The value at the front, and the octets behind it.
 unfoldable pub value_at : List ℕ → Option (Datum × List ℕ)
 value_at spelling = tag_at spelling >>= (λ tag. with_shape tag.0 tag.0.shape tag.1)

@@ -1,53 +1,51 @@
 -- What stands at the front of a list of octets.
-use Rattle.std.specs.Prelude.{◌≡◌, ℕ, ◌≤◌, ◌<◌, slice_index, List, [], ◌∷◌, ◌++◌, length, take, Option, Some, None, IfSome}
+use Rattle.std.specs.Prelude.{◌≡◌, ℕ, ◌≤◌, ◌<◌, slice_index, List, [], ◌∷◌, ◌++◌, length, take, Option, Some, IfSome}
 
 -- What a reader found at the front is spelled there, and whatever is spelled at the front is found.
-pub record FindsFront {A : Type 0} (Spells : List ℕ → A → Type 0) (octets : List ℕ) (found : Option (A × ℕ)) : Type 0 where
+pub record FindsFront {A : Type 0} (Spells : List ℕ → A → Type 0) (octets : List ℕ) (found : Option (A × ℕ))
+    : Type 0 where
   pub spelled : IfSome found (λ x. (x.1 ≤ length octets) × Spells (take x.1 octets) x.0)
   pub all : (front rest : List ℕ) (x : A) → Spells front x → octets ≡ front ++ rest → found ≡ Some (x, length front)
 
--- a spelling of the thing at the front of a list, and what stands behind it
+-- The octets begin with a spelling of this thing, and this rest stands behind it.
 pub record Begins {A : Type 0} (Spells : List ℕ → A → Type 0) (octets : List ℕ) (x : A) (rest : List ℕ) : Type 0 where
   pub front : List ℕ
   pub spelled : Spells front x
   pub whole : octets ≡ front ++ rest
 
--- the spellings of these things, one after the other, and then this rest
+-- The octets are spellings of these things, one after the other, and then this rest.
 abbrev pub SpellsTo : {A : Type 0} → (List ℕ → A → Type 0) → List ℕ → List A → List ℕ → Type 0
 SpellsTo Spells octets [] rest = octets ≡ rest
 SpellsTo Spells octets (x ∷ xs) rest = (next : List ℕ) × Begins Spells octets x next × SpellsTo Spells next xs rest
 
--- the spellings of these things, one after the other, and nothing else
+-- The octets are spellings of these things, one after the other, and nothing else.
 abbrev pub SpellsAll : {A : Type 0} → (List ℕ → A → Type 0) → List ℕ → List A → Type 0
 SpellsAll Spells octets xs = SpellsTo Spells octets xs []
 
--- octets spell at most one thing
+-- Octets spell at most one thing.
 abbrev pub IsSingle : {A : Type 0} → (List ℕ → A → Type 0) → Type 0
 IsSingle {A} Spells = (octets : List ℕ) (x y : A) → Spells octets x → Spells octets y → x ≡ y
 
--- A function that reads from left to right: what it takes is spelled at the front, and what is spelled it takes, whatever follows.
+-- A function that reads from left to right: what it takes is spelled at the front, and what is spelled it takes,
+-- whatever follows.
 pub record IsReader {A : Type 0} (Spells : List ℕ → A → Type 0) (at : List ℕ → Option (A × List ℕ)) : Type 0 where
   pub takes : (octets : List ℕ) (x : A) (rest : List ℕ) → at octets ≡ Some (x, rest) → Begins Spells octets x rest
   pub again : (front : List ℕ) (x : A) (rest : List ℕ) → Spells front x → at (front ++ rest) ≡ Some (x, rest)
 
--- each number of the list is an octet
+-- Each number of the list is an octet.
 abbrev pub AreOctets : List ℕ → Type 0
 AreOctets octets = (i : ℕ) → slice_index octets i < 256
 
--- no spelling begins another, and a list spells one thing at most
+-- No spelling begins another, and a list spells one thing at most.
 abbrev pub IsPrefixFree : {A : Type 0} → (List ℕ → A → Type 0) → Type 0
 IsPrefixFree {A} Spells = (a b u v : List ℕ) (x y : A) → Spells a x → Spells b y → a ++ u ≡ b ++ v → (a ≡ b) × (x ≡ y)
 
--- this is a spelling of the thing, and no other has fewer octets
+-- This is a spelling of the thing, and no other has fewer octets.
 pub record IsShortest {A : Type 0} (Spells : List ℕ → A → Type 0) (plain : List ℕ) (x : A) : Type 0 where
   pub spelled : Spells plain x
   pub shortest : (other : List ℕ) → AreOctets other → Spells other x → length plain ≤ length other
 
--- whatever follows these octets, who finds what stands at the front finds this thing, and these octets as its spelling
+-- Whatever follows these octets, a reader of the front finds this thing there, and these octets as its spelling.
 abbrev pub IsReadBack : {A : Type 0} → (List ℕ → A → Type 0) → List ℕ → A → Type 0
-IsReadBack {A} Spells plain x = (rest : List ℕ) (found : Option (A × ℕ)) → FindsFront Spells (plain ++ rest) found → found ≡ Some (x, length plain)
-
--- A rest that was found is such a rest, and none is found only where there is none.
-abbrev pub Finds : (List ℕ → Type 0) → Option (List ℕ) → Type 0
-Finds IsRest None = (rest : List ℕ) → IsRest rest → ⊥
-Finds IsRest (Some rest) = IsRest rest
+IsReadBack {A} Spells plain x = (rest : List ℕ) (found : Option (A × ℕ)) → FindsFront Spells (plain ++ rest) found
+    → found ≡ Some (x, length plain)

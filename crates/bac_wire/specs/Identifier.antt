@@ -2,24 +2,24 @@
 use Rattle.std.specs.Prelude.{ℕ, ◌+◌, ◌*◌, ◌^◌, ◌<◌, ◌/◌, ◌%◌}
 use Rattle.bac_wire.specs.declared.object_id.ObjectId.{ObjectId}
 
--- an identifier as two numbers
+-- An identifier as two numbers.
 pub record Identifier : Type 0 where
   pub kind : ℕ
   pub instance : ℕ
 
--- the two numbers of an `ObjectId`
+-- The two numbers of an `ObjectId`.
 abbrev pub identifier : ObjectId → Identifier
 identifier id = record { kind = id.kind; instance = id.instance }
 
--- ten bits of type and 22 of instance
+-- The identifiers that there are: ten bits of type and 22 of instance.
 pub record IsIdentifier (id : Identifier) : Type 0 where
   pub kind : id.kind < 1024
   pub instance : id.instance < 2 ^ 22
 
--- the type in the high bits, the instance in the low 22
+-- The number that an identifier is on the wire: the type in the high bits, the instance in the low 22.
 abbrev pub number_of : Identifier → ℕ
 number_of id = id.kind * 2 ^ 22 + id.instance
 
--- the identifier in a number of 32 bits
+-- The identifier in a number of 32 bits.
 abbrev pub identifier_of : ℕ → Identifier
 identifier_of n = record { kind = n / 2 ^ 22; instance = n % 2 ^ 22 }

@@ -1,5 +1,6 @@
 -- Reading items from left to right: the octets behind them. `LeavesRest` and `SpellsClosed` say what that means.
-use Rattle.std.specs.Prelude.{ℕ, zero, suc, ◌-◌, nat_lt, ◌==◌, if◌then◌else◌, List, [], ◌∷◌, length, take, drop, Option, Some, None}
+use Rattle.std.specs.Prelude.{ℕ, zero, suc, ◌-◌, nat_lt, ◌==◌, if◌then◌else◌, List, [], ◌∷◌, length, take, drop, Option}
+use Rattle.std.specs.Prelude.{Some, None}
 use Rattle.bac_wire.specs.declared.tag.Shape.{Shape}
 use Rattle.bac_wire.specs.declared.tag.Shape.TheVariants.{App, Context, Opening, Closing}
 use Rattle.bac_wire.specs.declared.tag.Tag.{Tag}
@@ -7,22 +8,21 @@ use Rattle.bac_wire.specs.Steps.{◌>>=◌}
 use Rattle.bac_wire.specs.Limits.{deepest}
 use Rattle.bac_wire.specs.TagReading.{tag_at}
 
--- the octets behind this many
+-- What is left behind this many octets.
 abbrev pub behind_count : ℕ → List ℕ → Option (List ℕ)
 behind_count count octets = if nat_lt (length octets) count then None else Some (drop count octets)
 
--- what stands behind a tag, if it is the closing tag of this number
+-- What stands behind a tag, if it is the closing tag of this number.
 abbrev pub closing_of : ℕ → Tag → Shape → List ℕ → Option (List ℕ)
 closing_of number tag Closing rest = if tag.number == number then Some rest else None
-closing_of number tag Opening rest = None
-closing_of number tag (App n) rest = None
-closing_of number tag (Context n) rest = None
+closing_of number tag _ rest = None
 
--- the octets behind the closing tag of this number
+-- The octets behind the closing tag of this number.
 unfoldable pub behind_closing : ℕ → List ℕ → Option (List ℕ)
 behind_closing number octets = tag_at octets >>= (λ x. closing_of number x.0 x.0.shape x.1)
 
--- the octets behind the item that begins with this tag, where items reads those inside of it
+-- The octets behind the item that begins with this tag. `items` passes over the items inside of it, and `depth` says
+-- how many opening tags may be open.
 abbrev pub behind_item : (ℕ → List ℕ → Option (List ℕ)) → ℕ → Tag → Shape → List ℕ → Option (List ℕ)
 behind_item items depth tag (App n) rest = if tag.number == 1 then Some rest else behind_count n rest
 behind_item items depth tag (Context n) rest = behind_count n rest
@@ -30,25 +30,26 @@ behind_item items zero tag Opening rest = None
 behind_item items (suc depth) tag Opening rest = items depth rest >>= behind_closing tag.number
 behind_item items depth tag Closing rest = None
 
--- the octets behind the items that begin with this tag: all of them, where it is a closing tag
+-- The octets behind the items that begin with this tag. A closing tag begins no item: there it is all octets.
 abbrev pub behind_tag : (ℕ → List ℕ → Option (List ℕ)) → ℕ → List ℕ → Tag → Shape → List ℕ → Option (List ℕ)
 behind_tag items depth octets tag Closing rest = Some octets
 behind_tag items depth octets tag Opening rest = behind_item items depth tag Opening rest >>= items depth
 behind_tag items depth octets tag (App n) rest = behind_item items depth tag (App n) rest >>= items depth
 behind_tag items depth octets tag (Context n) rest = behind_item items depth tag (Context n) rest >>= items depth
 
--- where no tag stands there is nothing, or what is no item
+-- The octets behind the items that begin with the tag that was found. Without a tag the octets are at their end, or are
+-- no items.
 abbrev pub behind_tag_found : (ℕ → List ℕ → Option (List ℕ)) → ℕ → List ℕ → Option (Tag × List ℕ) → Option (List ℕ)
 behind_tag_found items depth [] None = Some []
 behind_tag_found items depth (x ∷ xs) None = None
 behind_tag_found items depth octets (Some t) = behind_tag items depth octets t.0 t.0.shape t.1
 
--- the octets behind the items at the front, of which there are fewer than this count
+-- The octets behind the items at the front, of which there are fewer than this count.
 unfoldable pub behind_items : ℕ → ℕ → List ℕ → Option (List ℕ)
 behind_items zero depth octets = None
 behind_items (suc count) depth octets = behind_tag_found (behind_items count) depth octets (tag_at octets)
 
--- the items up to a closing tag of this number
+-- The items up to a closing tag of this number, and the octets behind that tag.
 unfoldable pub region_at : ℕ → List ℕ → Option (List ℕ × List ℕ)
 region_at number octets = do
   closing ← behind_items (suc (length octets)) deepest octets

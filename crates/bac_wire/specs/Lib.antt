@@ -11,3 +11,5 @@ pub mod Region
 pub mod ItemReading
 pub mod Parameter
 pub mod ParameterReading
+pub mod Examples
+pub mod Inner

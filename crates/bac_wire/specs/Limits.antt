@@ -1,14 +1,14 @@
 -- The limits of frames and of regions. The code has constants of the same numbers.
 use Rattle.std.specs.Prelude.{ℕ}
 
--- the octets that a frame has room for, as many as the largest NPDU of BACnet/IP has (ANSI/ASHRAE 135, clause 6)
+-- The octets that a frame has room for, as many as the largest NPDU of BACnet/IP has (ANSI/ASHRAE 135, clause 6).
 abbrev pub frame_room : ℕ
 frame_room = 1497
 
--- the opening tags that may be open at once in a region
+-- The opening tags that may be open at once in a region.
 abbrev pub deepest : ℕ
 deepest = 32
 
--- the number of the tags round a parameter's value, which are not counted among those (clause 15)
+-- The number of the tags round a parameter's value, which are not counted among those (clause 15).
 abbrev pub value_tag : ℕ
 value_tag = 3

@@ -2,7 +2,7 @@
 use Rattle.std.specs.Prelude.{ℕ, nat_lt, ◌==◌, if◌then◌else◌, List, length, take, drop, Option, Some, None}
 use Rattle.byteorder.specs.Endian.{big_number}
 use Rattle.bac_wire.specs.declared.tag.Shape.{Shape}
-use Rattle.bac_wire.specs.declared.tag.Shape.TheVariants.{App, Context, Opening, Closing}
+use Rattle.bac_wire.specs.declared.tag.Shape.TheVariants.{Context, Opening}
 use Rattle.bac_wire.specs.declared.tag.Tag.{Tag}
 use Rattle.bac_wire.specs.Identifier.{Identifier, identifier_of}
 use Rattle.bac_wire.specs.Steps.{◌>>=◌}
@@ -11,33 +11,32 @@ use Rattle.bac_wire.specs.ItemReading.{region_at}
 use Rattle.bac_wire.specs.Datum.{Datum, unsigned, enumerated, object}
 use Rattle.bac_wire.specs.DatumReading.{number_within, value_at}
 
--- the contents that a tag counts, if it is a context tag of this number
+-- The contents that this tag counts, and the octets behind them, if it is a context tag of this number.
 abbrev pub counted_of : ℕ → Tag → Shape → List ℕ → Option (List ℕ × List ℕ)
-counted_of number tag (Context n) rest = if tag.number == number then (if nat_lt (length rest) n then None else Some (take n rest, drop n rest)) else None
-counted_of number tag (App n) rest = None
-counted_of number tag Opening rest = None
-counted_of number tag Closing rest = None
+counted_of number tag (Context n) rest =
+    if tag.number == number then (if nat_lt (length rest) n then None else Some (take n rest, drop n rest)) else None
+counted_of number tag _ rest = None
 
--- the contents under a context tag of this number
+-- The contents under a context tag of this number, and the octets behind them.
 unfoldable pub context_at : ℕ → List ℕ → Option (List ℕ × List ℕ)
 context_at number octets = tag_at octets >>= (λ x. counted_of number x.0 x.0.shape x.1)
 
--- the number in one to four octets
+-- The number in one to four octets.
 abbrev pub number_of_contents : List ℕ → Option ℕ
 number_of_contents contents = number_within 4 contents
 
--- the object's identifier in four octets
+-- The object's identifier in four octets.
 abbrev pub object_of_contents : List ℕ → Option Identifier
 object_of_contents contents = if length contents == 4 then Some (identifier_of (big_number 4 contents)) else None
 
--- the number in one to four octets under this tag
+-- The number in one to four octets under this tag.
 unfoldable pub number_at : ℕ → List ℕ → Option (ℕ × List ℕ)
 number_at number octets = do
   x ← context_at number octets
   n ← number_of_contents x.0
   Some (n, x.1)
 
--- the object's identifier under this tag
+-- The object's identifier under this tag.
 unfoldable pub object_at : ℕ → List ℕ → Option (Identifier × List ℕ)
 object_at number octets = do
   x ← context_at number octets
@@ -46,39 +45,37 @@ object_at number octets = do
 
 -- ---- items between two tags
 
--- what stands behind a tag, if it is the opening tag of this number
+-- What stands behind a tag, if it is the opening tag of this number.
 abbrev pub opening_of : ℕ → Tag → Shape → List ℕ → Option (List ℕ)
 opening_of number tag Opening rest = if tag.number == number then Some rest else None
-opening_of number tag Closing rest = None
-opening_of number tag (App n) rest = None
-opening_of number tag (Context n) rest = None
+opening_of number tag _ rest = None
 
--- the octets behind an opening tag of this number
+-- The octets behind an opening tag of this number.
 unfoldable pub behind_opening : ℕ → List ℕ → Option (List ℕ)
 behind_opening number octets = tag_at octets >>= (λ x. opening_of number x.0 x.0.shape x.1)
 
--- the items between an opening and a closing tag of this number
+-- The items between an opening and a closing tag of this number.
 unfoldable pub enclosed_at : ℕ → List ℕ → Option (List ℕ × List ℕ)
 enclosed_at number octets = behind_opening number octets >>= region_at number
 
 -- ---- values of one kind
 
--- the number, if the value is an Unsigned
+-- The number, if the value is an Unsigned.
 abbrev pub unsigned_in : Datum → Option ℕ
 unsigned_in (unsigned n) = Some n
 unsigned_in _ = None
 
--- the number, if the value is an Enumerated
+-- The number, if the value is an Enumerated.
 abbrev pub enumerated_in : Datum → Option ℕ
 enumerated_in (enumerated n) = Some n
 enumerated_in _ = None
 
--- the identifier, if the value is an ObjectIdentifier
+-- The identifier, if the value is an ObjectIdentifier.
 abbrev pub object_in : Datum → Option Identifier
 object_in (object id) = Some id
 object_in _ = None
 
--- the value at the front, where it is of the kind
+-- The value at the front, where it is of the kind that `in_kind` takes.
 unfoldable pub kind_at : {A : Type 0} → (Datum → Option A) → List ℕ → Option (A × List ℕ)
 kind_at in_kind octets = do
   x ← value_at octets

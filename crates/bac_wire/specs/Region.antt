@@ -1,27 +1,29 @@
--- Items, and regions: lists of whole items, as a parameter of any type holds them (ANSI/ASHRAE 135, 20.2.1.3.2, 20.2.19).
-use Rattle.std.specs.Prelude.{◌≡◌, ℕ, zero, suc, ◌≤◌, ◌⊎◌, ◌==◌, if◌then◌else◌, List, [], ◌++◌, length, take, drop, Option, Some, IfSome}
+-- Items, and regions: lists of whole items, as a parameter of any type holds them (ANSI/ASHRAE 135, 20.2.1.3.2,
+-- 20.2.19).
+use Rattle.std.specs.Prelude.{◌≡◌, ℕ, zero, suc, ◌≤◌, ◌⊎◌, ◌==◌, if◌then◌else◌, List, [], ◌++◌, length, take, Option}
+use Rattle.std.specs.Prelude.{Some, IfSome}
 use Rattle.bac_wire.specs.declared.tag.Shape.{Shape}
 use Rattle.bac_wire.specs.declared.tag.Shape.TheVariants.{App, Context, Opening, Closing}
 use Rattle.bac_wire.specs.declared.tag.Tag.{Tag}
 use Rattle.bac_wire.specs.Limits.{deepest}
 use Rattle.bac_wire.specs.Tag.{SpellsTag}
 
--- the tag that begins a construction
+-- The opening tag of this number, which begins constructed data.
 abbrev pub opening_tag : ℕ → Tag
 opening_tag number = record { number = number; shape = Opening }
 
--- the tag that ends it
+-- The closing tag of this number, which ends it.
 abbrev pub closing_tag : ℕ → Tag
 closing_tag number = record { number = number; shape = Closing }
 
--- how many octets a tag of this number and shape counts: an application Boolean has none
+-- How many octets a tag of this number and shape counts: an application Boolean has none.
 abbrev pub Counts : ℕ → Shape → ℕ → Type 0
 Counts number (App n) count = count ≡ (if number == 1 then 0 else n)
 Counts number (Context n) count = count ≡ n
 Counts number Opening count = ⊥
 Counts number Closing count = ⊥
 
--- primitive data: a tag and the octets that it counts
+-- Primitive data: a tag and the octets that it counts.
 pub record IsPrimitive (octets : List ℕ) : Type 0 where
   pub tag : Tag
   pub spelling : List ℕ
@@ -30,12 +32,12 @@ pub record IsPrimitive (octets : List ℕ) : Type 0 where
   pub tagged : SpellsTag spelling tag
   pub counted : Counts tag.number tag.shape (length contents)
 
--- lists of this kind, one after the other
+-- Parts of this kind, one after the other, or none.
 pub data IsSequence (Part : List ℕ → Type 0) : List ℕ → Type 0 where
   none : IsSequence Part []
   more : {first rest : List ℕ} → Part first → IsSequence Part rest → IsSequence Part (first ++ rest)
 
--- constructed data: an opening tag, a sequence, and the closing tag of the same number
+-- Constructed data: an opening tag, a sequence, and the closing tag of the same number.
 pub record IsBracketed (Part : List ℕ → Type 0) (octets : List ℕ) : Type 0 where
   pub number : ℕ
   pub opening : List ℕ
@@ -46,46 +48,35 @@ pub record IsBracketed (Part : List ℕ → Type 0) (octets : List ℕ) : Type 0
   pub parts : IsSequence Part inside
   pub closed : SpellsTag closing (closing_tag number)
 
--- an item with at most this many opening tags open at once
+-- An item with at most this many opening tags open at once.
 abbrev pub IsItem : ℕ → List ℕ → Type 0
 IsItem zero octets = IsPrimitive octets
 IsItem (suc depth) octets = IsPrimitive octets ⊎ IsBracketed (IsItem depth) octets
 
--- whole items, the empty list included
+-- Whole items, the empty list included.
 abbrev pub IsRegion : ℕ → List ℕ → Type 0
 IsRegion depth octets = IsSequence (IsItem depth) octets
 
 -- ---- what stands behind the items at the front
 
--- this many octets, and a rest
-pub record CountsBehind (count : ℕ) (octets rest : List ℕ) : Type 0 where
-  pub room : count ≤ length octets
-  pub rest_is : rest ≡ drop count octets
-
--- the closing tag of this number, and a rest
+-- The octets are a closing tag of this number, and then this rest.
 pub record IsClosedBy (number : ℕ) (octets rest : List ℕ) : Type 0 where
   pub closing : List ℕ
   pub closed : SpellsTag closing (closing_tag number)
   pub whole : octets ≡ closing ++ rest
 
--- nothing, or a closing tag
+-- Nothing is left, or a closing tag begins what is left.
 abbrev pub HasEnded : List ℕ → Type 0
 HasEnded octets = (octets ≡ []) ⊎ ((number : ℕ) × (rest : List ℕ) × IsClosedBy number octets rest)
 
--- whole items, and then a rest that is empty or begins with a closing tag
+-- The octets are whole items, and then this rest, which is empty or begins with a closing tag.
 pub record LeavesRest (depth : ℕ) (octets rest : List ℕ) : Type 0 where
   pub front : List ℕ
   pub region : IsRegion depth front
   pub whole : octets ≡ front ++ rest
   pub ended : HasEnded rest
 
--- an item, and a rest
-pub record LeavesBehind (depth : ℕ) (octets rest : List ℕ) : Type 0 where
-  pub front : List ℕ
-  pub item : IsItem depth front
-  pub whole : octets ≡ front ++ rest
-
--- whole items, and behind them the closing tag of this number
+-- The octets begin with this front, which is whole items, and a closing tag of this number stands behind it.
 pub record IsClosedRegion (depth number : ℕ) (octets front : List ℕ) : Type 0 where
   pub behind : List ℕ
   pub rest : List ℕ
@@ -93,21 +84,24 @@ pub record IsClosedRegion (depth number : ℕ) (octets front : List ℕ) : Type 
   pub whole : octets ≡ front ++ behind
   pub closed : IsClosedBy number behind rest
 
--- What a reader found is the length of the region that the closing tag of this number ends, and it finds the one that there is.
+-- A size that was found is that of a region that a closing tag of this number ends; where there is such a region, its
+-- size is found.
 pub record FindsRegion (depth number : ℕ) (octets : List ℕ) (size : Option ℕ) : Type 0 where
   pub within : IfSome size (λ k. k ≤ length octets)
   pub found : IfSome size (λ k. IsClosedRegion depth number octets (take k octets))
   pub all : (front : List ℕ) → IsClosedRegion depth number octets front → size ≡ Some (length front)
 
--- the whole list: a region, and the closing tag of this number
+-- The whole list: a region, and the closing tag of this number.
 pub record SpellsClosed (number : ℕ) (octets region : List ℕ) : Type 0 where
   pub closing : List ℕ
   pub whole : octets ≡ region ++ closing
   pub items : IsRegion deepest region
   pub closed : SpellsTag closing (closing_tag number)
 
--- a front in which this many opening tags are open: whole items, and opening tags whose closing tags are still to come
+-- A front in which this many opening tags are open: whole items, and opening tags whose closing tags are still to come.
 pub data Opens : ℕ → List ℕ → Type 0 where
   here : Opens 0 []
-  past : {count : ℕ} {rest : List ℕ} (depth : ℕ) (item : List ℕ) → IsItem depth item → Opens count rest → Opens count (item ++ rest)
-  into : {count : ℕ} {opening rest : List ℕ} (number : ℕ) → SpellsTag opening (opening_tag number) → Opens count rest → Opens (suc count) (opening ++ rest)
+  past : {count : ℕ} {rest : List ℕ} (depth : ℕ) (item : List ℕ) → IsItem depth item → Opens count rest
+      → Opens count (item ++ rest)
+  into : {count : ℕ} {opening rest : List ℕ} (number : ℕ) → SpellsTag opening (opening_tag number) → Opens count rest
+      → Opens (suc count) (opening ++ rest)

@@ -1,8 +1,13 @@
--- One step after another, where each can find nothing.
-use Rattle.std.specs.Prelude.{Option, Some, None}
+-- One step after another, where each can find nothing; and what a step answers.
+use Rattle.std.specs.Prelude.{Option, Some, None, Result, Ok, Err}
 
--- then, where something was found
+-- The next step, where this one found something.
 infixl 10 ◌>>=◌
 abbrev pub ◌>>=◌ : {A B : Type 0} → Option A → (A → Option B) → Option B
 None >>= f = None
 (Some x) >>= f = f x
+
+-- The result, with `view` of the value that it holds.
+abbrev pub result_seen : {A B E : Type 0} → (A → B) → Result A E → Result B E
+result_seen view (Ok x) = Ok (view x)
+result_seen view (Err e) = Err e

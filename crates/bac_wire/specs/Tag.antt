@@ -1,18 +1,21 @@
 -- The spellings of a tag: an initial octet, perhaps a number octet, perhaps length octets (ANSI/ASHRAE 135, 20.2.1).
-use Rattle.std.specs.Prelude.{◌≡◌, ℕ, ◌+◌, ◌-◌, ◌*◌, ◌^◌, ◌/◌, ◌%◌, ◌<◌, ◌≤◌, min, nat_lt, if◌then◌else◌, List, [], ◌∷◌, ◌++◌}
+use Rattle.std.specs.Prelude.{◌≡◌, ℕ, ◌+◌, ◌-◌, ◌*◌, ◌^◌, ◌/◌, ◌%◌, ◌<◌, ◌≤◌, min, nat_lt, if◌then◌else◌, List, [], ◌∷◌}
+use Rattle.std.specs.Prelude.{◌++◌}
 use Rattle.byteorder.specs.Endian.{big_number, big_bytes}
 use Rattle.bac_wire.specs.declared.tag.Shape.{Shape}
 use Rattle.bac_wire.specs.declared.tag.Shape.TheVariants.{App, Context, Opening, Closing}
 use Rattle.bac_wire.specs.declared.tag.Tag.{Tag}
 
--- The number (20.2.1.2): up to 14 it is the high half of the initial octet; 15 there says that the next octet is it, up to 254.
+-- The number (20.2.1.2): up to 14 it is the high half of the initial octet; 15 there says that the next octet is it, up
+-- to 254.
 abbrev pub SpellsNumber : ℕ → List ℕ → ℕ → Type 0
 SpellsNumber high [] number = (high < 15) × (number ≡ high)
 SpellsNumber high (octet ∷ []) number = (high ≡ 15) × (octet < 255) × (number ≡ octet)
 SpellsNumber high (_ ∷ _ ∷ _) number = ⊥
 
--- The length (20.2.1.3.1): up to 4 it is the low bits of the initial octet; 5 there says that octets behind the number are it:
--- one up to 253, or two behind 254, or four behind 255, the high octet first. A longer form than needed is a spelling too.
+-- The length (20.2.1.3.1): up to 4 it is the low bits of the initial octet; 5 there says that octets behind the number
+-- are it: one up to 253, or two behind 254, or four behind 255, the high octet first. A longer form than needed is a
+-- spelling too.
 abbrev pub SpellsLength : ℕ → List ℕ → ℕ → Type 0
 SpellsLength low [] n = (low < 5) × (n ≡ low)
 SpellsLength low (a ∷ []) n = (low ≡ 5) × (a < 254) × (n ≡ a)
@@ -22,14 +25,15 @@ SpellsLength low (_ ∷ _ ∷ _ ∷ _ ∷ []) n = ⊥
 SpellsLength low (a ∷ b ∷ c ∷ d ∷ e ∷ []) n = (low ≡ 5) × (a ≡ 255) × (n ≡ big_number 4 (b ∷ c ∷ d ∷ e ∷ []))
 SpellsLength low (_ ∷ _ ∷ _ ∷ _ ∷ _ ∷ _ ∷ _) n = ⊥
 
--- The low half of the initial octet (20.2.1.1, 20.2.1.3): 8 is the context class, and below it the length, or 6 and 7 for the brackets.
+-- The low half of the initial octet (20.2.1.1, 20.2.1.3): 8 is the context class, and below it the length, or 6 and 7
+-- for the brackets.
 abbrev pub SpellsShape : ℕ → List ℕ → Shape → Type 0
 SpellsShape low octets (App n) = SpellsLength low octets n
 SpellsShape low octets (Context n) = (8 ≤ low) × SpellsLength (low - 8) octets n
 SpellsShape low octets Opening = (low ≡ 14) × (octets ≡ [])
 SpellsShape low octets Closing = (low ≡ 15) × (octets ≡ [])
 
--- an initial octet, the number octet if its high half is 15, and the length octets if its low bits are 5
+-- An initial octet, the number octet if its high half is 15, and the length octets if its low bits are 5.
 pub record SpellsTag (octets : List ℕ) (tag : Tag) : Type 0 where
   pub initial : ℕ
   pub number_octets : List ℕ
@@ -38,7 +42,7 @@ pub record SpellsTag (octets : List ℕ) (tag : Tag) : Type 0 where
   pub number : SpellsNumber (initial / 16) number_octets tag.number
   pub shape : SpellsShape (initial % 16) length_octets tag.shape
 
--- the number in the tag, where it has one
+-- The number in a tag beside its own: a length, or the value of a Boolean; 0 for a bracket.
 abbrev pub count_of : Shape → ℕ
 count_of (App n) = n
 count_of (Context n) = n
@@ -52,11 +56,11 @@ pub record IsTag (tag : Tag) : Type 0 where
 
 -- ---- the shortest spelling
 
--- no octet for a number up to 14
+-- The number octet, which a number up to 14 does not have.
 abbrev pub plain_number : ℕ → List ℕ
 plain_number number = if nat_lt number 15 then [] else number ∷ []
 
--- no octet for a length up to 4, one up to 253, three up to 65,535, else five
+-- The length octets: none for a length up to 4, one up to 253, three up to 65,535, else five.
 abbrev pub plain_length : ℕ → List ℕ
 plain_length n =
     if nat_lt n 5 then []
@@ -64,20 +68,20 @@ plain_length n =
     else if nat_lt n 65536 then 254 ∷ big_bytes 2 n
     else 255 ∷ big_bytes 4 n
 
--- the class bit, and the length or the bracket
+-- The low half of the initial octet: the class bit, and the length or the bracket.
 abbrev pub low_half : Shape → ℕ
 low_half (App n) = min n 5
 low_half (Context n) = 8 + min n 5
 low_half Opening = 14
 low_half Closing = 15
 
--- the length octets, of which a bracket has none
+-- The length octets, of which a bracket has none.
 abbrev pub shape_octets : Shape → List ℕ
 shape_octets (App n) = plain_length n
 shape_octets (Context n) = plain_length n
 shape_octets Opening = []
 shape_octets Closing = []
 
--- the spelling that is written
+-- The spelling that is written of a tag.
 unfoldable pub plain_tag : Tag → List ℕ
 plain_tag tag = (16 * min tag.number 15 + low_half tag.shape) ∷ (plain_number tag.number ++ shape_octets tag.shape)

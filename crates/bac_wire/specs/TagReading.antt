@@ -6,35 +6,37 @@ use Rattle.bac_wire.specs.declared.tag.Shape.TheVariants.{App, Context, Opening,
 use Rattle.bac_wire.specs.declared.tag.Tag.{Tag}
 use Rattle.bac_wire.specs.Steps.{◌>>=◌}
 
--- the octet behind the initial one as the number
-abbrev pub next_number : List ℕ → Option (ℕ × List ℕ)
-next_number [] = None
-next_number (octet ∷ rest) = if nat_lt octet 255 then Some (octet, rest) else None
+-- The tag's number in the octet behind the initial one, where it is less than 255.
+abbrev pub extended_number : List ℕ → Option (ℕ × List ℕ)
+extended_number [] = None
+extended_number (octet ∷ rest) = if nat_lt octet 255 then Some (octet, rest) else None
 
--- the number, by the high half of the initial octet
+-- The tag's number, by the high half of the initial octet, and the octets behind it.
 unfoldable pub tag_number_at : ℕ → List ℕ → Option (ℕ × List ℕ)
-tag_number_at high octets = if nat_lt high 15 then Some (high, octets) else if high == 15 then next_number octets else None
+tag_number_at high octets =
+    if nat_lt high 15 then Some (high, octets) else if high == 15 then extended_number octets else None
 
--- a number in two octets
+-- A number in two octets.
 abbrev pub two_at : List ℕ → Option (ℕ × List ℕ)
 two_at (b ∷ c ∷ rest) = Some (big_number 2 (b ∷ c ∷ []), rest)
 two_at _ = None
 
--- a number in four octets
+-- A number in four octets.
 abbrev pub four_at : List ℕ → Option (ℕ × List ℕ)
 four_at (b ∷ c ∷ d ∷ e ∷ rest) = Some (big_number 4 (b ∷ c ∷ d ∷ e ∷ []), rest)
 four_at _ = None
 
--- a length that follows
+-- A length in octets of its own: one, or two behind 254, or four behind 255.
 unfoldable pub long_length_at : List ℕ → Option (ℕ × List ℕ)
 long_length_at [] = None
-long_length_at (a ∷ rest) = if nat_lt a 254 then Some (a, rest) else if a == 254 then two_at rest else if a == 255 then four_at rest else None
+long_length_at (a ∷ rest) =
+    if nat_lt a 254 then Some (a, rest) else if a == 254 then two_at rest else if a == 255 then four_at rest else None
 
--- the length, by the low bits of the initial octet
+-- The length, by the low bits of the initial octet.
 unfoldable pub length_at : ℕ → List ℕ → Option (ℕ × List ℕ)
 length_at low octets = if nat_lt low 5 then Some (low, octets) else if low == 5 then long_length_at octets else None
 
--- class and length, or the bracket, by the low half of the initial octet
+-- Class and length, or the bracket, by the low half of the initial octet.
 unfoldable pub shape_at : ℕ → List ℕ → Option (Shape × List ℕ)
 shape_at low octets =
     if nat_lt low 8 then length_at low octets >>= (λ n. Some (App n.0, n.1))
@@ -42,7 +44,7 @@ shape_at low octets =
     else if low == 15 then Some (Closing, octets)
     else length_at (low - 8) octets >>= (λ n. Some (Context n.0, n.1))
 
--- the tag at the front
+-- The tag at the front, and the octets behind it.
 unfoldable pub tag_at : List ℕ → Option (Tag × List ℕ)
 tag_at [] = None
 tag_at (initial ∷ octets) = do

@@ -1,18 +1,10 @@
 -- What a writer leaves.
-use Rattle.std.specs.Prelude.{◌≡◌, ℕ, ◌+◌, ◌<◌, ◌≤◌, List, ◌++◌, length, take, Result, OnOk, OnErr}
+use Rattle.std.specs.Prelude.{◌≡◌, ℕ, ◌+◌, ◌<◌, ◌≤◌, List, ◌++◌, length, Result, OnOk, OnErr}
 use Rattle.bac_wire.specs.Limits.{frame_room}
 
--- the octets stand behind those that were there; where there is no room for them, it is as it was
+-- The octets stand behind those that were there, or there is no room for them and nothing has changed.
 pub record Appends {A E : Type 0} (old octets new : List ℕ) (result : Result A E) : Type 0 where
   pub ok : OnOk result (new ≡ old ++ octets)
   pub fits : OnOk result (length old + length octets ≤ frame_room)
   pub full : OnErr result (frame_room < length old + length octets)
   pub err : OnErr result (new ≡ old)
-
--- the same, but where there is no room some octets may stand behind those that were there
-pub record AppendsFront {A E : Type 0} (old octets new : List ℕ) (result : Result A E) : Type 0 where
-  pub ok : OnOk result (new ≡ old ++ octets)
-  pub fits : OnOk result (length old + length octets ≤ frame_room)
-  pub full : OnErr result (frame_room < length old + length octets)
-  pub long : length old ≤ length new
-  pub kept : take (length old) new ≡ old

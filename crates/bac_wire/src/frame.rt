@@ -88,7 +88,7 @@ impl Frame {
         Ok(())
     }
 
-    /// Keeps the first `n` octets, of at least so many.
+    /// Keeps the first `n` octets and takes the others away. The frame must have at least `n`.
     pub fn truncate(&mut self, n: usize)
         requires { n ≤ length self.old }
         ensures { self.new ≡ take n self.old }
@@ -97,7 +97,7 @@ impl Frame {
     }
 }
 
-/// Moves the first `count` octets to the end, and puts these before them.
+/// Moves the first `count` octets to the end, and puts these before them. The slice has room for just both.
 fn put_before(octets: &mut [u8], count: usize, front: &[u8])
     requires { length octets.old ≡ count + length front.now }
     ensures { octets.new ≡ front.now ++ take count octets.old }

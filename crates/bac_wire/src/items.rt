@@ -3,10 +3,11 @@
 ghost use Rattle.std.specs.Prelude.{◌≡◌, ◌↔◌, List, ℕ, Some, IsTrue};
 ghost use Rattle.std.specs.Option.{option_map};
 ghost use Rattle.bac_wire.specs.Limits.{deepest, value_tag};
-ghost use Rattle.bac_wire.specs.Front.{Finds};
+ghost use Rattle.bac_wire.specs.Inner.Front.{Finds};
 ghost use Rattle.bac_wire.specs.TagReading.{tag_at};
 ghost use Rattle.bac_wire.specs.ItemReading.{behind_closing as closing_at};
-ghost use Rattle.bac_wire.specs.Region.{CountsBehind, IsRegion, FindsRegion, LeavesRest, LeavesBehind};
+ghost use Rattle.bac_wire.specs.Region.{IsRegion, FindsRegion, LeavesRest};
+ghost use Rattle.bac_wire.specs.Inner.Region.{CountsBehind, LeavesBehind};
 
 use crate::tag::{Shape, Tag, tag_and_rest};
 
@@ -16,8 +17,8 @@ pub const NESTING: u8 = 32;
 /// The number of the tags round a parameter's value, which are not counted among those.
 const REGION_END: u8 = 3;
 
-/// How many octets at the front are whole items, up to a closing tag 3; `None` where no such tag ends them. Contents are
-/// passed over by their length, so an octet in them ends nothing (ANSI/ASHRAE 135, 20.2.1.3).
+/// How many octets at the front are whole items, up to a closing tag 3; `None` where no such tag ends them. Contents
+/// are passed over by their length, so an octet in them ends nothing (ANSI/ASHRAE 135, 20.2.1.3).
 pub fn region(octets: &[u8]) -> Option<usize>
     ensures { FindsRegion deepest value_tag octets.now result }
 {
@@ -26,7 +27,7 @@ pub fn region(octets: &[u8]) -> Option<usize>
     Some(octets.len() - rest.len())
 }
 
-/// Whether the whole input is whole items, none included.
+/// Whether the octets are whole items and nothing else. No octets at all are that too.
 pub fn is_region(octets: &[u8]) -> bool
     ensures { IsTrue result ↔ IsRegion deepest octets.now }
 {
@@ -51,7 +52,7 @@ fn behind_items(octets: &[u8], depth: u8) -> Option<&[u8]>
     if rest.is_empty() { Some(rest) } else { None }
 }
 
-/// The octets behind the item that begins with this tag, of whatever octets the tag was read from.
+/// The octets behind the item that begins with this tag, where `behind` is what stands behind the tag.
 #[cycle(nesting)]
 fn behind_item(tag: Tag, behind: &[u8], depth: u8) -> Option<&[u8]>
     ensures { (octets : List ℕ) → Some (tag, behind.now) ≡ tag_at octets
@@ -70,7 +71,7 @@ fn behind_item(tag: Tag, behind: &[u8], depth: u8) -> Option<&[u8]>
     }
 }
 
-/// The octets behind this many.
+/// What is left behind the first `count` octets.
 fn behind_octets(octets: &[u8], count: u32) -> Option<&[u8]>
     ensures { Finds (CountsBehind count octets.now) (option_map (λ r. r.now) result) }
 {

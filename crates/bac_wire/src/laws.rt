@@ -1,5 +1,5 @@
-//! What holds of the definitions that the contracts cite. Each function has an empty body, and its clause is the law; those at
-//! the end are `clone` or `==` of types, and say what a clone is, or what is compared.
+//! What holds of the definitions that the contracts cite. Each function has an empty body, and its clause is the law;
+//! those at the end are `clone` or `==` of types, and say what a clone is, or what is compared.
 
 ghost use Rattle.bac_wire.specs.declared.tag.Tag.{Tag as AnyTag};
 ghost use Rattle.std.specs.Prelude.{IsTrue, ◌≡◌, ℕ, ◌+◌, ◌^◌, ◌<◌, ◌≤◌, ◌↔◌, List, [], ◌++◌, length, Some, Ok};
@@ -12,7 +12,8 @@ ghost use Rattle.bac_wire.specs.Datum.{Datum, IsDatum, IsSound, Spells, datum, p
 ghost use Rattle.bac_wire.specs.DatumReading.{value_at};
 ghost use Rattle.bac_wire.specs.Region.{IsItem, IsRegion, IsClosedRegion, LeavesRest, Opens, SpellsClosed, closing_tag};
 ghost use Rattle.bac_wire.specs.ItemReading.{behind_items, region_at};
-ghost use Rattle.bac_wire.specs.Parameter.{SpellsContext, SpellsIn, SpellsEnclosed, IsNumber, IsObject, number_octets, object_octets, enclosed_octets};
+ghost use Rattle.bac_wire.specs.Parameter.{SpellsContext, SpellsIn, SpellsEnclosed, IsNumber, IsObject, number_octets};
+ghost use Rattle.bac_wire.specs.Parameter.{object_octets, enclosed_octets};
 ghost use Rattle.bac_wire.specs.ParameterReading.{context_at, number_at, object_at, enclosed_at};
 
 use crate::frame::{FRAME_OCTETS, Full};
@@ -22,8 +23,8 @@ use crate::tag::{Shape, Tag};
 use crate::value::Value;
 use std::alloc::AllocError;
 
-/// Tags: no spelling begins another, what `write_tag` appends is the shortest and is read back whatever follows, and `tag_at`
-/// reads from left to right what spells a tag, and nothing else.
+/// Tags: no spelling begins another, what `write_tag` appends is the shortest and is read back whatever follows, and
+/// `tag_at` reads from left to right what spells a tag, and nothing else.
 pub fn tags()
     ensures one { IsPrefixFree SpellsTag }
     ensures shortest { (tag : AnyTag) → IsTag tag → IsShortest SpellsTag (plain_tag tag) tag }
@@ -31,7 +32,8 @@ pub fn tags()
     ensures reading { IsReader SpellsTag tag_at }
 {}
 
-/// Values: the same of `write_value` and `value_at`, and what has a spelling is sound: a value that was read can be written.
+/// Values: the same of `write_value` and `value_at`, and what has a spelling is sound: a value that was read can be
+/// written.
 pub fn values()
     ensures one { IsPrefixFree Spells }
     ensures shortest { (value : Datum) → IsDatum value → IsShortest Spells (plain value) value }
@@ -40,8 +42,8 @@ pub fn values()
     ensures sound { (octets : List ℕ) (value : Datum) → Spells octets value → IsSound value }
 {}
 
-/// Items: none begins another, whatever depth is allowed to either, and none begins with a closing tag. In a region no more
-/// opening tags are open at once than its depth allows, wherever one stops to count.
+/// Items: none begins another, whatever depth is allowed to either, and none begins with a closing tag. In a region no
+/// more opening tags are open at once than its depth allows, wherever one stops to count.
 pub fn items()
     ensures one { (depth other : ℕ) (a b u v : List ℕ) → IsItem depth a → IsItem other b → a ++ u ≡ b ++ v → a ≡ b }
     ensures opens { (depth number : ℕ) (item closing u v : List ℕ) → IsItem depth item
@@ -50,9 +52,9 @@ pub fn items()
         → octets ≡ front ++ rest → count ≤ depth }
 {}
 
-/// Regions: a body has one end of its region, whatever depth is allowed and whatever the closing tag's number. `behind_items`
-/// finds what whole items leave, and nothing where the whole list is a region; `region_at` reads the region that a closing tag
-/// of its number ends.
+/// Regions: a body has one end of its region, whatever depth is allowed and whatever the closing tag's number.
+/// `behind_items` finds what whole items leave, and nothing where the whole list is a region; `region_at` reads the
+/// region that a closing tag of its number ends.
 pub fn regions()
     ensures one { (depth other number another : ℕ) (octets a b : List ℕ) → IsClosedRegion depth number octets a
         → IsClosedRegion other another octets b → (a ≡ b) × (number ≡ another) }
@@ -69,7 +71,8 @@ pub fn parameters()
     ensures number { (number : ℕ) → IsReader (SpellsIn IsNumber number) (number_at number) }
     ensures object { (number : ℕ) → IsReader (SpellsIn IsObject number) (object_at number) }
     ensures enclosed { (number : ℕ) → IsReader (SpellsEnclosed number) (enclosed_at number) }
-    ensures of_number { (number n : ℕ) → number < 255 → n < 2 ^ 32 → SpellsIn IsNumber number (number_octets number n) n }
+    ensures of_number { (number n : ℕ) → number < 255 → n < 2 ^ 32
+        → SpellsIn IsNumber number (number_octets number n) n }
     ensures of_object { (number : ℕ) (id : Identifier) → number < 255 → IsIdentifier id
         → SpellsIn IsObject number (object_octets number id) id }
     ensures of_region { (number : ℕ) (region : List ℕ) → number < 255 → IsRegion deepest region
@@ -101,35 +104,35 @@ pub fn clones<'a>(
     ))
 }
 
-/// Always.
+/// There is but one `Full`, which is equal to itself.
 pub fn same_full(full: &Full, other: &Full) -> bool
     ensures { IsTrue result ↔ (full.now ≡ other.now) }
 {
     full == other
 }
 
-/// The class, and the length of the contents where it says one.
+/// Shapes are equal that have the same class, and the same length where they say one.
 pub fn same_shape(shape: &Shape, other: &Shape) -> bool
     ensures { IsTrue result ↔ (shape.now ≡ other.now) }
 {
     shape == other
 }
 
-/// Number and shape.
+/// Tags are equal that have the same number and the same shape.
 pub fn same_tag(tag: &Tag, other: &Tag) -> bool
     ensures { IsTrue result ↔ (tag.now ≡ other.now) }
 {
     tag == other
 }
 
-/// Type and instance.
+/// Identifiers are equal that have the same type and the same instance.
 pub fn same_identifier(object: &ObjectId, other: &ObjectId) -> bool
     ensures { IsTrue result ↔ (identifier object.now ≡ identifier other.now) }
 {
     object == other
 }
 
-/// Kind and contents, wherever borrowed octets lie.
+/// Values are equal that have the same kind and the same contents, wherever the octets that they borrow lie.
 pub fn same_value(value: &Value<'_>, other: &Value<'_>) -> bool
     ensures { IsTrue result ↔ (datum value.now ≡ datum other.now) }
 {

@@ -1,10 +1,21 @@
-//! Tags, values and regions of BACnet as octets (ANSI/ASHRAE 135, clause 20.2). Nothing is copied when they are read, and no
-//! memory is asked for.
+//! Tags, values and regions of BACnet as octets (ANSI/ASHRAE 135, clause 20.2). Nothing is copied when they are read,
+//! and no memory is asked for.
 //!
-//! [`read_value`] reads the value that begins the octets, in any of its spellings; [`write_value`] appends the shortest one
-//! to a [`Frame`]. [`region`] passes over whole items up to a closing tag. `specs/Datum.antt` says what spells a value.
+//! One meets first [`Value`], and [`Frame`], the room that is written to. [`write_value`] appends the shortest spelling
+//! of a value to a frame; [`read_value`] reads the value that begins the octets, in any of its spellings. [`region`]
+//! passes over whole items up to a closing tag. [`read_tag`] and [`write_tag`] are for what these leave.
+//! `specs/Datum.antt` says what spells a value, and [`laws`] what holds of all spellings.
+//!
+//! Of `examples_of_octets` in `src/examples.rt`, which is proved: a Real is the octets of its number, and a tag before
+//! them.
+//!
+//! ```text
+//! // 72.3, by the four octets of its single precision.
+//! ensures real { IsWritten (real (0x42 ∷ 0x90 ∷ 0x99 ∷ 0x9a ∷ [])) (0x44 ∷ 0x42 ∷ 0x90 ∷ 0x99 ∷ 0x9a ∷ []) }
+//! ```
 #![tactic(auto)]
 
+mod examples;
 mod frame;
 mod items;
 pub mod laws;
@@ -12,6 +23,7 @@ mod object_id;
 mod tag;
 mod value;
 
+pub use examples::{examples_of_octets, examples_of_parameters, examples_of_reading};
 pub use frame::{FRAME_OCTETS, Frame, Full};
 pub use items::{NESTING, is_region, region};
 pub use object_id::ObjectId;

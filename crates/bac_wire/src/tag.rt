@@ -138,7 +138,7 @@ pub(crate) fn shortest(tag: Tag) -> Head
     requires { tag.number < 255 }
     ensures octets { result.items ≡ plain_tag tag }
     ensures short { length result.items ≤ 7 }
-    // what the types of the fields say, for the caller's proof
+    // This follows from the types of the fields. It is said for the caller's proof.
     ensures range { IsTag tag }
 {
     let mut octets = ArrayVec::new();

@@ -5,7 +5,9 @@ ghost use Rattle.std.specs.Option.{option_map};
 ghost use Rattle.byteorder.specs.Endian.{big_bytes, low_bytes, twos_complement};
 ghost use Rattle.std.specs.Int.{w64};
 ghost use Rattle.bac_wire.specs.Front.{FindsFront, IsShortest, IsReadBack};
-ghost use Rattle.bac_wire.specs.Datum.{Spells, datum, IsSound, InRange, plain, tagged as tagged_octets, octet_count as count_octets, signed_count as count_signed};
+ghost use Rattle.bac_wire.specs.Datum.{Spells, datum, IsSound, InRange, plain, octet_count as count_octets};
+ghost use Rattle.bac_wire.specs.Datum.{signed_count as count_signed};
+ghost use Rattle.bac_wire.specs.Inner.Datum.{tagged as tagged_octets};
 ghost use Rattle.bac_wire.specs.Datum.{boolean, null};
 ghost use Rattle.bac_wire.specs.Identifier.{identifier, number_of};
 ghost use Rattle.bac_wire.specs.DatumReading.{exactly, number_within, bits_of as bits_at, contents_of, value_at};
@@ -36,16 +38,17 @@ pub enum Value<'a> {
     /// BitString: how many bits of the last octet are unused, 0 to 7, and its octets.
     Bits(u8, &'a [u8]),
     Enumerated(u32),
-    /// Year less 1900, month, day, day of the week.
+    /// Four octets: the year less 1900, the month, the day, and the day of the week.
     Date([u8; 4]),
-    /// Hour, minute, second, hundredths.
+    /// Four octets: the hour, the minute, the second, and the hundredths.
     Time([u8; 4]),
     /// ObjectIdentifier.
     Object(ObjectId),
 }
 
 impl Value<'_> {
-    /// Whether the value can be written: not a BitString with more than 7 unused bits, or with unused bits and no octets.
+    /// Whether the value can be written: not a BitString with more than 7 unused bits, or with unused bits and no
+    /// octets.
     pub fn sound(&self) -> bool
         ensures { IsTrue result ↔ IsSound (datum self.now) }
     {
@@ -65,7 +68,7 @@ pub fn read_value(octets: &[u8]) -> Option<(Value<'_>, usize)>
     Some((value, octets.len() - rest.len()))
 }
 
-/// The value that begins the input, and the octets behind it; `None` where `read_value` gives none.
+/// Appends the shortest spelling of the value.
 #[tactic(auto, unfolding(crate::specs::DatumReading::value_at))]
 pub fn value_and_rest(octets: &[u8]) -> Option<(Value<'_>, &[u8])>
     ensures { option_map (λ x. (datum x.0, x.1.now)) result ≡ value_at octets.now }
@@ -112,7 +115,7 @@ fn value_of(number: u8, contents: &[u8]) -> Option<Value<'_>>
     }
 }
 
-/// The number in one octet up to this many.
+/// The number that the contents are, where they have from one octet up to `most`.
 fn unsigned_of(contents: &[u8], most: usize) -> Option<u64>
     requires { most ≤ 8 }
     ensures value { result ≡ number_within most contents.now }
@@ -124,7 +127,7 @@ fn unsigned_of(contents: &[u8], most: usize) -> Option<u64>
     Some(BigEndian::read_uint(contents, contents.len()))
 }
 
-/// The number in one to eight octets, in two's complement.
+/// The number that the contents are in two's complement, where they have one octet to eight.
 fn signed_of(contents: &[u8]) -> Option<i64>
     ensures { result ≡ option_map (twos_complement (length contents.now)) (number_within 8 contents.now) }
 {
@@ -134,19 +137,21 @@ fn signed_of(contents: &[u8]) -> Option<i64>
     Some(BigEndian::read_int(contents, contents.len()))
 }
 
+/// The contents, where they are four octets.
 fn four(contents: &[u8]) -> Option<[u8; 4]>
     ensures { result ≡ exactly 4 contents.now }
 {
     contents.try_into().ok()
 }
 
+/// The contents, where they are eight octets.
 fn eight(contents: &[u8]) -> Option<[u8; 8]>
     ensures { result ≡ exactly 8 contents.now }
 {
     contents.try_into().ok()
 }
 
-/// The bits behind the number of unused ones, where that is sound.
+/// A BitString: how many bits are unused, and the octets. `None` where that is not sound.
 fn bits_of(contents: &[u8]) -> Option<Value<'_>>
     ensures { option_map datum result ≡ bits_at contents.now }
 {
@@ -169,11 +174,11 @@ pub fn write_value(frame: &mut Frame, value: &Value<'_>) -> Result<(), Full>
     append_value(frame, value)
 }
 
-#[tactic(auto, unfolding(crate::specs::Datum::plain, crate::specs::Datum::tagged))]
+#[tactic(auto, unfolding(crate::specs::Datum::plain, crate::specs::Inner::Datum::tagged))]
 #[inline(always)]
 fn append_value(frame: &mut Frame, value: &Value<'_>) -> Result<(), Full>
     requires { IsSound (datum value.now) }
-    // what the types of the fields say, for the caller's proof
+    // This follows from the types of the fields. It is said for the caller's proof.
     ensures range { InRange (datum value.now) }
     ensures appended { Appends frame.old (plain (datum value.now)) frame.new result }
 {
@@ -213,7 +218,7 @@ fn append_boolean(frame: &mut Frame, value: bool) -> Result<(), Full>
 #[inline(always)]
 fn append_four(frame: &mut Frame, number: u8, contents: &[u8; 4]) -> Result<(), Full>
     requires { number < 15 }
-    // what the type of the contents says, for the caller's proof
+    // This follows from the type of the contents. It is said for the caller's proof.
     ensures four { length contents.now ≡ 4 }
     ensures appended { Appends frame.old (tagged_octets number contents.now) frame.new result }
 {
@@ -222,7 +227,7 @@ fn append_four(frame: &mut Frame, number: u8, contents: &[u8; 4]) -> Result<(), 
 }
 
 /// Appends the tag of the contents, which are in two parts, and the contents.
-#[tactic(auto, unfolding(crate::specs::Datum::tagged))]
+#[tactic(auto, unfolding(crate::specs::Inner::Datum::tagged))]
 fn append_tagged(frame: &mut Frame, number: u8, first: &[u8], rest: &[u8]) -> Result<(), Full>
     requires number { number < 255 }
     requires first { length first.now ≤ 8 }
@@ -254,7 +259,7 @@ fn append_number(frame: &mut Frame, number: u8, n: u64) -> Result<(), Full>
     append_tagged(frame, number, &contents[..count], &[])
 }
 
-/// Appends a tag of one octet, and a number in one.
+/// Appends a tag of one octet, and a number in one octet.
 #[tactic(auto, using(crate::proofs::PlainDatum::one_tagged))]
 fn append_octet(frame: &mut Frame, number: u8, n: u8) -> Result<(), Full>
     requires { number < 15 }
@@ -264,7 +269,8 @@ fn append_octet(frame: &mut Frame, number: u8, n: u8) -> Result<(), Full>
 }
 
 fn append_signed(frame: &mut Frame, n: i64) -> Result<(), Full>
-    ensures { Appends frame.old (tagged_octets 3 (big_bytes (count_signed n) (low_bytes w64 (count_signed n) n))) frame.new result }
+    ensures { Appends frame.old (tagged_octets 3 (big_bytes (count_signed n) (low_bytes w64 (count_signed n) n)))
+        frame.new result }
 {
     let mut contents = [0; 8];
     let count = signed_octet_count(n);

@@ -1,3 +1,4 @@
 pub mod Tools
 pub mod WordsLeft
 pub mod Given
+pub mod OneAnswer

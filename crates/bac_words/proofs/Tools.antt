@@ -1,5 +1,6 @@
 -- Words that `clap` takes name one of the five tools, with matches that passed its rules.
-use Rattle.std.proofs.Common.{◌∙◌, ◌≡◌, ◌⊎◌, Bool, codes, true, false, refl, sym, subst, inl, inr, List, [], ◌∷◌, Some, Result, Ok, Err}
+use Rattle.std.proofs.Common.{◌∙◌, ◌≡◌, ◌⊎◌, Bool, codes, true, false, refl, sym, subst, inl, inr, List, [], ◌∷◌, Some}
+use Rattle.std.proofs.Common.{Result, Ok, Err}
 use Rattle.std.specs.Prelude.{IsSomeAnd, IsErrAnd}
 use Rattle.std.specs.List.{find}
 use Rattle.std.proofs.Math.Bool.{or-false}
@@ -15,8 +16,8 @@ use Rattle.clap.specs.declared.error.kind.ErrorKind.{ErrorKind}
 use Rattle.clap.specs.declared.error.kind.ErrorKind.TheVariants as kind
 use Rattle.bac_words.specs.declared.faults.UsageFault.{UsageFault}
 use Rattle.bac_words.specs.Command.{bactool}
-use Rattle.bac_words.specs.Fault.{fault_by, fault_from}
-use Rattle.bac_words.specs.Job.{IsTool}
+use Rattle.bac_words.specs.Inner.Fault.{fault_by, fault_from}
+use Rattle.bac_words.specs.Inner.Job.{IsTool}
 use Rattle.bac_words.specs.Line.{IsRefusal, IsRefused}
 use Rattle.bac_words.specs.Marks.{marked_words}
 use Rattle.clap_laws.specs.Entering.{asks_for_help}
@@ -28,13 +29,16 @@ abbrev AllOf : (Shape → Type 0) → List Shape → Type 0
 AllOf P [] = Unit {0}
 AllOf P (s ∷ rest) = P s × AllOf P rest
 
-one_found : (P : Shape → Type 0) (p : Shape → Bool) (xs : List Shape) (t : Shape) → AllOf P xs → find p xs ≡ Some t → P t × (p t ≡ true)
+one_found : (P : Shape → Type 0) (p : Shape → Bool) (xs : List Shape) (t : Shape) → AllOf P xs → find p xs ≡ Some t
+    → P t × (p t ≡ true)
 one_found P p xs t all is =
-    when_found p (λ xs. AllOf P xs → P t × (p t ≡ true)) t (λ xs passes all. (all.0, passes)) (λ x xs fails is rest all. rest all.1) xs is all
+    when_found p (λ xs. AllOf P xs → P t × (p t ≡ true)) t (λ xs passes all. (all.0, passes))
+    (λ x xs fails is rest all. rest all.1) xs is all
 
 -- A tool that the name answers to takes the words, where the name asks for no help.
 abbrev Passed : Shape → Type 0
-Passed s = (name : Text) (words : List Text) → answers_to name (label_of s) ≡ true → asks_for_help (built bactool) name ≡ false →
+Passed s = (name : Text) (words : List Text) → answers_to name (label_of s) ≡ true
+    → asks_for_help (built bactool) name ≡ false →
     level_fault s [] nothing_held words false [] ≡ [] → IsTool (rows_at s words)
 
 -- The name of `clap`'s own subcommand asks for help.
@@ -45,13 +49,17 @@ asks name answers =
 
 each_tool : AllOf Passed (built bactool).subs
 each_tool = (
-  (λ name words answers other none. inl (refl, level_taken _ words (record { plain = refl; distinct = refl }) refl none)),
+  (λ name words answers other none.
+      inl (refl, level_taken _ words (record { plain = refl; distinct = refl }) refl none)),
   (
-    (λ name words answers other none. inr (inl (refl, level_taken _ words (record { plain = refl; distinct = refl }) refl none))),
+    (λ name words answers other none.
+        inr (inl (refl, level_taken _ words (record { plain = refl; distinct = refl }) refl none))),
     (
-      (λ name words answers other none. inr (inr (inl (refl, level_taken _ words (record { plain = refl; distinct = refl }) refl none)))),
+      (λ name words answers other none.
+          inr (inr (inl (refl, level_taken _ words (record { plain = refl; distinct = refl }) refl none)))),
       (
-        (λ name words answers other none. inr (inr (inr (inl (refl, level_taken _ words (record { plain = refl; distinct = refl }) refl none))))),
+        (λ name words answers other none.
+            inr (inr (inr (inl (refl, level_taken _ words (record { plain = refl; distinct = refl }) refl none))))),
         (
           (λ name words answers other none. inr (inr (inr (inr refl)))),
           ((λ name words answers other none. absurd (false≢true (sym other ∙ asks name answers))), tt),
@@ -64,8 +72,10 @@ each_tool = (
 pub tool_met : (words : List Text) → fault_of bactool words ≡ [] → IsSomeAnd (subcommand_of bactool words) IsTool
 tool_met words none =
     let in_tool = enters bactool words refl none in
-    let found = one_found Passed (λ s. answers_to in_tool.name (label_of s)) (built bactool).subs in_tool.tool each_tool in_tool.found in
-    subst (λ o. IsSomeAnd o IsTool) (sym in_tool.rows) (found.0 in_tool.name in_tool.rest found.1 in_tool.other in_tool.passes)
+    let found = one_found Passed (λ s. answers_to in_tool.name (label_of s)) (built bactool).subs in_tool.tool each_tool
+    in_tool.found in
+    subst (λ o. IsSomeAnd o IsTool) (sym in_tool.rows)
+    (found.0 in_tool.name in_tool.rest found.1 in_tool.other in_tool.passes)
 
 pub bactool_is_free : is_simple_and_free bactool ≡ true
 bactool_is_free = refl
@@ -73,7 +83,8 @@ bactool_is_free = refl
 pub bactool_is_simple : is_simple bactool ≡ true
 bactool_is_simple = refl
 
-refusal : (words : List Text) (e : Error) (k : ErrorKind) → kind_of e ≡ k → (k ≡ kind.OutOfMemory) ⊎ IsAmong k (fault_of bactool (marked_words words))
+refusal : (words : List Text) (e : Error) (k : ErrorKind) → kind_of e ≡ k → (k ≡ kind.OutOfMemory)
+    ⊎ IsAmong k (fault_of bactool (marked_words words))
     → IsRefusal words (fault_by k e)
 refusal words e kind.OutOfMemory is h = tt
 refusal words e kind.DisplayHelp is h = elim h [
@@ -82,12 +93,17 @@ refusal words e kind.DisplayHelp is h = elim h [
 ]
 refusal words e _ is h = elim h [
   | inl m ↦ cc
-  | inr among ↦ ((λ help. let bad = sym is ∙ help in cc bad), subst (λ k. IsAmong k (fault_of bactool (marked_words words))) (sym is) among)
+  | inr among ↦ (
+    (λ help. let bad = sym is ∙ help in cc bad),
+    subst (λ k. IsAmong k (fault_of bactool (marked_words words))) (sym is) among,
+  )
 ]
 
 -- an error of `clap` is passed up as a refusal
-pub refused : (words marked : List Text) (e : Error) (r : Result Job UsageFault) → marked ≡ marked_words words → HasKind (fault_of bactool marked) e
+pub refused : (words marked : List Text) (e : Error) (r : Result Job UsageFault) → marked ≡ marked_words words
+    → HasKind (fault_of bactool marked) e
     → IsErrAnd r (λ f. f ≡ fault_from e) → IsRefused words r
 refused words marked e (Ok x) same h is = absurd is
 refused words marked e (Err f) same h is =
-    subst (IsRefusal words) (sym is) (refusal words e (kind_of e) refl (subst (λ w. HasKind (fault_of bactool w) e) same h))
+    subst (IsRefusal words) (sym is)
+    (refusal words e (kind_of e) refl (subst (λ w. HasKind (fault_of bactool w) e) same h))

@@ -1,10 +1,9 @@
 -- What the words of a tool ask for, and the first thing that is wrong with them.
-use Rattle.std.specs.Prelude.{◌≡◌, ◌⊎◌, ◌<◌, ◌++◌, ℕ, true, List, [], is_some, Option, Some, None, Result, Ok, Err, codes, map, unwrap_or, option_and_then, if◌then◌else◌, ⊤}
+use Rattle.std.specs.Prelude.{◌<◌, ℕ, List, [], Option, Some, None, Result, Ok, Err, codes, map, unwrap_or}
+use Rattle.std.specs.Prelude.{option_and_then, if◌then◌else◌, ⊤}
 use Rattle.std.specs.Str.{bytes_eq}
-use Rattle.clap.specs.Words.{Row, Rule, Text, all_of, first_of}
-use Rattle.clap_laws.specs.Commands.{rules_of}
-use Rattle.clap_laws.specs.Numbers.{FitsWord, bounds_in, number_of}
-use Rattle.clap_laws.specs.Passes.{IsTaken}
+use Rattle.clap.specs.Words.{Row, Text, all_of, first_of}
+use Rattle.clap_laws.specs.Numbers.{number_of}
 use Rattle.bac_wire.specs.Identifier.{Identifier}
 use Rattle.bac_pdu.specs.Peer.{Station}
 use Rattle.bac_pdu.specs.Property.{Reference, read_octets}
@@ -18,38 +17,22 @@ use Rattle.bac_words.specs.declared.jobs.Job.{Job}
 use Rattle.bac_words.specs.declared.jobs.Job.TheVariants as job
 use Rattle.bac_words.specs.declared.faults.UsageFault.{UsageFault}
 use Rattle.bac_words.specs.declared.faults.UsageFault.TheVariants.{BadIndex, BadMac}
-use Rattle.bac_words.specs.Command.{bacdev, bacrp, bacwi, bacwp}
 use Rattle.bac_words.specs.Fault.{usage_of}
 use Rattle.bac_words.specs.Marks.{unmarked}
-use Rattle.bac_words.specs.Orders.{Request, Order, Reads, Writes, Seeks, Serves, Traces}
+use Rattle.bac_words.specs.Orders.{RequestOrder, Order, Reads, Writes, Seeks, Serves, Traces}
 
--- A value that has to be there, or the fault.
-abbrev pub needs : {A B : Type 0} → Option A → UsageFault → (A → Result B UsageFault) → Result B UsageFault
-needs None fault next = Err fault
-needs (Some x) fault next = next x
+-- What is made of a value that has to be there; where it is not, the fault.
+abbrev pub with_given : {A B : Type 0} → Option A → UsageFault → (A → Result B UsageFault) → Result B UsageFault
+with_given None fault next = Err fault
+with_given (Some x) fault next = next x
 
 -- The number of a word that has to be there.
 abbrev pub needed_number : Text → List Row → ℕ
 needed_number id rows = unwrap_or (number_of id rows) 0
 
--- The bounds of an argument that is a number.
-abbrev pub bounds : Text → Option (ℕ × ℕ)
-bounds id = bounds_in (rules_of bacdev ++ rules_of bacrp ++ rules_of bacwp ++ rules_of bacwi) id
-
--- The matches passed rules by which the argument is a number within its bounds.
-pub record IsNumber (id : Text) (rows : List Row) : Type 0 where
-  pub rules : List Rule
-  pub taken : IsTaken rules rows
-  pub bounded : bounds_in rules id ≡ bounds id
-  pub fits : FitsWord (bounds id)
-
--- The argument was given.
-pub record IsGiven (id : Text) (rows : List Row) : Type 0 where
-  pub given : is_some (number_of id rows) ≡ true
-
 -- ---- what the words say
 
--- A peer without a route.
+-- The peer that `--mac` says, which has no route.
 abbrev pub peer_given : List Row → Option Station
 peer_given rows = option_and_then plain_peer_of (first_of (codes "mac") rows)
 
@@ -74,7 +57,7 @@ index_given rows = option_and_then (λ word. write_index_of (unmarked word)) (fi
 abbrev pub pairs_given : List Row → List Text
 pairs_given rows = map unmarked (unwrap_or (all_of (codes "tag value") rows) [])
 
-abbrev pub request_given : Station → List Row → List ℕ → Request
+abbrev pub request_given : Station → List Row → List ℕ → RequestOrder
 request_given to rows body =
     record { to = to; timeout = timeout_given rows; retries = retries_given rows; port = port_given rows; body = body }
 
@@ -82,31 +65,40 @@ request_given to rows body =
 
 abbrev pub reference_given : List Row → Reference
 reference_given rows =
-    record { object = object_given rows; property = needed_number (codes "property") rows; index = number_of (codes "index") rows }
+    record {
+      object = object_given rows;
+      property = needed_number (codes "property") rows;
+      index = number_of (codes "index") rows;
+    }
 
 abbrev pub read_order : List Row → Result Order UsageFault
-read_order rows = needs (peer_given rows) BadMac (λ to. Ok (Reads (request_given to rows (read_octets (reference_given rows)))))
+read_order rows =
+    with_given (peer_given rows) BadMac (λ to. Ok (Reads (request_given to rows (read_octets (reference_given rows)))))
 
 -- The body of the request, by the same reading of pairs as that of a script.
 abbrev pub body_given : List Row → Option ℕ → Result (List ℕ) PairFault
 body_given rows index =
-    body_of (object_given rows) (needed_number (codes "property") rows) index (priority_from (needed_number (codes "priority") rows)) (pairs_given rows)
+    body_of (object_given rows) (needed_number (codes "property") rows) index
+    (priority_from (needed_number (codes "priority") rows)) (pairs_given rows)
 
 abbrev pub written : Station → List Row → Result (List ℕ) PairFault → Result Order UsageFault
 written to rows (Ok body) = Ok (Writes (request_given to rows body))
 written to rows (Err fault) = Err (usage_of fault)
 
 abbrev pub write_order : List Row → Result Order UsageFault
-write_order rows = needs (peer_given rows) BadMac (λ to. needs (index_given rows) BadIndex (λ index. written to rows (body_given rows index)))
+write_order rows =
+    with_given (peer_given rows) BadMac
+    (λ to. with_given (index_given rows) BadIndex (λ index. written to rows (body_given rows index)))
 
--- One number is both limits, and none is no limit.
+-- The limits of a search: one number is both of them, and no number is no limit.
 abbrev pub limits : Option ℕ → Option ℕ → WhoIs
 limits None most = All
 limits (Some least) most = Range least (unwrap_or most least)
 
 abbrev pub search_order : List Row → Result Order UsageFault
-search_order rows = needs (peer_given rows) BadMac (λ to.
-    Ok (Seeks to (timeout_given rows) (port_given rows) (limits (number_of (codes "min") rows) (number_of (codes "max") rows))))
+search_order rows = with_given (peer_given rows) BadMac (λ to.
+    Ok (Seeks to (timeout_given rows) (port_given rows)
+    (limits (number_of (codes "min") rows) (number_of (codes "max") rows))))
 
 abbrev pub serve_order : List Row → Result Order UsageFault
 serve_order rows =
@@ -123,22 +115,7 @@ order_of matches = if bytes_eq matches.0 (codes "bacrp") then read_order matches
     else (if bytes_eq matches.0 (codes "bacdev") then serve_order matches.1
     else Ok Traces)))
 
--- Matches that passed the rules of a tool that makes a request, and of one that is a client.
-abbrev pub IsRequest : List Row → Type 0
-IsRequest rows = IsTaken (rules_of bacrp) rows ⊎ IsTaken (rules_of bacwp) rows
-
-abbrev pub IsClient : List Row → Type 0
-IsClient rows = IsRequest rows ⊎ IsTaken (rules_of bacwi) rows
-
--- A tool, with matches that passed its rules.
-abbrev pub IsTool : Text × List Row → Type 0
-IsTool matches = ((matches.0 ≡ codes "bacrp") × IsTaken (rules_of bacrp) matches.1)
-    ⊎ (((matches.0 ≡ codes "bacwp") × IsTaken (rules_of bacwp) matches.1)
-    ⊎ (((matches.0 ≡ codes "bacwi") × IsTaken (rules_of bacwi) matches.1)
-    ⊎ (((matches.0 ≡ codes "bacdev") × IsTaken (rules_of bacdev) matches.1)
-    ⊎ (matches.0 ≡ codes "bactrace"))))
-
--- A request and a search wait for some time, and a device takes some datagram.
+-- The job can be run: a request and a search wait for some time, and a device takes some datagram.
 abbrev pub IsReady : Job → Type 0
 IsReady (job.Read call) = 0 < call.timeout
 IsReady (job.Write call) = 0 < call.timeout

@@ -6,3 +6,4 @@ pub mod Orders
 pub mod Job
 pub mod Line
 pub mod Examples
+pub mod Inner

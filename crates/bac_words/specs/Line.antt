@@ -16,12 +16,12 @@ use Rattle.bac_words.specs.Orders.{seen}
 abbrev pub matches_in : List Text → Option (Text × List Row)
 matches_in words = subcommand_of bactool (marked_words words)
 
--- `clap` takes the words, and this is what their matches ask for.
+-- `clap` takes the words, and the answer is what their matches ask for.
 pub record Answers (words : List Text) (answer : Result Job UsageFault) : Type 0 where
   pub taken : fault_of bactool (marked_words words) ≡ []
   pub answer_is : option_map order_of (matches_in words) ≡ Some (seen answer)
 
--- Memory ran out, or `clap` asks for help or refuses the words, by this error.
+-- `clap` asks for help or refuses the words, and this error says so; or memory ran out.
 abbrev pub IsRefusal : List Text → UsageFault → Type 0
 IsRefusal words Memory = ⊤
 IsRefusal words (Help e) = (kind_of e ≡ kind.DisplayHelp)

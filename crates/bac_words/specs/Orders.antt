@@ -9,7 +9,7 @@ use Rattle.bac_words.specs.declared.jobs.Job.TheVariants as job
 
 -- One request: whom it is for, how long it waits, how often it is sent again, the port that it is sent from, and the
 -- service body.
-pub record Request : Type 0 where
+pub record RequestOrder : Type 0 where
   pub to : Station
   pub timeout : ℕ
   pub retries : ℕ
@@ -17,15 +17,21 @@ pub record Request : Type 0 where
   pub body : List ℕ
 
 pub data Order : Type 0 where
-  Reads : (request : Request) → Order
-  Writes : (request : Request) → Order
+  Reads : (request : RequestOrder) → Order
+  Writes : (request : RequestOrder) → Order
   Seeks : (to : Station) (timeout port : ℕ) (who : WhoIs) → Order
   Serves : (info : Info) (port count : ℕ) → Order
   Traces : Order
 
-abbrev pub request_seen : Call → Request
+abbrev pub request_seen : Call → RequestOrder
 request_seen call =
-    record { to = station call.to; timeout = call.timeout; retries = call.retries; port = call.port; body = call.body.items }
+    record {
+      to = station call.to;
+      timeout = call.timeout;
+      retries = call.retries;
+      port = call.port;
+      body = call.body.items;
+    }
 
 abbrev pub job_seen : Job → Order
 job_seen (job.Read call) = Reads (request_seen call)

@@ -6,8 +6,8 @@ ghost use Rattle.bac_words.specs.Called.{is_tool, names_of, tool_named, words_ca
 use std::alloc::{AllocError, Global};
 use std::path::Path;
 
-/// The words with the name of the tool in front, where the program is called by one. The program has no name then, so that help
-/// and usage begin with the tool's.
+/// The words with the name of the tool in front, where the program is called by one. The program has no name then, so
+/// that help and usage begin with the tool's.
 pub fn words_of(alloc: Global, typed: &[String]) -> Result<Vec<&str>, AllocError>
     ensures { IfOk result (λ words. map (λ word. word.now) words.items ≡ words_called (map string_bytes typed.now)) }
 {
@@ -23,7 +23,8 @@ pub fn words_of(alloc: Global, typed: &[String]) -> Result<Vec<&str>, AllocError
 
 // The program's name, or an empty one and the tool.
 fn names_of(alloc: Global, program: &str) -> Result<Vec<&str>, AllocError>
-    ensures { IfOk result (λ names. map (λ name. name.now) names.items ≡ names_of program.now (tool_named program.now)) }
+    ensures { IfOk result
+        (λ names. map (λ name. name.now) names.items ≡ names_of program.now (tool_named program.now)) }
 {
     match tool_called(program) {
         Some(tool) => Vec::from_slice(alloc, &["", tool]),

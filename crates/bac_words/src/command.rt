@@ -3,7 +3,9 @@ ghost use Rattle.std.specs.Prelude.{◌≡◌, false, IfOk, codes, map};
 ghost use Rattle.std.specs.List.{list_any};
 ghost use Rattle.clap.specs.Words.{App, new_app, new_rule, rule_of, with_subcommand};
 ghost use Rattle.clap_laws.specs.Commands.{IsCommand, number, needed, by_name, several, with_rules};
-ghost use Rattle.bac_words.specs.Command.{own_instance, mac, timeout, retries, port, bacrp, bacwp, bacwi, bacdev, bactrace, bactool};
+ghost use Rattle.bac_words.specs.Command.{own_instance_rule, mac_rule, timeout_rule, retries_rule, port_rule, bacrp};
+ghost use Rattle.bac_words.specs.Command.{bacwp, bacwi, bacdev};
+ghost use Rattle.bac_words.specs.Command.{bactrace, bactool};
 
 use crate::help;
 use clap::builder::ValueParser;
@@ -37,15 +39,15 @@ fn option<'a>(alloc: Global, id: &'a str, least: u32, most: u32, help: &'a str) 
 }
 
 /// The instance that `bacdev` has; the last one stands for every device.
-fn own_instance<'a>(alloc: Global) -> Arg<'a>
-    ensures rule { rule_of result ≡ own_instance }
+fn own_instance_arg<'a>(alloc: Global) -> Arg<'a>
+    ensures rule { rule_of result ≡ own_instance_rule }
     ensures local { result.global ≡ false }
 {
     needed(alloc, "device-instance", 0, 4_194_302, help::OWN_INSTANCE)
 }
 
-fn mac<'a>(alloc: Global) -> Arg<'a>
-    ensures rule { rule_of result ≡ mac }
+fn mac_arg<'a>(alloc: Global) -> Arg<'a>
+    ensures rule { rule_of result ≡ mac_rule }
     ensures local { result.global ≡ false }
 {
     Arg::new(alloc, "mac")
@@ -54,22 +56,22 @@ fn mac<'a>(alloc: Global) -> Arg<'a>
         .help(help::MAC)
 }
 
-fn timeout<'a>(alloc: Global, help: &'a str) -> Arg<'a>
-    ensures rule { rule_of result ≡ timeout }
+fn timeout_arg<'a>(alloc: Global, help: &'a str) -> Arg<'a>
+    ensures rule { rule_of result ≡ timeout_rule }
     ensures local { result.global ≡ false }
 {
     option(alloc, "apdu-timeout", 1, 60_000, help)
 }
 
-fn retries<'a>(alloc: Global) -> Arg<'a>
-    ensures rule { rule_of result ≡ retries }
+fn retries_arg<'a>(alloc: Global) -> Arg<'a>
+    ensures rule { rule_of result ≡ retries_rule }
     ensures local { result.global ≡ false }
 {
     option(alloc, "apdu-retries", 0, 9, help::RETRIES)
 }
 
-fn port<'a>(alloc: Global, help: &'a str) -> Arg<'a>
-    ensures rule { rule_of result ≡ port }
+fn port_arg<'a>(alloc: Global, help: &'a str) -> Arg<'a>
+    ensures rule { rule_of result ≡ port_rule }
     ensures local { result.global ≡ false }
 {
     option(alloc, "port", 0, 65_535, help)
@@ -125,10 +127,10 @@ fn bacrp<'a>(alloc: Global) -> Result<Command<'a>, AllocError>
         ),
         needed(alloc, "property", 0, 4_194_303, help::PROPERTY),
         number(alloc, "index", 0, u32::MAX, help::ELEMENT),
-        mac(alloc),
-        timeout(alloc, help::TIMEOUT),
-        retries(alloc),
-        port(alloc, help::PORT),
+        mac_arg(alloc),
+        timeout_arg(alloc, help::TIMEOUT),
+        retries_arg(alloc),
+        port_arg(alloc, help::PORT),
     ]?;
     tool(
         named(alloc, "bacrp", help::READS, help::READ_LINES),
@@ -153,10 +155,10 @@ fn bacwp<'a>(alloc: Global) -> Result<Command<'a>, AllocError>
         needed(alloc, "priority", 0, 16, help::PRIORITY),
         index(alloc),
         pairs(alloc),
-        mac(alloc),
-        timeout(alloc, help::TIMEOUT),
-        retries(alloc),
-        port(alloc, help::PORT),
+        mac_arg(alloc),
+        timeout_arg(alloc, help::TIMEOUT),
+        retries_arg(alloc),
+        port_arg(alloc, help::PORT),
     ]?;
     tool(
         named(alloc, "bacwp", help::WRITES, help::WRITE_LINES),
@@ -170,9 +172,9 @@ fn bacwi<'a>(alloc: Global) -> Result<Command<'a>, AllocError>
     let arguments = vec![in alloc;
         number(alloc, "min", 0, 4_194_303, help::LEAST),
         number(alloc, "max", 0, 4_194_303, help::MOST),
-        mac(alloc),
-        timeout(alloc, help::SEARCH_TIME),
-        port(alloc, help::SEARCH_PORT),
+        mac_arg(alloc),
+        timeout_arg(alloc, help::SEARCH_TIME),
+        port_arg(alloc, help::SEARCH_PORT),
     ]?;
     tool(
         named(alloc, "bacwi", help::SEARCHES, help::SEARCH_LINES),
@@ -184,8 +186,8 @@ fn bacdev<'a>(alloc: Global) -> Result<Command<'a>, AllocError>
     ensures { IfOk result (λ c. IsCommand c bacdev) }
 {
     let arguments = vec![in alloc;
-        own_instance(alloc),
-        port(alloc, help::SERVE_PORT),
+        own_instance_arg(alloc),
+        port_arg(alloc, help::SERVE_PORT),
         option(alloc, "count", 1, 65_535, help::COUNT),
     ]?;
     tool(

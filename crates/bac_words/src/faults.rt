@@ -1,6 +1,7 @@
 //! Why the words give no job.
 ghost use Rattle.std.specs.Prelude.{◌≡◌};
-ghost use Rattle.bac_words.specs.Fault.{fault_from, usage_of, usage_status_of};
+ghost use Rattle.bac_words.specs.Fault.{usage_of, usage_status_of};
+ghost use Rattle.bac_words.specs.Inner.Fault.{fault_from};
 ghost use Rattle.bac_words.specs.declared.faults.UsageFault.TheVariants.{Memory};
 
 use bac_text::PairFault;

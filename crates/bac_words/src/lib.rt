@@ -1,4 +1,17 @@
 //! The command line of `bactool`: what its words ask for.
+//!
+//! [`words_of`] puts the tool's name in front where the program was called by one. [`parse_words`] answers the [`Job`]
+//! that the words ask for, or the [`UsageFault`] that is wrong with them; [`usage_status`] is the program's status
+//! after that. [`bactool`] is the command that `clap` reads the words by. `specs/Command.antt` has its rules, and
+//! `specs/Job.antt` says what the words order.
+//!
+//! Of `examples_of_requests` in `src/examples.rt`, which is proved: the words order this read, of the present value
+//! (85) of analog-input 5.
+//!
+//! ```text
+//! ensures read { IsOrdered (codes "bactool bacrp 1234 0 5 85 --mac 192.0.2.7")
+//!     (Ok (Reads (usual (0x0c ∷ 0x00 ∷ 0x00 ∷ 0x00 ∷ 0x05 ∷ 0x19 ∷ 0x55 ∷ [])))) }
+//! ```
 #![tactic(auto)]
 
 mod called;

@@ -1,12 +1,12 @@
 //! The words as `clap` is to see them.
-ghost use Rattle.std.specs.Prelude.{◌≡◌, IfOk, IsTrue, map};
+ghost use Rattle.std.specs.Prelude.{◌≡◌, IfOk, map};
 ghost use Rattle.std.specs.String.{string_bytes};
 ghost use Rattle.clap.specs.Walk.{texts};
 ghost use Rattle.bac_words.specs.Marks.{marked, marked_words, wants_mark};
 
 use std::alloc::{AllocError, Global};
 
-/// Whether `clap` would take the word for an option, or it would be taken for a marked one.
+/// Whether the word is to be marked: `clap` would take it for an option, or it would be taken for a marked one.
 fn wants_mark(word: &str) -> bool
     ensures { result ≡ wants_mark word.now }
 {
@@ -27,7 +27,7 @@ fn marked(alloc: Global, word: &str) -> Result<String, AllocError>
     }
 }
 
-/// Each word after the program's name is marked.
+/// The words, each after the program's name with a mark where it wants one.
 pub(crate) fn marked_words(alloc: Global, words: &[&str]) -> Result<Vec<String>, AllocError>
     ensures { IfOk result (λ v. map string_bytes v.items ≡ marked_words (texts words.now)) }
 {

@@ -1,18 +1,22 @@
 //! From the words to the job.
-ghost use Rattle.std.specs.Prelude.{◌≡◌, ◌≤◌, ◌<◌, ◌⊎◌, IfOk, IfSome, IsSomeAnd, MatchResult, Ok, Err, Some, codes, option_map};
+ghost use Rattle.std.specs.Prelude.{◌≡◌, ◌<◌, ◌⊎◌, IfOk, IfSome, IsSomeAnd, MatchResult, Ok, Err, Some, codes};
+ghost use Rattle.std.specs.Prelude.{option_map};
 ghost use Rattle.clap.specs.Words.{found_of, rows_of, subcommand_rows_of};
 ghost use Rattle.clap.specs.Walk.{texts};
 ghost use Rattle.bac_wire.specs.Identifier.{identifier};
 ghost use Rattle.bac_pdu.specs.Peer.{station};
 ghost use Rattle.bac_pdu.specs.Property.{IsPriority};
-ghost use Rattle.clap_laws.specs.Commands.{rules_of};
-ghost use Rattle.clap_laws.specs.Numbers.{IsWithin, number_of};
+ghost use Rattle.clap_laws.specs.Inner.Commands.{rules_of};
+ghost use Rattle.clap_laws.specs.Numbers.{number_of};
+ghost use Rattle.clap_laws.specs.Inner.Numbers.{IsWithin};
 ghost use Rattle.clap_laws.specs.Passes.{IsTaken};
 ghost use Rattle.bac_text.specs.Address.{plain_peer_of};
 ghost use Rattle.bac_text.specs.Parameters.{priority_from};
 ghost use Rattle.bac_words.specs.Command.{bacdev, bacrp, bacwi, bacwp};
-ghost use Rattle.bac_words.specs.Fault.{usage_of};
-ghost use Rattle.bac_words.specs.Job.{peer_given, index_given, object_given, needed_number, timeout_given, retries_given, port_given, request_given, body_given, limits, read_order, write_order, search_order, serve_order, order_of, IsTool, IsRequest, IsClient, IsReady, IsNumber, IsGiven, bounds};
+ghost use Rattle.bac_words.specs.Job.{peer_given, index_given, object_given, needed_number, timeout_given};
+ghost use Rattle.bac_words.specs.Job.{retries_given, port_given, request_given, body_given, limits, read_order};
+ghost use Rattle.bac_words.specs.Job.{write_order, search_order, serve_order, order_of, IsReady};
+ghost use Rattle.bac_words.specs.Inner.Job.{IsTool, IsRequest, IsClient, IsNumberWord, IsGiven, bounds};
 ghost use Rattle.bac_words.specs.Line.{Answers, IsRefused};
 ghost use Rattle.bac_words.specs.Orders.{request_seen, seen};
 
@@ -36,8 +40,8 @@ use std::alloc::Global;
 ///
 /// # Errors
 ///
-/// `Memory` where there is none, `Help` and `Words` where `clap` doesn't take the words, and else the first of `BadMac`,
-/// `BadIndex`, and `BadValue` or `BodyTooLong`.
+/// `Memory` where there is none, `Help` and `Words` where `clap` doesn't take the words, and else the first of
+/// `BadMac`, `BadIndex`, and `BadValue` or `BodyTooLong`.
 pub fn parse_words(alloc: Global, words: &[&str]) -> Result<Job, UsageFault>
     ensures answer { IsRefused (texts words.now) result ⊎ Answers (texts words.now) result }
     ensures ready { IfOk result IsReady }
@@ -241,7 +245,7 @@ fn write_body(
 
 // The number of an argument that has to be given.
 fn needed(matches: &ArgMatches<'_>, id: &str) -> u32
-    requires number { IsNumber id.now (rows_of (found_of matches.now)) }
+    requires number { IsNumberWord id.now (rows_of (found_of matches.now)) }
     requires given { IsGiven id.now (rows_of (found_of matches.now)) }
     ensures value { result ≡ needed_number id.now (rows_of (found_of matches.now)) }
     ensures within { IsWithin (bounds id.now) result }
@@ -251,14 +255,14 @@ fn needed(matches: &ArgMatches<'_>, id: &str) -> u32
 
 // The number of an argument, if it is given.
 fn number(matches: &ArgMatches<'_>, id: &str) -> Option<u32>
-    requires { IsNumber id.now (rows_of (found_of matches.now)) }
+    requires { IsNumberWord id.now (rows_of (found_of matches.now)) }
     ensures value { result ≡ number_of id.now (rows_of (found_of matches.now)) }
     ensures within { IfSome result (IsWithin (bounds id.now)) }
 {
     matches.get_one(id)
 }
 
-// One number is both limits, and none is no limit.
+// The limits of a search: one number is both of them, and no number is no limit.
 fn limits(least: Option<u32>, most: Option<u32>) -> WhoIs
     ensures { result ≡ limits least most }
 {

@@ -75,7 +75,8 @@ struct Sockets<'r> {
 impl Network for Sockets<'_> {
     type Socket = UdpLink<HostRuntime>;
 
-    ghost gives = { λ _ binding socket. IfOk socket (λ link. (link.refused ≡ binding.refused) × (link.history.entries ≡ [])) };
+    ghost gives = { λ _ binding socket.
+        IfOk socket (λ link. (link.refused ≡ binding.refused) × (link.history.entries ≡ [])) };
 
     fn bind(self, binding: Binding) -> Result<UdpLink<HostRuntime>, LinkFault> {
         UdpLink::bind_with(self.rt, self.rt.alloc(), binding.at, binding.refused)

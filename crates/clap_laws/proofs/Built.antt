@@ -12,7 +12,8 @@ use Rattle.clap.specs.declared.builder.command.Command.{Command}
 use Rattle.clap_laws.specs.Commands.{IsCommand, wanting, with_rules}
 use Rattle.std.specs.List.{list_any}
 
-pub with_tool : {app tool : App} (old new sub : Command) → IsCommand old app → IsCommand sub tool → AddsSubcommand old sub new
+pub with_tool : {app tool : App} (old new sub : Command) → IsCommand old app → IsCommand sub tool
+    → AddsSubcommand old sub new
     → IsCommand new (with_subcommand app tool.top)
 with_tool old new sub is tool_is added = record {
   shape = added.shape tool_is.local ∙ ap₂ with_subcommand is.shape (ap (λ (a : App). a.top) tool_is.shape);
@@ -20,7 +21,8 @@ with_tool old new sub is tool_is added = record {
 }
 
 -- arguments in turn
-pub in_turn : (args : List Arg) (app : App) (old new : Command) → IsCommand old app → list_any (λ a. a.global) args ≡ false → AddsInTurn AddsArg old args new
+pub in_turn : (args : List Arg) (app : App) (old new : Command) → IsCommand old app
+    → list_any (λ a. a.global) args ≡ false → AddsInTurn AddsArg old args new
     → IsCommand new (with_rules app (map rule_of args))
 in_turn [] app old new is local same = subst (λ c. IsCommand c app) same is
 in_turn (a ∷ rest) app old new is local chain =
@@ -32,15 +34,18 @@ in_turn (a ∷ rest) app old new is local chain =
     in_turn rest (with_rule app (rule_of a)) chain.0 new next parts.1 chain.2
 
 -- help leaves the rules as they are
-pub helped : {app : App} {about after : Option (Bor Text)} (first second third : Command) → IsCommand first app → out-Command second ≡ record (out-Command first) { about = about }
+pub helped : {app : App} {about after : Option (Bor Text)} (first second third : Command) → IsCommand first app
+    → out-Command second ≡ record (out-Command first) { about = about }
     → out-Command third ≡ record (out-Command second) { after_help = after } → IsCommand third app
 helped first second third is about after = record {
   shape = ap app_of_fields after ∙ ap app_of_fields about ∙ is.shape;
-  local = ap (λ (f : Command-F Command). f.has_globals) after ∙ ap (λ (f : Command-F Command). f.has_globals) about ∙ is.local;
+  local = ap (λ (f : Command-F Command). f.has_globals) after ∙ ap (λ (f : Command-F Command). f.has_globals) about
+      ∙ is.local;
 }
 
 -- the program before its tools: one is wanted
-pub wanting_is : {app : App} (old new : Command) → IsCommand old app → out-Command new ≡ record (out-Command old) { subcommand_required = true }
+pub wanting_is : {app : App} (old new : Command) → IsCommand old app
+    → out-Command new ≡ record (out-Command old) { subcommand_required = true }
     → IsCommand new (wanting app)
 wanting_is old new is same = record {
   shape = ap app_of_fields same ∙ ap wanting is.shape;

@@ -1,5 +1,6 @@
 -- From the rules that the words passed to what the getters of the matches read.
-use Rattle.std.proofs.Common.{◌≡◌, ◌∙◌, ◌<◌, ◌&&◌, ℕ, pos, true, false, not, refl, sym, ap, subst, arith, List, [], ◌∷◌, length, Option, Some, None, Result, is_some, IfSome, slice_get}
+use Rattle.std.proofs.Common.{◌≡◌, ◌∙◌, ◌<◌, ◌&&◌, ℕ, pos, true, false, not, refl, sym, ap, subst, arith, List, [], ◌∷◌}
+use Rattle.std.proofs.Common.{length, Option, Some, None, Result, is_some, IfSome, slice_get}
 use Rattle.std.specs.List.{find, list_all}
 use Rattle.std.specs.Option.{option_and_then, option_map, option_map_or}
 use Rattle.std.specs.Str.{bytes_eq}
@@ -20,14 +21,17 @@ use Rattle.clap.proofs.CallerReads.{signed_reads}
 use Rattle.clap.proofs.ValueTestLemmas.{accepts-Accepts}
 use Rattle.clap.proofs.WalkLemmas.{both, one_text-rows}
 use Rattle.clap_laws.specs.Passes.{IsTaken, RowPasses, RowsPass}
-use Rattle.clap_laws.specs.Numbers.{FitsWord, IsWithin, bounds_by, bounds_in, decimal, is_needed, number_of}
+use Rattle.clap_laws.specs.Numbers.{decimal, number_of}
+use Rattle.clap_laws.specs.Inner.Numbers.{FitsWord, IsWithin, bounds_by, bounds_in, is_needed}
 use Rattle.clap_laws.proofs.Rows.{any_not, when_found}
 
 -- the entry of an id passed
-entry : (c : List Rule) (id : Text) (rows : List Row) (r : Row) → RowsPass c rows → find (λ r. bytes_eq r.id id) rows ≡ Some r
+entry : (c : List Rule) (id : Text) (rows : List Row) (r : Row) → RowsPass c rows
+    → find (λ r. bytes_eq r.id id) rows ≡ Some r
     → (r.id ≡ id) × RowPasses c r
 entry c id rows r h is =
-    when_found (λ r. bytes_eq r.id id) (λ rows. RowsPass c rows → (r.id ≡ id) × RowPasses c r) r (λ xs passes h. ((bytes_eq-Decides r.id id).0 passes, h.0))
+    when_found (λ r. bytes_eq r.id id) (λ rows. RowsPass c rows → (r.id ≡ id) × RowPasses c r) r
+    (λ xs passes h. ((bytes_eq-Decides r.id id).0 passes, h.0))
     (λ x xs fails is rest h. rest h.1) rows is h
 
 -- the text of an argument is that of a value that passed
@@ -36,11 +40,15 @@ record IsText (a : Rule) (text : Text) : Type 0 where
   read : text ≡ read_as (reading_by a) given
   passed : value_passes a given ≡ true
 
-head_text : (a : Rule) (r : Row) (vs : List Text) → r.reading ≡ reading_by a → list_all (value_passes a) vs ≡ true → 0 < length vs
+head_text : (a : Rule) (r : Row) (vs : List Text) → r.reading ≡ reading_by a → list_all (value_passes a) vs ≡ true
+    → 0 < length vs
     → (t : Text) × (option_map (read_as r.reading) (slice_get vs 0) ≡ Some t) × IsText a t
 head_text a r [] how all filled = absurd (omega arith)
-head_text a r (v ∷ vs) how all filled =
-    (read_as r.reading v, refl, record { given = v; read = ap (λ how. read_as how v) how; passed = (both (value_passes a v) _ all).0 })
+head_text a r (v ∷ vs) how all filled = (
+  read_as r.reading v,
+  refl,
+  record { given = v; read = ap (λ how. read_as how v) how; passed = (both (value_passes a v) _ all).0 },
+)
 
 -- such is the text of an argument, if it has one, and an argument that is given has one
 text_of : (c : List Rule) (a : Rule) (id : Text) (rows : List Row) → RowsPass c rows → arg_by_id c id ≡ Some a
@@ -61,13 +69,17 @@ text_of c a id rows h is = go (find (λ r. bytes_eq r.id id) rows) refl
 abbrev pub Parses : Text → Result ℕ ParseIntError → Type 0
 Parses bs r = ParsesUnsigned 32 10 bs r × ExplainsUnsignedError 10 bs r × HasUnsignedDigitsIfOk bs r
 
-number_text : (a : Rule) (t : Text) (r : Option ℕ) (p : ValueParser) → parser_of_value a.parser ≡ p → FitsWord (bounds_by p) → IsText a t → ReadsOne Parses t r
+number_text : (a : Rule) (t : Text) (r : Option ℕ) (p : ValueParser) → parser_of_value a.parser ≡ p
+    → FitsWord (bounds_by p) → IsText a t → ReadsOne Parses t r
     → (r ≡ Some (decimal t)) × IfSome r (IsWithin (bounds_by p))
 number_text a t r (vp.Signed (pos low) (pos high)) parser fits text reads =
     let accepted : Accepts a.ignore_case (vp.Signed (pos low) (pos high)) text.given =
-    accepts-Accepts a.ignore_case (vp.Signed (pos low) (pos high)) text.given (subst (λ (p : ValueParser). accepts a.ignore_case p text.given ≡ true) parser text.passed) in
-    let how : t ≡ read_as (reading_of (vp.Signed (pos low) (pos high))) text.given = text.read ∙ ap (λ (p : ValueParser). read_as (reading_of p) text.given) parser in
-    let got = signed_reads ParseIntError Parses 32 low high text.given r (subst (λ (u : Text). ReadsOne Parses u r) how reads) (λ u x g. g.0) fits accepted in
+    accepts-Accepts a.ignore_case (vp.Signed (pos low) (pos high)) text.given
+    (subst (λ (p : ValueParser). accepts a.ignore_case p text.given ≡ true) parser text.passed) in
+    let how : t ≡ read_as (reading_of (vp.Signed (pos low) (pos high))) text.given = text.read
+    ∙ ap (λ (p : ValueParser). read_as (reading_of p) text.given) parser in
+    let got = signed_reads ParseIntError Parses 32 low high text.given r
+    (subst (λ (u : Text). ReadsOne Parses u r) how reads) (λ u x g. g.0) fits accepted in
     let value : ReadsOne Parses t (Some got.0) = subst (λ (o : Option ℕ). ReadsOne Parses t o) got.1 reads in
     (got.1 ∙ ap Some value.0.1, subst (λ o. IfSome o (IsWithin (Some (low, high)))) (sym got.1) (got.2, got.3))
 number_text a t r _ parser fits text reads = absurd fits
@@ -78,28 +90,36 @@ pub getter : (c : List Rule) (id : Text) (f : Found) (r : Option ℕ) → IsTake
     → (r ≡ number_of id (rows_of f)) × IfSome r (IsWithin (bounds_in c id))
 getter c id f r taken fits none value = at_rule (arg_by_id c id) refl fits
   where
-    at_text : (a : Rule) (o : Option Text) → one_of id (rows_of f) ≡ o → IfSome o (IsText a) → FitsWord (bounds_by (parser_of_value a.parser))
+    at_text : (a : Rule) (o : Option Text) → one_of id (rows_of f) ≡ o → IfSome o (IsText a)
+        → FitsWord (bounds_by (parser_of_value a.parser))
         → (r ≡ option_map decimal o) × IfSome r (IsWithin (bounds_by (parser_of_value a.parser)))
     at_text a None e text fits = rw (none (one_text-rows f id ∙ e)) (refl, tt)
-    at_text a (Some t) e text fits = number_text a t r (parser_of_value a.parser) refl fits text (value t (one_text-rows f id ∙ e))
+    at_text a (Some t) e text fits =
+        number_text a t r (parser_of_value a.parser) refl fits text (value t (one_text-rows f id ∙ e))
 
-    at_rule : (o : Option Rule) → arg_by_id c id ≡ o → FitsWord (option_and_then (λ a. bounds_by (parser_of_value a.parser)) o)
-        → (r ≡ number_of id (rows_of f)) × IfSome r (IsWithin (option_and_then (λ a. bounds_by (parser_of_value a.parser)) o))
+    at_rule : (o : Option Rule) → arg_by_id c id ≡ o
+        → FitsWord (option_and_then (λ a. bounds_by (parser_of_value a.parser)) o)
+        → (r ≡ number_of id (rows_of f))
+        × IfSome r (IsWithin (option_and_then (λ a. bounds_by (parser_of_value a.parser)) o))
     at_rule None is fits = absurd fits
-    at_rule (Some a) is fits = at_text a (one_of id (rows_of f)) refl (text_of c a id (rows_of f) taken.entries is).0 fits
+    at_rule (Some a) is fits =
+        at_text a (one_of id (rows_of f)) refl (text_of c a id (rows_of f) taken.entries is).0 fits
 
 -- of an argument that has to be given there is one
-pub needed : (c : List Rule) (id : Text) (rows : List Row) → IsTaken c rows → is_needed c id ≡ true → is_some (number_of id rows) ≡ true
+pub needed : (c : List Rule) (id : Text) (rows : List Row) → IsTaken c rows → is_needed c id ≡ true
+    → is_some (number_of id rows) ≡ true
 needed c id rows taken is = at_rule (arg_by_id c id) refl is
   where
     some_number : (o : Option Text) → is_some o ≡ true → is_some (option_map decimal o) ≡ true
     some_number o e = grind (arith, e)
 
-    at_rule : (o : Option Rule) → arg_by_id c id ≡ o → option_map_or (λ a. a.required && bytes_eq a.id id) o false ≡ true → is_some (number_of id rows) ≡ true
+    at_rule : (o : Option Rule) → arg_by_id c id ≡ o
+        → option_map_or (λ a. a.required && bytes_eq a.id id) o false ≡ true → is_some (number_of id rows) ≡ true
     at_rule None found is = cc
     at_rule (Some a) found is =
         let parts = both a.required (bytes_eq a.id id) is in
-        let missing = any_not (λ a. a.required && not (is_given a.id rows)) (λ a. bytes_eq a.id id) c a taken.complete found in
+        let missing = any_not (λ a. a.required && not (is_given a.id rows)) (λ a. bytes_eq a.id id) c a taken.complete
+        found in
         let given : is_given a.id rows ≡ true = not-false _ (rw parts.0 at missing) in
         some_number (one_of id rows) ((text_of c a id rows taken.entries found).1
         (subst (λ (t : Text). is_given t rows ≡ true) ((bytes_eq-Decides a.id id).0 parts.1) given))

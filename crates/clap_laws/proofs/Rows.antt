@@ -1,6 +1,8 @@
 -- What a command of one level leaves in its matches, where `clap` takes the words: each value passed
 -- the parser of its argument, and each argument that has an entry has a value.
-use Rattle.std.proofs.Common.{◌≡◌, ◌∙◌, ◌<◌, ◌&&◌, ◌||◌, ℕ, Bool, cond, true, false, not, zero, suc, refl, sym, ap, subst, arith, List, [], ◌∷◌, ◌++◌, length, drop, Option, Some, None, is_some, IfSome, encode_utf8, slice_get, length-append, codes, if◌then◌else◌}
+use Rattle.std.proofs.Common.{◌≡◌, ◌∙◌, ◌<◌, ◌&&◌, ◌||◌, ℕ, Bool, cond, true, false, not, zero, suc, refl, sym, ap}
+use Rattle.std.proofs.Common.{subst, arith, List, [], ◌∷◌, ◌++◌, length, drop, Option, Some, None, is_some, IfSome}
+use Rattle.std.proofs.Common.{encode_utf8, slice_get, length-append, codes, if◌then◌else◌}
 use Rattle.std.specs.List.{find, fold, list_all, list_any}
 use Rattle.std.specs.Str.{bytes_eq, chars}
 use Rattle.std.specs.Prelude.{nat_lt}
@@ -12,12 +14,20 @@ use Rattle.clap.specs.Facts.{unwrap_or_range}
 use Rattle.clap.specs.Values.{is_request}
 use Rattle.clap.specs.Kinds.{Kinds, check_kinds, or_else, range_kinds}
 use Rattle.std.specs.Option.{option_map_or}
-use Rattle.clap.specs.Walk.{Held, has_row, bundle_step, flag_met, has_short, has_long, most_values, used_by_id, Names, Outcome, Row, Rule, Step, Text, Waiting, Walk, action_of, after_flag, after_step, arg_by_id, arg_by_index, arg_by_long, arg_by_short, at_row, attached_value, bundle, bundle_met, default_rows, done, finished, idle, is_empty, is_pending, long_met, long_or_other, long_word, more_values, nothing_held, option_met, option_word, plain, plain_word, positional, positional_held, pushed, reacted, reading_by, refused, rows_after, settled, settled_rows, short_met, short_or_plain, short_word, subcommand_met, subcommand_or_other, takes_several, takes_values, to_positional, used, used_as, value, values_or_missing, waits, walk, walk_from, walked, walked_from, with_default, with_values, without, word_met}
-use Rattle.clap.specs.Walk.{option, trailing}
+use Rattle.clap.specs.Walk.{Held, has_row, bundle_step, flag_met, has_short, has_long, most_values, Names, Outcome, Row}
+use Rattle.clap.specs.Walk.{Rule, Step, Text, Waiting, Walk, action_of, after_flag, after_step, arg_by_id, arg_by_index}
+use Rattle.clap.specs.Walk.{arg_by_long, arg_by_short, at_row, attached_value, bundle, bundle_met, default_rows, done}
+use Rattle.clap.specs.Walk.{finished, is_empty, long_met, long_or_other, more_values, nothing_held, option_met, plain}
+use Rattle.clap.specs.Walk.{plain_word, reacted, reading_by, settled, short_met, short_or_plain, subcommand_met}
+use Rattle.clap.specs.Walk.{subcommand_or_other, takes_values, to_positional, used, used_as, values_or_missing, walk}
+use Rattle.clap.specs.Walk.{walk_from, walked, walked_from, with_default, with_values, word_met}
 use Rattle.clap.specs.Walk as w
 use Rattle.clap.specs.Simple.{Shape}
 use Rattle.clap.specs.Takes.{value_passes, values_pass, is_given}
-use Rattle.clap.specs.Faults.{action_fault, check_fault, defaults_fault, stray_fault, bundle_fault, bundle_step_fault, flag_word_fault, flags_fault, long_fault, option_fault, other_fault, positional_fault, react_fault, settle_fault, short_fault, step_fault, use_fault, values_fault, walk_fault, word_fault}
+use Rattle.clap.specs.Faults.{action_fault, check_fault, defaults_fault, stray_fault, bundle_fault, bundle_step_fault}
+use Rattle.clap.specs.Faults.{flag_word_fault, flags_fault, long_fault, option_fault, other_fault, positional_fault}
+use Rattle.clap.specs.Faults.{react_fault, settle_fault, short_fault, step_fault, use_fault, values_fault, walk_fault}
+use Rattle.clap.specs.Faults.{word_fault}
 use Rattle.clap.specs.declared.builder.action.ArgAction.{ArgAction}
 use Rattle.clap.specs.declared.builder.action.ArgAction.TheVariants as action
 use Rattle.clap.specs.declared.parser.matches.ValueSource.TheVariants.{CommandLine}
@@ -28,7 +38,8 @@ use Rattle.clap_laws.specs.Entering.{keeps_values, is_plain_rule, has_distinct_i
 
 -- What holds of the element that a search finds, by induction over the list.
 pub when_found : {X : Type 0} (p : X → Bool) (P : List X → Type 0) (a : X) → ((xs : List X) → p a ≡ true → P (a ∷ xs))
-    → ((x : X) (xs : List X) → p x ≡ false → find p xs ≡ Some a → P xs → P (x ∷ xs)) → (xs : List X) → find p xs ≡ Some a → P xs
+    → ((x : X) (xs : List X) → p x ≡ false → find p xs ≡ Some a → P xs → P (x ∷ xs)) → (xs : List X)
+    → find p xs ≡ Some a → P xs
 when_found p P a here later [] is = cc
 when_found {X} p P a here later (x ∷ xs) is = go (p x) refl (when_found p P a here later xs) is
   where
@@ -56,7 +67,8 @@ record IsOwn (c : List Rule) (a : Rule) : Type 0 where
   plain : is_plain_rule a ≡ true
 
 -- a search finds such a rule
-owned : (p : Rule → Bool) (c : List Rule) (a : Rule) → find p c ≡ Some a → list_all is_plain_rule c ≡ true → has_distinct_ids c ≡ true → IsOwn c a
+owned : (p : Rule → Bool) (c : List Rule) (a : Rule) → find p c ≡ Some a → list_all is_plain_rule c ≡ true
+    → has_distinct_ids c ≡ true → IsOwn c a
 owned p c a is =
     when_found p (λ c. list_all is_plain_rule c ≡ true → has_distinct_ids c ≡ true → IsOwn c a) a
     (λ xs passes plain distinct.
@@ -80,12 +92,21 @@ at_row_pass : (c : List Rule) (id : Text) (change : Row → List Row) (missing :
     → (rows : List Row) → RowsPass c rows → RowsPass c (at_row id change missing rows)
 at_row_pass c id change missing changed added [] h = added
 at_row_pass c id change missing changed added (r ∷ rs) h =
-    grind (arith, at_row_pass c id change missing changed added rs h.1, changed r, append_pass c (change r) rs, h.0, h.1)
+    grind (
+      arith,
+      at_row_pass c id change missing changed added rs h.1,
+      changed r,
+      append_pass c (change r) rs,
+      h.0,
+      h.1,
+    )
 
-with_values_pass : (c : List Rule) (a : Rule) (vs : List Text) (rows : List Row) → arg_by_id c a.id ≡ Some a → values_pass a vs ≡ true → 0 < length vs
+with_values_pass : (c : List Rule) (a : Rule) (vs : List Text) (rows : List Row) → arg_by_id c a.id ≡ Some a
+    → values_pass a vs ≡ true → 0 < length vs
     → RowsPass c rows → RowsPass c (with_values a.id (reading_by a) CommandLine vs rows)
 with_values_pass c a vs rows is passed filled h =
-    at_row_pass c a.id (more_values CommandLine vs) _ more (record { rule = a; own = is; reading = refl; filled = filled; passed = passed }, tt) rows h
+    at_row_pass c a.id (more_values CommandLine vs) _ more
+    (record { rule = a; own = is; reading = refl; filled = filled; passed = passed }, tt) rows h
   where
     more : (r : Row) → bytes_eq r.id a.id ≡ true → RowPasses c r → RowsPass c (more_values CommandLine vs r)
     more r same h =
@@ -109,15 +130,20 @@ values_taken a [] e = refl
 values_taken a (v ∷ vs) e = grind (arith, values_taken a vs)
 
 -- values that a use leaves pass, where it keeps them and has some, or asks for help
-used_as_pass : (c : List Rule) (a : Rule) (again : Bool) (x : ArgAction) (wants : Bool) (vs : List Text) (rows : List Row) → arg_by_id c a.id ≡ Some a
-    → (is_request x || (keeps_values x && wants)) ≡ true → (wants ≡ true → 0 < length vs) → action_fault x again a vs rows ≡ [] → RowsPass c rows
+used_as_pass : (c : List Rule) (a : Rule) (again : Bool) (x : ArgAction) (wants : Bool) (vs : List Text)
+    (rows : List Row) → arg_by_id c a.id ≡ Some a
+    → (is_request x || (keeps_values x && wants)) ≡ true → (wants ≡ true → 0 < length vs)
+    → action_fault x again a vs rows ≡ [] → RowsPass c rows
     → RowsPass c (used_as x a.id (reading_by a) vs rows)
 used_as_pass c a again action.Set wants vs rows is kept filled none h =
-    with_values_pass c a vs _ is (values_taken a vs (none_fails _ _ none).1) (filled kept) (at_row_pass c a.id (λ _. []) [] (λ r same h. tt) tt rows h)
-used_as_pass c a again action.Append wants vs rows is kept filled none h = with_values_pass c a vs rows is (values_taken a vs none) (filled kept) h
+    with_values_pass c a vs _ is (values_taken a vs (none_fails _ _ none).1) (filled kept)
+    (at_row_pass c a.id (λ _. []) [] (λ r same h. tt) tt rows h)
+used_as_pass c a again action.Append wants vs rows is kept filled none h =
+    with_values_pass c a vs rows is (values_taken a vs none) (filled kept) h
 used_as_pass c a again _ wants vs rows is kept filled none h = grind (arith, h)
 
-filled_by : (a : Rule) (least most : ℕ) (values : List Text) → range_kinds least most (length values) ≡ [] → nat_lt 0 least ≡ true
+filled_by : (a : Rule) (least most : ℕ) (values : List Text) → range_kinds least most (length values) ≡ []
+    → nat_lt 0 least ≡ true
     → 0 < length (values_or_missing a values)
 filled_by a least most values none wants = grind (arith, none, wants)
 
@@ -128,33 +154,44 @@ module _ (c : List Rule) (level : IsPlainLevel c) (again : Bool) where
   abbrev Keeps : Kinds → Held → Held → Type 0
   Keeps fault h after = fault ≡ [] → RowsPass c h.rows → RowsPass c after.rows
 
-  used_pass : (a : Rule) (values : List Text) (rows : List Row) → IsOwn c a → use_fault again a values rows ≡ [] → RowsPass c rows
+  used_pass : (a : Rule) (values : List Text) (rows : List Row) → IsOwn c a → use_fault again a values rows ≡ []
+      → RowsPass c rows
       → RowsPass c (used a values rows)
   used_pass a values rows is none h =
       let parts = none_fails _ _ none in
-      used_as_pass c a again (action_of a) (nat_lt 0 (unwrap_or_range a.range).start_inclusive) (values_or_missing a values) rows is.own
-      (both (is_empty a.defaults) _ is.plain).1 (filled_by a (unwrap_or_range a.range).start_inclusive (most_values a) values parts.0) parts.1 h
+      used_as_pass c a again (action_of a) (nat_lt 0 (unwrap_or_range a.range).start_inclusive)
+      (values_or_missing a values) rows is.own
+      (both (is_empty a.defaults) _ is.plain).1
+      (filled_by a (unwrap_or_range a.range).start_inclusive (most_values a) values parts.0) parts.1 h
 
   settled_pass : (h : Held) → Keeps (settle_fault c again h) h (settled c h)
   settled_pass h none rows = grind (arith, none, rows, owned, used_pass, level.plain, level.distinct)
 
-  reacted_pass : (a : Rule) (values : List Text) (h : Held) → IsOwn c a → Keeps (react_fault c again a values h) h (reacted c a values h)
+  reacted_pass : (a : Rule) (values : List Text) (h : Held) → IsOwn c a
+      → Keeps (react_fault c again a values h) h (reacted c a values h)
   reacted_pass a values h is none rows =
       let parts = none_fails _ _ none in
       used_pass a values (settled c h).rows is parts.1 (settled_pass h parts.0 rows)
 
   -- a use as an option with this value, or what else the word comes to
-  option_or : (a : Rule) (v : Option Text) (h : Held) (fault : Kinds) (other : Held × Outcome) → IsOwn c a → Keeps fault h other.0
-      → Keeps (cond (takes_values a) (option_fault c again a v h) fault) h (cond (takes_values a) (option_met c a v h) other).0
-  option_or a v h fault other is keeps none rows = grind (arith, settled_pass h, λ (word : Text). reacted_pass a (word ∷ []) h is)
+  option_or : (a : Rule) (v : Option Text) (h : Held) (fault : Kinds) (other : Held × Outcome) → IsOwn c a
+      → Keeps fault h other.0
+      → Keeps (cond (takes_values a) (option_fault c again a v h) fault) h
+      (cond (takes_values a) (option_met c a v h) other).0
+  option_or a v h fault other is keeps none rows =
+      grind (arith, settled_pass h, λ (word : Text). reacted_pass a (word ∷ []) h is)
 
-  long_pass : (o : Option Rule) (v : Option Text) (h : Held) → IfSome o (IsOwn c) → Keeps (long_fault c again o v h) h (long_met c o v h).0
+  long_pass : (o : Option Rule) (v : Option Text) (h : Held) → IfSome o (IsOwn c)
+      → Keeps (long_fault c again o v h) h (long_met c o v h).0
   long_pass None v h is none rows = rows
-  long_pass (Some a) None h is none rows = option_or a None h _ (flag_met c a None h) is (reacted_pass a [] h is) none rows
-  long_pass (Some a) (Some v) h is none rows = option_or a (Some v) h _ (flag_met c a (Some v) h) is (λ _ _. rows) none rows
+  long_pass (Some a) None h is none rows =
+      option_or a None h _ (flag_met c a None h) is (reacted_pass a [] h is) none rows
+  long_pass (Some a) (Some v) h is none rows =
+      option_or a (Some v) h _ (flag_met c a (Some v) h) is (λ _ _. rows) none rows
 
   short_pass : (o : Option Rule) (rest : Text) (h : Held) (next : Held → Held × Outcome) (fault : Held → Kinds)
-      → ((k : Held) → Keeps (fault k) k (next k).0) → IfSome o (IsOwn c) → Keeps (short_fault c again o rest h fault) h (short_met c o rest h next).0
+      → ((k : Held) → Keeps (fault k) k (next k).0) → IfSome o (IsOwn c)
+      → Keeps (short_fault c again o rest h fault) h (short_met c o rest h next).0
   short_pass None rest h next fault goes is = λ none rows. rows
   short_pass (Some a) rest h next fault goes is =
       option_or a (attached_value rest) h _ (next (reacted c a [] h)) is (λ none rows.
@@ -164,18 +201,21 @@ module _ (c : List Rule) (level : IsPlainLevel c) (again : Bool) where
   found_own : (p : Rule → Bool) → IfSome (find p c) (IsOwn c)
   found_own p = grind (arith, owned p c, level.plain, level.distinct)
 
-  bundle_pass : (k : ℕ) (flags : Text) (skip : ℕ) (so_far : Outcome) (h : Held) → Keeps (flags_fault c again k flags skip h) h (bundle_met c k flags skip so_far h).0
+  bundle_pass : (k : ℕ) (flags : Text) (skip : ℕ) (so_far : Outcome) (h : Held)
+      → Keeps (flags_fault c again k flags skip h) h (bundle_met c k flags skip so_far h).0
   unfolding bundle_met flags_fault
   bundle_pass zero flags skip so_far h none rows = rows
   bundle_pass (suc k) flags skip so_far h none rows = go (slice_get (chars flags) 0) skip none (bundle_pass k)
     where
       go : (o : Option ℕ) (skip : ℕ) → bundle_step_fault c again o flags skip h (flags_fault c again k) ≡ []
-          → ((flags : Text) (skip : ℕ) (so_far : Outcome) (h : Held) → Keeps (flags_fault c again k flags skip h) h (bundle_met c k flags skip so_far h).0)
+          → ((flags : Text) (skip : ℕ) (so_far : Outcome) (h : Held)
+          → Keeps (flags_fault c again k flags skip h) h (bundle_met c k flags skip so_far h).0)
           → RowsPass c (bundle_step c o flags skip so_far h (bundle_met c k)).0.rows
       go None skip none later = rows
       go (Some x) zero none later =
           let rest = drop (length (encode_utf8 x)) flags in
-          short_pass (arg_by_short c x) rest h (bundle_met c k rest 0 done) (flags_fault c again k rest 0) (later rest 0 done)
+          short_pass (arg_by_short c x) rest h (bundle_met c k rest 0 done) (flags_fault c again k rest 0)
+          (later rest 0 done)
           (found_own (λ a. not (is_some a.index) && has_short a x)) none rows
       go (Some x) (suc skip) none later = later (drop (length (encode_utf8 x)) flags) skip so_far h none rows
 
@@ -204,9 +244,11 @@ module _ (s : Shape) where
   -- Where nothing is wrong, entries that passed stay so, and the word does not ask for help.
   abbrev Goes : Kinds → Held → Held × Step → Type 0
   Goes fault h met =
-      fault ≡ [] → (IsPlainLevel s.rules → RowsPass s.rules h.rows → RowsPass s.rules met.0.rows) × IsElsewhere (λ name. asks s name ≡ false) met.1
+      fault ≡ [] → (IsPlainLevel s.rules → RowsPass s.rules h.rows → RowsPass s.rules met.0.rows)
+      × IsElsewhere (λ name. asks s name ≡ false) met.1
 
-  either : (b : Bool) (fault : Kinds) (h : Held) (met other : Held × Step) → Goes [] h met → Goes fault h other → Goes (if b then [] else fault) h (if b then met else other)
+  either : (b : Bool) (fault : Kinds) (h : Held) (met other : Held × Step) → Goes [] h met → Goes fault h other
+      → Goes (if b then [] else fault) h (if b then met else other)
   either true fault h met other first second = first
   either false fault h met other first second = second
 
@@ -216,17 +258,20 @@ module _ (s : Shape) where
       (λ level rows. subst (RowsPass s.rules) (sym kept.0) rows, kept.1)
 
   flag_goes : (fault : Kinds) (waiting : Waiting) (word : Text) (h : Held) (met : Held × Outcome)
-      → (IsPlainLevel s.rules → fault ≡ [] → RowsPass s.rules h.rows → RowsPass s.rules met.0.rows) → Goes fault h (after_flag s.rules waiting word met.0 met.1)
+      → (IsPlainLevel s.rules → fault ≡ [] → RowsPass s.rules h.rows → RowsPass s.rules met.0.rows)
+      → Goes fault h (after_flag s.rules waiting word met.0 met.1)
   flag_goes fault waiting word h met passes none =
       let kept = flag_keeps s.rules waiting word met.0 met.1 (λ name. asks s name ≡ false) in
       (λ level rows. subst (RowsPass s.rules) (sym kept.0) (passes level none rows), kept.1)
 
   short_goes : (waiting : Waiting) (word : Text) (o : Option Text) (h : Held)
-      → Goes (option_map_or (λ flags. bundle_fault s.rules s.args_override_self flags h) o []) h (short_or_plain s.rules waiting word o h)
+      → Goes (option_map_or (λ flags. bundle_fault s.rules s.args_override_self flags h) o []) h
+      (short_or_plain s.rules waiting word o h)
   short_goes waiting word None h = plain_goes waiting word h
   short_goes waiting word (Some flags) h =
       flag_goes _ waiting word h (bundle s.rules flags h)
-      (λ level. bundle_pass s.rules level s.args_override_self (length flags) flags h.skip plain (record h { skip = 0 }))
+      (λ level. bundle_pass s.rules level s.args_override_self (length flags) flags h.skip plain
+      (record h { skip = 0 }))
 
   long_goes : (waiting : Waiting) (word : Text) (o : Option (Text × Option Text)) (h : Held)
       → Goes (flag_word_fault s.rules s.args_override_self o word h) h (long_or_other s.rules waiting word o h)
@@ -240,12 +285,15 @@ module _ (s : Shape) where
       → Goes (other_fault s o word h) h (subcommand_or_other s.rules o waiting position word h)
   other_goes (Some name) waiting position word h = λ none. (λ level rows. rows, grind arith)
   other_goes None waiting position word h =
-      either (bytes_eq word (45 ∷ 45 ∷ [])) _ h (h, w.trailing position) _ (λ none. (λ level rows. rows, tt)) (long_goes waiting word (long_of word) h)
+      either (bytes_eq word (45 ∷ 45 ∷ [])) _ h (h, w.trailing position) _ (λ none. (λ level rows. rows, tt))
+      (long_goes waiting word (long_of word) h)
 
   word_goes : (names : Names) (is_trailing : Bool) (waiting : Waiting) (position : ℕ) (word : Text) (h : Held)
-      → Goes (word_fault s names is_trailing waiting word h) h (word_met s.rules names is_trailing waiting position word h)
+      → Goes (word_fault s names is_trailing waiting word h) h
+      (word_met s.rules names is_trailing waiting position word h)
   word_goes names is_trailing waiting position word h =
-      either is_trailing _ h (h, w.value) _ (λ none. (λ level rows. rows, tt)) (other_goes (subcommand_met names waiting word) waiting position word h)
+      either is_trailing _ h (h, w.value) _ (λ none. (λ level rows. rows, tt))
+      (other_goes (subcommand_met names waiting word) waiting position word h)
 
   -- ---- the walk
 
@@ -253,20 +301,25 @@ module _ (s : Shape) where
   abbrev pub Stands : Walk → Type 0
   Stands walk = (IsPlainLevel s.rules → RowsPass s.rules walk.held.rows) × IfSome walk.stopped (λ p. asks s p.0 ≡ false)
 
-  step_goes : (word : Text) (walk : Walk) (h : Held) (step : Step) → (IsPlainLevel s.rules → RowsPass s.rules h.rows) → IsElsewhere (λ name. asks s name ≡ false) step
-      → IfSome walk.stopped (λ p. asks s p.0 ≡ false) → step_fault s walk.position h step ≡ [] → Stands (after_step s.rules word walk h step)
+  step_goes : (word : Text) (walk : Walk) (h : Held) (step : Step) → (IsPlainLevel s.rules → RowsPass s.rules h.rows)
+      → IsElsewhere (λ name. asks s name ≡ false) step
+      → IfSome walk.stopped (λ p. asks s p.0 ≡ false) → step_fault s walk.position h step ≡ []
+      → Stands (after_step s.rules word walk h step)
   step_goes word walk h (w.next waiting) rows kept stop none = (rows, stop)
   step_goes word walk h (w.trailing position) rows kept stop none = (rows, stop)
   step_goes word walk h (w.subcommand name) rows kept stop none = (rows, kept)
   step_goes word walk h w.value rows kept stop none = go (arg_by_index s.rules walk.position) none
     where
-      go : (o : Option Rule) → option_map_or (λ a. positional_fault s.rules s.args_override_self a h) o (stray_fault s) ≡ []
+      go : (o : Option Rule)
+          → option_map_or (λ a. positional_fault s.rules s.args_override_self a h) o (stray_fault s) ≡ []
           → Stands (to_positional s.rules o word walk h)
       go None none = (rows, stop)
-      go (Some a) none = (λ level. let passed = rows level in grind (arith, settled_pass s.rules level s.args_override_self h), tt)
+      go (Some a) none =
+          (λ level. let passed = rows level in grind (arith, settled_pass s.rules level s.args_override_self h), tt)
 
   -- What holds before the first word holds after the last.
-  pub walk_goes : (names : Names) (walk : Walk) (words : List Text) → walk_fault s names walk words ≡ [] → Stands walk → Stands (fold (walked s.rules names) walk words)
+  pub walk_goes : (names : Names) (walk : Walk) (words : List Text) → walk_fault s names walk words ≡ [] → Stands walk
+      → Stands (fold (walked s.rules names) walk words)
   unfolding walk_fault walked
   walk_goes names walk [] none h = h
   walk_goes names walk (word ∷ rest) none h =
@@ -275,7 +328,9 @@ module _ (s : Shape) where
     where
       go : (o : Option (Text × List Text)) → walk.stopped ≡ o
           → (let met = word_met s.rules names walk.is_trailing walk.waiting walk.position word walk.held in
-          cond (is_some o) [] (or_else (word_fault s names walk.is_trailing walk.waiting word walk.held) (step_fault s walk.position met.0 met.1))) ≡ []
+          cond (is_some o) []
+          (or_else (word_fault s names walk.is_trailing walk.waiting word walk.held)
+          (step_fault s walk.position met.0 met.1))) ≡ []
           → Stands (walked_from s.rules names o walk word)
       go (Some p) is none = (h.0, rw is at h.1)
       go None is none =
@@ -285,16 +340,20 @@ module _ (s : Shape) where
 
 -- ---- after the walk
 
-defaults_pass : (rules : List Rule) (rows : List Row) → list_all is_plain_rule rules ≡ true → fold with_default rows rules ≡ rows
+defaults_pass : (rules : List Rule) (rows : List Row) → list_all is_plain_rule rules ≡ true
+    → fold with_default rows rules ≡ rows
 defaults_pass [] rows all = refl
 defaults_pass (a ∷ rest) rows all =
     let parts = both (is_plain_rule a) _ all in
-    ap (λ r. fold with_default r rest) (go a.defaults (has_row a.id rows) (both (is_empty a.defaults) _ parts.0).0) ∙ defaults_pass rest rows parts.1
+    ap (λ r. fold with_default r rest) (go a.defaults (has_row a.id rows) (both (is_empty a.defaults) _ parts.0).0)
+    ∙ defaults_pass rest rows parts.1
   where
-    go : (ds : List Text) (b : Bool) → is_empty ds ≡ true → cond b rows (default_rows a.id (reading_by a) ds rows) ≡ rows
+    go : (ds : List Text) (b : Bool) → is_empty ds ≡ true
+        → cond b rows (default_rows a.id (reading_by a) ds rows) ≡ rows
     go ds b empty = grind (arith, empty)
 
-last_check : (wants_help wants_subcommand wants_argument : Bool) → check_kinds wants_help wants_subcommand wants_argument ≡ [] → wants_argument ≡ false
+last_check : (wants_help wants_subcommand wants_argument : Bool)
+    → check_kinds wants_help wants_subcommand wants_argument ≡ [] → wants_argument ≡ false
 last_check wants_help wants_subcommand wants_argument none = grind arith
 
 -- a level of a command with no subcommand, of which nothing is wrong

@@ -1,7 +1,6 @@
 -- Commands as they are put together.
-use Rattle.std.specs.Prelude.{◌≡◌, ℕ, pos, true, false, List, [], ◌∷◌, ◌++◌, Some}
+use Rattle.std.specs.Prelude.{◌≡◌, ℕ, pos, true, false, List, [], ◌∷◌, Some}
 use Rattle.clap.specs.Words.{App, Rule, Text, app_of, new_rule, with_rule}
-use Rattle.clap.specs.Simple.{filled_from, help_rule}
 use Rattle.clap.specs.Lexer.{usize_max}
 use Rattle.clap.specs.declared.builder.command.Command.TheViews.{out-Command}
 use Rattle.clap.specs.declared.builder.command.Command.{Command}
@@ -32,10 +31,6 @@ with_rules a (r ∷ rs) = with_rules (with_rule a r) rs
 -- One of the subcommands is wanted.
 abbrev pub wanting : App → App
 wanting a = record a { top = record a.top { subcommand_required = true } }
-
--- The arguments of a tool as `clap` builds them, with the flag for help.
-abbrev pub rules_of : App → List Rule
-rules_of tool = filled_from 1 (tool.top.rules ++ help_rule ∷ [])
 
 -- The command is this one, and none of its arguments goes to its subcommands.
 pub record IsCommand (c : Command) (app : App) : Type 0 where

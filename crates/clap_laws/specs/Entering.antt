@@ -47,7 +47,8 @@ pub record Enters (a : App) (words : List Text) : Type 0 where
 
 -- Where a program wants a subcommand and takes the words, they enter one.
 abbrev pub WordsEnter : Type 0
-WordsEnter = (a : App) (words : List Text) → (built a).top.subcommand_required ≡ true → fault_of a words ≡ [] → Enters a words
+WordsEnter = (a : App) (words : List Text) → (built a).top.subcommand_required ≡ true → fault_of a words ≡ []
+    → Enters a words
 
 -- Where a level takes the words, each entry passed its rules, and what is required was given.
 abbrev pub LevelsPass : Type 0

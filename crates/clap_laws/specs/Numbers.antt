@@ -1,13 +1,8 @@
 -- The numbers that the words give.
-use Rattle.std.specs.Prelude.{◌<◌, ◌≤◌, ◌^◌, ◌&&◌, ℕ, Bool, pos, false, List, Option, None, Some, ⊤}
-use Rattle.std.specs.Option.{option_and_then, option_map, option_map_or}
-use Rattle.std.specs.Str.{bytes_eq}
+use Rattle.std.specs.Prelude.{ℕ, List, Option}
+use Rattle.std.specs.Option.{option_map}
 use Rattle.std.specs.Str.Parse.{digits_value, without_leading_plus}
-use Rattle.clap.specs.Facts.{parser_of_value}
-use Rattle.clap.specs.Walk.{arg_by_id}
-use Rattle.clap.specs.Words.{Row, Rule, Text, one_of}
-use Rattle.clap.specs.declared.builder.value_parser.ValueParser.{ValueParser}
-use Rattle.clap.specs.declared.builder.value_parser.ValueParser.TheVariants.{Signed}
+use Rattle.clap.specs.Words.{Row, Text, one_of}
 
 -- The number that a text writes in decimal digits, where a plus may stand first.
 abbrev pub decimal : Text → ℕ
@@ -16,24 +11,3 @@ decimal text = digits_value 10 (without_leading_plus text)
 -- The number that the words give for an argument, if they give one.
 abbrev pub number_of : Text → List Row → Option ℕ
 number_of id rows = option_map decimal (one_of id rows)
-
--- The least and the most that an argument's number may be.
-abbrev pub bounds_by : ValueParser → Option (ℕ × ℕ)
-bounds_by (Signed (pos least) (pos most)) = Some (least, most)
-bounds_by _ = None
-
-abbrev pub bounds_in : List Rule → Text → Option (ℕ × ℕ)
-bounds_in rules id = option_and_then (λ a. bounds_by (parser_of_value a.parser)) (arg_by_id rules id)
-
-abbrev pub IsWithin : Option (ℕ × ℕ) → ℕ → Type 0
-IsWithin None n = ⊤
-IsWithin (Some bounds) n = (bounds.0 ≤ n) × (n ≤ bounds.1)
-
--- The number is of 32 bits.
-abbrev pub FitsWord : Option (ℕ × ℕ) → Type 0
-FitsWord None = ⊥
-FitsWord (Some bounds) = bounds.1 < 2 ^ 32
-
--- The argument has to be given.
-abbrev pub is_needed : List Rule → Text → Bool
-is_needed rules id = option_map_or (λ a. a.required && bytes_eq a.id id) (arg_by_id rules id) false

@@ -1,4 +1,5 @@
-//! What holds of the words that a simple command of `clap` takes. Each function has an empty body, and its clause is the law.
+//! What holds of the words that a simple command of `clap` takes. Each function has an empty body, and its clause is
+//! the law.
 #![tactic(auto)]
 
 ghost use Rattle.clap_laws.specs.Entering.{LevelsPass, WordsEnter};
@@ -8,7 +9,8 @@ pub fn words_enter()
     ensures { WordsEnter }
 {}
 
-/// Where a command without subcommands takes words, each value passed its argument's rules, and what is required was given.
+/// Where a command without subcommands takes words, each value passed its argument's rules, and what is required was
+/// given.
 pub fn levels_pass()
     ensures { LevelsPass }
 {}

@@ -1,4 +1,5 @@
-//! Trials of the texts, the script, the links and the words of the tools, with rows from outside. There is nothing here but tests.
+//! Trials of the texts, the script, the links and the words of the tools, with rows from outside. There is nothing here
+//! but tests.
 #![tactic(auto)]
 
 #[cfg(test)]

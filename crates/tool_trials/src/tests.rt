@@ -14,14 +14,17 @@ use std::process::Abort;
 const LOCALHOST: u32 = 0x7f00_0001;
 
 /// 127.0.0.1:47808, which is asked.
-const P: Peer = Peer {
+const CONTROLLER: Peer = Peer {
     ip: LOCALHOST,
     port: 47_808,
     route: None,
 };
 
 /// 127.0.0.1:50000, which asks.
-const Q: Peer = Peer { port: 50_000, ..P };
+const OTHER: Peer = Peer {
+    port: 50_000,
+    ..CONTROLLER
+};
 
 /// The present value of analog-input 5, as it is answered.
 const VALUE: &[u8] =

@@ -1,4 +1,5 @@
-//! Calls of the client, and whole runs: a ReadProperty request for the present value of analog-input 5, and a device's answers to it.
+//! Calls of the client, and whole runs: a ReadProperty request for the present value of analog-input 5, and a device's
+//! answers to it.
 
 mod calls;
 mod notebook;

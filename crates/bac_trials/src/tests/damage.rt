@@ -1,4 +1,5 @@
-//! Each datagram cut, and with each octet behind the first two changed in all 255 ways, those of every length among them.
+//! Each datagram cut, and with each octet behind the first two changed in all 255 ways, those of every length among
+//! them.
 
 use crate::tests::datagrams::DATAGRAMS;
 use crate::tests::pdu::datagrams::carries;
@@ -30,8 +31,8 @@ fn is_taken(client: &mut Client, octets: &[u8]) -> bool {
     }
 }
 
-/// Whether a device takes the octets: its reply is a datagram with an APDU, or it is silent, with an empty frame, and as it was.
-/// Afterwards it is a fresh one.
+/// Whether a device takes the octets: its reply is a datagram with an APDU, or it is silent, with an empty frame, and
+/// as it was. Afterwards it is a fresh one.
 fn is_answered(device: &mut Device, octets: &[u8]) -> bool {
     let mut frame = Frame::new();
     if device.answer(ASKER, octets, &mut frame).is_none() {
@@ -44,8 +45,8 @@ fn is_answered(device: &mut Device, octets: &[u8]) -> bool {
     is_reply(frame.as_slice())
 }
 
-/// Whether the octets are a datagram with an APDU. A reply to a station behind a router is for another network, so that it is read
-/// without its destination.
+/// Whether the octets are a datagram with an APDU. A reply to a station behind a router is for another network, so that
+/// it is read without its destination.
 fn is_reply(octets: &[u8]) -> bool {
     match octets {
         [0x81, 0x0a, _, _, 0x01, 0x00, apdu @ ..] => read_apdu(apdu).is_some(),
@@ -57,8 +58,8 @@ fn is_reply(octets: &[u8]) -> bool {
     }
 }
 
-/// Whether the octets are taken with the octet at this place changed in each way. With another length in the link header, octets 2
-/// and 3, they are ignored.
+/// Whether the octets are taken with the octet at this place changed in each way. With another length in the link
+/// header, octets 2 and 3, they are ignored.
 fn is_tolerated(client: &mut Client, device: &mut Device, datagram: &mut [u8], at: usize) -> bool {
     let Some(octet) = datagram.get(at).copied() else {
         return false;
@@ -85,8 +86,8 @@ fn has_own_length(datagram: &[u8]) -> bool {
     }
 }
 
-/// Whether reader, client and device take the datagram however it is cut or damaged. Every proper front, with its old length, is
-/// ignored.
+/// Whether reader, client and device take the datagram however it is cut or damaged. Every proper front, with its old
+/// length, is ignored.
 fn is_survived(datagram: &mut [u8]) -> bool {
     let Some(mut device) = small_device() else {
         return false;

@@ -1,5 +1,5 @@
-//! Every part of every datagram goes through the readers of tags, values and regions, also with octets changed. The counts that
-//! are expected come from `oracle/count.py`, a reader of the same grammar that was written apart.
+//! Every part of every datagram goes through the readers of tags, values and regions, also with octets changed. The
+//! counts that are expected come from `oracle/count.py`, a reader of the same grammar that was written apart.
 
 use crate::tests::datagrams::DATAGRAMS;
 use crate::tests::octets;
@@ -8,8 +8,8 @@ use bac_wire::{Shape, read_tag, read_value, region};
 /// The octets that each octet is changed to: the edges of a length, and octets that begin tags.
 static CHANGES: [u8; 8] = [0x00, 0x05, 0x0e, 0x3f, 0x65, 0xfd, 0xfe, 0xff];
 
-/// What stands at the front of parts: how many there are; their tags, with the sums of numbers, counts and octets; their values, with their
-/// octets; and their regions, with theirs.
+/// What stands at the front of parts: how many there are; their tags, with the sums of numbers, counts and octets;
+/// their values, with their octets; and their regions, with theirs.
 type Tally = [u64; 9];
 
 fn tag_at(part: &[u8]) -> [u64; 4] {

@@ -81,7 +81,8 @@ fn tags(rt: HostRuntime) {
     assert!(&rt; frame.as_slice() == [0xf9, 0x14].as_slice());
 }
 
-/// Octets, how many of them stand before the closing tag 3 that ends the whole items at their front, and whether they are whole items.
+/// Octets, how many of them stand before the closing tag 3 that ends the whole items at their front, and whether they
+/// are whole items.
 static REGIONS: [(&str, Option<usize>, bool); 8] = [
     ("3f", Some(0), false),
     ("003f", Some(1), false),
@@ -93,7 +94,8 @@ static REGIONS: [(&str, Option<usize>, bool); 8] = [
     ("0e3f", None, false),
 ];
 
-/// Whether so many brackets inside one another are whole items, and how many octets stand before a closing tag 3 behind them.
+/// Whether so many brackets inside one another are whole items, and how many octets stand before a closing tag 3 behind
+/// them.
 fn ends_nested(depth: usize) -> (bool, Option<usize>) {
     let mut frame = nested(b"", depth);
     let is_whole = is_region(frame.as_slice());

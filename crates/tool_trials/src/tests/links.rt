@@ -7,7 +7,7 @@ mod requests;
 mod sockets;
 mod watching;
 
-use crate::tests::{I_AM, P, Q, VALUE, WHO_IS, is_text};
+use crate::tests::{CONTROLLER, I_AM, OTHER, VALUE, WHO_IS, is_text};
 use arrayvec::ArrayVec;
 use bac_device::{Device, DeviceInfo, demo};
 use bac_links::{
@@ -25,12 +25,12 @@ const BODY: &[u8] = b"\x0c\x00\x00\x00\x05\x19\x55";
 
 const ASK: &[u8] = b"\x81\x0a\x00\x11\x01\x04\x00\x05\x01\x0c\x0c\x00\x00\x00\x05\x19\x55";
 
-/// A call of P with this body.
+/// A call of CONTROLLER with this body.
 fn call_of(timeout: u32, retries: u8, body: &[u8]) -> Call {
     let mut kept = ArrayVec::new();
     let _ = kept.try_extend_from_slice(body);
     Call {
-        to: P,
+        to: CONTROLLER,
         timeout,
         retries,
         port: 0,
@@ -38,9 +38,9 @@ fn call_of(timeout: u32, retries: u8, body: &[u8]) -> Call {
     }
 }
 
-/// A search of P for all devices.
+/// A search of CONTROLLER for all devices.
 const SEARCH: Search = Search {
-    to: P,
+    to: CONTROLLER,
     timeout: 3_000,
     port: 0,
     who: WhoIs::All,
@@ -87,7 +87,7 @@ fn ends(alloc: Global, job: Job<'_>, steps: &[Step<'_>], fail: Option<u32>, end:
     };
     let mut room = [0xff; 96];
     let got = run_job(job, &mut link, room.as_mut_slice());
-    got == end.0 && is_text(&room, end.1) && has_sent(&link, P, end.2)
+    got == end.0 && is_text(&room, end.1) && has_sent(&link, CONTROLLER, end.2)
 }
 
 /// The steps of a link on which nothing comes until all turns are spent.

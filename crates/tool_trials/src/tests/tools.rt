@@ -10,7 +10,8 @@ use bac_tools::{Binding, Network, Report, run_words};
 use std::alloc::Global;
 use std::cell::Cell;
 
-/// Gives links of these steps to whoever asks for this port of every address, and what becomes of a refused reply so. Counts who asks.
+/// Gives links of these steps to whoever asks for this port of every address, and what becomes of a refused reply so.
+/// Counts who asks.
 #[derive(Clone, Copy)]
 struct Rehearsal<'a, 'c> {
     alloc: Global,
@@ -22,12 +23,16 @@ struct Rehearsal<'a, 'c> {
 impl Network for Rehearsal<'_, '_> {
     type Socket = MemoryLink;
 
-    ghost gives = { λ network binding socket. IfOk socket (λ link. told_of link ≡ told_by (map scene_of_step network.steps.now) 0 []) };
+    ghost gives = { λ network binding socket.
+        IfOk socket (λ link. told_of link ≡ told_by (map scene_of_step network.steps.now) 0 []) };
 
     fn bind(self, binding: Binding) -> Result<MemoryLink, LinkFault> {
         self.asked.set(self.asked.get().saturating_add(1));
         let (port, refused) = self.at;
-        let any = Peer { ip: 0, ..P };
+        let any = Peer {
+            ip: 0,
+            ..CONTROLLER
+        };
         if binding.at != (Peer { port, ..any }) || binding.refused != refused {
             return Err(LinkFault);
         }
@@ -106,7 +111,8 @@ static ASKED: [Row<'static>; 3] = [
     (SERVE, (47_808, Refused::Fails), UNBOUND),
 ];
 
-/// Sees that the lines end so over a network of these steps, and that one socket is asked for, and none for a script or without a job.
+/// Sees that the lines end so over a network of these steps, and that one socket is asked for, and none for a script or
+/// without a job.
 fn all_run<'a, H: Abort + AllocGlobal>(rt: &H, steps: &'a [Step<'a>], rows: &[Row<'_>]) {
     for (line, at, end) in rows {
         let (alloc, at) = (rt.alloc(), *at);
@@ -126,9 +132,12 @@ fn all_run<'a, H: Abort + AllocGlobal>(rt: &H, steps: &'a [Step<'a>], rows: &[Ro
 
 #[test]
 fn words_are_run(rt: HostRuntime) {
-    all_run(&rt, &[Step::Packet(5, P, VALUE)], &ANSWERED);
-    all_run(&rt, &[Step::Packet(5, P, I_AM)], &FOUND);
-    let asked = [Step::Packet(0, Q, WHO_IS), Step::Packet(0, Q, b"\x00")];
+    all_run(&rt, &[Step::Packet(5, CONTROLLER, VALUE)], &ANSWERED);
+    all_run(&rt, &[Step::Packet(5, CONTROLLER, I_AM)], &FOUND);
+    let asked = [
+        Step::Packet(0, OTHER, WHO_IS),
+        Step::Packet(0, OTHER, b"\x00"),
+    ];
     all_run(&rt, &asked, &ASKED);
     let broken = [(READ_AT_9, (9, Refused::Fails), ("", 3, "receiving failed"))];
     all_run(&rt, &[Step::Broken], &broken);

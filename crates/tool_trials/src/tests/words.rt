@@ -4,7 +4,7 @@ mod calls;
 mod others;
 mod refusals;
 
-use crate::tests::{LOCALHOST, P, Q, are_digits};
+use crate::tests::{CONTROLLER, LOCALHOST, OTHER, are_digits};
 use bac_text::Call;
 use bac_words::{Job, UsageFault, parse_words};
 use std::alloc::Global;

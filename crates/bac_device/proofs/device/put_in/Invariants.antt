@@ -1,6 +1,9 @@
 use Rattle.std.proofs.Common.{◌≡◌, ◌++◌, map, take, drop}
-use Rattle.bac_device.specs.Places.{put, write_seen}
+use Rattle.bac_device.specs.Places.{put}
+use Rattle.bac_device.specs.Inner.Places.{write_seen}
 use Rattle.bac_device.proofs.device.put_in.Given as goal
 
 abbrev pub invariant-loop-point : goal.invariant-loop-point
-invariant-loop-point l = l.points ≡ map (put (write_seen l.write)) (take l.point-index l.initial.points) ++ drop l.point-index l.initial.points
+invariant-loop-point l =
+    l.points ≡ map (put (write_seen l.write)) (take l.point-index l.initial.points)
+    ++ drop l.point-index l.initial.points

@@ -5,19 +5,22 @@ use Rattle.std.proofs.lemmas.List.{take_more}
 use Rattle.std.proofs.lemmas.List.Folds.{length-flat_map-take}
 use Rattle.std.proofs.lemmas.Option.{none-some, slice_get_within, slice_get-get_or, get_or_from_slice_get}
 use Rattle.bac_wire.specs.Datum.{Datum, null, plain}
-use Rattle.bac_device.specs.Property.{property_seen}
+use Rattle.bac_device.specs.Inner.Property.{property_seen}
 use Rattle.bac_device.proofs.property.append_region.Goals as goal
 
 -- One value more, and its octets among all.
 one_more : (values : List Datum) (i : ℕ) (value : Datum) → Some value ≡ slice_get values i →
-    (take (i + 1) values ≡ take i values ++ value ∷ []) × (length (flat_map plain (take i values)) + length (plain value) ≤ length (flat_map plain values))
+    (take (i + 1) values ≡ take i values ++ value ∷ [])
+    × (length (flat_map plain (take i values)) + length (plain value) ≤ length (flat_map plain values))
 one_more values i value read =
     let within = slice_get_within values i value (sym read) in
     let here = get_or_from_slice_get values i value value (sym read) in
     (rw here at (take_more values i value within), rw here at (length-flat_map-take plain values i value within))
 
 pub unreachable-requires : goal.unreachable-requires
-unreachable-requires c = none-some _ (c.in-None.ensures.value ∙ slice_get-get_or (property_seen c.args.property.now).values c.loop-place.place null (omega arith))
+unreachable-requires c =
+    none-some _ (c.in-None.ensures.value
+    ∙ slice_get-get_or (property_seen c.args.property.now).values c.loop-place.place null (omega arith))
 
 pub returns-in_err-write_value-in-Some-clause-full : goal.returns-in_err-write_value-in-Some-clause-full
 returns-in_err-write_value-in-Some-clause-full c =

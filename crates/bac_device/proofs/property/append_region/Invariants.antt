@@ -1,7 +1,7 @@
 use Rattle.std.proofs.Common.{◌≡◌, ◌++◌, take}
 use Rattle.std.specs.List.{flat_map}
 use Rattle.bac_wire.specs.Datum.{plain}
-use Rattle.bac_device.specs.Property.{property_seen}
+use Rattle.bac_device.specs.Inner.Property.{property_seen}
 use Rattle.bac_device.proofs.property.append_region.Given as goal
 
 abbrev pub invariant-loop-place : goal.invariant-loop-place

@@ -9,17 +9,30 @@ use Rattle.bac_links.proofs.call.begin.Goals as goal
 pub unwrap-ticket-requires : goal.unwrap-ticket-requires
 unwrap-ticket-requires g c =
     let short = rw c.as_slice.ensures.value at c.as_slice.ensures.fits in
-    let answer = rw (c.tick.ensures.1, c.new-client.ensures, c.service.ensures, c.as_slice.ensures.value, submitted_is c.args.tool c.args.call.now c.now.result short) at c.submit.ensures.0 in
+    let answer = rw (
+      c.tick.ensures.1,
+      c.new-client.ensures,
+      c.service.ensures,
+      c.as_slice.ensures.value,
+      submitted_is c.args.purpose c.args.call.now c.now.result short,
+    ) at c.submit.ensures.0 in
     rw answer refl
 
 pub returns-clause-ok : goal.returns-clause-ok
 returns-clause-ok g c =
     let short = rw c.as_slice.ensures.value at c.as_slice.ensures.fits in
-    let answer = rw (c.tick.ensures.1, c.new-client.ensures, c.service.ensures, c.as_slice.ensures.value, submitted_is c.args.tool c.args.call.now c.now.result short) at c.submit.ensures.0 in
+    let answer = rw (
+      c.tick.ensures.1,
+      c.new-client.ensures,
+      c.service.ensures,
+      c.as_slice.ensures.value,
+      submitted_is c.args.purpose c.args.call.now c.now.result short,
+    ) at c.submit.ensures.0 in
     let first : c.unwrap-ticket.result ≡ 0 = cc in
-    let client = rw (c.tick.ensures.1, c.new-client.ensures, c.service.ensures, c.as_slice.ensures.value) at c.submit.ensures.1 in
+    let client = rw (c.tick.ensures.1, c.new-client.ensures, c.service.ensures, c.as_slice.ensures.value) at
+    c.submit.ensures.1 in
     let sends = rw first at c.in_ok-send_request.ensures.ok in
-    begun_over c.args.tool c.args.call.now _ _ c.now.result short c.submit.new.self client
+    begun_over c.args.purpose c.args.call.now _ _ c.now.result short c.submit.new.self client
     (gains_both (Timed c.now.result ∷ []) _ _ _ _ c.now.ensures.told sends)
 
 pub returns-in_err-send_request-clause-err : goal.returns-in_err-send_request-clause-err
@@ -27,12 +40,19 @@ returns-in_err-send_request-clause-err g c =
     let p = err_from_is_err_and c.from_residual.result c.from_residual.ensures.1 in
     let failed = c.in_err-send_request.ensures.err in
     let short = rw c.as_slice.ensures.value at c.as_slice.ensures.fits in
-    let answer = rw (c.tick.ensures.1, c.new-client.ensures, c.service.ensures, c.as_slice.ensures.value, submitted_is c.args.tool c.args.call.now c.now.result short) at c.submit.ensures.0 in
+    let answer = rw (
+      c.tick.ensures.1,
+      c.new-client.ensures,
+      c.service.ensures,
+      c.as_slice.ensures.value,
+      submitted_is c.args.purpose c.args.call.now c.now.result short,
+    ) at c.submit.ensures.0 in
     let first : c.unwrap-ticket.result ≡ 0 = cc in
-    let client = rw (c.tick.ensures.1, c.new-client.ensures, c.service.ensures, c.as_slice.ensures.value) at c.submit.ensures.1 in
+    let client = rw (c.tick.ensures.1, c.new-client.ensures, c.service.ensures, c.as_slice.ensures.value) at
+    c.submit.ensures.1 in
     let lost = rw first at failed.1 in
     rw (p.1, p.2) (
       failed.0,
-      unbegun_over c.args.tool c.args.call.now _ _ c.now.result short c.submit.new.self client
+      unbegun_over c.args.purpose c.args.call.now _ _ c.now.result short c.submit.new.self client
           (lost.0, lost.1, lost.2, gains_both (Timed c.now.result ∷ []) _ _ _ _ c.now.ensures.told lost.3),
     )

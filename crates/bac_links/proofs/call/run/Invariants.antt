@@ -1,11 +1,12 @@
 use Rattle.std.proofs.Common.{◌≡◌, false}
 use Rattle.bac_links.specs.History.{Over}
-use Rattle.bac_links.specs.CallSteps.{Underway}
+use Rattle.bac_links.specs.Inner.CallSteps.{Underway}
 use Rattle.bac_links.proofs.call.run.Given as goal
 
 abbrev pub invariant-loop-turn : goal.invariant-loop-turn
 invariant-loop-turn g l = record {
   sound : g.L.Link.has_failed l.link ≡ false;
   unwritten : l.writer ≡ l.fn.writer;
-  so_far : Over (g.L.Link.told l.fn.link) (g.L.Link.told l.link) (λ gained t. Underway l.fn.tool l.fn.call t gained l.client l._turn);
+  so_far : Over (g.L.Link.told l.fn.link) (g.L.Link.told l.link)
+      (λ gained t. Underway l.fn.purpose l.fn.call t gained l.client l._turn);
 }

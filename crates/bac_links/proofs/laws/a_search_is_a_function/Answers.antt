@@ -2,4 +2,4 @@ use Rattle.bac_links.proofs.SearchesAlike.{searches_alike}
 use Rattle.bac_links.proofs.laws.a_search_is_a_function.Goals as goal
 
 pub returns : goal.returns
-returns g c = λ search. searches_alike g.W.Write.contents search
+returns g c = λ search. searches_alike g.V.Write.contents g.W.Write.contents search

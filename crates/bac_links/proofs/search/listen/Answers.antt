@@ -4,13 +4,18 @@ use Rattle.std.proofs.lemmas.Result.{err_from_is_err_and}
 use Rattle.bac_text.proofs.Known.{Took-none}
 use Rattle.bac_pdu.specs.Peer.{station}
 use Rattle.bac_links.specs.Told.{Arrival}
-use Rattle.bac_links.specs.Search.{found_seen}
+use Rattle.bac_links.specs.Inner.Search.{found_seen}
 use Rattle.bac_links.proofs.search.listen.Goals as goal
 
 pub returns-in_ok-show_found-in-Some-clause-told : goal.returns-in_ok-show_found-in-Some-clause-told
 returns-in_ok-show_found-in-Some-clause-told g c =
-    let gains = rw (c.in-Ok-Some.field-0-is, ← c.as_slice.ensures.value) at c.in-Ok-Some.ensures.told in
-    (Arrival (station c.in-Ok-Some.from) c.as_slice.result.now, gains, (λ q. cc), rw (← c.in-Some.ensures) refl, rw (← c.in-Some.ensures, append-nil) c.in_ok-show_found-in-Some.ensures.text)
+    let gains = rw (c.in-Ok-Some.field-0-is, ← c.as_slice.ensures.value) at c.in-Ok-Some.ensures.told in (
+      Arrival (station c.in-Ok-Some.from) c.as_slice.result.now,
+      gains,
+      (λ q. cc),
+      rw (← c.in-Some.ensures) refl,
+      rw (← c.in-Some.ensures, append-nil) c.in_ok-show_found-in-Some.ensures.text,
+    )
 
 pub returns-in_err-show_found-in-Some-clause-told : goal.returns-in_err-show_found-in-Some-clause-told
 returns-in_err-show_found-in-Some-clause-told g c =
@@ -30,5 +35,10 @@ returns-in_err-show_found-in-Some-clause-told g c =
 
 pub returns-in-None-clause-told : goal.returns-in-None-clause-told
 returns-in-None-clause-told g c =
-    let gains = rw (c.in-Ok-Some.field-0-is, ← c.as_slice.ensures.value) at c.in-Ok-Some.ensures.told in
-    (Arrival (station c.in-Ok-Some.from) c.as_slice.result.now, gains, (λ q. cc), rw (← c.in-None.ensures) refl, rw (← c.in-None.ensures) (Took-none _))
+    let gains = rw (c.in-Ok-Some.field-0-is, ← c.as_slice.ensures.value) at c.in-Ok-Some.ensures.told in (
+      Arrival (station c.in-Ok-Some.from) c.as_slice.result.now,
+      gains,
+      (λ q. cc),
+      rw (← c.in-None.ensures) refl,
+      rw (← c.in-None.ensures) (Took-none _),
+    )

@@ -7,34 +7,41 @@ use Rattle.bac_links.proofs.search.run_whois.Goals as goal
 pub returns-in_err-ask-clause-told : goal.returns-in_err-ask-clause-told
 returns-in_err-ask-clause-told g c =
     let p = err_from_is_err_and c.from_residual.result c.from_residual.ensures.1 in
-    rw (p.1, p.2, c.in_err-ask.ensures.err) (Took-none _, unbegun c.args.search.now _ _ _ c.now-first.result c.now-first.ensures.told c.in_err-ask.ensures.told)
+    rw (p.1, p.2, c.in_err-ask.ensures.err) (
+      Took-none _,
+      unbegun c.args.search.now _ _ _ c.now-first.result c.now-first.ensures.told c.in_err-ask.ensures.told,
+    )
 
 pub loop-turn-init : goal.loop-turn-init
 loop-turn-init g c = record {
   sound = c.in_ok-ask.ensures.fault;
   unfailed = c.requires.writer;
   later = omega arith;
-  goes = begun c.args.search.now _ _ _ _ _ c.now-first.result c.requires.timeout c.now-first.ensures.told c.in_ok-ask.ensures.told;
+  goes = begun c.args.search.now _ _ _ _ _ c.now-first.result c.requires.timeout c.now-first.ensures.told
+      c.in_ok-ask.ensures.told;
 }
 
 pub returns-in_err-any-clause-told : goal.returns-in_err-any-clause-told
 returns-in_err-any-clause-told g c =
     let p = err_from_is_err_and c.from_residual-in_err-any.result c.from_residual-in_err-any.ensures.1 in
     rw (p.1, p.2)
-    (fails c.args.search.now _ _ _ _ _ _ _ _ _ _ _ c.loop-turn.invariant.goes _ _ c.turn_wait-wait_ms.ensures (rw c.most_turns-turn-end.ensures at c.loop-turn-test.true) c.in_err-any.ensures.told)
+    (fails c.args.search.now _ _ _ _ _ _ _ _ _ _ _ c.loop-turn.invariant.goes _ _ c.turn_wait-wait_ms.ensures
+    (rw c.most_turns-turn-end.ensures at c.loop-turn-test.true) c.in_err-any.ensures.told)
 
 pub returns-then-any-clause-told : goal.returns-then-any-clause-told
 returns-then-any-clause-told g c =
     let told = rw c.turn_wait-wait_ms.ensures at c.in_ok-any.ensures.told in
     let over = rw (c.from.ensures, c.max-greatest.ensures) at c.if-greatest-first.true in
-    let all = ended c.args.search.now _ _ _ _ _ _ _ _ _ _ _ c.loop-turn.invariant.goes _ told _ _ c.now.ensures.told (rw c.most_turns-turn-end.ensures at c.loop-turn-test.true) over in
+    let all = ended c.args.search.now _ _ _ _ _ _ _ _ _ _ _ c.loop-turn.invariant.goes _ told _ _ c.now.ensures.told
+    (rw c.most_turns-turn-end.ensures at c.loop-turn-test.true) over in
     (all.0, rw (← all.1, c.if-any.true) refl, all.2, all.3)
 
 pub returns-else-any-clause-told : goal.returns-else-any-clause-told
 returns-else-any-clause-told g c =
     let told = rw c.turn_wait-wait_ms.ensures at c.in_ok-any.ensures.told in
     let over = rw (c.from.ensures, c.max-greatest.ensures) at c.if-greatest-first.true in
-    let all = ended c.args.search.now _ _ _ _ _ _ _ _ _ _ _ c.loop-turn.invariant.goes _ told _ _ c.now.ensures.told (rw c.most_turns-turn-end.ensures at c.loop-turn-test.true) over in
+    let all = ended c.args.search.now _ _ _ _ _ _ _ _ _ _ _ c.loop-turn.invariant.goes _ told _ _ c.now.ensures.told
+    (rw c.most_turns-turn-end.ensures at c.loop-turn-test.true) over in
     (all.0, rw (← all.1, c.if-any.false) refl, all.2, all.3)
 
 pub loop-turn-preserved : goal.loop-turn-preserved
@@ -47,8 +54,10 @@ loop-turn-preserved g c =
       later = omega (arith, c.loop-turn.invariant.later, c.max-greatest.ensures);
       goes =
           rw (c.max-greatest.ensures, add-one)
-          (goes_on c.args.search.now _ _ _ _ _ _ _ _ _ _ _ c.loop-turn.invariant.goes _ told _ _ c.now.ensures.told in_time);
+          (goes_on c.args.search.now _ _ _ _ _ _ _ _ _ _ _ c.loop-turn.invariant.goes _ told _ _ c.now.ensures.told
+          in_time);
     }
 
 pub returns-clause-told : goal.returns-clause-told
-returns-clause-told g c = spent c.args.search.now _ _ _ _ _ _ _ _ c.loop-turn._turn (omega arith) c.loop-turn.invariant.goes
+returns-clause-told g c =
+    spent c.args.search.now _ _ _ _ _ _ _ _ c.loop-turn._turn (omega arith) c.loop-turn.invariant.goes

@@ -6,16 +6,30 @@ use Rattle.bac_pdu.proofs.ShortestLaws.{i_am_shortest}
 use Rattle.bac_pdu.proofs.discovery.append_introduction.Goals as goal
 
 pub returns-in_err-write_value-clause-appended : goal.returns-in_err-write_value-clause-appended
-returns-in_err-write_value-clause-appended c = stops _ c.from_residual.ensures.0 (front c.in_err-write_value.ensures.appended)
+returns-in_err-write_value-clause-appended c =
+    stops _ c.from_residual.ensures.0 (front c.in_err-write_value.ensures.appended)
 
 pub returns-in_err-write_value-2-clause-appended : goal.returns-in_err-write_value-2-clause-appended
-returns-in_err-write_value-2-clause-appended c = then_appends (front c.in_ok-write_value.ensures.appended) (stops _ c.from_residual-in_err-write_value-2.ensures.0 (front c.in_err-write_value-2.ensures.appended))
+returns-in_err-write_value-2-clause-appended c =
+    then_appends (front c.in_ok-write_value.ensures.appended)
+    (stops _ c.from_residual-in_err-write_value-2.ensures.0 (front c.in_err-write_value-2.ensures.appended))
 
 pub returns-in_err-write_value-3-clause-appended : goal.returns-in_err-write_value-3-clause-appended
-returns-in_err-write_value-3-clause-appended c = then_appends (front c.in_ok-write_value.ensures.appended) (then_appends (front c.in_ok-write_value-2.ensures.appended) (stops _ c.from_residual-in_err-write_value-3.ensures.0 (front c.in_err-write_value-3.ensures.appended)))
+returns-in_err-write_value-3-clause-appended c =
+    then_appends (front c.in_ok-write_value.ensures.appended)
+    (then_appends (front c.in_ok-write_value-2.ensures.appended)
+    (stops _ c.from_residual-in_err-write_value-3.ensures.0 (front c.in_err-write_value-3.ensures.appended)))
 
 pub returns-clause-appended : goal.returns-clause-appended
-returns-clause-appended c = then_appends (front c.in_ok-write_value.ensures.appended) (then_appends (front c.in_ok-write_value-2.ensures.appended) (then_appends (front c.in_ok-write_value-3.ensures.appended) (written_as (sym (append-nil _)) (front c.write_value-4.ensures.appended))))
+returns-clause-appended c =
+    then_appends (front c.in_ok-write_value.ensures.appended)
+    (then_appends (front c.in_ok-write_value-2.ensures.appended)
+    (then_appends (front c.in_ok-write_value-3.ensures.appended)
+    (written_as (sym (append-nil _)) (front c.write_value-4.ensures.appended))))
 
 pub returns-clause-shortest : goal.returns-clause-shortest
-returns-clause-shortest c = on_ok_weaker c.write_value-4.result (λ vendor. i_am_shortest (introduction c.args.i_am.now) c.requires c.in_ok-write_value.ensures.shortest c.in_ok-write_value-2.ensures.shortest c.in_ok-write_value-3.ensures.shortest vendor) c.write_value-4.ensures.shortest
+returns-clause-shortest c =
+    on_ok_weaker c.write_value-4.result
+    (λ vendor. i_am_shortest (introduction c.args.i_am.now) c.requires c.in_ok-write_value.ensures.shortest
+    c.in_ok-write_value-2.ensures.shortest c.in_ok-write_value-3.ensures.shortest vendor)
+    c.write_value-4.ensures.shortest

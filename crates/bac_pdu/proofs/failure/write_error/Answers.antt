@@ -5,16 +5,33 @@ use Rattle.bac_pdu.proofs.ShortestLaws.{error_shortest, error_is_back}
 use Rattle.bac_pdu.proofs.failure.write_error.Goals as goal
 
 pub returns-in_err-write_value-clause-appended : goal.returns-in_err-write_value-clause-appended
-returns-in_err-write_value-clause-appended c = stops_whole _ c.from_residual.ensures.0 c.in_err-write_value.ensures.appended
+returns-in_err-write_value-clause-appended c =
+    stops_whole _ c.from_residual.ensures.0 c.in_err-write_value.ensures.appended
 
 pub whole_or_nothing-requires : goal.whole_or_nothing-requires
-whole_or_nothing-requires c = omega (arith, (front c.in_ok-write_value.ensures.appended).long, (front c.write_value-appended.ensures.appended).long)
+whole_or_nothing-requires c =
+    omega (
+      arith,
+      (front c.in_ok-write_value.ensures.appended).long,
+      (front c.write_value-appended.ensures.appended).long,
+    )
 
 pub returns-clause-appended : goal.returns-clause-appended
-returns-clause-appended c = c.whole_or_nothing.ensures.whole _ _ c.len-start.ensures.value (then_appends (front c.in_ok-write_value.ensures.appended) (written_as (sym (append-nil _)) (front c.write_value-appended.ensures.appended)))
+returns-clause-appended c =
+    c.whole_or_nothing.ensures.whole _ _ c.len-start.ensures.value
+    (then_appends (front c.in_ok-write_value.ensures.appended)
+    (written_as (sym (append-nil _)) (front c.write_value-appended.ensures.appended)))
 
 pub returns-clause-shortest : goal.returns-clause-shortest
-returns-clause-shortest c = rw c.whole_or_nothing.ensures.same (on_ok_weaker c.write_value-appended.result (λ again. error_shortest c.args.class c.args.code c.in_ok-write_value.ensures.shortest again) c.write_value-appended.ensures.shortest)
+returns-clause-shortest c =
+    rw c.whole_or_nothing.ensures.same
+    (on_ok_weaker c.write_value-appended.result
+    (λ again. error_shortest c.args.class c.args.code c.in_ok-write_value.ensures.shortest again)
+    c.write_value-appended.ensures.shortest)
 
 pub returns-clause-read_back : goal.returns-clause-read_back
-returns-clause-read_back c = rw c.whole_or_nothing.ensures.same (on_ok_weaker c.write_value-appended.result (λ again. error_is_back c.args.class c.args.code c.in_ok-write_value.ensures.shortest again) c.write_value-appended.ensures.shortest)
+returns-clause-read_back c =
+    rw c.whole_or_nothing.ensures.same
+    (on_ok_weaker c.write_value-appended.result
+    (λ again. error_is_back c.args.class c.args.code c.in_ok-write_value.ensures.shortest again)
+    c.write_value-appended.ensures.shortest)

@@ -5,7 +5,10 @@ pub returns-in_err-append_opening : goal.returns-in_err-append_opening
 returns-in_err-append_opening c = stops _ c.from_residual.ensures.0 (front c.in_err-append_opening.ensures)
 
 pub returns-in_err-append : goal.returns-in_err-append
-returns-in_err-append c = then_appends (front c.in_ok-append_opening.ensures) (stops _ c.from_residual-in_err-append.ensures.0 (front c.in_err-append.ensures))
+returns-in_err-append c =
+    then_appends (front c.in_ok-append_opening.ensures)
+    (stops _ c.from_residual-in_err-append.ensures.0 (front c.in_err-append.ensures))
 
 pub returns : goal.returns
-returns c = then_appends (front c.in_ok-append_opening.ensures) (then_appends (front c.in_ok-append.ensures) (front c.append_closing.ensures))
+returns c = then_appends (front c.in_ok-append_opening.ensures)
+    (then_appends (front c.in_ok-append.ensures) (front c.append_closing.ensures))

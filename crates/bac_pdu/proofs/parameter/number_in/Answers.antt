@@ -5,7 +5,8 @@ use Rattle.bac_pdu.proofs.parameter.number_in.Goals as goal
 
 pub overflow_cast-result : goal.overflow_cast-result
 overflow_cast-result c =
-    let below = big_from-lt 0 (length c.args.contents.now) c.args.contents.now (λ k. omega (arith, c.type_inv.contents k)) in
+    let below = big_from-lt 0 (length c.args.contents.now) c.args.contents.now
+    (λ k. omega (arith, c.type_inv.contents k)) in
     let short : length c.args.contents.now ≤ 4 = omega arith in
     let more : 256 ^ length c.args.contents.now ≤ 256 ^ 4 = pow-le-pow_right (omega arith) short in
     omega arith

@@ -4,7 +4,13 @@ use Rattle.bac_pdu.proofs.ShortestLaws.{read_back, read_shortest}
 use Rattle.bac_pdu.proofs.property.write_read.Goals as goal
 
 pub returns-clause-shortest : goal.returns-clause-shortest
-returns-clause-shortest c = rw c.whole_or_nothing.ensures.same (on_ok_weaker c.append_reference-appended.result (λ known. read_shortest (reference c.args.request.now) known) c.append_reference-appended.ensures.known)
+returns-clause-shortest c =
+    rw c.whole_or_nothing.ensures.same
+    (on_ok_weaker c.append_reference-appended.result (λ known. read_shortest (reference c.args.request.now) known)
+    c.append_reference-appended.ensures.known)
 
 pub returns-clause-read_back : goal.returns-clause-read_back
-returns-clause-read_back c = rw c.whole_or_nothing.ensures.same (on_ok_weaker c.append_reference-appended.result (λ known. read_back (reference c.args.request.now) known) c.append_reference-appended.ensures.known)
+returns-clause-read_back c =
+    rw c.whole_or_nothing.ensures.same
+    (on_ok_weaker c.append_reference-appended.result (λ known. read_back (reference c.args.request.now) known)
+    c.append_reference-appended.ensures.known)

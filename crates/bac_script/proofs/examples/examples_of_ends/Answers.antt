@@ -5,7 +5,8 @@ use Rattle.std.specs.Fmt.{digits}
 use Rattle.hex.specs.Hex.{decode_pairs, encode_with}
 use Rattle.bac_text.specs.ValueWords.{value_under}
 use Rattle.bac_text.specs.Values.{values_within}
-use Rattle.bac_wire.specs.Datum.{plain, tagged}
+use Rattle.bac_wire.specs.Datum.{plain}
+use Rattle.bac_wire.specs.Inner.Datum.{tagged}
 use Rattle.bac_wire.specs.Tag.{plain_tag}
 use Rattle.bac_wire.specs.DatumReading.{contents_of, value_at}
 use Rattle.bac_wire.specs.TagReading.{tag_number_at, long_length_at, length_at, shape_at, tag_at}
@@ -21,6 +22,18 @@ use Rattle.bac_tsm.specs.Answers.{answer_in_datagram, same_station, is_answer_to
 use Rattle.bac_script.proofs.examples.examples_of_ends.Goals as goal
 
 pub returns : goal.returns
-unfolding encode is_utf8 chars digits decode_pairs encode_with value_under values_within plain tagged plain_tag contents_of value_at tag_number_at long_length_at length_at shape_at tag_at kind_at context_at number_at object_at behind_opening enclosed_at behind_closing behind_items region_at plain_parameter wrapped address_at header_at link_at carried parts_at apdu_of ack_of reference_at next_number refusal_of answer_in_datagram same_station is_answer_to
+unfolding encode is_utf8 chars digits decode_pairs encode_with value_under values_within plain tagged plain_tag
+    contents_of value_at tag_number_at long_length_at length_at shape_at tag_at kind_at context_at number_at object_at
+    behind_opening enclosed_at behind_closing behind_items region_at plain_parameter wrapped address_at header_at
+    link_at carried parts_at apdu_of ack_of reference_at next_number refusal_of answer_in_datagram same_station
+    is_answer_to
 returns c =
-    record { empty = record { wrote = refl; answered = refl }; silent = record { wrote = refl; answered = refl }; bad = record { wrote = refl; answered = refl }; bad_at_once = record { wrote = refl; answered = refl }; too_long = record { wrote = refl; answered = refl }; without_feed = record { wrote = refl; answered = refl }; cut = record { wrote = refl; answered = refl } }
+    record {
+      empty = record { wrote = refl; answered = refl };
+      silent = record { wrote = refl; answered = refl };
+      bad = record { wrote = refl; answered = refl };
+      bad_at_once = record { wrote = refl; answered = refl };
+      too_long = record { wrote = refl; answered = refl };
+      without_feed = record { wrote = refl; answered = refl };
+      cut = record { wrote = refl; answered = refl };
+    }

@@ -6,4 +6,6 @@ use Rattle.bac_script.specs.Text.{notes_text}
 use Rattle.bac_script.proofs.notes.print_due.Given as goal
 
 abbrev pub invariant-loop-entry : goal.invariant-loop-entry
-invariant-loop-entry g l = Prints g.W.Write.contents l.fn.page l.page (notes_text (flat_map (due_notes l.client.state) (take l.entry-index l.due)))
+invariant-loop-entry g l =
+    Prints g.W.Write.contents l.fn.page l.page
+    (notes_text (flat_map (due_notes l.client.state) (take l.entry-index l.due)))

@@ -1,4 +1,5 @@
-use Rattle.std.proofs.Common.{◌≡◌, ℕ, true, List, [], ◌∷◌, length, Result, Ok, Err, IsTrue, refl, sym, ◌∙◌, ap, subst, arith, rules}
+use Rattle.std.proofs.Common.{◌≡◌, ℕ, true, List, [], ◌∷◌, length, Result, Ok, Err, IsTrue, refl, sym, ◌∙◌, ap, subst}
+use Rattle.std.proofs.Common.{arith, rules}
 use Rattle.std.specs.Prelude.{nat_lt}
 use Rattle.std.proofs.lemmas.Bool.Decides.{nat_tests}
 use Rattle.bac_wire.specs.Identifier.{identifier}
@@ -11,9 +12,9 @@ use Rattle.bac_text.proofs.Printed.{printed_as}
 use Rattle.bac_script.specs.declared.line.Line.{Line}
 use Rattle.bac_script.specs.declared.line.Line.TheVariants.{LongWrite}
 use Rattle.bac_script.specs.declared.long_write.LongWrite.{LongWrite as Write}
-use Rattle.bac_script.specs.LineSeen.{line_seen}
-use Rattle.bac_script.specs.LongBody.{octets_or_none, is_long}
-use Rattle.bac_script.specs.Running.{Stage, Ran, Stands, ran}
+use Rattle.bac_script.specs.Inner.LineSeen.{line_seen}
+use Rattle.bac_script.specs.Inner.LongBody.{octets_or_none, is_long}
+use Rattle.bac_script.specs.Inner.Running.{Stage, Ran, Stands, ran}
 use Rattle.bac_script.specs.Text.{notes_text}
 use Rattle.bac_script.proofs.running.run_line.Goals as goal
 
@@ -22,16 +23,20 @@ past (Err n) h = absurd (search rules)
 past (Ok body) h = grind (arith, nat_tests, h)
 
 -- The client refuses a request that is too long to be sent, and stays as it was.
-long_refused : (stage : Stage) (line : Line) (write : Write) → line ≡ LongWrite write → ran stage (line_seen line) ≡ record { text = notes_text (Refused TooLong ∷ []); after = stage }
+long_refused : (stage : Stage) (line : Line) (write : Write) → line ≡ LongWrite write
+    → ran stage (line_seen line) ≡ record { text = notes_text (Refused TooLong ∷ []); after = stage }
 unfolding refusal_of
 long_refused stage line write is =
     ap (λ (l : Line). ran stage (line_seen l)) is
-    ∙ rw (past (whole_body_of (identifier write.object) write.property write.index write.priority write.words) write.long) refl
+    ∙ rw (past (whole_body_of (identifier write.object) write.property write.index write.priority write.words)
+    write.long) refl
 
 pub returns-in-LongWrite-clause-stage : goal.returns-in-LongWrite-clause-stage
 returns-in-LongWrite-clause-stage g c stage stands =
-    subst (λ (r : Ran). Stands r.after c.args.client.now c.args.device.now) (sym (long_refused stage c.args.line c.in-LongWrite.field-0 c.in-LongWrite.is)) stands
+    subst (λ (r : Ran). Stands r.after c.args.client.now c.args.device.now)
+    (sym (long_refused stage c.args.line c.in-LongWrite.field-0 c.in-LongWrite.is)) stands
 
 pub returns-in-LongWrite-clause-text : goal.returns-in-LongWrite-clause-text
 returns-in-LongWrite-clause-text g c stage stands =
-    printed_as c.print_refusal.ensures (ap (λ (r : Ran). r.text) (sym (long_refused stage c.args.line c.in-LongWrite.field-0 c.in-LongWrite.is)))
+    printed_as c.print_refusal.ensures
+    (ap (λ (r : Ran). r.text) (sym (long_refused stage c.args.line c.in-LongWrite.field-0 c.in-LongWrite.is)))

@@ -1,14 +1,16 @@
 use Rattle.std.proofs.Common.{◌+◌, ◌*◌, ◌≤◌}
-use Rattle.bac_script.specs.Input.{may_come, most_reads}
-use Rattle.bac_script.specs.Limits.{chunk_room}
+use Rattle.bac_script.specs.Input.{most_reads}
+use Rattle.bac_script.specs.Inner.Input.{most_to_come}
+use Rattle.bac_script.specs.Inner.Limits.{chunk_room}
 use Rattle.bac_script.proofs.SoFar.{SoFar}
 use Rattle.bac_script.proofs.tracing.run_script.Given as goal
 
 abbrev pub invariant-loop-next : goal.invariant-loop-next
 invariant-loop-next g l = record {
-  so_far : SoFar g.R.Read.remaining g.W.Write.contents l.fn.reader l.reader l.chunk l.fn.page l.page l.lines l.is_first l.client l.device;
-  room : l.lines + may_come l.reader l.chunk ≤ chunk_room * most_reads;
+  so_far : SoFar g.R.Read.remaining g.W.Write.contents l.fn.reader l.reader l.chunk l.fn.page l.page l.lines l.is_first
+      l.client l.device;
+  room : l.lines + most_to_come l.reader l.chunk ≤ chunk_room * most_reads;
 }
 
 abbrev pub decreases-loop-next : goal.decreases-loop-next
-decreases-loop-next g l = may_come l.reader l.chunk
+decreases-loop-next g l = most_to_come l.reader l.chunk

@@ -9,4 +9,11 @@ use Rattle.bac_text.proofs.examples.examples_of_regions.Goals as goal
 pub returns : goal.returns
 unfolding digits encode_with values_within value_at contents_of tag_at shape_at length_at long_length_at tag_number_at
 returns c =
-    record { empty = refl; several = refl; longer_than_needed = refl; no_value = refl; escaped = refl; other_set = refl }
+    record {
+      empty = refl;
+      several = refl;
+      longer_than_needed = refl;
+      no_value = refl;
+      escaped = refl;
+      other_set = refl;
+    }

@@ -2,7 +2,8 @@ use Rattle.std.proofs.Common.{refl}
 use Rattle.std.specs.Fmt.{digits}
 use Rattle.hex.specs.Hex.{decode_pairs, encode_with}
 use Rattle.bac_text.specs.ValueWords.{value_under}
-use Rattle.bac_wire.specs.Datum.{plain, tagged}
+use Rattle.bac_wire.specs.Datum.{plain}
+use Rattle.bac_wire.specs.Inner.Datum.{tagged}
 use Rattle.bac_wire.specs.Tag.{plain_tag}
 use Rattle.bac_pdu.specs.Parameter.{plain_parameter}
 use Rattle.bac_text.proofs.examples.examples_of_words.Goals as goal
@@ -10,4 +11,14 @@ use Rattle.bac_text.proofs.examples.examples_of_words.Goals as goal
 pub returns : goal.returns
 unfolding digits decode_pairs encode_with value_under plain tagged plain_tag plain_parameter
 returns c =
-    record { words = refl; peer = refl; printed = refl; routed = refl; routed_printed = refl; three_numbers = refl; body = refl; bad = refl; too_long = refl }
+    record {
+      words = refl;
+      peer = refl;
+      printed = refl;
+      routed = refl;
+      routed_printed = refl;
+      three_numbers = refl;
+      body = refl;
+      bad = refl;
+      too_long = refl;
+    }

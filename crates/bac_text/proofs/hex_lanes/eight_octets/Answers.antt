@@ -2,7 +2,7 @@ use Rattle.std.proofs.Common.{ℕ, [], ◌∷◌, get_or, refl}
 use Rattle.std.proofs.lemmas.List.FromFn.{fill_by_all}
 use Rattle.std.proofs.lemmas.Simd.{length-chunk}
 use lib.Lanes.{chunk}
-use Rattle.bac_text.specs.HexLanes.{octets_by_lanes}
+use Rattle.bac_text.specs.Inner.HexLanes.{octets_by_lanes}
 use Rattle.bac_text.proofs.HexLanes.{octet_is}
 use Rattle.bac_text.proofs.hex_lanes.eight_octets.Goals as goal
 

@@ -12,6 +12,7 @@ returns c =
     let digits = c.args.digits.now in
     let v = chunk c.args.at 16 digits in
     let long = length-chunk c.args.at 16 digits c.requires in
-    run_in (λ digit. not (is_hex_digit digit)) digits c.args.at 16 _ _ c.requires (omega arith) c.first_set.ensures other_lane
+    run_in (λ digit. not (is_hex_digit digit)) digits c.args.at 16 _ _ c.requires (omega arith) c.first_set.ensures
+    other_lane
     (other_lanes v long)
     (λ k. other_is (get_or digits k 0) (c.type_inv.digits k).fits)

@@ -14,7 +14,8 @@ loop-start-preserved c =
     let at = c.min-at.result in
     let before : at ≤ c.loop-start.start = omega (arith, c.min-at.ensures) in
     rw c.sixteen_digits.ensures (record {
-      written = written_on c.args.octets.now c.loop-start.digits at c.loop-start.start before s.within (omega (arith, c.min-at.ensures, c.if-octets-lt-OCTETS.false)) s.size s.written;
+      written = written_on c.args.octets.now c.loop-start.digits at c.loop-start.start before s.within
+          (omega (arith, c.min-at.ensures, c.if-octets-lt-OCTETS.false)) s.size s.written;
       within = omega (arith, c.min-at.ensures, c.if-octets-lt-OCTETS.false);
       size = length-put_chunk _ _ _ ∙ s.size;
     })

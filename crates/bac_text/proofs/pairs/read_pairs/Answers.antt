@@ -5,7 +5,10 @@ use Rattle.bac_text.proofs.pairs.read_pairs.Goals as goal
 pub returns-then-is_empty : goal.returns-then-is_empty
 returns-then-is_empty g c =
     let ended = rw c.in_default.is at c.in_ok-tag.ensures in
-    let before = subst (λ (b : Bool). Progress (g.S.WordSource.left c.args.words.now) (g.S.WordSource.left c.loop-tag.words) c.loop-tag.number c.loop-tag.region b) c.if-is_too_long.false c.loop-tag.invariant.progress in
+    let before = subst
+    (λ (b : Bool).
+    Progress (g.S.WordSource.left c.args.words.now) (g.S.WordSource.left c.loop-tag.words) c.loop-tag.number
+    c.loop-tag.region b) c.if-is_too_long.false c.loop-tag.invariant.progress in
     let none = c.is_empty.ensures.0 c.if-is_empty.true in
     record {
       value = progress-empty _ _ _ _ before ended.0 none;
@@ -13,4 +16,5 @@ returns-then-is_empty g c =
     }
 
 pub returns-in-Err-Bad-clause-left : goal.returns-in-Err-Bad-clause-left
-returns-in-Err-Bad-clause-left g c = pair_behind _ _ _ _ _ _ _ _ c.loop-tag.invariant.progress (rw c.in-Some.is at c.in_ok-tag.ensures)
+returns-in-Err-Bad-clause-left g c =
+    pair_behind _ _ _ _ _ _ _ _ c.loop-tag.invariant.progress (rw c.in-Some.is at c.in_ok-tag.ensures)

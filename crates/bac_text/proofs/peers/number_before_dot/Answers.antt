@@ -4,7 +4,9 @@ use Rattle.bac_text.proofs.LeadingDigits.{one_digit, two_digits, three_digits, t
 use Rattle.bac_text.proofs.peers.number_before_dot.Goals as goal
 
 pub returns-in_ok-digit-in-46-clause-value : goal.returns-in_ok-digit-in-46-clause-value
-returns-in_ok-digit-in-46-clause-value c = one_digit _ _ c.in_ok-digit-in-46.ensures.value (grind (arith, nat_tests)) (grind (arith, nat_tests)) c.in_ok-digit-in-46.ensures.limit
+returns-in_ok-digit-in-46-clause-value c =
+    one_digit _ _ c.in_ok-digit-in-46.ensures.value (grind (arith, nat_tests)) (grind (arith, nat_tests))
+    c.in_ok-digit-in-46.ensures.limit
 
 pub returns-in_ok-digit-in-46-2-2-clause-value : goal.returns-in_ok-digit-in-46-2-2-clause-value
 returns-in_ok-digit-in-46-2-2-clause-value c =
@@ -14,8 +16,10 @@ returns-in_ok-digit-in-46-2-2-clause-value c =
 
 pub returns-else-number-gt255-clause-value : goal.returns-else-number-gt255-clause-value
 returns-else-number-gt255-clause-value c =
-    three_digits _ _ c.in_ok-digit-in-46-3.ensures.value _ c.in_ok-digit-in-46-3-2.ensures.value _ c.in_ok-number-in-46-3.ensures.value (omega arith) (omega arith) c.if-number-gt255.false
+    three_digits _ _ c.in_ok-digit-in-46-3.ensures.value _ c.in_ok-digit-in-46-3-2.ensures.value _
+    c.in_ok-number-in-46-3.ensures.value (omega arith) (omega arith) c.if-number-gt255.false
 
 pub returns-then-number-gt255-clause-value : goal.returns-then-number-gt255-clause-value
 returns-then-number-gt255-clause-value c =
-    three_digits_too_big c.args.text.now _ c.in_ok-digit-in-46-3.ensures.value _ c.in_ok-digit-in-46-3-2.ensures.value _ c.in_ok-number-in-46-3.ensures.value (omega arith) (omega arith) c.if-number-gt255.true
+    three_digits_too_big c.args.text.now _ c.in_ok-digit-in-46-3.ensures.value _ c.in_ok-digit-in-46-3-2.ensures.value _
+    c.in_ok-number-in-46-3.ensures.value (omega arith) (omega arith) c.if-number-gt255.true

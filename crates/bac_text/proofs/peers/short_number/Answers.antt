@@ -1,6 +1,8 @@
 use Rattle.bac_text.proofs.LeadingDigits.{short_long, short_empty, short_big}
 use Rattle.bac_text.proofs.peers.short_number.Goals as goal
-use Rattle.bac_text.proofs.peers.short_number.Goals.{then-count-eq0-via-then-count-eq0, then-count-eq0-via-else-count-eq0+then-count-text, then-count-eq0-via-else-count-eq0+else-count-text+then-number-limit}
+use Rattle.bac_text.proofs.peers.short_number.Goals.{then-count-eq0-via-then-count-eq0}
+use Rattle.bac_text.proofs.peers.short_number.Goals.{then-count-eq0-via-else-count-eq0+then-count-text}
+use Rattle.bac_text.proofs.peers.short_number.Goals.{then-count-eq0-via-else-count-eq0+else-count-text+then-number-limit}
 
 pub returns-then-count-eq0-clause-value : goal.returns-then-count-eq0-clause-value
 returns-then-count-eq0-clause-value c =
@@ -8,5 +10,6 @@ returns-then-count-eq0-clause-value c =
     elim c.then-count-eq0.branch [
       | then-count-eq0-via-then-count-eq0 w ↦ short_empty _ _ _ _ _ l w.if-count-eq0.true
       | then-count-eq0-via-else-count-eq0+then-count-text w ↦ short_long _ _ _ _ _ l w.if-count-text.true
-      | then-count-eq0-via-else-count-eq0+else-count-text+then-number-limit w ↦ short_big _ _ _ _ _ l w.if-number-limit.true
+      | then-count-eq0-via-else-count-eq0+else-count-text+then-number-limit w ↦
+          short_big _ _ _ _ _ l w.if-number-limit.true
     ]

@@ -7,8 +7,11 @@ pub returns-then-run-lt-LANES : goal.returns-then-run-lt-LANES
 returns-then-run-lt-LANES c =
     let run = c.run_before-run.ensures in
     let seen : c.min-at.result ≤ c.loop-start.start = omega (arith, c.min-at.ensures) in
-    position_is (ends_at c.args.end) c.args.octets.now _ (omega (arith, c.min-at.ensures, c.if-run-lt-LANES.true, c.if-octets-lt-LANES.false))
-    (all_before (ends_at c.args.end) c.args.octets.now c.loop-start.start _ 16 _ seen c.loop-start.invariant.before run) (run.stops c.if-run-lt-LANES.true)
+    position_is (ends_at c.args.end) c.args.octets.now _
+    (omega (arith, c.min-at.ensures, c.if-run-lt-LANES.true, c.if-octets-lt-LANES.false))
+    (all_before (ends_at c.args.end) c.args.octets.now c.loop-start.start _ 16 _ seen c.loop-start.invariant.before run)
+    (run.stops c.if-run-lt-LANES.true)
 
 pub returns : goal.returns
-returns c = position_none (ends_at c.args.end) c.args.octets.now (λ k below. c.loop-start.invariant.before k (omega (arith, c.loop-start-test.false)))
+returns c = position_none (ends_at c.args.end) c.args.octets.now
+    (λ k below. c.loop-start.invariant.before k (omega (arith, c.loop-start-test.false)))

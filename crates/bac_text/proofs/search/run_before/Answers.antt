@@ -2,7 +2,8 @@ use Rattle.std.proofs.Common.{◌==◌, get_or, cond, ap, sym, ◌∙◌, subst}
 use Rattle.std.specs.Prelude.{nat_lt}
 use Rattle.std.proofs.lemmas.Simd.{zip2_splat, zip2_splat_left, zip2_of_maps, length-chunk}
 use lib.Lanes.{chunk}
-use Rattle.bac_text.specs.Search.{ends_at, first_set, IsRunIn}
+use Rattle.bac_text.specs.Search.{ends_at}
+use Rattle.bac_text.specs.Inner.Search.{first_set, IsRunIn}
 use Rattle.bac_text.specs.declared.search.End.{End}
 use Rattle.bac_text.specs.declared.search.End.TheVariants.{Blank, At, PastAscii}
 use Rattle.bac_text.proofs.Lanes.{run_in, lane_is, lanes_are}
@@ -31,5 +32,6 @@ returns g c =
           subst (λ (e : End). IsRunIn (ends_at e) octets c.args.at n c.first_set.result) (sym w.in-PastAscii.is)
           (run_in (ends_at PastAscii) octets c.args.at n _ _ c.requires.within c.requires.most
           (c.first_set.ensures ∙ ap (λ m. first_set m n) w.ends-is) _
-          (zip2_splat_left (λ a b. cond (nat_lt a b) 255 0) 127 n v long) (λ k. lane_is (nat_lt 127 (get_or octets k 0))))
+          (zip2_splat_left (λ a b. cond (nat_lt a b) 255 0) 127 n v long)
+          (λ k. lane_is (nat_lt 127 (get_or octets k 0))))
     ]

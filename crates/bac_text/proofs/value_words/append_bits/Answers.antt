@@ -7,7 +7,8 @@ use Rattle.bac_text.proofs.value_words.append_bits.Goals as goal
 
 pub returns-then-count-gt-FRAME_OCTETS-clause-value : goal.returns-then-count-gt-FRAME_OCTETS-clause-value
 returns-then-count-gt-FRAME_OCTETS-clause-value c =
-    bits-long c.args.region.now c.args.digits.now (sym c.are_bits.ensures ∙ c.if-not-are_bits.false) (omega (arith, c.div_ceil-count.ensures))
+    bits-long c.args.region.now c.args.digits.now (sym c.are_bits.ensures ∙ c.if-not-are_bits.false)
+    (omega (arith, c.div_ceil-count.ensures))
 
 pub loop-i-preserved : goal.loop-i-preserved
 loop-i-preserved c =
@@ -16,10 +17,14 @@ loop-i-preserved c =
     c.bits_octet.ensures ∙ ap bits_octet (take_rest c.args.digits.now (8 * c.loop-i.i)) in
     record {
       room = length-set c.loop-i.room c.loop-i.i c.bits_octet.result ∙ c.loop-i.invariant.room;
-      written = rw same (fill_by_more (λ k. bits_octet (drop (8 * k) c.args.digits.now)) c.loop-i.room c.loop-i.i 0 within c.loop-i.invariant.written);
+      written = rw same
+          (fill_by_more (λ k. bits_octet (drop (8 * k) c.args.digits.now)) c.loop-i.room c.loop-i.i 0 within
+          c.loop-i.invariant.written);
     }
 
 pub returns-clause-value : goal.returns-clause-value
 returns-clause-value c =
-    let e = bits-written c.args.digits.now c.loop-i.room c.div_ceil-count.result _ (sym c.are_bits.ensures ∙ c.if-not-are_bits.false) c.div_ceil-count.ensures (omega (arith, c.loop-i.invariant.room)) (λ k h. c.loop-i.invariant.written k (omega arith)) refl in
+    let e = bits-written c.args.digits.now c.loop-i.room c.div_ceil-count.result _
+    (sym c.are_bits.ensures ∙ c.if-not-are_bits.false) c.div_ceil-count.ensures
+    (omega (arith, c.loop-i.invariant.room)) (λ k h. c.loop-i.invariant.written k (omega arith)) refl in
     rw e c.append_value.ensures.value

@@ -1,7 +1,8 @@
 use Rattle.std.proofs.Common.{◌≡◌, ℕ, ◌-◌, ◌<◌, true, List, length, take, drop, get_or, sym, ◌∙◌, subst, arith}
 use Rattle.std.proofs.lemmas.Bool.{not-false}
 use Rattle.std.proofs.lemmas.List.{take_rest}
-use Rattle.bac_text.specs.Words.{is_blank, IsFirstNumber}
+use Rattle.bac_text.specs.Words.{is_blank}
+use Rattle.bac_text.specs.Inner.Words.{IsFirstNumber}
 use Rattle.bac_text.proofs.FirstNumbers.{first_number_is}
 use Rattle.bac_text.proofs.words.first_number.Goals as goal
 use Rattle.bac_text.proofs.words.first_number.Goals.{then-count-text, else-count-text}
@@ -18,4 +19,5 @@ returns c =
       | else-count-text w ↦ absurd (omega (arith, more, w.if-count-text.false))
     ] in
     subst (λ (later : List ℕ). IsFirstNumber text c.leading_number-number.result.0 later) (sym (take_rest rest count))
-    (first_number_is rest _ count c.leading_number-number.ensures text start c.in_ok-start.ensures (take_rest text start) (omega (arith, c.if-count-eq0.false)) blank)
+    (first_number_is rest _ count c.leading_number-number.ensures text start c.in_ok-start.ensures
+    (take_rest text start) (omega (arith, c.if-count-eq0.false)) blank)

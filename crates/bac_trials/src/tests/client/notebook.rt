@@ -57,5 +57,6 @@ impl Watcher for Notebook<'_> {
     ghost told_nothing = { λ book. sym (add-zero book.taken) };
 
     ghost told_more = { λ first second third told more one two. two ∙ ap (λ n. n + length more) one
-        ∙ add_assoc first.taken (length told) (length more) ∙ ap (λ n. first.taken + n) (sym (length-append told more)) };
+        ∙ add_assoc first.taken (length told) (length more)
+        ∙ ap (λ n. first.taken + n) (sym (length-append told more)) };
 }

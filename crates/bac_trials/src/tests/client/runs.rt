@@ -40,8 +40,8 @@ const LATE: Note<'static> = Note::Dropped;
 
 const FAULT: Note<'static> = Note::Refused(SubmitFault::TooLong);
 
-/// Runs the events. None if a watcher with this room doesn't keep the front of the notes, at these positions, or says wrongly whether it drops
-/// one, or if not so many requests are open afterwards, at this clock.
+/// Runs the events. None if a watcher with this room doesn't keep the front of the notes, at these positions, or says
+/// wrongly whether it drops one, or if not so many requests are open afterwards, at this clock.
 fn run_watched<'n>(
     room: usize,
     (first, events): (u64, &[Event<'_>]),

@@ -81,8 +81,9 @@ fn written() -> [(&'static str, Apdu<'static>); 12] {
     ]
 }
 
-/// APDUs, and other octets that are read as them: of a SegmentACK none is looked at; of others the greatest number of segments, the bit
-/// that segments are taken, the reserved bits, MOR without SEG, and what follows a SimpleACK, a Reject and an Abort.
+/// APDUs, and other octets that are read as them: of a SegmentACK none is looked at; of others the greatest number of
+/// segments, the bit that segments are taken, the reserved bits, MOR without SEG, and what follows a SimpleACK, a
+/// Reject and an Abort.
 fn read_too() -> [(&'static str, Apdu<'static>); 8] {
     [
         ("40010001", Apdu::SegmentAck),

@@ -8,8 +8,8 @@ use bac_pdu::{
 use bac_wire::{Frame, ObjectId, is_region};
 use std::test::Fail;
 
-/// Requests to read a property of analog-input 5, its index, and whether the body is the shortest. The last has a property in more octets
-/// than it needs, and tags in longer forms.
+/// Requests to read a property of analog-input 5, its index, and whether the body is the shortest. The last has a
+/// property in more octets than it needs, and tags in longer forms.
 static READS: [(&str, u32, Option<u32>, bool); 6] = [
     ("0c000000051955", 85, None, true),
     ("0c00000005194d", 77, None, true),
@@ -31,8 +31,8 @@ fn is_read(body: &[u8], property: u32, index: Option<u32>, is_shortest: bool) ->
     Some(read_read(body) == Ok(request) && is_written && is_same)
 }
 
-/// Answers for the present value of analog-input 5, and their values: the octet of a closing tag stands inside of a string, and inside of
-/// brackets of their own.
+/// Answers for the present value of analog-input 5, and their values: the octet of a closing tag stands inside of a
+/// string, and inside of brackets of their own.
 static ANSWERS: [(&str, Option<u32>, &str); 6] = [
     ("0c0000000519553e444290999a3f", None, "444290999a"),
     ("0c0000000519553e72003f3f", None, "72003f"),
@@ -132,8 +132,8 @@ fn are_limits(body: &[u8], low: u32, high: u32) -> bool {
     read_whois(body) == Some(who) && is_written
 }
 
-/// Bodies of a Who-Is that can't be read, and bodies that introduce nobody: an object that is no device, one that is cut, one with more, and
-/// one with another kind of value.
+/// Bodies of a Who-Is that can't be read, and bodies that introduce nobody: an object that is no device, one that is
+/// cut, one with more, and one with another kind of value.
 const NO_LIMITS: &str = "0900 1903 0900190300 09001d050000000000 0801190300";
 
 const NOBODY: &str =

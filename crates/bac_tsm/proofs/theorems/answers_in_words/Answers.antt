@@ -2,4 +2,5 @@ use Rattle.bac_tsm.proofs.AnswersInWords.{answers, answered}
 use Rattle.bac_tsm.proofs.theorems.answers_in_words.Goals as goal
 
 pub returns : goal.returns
-returns c request from datagram outcome = (answers request from datagram outcome, answered request from datagram outcome)
+returns c request from datagram outcome =
+    (answers request from datagram outcome, answered request from datagram outcome)

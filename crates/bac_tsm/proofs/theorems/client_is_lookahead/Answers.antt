@@ -6,8 +6,10 @@ use Rattle.bac_tsm.proofs.theorems.client_is_lookahead.Goals as goal
 
 pub returns-clause-notes : goal.returns-clause-notes
 returns-clause-notes c timeout retries first_ticket events =
-    ap (λ run. run.notes) (run_whole (client_rules timeout retries) first_ticket events (by_number timeout retries) few_places)
+    ap (λ run. run.notes)
+    (run_whole (client_rules timeout retries) first_ticket events (by_number timeout retries) few_places)
 
 pub returns-clause-kept : goal.returns-clause-kept
 returns-clause-kept c timeout retries first_ticket events n h =
-    ap (λ run. run.after) (run_first (client_rules timeout retries) first_ticket events (by_number timeout retries) few_places n h)
+    ap (λ run. run.after)
+    (run_first (client_rules timeout retries) first_ticket events (by_number timeout retries) few_places n h)

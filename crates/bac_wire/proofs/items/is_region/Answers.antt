@@ -6,8 +6,12 @@ use Rattle.bac_wire.proofs.items.is_region.Goals as goal
 
 pub returns-in-Some : goal.returns-in-Some
 returns-in-Some c = (
-  λ e. whole_region 32 c.args.octets.now c.in-Some.rest.now c.in-Some.ensures (nil_from_length c.in-Some.rest.now (eqb-true (length c.in-Some.rest.now) 0 (sym c.is_empty.ensures ∙ e))),
-  λ r. c.is_empty.ensures ∙ eq-eqb (length c.in-Some.rest.now) 0 (ap length (one_left 32 32 c.args.octets.now c.in-Some.rest.now [] c.in-Some.ensures (region_whole 32 c.args.octets.now r))),
+  λ e. whole_region 32 c.args.octets.now c.in-Some.rest.now c.in-Some.ensures
+      (nil_from_length c.in-Some.rest.now (eqb-true (length c.in-Some.rest.now) 0 (sym c.is_empty.ensures ∙ e))),
+  λ r. c.is_empty.ensures
+      ∙ eq-eqb (length c.in-Some.rest.now) 0
+      (ap length (one_left 32 32 c.args.octets.now c.in-Some.rest.now [] c.in-Some.ensures
+      (region_whole 32 c.args.octets.now r))),
 )
 
 pub returns-in-None : goal.returns-in-None

@@ -4,4 +4,5 @@ use Rattle.bac_words.proofs.called.words_of.Given as goal
 
 abbrev pub invariant-loop-word : goal.invariant-loop-word
 invariant-loop-word l =
-    map (λ word. word.now) l.words.items ≡ map (λ word. word.now) l.initial.words.items ++ map string_bytes (take l.word-index l.rest)
+    map (λ word. word.now) l.words.items ≡ map (λ word. word.now) l.initial.words.items
+    ++ map string_bytes (take l.word-index l.rest)

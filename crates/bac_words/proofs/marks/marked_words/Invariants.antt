@@ -6,4 +6,5 @@ use Rattle.bac_words.proofs.marks.marked_words.Given as goal
 
 abbrev pub invariant-loop-word : goal.invariant-loop-word
 invariant-loop-word l =
-    map string_bytes l.seen.items ≡ map string_bytes l.initial.seen.items ++ map marked (texts (take l.word-index l.arguments))
+    map string_bytes l.seen.items ≡ map string_bytes l.initial.seen.items
+    ++ map marked (texts (take l.word-index l.arguments))

@@ -1,11 +1,15 @@
 use Rattle.std.proofs.Common.{subst, sym, Option, ℕ, IfSome}
 use Rattle.clap.specs.Words.{found_of}
-use Rattle.clap_laws.specs.Numbers.{FitsWord, IsWithin}
+use Rattle.clap_laws.specs.Inner.Numbers.{FitsWord, IsWithin}
 use Rattle.clap_laws.proofs.Getters.{getter}
 use Rattle.bac_words.proofs.parse.number.Goals as goal
 
 pub returns : goal.returns
 returns c =
     let fits = subst FitsWord (sym c.requires.bounded) c.requires.fits in
-    let read = getter c.requires.rules c.args.id.now (found_of c.args.matches.now) c.get_one.result c.requires.taken fits c.get_one.ensures.none c.get_one.ensures.value in
-    record { value = read.0; within = subst (λ (b : Option (ℕ × ℕ)). IfSome c.get_one.result (IsWithin b)) c.requires.bounded read.1 }
+    let read = getter c.requires.rules c.args.id.now (found_of c.args.matches.now) c.get_one.result c.requires.taken
+    fits c.get_one.ensures.none c.get_one.ensures.value in
+    record {
+      value = read.0;
+      within = subst (λ (b : Option (ℕ × ℕ)). IfSome c.get_one.result (IsWithin b)) c.requires.bounded read.1;
+    }

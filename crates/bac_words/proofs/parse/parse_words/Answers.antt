@@ -6,7 +6,8 @@ use Rattle.clap.specs.Walk.{Row, Text, texts}
 use Rattle.clap.specs.Simple.{App, is_simple, subcommand_of}
 use Rattle.clap.specs.Faults.{fault_of, is_simple_and_free}
 use Rattle.bac_words.specs.Command.{bactool}
-use Rattle.bac_words.specs.Job.{IsTool, order_of}
+use Rattle.bac_words.specs.Job.{order_of}
+use Rattle.bac_words.specs.Inner.Job.{IsTool}
 use Rattle.bac_words.specs.Marks.{marked_words}
 use Rattle.bac_words.proofs.Tools.{bactool_is_free, bactool_is_simple, refused, tool_met}
 use Rattle.bac_words.proofs.parse.parse_words.Goals as goal
@@ -16,27 +17,34 @@ returns-in_err-matches-clause-answer c =
     let shape = c.in_ok-command.ensures.shape in
     let same = ap (map string_bytes) c.as_slice.ensures.value ∙ c.in_ok-marked.ensures in
     let h = c.in_err-matches.ensures.kinds (ap is_simple_and_free shape ∙ bactool_is_free) in
-    inl (refused (texts c.args.words.now) (map string_bytes c.as_slice.result.now) c.in_err-matches.field-0.0 c.from_residual-in_err-matches.result same
-    (subst (λ (a : App). HasKind (fault_of a (map string_bytes c.as_slice.result.now)) c.in_err-matches.field-0.0) shape h)
+    inl (refused (texts c.args.words.now) (map string_bytes c.as_slice.result.now) c.in_err-matches.field-0.0
+    c.from_residual-in_err-matches.result same
+    (subst (λ (a : App). HasKind (fault_of a (map string_bytes c.as_slice.result.now)) c.in_err-matches.field-0.0) shape
+    h)
     c.from_residual-in_err-matches.ensures.1)
 
 pub job-requires : goal.job-requires
 job-requires c =
     let shape = c.in_ok-command.ensures.shape in
     let words = map string_bytes c.as_slice.result.now in
-    let found = (c.in_ok-matches.ensures.matches (ap is_simple shape ∙ bactool_is_simple)).1 ∙ ap (λ (a : App). subcommand_of a words) shape in
+    let found = (c.in_ok-matches.ensures.matches (ap is_simple shape ∙ bactool_is_simple)).1
+    ∙ ap (λ (a : App). subcommand_of a words) shape in
     let none : fault_of bactool words ≡ [] =
-    ap (λ (a : App). fault_of a words) (sym shape) ∙ c.in_ok-matches.ensures.kinds (ap is_simple_and_free shape ∙ bactool_is_free) in
+    ap (λ (a : App). fault_of a words) (sym shape)
+    ∙ c.in_ok-matches.ensures.kinds (ap is_simple_and_free shape ∙ bactool_is_free) in
     subst (λ (o : Option (Text × List Row)). IsSomeAnd o IsTool) (sym found) (tool_met words none)
 
 pub returns-clause-answer : goal.returns-clause-answer
 returns-clause-answer c =
     let shape = c.in_ok-command.ensures.shape in
     let words = map string_bytes c.as_slice.result.now in
-    let same : words ≡ marked_words (texts c.args.words.now) = ap (map string_bytes) c.as_slice.ensures.value ∙ c.in_ok-marked.ensures in
-    let found = (c.in_ok-matches.ensures.matches (ap is_simple shape ∙ bactool_is_simple)).1 ∙ ap (λ (a : App). subcommand_of a words) shape in
+    let same : words ≡ marked_words (texts c.args.words.now) = ap (map string_bytes) c.as_slice.ensures.value
+    ∙ c.in_ok-marked.ensures in
+    let found = (c.in_ok-matches.ensures.matches (ap is_simple shape ∙ bactool_is_simple)).1
+    ∙ ap (λ (a : App). subcommand_of a words) shape in
     let none : fault_of bactool words ≡ [] =
-    ap (λ (a : App). fault_of a words) (sym shape) ∙ c.in_ok-matches.ensures.kinds (ap is_simple_and_free shape ∙ bactool_is_free) in
+    ap (λ (a : App). fault_of a words) (sym shape)
+    ∙ c.in_ok-matches.ensures.kinds (ap is_simple_and_free shape ∙ bactool_is_free) in
     inr (record {
       taken = ap (fault_of bactool) (sym same) ∙ none;
       answer_is = ap (option_map order_of) (sym (found ∙ ap (subcommand_of bactool) same)) ∙ c.job.ensures.job;

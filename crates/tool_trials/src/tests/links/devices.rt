@@ -13,7 +13,7 @@ const ALL: (WhoIs, &[u8]) = (WhoIs::All, WHO_IS);
 
 const SOME: &[u8] = b"\x81\x0a\x00\x0e\x01\x00\x10\x08\x0a\x03\xe8\x1a\x04\xd2";
 
-const OTHER: &[u8] = b"\x81\x0a\x00\x0e\x01\x00\x10\x08\x0a\x04\xd3\x1a\x04\xd3";
+const WHO_IS_ANOTHER: &[u8] = b"\x81\x0a\x00\x0e\x01\x00\x10\x08\x0a\x04\xd3\x1a\x04\xd3";
 
 fn between(low: u32, high: u32) -> WhoIs {
     WhoIs::Range { low, high }
@@ -38,9 +38,9 @@ fn searches(
 const FAR: &[u8] =
     b"\x81\x0a\x00\x19\x01\x08\x00\x05\x01\x07\x10\x00\xc4\x02\x00\x04\xd2\x22\x05\xc4\x91\x03\x22\x01\x04";
 
-const HEARD: Step<'static> = Step::Packet(5, P, I_AM);
+const HEARD: Step<'static> = Step::Packet(5, CONTROLLER, I_AM);
 
-const LATE: Step<'static> = Step::Packet(3_000, P, I_AM);
+const LATE: Step<'static> = Step::Packet(3_000, CONTROLLER, I_AM);
 
 /// Whether a search that goes well ends so over these steps.
 fn finds(alloc: Global, asked: (WhoIs, &[u8]), steps: &[Step<'_>], exit: Exit, text: &str) -> bool {
@@ -50,8 +50,8 @@ fn finds(alloc: Global, asked: (WhoIs, &[u8]), steps: &[Step<'_>], exit: Exit, t
 #[test]
 fn devices_are_found(rt: HostRuntime) {
     let some = (between(1_000, 1_234), SOME);
-    let other = (between(1_235, 1_235), OTHER);
-    let far = [Step::Packet(1, P, FAR)];
+    let other = (between(1_235, 1_235), WHO_IS_ANOTHER);
+    let far = [Step::Packet(1, CONTROLLER, FAR)];
     assert!(rt; finds(rt.alloc(), some, &[HEARD], Exit::Good, LINE));
     assert!(rt; finds(rt.alloc(), some, &[HEARD, HEARD], Exit::Good, TWICE));
     assert!(rt; finds(rt.alloc(), other, &[HEARD], Exit::Bad, ""));
@@ -77,7 +77,8 @@ fn searches_fail(rt: HostRuntime) {
     assert!(rt; searches(rt.alloc(), ALL, quiet(&rt).as_slice(), None, spent));
 }
 
-/// Lets the demonstration device serve over these steps for so many datagrams: whether it ends so and sent this to Q.
+/// Lets the demonstration device serve over these steps for so many datagrams: whether it ends so and sent this to
+/// OTHER.
 fn serves(
     alloc: Global,
     steps: &[Step<'_>],
@@ -93,13 +94,17 @@ fn serves(
     };
     let got = serve(&mut link, &mut device, count);
     let is_lost = matches!(got, Err(ToolFault::SendFailed | ToolFault::ReceiveFailed));
-    got == answer && link.failed() == is_lost && has_sent(&link, Q, sent)
+    got == answer && link.failed() == is_lost && has_sent(&link, OTHER, sent)
 }
 
-const ASKED: Step<'static> = Step::Packet(0, Q, ASK);
+const ASKED: Step<'static> = Step::Packet(0, OTHER, ASK);
 
 /// Two requests that are answered, and noise.
-const COMES: [Step<'static>; 3] = [ASKED, Step::Packet(0, Q, WHO_IS), Step::Packet(0, Q, &[0])];
+const COMES: [Step<'static>; 3] = [
+    ASKED,
+    Step::Packet(0, OTHER, WHO_IS),
+    Step::Packet(0, OTHER, &[0]),
+];
 
 const REPLIES: &[(u64, &[u8])] = &[(0, VALUE), (0, I_AM)];
 

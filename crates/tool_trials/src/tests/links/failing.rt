@@ -17,14 +17,14 @@ fn leaves_front(alloc: Global, job: Job<'_>, steps: &[Step<'_>], row: (&str, usi
 }
 
 fn read_leaves(alloc: Global, left: usize, fails: bool) -> bool {
-    let steps = [Step::Packet(5, P, VALUE)];
+    let steps = [Step::Packet(5, CONTROLLER, VALUE)];
     let job = call_of(100, 1, BODY);
     leaves_front(alloc, Job::Read(&job), &steps, ("4290999a\n", left, fails))
 }
 
 fn search_leaves(alloc: Global, left: usize) -> bool {
     let text = "1234 127.0.0.1:47808 1476 3 260\n1234 127.0.0.1:47808 1476 3 260\n";
-    let steps = [Step::Packet(5, P, I_AM); 2];
+    let steps = [Step::Packet(5, CONTROLLER, I_AM); 2];
     leaves_front(alloc, Job::Search(&SEARCH), &steps, (text, left, true))
 }
 
@@ -41,7 +41,7 @@ fn writes_fail_in_turn(rt: HostRuntime) {
 
 /// Runs a read over a link in this memory.
 fn read_within<A: Allocator + Copy>(alloc: A, room: &mut [u8]) -> Result<Got, LinkFault> {
-    let steps = [Step::Packet(5, P, VALUE)];
+    let steps = [Step::Packet(5, CONTROLLER, VALUE)];
     let mut link = MemoryLink::new(alloc, &steps, None)?;
     Ok(run_job(Job::Read(&call_of(100, 1, BODY)), &mut link, room))
 }

@@ -34,7 +34,7 @@ static ANSWERS: [(&str, Exit, &str); 10] = [
 
 /// Whether a read that is answered so ends so and prints this.
 fn is_answered(alloc: Global, answer: &[u8], exit: Exit, text: &str) -> bool {
-    let steps = [Step::Packet(5, P, answer)];
+    let steps = [Step::Packet(5, CONTROLLER, answer)];
     let call = call_of(3_000, 3, BODY);
     let end = (Ok(exit), text, [(0, ASK)].as_slice());
     ends(alloc, Job::Read(&call), &steps, None, end)
@@ -68,21 +68,25 @@ fn writes(alloc: Global, steps: &[Step<'_>], exit: Exit, text: &str) -> bool {
 fn denied() -> Option<Frame> {
     let mut device = small_device()?;
     let mut frame = Frame::new();
-    if device.answer(P, WRITE, &mut frame) != Some(P) {
+    if device.answer(CONTROLLER, WRITE, &mut frame) != Some(CONTROLLER) {
         return None;
     }
     Some(frame)
 }
 
-const SIMPLE: Step<'static> = Step::Packet(5, P, b"\x81\x0a\x00\x09\x01\x00\x20\x01\x0f");
+const SIMPLE: Step<'static> = Step::Packet(5, CONTROLLER, b"\x81\x0a\x00\x09\x01\x00\x20\x01\x0f");
 
-const COMPLEX: Step<'static> = Step::Packet(5, P, b"\x81\x0a\x00\x0a\x01\x00\x30\x01\x0f\x00");
+const COMPLEX: Step<'static> = Step::Packet(
+    5,
+    CONTROLLER,
+    b"\x81\x0a\x00\x0a\x01\x00\x30\x01\x0f\x00",
+);
 
 // Answered by the demonstration device, by an acknowledgement of either kind, and not at all.
 #[test]
 fn a_value_is_written(rt: HostRuntime) {
     let denied = denied().expect(&rt, "an answer");
-    let denied = [Step::Packet(5, P, denied.as_slice())];
+    let denied = [Step::Packet(5, CONTROLLER, denied.as_slice())];
     assert!(rt; writes(rt.alloc(), &denied, Exit::Bad, "error 2 9\n"));
     assert!(rt; writes(rt.alloc(), &[SIMPLE], Exit::Good, "ok\n"));
     assert!(rt; writes(rt.alloc(), &[COMPLEX], Exit::Bad, "bad-ack\n"));
@@ -105,10 +109,10 @@ const LONG: &[u8] = &[0; 2_048];
 
 /// Answers of others and to others, a long datagram, and the answer.
 const HEARD: [Step<'static>; 4] = [
-    Step::Packet(5, Q, VALUE),
-    Step::Packet(6, P, LONG),
-    Step::Packet(120, P, &[0; 9]),
-    Step::Packet(130, P, VALUE),
+    Step::Packet(5, OTHER, VALUE),
+    Step::Packet(6, CONTROLLER, LONG),
+    Step::Packet(120, CONTROLLER, &[0; 9]),
+    Step::Packet(130, CONTROLLER, VALUE),
 ];
 
 // What is not to be heard is not, and the request is sent again in time.
@@ -126,7 +130,11 @@ fn calls_fail(rt: HostRuntime) {
     assert!(rt; reads(rt.alloc(), &[], Some(0), (unsent, "", &[])));
     assert!(rt; reads(rt.alloc(), &[], Some(1), (unsent, "", ONCE)));
     for broken in 0..3 {
-        let mut steps = [Step::Quiet(1), Step::Quiet(2), Step::Packet(5, P, VALUE)];
+        let mut steps = [
+            Step::Quiet(1),
+            Step::Quiet(2),
+            Step::Packet(5, CONTROLLER, VALUE),
+        ];
         steps[broken] = Step::Broken;
         let deaf = (Err(ToolFault::ReceiveFailed), "", ONCE);
         assert!(rt; reads(rt.alloc(), &steps, None, deaf), "{broken}");

@@ -33,7 +33,8 @@ fn silence<L: Link>(link: &mut L, wait_ms: u32) -> Result<Option<u64>, LinkFault
     Ok(link.now().checked_sub(before))
 }
 
-/// Whether the desk, which waits for a millisecond, ends without an answer, and the field hears it afterwards. Then both hear nothing more.
+/// Whether the desk, which waits for a millisecond, ends without an answer, and the field hears it afterwards. Then
+/// both hear nothing more.
 fn times_out<L: Link>(desk: &mut L, field: &mut L) -> Result<bool, LinkFault>
     requires { (L.has_failed desk.old ≡ false) × (L.has_failed field.old ≡ false) }
 {
@@ -42,15 +43,15 @@ fn times_out<L: Link>(desk: &mut L, field: &mut L) -> Result<bool, LinkFault>
     if got != Ok(Exit::Bad) || desk.failed() {
         return Ok(false);
     }
-    let is_heard = is_text(&room, "timeout\n") && hears(field, Q, ASK)?;
+    let is_heard = is_text(&room, "timeout\n") && hears(field, OTHER, ASK)?;
     Ok(is_heard && silence(field, 1)?.is_some() && silence(desk, 1)?.is_some())
 }
 
 #[test]
 fn two_sockets(rt: HostRuntime) -> Result<(), Fail> {
-    let mut field = UdpLink::bind(&rt, rt.alloc(), P)?;
-    let mut desk = UdpLink::bind(&rt, rt.alloc(), Q)?;
-    assert!(rt; UdpLink::bind(&rt, rt.alloc(), Q).is_err());
+    let mut field = UdpLink::bind(&rt, rt.alloc(), CONTROLLER)?;
+    let mut desk = UdpLink::bind(&rt, rt.alloc(), OTHER)?;
+    assert!(rt; UdpLink::bind(&rt, rt.alloc(), OTHER).is_err());
     assert!(rt; times_out(&mut desk, &mut field)?);
     Ok(())
 }
@@ -76,8 +77,8 @@ fn counted_octets() -> [u8; 2_048] {
     octets
 }
 
-/// Whether the shortest and the longest datagram come whole and from where they were sent, and a longer one does not come; then nothing is
-/// left. A wait that hears nothing takes as long as it was asked for, and one of 0 is one of 1.
+/// Whether the shortest and the longest datagram come whole and from where they were sent, and a longer one does not
+/// come; then nothing is left. A wait that hears nothing takes as long as it was asked for, and one of 0 is one of 1.
 fn carries_up_to_the_longest<L: Link>(near: &mut L, far: &mut L, way: Way) -> Is
     requires { (L.has_failed near.old ≡ false) × (L.has_failed far.old ≡ false) }
     ensures { OnOk result ((L.has_failed near.new ≡ false) × (L.has_failed far.new ≡ false)) }
@@ -100,8 +101,14 @@ fn is_within(passed: Option<u64>, least: u64, below: u64) -> bool {
 
 #[test]
 fn long_datagrams(rt: HostRuntime) -> Result<(), Fail> {
-    let here = Peer { port: 47_810, ..P };
-    let there = Peer { port: 47_811, ..P };
+    let here = Peer {
+        port: 47_810,
+        ..CONTROLLER
+    };
+    let there = Peer {
+        port: 47_811,
+        ..CONTROLLER
+    };
     let mut near = UdpLink::bind(&rt, rt.alloc(), here)?;
     let mut far = UdpLink::bind(&rt, rt.alloc(), there)?;
     assert!(rt; carries_up_to_the_longest(&mut near, &mut far, (here, there))?);
@@ -112,7 +119,10 @@ fn long_datagrams(rt: HostRuntime) -> Result<(), Fail> {
 // A socket has one address, and leaves the port to others at the rest.
 #[test]
 fn one_port_of_two_addresses(rt: HostRuntime) -> Result<(), Fail> {
-    let here = Peer { port: 47_815, ..P };
+    let here = Peer {
+        port: 47_815,
+        ..CONTROLLER
+    };
     let there = Peer {
         ip: 0x7f00_0002,
         ..here
@@ -183,7 +193,8 @@ static TIMES: [(Option<(u64, u64)>, u64); 6] = [
     (Some((6, 0)), 0),
 ];
 
-// The time of a socket is in whole milliseconds since it was made, by the clock that does not go back; where that fails, it stays.
+// The time of a socket is in whole milliseconds since it was made, by the clock that does not go back; where that
+// fails, it stays.
 #[test]
 fn time_of_a_socket(rt: HostRuntime) -> Result<(), Fail> {
     let told = Cell::new(Some(after((7, 0))));
@@ -191,7 +202,14 @@ fn time_of_a_socket(rt: HostRuntime) -> Result<(), Fail> {
         net: &rt,
         told: &told,
     };
-    let mut link = UdpLink::bind(&timed, rt.alloc(), Peer { port: 47_816, ..P })?;
+    let mut link = UdpLink::bind(
+        &timed,
+        rt.alloc(),
+        Peer {
+            port: 47_816,
+            ..CONTROLLER
+        },
+    )?;
     assert!(rt; link.now() == 0);
     for (time, now) in &TIMES {
         told.set(time.map(after));
@@ -242,10 +260,23 @@ fn is_stopped<L: Link>(desk: &mut L, field: &mut L, device: &mut Device, server:
 // Whoever makes a device answer where nothing can be sent does not stop it; a link that was bound without this fails.
 #[test]
 fn refused_replies_are_lost(rt: HostRuntime) -> Result<(), Fail> {
-    let server = Peer { port: 47_813, ..P };
-    let strict = Peer { port: 47_814, ..P };
+    let server = Peer {
+        port: 47_813,
+        ..CONTROLLER
+    };
+    let strict = Peer {
+        port: 47_814,
+        ..CONTROLLER
+    };
     let mut device = small_device().ok_or("no device")?;
-    let mut desk = UdpLink::bind(&rt, rt.alloc(), Peer { port: 47_812, ..P })?;
+    let mut desk = UdpLink::bind(
+        &rt,
+        rt.alloc(),
+        Peer {
+            port: 47_812,
+            ..CONTROLLER
+        },
+    )?;
     let mut field = UdpLink::bind_with(&rt, rt.alloc(), server, Refused::IsLost)?;
     assert!(rt; goes_on(&mut desk, &mut field, &mut device, server)?);
     let mut brittle = UdpLink::bind(&rt, rt.alloc(), strict)?;

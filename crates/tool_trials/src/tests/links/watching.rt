@@ -6,8 +6,8 @@ use crate::tests::streams::{Progress, telling};
 use bac_links::Datagram;
 use std::cell::Cell;
 
-/// A link that notes at each receive how long it waits and how many octets were written before it, and counts how often it is asked for the
-/// time.
+/// A link that notes at each receive how long it waits and how many octets were written before it, and counts how often
+/// it is asked for the time.
 #[derive(Drop)]
 struct Watching<'a> {
     link: MemoryLink,
@@ -63,7 +63,7 @@ const LINES: &[u8] =
 // Each line of 32 octets is out before the next wait, and each turn asks for the time once.
 #[test]
 fn lines_go_out_before_the_next_wait(rt: HostRuntime) {
-    let heard = Step::Packet(5, P, I_AM);
+    let heard = Step::Packet(5, CONTROLLER, I_AM);
     let steps = [heard, Step::Quiet(6), heard, heard, Step::Quiet(3_000)];
     let progress = Progress::default();
     let mut link = watch(rt.alloc(), &steps, &progress.written).expect(&rt, "a link");
@@ -73,10 +73,11 @@ fn lines_go_out_before_the_next_wait(rt: HostRuntime) {
     assert!(rt; !progress.is_wrong.get());
 }
 
-/// Whether a read with this timeout waits so long at each of two receives, and asks for the time as it begins and after the first.
+/// Whether a read with this timeout waits so long at each of two receives, and asks for the time as it begins and after
+/// the first.
 fn reads_waiting(alloc: Global, timeout: u32, wait: u32) -> bool {
     let written = Cell::new(0);
-    let steps = [Step::Quiet(1), Step::Packet(5, P, VALUE)];
+    let steps = [Step::Quiet(1), Step::Packet(5, CONTROLLER, VALUE)];
     let Ok(mut link) = watch(alloc, &steps, &written) else {
         return false;
     };
@@ -88,7 +89,7 @@ fn reads_waiting(alloc: Global, timeout: u32, wait: u32) -> bool {
 /// Whether a device waits so long at each of two receives.
 fn serves_waiting(alloc: Global, wait: u32) -> bool {
     let written = Cell::new(0);
-    let steps = [Step::Quiet(1_000), Step::Packet(1_500, Q, ASK)];
+    let steps = [Step::Quiet(1_000), Step::Packet(1_500, OTHER, ASK)];
     let (Some(mut device), Ok(mut link)) = (small_device(), watch(alloc, &steps, &written)) else {
         return false;
     };

@@ -44,7 +44,8 @@ fn writes_fail_in_turn(rt: HostRuntime) {
     }
 }
 
-/// A script, what it prints, and how many octets of the one there are up to the end of each line that prints, and how many of the other.
+/// A script, what it prints, and how many octets of the one there are up to the end of each line that prints, and how
+/// many of the other.
 #[derive(Drop)]
 struct Worked<'a> {
     script: &'a [u8],
@@ -58,8 +59,9 @@ const RETRIES: Worked<'static> = Worked {
     ends: &[(28, 58), (48, 116), (58, 174), (68, 232), (79, 242)],
 };
 
-/// Runs a script where the read and the write with these numbers fail: how many reads and writes there were, and how many octets were
-/// written. None if it doesn't end so, writes another text, or reads before it has written what is printed.
+/// Runs a script where the read and the write with these numbers fail: how many reads and writes there were, and how
+/// many octets were written. None if it doesn't end so, writes another text, or reads before it has written what is
+/// printed.
 fn counts(
     worked: &Worked<'_>,
     (read, write, takes_none): (usize, usize, bool),
@@ -84,7 +86,8 @@ fn counts(
     Some((reads, writes, progress.written.get()))
 }
 
-/// Whether a reader that gives one octet at a time, and fails at this read, is not asked again, and leaves the text of the whole lines before.
+/// Whether a reader that gives one octet at a time, and fails at this read, is not asked again, and leaves the text of
+/// the whole lines before.
 fn fails_at(worked: &Worked<'_>, read: usize) -> bool {
     let fails = (read, usize::MAX, false);
     let wanted = printed_after(worked.ends, read);
@@ -101,7 +104,8 @@ fn nobody_waits_for_text(rt: HostRuntime) {
     assert!(rt; found == Some((SCRIPT.len() + 1, 5, PRINTED.len())));
 }
 
-// A reader that fails once is not asked again. Nor is a writer that fails once, or takes nothing once, and nothing is read after that.
+// A reader that fails once is not asked again. Nor is a writer that fails once, or takes nothing once, and nothing is
+// read after that.
 #[test]
 fn what_failed_is_not_asked_again(rt: HostRuntime) {
     for read in 0..=SCRIPT.len() {

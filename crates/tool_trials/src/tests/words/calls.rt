@@ -44,7 +44,10 @@ fn asks(alloc: Global, line: &str, body: &str) -> bool {
     let Ok(Job::Read(call) | Job::Write(call)) = parse(alloc, line) else {
         return false;
     };
-    let is_usual = call.to == P && call.timeout == 3_000 && call.retries == 3 && call.port == 0;
+    let is_usual = call.to == CONTROLLER
+        && call.timeout == 3_000
+        && call.retries == 3
+        && call.port == 0;
     is_usual && are_digits(alloc, call.body.as_slice(), body)
 }
 

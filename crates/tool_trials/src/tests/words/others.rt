@@ -46,7 +46,7 @@ fn plays(alloc: Global, line: &str, set: (u16, u32), digits: &str) -> bool {
     let is_set = (serve.port, serve.count) == set;
     let mut reply = Frame::new();
     let who_is = b"\x81\x0a\x00\x0e\x01\x00\x10\x08\x0a\x03\xe8\x1a\x04\xd2";
-    let _ = demo(serve.info).answer(Q, who_is, &mut reply);
+    let _ = demo(serve.info).answer(OTHER, who_is, &mut reply);
     is_set && are_digits(alloc, reply.as_slice(), digits)
 }
 

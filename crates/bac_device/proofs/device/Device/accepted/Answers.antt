@@ -4,7 +4,7 @@ use Rattle.bac_wire.specs.Datum.{Datum}
 use Rattle.bac_pdu.specs.Property.{Order, order}
 use Rattle.bac_device.specs.declared.failure.Failure.{Failure}
 use Rattle.bac_device.specs.declared.failure.Failure.TheVariants.{NotAnArray}
-use Rattle.bac_device.specs.Steps.{◌>>=◌, needs}
+use Rattle.bac_device.specs.Steps.{◌>>=◌, or_fail}
 use Rattle.bac_device.specs.Property.{single}
 use Rattle.bac_device.specs.Places.{Standing}
 use Rattle.bac_device.specs.Device.{DeviceState}
@@ -13,21 +13,32 @@ use Rattle.bac_device.proofs.device.Device.accepted.Goals as goal
 
 -- An index stands at no single value.
 no_index : {A : Type 0} (value : Datum) (index : Option ℕ) (rest : Result A Failure)
-    → (needs NotAnArray (if takes_index (single value) index then Some (single value) else None) >>= (λ _. rest)) ≡ if is_some index then Err NotAnArray else rest
+    → (or_fail NotAnArray (if takes_index (single value) index then Some (single value) else None) >>= (λ _. rest))
+    ≡ if is_some index then Err NotAnArray else rest
 no_index value None rest = refl
 no_index value (Some index) rest = refl
 
 -- What an order comes to that names the present value of a point.
-accepted_at : (device : DeviceState) (o : Order) (standing : Standing) (value : Datum) → commanded device o.reference ≡ Some standing
+accepted_at : (device : DeviceState) (o : Order) (standing : Standing) (value : Datum)
+    → commanded device o.reference ≡ Some standing
     → property_of device o.reference.object o.reference.property ≡ Ok (single value)
     → accepted device o ≡ if is_some o.reference.index then Err NotAnArray else ordered standing o
 unfolding accepted
-accepted_at device o standing value found property = rw (property, found) (no_index value o.reference.index (ordered standing o))
+accepted_at device o standing value found property =
+    rw (property, found) (no_index value o.reference.index (ordered standing o))
 
 pub returns-then-is_some-2 : goal.returns-then-is_some-2
 returns-then-is_some-2 c =
-    rw (accepted_at c.args.self.now (order c.args.request.now) c.in-Some.point.now _ (sym c.in-Some.ensures.point) c.in-Some.ensures.property, ← c.if-is_some-2.ensures) refl
+    rw (
+      accepted_at c.args.self.now (order c.args.request.now) c.in-Some.point.now _ (sym c.in-Some.ensures.point)
+          c.in-Some.ensures.property,
+      ← c.if-is_some-2.ensures,
+    ) refl
 
 pub returns : goal.returns
 returns c =
-    rw (accepted_at c.args.self.now (order c.args.request.now) c.in-Some.point.now _ (sym c.in-Some.ensures.point) c.in-Some.ensures.property, ← c.if-is_some-2.ensures) c.ordered.ensures
+    rw (
+      accepted_at c.args.self.now (order c.args.request.now) c.in-Some.point.now _ (sym c.in-Some.ensures.point)
+          c.in-Some.ensures.property,
+      ← c.if-is_some-2.ensures,
+    ) c.ordered.ensures

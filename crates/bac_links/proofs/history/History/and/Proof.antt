@@ -1,4 +1,5 @@
--- `and` picks the entries of the new history. A proof by hand: `Walks` of bac_text says why, and where its form is from.
+-- `and` picks the entries of the new history. A proof by hand: `Walks` of bac_text says why, and where its form is
+-- from.
 use Rattle.std.proofs.Common.{List, [], ◌∷◌, ◌++◌, refl}
 use seplogic.Ra.Ura.{Ura}
 use mir.Syntax.{Fn}
@@ -11,7 +12,8 @@ use contract.Monad.{Fun}
 use contract.Running.{tables, tables_of}
 use sound.WpLaws.{WpFn-mono}
 use types.Logic.{Logic}
-use types.Kit.{‵, raw, ◌⊛◌, prop, ◌$◌, ◌∵◌, !, qed, move, keep, drop, split, fsplit, fjoin, feq_l, regoal, suffices, done}
+use types.Kit.{‵, raw, ◌⊛◌, prop, ◌$◌, ◌∵◌, !, qed, move, keep, drop, split, fsplit, fjoin, feq_l, regoal, suffices}
+use types.Kit.{done}
 use types.Part.{agg}
 use types.Run.{enter, returns, no_more}
 use types.ByLocal.{alloc_all, pass_all, free_all, look_at, sets}
@@ -28,7 +30,7 @@ use denote.Triple.Walked.{says, Stays, stay_dropped, walk_of, ends_at, walk_Meet
 use Rattle.bac_text.proofs.Walks.{none, none_made}
 use Rattle.bac_links.specs.contracts.history.History as History
 use Rattle.bac_links.specs.contracts.history.Note as Note
-use Rattle.bac_links.specs.Note.{noted}
+use Rattle.bac_links.specs.Inner.Note.{noted}
 use Rattle.bac_links.specs.contracts.history.History.and as F
 use Rattle.bac_links.specs.contracts.history.History.and.Key.{name as #self}
 use Rattle.bac_links.proofs.history.History.and.Statement as stated
@@ -56,15 +58,18 @@ module _ {M : Type 1} {𝓤 : Ura M} (𝓛 : Logic 𝓤) (at_mem : Memory → SP
     abbrev toks : SProp 𝓤
     toks = alive 𝓛 ended.signature z.0.0 z.0.1
 
-    walks : ent 𝓤 ((walk_of 𝓛 ended stayed held).pre z) (WpFn 𝓤 H C Λ function ((walk_of 𝓛 ended stayed held).args z) Post)
+    walks : ent 𝓤 ((walk_of 𝓛 ended stayed held).pre z)
+        (WpFn 𝓤 H C Λ function ((walk_of 𝓛 ended stayed held).args z) Post)
     walks =
         let a = z.0.3 in
         let vss = z.0.4 in
         let u : Val = vptr a.0.ref_ptr.0 a.0.ref_ptr.1 in
         let v : Val = vptr a.1.0.ref_ptr.0 a.1.0.ref_ptr.1 in
         let history : (History.the_row).Denot = record { entries = noted a.0.now.entries a.1.0.now } in
-        qed 𝓛 ((raw toks ⊛ ‵ (owns (types_at ended.signature.params z.0.0) a vss)) ∷ raw ((held z.0.0 a).requires z.1) ∷ []) ∵
-        keep ! (0 ∷ []) $ split ! $ move ! (1 ∷ []) $ fsplit ! $ fsplit ! $ feq_l ! (λ is₀. drop ! $ fsplit ! $ fsplit ! $ feq_l ! (λ is₁. drop ! $ drop ! $
+        qed 𝓛 ((raw toks ⊛ ‵ (owns (types_at ended.signature.params z.0.0) a vss)) ∷ raw ((held z.0.0 a).requires z.1)
+        ∷ []) ∵
+        keep ! (0 ∷ []) $ split ! $ move ! (1 ∷ []) $ fsplit ! $ fsplit ! $ feq_l !
+        (λ is₀. drop ! $ fsplit ! $ fsplit ! $ feq_l ! (λ is₁. drop ! $ drop ! $
         regoal ! (λ (us : List Val). prop (WpFn 𝓤 H C Λ function (us ++ (vss.1.0 ++ [])) Post)) is₀ refl $
         regoal ! (λ (us : List Val). prop (WpFn 𝓤 H C Λ function ((u ∷ []) ++ (us ++ [])) Post)) is₁ refl $
         enter ! C Λ function (u ∷ v ∷ []) Post $ alloc_all ! (λ l. pass_all ! refl ((tt, tt), ((tt, tt), tt)) $
@@ -76,7 +81,14 @@ module _ {M : Type 1} {𝓤 : Ura M} (𝓛 : Logic 𝓤) (at_mem : Memory → SP
 
   meets : (𝓣 : Tables 𝓤 H) → Meets 𝓛 ended.signature (WpFn 𝓤 H 𝓣.C 𝓣.Λ function) (closing 𝓛 ended held)
   meets 𝓣 =
-      walk_Meets 𝓛 ended stayed (Goes-dropped 𝓛 3 (RefOf (0 ∷ []) tt (plain (λ _. History.the_row)) (λ _. tt)) yes (λ κs x f. refl), (Goes-dropped 𝓛 3 (RefOf (1 ∷ []) tt (plain (λ κs. Note.the_row (named_lft 3 2 tt κs))) (λ _. tt)) yes (λ κs x f. refl), tt)) held
+      walk_Meets 𝓛 ended stayed (
+        Goes-dropped 𝓛 3 (RefOf (0 ∷ []) tt (plain (λ _. History.the_row)) (λ _. tt)) yes (λ κs x f. refl),
+        (
+          Goes-dropped 𝓛 3 (RefOf (1 ∷ []) tt (plain (λ κs. Note.the_row (named_lft 3 2 tt κs))) (λ _. tt)) yes
+              (λ κs x f. refl),
+          tt,
+        ),
+      ) held
       (WpFn 𝓤 H 𝓣.C 𝓣.Λ function) (WpFn-mono 𝓤 H 𝓛.laws 𝓣 function) (walks 𝓣.C 𝓣.Λ)
 
 pub and_spec : {M : Type 1} → stated.statement M

@@ -1,19 +1,20 @@
 use Rattle.std.proofs.Common.{◌≡◌, ◌≤◌, ◌+◌, [], false, length}
 use Rattle.bac_text.specs.Checked.{has_failed, reads_of}
 use Rattle.bac_text.specs.Page.{Prints}
-use Rattle.bac_script.specs.Input.{Takes, HasNotEnded, IsSpared, ReadForLine, may_read, may_come}
+use Rattle.bac_script.specs.Input.{HasNotEnded, ReadsNoMore}
+use Rattle.bac_script.specs.Inner.Input.{TakesAndKeeps, ReadForLine, may_read, most_to_come}
 use Rattle.bac_script.proofs.input.Chunk.next_line.Given as goal
 
 abbrev pub invariant-loop-length : goal.invariant-loop-length
 invariant-loop-length g l = record {
-  given : Takes g.R.Read.remaining l.fn.reader l.reader l.fn.self l.self [];
+  given : TakesAndKeeps g.R.Read.remaining l.fn.reader l.reader l.fn.self l.self [];
   printed : Prints g.W.Write.contents l.fn.page l.page [];
   sound : has_failed l.reader ≡ false;
   unended : HasNotEnded l.fn.reader l.reader;
   asked : reads_of l.reader + length l.fn.self ≤ reads_of l.fn.reader + length l.self;
   needed : ReadForLine l.fn.reader l.reader l.fn.self l.self;
-  spared : IsSpared l.fn.reader l.reader;
-  room : may_come l.reader l.self ≤ may_come l.fn.reader l.fn.self;
+  spared : ReadsNoMore l.fn.reader l.reader;
+  room : most_to_come l.reader l.self ≤ most_to_come l.fn.reader l.fn.self;
 }
 
 abbrev pub decreases-loop-length : goal.decreases-loop-length

@@ -5,7 +5,8 @@ use Rattle.bac_pdu.proofs.LengthLaws.{read_octets_short}
 use Rattle.bac_text.proofs.bodies.BodyRoom.read_body.Goals as goal
 
 -- What is appended to nothing, where there is room for it.
-written : {A E : Type 0} (r : Result A E) (before after octets : List ℕ) → before ≡ [] → length octets ≤ 45 → Appends before octets after r →
+written : {A E : Type 0} (r : Result A E) (before after octets : List ℕ) → before ≡ [] → length octets ≤ 45
+    → Appends before octets after r →
     after ≡ octets
 written (Ok x) before after octets none short appended = appended.ok ∙ ap (λ (xs : List ℕ). xs ++ octets) none
 written (Err e) before after octets none short appended =

@@ -11,12 +11,15 @@ pub returns-in_err-read_pairs : goal.returns-in_err-read_pairs
 returns-in_err-read_pairs g c =
     let p = err_from_is_err_and c.from_residual.result c.from_residual.ensures.1 in
     record {
-      body = rw (p.1, p.2) (body-fault (identifier c.args.object) c.args.property c.args.index c.args.priority (g.S.WordSource.left c.args.words.now) _ c.in_err-read_pairs.ensures.value);
+      body = rw (p.1, p.2)
+          (body-fault (identifier c.args.object) c.args.property c.args.index c.args.priority
+          (g.S.WordSource.left c.args.words.now) _ c.in_err-read_pairs.ensures.value);
       short = rw p.1 tt;
       left = rw (p.1, p.2) c.in_err-read_pairs.ensures.left;
     }
 
 pub write_write-requires-clause-region : goal.write_write-requires-clause-region
 write_write-requires-clause-region g c =
-    let written = region_written (g.S.WordSource.left c.args.words.now) c.read_pairs.new.region c.in_ok-read_pairs.ensures.value in
+    let written = region_written (g.S.WordSource.left c.args.words.now) c.read_pairs.new.region
+    c.in_ok-read_pairs.ensures.value in
     subst (IsRegion 32) (sym c.as_slice.ensures.value) (values_are_region written.values _ written.spelled)

@@ -8,11 +8,13 @@ loop-rest-preserved g c =
     let before = c.loop-rest.invariant.reads in
     let after = c.write.ensures.reads in
     record {
-      sent = Sent_more g.W.Write.contents c.args.self.now c.loop-rest.self c.write.new.self c.args.text.now c.loop-rest.rest.now c.in-Ok.taken c.loop-rest.invariant.sent c.in-Ok.ensures.passed c.in-Ok.ensures.bytes;
+      sent = Sent_more g.W.Write.contents c.args.self.now c.loop-rest.self c.write.new.self c.args.text.now
+          c.loop-rest.rest.now c.in-Ok.taken c.loop-rest.invariant.sent c.in-Ok.ensures.passed c.in-Ok.ensures.bytes;
       sound = grind arith;
       reads = (after.0 ∙ before.0, after.1 ∙ before.1, after.2 ∙ before.2);
     }
 
 pub returns-clause-text : goal.returns-clause-text
 returns-clause-text g c =
-    Sent_all g.W.Write.contents c.args.self.now c.loop-rest.self c.args.text.now c.loop-rest.rest.now c.loop-rest.invariant.sent (grind arith)
+    Sent_all g.W.Write.contents c.args.self.now c.loop-rest.self c.args.text.now c.loop-rest.rest.now
+    c.loop-rest.invariant.sent (grind arith)

@@ -5,4 +5,5 @@ use Rattle.bac_text.specs.Values.{quoted_octet}
 use Rattle.bac_text.proofs.page.Page.print_quoted_octets.Given as goal
 
 abbrev pub invariant-loop-octet : goal.invariant-loop-octet
-invariant-loop-octet g l = Prints g.W.Write.contents l.fn.self l.self (flat_map quoted_octet (take l.octet-index l.text))
+invariant-loop-octet g l =
+    Prints g.W.Write.contents l.fn.self l.self (flat_map quoted_octet (take l.octet-index l.text))

@@ -10,16 +10,22 @@ held-requires c =
     read_within c.self.invariant.0 c.args.turn _ lt (sym (same_turn _ _ _ lt c.remove-place.ensures.value))
 
 pub take_out-requires : goal.take_out-requires
-take_out-requires c = sent_place c.self.invariant.0 _ c.self.view_is c.args.turn c.requires _ c.remove-place.ensures.value _ c.self.invariant.1
+take_out-requires c =
+    sent_place c.self.invariant.0 _ c.self.view_is c.args.turn c.requires _ c.remove-place.ensures.value _
+    c.self.invariant.1
 
 pub invariant_of-self : goal.invariant_of-self
 invariant_of-self c =
     let all =
-    ended_by c.self.invariant.0 _ c.self.view_is c.args.turn c.requires _ _ _ _ _ _ _ c.remove-place.ensures.value c.held.ensures c.number-number.ensures
-    c.from.ensures c.remove-place.ensures.items c.push.ensures.items c.remove.ensures.items _ _ c.self.invariant.1 c.take_out.ensures in
+    ended_by c.self.invariant.0 _ c.self.view_is c.args.turn c.requires _ _ _ _ _ _ _ c.remove-place.ensures.value
+    c.held.ensures c.number-number.ensures
+    c.from.ensures c.remove-place.ensures.items c.push.ensures.items c.remove.ensures.items _ _ c.self.invariant.1
+    c.take_out.ensures in
     (all.1, all.2)
 
 pub returns : goal.returns
 returns c =
-    (ended_by c.self.invariant.0 _ c.self.view_is c.args.turn c.requires _ _ _ _ _ _ _ c.remove-place.ensures.value c.held.ensures c.number-number.ensures
-    c.from.ensures c.remove-place.ensures.items c.push.ensures.items c.remove.ensures.items _ _ c.self.invariant.1 c.take_out.ensures).0
+    (ended_by c.self.invariant.0 _ c.self.view_is c.args.turn c.requires _ _ _ _ _ _ _ c.remove-place.ensures.value
+    c.held.ensures c.number-number.ensures
+    c.from.ensures c.remove-place.ensures.items c.push.ensures.items c.remove.ensures.items _ _ c.self.invariant.1
+    c.take_out.ensures).0

@@ -3,4 +3,5 @@ use Rattle.bac_tsm.proofs.TableReads.{taken}
 use Rattle.bac_tsm.proofs.table.Table.is_taken.Goals as goal
 
 pub returns : goal.returns
-returns c = c.is_some.ensures ∙ taken c.self.invariant.0 c.args.number c.ranges.number.fits _ c.from.ensures _ c.self.view_is
+returns c = c.is_some.ensures
+    ∙ taken c.self.invariant.0 c.args.number c.ranges.number.fits _ c.from.ensures _ c.self.view_is

@@ -4,19 +4,31 @@ use Rattle.bac_tsm.proofs.TableEdits.{opened_by}
 use Rattle.bac_tsm.proofs.table.Table.open.Goals as goal
 
 pub begin_at-requires-clause-within : goal.begin_at-requires-clause-within
-begin_at-requires-clause-within c = rw (c.deref.ensures.0, c.len.ensures.value) (next_free c.self.invariant.0 _ c.self.view_is c.requires.room)
+begin_at-requires-clause-within c =
+    rw (c.deref.ensures.0, c.len.ensures.value) (next_free c.self.invariant.0 _ c.self.view_is c.requires.room)
 
 pub put_last-requires : goal.put_last-requires
-put_last-requires c = omega (arith, c.self.invariant.1.all, as_many c.self.invariant.0, count c.self.invariant.0 _ c.self.view_is, c.requires.room)
+put_last-requires c =
+    omega (
+      arith,
+      c.self.invariant.1.all,
+      as_many c.self.invariant.0,
+      count c.self.invariant.0 _ c.self.view_is,
+      c.requires.room,
+    )
 
 pub invariant_of-self : goal.invariant_of-self
 invariant_of-self c =
     let all =
-    opened_by c.self.invariant.0 _ c.self.view_is _ c.self.invariant.1 c.requires.room _ c.deref.ensures.0 c.len.result c.len.ensures.value c.args.asked c.args.body.now
-    c.requires.number c.requires.latest c.requires.past _ _ _ _ c.from.ensures c.begin_at.ensures c.push.ensures.items c.put_last.ensures in
+    opened_by c.self.invariant.0 _ c.self.view_is _ c.self.invariant.1 c.requires.room _ c.deref.ensures.0 c.len.result
+    c.len.ensures.value c.args.asked c.args.body.now
+    c.requires.number c.requires.latest c.requires.past _ _ _ _ c.from.ensures c.begin_at.ensures c.push.ensures.items
+    c.put_last.ensures in
     (all.1, all.2)
 
 pub returns : goal.returns
 returns c =
-    (opened_by c.self.invariant.0 _ c.self.view_is _ c.self.invariant.1 c.requires.room _ c.deref.ensures.0 c.len.result c.len.ensures.value c.args.asked c.args.body.now
-    c.requires.number c.requires.latest c.requires.past _ _ _ _ c.from.ensures c.begin_at.ensures c.push.ensures.items c.put_last.ensures).0
+    (opened_by c.self.invariant.0 _ c.self.view_is _ c.self.invariant.1 c.requires.room _ c.deref.ensures.0 c.len.result
+    c.len.ensures.value c.args.asked c.args.body.now
+    c.requires.number c.requires.latest c.requires.past _ _ _ _ c.from.ensures c.begin_at.ensures c.push.ensures.items
+    c.put_last.ensures).0

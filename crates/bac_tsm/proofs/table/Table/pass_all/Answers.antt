@@ -8,26 +8,37 @@ use Rattle.bac_tsm.proofs.table.Table.pass_all.Goals as goal
 
 pub put_last-requires : goal.put_last-requires
 put_last-requires c =
-    let less = (fewer (client_rules c.args.config.timeout c.args.config.retries) c.args.clock c.args.config.positive c.loop-is_due.invariant.ticked c.pass-entry.result _ c.pass-entry.ensures).0 in
+    let less = (fewer (client_rules c.args.config.timeout c.args.config.retries) c.args.clock c.args.config.positive
+    c.loop-is_due.invariant.ticked c.pass-entry.result _ c.pass-entry.ensures).0 in
     let most = few_due (client_rules c.args.config.timeout c.args.config.retries) c.args.clock c.args.self.now in
     let few = c.requires.few in
     omega arith
 
 pub loop-is_due-smaller : goal.loop-is_due-smaller
-loop-is_due-smaller c = (fewer (client_rules c.args.config.timeout c.args.config.retries) c.args.clock c.args.config.positive c.loop-is_due.invariant.ticked c.pass-entry.result _ c.pass-entry.ensures).1
+loop-is_due-smaller c =
+    (fewer (client_rules c.args.config.timeout c.args.config.retries) c.args.clock c.args.config.positive
+    c.loop-is_due.invariant.ticked c.pass-entry.result _ c.pass-entry.ensures).1
 
 pub loop-is_due-preserved : goal.loop-is_due-preserved
 loop-is_due-preserved c = record {
   ticked =
-      rw c.put_last.ensures (passed (client_rules c.args.config.timeout c.args.config.retries) c.args.clock c.args.config.positive c.loop-is_due.invariant.ticked c.pass-entry.result _ c.pass-entry.ensures);
+      rw c.put_last.ensures
+      (passed (client_rules c.args.config.timeout c.args.config.retries) c.args.clock c.args.config.positive
+      c.loop-is_due.invariant.ticked c.pass-entry.result _ c.pass-entry.ensures);
   due = c.is_due-is_due.ensures.due;
 }
 
 pub returns-clause-told : goal.returns-clause-told
 returns-clause-told c =
-    rw (refilled c.loop-is_due.entries.items c.sort_by_ticket.new.entries (length_permutation _ _ c.sort_by_ticket.ensures.same ∙ ap length c.as_mut_slice.ensures.value))
-    (IsPermutation-trans _ _ _ (all_passed (client_rules c.args.config.timeout c.args.config.retries) c.args.clock c.args.config.positive c.loop-is_due.invariant.ticked (sym c.loop-is_due.invariant.due ∙ c.loop-is_due-test.false)).0
-    (subst (λ (es : List Entry). IsPermutation es c.sort_by_ticket.new.entries) c.as_mut_slice.ensures.value c.sort_by_ticket.ensures.same))
+    rw (refilled c.loop-is_due.entries.items c.sort_by_ticket.new.entries
+    (length_permutation _ _ c.sort_by_ticket.ensures.same ∙ ap length c.as_mut_slice.ensures.value))
+    (IsPermutation-trans _ _ _
+    (all_passed (client_rules c.args.config.timeout c.args.config.retries) c.args.clock c.args.config.positive
+    c.loop-is_due.invariant.ticked (sym c.loop-is_due.invariant.due ∙ c.loop-is_due-test.false)).0
+    (subst (λ (es : List Entry). IsPermutation es c.sort_by_ticket.new.entries) c.as_mut_slice.ensures.value
+    c.sort_by_ticket.ensures.same))
 
 pub returns-clause-kept : goal.returns-clause-kept
-returns-clause-kept c = (all_passed (client_rules c.args.config.timeout c.args.config.retries) c.args.clock c.args.config.positive c.loop-is_due.invariant.ticked (sym c.loop-is_due.invariant.due ∙ c.loop-is_due-test.false)).1
+returns-clause-kept c =
+    (all_passed (client_rules c.args.config.timeout c.args.config.retries) c.args.clock c.args.config.positive
+    c.loop-is_due.invariant.ticked (sym c.loop-is_due.invariant.due ∙ c.loop-is_due-test.false)).1

@@ -9,7 +9,8 @@ abbrev pub invariant-loop-is_due : goal.invariant-loop-is_due
 invariant-loop-is_due l =
     let rules = client_rules l.config.timeout l.config.retries in
     record {
-      ticked : HasTicked rules l.clock (due_of rules l.clock l.initial.self) (kept_of rules l.clock l.initial.self) l.entries.items l.self;
+      ticked : HasTicked rules l.clock (due_of rules l.clock l.initial.self) (kept_of rules l.clock l.initial.self)
+          l.entries.items l.self;
       due : l.is_due ≡ list_any (is_due rules l.clock) l.self;
     }
 

@@ -9,7 +9,8 @@ use Rattle.std.proofs.lemmas.Option.{none-some, same_Some, slice_get-get_or}
 use Rattle.bac_tsm.proofs.TableReads.{likely_turn, searched_turn}
 use Rattle.bac_tsm.proofs.table.Table.turn_of.Goals as goal
 
-got : (r : Option (Bor ℕ)) (xs : List ℕ) (i ticket : ℕ) → is_some r ≡ nat_lt i (length xs) → IfSome r (λ x. x.now ≡ get_or xs i x.now) →
+got : (r : Option (Bor ℕ)) (xs : List ℕ) (i ticket : ℕ) → is_some r ≡ nat_lt i (length xs)
+    → IfSome r (λ x. x.now ≡ get_or xs i x.now) →
     option_copied r ≡ Some ticket → slice_get xs i ≡ Some ticket
 got None xs i ticket within there is = absurd (none-some _ is)
 got (Some x) xs i ticket within there is =
@@ -23,4 +24,6 @@ returns-then-eq c =
     (sym c.copied.ensures ∙ is))
 
 pub returns : goal.returns
-returns c = rw c.ok.ensures.value (searched_turn c.self.invariant.0 _ c.self.view_is c.args.ticket _ c.as_slice.ensures.value _ c.binary_search.ensures.position)
+returns c = rw c.ok.ensures.value
+    (searched_turn c.self.invariant.0 _ c.self.view_is c.args.ticket _ c.as_slice.ensures.value _
+    c.binary_search.ensures.position)

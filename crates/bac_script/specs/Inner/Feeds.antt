@@ -2,6 +2,6 @@
 use Rattle.std.specs.Prelude.{◌≢◌, ℕ, List}
 use Rattle.std.specs.List.{AllByRecursion}
 
--- none of these is a line feed
+-- None of these is a line feed.
 abbrev pub HasNoFeed : List ℕ → Type 0
 HasNoFeed = AllByRecursion (λ octet. octet ≢ 10)

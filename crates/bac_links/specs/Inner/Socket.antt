@@ -1,11 +1,13 @@
 -- What a link makes of a socket's addresses and errors.
-use Rattle.std.specs.Prelude.{◌≡◌, ℕ, ◌/◌, ◌-◌, ◌^◌, min, Bool, true, false, List, length, nat_le, Option, Some, None, Result, Ok, Err, if◌then◌else◌}
+use Rattle.std.specs.Prelude.{◌≡◌, ℕ, ◌/◌, ◌-◌, ◌^◌, min, Bool, true, false, List, length, nat_le, Option, Some, None}
+use Rattle.std.specs.Prelude.{Result, Ok, Err, if◌then◌else◌}
 use Rattle.std.specs.Duration.{as_nanos}
 use Rattle.std.specs.Net.Addr.{ipv4_bits, IsIpv4OfBits}
 use Rattle.std.specs.Net.Socket.{v4_ip, v4_port}
 use Rattle.std.specs.declared.time.Duration.{Duration}
 use Rattle.std.specs.declared.io.ErrorKind.{ErrorKind}
-use Rattle.std.specs.declared.io.ErrorKind.TheVariants.{WouldBlock, TimedOut, Interrupted, ConnectionRefused, ConnectionReset, HostUnreachable, NetworkUnreachable}
+use Rattle.std.specs.declared.io.ErrorKind.TheVariants.{WouldBlock, TimedOut, Interrupted, ConnectionRefused}
+use Rattle.std.specs.declared.io.ErrorKind.TheVariants.{ConnectionReset, HostUnreachable, NetworkUnreachable}
 use Rattle.std.specs.declared.net.socket_addr.SocketAddr.{SocketAddr}
 use Rattle.std.specs.declared.net.socket_addr.SocketAddr.TheVariants.{V4, V6}
 use Rattle.bac_pdu.specs.declared.peer.Peer.{Peer}
@@ -23,12 +25,12 @@ abbrev pub peer_at : SocketAddr → Option Peer
 peer_at (V4 address) = Some (record { ip = ipv4_bits (v4_ip address); port = v4_port address; route = None })
 peer_at (V6 address) = None
 
--- The peer that is heard, where these octets came from there: there is none where they are too many.
+-- The peer that these octets came from, where they are not too many to be heard.
 abbrev pub heard_from : SocketAddr → List ℕ → Option Peer
 heard_from address octets = if nat_le (length octets) longest_datagram then peer_at address else None
 
--- The time of a link, by what its clock says has passed since it was made: so many whole milliseconds, up to the greatest number. Where the
--- clock failed it is the time before.
+-- The time of a link: how many whole milliseconds have passed by its clock since it was made, up to the greatest
+-- number. Where the clock failed it is the time before.
 abbrev pub time_by : {E : Type 0} → Result Duration E → ℕ → ℕ
 time_by (Ok passed) before = min (as_nanos passed / 1_000_000) (2 ^ 64 - 1)
 time_by (Err fault) before = before
@@ -37,8 +39,8 @@ abbrev pub is_lost : Refused → Bool
 is_lost Fails = false
 is_lost IsLost = true
 
--- A receive with this error heard nothing, and that is all: its time was over; or a datagram that was sent before did not come to its
--- peer, and such a loss is none of this link's.
+-- A receive with this error counts as silence: its time was over, or it tells that a datagram sent before did not come
+-- to its peer, and such a datagram counts as lost.
 abbrev pub is_quiet : Refused → ErrorKind → Bool
 is_quiet refused WouldBlock = true
 is_quiet refused TimedOut = true

@@ -6,7 +6,7 @@ abbrev pub octets_or_none : Result (List ℕ) ℕ → List ℕ
 octets_or_none (Ok body) = body
 octets_or_none (Err n) = []
 
--- It has more octets than a client sends.
+-- The body has more octets than a client sends.
 abbrev pub is_long : Result (List ℕ) ℕ → Bool
 is_long (Ok body) = nat_lt longest_body (length body)
 is_long (Err n) = false

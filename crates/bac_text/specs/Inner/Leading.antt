@@ -4,7 +4,8 @@ use Rattle.std.specs.Char.{is_ascii_digit}
 use Rattle.std.specs.Str.{all_ascii_digits}
 use Rattle.std.specs.Str.Parse.{digits_value}
 
--- So many digits, at most this many, write the number; where they are fewer, no digit follows.
+-- The text begins with so many digits, at most as many as are looked at, and they write this number. Where they are
+-- fewer, no digit follows.
 pub record IsLeading (text : List ℕ) (most number count : ℕ) : Type 0 where
   pub within : count ≤ length text
   pub few : count ≤ most

@@ -11,13 +11,14 @@ use Rattle.bac_links.specs.Told.{Told, Heard, Silence, Arrival, Failure}
 use Rattle.bac_links.specs.History.{Entry, Posted, Unposted, Account, GainsAll}
 use Rattle.bac_links.specs.Handed.{turns}
 use Rattle.bac_links.specs.Courses.{first_below, stops_at}
-use Rattle.bac_links.specs.Call.{posts, rules_for, wait_of, heard_in, begun_at, entries_of, end_in, has_ended, FailsToSend, FailsToReceive}
-use Rattle.bac_links.specs.declared.ending.Tool.{Tool}
+use Rattle.bac_links.specs.Call.{posts, rules_for, wait_of, heard_in, begun_at, entries_of, end_in, has_ended}
+use Rattle.bac_links.specs.Call.{FailsToSend, FailsToReceive}
+use Rattle.bac_links.specs.declared.ending.Purpose.{Purpose}
 use Rattle.bac_text.specs.declared.jobs.Call.{Call}
 use Rattle.bac_links.specs.declared.fault.ToolFault.{ToolFault}
 use Rattle.bac_links.specs.declared.fault.ToolFault.TheVariants.{SendFailed, ReceiveFailed, TurnsSpent, WriteFailed}
 
--- The ends in a note, and among notes.
+-- The end in a note, and the ends among notes.
 abbrev pub ending_in : Note → List (Option Outcome)
 ending_in (Sent ticket peer octets) = []
 ending_in (Refused why) = []
@@ -28,22 +29,23 @@ ending_in (TimedOut ticket) = None ∷ []
 abbrev pub endings : List Note → List (Option Outcome)
 endings = flat_map ending_in
 
--- These notes are one send, which could not be made.
+-- These notes are one send, which the link could not make.
 abbrev pub GainsLost : List Note → List Entry → Account → Account → Type 0
 GainsLost notes gained before after =
-    (to : Station) × (octets : List ℕ) × (posts notes ≡ Posted to octets ∷ []) × GainsAll (gained ++ Unposted to octets ∷ []) before after
+    (to : Station) × (octets : List ℕ) × (posts notes ≡ Posted to octets ∷ [])
+    × GainsAll (gained ++ Unposted to octets ∷ []) before after
 
--- What was heard is handed to the client.
+-- What is heard is handed to the client.
 abbrev pub heard_step : Rules → State → Heard → Stepped
 heard_step rules state Silence = record { notes = []; after = state }
 heard_step rules state (Arrival from octets) = step rules state (Data from octets)
 heard_step rules state Failure = record { notes = []; after = state }
 
--- One request is open.
+-- The client has one open request.
 abbrev pub IsAlone : State → Type 0
 IsAlone state = (w : Waiting) × (state.waiting ≡ w ∷ [])
 
--- The end that a tick makes, if it makes one.
+-- The end that a tick makes, where it makes one.
 abbrev pub timeouts : Bool → List (Option Outcome)
 timeouts true = None ∷ []
 timeouts false = []
@@ -52,32 +54,33 @@ abbrev pub answers : Option Outcome → List (Option Outcome)
 answers None = []
 answers (Some outcome) = Some outcome ∷ []
 
--- What a call is handed after its request.
+-- A call hands the client nothing but datagrams and ticks after its request.
 abbrev pub IsNews : Event → Type 0
 IsNews (Ask peer service body) = ⊥
 IsNews (Data peer bytes) = Unit {0}
 IsNews (Tick now) = Unit {0}
 
 -- The client of a call that began at this time and was handed these events since, with its request open.
-pub record Carries (tool : Tool) (call : Call) (time : ℕ) (later : List Event) (client : Client) : Type 0 where
+pub record CarriesOn (purpose : Purpose) (call : Call) (time : ℕ) (later : List Event) (client : Client) : Type 0 where
   pub short : length call.body.items ≤ longest_body
   pub quiet : All IsNews later
-  pub unended : end_in tool call (begun_at tool call time later) ≡ None
+  pub unended : end_in purpose call (begun_at purpose call time later) ≡ None
   pub client_is : client ≡ record {
     timeout = call.timeout;
     retries = call.retries;
-    state = state_at (rules_for call) 0 (begun_at tool call time later) (length (begun_at tool call time later));
+    state = state_at (rules_for call) 0 (begun_at purpose call time later) (length (begun_at purpose call time later));
   }
 
 -- A call after n turns, with its request open.
-pub record Underway (tool : Tool) (call : Call) (t : Told) (gained : List Entry) (client : Client) (n : ℕ) : Type 0 where
-  pub passed : first_below (stops_at (heard_in call t) (has_ended tool call t)) n ≡ None
-  pub carried : Carries tool call (t.time []) (turns (wait_of call) t n) client
-  pub history : gained ≡ entries_of tool call t n
+pub record Underway (purpose : Purpose) (call : Call) (t : Told) (gained : List Entry) (client : Client) (n : ℕ)
+    : Type 0 where
+  pub passed : first_below (stops_at (heard_in call t) (has_ended purpose call t)) n ≡ None
+  pub carried : CarriesOn purpose call (t.time []) (turns (wait_of call) t n) client
+  pub history : gained ≡ entries_of purpose call t n
 
 -- A turn failed.
-abbrev pub TurnFails : Tool → Call → Told → List Entry → ToolFault → Type 0
-TurnFails tool call t gained SendFailed = (n : ℕ) × FailsToSend tool call t gained n
-TurnFails tool call t gained ReceiveFailed = (n : ℕ) × FailsToReceive tool call t gained n
-TurnFails tool call t gained TurnsSpent = ⊥
-TurnFails tool call t gained WriteFailed = ⊥
+abbrev pub TurnFails : Purpose → Call → Told → List Entry → ToolFault → Type 0
+TurnFails purpose call t gained SendFailed = (n : ℕ) × FailsToSend purpose call t gained n
+TurnFails purpose call t gained ReceiveFailed = (n : ℕ) × FailsToReceive purpose call t gained n
+TurnFails purpose call t gained TurnsSpent = ⊥
+TurnFails purpose call t gained WriteFailed = ⊥

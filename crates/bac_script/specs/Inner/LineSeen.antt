@@ -1,5 +1,5 @@
 -- A line as the program keeps it, and what it says.
-use Rattle.std.specs.Prelude.{ℕ, List, Result, Ok, Err}
+use Rattle.std.specs.Prelude.{ℕ, List}
 use Rattle.bac_tsm.specs.Events.{Ask, Tick}
 use Rattle.bac_script.specs.declared.line.Line.{Line}
 use Rattle.bac_script.specs.declared.line.Line.TheVariants as line
@@ -10,14 +10,15 @@ use Rattle.bac_pdu.specs.Peer.{station}
 use Rattle.bac_device.specs.Turns.{Arrival}
 use Rattle.bac_text.specs.Pairs.{whole_body_of}
 use Rattle.bac_script.specs.Line.{Said, Nothing, Settings, Happens, Asks, handed}
-use Rattle.bac_script.specs.LongBody.{octets_or_none}
+use Rattle.bac_script.specs.Inner.LongBody.{octets_or_none}
 
 abbrev pub arrival_seen : Received → Arrival
 arrival_seen received = record { from = station received.from.now; datagram = received.datagram.now }
 
 -- The body of a request that is too long to be sent.
 abbrev pub long_body : LongWrite → List ℕ
-long_body write = octets_or_none (whole_body_of (identifier write.object) write.property write.index write.priority write.words)
+long_body write =
+    octets_or_none (whole_body_of (identifier write.object) write.property write.index write.priority write.words)
 
 abbrev pub line_seen : Line → Said
 line_seen line.Skipped = Nothing
@@ -27,7 +28,3 @@ line_seen (line.LongWrite write) = Happens (Ask (station write.peer.now) 15 (lon
 line_seen (line.Data received) = handed (arrival_seen received)
 line_seen (line.Tick now) = Happens (Tick now)
 line_seen (line.Ask received) = Asks (arrival_seen received)
-
-abbrev pub result_seen : {E : Type 0} → Result Line E → Result Said E
-result_seen (Ok line) = Ok (line_seen line)
-result_seen (Err fault) = Err fault

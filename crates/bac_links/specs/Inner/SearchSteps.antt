@@ -10,13 +10,16 @@ use Rattle.bac_links.specs.declared.fault.ToolFault.{ToolFault}
 use Rattle.bac_links.specs.declared.fault.ToolFault.TheVariants.{SendFailed, ReceiveFailed, TurnsSpent, WriteFailed}
 
 -- What a wait hears, and what is printed of that.
-abbrev pub Listens : {W : Type 0} → WhoIs → ℕ → (W → Option (List ℕ)) → Checked W → Checked W → Account → Account → Result Bool ToolFault → Type 0
+abbrev pub Listens : {W : Type 0} → WhoIs → ℕ → (W → Option (List ℕ)) → Checked W → Checked W → Account → Account
+    → Result Bool ToolFault → Type 0
 Listens who wait contents before after told left (Ok any) =
     (heard : Heard) × Gains (Waited wait heard) told left × (heard ≢ Failure)
     × (any ≡ has_found (found_by who heard)) × Took contents before after (found_lines (found_by who heard))
 Listens who wait contents before after told left (Err SendFailed) = ⊥
-Listens who wait contents before after told left (Err ReceiveFailed) = Gains (Waited wait Failure) told left × Took contents before after []
+Listens who wait contents before after told left (Err ReceiveFailed) = Gains (Waited wait Failure) told left
+    × Took contents before after []
 Listens who wait contents before after told left (Err TurnsSpent) = ⊥
 Listens who wait contents before after told left (Err WriteFailed) =
     (heard : Heard) × Gains (Waited wait heard) told left
-    × (last : Found) × (found_by who heard ≡ last ∷ []) × (taken rest : List ℕ) × (found_line last ≡ taken ++ rest) × Took contents before after taken
+    × (last : Found) × (found_by who heard ≡ last ∷ []) × (taken rest : List ℕ) × (found_line last ≡ taken ++ rest)
+    × Took contents before after taken

@@ -1,0 +1,13 @@
+-- A write as the code keeps it.
+use Rattle.bac_wire.specs.Identifier.{identifier}
+use Rattle.bac_pdu.specs.Property.{IsPriority}
+use Rattle.bac_device.specs.declared.write.PlaceWrite.{PlaceWrite}
+use Rattle.bac_device.specs.Places.{Write}
+
+-- The write is at a priority that there is.
+abbrev pub IsUrgent : Write → Type 0
+IsUrgent write = IsPriority write.priority
+
+-- A write as the device keeps it, as these definitions have it.
+abbrev pub write_seen : PlaceWrite → Write
+write_seen write = record { object = identifier write.object; priority = write.priority; value = write.value }

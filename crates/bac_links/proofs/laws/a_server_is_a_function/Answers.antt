@@ -1,0 +1,5 @@
+use Rattle.bac_links.proofs.ServingsAlike.{servings_alike}
+use Rattle.bac_links.proofs.laws.a_server_is_a_function.Goals as goal
+
+pub returns : goal.returns
+returns c = servings_alike

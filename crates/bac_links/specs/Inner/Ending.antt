@@ -1,0 +1,11 @@
+-- The end of a request, as a value.
+use Rattle.std.specs.Prelude.{Option, Some, None}
+use Rattle.bac_tsm.specs.Client.{outcome_seen}
+use Rattle.bac_tsm.specs.Events.{Outcome}
+use Rattle.bac_links.specs.declared.ending.Ending.{Ending}
+use Rattle.bac_links.specs.declared.ending.Ending.TheVariants as lent
+
+-- How a request ended, with the octets that this lends: the outcome of an answer, or none where the time ran out.
+abbrev pub ending_seen : Ending → Option Outcome
+ending_seen (lent.Answered outcome) = Some (outcome_seen outcome)
+ending_seen lent.TimedOut = None

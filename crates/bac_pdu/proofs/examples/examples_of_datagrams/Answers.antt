@@ -1,0 +1,24 @@
+use Rattle.std.proofs.Common.{refl}
+use Rattle.bac_wire.specs.Tag.{plain_tag}
+use Rattle.bac_wire.specs.TagReading.{tag_number_at, long_length_at, length_at, shape_at, tag_at}
+use Rattle.bac_wire.specs.ParameterReading.{context_at, number_at, object_at}
+use Rattle.bac_pdu.specs.Parameter.{plain_parameter}
+use Rattle.bac_pdu.specs.PropertyReading.{reference_at, read_of}
+use Rattle.bac_pdu.specs.Datagram.{wrapped}
+use Rattle.bac_pdu.specs.DatagramReading.{address_at, header_at, link_at, carried}
+use Rattle.bac_pdu.specs.ApduReading.{parts_at, apdu_of}
+use Rattle.bac_pdu.proofs.examples.examples_of_datagrams.Goals as goal
+
+pub returns : goal.returns
+unfolding plain_tag tag_number_at long_length_at length_at shape_at tag_at context_at number_at object_at
+    plain_parameter
+    reference_at read_of wrapped address_at header_at link_at carried parts_at apdu_of
+returns c =
+    record {
+      body = refl;
+      body_read = refl;
+      apdu = (refl, refl);
+      datagram = refl;
+      datagram_read = refl;
+      routed = refl;
+    }

@@ -1,0 +1,32 @@
+-- Stations, requests and datagrams, for examples of their octets.
+use Rattle.std.specs.Prelude.{◌≡◌, ℕ, false, List, [], ◌∷◌, Some, None}
+use Rattle.bac_pdu.specs.Peer.{Station}
+use Rattle.bac_pdu.specs.Datagram.{Delivery}
+use Rattle.bac_pdu.specs.Apdu.{Message, laid_out}
+use Rattle.bac_pdu.specs.ApduReading.{apdu_of}
+use Rattle.bac_pdu.specs.Discovery.{Introduction}
+use Rattle.bac_pdu.specs.Property.{Reference}
+
+-- 192.168.1.5, port 47808.
+abbrev pub desk : Station
+desk = record { ip = 0xc0a80105; port = 47808; route = None }
+
+-- The station with address 7 of network 5, behind the router at the desk's address and port.
+abbrev pub far : Station
+far = record { ip = 0xc0a80105; port = 47808; route = Some (record { network = 5; address = 7 ∷ [] }) }
+
+-- The present value (85) of analog-input (type 0) 1.
+abbrev pub present_value : Reference
+present_value = record { object = record { kind = 0; instance = 1 }; property = 85; index = None }
+
+-- Device (type 8) 1234, which takes APDUs of 1476 octets, no segmentation (3), of vendor 260.
+abbrev pub small_device : Introduction
+small_device = record { device = record { kind = 8; instance = 1234 }; max_apdu = 1476; segmentation = 3; vendor = 260 }
+
+-- A datagram from the desk, sent to one device, that carries this APDU.
+abbrev pub from_desk : List ℕ → Delivery
+from_desk apdu = record { peer = desk; broadcast = false; apdu = apdu }
+
+-- These octets are written of an APDU, and the APDU is read from them.
+abbrev pub IsWritten : Message → List ℕ → Type 0
+IsWritten message octets = (laid_out message ≡ octets) × (apdu_of octets ≡ Some message)

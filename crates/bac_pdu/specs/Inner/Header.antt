@@ -1,0 +1,15 @@
+-- The network header that was read, as values.
+use Rattle.std.specs.Option.{option_map}
+use Rattle.bac_pdu.specs.declared.header.Address.{Address}
+use Rattle.bac_pdu.specs.declared.header.Header.{Header}
+use Rattle.bac_pdu.specs.Peer.{NetworkAddress}
+use Rattle.bac_pdu.specs.Header.{NetworkHeader}
+
+-- A station as the code has it, without where the octets lie in memory.
+abbrev pub address_seen : Address → NetworkAddress
+address_seen station = record { network = station.network; address = station.address.now }
+
+-- A header as the code has it, without where the octets lie in memory.
+abbrev pub header_seen : Header → NetworkHeader
+header_seen header =
+    record { destination = option_map address_seen header.destination; source = option_map address_seen header.source }

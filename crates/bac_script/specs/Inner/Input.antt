@@ -1,0 +1,57 @@
+-- How the lines of a script are cut from what its reader gave.
+use Rattle.std.specs.Prelude.{◌≡◌, ℕ, ◌+◌, ◌-◌, ◌*◌, ◌<◌, ◌≤◌, take, drop, List, [], ◌∷◌, ◌++◌, length, Option, ◌⊎◌}
+use Rattle.bac_text.specs.declared.checked.Checked.{Checked}
+use Rattle.bac_script.specs.declared.input.Reading.{Reading}
+use Rattle.bac_script.specs.declared.input.Reading.TheVariants.{Open, AtEnd, Failed}
+use Rattle.bac_script.specs.Inner.Feeds.{HasNoFeed}
+use Rattle.bac_script.specs.Inner.Limits.{line_room, chunk_room}
+use Rattle.bac_text.specs.Checked.{reads_of, last_of, Gave}
+use Rattle.bac_script.specs.Input.{most_reads, ReaderStands}
+
+-- So many reads may still be made.
+abbrev pub may_read : {R : Type 0} → Checked R → ℕ
+may_read reader = most_reads - reads_of reader
+
+-- No more octets than this can still be taken: those held, and what the reads that may still be made give at most.
+abbrev pub most_to_come : {R : Type 0} → Checked R → List ℕ → ℕ
+most_to_come reader held = chunk_room * may_read reader + length held
+
+-- The octets held and then those that the reader gave are those taken and then those kept.
+pub record TakesAndKeeps {R : Type 0} (remaining : R → Option (List ℕ)) (before after : Checked R)
+    (held kept taken : List ℕ) : Type 0 where
+  pub given : List ℕ
+  pub gave : Gave remaining before after given
+  pub order : held ++ given ≡ taken ++ kept
+
+-- What the last read gave ends what is held, and before that read no whole line was held. For each octet that the reads
+-- before it gave there was at most one read, and there was one more.
+pub record LastRead {R : Type 0} (reader reader' : Checked R) (held now : List ℕ) : Type 0 where
+  pub before : List ℕ
+  pub order : now ≡ (held ++ before) ++ last_of reader'
+  pub asked : reads_of reader' ≤ reads_of reader + length before + 1
+  pub no_feed : HasNoFeed (held ++ before)
+  pub short : length (held ++ before) < line_room
+
+-- Nothing was read since then, or the last read was made while no whole line was held.
+abbrev pub ReadForLine : {R : Type 0} → Checked R → Checked R → List ℕ → List ℕ → Type 0
+ReadForLine reader reader' held now = ((reader' ≡ reader) × (now ≡ held)) ⊎ LastRead reader reader' held now
+
+-- How many reads may have given nothing: none while reading is open, and one once it is over.
+abbrev pub empty_reads : Reading → ℕ
+empty_reads Open = 0
+empty_reads AtEnd = 1
+empty_reads Failed = 1
+
+-- The line ends with a line feed, or is too long without one, or is all that was left where reading was over.
+abbrev pub IsLineCut : Reading → List ℕ → Type 0
+IsLineCut Open line = ((text : List ℕ) × HasNoFeed text × (line ≡ text ++ 10 ∷ []))
+    ⊎ (HasNoFeed line × (length line ≡ line_room))
+IsLineCut AtEnd line = HasNoFeed line × (length line < line_room)
+IsLineCut Failed line = HasNoFeed line × (length line < line_room)
+
+-- The next line is the first so many of the octets that are held.
+pub record IsNext {R : Type 0} (remaining : R → Option (List ℕ)) (before after : Checked R) (held : List ℕ)
+    (reading : Reading) (count : ℕ) : Type 0 where
+  pub within : count ≤ length held
+  pub cut : IsLineCut reading (take count held)
+  pub stands : ReaderStands remaining reading before after (drop count held)

@@ -1,0 +1,65 @@
+-- One line's step of a script's client and device.
+use Rattle.std.specs.Prelude.{◌≡◌, ℕ, List, []}
+use Rattle.bac_tsm.specs.Events.{Event}
+use Rattle.bac_tsm.specs.Machine.{Stepped, initial, step}
+use Rattle.bac_tsm.specs.Client.{Client, rules_of, keeping}
+use Rattle.bac_device.specs.Places.{Write}
+use Rattle.bac_device.specs.Demo.{demo_points}
+use Rattle.bac_device.specs.Device.{DeviceState, device_after}
+use Rattle.bac_device.specs.Reply.{reply_to, writes_after}
+use Rattle.bac_device.specs.Turns.{Arrival}
+use Rattle.bac_script.specs.Line.{Said, Nothing, Settings, Happens, Asks}
+use Rattle.bac_script.specs.Text.{notes_text, reply_text}
+use Rattle.bac_script.specs.Running.{small_device}
+
+-- What a script runs on: its client, and its device, as the writes that the device has accepted.
+pub record Stage : Type 0 where
+  pub client : Client
+  pub writes : List Write
+
+-- What was printed, and the stage after it.
+pub record Ran : Type 0 where
+  pub text : List ℕ
+  pub after : Stage
+
+abbrev pub new_client : ℕ → ℕ → ℕ → Client
+new_client timeout retries first_ticket = record { timeout = timeout; retries = retries; state = initial first_ticket }
+
+-- The demonstration device after these writes.
+abbrev pub device_with : List Write → DeviceState
+device_with writes = device_after small_device demo_points writes
+
+-- The client and the device are those of the stage.
+pub record Stands (stage : Stage) (client : Client) (device : DeviceState) : Type 0 where
+  pub as_client : client ≡ stage.client
+  pub as_device : device ≡ device_with stage.writes
+
+-- The step that the client makes at an event.
+abbrev pub step_of : Client → Event → Stepped
+step_of client event = step (rules_of client) client.state event
+
+-- The client makes its step at an event, and its notes are printed.
+abbrev pub stepped : Stage → Event → Ran
+stepped stage event = record {
+  text = notes_text (step_of stage.client event).notes;
+  after = record { client = keeping stage.client (step_of stage.client event).after; writes = stage.writes };
+}
+
+-- The device's reply to a datagram, after these writes.
+abbrev pub reply_after : List Write → Arrival → List ℕ
+reply_after writes arrival = reply_text (reply_to small_device demo_points writes arrival.from arrival.datagram)
+
+-- These writes, and that of the datagram, where the device accepts one.
+abbrev pub writes_with : List Write → Arrival → List Write
+writes_with writes arrival = writes_after small_device demo_points writes arrival.from arrival.datagram
+
+abbrev pub ran : Stage → Said → Ran
+ran stage Nothing = record { text = []; after = stage }
+ran stage (Settings timeout retries first_ticket) =
+    record { text = []; after = record { client = new_client timeout retries first_ticket; writes = stage.writes } }
+ran stage (Happens event) = stepped stage event
+ran stage (Asks arrival) =
+    record {
+      text = reply_after stage.writes arrival;
+      after = record { client = stage.client; writes = writes_with stage.writes arrival };
+    }

@@ -1,0 +1,21 @@
+-- A script whose text is still on its way to the writer.
+use Rattle.std.specs.Prelude.{List, ℕ, Option, Result}
+use Rattle.bac_text.specs.declared.checked.Checked.{Checked}
+use Rattle.bac_script.specs.declared.input.Reading.{Reading}
+use Rattle.bac_script.specs.declared.tracing.TraceEnd.{TraceEnd}
+use Rattle.bac_script.specs.declared.tracing.TraceFault.{TraceFault}
+use Rattle.bac_text.specs.declared.page.Page.{Page}
+use Rattle.bac_text.specs.Page.{Prints}
+use Rattle.bac_script.specs.Script.{Runs}
+use Rattle.bac_script.specs.Tracing.{HasRead}
+
+-- What `Traces` says, while some of the text may still be on the page: the text that was printed is that of the script,
+-- or, where the writer failed, a front of it.
+pub record RunsOn {R W : Type 0} (remaining : R → Option (List ℕ)) (contents : W → Option (List ℕ))
+    (reader reader' : Checked R) (page page' : Page W) (answer : Result TraceEnd TraceFault) : Type 0 where
+  pub given : List ℕ
+  pub reading : Reading
+  pub printed : List ℕ
+  pub read : HasRead remaining reader reader' given reading
+  pub prints : Prints contents page page' printed
+  pub runs : Runs given reading printed answer

@@ -1,0 +1,19 @@
+-- The first word of a text that still has to be cut, and hexadecimal words that are known to be right.
+use Rattle.std.specs.Prelude.{◌≡◌, ℕ, nat_le, List, [], ◌∷◌, Option, Some, None, if◌then◌else◌}
+use Rattle.std.specs.Result.{result_unwrap_or}
+use Rattle.hex.specs.Hex.{decode_of}
+use Rattle.bac_text.specs.Words.{words_of, number_up_to}
+
+-- This number, where it is at most the limit.
+abbrev pub up_to : ℕ → ℕ → Option ℕ
+up_to most number = if nat_le number most then Some number else None
+
+-- The first word writes the number, and the others follow it.
+pub record IsFirstNumber (text : List ℕ) (number : ℕ) (rest : List ℕ) : Type 0 where
+  pub word : List ℕ
+  pub first : words_of text ≡ word ∷ words_of rest
+  pub value : (most : ℕ) → number_up_to most word ≡ up_to most number
+
+-- The octets that hexadecimal digits write.
+abbrev pub octets_in : List ℕ → List ℕ
+octets_in digits = result_unwrap_or (decode_of digits) []

@@ -1,0 +1,5 @@
+-- What only private clauses say. No promise of this crate rests on it.
+pub mod Machine
+pub mod Seen
+pub mod Waiting
+pub mod Table

@@ -1,0 +1,14 @@
+-- An answer that was read, as a value.
+use Rattle.bac_pdu.specs.Peer.{station}
+use Rattle.bac_tsm.specs.declared.answer.Answer.{Answer as LentAnswer}
+use Rattle.bac_tsm.specs.Answers.{Answer}
+use Rattle.bac_tsm.specs.Client.{outcome_seen}
+
+-- An answer, with the octets that it lends.
+abbrev pub answer_seen : LentAnswer → Answer
+answer_seen answer = record {
+  peer = station answer.peer;
+  number = answer.number;
+  service = answer.service;
+  outcome = outcome_seen answer.outcome;
+}

@@ -1,0 +1,24 @@
+-- A request as it begins to wait, and as it waits on.
+use Rattle.std.specs.Prelude.{ℕ, suc, List}
+use Rattle.bac_pdu.specs.Peer.{station}
+use Rattle.bac_tsm.specs.declared.request.Asked.{Asked}
+use Rattle.bac_tsm.specs.Machine.{Waiting}
+use Rattle.bac_tsm.specs.Answers.{octets_of}
+
+-- A new request with this body, as it waits for an answer.
+abbrev pub begun : Asked → List ℕ → Waiting
+begun asked body = record {
+  request = record {
+    ticket = asked.ticket;
+    peer = station asked.peer;
+    service = asked.service;
+    number = asked.number;
+    octets = octets_of (station asked.peer) asked.service body asked.number;
+  };
+  base = asked.clock;
+  count = 0;
+}
+
+-- The request, sent again at this clock.
+abbrev pub sent_at : ℕ → Waiting → Waiting
+sent_at clock w = record { request = w.request; base = clock; count = suc w.count }

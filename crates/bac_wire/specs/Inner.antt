@@ -1,0 +1,5 @@
+-- What only private clauses say. No promise of this crate rests on it.
+pub mod Writing
+pub mod Front
+pub mod Datum
+pub mod Region

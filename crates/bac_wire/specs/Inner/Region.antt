@@ -1,0 +1,14 @@
+-- One step over items: behind counted octets, or behind one item.
+use Rattle.std.specs.Prelude.{◌≡◌, ℕ, ◌≤◌, List, ◌++◌, length, drop}
+use Rattle.bac_wire.specs.Region.{IsItem}
+
+-- The rest is what stands behind this many octets.
+pub record CountsBehind (count : ℕ) (octets rest : List ℕ) : Type 0 where
+  pub room : count ≤ length octets
+  pub rest_is : rest ≡ drop count octets
+
+-- The octets are an item, and then this rest.
+pub record LeavesBehind (depth : ℕ) (octets rest : List ℕ) : Type 0 where
+  pub front : List ℕ
+  pub item : IsItem depth front
+  pub whole : octets ≡ front ++ rest

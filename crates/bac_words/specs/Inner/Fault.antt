@@ -1,0 +1,16 @@
+-- Which fault an error of `clap` is.
+use Rattle.clap.specs.Values.{kind_of}
+use Rattle.clap.specs.declared.error.Error.{Error}
+use Rattle.clap.specs.declared.error.kind.ErrorKind.{ErrorKind}
+use Rattle.clap.specs.declared.error.kind.ErrorKind.TheVariants as kind
+use Rattle.bac_words.specs.declared.faults.UsageFault.{UsageFault}
+use Rattle.bac_words.specs.declared.faults.UsageFault.TheVariants.{Help, Memory, Words}
+
+abbrev pub fault_by : ErrorKind → Error → UsageFault
+fault_by kind.OutOfMemory e = Memory
+fault_by kind.DisplayHelp e = Help e
+fault_by _ e = Words e
+
+-- Want of memory, a call for help, or words that `clap` refuses.
+abbrev pub fault_from : Error → UsageFault
+fault_from e = fault_by (kind_of e) e

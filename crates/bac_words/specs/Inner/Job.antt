@@ -1,0 +1,38 @@
+-- What holds of matches that `clap` has taken, so that the words of a tool can be read from them.
+use Rattle.std.specs.Prelude.{◌≡◌, ◌⊎◌, ◌++◌, ℕ, true, List, is_some, Option, codes}
+use Rattle.clap.specs.Words.{Row, Rule, Text}
+use Rattle.clap_laws.specs.Inner.Commands.{rules_of}
+use Rattle.clap_laws.specs.Numbers.{number_of}
+use Rattle.clap_laws.specs.Inner.Numbers.{FitsWord, bounds_in}
+use Rattle.clap_laws.specs.Passes.{IsTaken}
+use Rattle.bac_words.specs.Command.{bacdev, bacrp, bacwi, bacwp}
+
+-- The bounds of an argument that is a number: those of the first rule that has its name, in this order of the tools.
+abbrev pub bounds : Text → Option (ℕ × ℕ)
+bounds id = bounds_in (rules_of bacdev ++ rules_of bacrp ++ rules_of bacwp ++ rules_of bacwi) id
+
+-- The argument is a number within its bounds, since the matches passed the rules of its tool.
+pub record IsNumberWord (id : Text) (rows : List Row) : Type 0 where
+  pub rules : List Rule
+  pub taken : IsTaken rules rows
+  pub bounded : bounds_in rules id ≡ bounds id
+  pub fits : FitsWord (bounds id)
+
+-- The argument was given.
+pub record IsGiven (id : Text) (rows : List Row) : Type 0 where
+  pub given : is_some (number_of id rows) ≡ true
+
+-- These matches passed the rules of a tool that makes a request.
+abbrev pub IsRequest : List Row → Type 0
+IsRequest rows = IsTaken (rules_of bacrp) rows ⊎ IsTaken (rules_of bacwp) rows
+
+abbrev pub IsClient : List Row → Type 0
+IsClient rows = IsRequest rows ⊎ IsTaken (rules_of bacwi) rows
+
+-- The words name a tool, and these matches passed its rules.
+abbrev pub IsTool : Text × List Row → Type 0
+IsTool matches = ((matches.0 ≡ codes "bacrp") × IsTaken (rules_of bacrp) matches.1)
+    ⊎ (((matches.0 ≡ codes "bacwp") × IsTaken (rules_of bacwp) matches.1)
+    ⊎ (((matches.0 ≡ codes "bacwi") × IsTaken (rules_of bacwi) matches.1)
+    ⊎ (((matches.0 ≡ codes "bacdev") × IsTaken (rules_of bacdev) matches.1)
+    ⊎ (matches.0 ≡ codes "bactrace"))))

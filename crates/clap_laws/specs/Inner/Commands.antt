@@ -1,0 +1,8 @@
+-- The rules that the arguments of a tool pass.
+use Rattle.std.specs.Prelude.{List, [], ◌∷◌, ◌++◌}
+use Rattle.clap.specs.Words.{App, Rule}
+use Rattle.clap.specs.Simple.{filled_from, help_rule}
+
+-- The arguments of a tool as `clap` builds them, with the flag for help.
+abbrev pub rules_of : App → List Rule
+rules_of tool = filled_from 1 (tool.top.rules ++ help_rule ∷ [])

@@ -1,0 +1,30 @@
+-- The bounds of an argument that is a number.
+use Rattle.std.specs.Prelude.{◌<◌, ◌≤◌, ◌^◌, ◌&&◌, ℕ, Bool, pos, false, List, Option, None, Some, ⊤}
+use Rattle.std.specs.Option.{option_and_then, option_map_or}
+use Rattle.std.specs.Str.{bytes_eq}
+use Rattle.clap.specs.Facts.{parser_of_value}
+use Rattle.clap.specs.Walk.{arg_by_id}
+use Rattle.clap.specs.Words.{Rule, Text}
+use Rattle.clap.specs.declared.builder.value_parser.ValueParser.{ValueParser}
+use Rattle.clap.specs.declared.builder.value_parser.ValueParser.TheVariants.{Signed}
+
+-- The least and the most that an argument's number may be.
+abbrev pub bounds_by : ValueParser → Option (ℕ × ℕ)
+bounds_by (Signed (pos least) (pos most)) = Some (least, most)
+bounds_by _ = None
+
+abbrev pub bounds_in : List Rule → Text → Option (ℕ × ℕ)
+bounds_in rules id = option_and_then (λ a. bounds_by (parser_of_value a.parser)) (arg_by_id rules id)
+
+abbrev pub IsWithin : Option (ℕ × ℕ) → ℕ → Type 0
+IsWithin None n = ⊤
+IsWithin (Some bounds) n = (bounds.0 ≤ n) × (n ≤ bounds.1)
+
+-- The number is of 32 bits.
+abbrev pub FitsWord : Option (ℕ × ℕ) → Type 0
+FitsWord None = ⊥
+FitsWord (Some bounds) = bounds.1 < 2 ^ 32
+
+-- The argument has to be given.
+abbrev pub is_needed : List Rule → Text → Bool
+is_needed rules id = option_map_or (λ a. a.required && bytes_eq a.id id) (arg_by_id rules id) false
