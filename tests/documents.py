@@ -199,7 +199,7 @@ def wide_lines_of_sources():
 
 def links_and_lines():
     anchors = {}
-    documents = glob.glob("*.md") + glob.glob("docs/*.md")
+    documents = glob.glob("*.md") + glob.glob("docs/**/*.md", recursive=True)
     for file in documents:
         heads = re.findall(r"^#+ (.*)$", text_of(file), re.M)
         anchors[file] = {re.sub(r"[^\w\- ]", "", head.lower()).replace(" ", "-") for head in heads}

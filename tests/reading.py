@@ -126,11 +126,12 @@ def page_of(title, calls, told, page):
 
 INDEX = """# What to read to believe a promise
 
-A page has what the clauses of its calls rest on, down to the names of std and of the ported crates: the definitions of `specs/`, and the
-types, traits and constants of `src/`, each with its lines and what its comment says. A file stands before those that it rests on, so the
-reading goes from the clauses down; in a file it goes from the top. A definition is told on the first page that needs it; later pages name
-it there. Lines are counted without comments, blank lines and attributes; those of a call are its signature and its clauses. A type has its
-fields, its invariants and what its `impl Model` shows of it. `make reading` writes these pages, and `make lint` compares them.
+A page has what the clauses of its calls rest on, down to the names of std and of the ported crates: the definitions of
+`specs/`, and the types, traits and constants of `src/`, each with its lines and what its comment says. A file stands
+before those that it rests on, so the reading goes from the clauses down; in a file it goes from the top. A definition
+is told on the first page that needs it; later pages name it there. Lines are counted without comments, blank lines and
+attributes; those of a call are its signature and its clauses. A type has its fields, its invariants and what its `impl
+Model` shows of it. `make reading` writes these pages, and `make lint` compares them.
 
 | Page | Calls | Definitions | Lines | Files |
 |---|---|---|---|---|
