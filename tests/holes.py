@@ -10,6 +10,7 @@ which an index or a sum out of bounds also ends it. Nothing is proved here: test
 seconds of processor time, so this is no part of the gate.
 """
 import argparse
+import collections
 import concurrent.futures
 import glob
 import os
@@ -20,11 +21,13 @@ import socket
 import subprocess
 import sys
 import tempfile
+import threading
 import time
 
 ROOT = os.path.dirname(os.path.dirname(os.path.abspath(__file__)))
 TRIALS = "crates/tool_trials/src/tests"
 MOST = 1800  # seconds that a build may take, on a machine with much else to do
+USES = collections.defaultdict(threading.Lock)  # of each test: its ports are the same in each run
 
 
 class NotTried(Exception):
@@ -161,7 +164,7 @@ def of_program(room, test):
 
 def tried(hole):
     """Whether a hole is as it is to be, and the line that tells of it."""
-    with tempfile.TemporaryDirectory(prefix="holes-") as room:
+    with USES[hole.test], tempfile.TemporaryDirectory(prefix="holes-") as room:
         try:
             copy_sources(room)
             hole.put_in(room)

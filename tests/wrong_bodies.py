@@ -11,11 +11,13 @@ A wrong body is a file NAME.edit in crates/CRATE/must-fail or crates/CRATE/wrong
     answer: TEXT    only an answer refuses this body, and TEXT says why it is kept all the same
     hole: TEXT      no contract can refuse this body: TEXT says why, and names the file of the test that does. It must be proved
 
-Many bodies of a crate stand together in one copy of it, over the proofs that its last check or build kept: a caller is proved from the contracts of
-what it calls, which no edit changes. Bodies of one function, and of functions that call one another, go into different rounds, which are about as
-large as one another and go side by side. What is refused for nothing but a callee, or was not tried since a callee was not, is tried again. A
-function that no edit touches must stay proved, but for its callees, and so must one with a twin. An edit of a constant or a type may stand in
-must-fail alone, and is left to `rt must-fail`, since each would need a check of the whole crate. A body is refused by a
+Many bodies of a crate stand together in one copy of it, over the proofs that its last check or build kept. A body stands beside its function, as
+one more function with the same contract and answers, under a name of its own: so callers and other bodies see the right one. Bodies of methods with a
+trait's contract, and of functions that call one another, stand in the function's place, those of one function in different rounds: a caller is proved
+from the contracts of what it calls, which no edit changes. What is refused for nothing but a callee, or was not tried since a callee was not, is tried
+again, and so is what doesn't compile beside its function. A function that no edit touches must stay proved, but for its callees, and so must one with a
+twin. Rounds are about as large as one another and go side by side. An edit of a constant or a type may stand in must-fail alone, and is left to `rt
+must-fail`, since each would need a check of the whole crate. A body is refused by a
 
     clause  of the function, or its type's invariant; false: there are values at which it does not hold; open: no proof is found; limit: none in time
     safety  a callee's `requires`, an index, a sum, a cast
@@ -46,6 +48,7 @@ STRENGTHS = ["false", "open", "limit"]
 # What a check takes of the machine's memory, in MB.
 CHECK_MEMORY = 3000
 SAMPLE = 10
+LARGEST = 40  # bodies of a round
 # The layout is rt fmt's: a function ends at the first line that is its indent and a bracket.
 HEAD = re.compile(r"( *)(?:pub(?:\([^)]*\))? )?(?:const |unsafe )*fn (\w+)")
 IMPL = re.compile(r"impl(?:<.*?>)? (?:(\w+)(<.*>)? for )?(?:\w+::)*(\w+)")
@@ -61,8 +64,14 @@ TRIED = re.compile(
 VERDICT = re.compile(r"fn (\S+): (proved|not proved|no proof|could not tell)(.*)")
 REFUSED = re.compile(r"(?m)^(?:\./)?(src/\S+?):(\d+):\d+: error.*")
 NAMES = re.compile(r"has no field|is not in scope|has no `|was not admitted")
-# The lines of a function, from 0 on, where its body begins, the names that a check has for it, its own, and what it is proved with.
-Function = collections.namedtuple("Function", "first body last symbols shown key")
+# The lines of a function, from 0 on, where its body and its attributes begin, the names that a check has for it, its own, what it is proved with, and
+# where it may stand twice, if it may.
+Function = collections.namedtuple("Function", "first body last start symbols shown key beside")
+# The line behind which a copy of a function may stand, the head of an `impl` that it needs or "", and what the names of a check have in front of its own.
+Beside = collections.namedtuple("Beside", "line head place")
+# A copy: its file, the line that it stands behind, its lines, the function's own name, the type that it is a method of where the function is a trait's,
+# its name, and its names in a check.
+Copy = collections.namedtuple("Copy", "path behind lines own owner name symbols")
 
 
 @functools.cache
@@ -74,22 +83,28 @@ def text_of(file):
 @functools.cache
 def functions_of(crate, path, text):
     module = "".join(f"{part}::" for part in path[len("src/") : -len(".rt")].split("/") if part not in ("lib", "main"))
-    lines, found, owner, cycle = text.split("\n"), [], None, None
+    lines, found, owner, block, cycle = text.split("\n"), [], None, "", None
     for first, line in enumerate(lines):
-        owner = IMPL.match(line) if re.match(r"\S", line) else owner
+        owner, block = (IMPL.match(line), line) if re.match(r"\S", line) else (owner, block)
         cycle, head = CYCLE.match(line) or cycle, HEAD.match(line)
         if not head:
             continue
         indent, name = head.groups()
         last = first if line.endswith("}") else next((at for at in range(first, len(lines)) if lines[at] == indent + "}"), first)
         body = next((at for at in range(first, last + 1) if re.match(rf"{indent}(\S.*)?{{(.*}})?$", lines[at])), last)
+        start = next((at for at in range(first, 0, -1) if re.search(r"^ *$|^(?! *//).*[{};]$", lines[at - 1])), 0)
         place, shown = f"{module}(fn::)?", name
         if owner:
             trait, given, kind = owner.groups()
             words = "".join(it[0].upper() + it[1:] for it in re.findall(r"(?<!')\b\w+", given or ""))
             place, shown = rf"(\w+::)*(fn::)?{kind}{trait or ''}({words})?::", f"{kind}::{name}"
         whole = rf"(\w+::)*\+{cycle[1]}|" if cycle else ""
-        found.append(Function(first, body, last, rf"{crate}::({whole}{place}{name}(::.+)?)$", shown, (path, cycle[1] if cycle else first)))
+        symbols, key = rf"{crate}::({whole}{place}{name}(::.+)?)$", (path, cycle[1] if cycle else first)
+        beside = Beside(last, "", place) if owner and not owner[1] or not indent else None
+        if owner and owner[1] and block.endswith("{") and any(re.match(" *ensures", it) for it in lines[first:body]):
+            head = block.replace(f"{owner[1]}{owner[2] or ''} for ", "", 1)
+            beside = Beside(lines.index("}", last), head, rf"(\w+::)*(fn::)?{owner[3]}::")
+        found.append(Function(first, body, last, start, symbols, shown, key, None if cycle else beside))
         cycle = None
     # Functions that call one another have one proof, and a check may tell of one by the name of another.
     all_of = {key: re.compile("|".join(it.symbols for it in found if it.key == key)) for key in {it.key for it in found}}
@@ -127,6 +142,7 @@ class Edit:
             if word == ("twin" if is_twin else "new"):
                 self.pairs.append(Pair(said["file"], said.get("in"), said["old"], said[word]))
         self.has_twin, self.twin, self.hole, self.answer = "twin" in said, None, said.get("hole", ""), said.get("answer", "")
+        self.copy = None
         self.is_unfit = self.unfit()
         self.shown = ", ".join(dict.fromkeys(it.shown for _, it in self.functions))
 
@@ -167,8 +183,22 @@ class Edit:
             texts = {**texts, it.path: text}
         return texts
 
+    def stand_beside(self, number):
+        """Puts this edit into a copy of its function, under a name with this number, where it touches one that may stand twice."""
+        if self.is_unfit or len(self.functions) > 1 or not self.functions[0][1].beside:
+            return
+        path, of = self.functions[0]
+        own = of.shown.split("::")[-1]
+        name, lines = f"{own}_again_{number}", self.applied({})[path].split("\n")[of.start : of.last + 1]
+        head = of.first - of.start
+        lines[head] = re.sub(rf"\bfn {own}\b", f"fn {name}", lines[head], count=1)
+        lines = [of.beside.head, *lines, "}"] if of.beside.head else lines
+        symbols = re.compile(rf"{self.crate}::{of.beside.place}{name}(::.+)?$")
+        owner = of.shown.split("::")[:-1] if of.beside.head else []
+        self.copy = Copy(path, of.beside.line, ["", *lines], own, owner, name, symbols)
+
     def touches(self, symbol):
-        return any(it.symbols.match(symbol) for _, it in self.functions)
+        return any(it.match(symbol) for it in ([self.copy.symbols] if self.copy else [it.symbols for _, it in self.functions]))
 
     def judge(self, rows):
         """Says by what the functions of this edit are refused. Where it is for a callee alone, the edit stays without a kind."""
@@ -247,7 +277,38 @@ class Round:
     running = set()
 
     def __init__(self, bodies, number, texts, edits):
-        self.bodies, self.crate, self.number, self.texts, self.edits = bodies, bodies.crate, number, texts, edits
+        self.bodies, self.crate, self.number, self.texts, self.edits = bodies, bodies.crate, number, dict(texts), edits
+        self.copies = sorted((it.copy for it in edits if it.copy), key=lambda copy: -copy.behind)
+        for it in self.copies:
+            lines = self.text(it.path).split("\n")
+            self.texts[it.path] = "\n".join([*lines[: it.behind + 1], *it.lines, *lines[it.behind + 1 :]])
+
+    def text(self, path):
+        return self.texts.get(path) or text_of(f"{ROOT}/crates/{self.crate}/{path}")
+
+    def at(self, edit):
+        """The file and the lines in which the functions that this edit touches stand in this round."""
+        for path, of in edit.functions:
+            if edit.copy:
+                there = functions_of(self.crate, path, self.text(path))
+                yield from ((path, it.first, it.last) for it in there if it.shown.split("::")[-1] == edit.copy.name)
+            else:
+                more = sum(len(it.lines) for it in self.copies if it.path == path and it.behind < of.first)
+                yield path, of.first + more, of.last + more
+
+    def answer(self, proofs):
+        """Gives each copy of a function the answers of that function, which name their own place."""
+        for place, _, _ in list(os.walk(proofs)):
+            parts = os.path.relpath(place, proofs).split("/")
+            for it in self.edits:
+                if it.copy and parts[-1] == it.copy.own and it.functions[0][1].symbols.match("::".join([self.crate, *parts])):
+                    mine = [*parts[:-2], *(it.copy.owner or parts[-2:-1]), it.copy.name]
+                    shutil.copytree(place, "/".join([proofs, *mine]))
+                    for file in glob.glob("/".join([proofs, *mine, "*.antt"])):
+                        with open(file, "r+", encoding="utf-8") as answers:
+                            text = answers.read().replace(f"proofs.{'.'.join(parts)}.", f"proofs.{'.'.join(mine)}.")
+                            answers.seek(0)
+                            answers.write(text)
 
     def copy(self, folder, part, by=shutil.copy2):
         if os.path.isdir(f"{ROOT}/crates/{part}"):
@@ -269,6 +330,7 @@ class Round:
             for path, text in self.texts.items():
                 with open(f"{here}/{path}", "w", encoding="utf-8") as it:
                     it.write(text)
+            self.answer(f"{here}/proofs")
             with open(f"{folder}/said", "w+", encoding="utf-8", errors="replace") as said:
                 ran = subprocess.Popen(["rt", "check", "--jobs", "1"], cwd=here, stdin=subprocess.DEVNULL, stdout=said, stderr=subprocess.STDOUT)
                 self.running.add(ran.pid)
@@ -281,22 +343,24 @@ class Round:
 def joined(round, edit):
     """This round with the edit in it, or None where it touches a function or a text of another."""
     texts, keys, group = round
+    if edit.copy:
+        return texts, keys, [*group, edit]
     more = None if keys & edit.keys else edit.applied(texts)
     return more and (more, keys | edit.keys, [*group, edit])
 
 
 def rounds_of(edits, are_alone):
     """The edits in rounds, each with its texts. No two of a round touch one function, and the rounds are about as large as one another."""
-    of_key = collections.Counter(key for it in edits for key in it.keys)
-    busy = lambda edit: max((of_key[key] for key in edit.keys), default=0)
-    rounds = [({}, set(), []) for _ in range(max(map(busy, edits), default=0))]
+    of_key = collections.Counter(key for it in edits if not it.copy for key in it.keys)
+    busy = lambda edit: 0 if edit.copy else max((of_key[key] for key in edit.keys), default=0)
+    rounds = [({}, set(), []) for _ in range(max(-(-len(edits) // LARGEST), *map(busy, edits), 0))]
     for edit in sorted(edits, key=lambda edit: -busy(edit)):
         smallest = [] if are_alone else sorted(range(len(rounds)), key=lambda at: len(rounds[at][2]))
         at, more = next(((at, more) for at in smallest for more in [joined(rounds[at], edit)] if more), (None, None))
         if more:
             rounds[at] = more
         else:
-            rounds.append((edit.applied({}), edit.keys, [edit]))
+            rounds.append(({} if edit.copy else edit.applied({}), edit.keys, [edit]))
     return [(texts, group) for texts, _, group in rounds if group]
 
 
@@ -324,21 +388,24 @@ def clauses_of(crate):
 
 def opened_by(rows, clauses):
     """Those of these clauses that a check left open. A goal that names no clause is the whole return, with each of them."""
-    told = [(symbol, goal) for symbol, row in rows.items() for kind, goal in row["found"] if kind == "clause"]
+    told = [(re.sub(r"_again_\d+", "", symbol), goal) for symbol, row in rows.items() for kind, goal in row["found"] if kind == "clause"]
     is_of = lambda goal, clause: (re.search(r"-clause-(\w+)", goal) or [None, clause])[1] == clause
     return {it for it, symbols in clauses.items() if any(symbols.match(symbol) and is_of(goal, it[2]) for symbol, goal in told)}
 
 
-def judge_round(said, crate, group):
+def judge_round(said, round):
     """Judges the edits of a round. Returns what is refused with no edit in it."""
-    rows = rows_of(said, crate)
+    rows, group = rows_of(said, round.crate), round.edits
     for it in group if rows else []:
         it.judge(rows)
     # Where the check does not take a text as a program, no function of the round is tried, and the others are tried again.
     errors = [] if rows else [(it[1], int(it[2]) - 1, it[0]) for it in REFUSED.finditer(said)]
-    hit = [it for it in group for path, f in it.functions if any(file == path and f.first <= at <= f.last for file, at, _ in errors)]
+    hit = [it for it in group for path, first, last in round.at(it) if any(path == file and first <= at <= last for file, at, _ in errors)]
     for it in [] if rows else hit or group:
-        it.kind, it.why = "bad", [f"no contract was tried: {errors[0][2] if errors else said[-300:]}"]
+        if it.copy:
+            it.copy = None
+        else:
+            it.kind, it.why = "bad", [f"no contract was tried: {errors[0][2] if errors else said[-300:]}"]
     untouched = {symbol: row for symbol, row in rows.items() if row["found"] and not any(it.touches(symbol) for it in group)}
     return [f"{symbol}: no edit touches it, and it is refused: {row['found']}" for symbol, row in untouched.items()]
 
@@ -368,7 +435,7 @@ class Bodies:
         return found
 
     def judge(self, round, said, seconds):
-        self.strange += judge_round(said, self.crate, round.edits)
+        self.strange += judge_round(said, round)
         self.bare = {it: symbols for it, symbols in self.bare.items() if it not in opened_by(rows_of(said, self.crate), self.bare)}
         self.seconds, self.open = self.seconds + seconds, self.open - 1
         if self.options.said:
@@ -381,6 +448,8 @@ class Bodies:
             return []
         self.left = [it for it in self.left if not it.kind]
         self.are_alone = self.are_alone or any(it.tries > 1 for it in self.left)
+        for it in self.left:
+            it.copy = None if it.tries else it.copy
         if not self.left:
             self.tell()
         return self.rounds()
@@ -433,7 +502,10 @@ def edits_of(crate, options):
     for it in [] if options.no_twins else edits:
         it.twin = Edit(crate, it.file, is_twin=True) if it.has_twin else None
     tried = {name for name, goal in TRIED.findall(text_of(options.tried) if options.tried else "") if kind_of(goal) != "step"}
-    return [it for it in edits if it.name not in tried] + [it.twin for it in edits if it.twin]
+    edits = [it for it in edits if it.name not in tried] + [it.twin for it in edits if it.twin]
+    for number, it in enumerate([] if options.alone else edits):
+        it.stand_beside(number)
+    return edits
 
 
 def strays():
