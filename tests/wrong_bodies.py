@@ -11,13 +11,15 @@ A wrong body is a file NAME.edit in crates/CRATE/must-fail or crates/CRATE/wrong
     answer: TEXT    only an answer refuses this body, and TEXT says why it is kept all the same
     hole: TEXT      no contract can refuse this body: TEXT says why, and names the file of the test that does. It must be proved
 
-Many bodies of a crate stand together in one copy of it, over the proofs that its last check or build kept. A body stands beside its function, as
-one more function with the same contract and answers, under a name of its own: so callers and other bodies see the right one. Bodies of methods with a
-trait's contract, and of functions that call one another, stand in the function's place, those of one function in different rounds: a caller is proved
-from the contracts of what it calls, which no edit changes. What is refused for nothing but a callee, or was not tried since a callee was not, is tried
-again, and so is what doesn't compile beside its function. A function that no edit touches must stay proved, but for its callees, and so must one with a
-twin. Rounds are about as large as one another and go side by side. An edit of a constant or a type may stand in must-fail alone, and is left to `rt
-must-fail`, since each would need a check of the whole crate. A body is refused by a
+Many bodies of a crate stand together in one copy of it, over the proofs that its last check or build kept. A body
+stands beside its function, as one more function with the same contract and answers, under a name of its own: so callers
+and other bodies see the right one. Bodies of methods with a trait's contract, and of functions that call one another,
+stand in the function's place, those of one function in different rounds: a caller is proved from the contracts of what
+it calls, which no edit changes. What is refused for nothing but a callee, or was not tried since a callee was not, is
+tried again, and so is what doesn't compile beside its function. A function that no edit touches must stay proved, but
+for its callees, and so must one with a twin. Rounds are about as large as one another and go side by side. An edit of a
+constant or a type may stand in must-fail alone, and is left to `rt must-fail`, since each would need a check of the
+whole crate. A body is refused by a
 
     clause  of the function, or its type's invariant; false: there are values at which it does not hold; open: no proof is found; limit: none in time
     safety  a callee's `requires`, an index, a sum, a cast
@@ -64,13 +66,14 @@ TRIED = re.compile(
 VERDICT = re.compile(r"fn (\S+): (proved|not proved|no proof|could not tell)(.*)")
 REFUSED = re.compile(r"(?m)^(?:\./)?(src/\S+?):(\d+):\d+: error.*")
 NAMES = re.compile(r"has no field|is not in scope|has no `|was not admitted")
-# The lines of a function, from 0 on, where its body and its attributes begin, the names that a check has for it, its own, what it is proved with, and
-# where it may stand twice, if it may.
+# The lines of a function, from 0 on, where its body and its attributes begin, the names that a check has for it, its
+# own, what it is proved with, and where it may stand twice, if it may.
 Function = collections.namedtuple("Function", "first body last start symbols shown key beside")
-# The line behind which a copy of a function may stand, the head of an `impl` that it needs or "", and what the names of a check have in front of its own.
+# The line behind which a copy of a function may stand, the head of an `impl` that it needs or "", and what the names of
+# a check have in front of its own.
 Beside = collections.namedtuple("Beside", "line head place")
-# A copy: its file, the line that it stands behind, its lines, the function's own name, the type that it is a method of where the function is a trait's,
-# its name, and its names in a check.
+# A copy: its file, the line that it stands behind, its lines, the function's own name, the type that it is a method of
+# where the function is a trait's, its name, and its names in a check.
 Copy = collections.namedtuple("Copy", "path behind lines own owner name symbols")
 
 
@@ -364,6 +367,13 @@ def rounds_of(edits, are_alone):
     return [(texts, group) for texts, _, group in rounds if group]
 
 
+def beside(edits):
+    """These edits, each beside its function where it may stand there."""
+    for number, it in enumerate(edits):
+        it.stand_beside(number)
+    return edits
+
+
 def sample_of(edits):
     """The first of these edits that one round holds."""
     round = ({}, set(), [])
@@ -498,14 +508,12 @@ def edits_of(crate, options):
     edits = [it for it in (Edit(crate, file) for file in files) if re.search(options.only, it.name)]
     edits = [it for it in edits if it.is_unfit or not it.is_wide]
     if options.sample and edits and not any(it.is_unfit for it in edits):
-        return sample_of(edits)
+        return sample_of(beside(edits))
     for it in [] if options.no_twins else edits:
         it.twin = Edit(crate, it.file, is_twin=True) if it.has_twin else None
     tried = {name for name, goal in TRIED.findall(text_of(options.tried) if options.tried else "") if kind_of(goal) != "step"}
     edits = [it for it in edits if it.name not in tried] + [it.twin for it in edits if it.twin]
-    for number, it in enumerate([] if options.alone else edits):
-        it.stand_beside(number)
-    return edits
+    return edits if options.alone else beside(edits)
 
 
 def strays():
