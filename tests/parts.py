@@ -5,9 +5,10 @@
 then what runs the program, alone, since clocks and sockets are in it. A part that fails ends no other.
 
 `gate` is what a change has to pass. First it looks whether the wrong bodies fit the code. Then `rt ci` proves and
-tries everything from nothing, in a copy of the tree, since it sets aside what is kept of the proofs. Beside it come
-the build, the bodies of wrong/, and a refused request for memory. Last come those bodies of must-fail/ that `rt ci`
-did not refuse for a goal, and what runs the program. Where a part fails, the others are ended.
+tests everything from nothing, in a copy of the tree, since it sets aside what is kept of the proofs. Beside it come
+the build, all wrong bodies, and a refused request for memory. Last comes what runs the program. Where a part fails,
+the others are ended. The copy has no must-fail/: for its edits `rt ci` would prove each crate once more, and the wrong
+bodies try them over what the build kept. In the tree itself `rt ci` and `rt must-fail` try them too.
 
 Two parts go side by side where there are 4 GB of free memory for each processor. How far a part is stands here,
 behind the minutes since the beginning; all that it says is in out/parts, and the end of that is shown where it fails.
@@ -63,8 +64,8 @@ def examples():
 
 
 def whole_proof(room):
-    """`rt ci` in a copy of the tree, in this room."""
-    shutil.copytree(".", f"{room}/tree", symlinks=True, ignore=shutil.ignore_patterns(".git", "out"))
+    """`rt ci` in a copy of the tree without must-fail/, in this room."""
+    shutil.copytree(".", f"{room}/tree", symlinks=True, ignore=shutil.ignore_patterns(".git", "out", "must-fail"))
     os.mkdir(f"{room}/tree/.git")  # the top of a repository, for rt ci
     os.mkdir(f"{room}/rooms")
     for it in (room, f"{room}/rooms"):
@@ -74,7 +75,7 @@ def whole_proof(room):
         ["rt", "ci"],
         tried=r"^(\d+) passed, (\d+) failed$",
         failed=r"^\d+ passed, (\d+) failed$",
-        shown=r"^rt: (?!must-fail .*: refused, as it must be)|^\d+ passed",
+        shown=r"^rt: |^\d+ passed",
         lost=r"^rt: .* NOT PROVED",
         place=f"{room}/tree",
         # with a number given, it proves as many crates at a time, each by one process
@@ -184,13 +185,11 @@ def gate(clock):
     # the build has one processor fewer, so that its proofs and those of rt ci together take some 15 GB with four
     fewer = str(max(processors() - 1, 1))
     allocation = Part("allocation", gently("tests/allocation.sh"), r"over (\d+) scripts")
-    others = [build(gently("./build.py"), RT_JOBS=fewer), bodies("wrong bodies", "--folder", "wrong"), allocation]
-    # rt ci has counted them
-    again = bodies("must-fail", "--folder", "must-fail", "--tried", f"{LOGS}/rt_ci.log")._replace(tried="")
+    others = [build(gently("./build.py"), RT_JOBS=fewer), bodies("wrong bodies"), allocation]
     with tempfile.TemporaryDirectory(prefix="gate-") as room:
         fit = Part("fit", ["tests/wrong_bodies.py", "--list"], "", r"of which (\d+)", shown=r"^crates/|fit")
         passed, lost = run([[fit]], clock, True)
-        for rows in (beside([whole_proof(room)], others), [[again, examples()]]):
+        for rows in (beside([whole_proof(room)], others), [[examples()]]):
             more, lost = (0, lost) if lost else run(rows, clock, True)
             passed += more
         return passed, lost

@@ -18,8 +18,8 @@ stand in the function's place, those of one function in different rounds: a call
 it calls, which no edit changes. What is refused for nothing but a callee, or was not tried since a callee was not, is
 tried again, and so is what doesn't compile beside its function. A function that no edit touches must stay proved, but
 for its callees, and so must one with a twin. Rounds are about as large as one another and go side by side. An edit of a
-constant or a type may stand in must-fail alone, and is left to `rt must-fail`, since each would need a check of the
-whole crate. A body is refused by a
+constant or a type may stand in must-fail alone: it has a round of its own, in which whatever rests on it is proved
+anew, and what refuses any of these functions refuses it, an answer too. A body is refused by a
 
     clause  of the function, or its type's invariant; false: there are values at which it does not hold; open: no proof is found; limit: none in time
     safety  a callee's `requires`, an index, a sum, a cast
@@ -50,7 +50,7 @@ STRENGTHS = ["false", "open", "limit"]
 # What a check takes of the machine's memory, in MB.
 CHECK_MEMORY = 3000
 SAMPLE = 10
-LARGEST = 40  # bodies of a round
+LARGEST = 60  # bodies of a round
 # The layout is rt fmt's: a function ends at the first line that is its indent and a bracket.
 HEAD = re.compile(r"( *)(?:pub(?:\([^)]*\))? )?(?:const |unsafe )*fn (\w+)")
 IMPL = re.compile(r"impl(?:<.*?>)? (?:(\w+)(<.*>)? for )?(?:\w+::)*(\w+)")
@@ -58,11 +58,6 @@ CYCLE = re.compile(r" *#\[cycle\((\w+)\)\]")
 # What a check prints of a goal, of an answer, of a function, and of a text that it does not take as a program.
 NOTE = re.compile(r"note: src/\S+ .*not proved.*?\(`(\S+)`\)(.*)")
 ANSWER = re.compile(r"(?:\./)?proofs/(\S+)/\w+\.antt:\d+:\d+: error: (?:`(\S+)`: )?(.*)")
-# What rt ci says of an edit that it refuses for a goal: in the code, or one that an answer searches for.
-TRIED = re.compile(
-    r"(?m)^rt: must-fail (\S+)\.edit: refused, as it must be: "
-    r"(?:note: src/\S+ .*?not proved.*?\(|(?:\./)?proofs/\S+ error: (?=`\S+`: `(?:search|grind|omega)`))`([\w-]+)"
-)
 VERDICT = re.compile(r"fn (\S+): (proved|not proved|no proof|could not tell)(.*)")
 REFUSED = re.compile(r"(?m)^(?:\./)?(src/\S+?):(\d+):\d+: error.*")
 NAMES = re.compile(r"has no field|is not in scope|has no `|was not admitted")
@@ -147,7 +142,7 @@ class Edit:
         self.has_twin, self.twin, self.hole, self.answer = "twin" in said, None, said.get("hole", ""), said.get("answer", "")
         self.copy = None
         self.is_unfit = self.unfit()
-        self.shown = ", ".join(dict.fromkeys(it.shown for _, it in self.functions))
+        self.shown = "the crate" if self.is_wide else ", ".join(dict.fromkeys(it.shown for _, it in self.functions))
 
     def unfit(self):
         """Why this edit can't be tried on the code as it stands, or "". Notes the functions that it touches."""
@@ -188,7 +183,7 @@ class Edit:
 
     def stand_beside(self, number):
         """Puts this edit into a copy of its function, under a name with this number, where it touches one that may stand twice."""
-        if self.is_unfit or len(self.functions) > 1 or not self.functions[0][1].beside:
+        if self.is_unfit or self.is_wide or len(self.functions) > 1 or not self.functions[0][1].beside:
             return
         path, of = self.functions[0]
         own = of.shown.split("::")[-1]
@@ -201,7 +196,7 @@ class Edit:
         self.copy = Copy(path, of.beside.line, ["", *lines], own, owner, name, symbols)
 
     def touches(self, symbol):
-        return any(it.match(symbol) for it in ([self.copy.symbols] if self.copy else [it.symbols for _, it in self.functions]))
+        return self.is_wide or any(it.match(symbol) for it in ([self.copy.symbols] if self.copy else [it.symbols for _, it in self.functions]))
 
     def judge(self, rows):
         """Says by what the functions of this edit are refused. Where it is for a callee alone, the edit stays without a kind."""
@@ -218,7 +213,7 @@ class Edit:
     def is_well(self):
         if self.is_twin or self.hole:
             return self.kind == "PROVED"
-        is_told = bool(self.answer) or (self.twin.kind == "PROVED" if self.twin else self.has_twin)
+        is_told = bool(self.answer) or self.is_wide or (self.twin.kind == "PROVED" if self.twin else self.has_twin)
         return self.kind in ("clause", "safety") or (self.kind in ("step", "name") and is_told)
 
     def strength(self):
@@ -354,6 +349,8 @@ def joined(round, edit):
 
 def rounds_of(edits, are_alone):
     """The edits in rounds, each with its texts. No two of a round touch one function, and the rounds are about as large as one another."""
+    alone = [(edit.applied({}), [edit]) for edit in edits if edit.is_wide]
+    edits = [edit for edit in edits if not edit.is_wide]
     of_key = collections.Counter(key for it in edits if not it.copy for key in it.keys)
     busy = lambda edit: 0 if edit.copy else max((of_key[key] for key in edit.keys), default=0)
     rounds = [({}, set(), []) for _ in range(max(-(-len(edits) // LARGEST), *map(busy, edits), 0))]
@@ -364,7 +361,7 @@ def rounds_of(edits, are_alone):
             rounds[at] = more
         else:
             rounds.append(({} if edit.copy else edit.applied({}), edit.keys, [edit]))
-    return [(texts, group) for texts, _, group in rounds if group]
+    return alone + [(texts, group) for texts, _, group in rounds if group]
 
 
 def beside(edits):
@@ -471,18 +468,20 @@ class Bodies:
             lines += [f"    no body leaves open {path}: {name}: {clause or 'its clause'}" for path, name, clause in self.bare]
         for it in self.edits:
             if it.is_well() and (self.options.goals or it.kind in ("step", "name")):
-                reason = f" ({it.answer or 'its twin is proved'})" if it.kind in ("step", "name") else ""
+                told = it.answer or ("it is outside a function" if it.is_wide else "its twin is proved")
+                reason = f" ({told})" if it.kind in ("step", "name") else ""
                 lines.append(f"    {it.name}: {it.kind}{reason}: {'; '.join(it.why)}")
         print("\n".join(lines), flush=True)
 
 
 def try_all(crates, jobs):
-    """Tries the bodies of these crates, the largest rounds first, and prints a line a round."""
+    """Tries the bodies of these crates, the dearest rounds first, and prints a line a round."""
     whole, began, waiting = sum(len(it.edits) for it in crates), time.monotonic(), {}
     with concurrent.futures.ThreadPoolExecutor(jobs) as pool:
 
         def begin(rounds):
-            waiting.update((pool.submit(it.check), it) for it in sorted(rounds, key=lambda it: -len(it.edits)))
+            dear = lambda it: LARGEST if it.edits[0].is_wide else len(it.edits)
+            waiting.update((pool.submit(it.check), it) for it in sorted(rounds, key=dear, reverse=True))
 
         try:
             begin([it for crate in crates for it in crate.rounds()])
@@ -503,16 +502,13 @@ def try_all(crates, jobs):
 
 
 def edits_of(crate, options):
-    parts = [options.folder] if options.folder else ["must-fail", "wrong"]
-    files = (it for part in parts for it in sorted( glob.glob(f"{ROOT}/crates/{crate}/{part}/*.edit")))
+    files = (it for part in ("must-fail", "wrong") for it in sorted(glob.glob(f"{ROOT}/crates/{crate}/{part}/*.edit")))
     edits = [it for it in (Edit(crate, file) for file in files) if re.search(options.only, it.name)]
-    edits = [it for it in edits if it.is_unfit or not it.is_wide]
     if options.sample and edits and not any(it.is_unfit for it in edits):
-        return sample_of(beside(edits))
+        return sample_of(beside([it for it in edits if not it.is_wide]))
     for it in [] if options.no_twins else edits:
         it.twin = Edit(crate, it.file, is_twin=True) if it.has_twin else None
-    tried = {name for name, goal in TRIED.findall(text_of(options.tried) if options.tried else "") if kind_of(goal) != "step"}
-    edits = [it for it in edits if it.name not in tried] + [it.twin for it in edits if it.twin]
+    edits += [it.twin for it in edits if it.twin]
     return edits if options.alone else beside(edits)
 
 
@@ -536,8 +532,6 @@ def main():
     parser.add_argument("--alone", action="store_true", help="give each body its own check")
     parser.add_argument("--no-twins", action="store_true", help="leave the twins out")
     parser.add_argument("--sample", action="store_true", help=f"take {SAMPLE} of each crate that one check holds, those of must-fail first, without twins")
-    parser.add_argument("--folder", choices=["must-fail", "wrong"], help="take those of this folder alone")
-    parser.add_argument("--tried", metavar="LOG", help="leave out those that rt ci, which said LOG, refused for a goal of the code")
     parser.add_argument("--only", default="", metavar="PATTERN", help="take the bodies whose CRATE/NAME the pattern is found in")
     parser.add_argument("--jobs", type=int, default=usual_jobs(), metavar="N", help="the checks at a time (%(default)s here)")
     parser.add_argument("--said", metavar="FOLDER", help="keep there what each check says")
@@ -552,7 +546,7 @@ def main():
         for crate, group in tried.items():
             for number, (_, some) in enumerate(rounds_of([it for it in group if not it.is_unfit], options.alone), 1):
                 print("\n".join(f"{crate} round {number}: {it.name.partition('/')[2]}: {it.shown}" for it in some))
-    if options.list or unfit or not (edits or options.tried):
+    if options.list or unfit or not edits:
         print(f"{len(edits)} bodies, of which {len(unfit)} don't fit the code")
         return 1 if unfit or not edits else 0
     unkept = [crate for crate, group in tried.items() if group and not os.path.isdir(f"{ROOT}/crates/{crate}/out/incremental")]
