@@ -5,7 +5,7 @@
 # make check: proves every crate, without tests and wrong bodies, over what earlier checks kept; for daily work. A few
 #     minutes where little has changed
 # make test: over what make demo keeps: the tests of the crates, the examples, rows and guide, and some wrong bodies of
-#     each crate; 5 to 11 minutes
+#     each crate; 5 to 10 minutes
 # make gate: what a change has to pass: proves every crate and its tests from nothing, tries every wrong body, and runs
 #     everything; an hour with four processors on a slow day
 # make examples: runs each script of examples/, the demonstration, the program's own tests and the guide, and compares

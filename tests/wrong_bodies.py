@@ -49,7 +49,7 @@ KINDS = ["clause", "safety", "step", "name", "PROVED", "bad"]
 STRENGTHS = ["false", "open", "limit"]
 # What a check takes of the machine's memory, in MB.
 CHECK_MEMORY = 3000
-SAMPLE = 10
+SAMPLE = 8
 LARGEST = 60  # bodies of a round
 # The layout is rt fmt's: a function ends at the first line that is its indent and a bracket.
 HEAD = re.compile(r"( *)(?:pub(?:\([^)]*\))? )?(?:const |unsafe )*fn (\w+)")
