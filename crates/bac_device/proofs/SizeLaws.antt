@@ -21,8 +21,8 @@ use Rattle.bac_device.specs.Info.{Info}
 use Rattle.bac_device.specs.Point.{Description}
 use Rattle.bac_device.specs.Places.{Write}
 use Rattle.bac_device.specs.Device.{DeviceState, device_after}
-use Rattle.bac_device.specs.Reply.{refused, fitting, full_reply, i_am, reply_message, reply_apdu, reply_of, introduced}
-use Rattle.bac_device.specs.Reply.{writes_after}
+use Rattle.bac_device.specs.Reply.{refused, fitting, full_reply, i_am, reply_message, reply_apdu, reply_of}
+use Rattle.bac_device.specs.Reply.{who_is_reply, writes_after}
 use Rattle.bac_device.specs.Size.{CarriesRequest, CarriesUnconfirmed, IsWithinAnnounced, HasFifteen, RepliesFit}
 use Rattle.bac_device.specs.Turns.{Arrival, replies_to}
 
@@ -106,7 +106,7 @@ where_asked true (Some who) info =
 
 pub introduction_fits : (device : DeviceState) (from to : Station) (datagram reply : List ℕ)
     → CarriesUnconfirmed from datagram → reply_of device from datagram ≡ Some (to, reply) → HasFifteen to reply
-unfolding introduced
+unfolding who_is_reply
 introduction_fits device from to datagram reply r e =
     let all = where_asked (nat_eq r.service 8) (who_is_of r.body) device.info in
     let t = reply_takes device from to datagram reply r.delivery (unconfirmed r.service r.body)

@@ -2,3 +2,4 @@
 pub mod Places
 pub mod Property
 pub mod Demo
+pub mod Examples

@@ -10,5 +10,4 @@ pub mod Reply
 pub mod Size
 pub mod Demo
 pub mod Turns
-pub mod Examples
 pub mod Inner

@@ -62,8 +62,8 @@ in_range point (Some n) = if allows point.kind.family point.extra n then Ok (Som
 
 -- What the octets of a value ask a place of the point to hold. They have to be one value, of the type of the point and
 -- in its range, or NULL.
-unfoldable pub written : Description → List ℕ → Result (Option ℕ) Failure
-written point octets =
+unfoldable pub written_value : Description → List ℕ → Result (Option ℕ) Failure
+written_value point octets =
     or_fail WrongType (option_and_then (place_in point.kind.family) (one_value octets)) >>= in_range point
 
 -- The point, where the place of this priority holds this.

@@ -25,7 +25,7 @@ use Rattle.bac_device.specs.Info.{Info}
 use Rattle.bac_device.specs.Steps.{◌>>=◌, or_fail}
 use Rattle.bac_device.specs.Kind.{is_commandable}
 use Rattle.bac_device.specs.Point.{Description}
-use Rattle.bac_device.specs.Places.{Write, Standing, written, put}
+use Rattle.bac_device.specs.Places.{Write, Standing, written_value, put}
 use Rattle.bac_device.specs.Property.{Property, element, region_octets, point_property}
 use Rattle.bac_device.specs.Failure.{error_class, error_code}
 use Rattle.bac_device.specs.Device.{DeviceState, device_after, device_object, is_device, standing_at, device_property}
@@ -51,8 +51,8 @@ takes_index property None = true
 takes_index property (Some index) = property.is_array
 
 -- The point whose present value the reference names, where points of its type can be written.
-abbrev pub commanded : DeviceState → Reference → Option Standing
-commanded device r =
+abbrev pub commanded_point : DeviceState → Reference → Option Standing
+commanded_point device r =
     if is_device device.info r.object then None
     else if r.property == 85
     then option_and_then (λ standing. if is_commandable standing.point.kind.role then Some standing else None)
@@ -67,20 +67,20 @@ urgency (Some priority) = if priority == 6 then Err WriteDenied else Ok priority
 
 -- The write that an order asks of a point, or the first failure that applies: priority 6, a value of another type, a
 -- value out of range.
-unfoldable pub ordered : Standing → Order → Result Write Failure
-ordered standing o =
+unfoldable pub ordered_write : Standing → Order → Result Write Failure
+ordered_write standing o =
     urgency o.priority >>= (λ priority.
-    written standing.point o.value >>= (λ value.
+    written_value standing.point o.value >>= (λ value.
     Ok (record { object = o.reference.object; priority = priority; value = value })))
 
 -- The write that is ordered, or the first failure that applies: an unknown object, an unknown property, an index at
 -- what is no array, a property that can't be written, and then those of the point.
-unfoldable pub accepted : DeviceState → Order → Result Write Failure
-accepted device o =
+unfoldable pub accepted_write : DeviceState → Order → Result Write Failure
+accepted_write device o =
     property_of device o.reference.object o.reference.property >>= (λ property.
     or_fail NotAnArray (if takes_index property o.reference.index then Some property else None) >>= (λ _.
-    or_fail WriteDenied (commanded device o.reference) >>= (λ standing.
-    ordered standing o)))
+    or_fail WriteDenied (commanded_point device o.reference) >>= (λ standing.
+    ordered_write standing o)))
 
 -- ---- the replies to confirmed requests
 
@@ -117,11 +117,11 @@ read_reply device id body =
 -- The reply to a WriteProperty with this body.
 unfoldable pub write_reply : DeviceState → ℕ → List ℕ → Message
 write_reply device id body =
-    unless_rejected id (λ o. unless_failed id 15 (λ _. simple_ack id 15) (accepted device o)) (write_of body)
+    unless_rejected id (λ o. unless_failed id 15 (λ _. simple_ack id 15) (accepted_write device o)) (write_of body)
 
 -- The write that the body of a WriteProperty orders and the device accepts.
 unfoldable pub write_in_body : DeviceState → List ℕ → Option Write
-write_in_body device body = option_and_then (λ o. result_ok (accepted device o)) (result_ok (write_of body))
+write_in_body device body = option_and_then (λ o. result_ok (accepted_write device o)) (result_ok (write_of body))
 
 -- An Abort of the server: segmentation not supported (4, clause 18.10).
 abbrev pub refused : ℕ → Message
@@ -156,8 +156,8 @@ abbrev pub i_am : Info → Message
 i_am info = unconfirmed 0 (i_am_octets (introduction_of info))
 
 -- The I-Am, where the body of a Who-Is asks for the device.
-unfoldable pub introduced : Info → List ℕ → Option Message
-introduced info body =
+unfoldable pub who_is_reply : Info → List ℕ → Option Message
+who_is_reply info body =
     option_and_then (λ who. if asks who info.instance then Some (i_am info) else None) (who_is_of body)
 
 -- ---- the reply to an APDU, and to a datagram
@@ -166,7 +166,7 @@ introduced info body =
 abbrev pub reply_message : DeviceState → Bool → Message → Option Message
 reply_message device broadcast (confirmed part code id service body) =
     if broadcast then None else Some (fitting code id (full_reply device part id service body))
-reply_message device broadcast (unconfirmed service body) = if service == 8 then introduced device.info body else None
+reply_message device broadcast (unconfirmed service body) = if service == 8 then who_is_reply device.info body else None
 reply_message device broadcast _ = None
 
 -- The write that an APDU orders and the device accepts.

@@ -15,7 +15,7 @@ ghost use Rattle.bac_device.specs.Property.{single};
 ghost use Rattle.bac_device.specs.Inner.Property.{property_seen, IsSoundProperty};
 ghost use Rattle.bac_device.specs.Device.{Holds, points_of, device_after, standing_at, present_after, place_after};
 ghost use Rattle.bac_device.specs.Device.{same_name, add_point, device_text, device_number, device_property};
-ghost use Rattle.bac_device.specs.Reply.{property_of, commanded, with_write};
+ghost use Rattle.bac_device.specs.Reply.{property_of, commanded_point, with_write};
 
 use crate::failure::Failure;
 use crate::info::DeviceInfo;
@@ -174,9 +174,9 @@ impl Device {
 
     /// The point whose present value this property is, where it can be written.
     #[tactic(auto, unfolding(crate::specs::Reply::property_of, crate::specs::Property::point_property))]
-    pub(crate) fn commanded(&self, object: ObjectId, number: u32) -> Option<&StandingPoint>
+    pub(crate) fn commanded_point(&self, object: ObjectId, number: u32) -> Option<&StandingPoint>
         ensures point { option_copied result
-            ≡ commanded self.now (record { object = identifier object; property = number; index = None }) }
+            ≡ commanded_point self.now (record { object = identifier object; property = number; index = None }) }
         ensures property { IfSome result
             (λ point. property_of self.now (identifier object) number
             ≡ Ok (single (value_of point.now.point.kind.family (present point.now)))) }

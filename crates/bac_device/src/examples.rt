@@ -1,15 +1,15 @@
 //! Examples of what the device replies, worked out by computation. They show what the definitions mean.
 
 ghost use Rattle.std.specs.Prelude.{[], ◌∷◌, replicate};
-ghost use Rattle.bac_device.specs.Examples.{Exchanges, outdoor, long_named, valve, fan, season, nothing, own};
-ghost use Rattle.bac_device.specs.Examples.{any_device};
-ghost use Rattle.bac_device.specs.Examples.{of, element_of, read, read_for_50, is, write, write_at, aborted, has};
-ghost use Rattle.bac_device.specs.Examples.{has_no, makes, refuses};
-ghost use Rattle.bac_device.specs.Examples.{real_72_3, twenty, thirty, zero_real, null, unsigned, enumerated};
+ghost use Rattle.bac_device.specs.Inner.Examples.{Exchanges, outdoor, long_named, valve, fan, season, nothing, own};
+ghost use Rattle.bac_device.specs.Inner.Examples.{any_device};
+ghost use Rattle.bac_device.specs.Inner.Examples.{of, element_of, read, read_for_50, is, write, write_at, aborted, has};
+ghost use Rattle.bac_device.specs.Inner.Examples.{has_no, makes, refuses};
+ghost use Rattle.bac_device.specs.Inner.Examples.{real_72_3, twenty, thirty, zero_real, null, unsigned, enumerated};
 
 /// A property is read, whole or an element of it.
 #[tactic(none)]
-pub fn examples_of_reads()
+fn examples_of_reads()
     // A present value of each kind: 72.3 degrees, off, and the first of four seasons.
     ensures present { Exchanges
         (has (of 85 outdoor) real_72_3 ∷ has (of 85 fan) (enumerated 0) ∷ has (of 85 season) (unsigned 1) ∷ []) }
@@ -38,7 +38,7 @@ pub fn examples_of_reads()
 
 /// A present value is written, and what is present then.
 #[tactic(none)]
-pub fn examples_of_writes()
+fn examples_of_writes()
     // At two priorities: the more urgent one is present until NULL lets it go, then the other one, and at last the
     // default.
     ensures places { Exchanges

@@ -33,6 +33,5 @@ mod write;
 
 pub use demonstration::demo;
 pub use device::{AddFault, Device, POINTS};
-pub use examples::{examples_of_reads, examples_of_writes};
 pub use info::DeviceInfo;
 pub use point::{NAME_OCTETS, Point};

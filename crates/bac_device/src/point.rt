@@ -4,7 +4,7 @@ ghost use Rattle.std.specs.Prelude.{◌≡◌, [], find, is_some, IfSome};
 ghost use Rattle.std.specs.Option.{option_map, option_copied};
 ghost use Rattle.bac_wire.specs.Identifier.{identifier};
 ghost use Rattle.bac_device.specs.Point.{given, description_of, same_object};
-ghost use Rattle.bac_device.specs.Places.{standing_after, present, place_at, written, put};
+ghost use Rattle.bac_device.specs.Places.{standing_after, present, place_at, written_value, put};
 ghost use Rattle.bac_device.specs.Inner.Places.{write_seen};
 ghost use Rattle.bac_device.specs.Device.{same_name};
 ghost use Rattle.bac_device.specs.Kind.{is_commandable as has_priorities};
@@ -158,9 +158,9 @@ impl StandingPoint {
 
     /// What the octets of a value ask a place to hold. They have to be one value, of the type of the point and in its
     /// range, or NULL.
-    #[tactic(auto, unfolding(crate::specs::Places::written))]
+    #[tactic(auto, unfolding(crate::specs::Places::written_value))]
     pub(crate) fn value_in(&self, octets: &[u8]) -> Result<Option<u32>, Failure>
-        ensures { result ≡ written self.now.point octets.now }
+        ensures { result ≡ written_value self.now.point octets.now }
     {
         let family = self.kind.family;
         let value = one_value(octets).ok_or(Failure::WrongType)?;

@@ -16,9 +16,10 @@ ghost use Rattle.bac_device.specs.Inner.Property.{property_seen, IsSoundProperty
 ghost use Rattle.bac_device.specs.Failure.{error_class, error_code};
 ghost use Rattle.bac_device.specs.Device.{Holds, points_of, device_after};
 ghost use Rattle.bac_device.specs.Size.{CarriesRequest, CarriesUnconfirmed, IsWithinAnnounced, HasFifteen};
-ghost use Rattle.bac_device.specs.Reply.{answered_object, read_property, accepted, ordered, ack as ack_message};
+ghost use Rattle.bac_device.specs.Reply.{answered_object, read_property, accepted_write, ordered_write};
+ghost use Rattle.bac_device.specs.Reply.{ack as ack_message};
 ghost use Rattle.bac_device.specs.Reply.{urgency as urgency_of, read_reply, write_reply, write_in_body, full_reply};
-ghost use Rattle.bac_device.specs.Reply.{write_in_request, fitting, refused as refused_message, introduced};
+ghost use Rattle.bac_device.specs.Reply.{write_in_request, fitting, refused as refused_message, who_is_reply};
 ghost use Rattle.bac_device.specs.Reply.{i_am as i_am_message, reply_apdu, write_apdu as write_in_apdu, reply_of};
 ghost use Rattle.bac_device.specs.Reply.{write_of_datagram, with_write, reply_to, writes_after};
 
@@ -69,12 +70,12 @@ impl Device {
     }
 
     /// The write that a request orders, where the device accepts it; else why it does not.
-    #[tactic(auto, unfolding(crate::specs::Reply::accepted))]
-    fn accepted(&self, request: &WriteRequest<'_>) -> Result<PlaceWrite, Failure>
+    #[tactic(auto, unfolding(crate::specs::Reply::accepted_write))]
+    fn accepted_write(&self, request: &WriteRequest<'_>) -> Result<PlaceWrite, Failure>
         requires { IfSome request.now.priority IsPriority }
-        ensures { result_seen write_seen result ≡ accepted self.now (order request.now) }
+        ensures { result_seen write_seen result ≡ accepted_write self.now (order request.now) }
     {
-        let Some(point) = self.commanded(request.object, request.property) else {
+        let Some(point) = self.commanded_point(request.object, request.property) else {
             let property = self.property(request.object, request.property)?;
             if request.index.is_some() && !property.is_array() {
                 return Err(Failure::NotAnArray);
@@ -85,7 +86,7 @@ impl Device {
         if request.index.is_some() {
             return Err(Failure::NotAnArray);
         }
-        ordered(point, request)
+        ordered_write(point, request)
     }
 
     /// Appends the ReadProperty-ACK with these values to an empty frame.
@@ -154,7 +155,7 @@ impl Device {
             Ok(request) => request,
             Err(reason) => return append_reject(id, reason, frame),
         };
-        match self.accepted(&request) {
+        match self.accepted_write(&request) {
             Ok(write) => {
                 self.put(&write);
                 write_apdu(
@@ -295,10 +296,10 @@ impl Device {
 }
 
 /// Appends the I-Am to an empty frame, where the body of a Who-Is asks for the device. Else None.
-#[tactic(auto, using(crate::proofs::SizeLaws::length_i_am), unfolding(crate::specs::Reply::introduced))]
+#[tactic(auto, using(crate::proofs::SizeLaws::length_i_am), unfolding(crate::specs::Reply::who_is_reply))]
 fn introduce(info: &DeviceInfo, body: &[u8], frame: &mut Frame) -> Option<()>
     requires { frame.old ≡ [] }
-    ensures value { option_map (λ _. frame.new) result ≡ option_map laid_out (introduced info.now body.now) }
+    ensures value { option_map (λ _. frame.new) result ≡ option_map laid_out (who_is_reply info.now body.now) }
     ensures silent { IfNone result (frame.new ≡ []) }
     ensures few { length frame.new ≤ 15 }
 {
@@ -332,10 +333,10 @@ fn i_am(info: &DeviceInfo, frame: &mut Frame) -> Result<(), Full>
 }
 
 /// The write that a request orders of a point.
-#[tactic(auto, unfolding(crate::specs::Reply::ordered))]
-fn ordered(point: &StandingPoint, request: &WriteRequest<'_>) -> Result<PlaceWrite, Failure>
+#[tactic(auto, unfolding(crate::specs::Reply::ordered_write))]
+fn ordered_write(point: &StandingPoint, request: &WriteRequest<'_>) -> Result<PlaceWrite, Failure>
     requires { IfSome request.now.priority IsPriority }
-    ensures { result_seen write_seen result ≡ ordered point.now (order request.now) }
+    ensures { result_seen write_seen result ≡ ordered_write point.now (order request.now) }
 {
     let priority = urgency(request.priority)?;
     let value = point.value_in(request.value)?;

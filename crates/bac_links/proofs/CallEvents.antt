@@ -21,7 +21,7 @@ use Rattle.bac_tsm.specs.Client.{Client, rules_of, keeping}
 use Rattle.bac_tsm.proofs.Laws.{drop_head, one_step, run_first, run_whole, both_are, looks_back, past_unended}
 use Rattle.bac_tsm.proofs.Laws.{early_unended, early_unsent, quiet_unsent, sent_first, by_number, few_places}
 use Rattle.bac_links.specs.Call.{post_in, posts, rules_for, service_of, asked, begun_at, end_in, sent_last, IsAccepted}
-use Rattle.bac_links.specs.Inner.CallSteps.{ending_in, endings, IsNews, IsAlone, CarriesOn}
+use Rattle.bac_links.specs.Inner.CallSteps.{ending_in, endings, AsksNothing, IsAlone, CarriesOn}
 use Rattle.bac_links.specs.declared.ending.Purpose.{Purpose}
 use Rattle.bac_text.specs.declared.jobs.Call.{Call}
 
@@ -55,19 +55,20 @@ module _ (rules : Rules) (by_number : AnswersByNumber rules) (small : rules.plac
 
 -- ---- the events of a call
 
-pub one_news : (event : Event) → IsNews event → All IsNews (event ∷ [])
-one_news event news = All-cons IsNews event [] news (All-nil IsNews)
+pub one_news : (event : Event) → AsksNothing event → All AsksNothing (event ∷ [])
+one_news event news = All-cons AsksNothing event [] news (All-nil AsksNothing)
 
-news_at : (rest : List Event) (j : ℕ) (event : Event) → All IsNews rest → slice_get rest j ≡ Some event → IsNews event
+news_at : (rest : List Event) (j : ℕ) (event : Event) → All AsksNothing rest → slice_get rest j ≡ Some event
+    → AsksNothing event
 news_at rest j event quiet e =
-    subst IsNews (get_or_from_slice_get rest j event event e) (quiet j event (slice_get_within rest j event e))
+    subst AsksNothing (get_or_from_slice_get rest j event event e) (quiet j event (slice_get_within rest j event e))
 
 none_at : (rules : Rules) (events : List Event) (i : ℕ) (before : List Accepted) (rest : List Event) (j : ℕ)
-    → All IsNews rest →
+    → All AsksNothing rest →
     accepted_at rules 0 events i before (slice_get rest j) ≡ []
 none_at rules events i before rest j quiet = go (slice_get rest j) (λ event e. news_at rest j event quiet e)
   where
-    go : (here : Option Event) → ((event : Event) → here ≡ Some event → IsNews event)
+    go : (here : Option Event) → ((event : Event) → here ≡ Some event → AsksNothing event)
         → accepted_at rules 0 events i before here ≡ []
     go (Some (Ask peer service body)) news = absurd (news (Ask peer service body) refl)
     go _ news = refl
@@ -77,7 +78,7 @@ module _ (purpose : Purpose) (call : Call) (time : ℕ) where
   fitting short = grind (arith, nat_tests)
 
   -- The request is accepted, and no other is asked for.
-  accepted_is : (later : List Event) → length call.body.items ≤ longest_body → All IsNews later → (j : ℕ) →
+  accepted_is : (later : List Event) → length call.body.items ≤ longest_body → All AsksNothing later → (j : ℕ) →
       accepted (rules_for call) 0 (begun_at purpose call time later) (suc (suc j)) ≡ asked purpose call ∷ []
   unfolding refusal_of next_number
   accepted_is later short quiet zero = rw (fitting short) refl
@@ -143,7 +144,7 @@ module _ {X : Type 0} (read : Note → List X) (silent : read Dropped ≡ []) wh
   -- Where one request was accepted before, a later event tells what is placed there.
   news_told : (rules : Rules) (events : List Event) (i : ℕ) (a : Accepted) → accepted rules 0 events i ≡ a ∷ []
       → (a.position ≡ i → ⊥) →
-      (event : Event) → IsNews event → slice_get events i ≡ Some event
+      (event : Event) → AsksNothing event → slice_get events i ≡ Some event
       → flat_map read (output rules 0 events i) ≡ flat_map read (placed rules events i a)
   news_told rules events i a only other event news e = ap (flat_map read) here ∙ go event news e
     where
@@ -151,7 +152,7 @@ module _ {X : Type 0} (read : Note → List X) (silent : read Dropped ≡ []) wh
       here = ap (λ xs. notes_on rules 0 events i xs (slice_get events i)) only
           ∙ ap (notes_on rules 0 events i (a ∷ [])) e
 
-      go : (event : Event) → IsNews event → slice_get events i ≡ Some event →
+      go : (event : Event) → AsksNothing event → slice_get events i ≡ Some event →
           flat_map read (notes_on rules 0 events i (a ∷ []) (Some event)) ≡ flat_map read (placed rules events i a)
       go (Ask peer service body) news e = absurd news
       go (Data peer bytes) news e =
@@ -167,7 +168,7 @@ Client_of call state = record { timeout = call.timeout; retries = call.retries; 
 
 module _ (purpose : Purpose) (call : Call) (time : ℕ) (later : List Event)
     (short : length call.body.items ≤ longest_body)
-    (quiet : All IsNews later) where
+    (quiet : All AsksNothing later) where
   abbrev all : List Event
   all = begun_at purpose call time later
 
@@ -215,15 +216,15 @@ module _ (purpose : Purpose) (call : Call) (time : ℕ) (later : List Event)
 -- One more event.
 module _ (purpose : Purpose) (call : Call) (time : ℕ) (later : List Event)
     (short : length call.body.items ≤ longest_body)
-    (quiet : All IsNews later) (event : Event) (news : IsNews event) where
+    (quiet : All AsksNothing later) (event : Event) (news : AsksNothing event) where
   abbrev before : List Event
   before = begun_at purpose call time later
 
   abbrev after : List Event
   after = begun_at purpose call time (later ++ event ∷ [])
 
-  quiet_after : All IsNews (later ++ event ∷ [])
-  quiet_after = All-append IsNews later (event ∷ []) quiet (one_news event news)
+  quiet_after : All AsksNothing (later ++ event ∷ [])
+  quiet_after = All-append AsksNothing later (event ∷ []) quiet (one_news event news)
 
   longer : length after ≡ suc (length before)
   longer = let l = length_push before event in omega arith
@@ -273,7 +274,7 @@ module _ (purpose : Purpose) (call : Call) (time : ℕ) (later : List Event)
   ]
 
 module _ (purpose : Purpose) (call : Call) (time : ℕ) (later : List Event) (client : Client)
-    (far : CarriesOn purpose call time later client) (event : Event) (news : IsNews event) where
+    (far : CarriesOn purpose call time later client) (event : Event) (news : AsksNothing event) where
   abbrev handed : Stepped
   handed = step (rules_of client) client.state event
 
@@ -356,9 +357,9 @@ module _ (purpose : Purpose) (call : Call) (time : ℕ) (short : length call.bod
   pub begins : CarriesOn purpose call time [] (Client_of call submitted.after)
   begins = record {
     short = short;
-    quiet = All-nil IsNews;
+    quiet = All-nil AsksNothing;
     unended = none_if (end_in purpose call first) (λ x e.
-        let within = end_within purpose call time [] short (All-nil IsNews) x e in
+        let within = end_within purpose call time [] short (All-nil AsksNothing) x e in
         let none = early_unended (rules_for call) first (asked purpose call) x.position (omega arith) in
         not_silent (asked purpose call).request (end_in purpose call first) x e (ap endings none));
     client_is =

@@ -14,7 +14,7 @@ use Rattle.bac_tsm.specs.Lookahead.{End, send_notes}
 use Rattle.bac_tsm.specs.Machine.{State, Stepped, to_send, sent, is_due, due_entry, tick, step}
 use Rattle.bac_tsm.specs.Client.{Client, rules_of, keeping}
 use Rattle.bac_text.specs.declared.checked.Checked.{Checked}
-use Rattle.bac_text.specs.Checked.{Puts}
+use Rattle.bac_text.specs.Checked.{TookOrFailed}
 use Rattle.bac_links.specs.Limits.{most_turns}
 use Rattle.bac_links.specs.Told.{Told, Heard, Arrival, Failure, Sending, waited, having_sent}
 use Rattle.bac_links.specs.History.{Entry, Waited, Timed, Posted, Unposted, told_after, Account, Gains, GainsAll, Over}
@@ -24,7 +24,7 @@ use Rattle.bac_links.specs.Courses.{first_below, stops_at}
 use Rattle.bac_links.specs.Call.{posts, rules_for, wait_of, asked, begun_at, events_of, entries_of, entries_to, end_in}
 use Rattle.bac_links.specs.Call.{has_ended, sent_last, heard_in, wait_in, time_in, IsOpenAfter, EndsIn, FailsToSend}
 use Rattle.bac_links.specs.Call.{RunsOut, Tells}
-use Rattle.bac_links.specs.Inner.CallSteps.{endings, GainsLost, heard_step, timeouts, IsNews, IsAlone, CarriesOn}
+use Rattle.bac_links.specs.Inner.CallSteps.{endings, GainsLost, heard_step, timeouts, AsksNothing, IsAlone, CarriesOn}
 use Rattle.bac_links.specs.Inner.CallSteps.{Underway, TurnFails}
 use Rattle.bac_links.specs.declared.ending.Purpose.{Purpose}
 use Rattle.bac_text.specs.declared.jobs.Call.{Call}
@@ -83,7 +83,7 @@ module _ (purpose : Purpose) (call : Call) (time : ℕ) (later : List Event) (cl
   heard_end (Arrival from octets) outcome now one =
       let x : End = record { position = length (begun_at purpose call time later); outcome = Some outcome } in
       let answered = later ++ Data from octets ∷ [] in
-      let quiet = All-append IsNews later (Data from octets ∷ []) far.quiet (one_news (Data from octets) tt) in
+      let quiet = All-append AsksNothing later (Data from octets ∷ []) far.quiet (one_news (Data from octets) tt) in
       let ended = ends_next purpose call time later client far (Data from octets) tt (Some outcome) one in
       let same = sym (append_assoc later (Data from octets ∷ []) (Tick now ∷ [])) in (
         x.position,
@@ -137,12 +137,12 @@ module _ (purpose : Purpose) (call : Call) (t : Told) (gained : List Entry) (cli
         let left = left_so purpose call t n in
         ap (λ (xs : List Entry). read (told_after xs t)) far.history ∙ ap read left.1 ∙ unsent left.0
 
-  quiet_next : All IsNews next
-  quiet_next = All-append IsNews later (data_in heard ++ Tick time_then ∷ []) far.carried.quiet (go heard)
+  quiet_next : All AsksNothing next
+  quiet_next = All-append AsksNothing later (data_in heard ++ Tick time_then ∷ []) far.carried.quiet (go heard)
     where
-      go : (heard : Heard) → All IsNews (data_in heard ++ Tick time_then ∷ [])
+      go : (heard : Heard) → All AsksNothing (data_in heard ++ Tick time_then ∷ [])
       go (Arrival from octets) =
-          All-cons IsNews (Data from octets) (Tick time_then ∷ []) tt (one_news (Tick time_then) tt)
+          All-cons AsksNothing (Data from octets) (Tick time_then ∷ []) tt (one_news (Tick time_then) tt)
       go _ = one_news (Tick time_then) tt
 
   passed_next : heard ≢ Failure → first_below (stops_at (heard_in call t) (has_ended purpose call t)) (suc n) ≡ None
@@ -469,7 +469,7 @@ module _ {W : Type 0} (purpose : Purpose) (call : Call) (contents : W → Option
 
   -- What is shown of an end is what the call tells.
   pub shown_so : (ending : Option Outcome) (result : Result Exit ToolFault)
-      → Puts contents before after (ending_line purpose ending) result →
+      → TookOrFailed contents before after (ending_line purpose ending) result →
       IfOk result (λ exit. exit ≡ exit_of purpose ending) → IfErr result (λ fault. fault ≡ WriteFailed) →
       (n : ℕ) → Over told left (λ gained t. EndsIn purpose call t gained ending n)
       → Tells purpose call contents before after told left result

@@ -138,7 +138,6 @@ over_begun a b gained P gains now timely holds =
       gains = gains;
       some = (it.0, it.1.0);
       holds = holds;
-      foretold = λ t e. holds t (gains.1 t e);
     }
 
 pub over_none : (a : Account) (P : List Entry → Told → Type 0) → ((t : Told) → P [] t) → Over a a P
@@ -152,7 +151,6 @@ over_map a b P Q first makes =
       gains = first.gains;
       some = first.some;
       holds = λ t f. makes first.gained t (first.holds t f);
-      foretold = λ t e. makes first.gained t (first.foretold t e);
     }
 
 pub over_on : (a b c : Account) (P Q : List Entry → Told → Type 0) → Over a b P → (more : List Entry)

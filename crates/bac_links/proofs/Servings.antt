@@ -12,7 +12,7 @@ use Rattle.bac_links.specs.Limits.{most_turns, serve_wait}
 use Rattle.bac_links.specs.Told.{Told, Heard, Silence, Arrival, Failure, Sending, after_wait, waited, having_sent}
 use Rattle.bac_links.specs.History.{Entry, Waited, Unposted, told_after, Foretells, Account, Over}
 use Rattle.bac_links.specs.Serve.{came_by, serve_hears, heards, arrivals_in, reply_entries, serve_entries, reply_count}
-use Rattle.bac_links.specs.Serve.{AnswersAll, all_came, ServesSo, Serves}
+use Rattle.bac_links.specs.Serve.{AnswersAll, all_came, HasServed, Serves}
 use Rattle.bac_links.specs.Courses.{first_below, stops_at, GoesOn}
 use Rattle.bac_links.proofs.Courses.{none_yet, one_more, ends_now, fails_now, having_nothing, having_sent-both}
 use Rattle.bac_links.proofs.Histories.{Timely, told_after-append, over_none, over_map, over_on}
@@ -26,7 +26,7 @@ use Rattle.bac_links.specs.declared.fault.ToolFault.TheVariants.{SendFailed, Rec
 pub record ServesOver (t : Told) (gained : List Entry) (arrivals : List Came)
     (replies : List (Option (Station × List ℕ))) (count n : ℕ) : Type 0 where
   pub passed : first_below (stops_at (serve_hears t) (all_came count t)) n ≡ None
-  pub so : ServesSo t gained arrivals replies n
+  pub so : HasServed t gained arrivals replies n
   pub sent : List Sending
   pub left : told_after gained t ≡ having_sent sent (waited serve_wait n t)
 

@@ -16,7 +16,7 @@ use Rattle.bac_links.specs.History.{Entry, Waited, Timed, Posted, Unposted, Acco
 use Rattle.bac_links.specs.Answered.{Answer, Brings, answers_of}
 use Rattle.bac_links.specs.Courses.{is_failure, first_below, stops_at}
 use Rattle.bac_links.specs.Serve.{came_by, serve_hears, heards, arrivals_in, serve_entries, reply_count, all_came}
-use Rattle.bac_links.specs.Serve.{ServesSo, ServeEnds, Serves}
+use Rattle.bac_links.specs.Serve.{HasServed, ServeEnds, Serves}
 use Rattle.bac_links.specs.declared.fault.ToolFault.{ToolFault}
 use Rattle.bac_links.specs.declared.fault.ToolFault.TheVariants.{SendFailed, ReceiveFailed, TurnsSpent, WriteFailed}
 use Rattle.bac_links.proofs.Courses.{none_at}
@@ -127,7 +127,7 @@ as_many info points writes (arrival ∷ arrivals) =
 
 module _ (count : ℕ) (arrivals : List Came) (replies : Replies) (told left : Account)
     (many : length arrivals ≡ length replies) where
-  heard_so : (t : Told) (gained : List Entry) (n : ℕ) → ServesSo t gained arrivals replies n
+  heard_so : (t : Told) (gained : List Entry) (n : ℕ) → HasServed t gained arrivals replies n
       → heard_in gained ≡ heards t n
   heard_so t gained n so = ap heard_in so.history ∙ heard_entries (heards t n) replies (ap length (sym so.came) ∙ many)
 

@@ -58,11 +58,10 @@ posted (Ok x) = Posted
 posted (Err e) = Unposted
 
 -- What holds of a link before and after some calls, whatever it knew. Its history gained some entries. There is a t
--- that tells them, and this holds of the entries and each t that does; so of what the link told, where it told what
--- comes.
+-- that tells them, and this holds of the entries and each t that does: what the link told, where it told what comes, is
+-- such a t.
 pub record Over (before after : Account) (P : List Entry → Told → Type 0) : Type 0 where
   pub gained : List Entry
   pub gains : GainsAll gained before after
   pub some : (t : Told) × Foretells gained t
   pub holds : (t : Told) → Foretells gained t → P gained t
-  pub foretold : ForSome before.foretold (P gained)

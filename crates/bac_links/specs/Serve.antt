@@ -60,8 +60,8 @@ abbrev pub all_came : ℕ → Told → ℕ → Bool
 all_came count t n = nat_le count (length (arrivals_in (heards t n)))
 
 -- After n waits these datagrams have come, and the replies to them are sent.
-pub record ServesSo (t : Told) (gained : List Entry) (arrivals : List Came) (replies : List (Option (Station × List ℕ)))
-    (n : ℕ) : Type 0 where
+pub record HasServed (t : Told) (gained : List Entry) (arrivals : List Came)
+    (replies : List (Option (Station × List ℕ))) (n : ℕ) : Type 0 where
   pub came : arrivals ≡ arrivals_in (heards t n)
   pub history : gained ≡ serve_entries (heards t n) replies
 
@@ -69,7 +69,7 @@ pub record ServesSo (t : Told) (gained : List Entry) (arrivals : List Came) (rep
 pub record ServeDone (t : Told) (gained : List Entry) (arrivals : List Came)
     (replies : List (Option (Station × List ℕ))) (count n : ℕ) : Type 0 where
   pub stops : EndsAfter (serve_hears t) (all_came count t) n
-  pub so : ServesSo t gained arrivals replies n
+  pub so : HasServed t gained arrivals replies n
 
 -- The last reply, to the datagram that wait n brought, could not be sent.
 pub record ServeUnsent (t : Told) (gained : List Entry) (arrivals : List Came)
@@ -97,7 +97,7 @@ pub record ServeSpent (t : Told) (gained : List Entry) (arrivals : List Came)
     (replies : List (Option (Station × List ℕ))) (count n : ℕ) : Type 0 where
   pub all : n ≡ most_turns
   pub before : GoesOn (serve_hears t) (all_came count t) n
-  pub so : ServesSo t gained arrivals replies n
+  pub so : HasServed t gained arrivals replies n
 
 -- What came, what was replied and what was sent, by how the server ends.
 abbrev pub ServeEnds : ℕ → List Came → List (Option (Station × List ℕ)) → Account → Account → Result ℕ ToolFault

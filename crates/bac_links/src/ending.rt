@@ -1,6 +1,6 @@
 //! How a call ends, and what is printed of that.
 ghost use Rattle.std.specs.Prelude.{◌≡◌, false, is_err, is_some, if◌then◌else◌, IfOk, IfErr};
-ghost use Rattle.bac_text.specs.Checked.{has_failed, Puts};
+ghost use Rattle.bac_text.specs.Checked.{has_failed, TookOrFailed};
 ghost use Rattle.bac_text.specs.Page.{Prints};
 ghost use Rattle.bac_links.specs.Call.{service_of};
 ghost use Rattle.bac_pdu.specs.PropertyReading.{ack_of};
@@ -57,7 +57,8 @@ pub(crate) fn show_ending<W: Write>(
     writer: &mut Checked<W>,
 ) -> Result<Exit, ToolFault>
     requires { has_failed writer.old ≡ false }
-    ensures text { Puts W.contents writer.old writer.new (ending_line purpose (ending_seen ending.entry)) result }
+    ensures text { TookOrFailed W.contents writer.old writer.new
+        (ending_line purpose (ending_seen ending.entry)) result }
     ensures failed { has_failed writer.new ≡ is_err result }
     ensures exit { IfOk result (λ exit. exit ≡ exit_of purpose (ending_seen ending.entry)) }
     ensures fault { IfErr result (λ fault. fault ≡ ToolFault.WriteFailed) }

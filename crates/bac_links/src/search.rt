@@ -2,7 +2,7 @@
 ghost use Rattle.std.specs.Prelude.{◌≡◌, ◌<◌, false, is_err, IfErr};
 ghost use Rattle.std.specs.Option.{option_map};
 ghost use Rattle.bac_pdu.specs.Peer.{station};
-ghost use Rattle.bac_text.specs.Checked.{has_failed, Puts};
+ghost use Rattle.bac_text.specs.Checked.{has_failed, TookOrFailed};
 ghost use Rattle.bac_text.specs.Page.{Prints};
 ghost use Rattle.bac_links.specs.History.{Gains, posted};
 ghost use Rattle.bac_links.specs.Fault.{is_link_fault, is_write_fault};
@@ -74,7 +74,7 @@ fn read_found(who: WhoIs, from: Peer, octets: &[u8]) -> Option<Found>
 #[tactic(auto, unfolding(bac_text::specs::Page::Wrote))]
 fn show_found<W: Write>(found: Found, writer: &mut Checked<W>) -> Result<(), ToolFault>
     requires { has_failed writer.old ≡ false }
-    ensures text { Puts W.contents writer.old writer.new (found_line (found_seen found)) result }
+    ensures text { TookOrFailed W.contents writer.old writer.new (found_line (found_seen found)) result }
     ensures failed { has_failed writer.new ≡ is_err result }
     ensures fault { IfErr result (λ fault. fault ≡ ToolFault.WriteFailed) }
 {

@@ -2,7 +2,7 @@
 ghost use Rattle.std.specs.Prelude.{◌≡◌, ◌++◌, false, decimal, is_err};
 ghost use Rattle.bac_tsm.specs.Events.{Failed};
 ghost use Rattle.bac_tsm.specs.Client.{outcome_seen};
-ghost use Rattle.bac_text.specs.Checked.{has_failed, Puts};
+ghost use Rattle.bac_text.specs.Checked.{has_failed, TookOrFailed};
 ghost use Rattle.bac_text.specs.Page.{Prints};
 ghost use Rattle.bac_outcomes.specs.Outcomes.{outcome_text};
 
@@ -20,7 +20,7 @@ pub fn show_outcome<W: Write>(
     writer: &mut Checked<W>,
 ) -> Result<(), WriteFailed>
     requires { has_failed writer.old ≡ false }
-    ensures text { Puts W.contents writer.old writer.new (outcome_text (outcome_seen outcome.now)) result }
+    ensures text { TookOrFailed W.contents writer.old writer.new (outcome_text (outcome_seen outcome.now)) result }
     ensures failed { has_failed writer.new ≡ is_err result }
 {
     let mut page = Page::new(writer);

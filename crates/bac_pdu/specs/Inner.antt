@@ -4,3 +4,4 @@ pub mod Header
 pub mod Datagram
 pub mod Parameter
 pub mod Discovery
+pub mod Examples

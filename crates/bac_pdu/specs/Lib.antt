@@ -12,5 +12,4 @@ pub mod PropertyReading
 pub mod Discovery
 pub mod Failure
 pub mod ValueReading
-pub mod Examples
 pub mod Inner

@@ -12,12 +12,12 @@ ghost use Rattle.bac_pdu.specs.Failure.{error_octets};
 ghost use Rattle.bac_pdu.specs.Property.{read_octets};
 ghost use Rattle.bac_pdu.specs.PropertyReading.{ack_of, read_of, write_of};
 ghost use Rattle.bac_pdu.specs.ValueReading.{introduction_of, who_is_of};
-ghost use Rattle.bac_pdu.specs.Examples.{IsWritten, desk, far, from_desk, present_value, small_device};
+ghost use Rattle.bac_pdu.specs.Inner.Examples.{IsWritten, desk, far, from_desk, present_value, small_device};
 
 /// A ReadProperty request, from the inside to the outside: the body, the APDU and the datagram (ANSI/ASHRAE 135, 15.5,
 /// 20.1.2 and J.2).
 #[tactic(none)]
-pub fn examples_of_datagrams()
+fn examples_of_datagrams()
     // Analog-input 1 under tag 0, and the property 85 under tag 1.
     ensures body { read_octets present_value ≡ 0x0c ∷ 0x00 ∷ 0x00 ∷ 0x00 ∷ 0x01 ∷ 0x19 ∷ 0x55 ∷ [] }
     ensures body_read { read_of (0x0c ∷ 0x00 ∷ 0x00 ∷ 0x00 ∷ 0x01 ∷ 0x19 ∷ 0x55 ∷ []) ≡ Ok present_value }
@@ -41,7 +41,7 @@ pub fn examples_of_datagrams()
 
 /// How a request may be answered (ANSI/ASHRAE 135, 20.1.4 to 20.1.9), and why a body is rejected.
 #[tactic(none)]
-pub fn examples_of_apdus()
+fn examples_of_apdus()
     // The value is 72.3, a Real, between the opening and the closing tag 3.
     ensures ack { ack_of (read_octets present_value ++ (0x3e ∷ 0x44 ∷ 0x42 ∷ 0x90 ∷ 0x99 ∷ 0x9a ∷ 0x3f ∷ [])) ≡
         Some (record { reference = present_value; value = 0x44 ∷ 0x42 ∷ 0x90 ∷ 0x99 ∷ 0x9a ∷ [] }) }
@@ -69,7 +69,7 @@ pub fn examples_of_apdus()
 
 /// Who-Is and I-Am (ANSI/ASHRAE 135, 16.10).
 #[tactic(none)]
-pub fn examples_of_discovery()
+fn examples_of_discovery()
     // Every device is asked, or those from 1000 to 1234.
     ensures all { who_is_octets All ≡ [] }
     ensures range { who_is_octets (Range 1000 1234) ≡ 0x0a ∷ 0x03 ∷ 0xe8 ∷ 0x1a ∷ 0x04 ∷ 0xd2 ∷ [] }

@@ -35,7 +35,6 @@ mod writing;
 pub use apdu::{Apdu, Part, announced, read_apdu, write_apdu};
 pub use datagram::{Carried, open_datagram, wrap, wrap_within};
 pub use discovery::{DEVICE, IAm, WhoIs, read_iam, read_whois, write_iam, write_whois};
-pub use examples::{examples_of_apdus, examples_of_datagrams, examples_of_discovery};
 pub use failure::{read_error, write_error};
 pub use peer::Peer;
 pub use property::{

@@ -7,3 +7,4 @@ pub mod LongBody
 pub mod LineSeen
 pub mod Running
 pub mod Tracing
+pub mod Examples

@@ -5,5 +5,4 @@ pub mod Running
 pub mod Script
 pub mod Tracing
 pub mod Alike
-pub mod Examples
 pub mod Inner

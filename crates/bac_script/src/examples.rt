@@ -3,12 +3,12 @@
 ghost use Rattle.std.specs.Prelude.{[], ◌∷◌, codes, replicate, Err};
 ghost use Rattle.bac_script.specs.declared.input.Reading.TheVariants.{Open, AtEnd, Failed};
 ghost use Rattle.bac_script.specs.declared.tracing.TraceFault.TheVariants.{BadLine, LineTooLong, ReadFailed};
-ghost use Rattle.bac_script.specs.Examples.{IsTraced, ended, read, sent, answer};
+ghost use Rattle.bac_script.specs.Inner.Examples.{IsTraced, ended, read, sent, answer};
 ghost use Rattle.bac_script.specs.Script.{Runs};
 
 /// What is printed of a client's events.
 #[tactic(none)]
-pub fn examples_of_a_client()
+fn examples_of_a_client()
     ensures answered { IsTraced (read ∷ answer ∷ []) (sent ∷ "done 0 value 4290999a" ∷ []) (ended 2) }
 
     // No answer comes: the request is sent again at each timeout, and ends after three retries.
@@ -26,7 +26,7 @@ pub fn examples_of_a_client()
 
 /// What is printed of the device's replies.
 #[tactic(none)]
-pub fn examples_of_a_device()
+fn examples_of_a_device()
     // Who-Is of 1000 to 1234, and of 1235 to 2000.
     ensures asked_who { IsTraced
         ("ask 127.0.0.1:50000 810a000e010010080a03e81a04d2" ∷ "ask 127.0.0.1:50000 810a000e010010080a04d31a07d0" ∷ [])
@@ -46,7 +46,7 @@ pub fn examples_of_a_device()
 
 /// Where a script stops.
 #[tactic(none)]
-pub fn examples_of_ends()
+fn examples_of_ends()
     ensures empty { IsTraced [] [] (ended 0) }
 
     // Blank lines and remarks are counted, and a carriage return before the line feed is dropped.

@@ -22,6 +22,5 @@ mod notes;
 mod running;
 mod tracing;
 
-pub use examples::{examples_of_a_client, examples_of_a_device, examples_of_ends};
 pub use notes::{show_outcome, show_value};
 pub use tracing::{TraceEnd, TraceFault, trace, trace_status};

@@ -187,7 +187,7 @@ fn read_reading<'a>(mut words: Words<'_>, room: &'a mut LineRoom) -> Option<Line
         index,
     };
     ended(words)?;
-    let body = room.body.read_body(&request);
+    let body = room.body.body_of_read(&request);
     Some(Line::Request(&room.peer, READ_PROPERTY, body))
 }
 
@@ -203,7 +203,7 @@ fn read_writing<'a>(mut words: Words<'a>, room: &'a mut LineRoom) -> Option<Line
     let index = next_write_index(&mut words)?;
     let object = ObjectId::new(kind as u16, instance as u32)?;
     let pairs = words.again();
-    match body.write_body(object, property, index, priority, &mut words) {
+    match body.body_of_write(object, property, index, priority, &mut words) {
         Ok(body) => Some(Line::Request(peer, WRITE_PROPERTY, body)),
         Err(PairFault::TooLong) => Some(Line::LongWrite(LongWrite {
             peer,

@@ -6,7 +6,7 @@ ghost use Rattle.bac_pdu.specs.Peer.{station};
 ghost use Rattle.bac_tsm.specs.Events.{Done, Refused, TimedOut};
 ghost use Rattle.bac_tsm.specs.Machine.{sent, due_notes};
 ghost use Rattle.bac_tsm.specs.Client.{outcome_seen};
-ghost use Rattle.bac_text.specs.Checked.{has_failed, Puts};
+ghost use Rattle.bac_text.specs.Checked.{has_failed, TookOrFailed};
 ghost use Rattle.bac_text.specs.Page.{Prints};
 ghost use Rattle.bac_text.specs.PeerTexts.{peer_text};
 ghost use Rattle.bac_text.specs.Values.{region_text};
@@ -30,7 +30,7 @@ pub fn show_outcome<W: Write>(
     writer: &mut Checked<W>,
 ) -> Result<(), TraceFault>
     requires { has_failed writer.old ≡ false }
-    ensures text { Puts W.contents writer.old writer.new (outcome_text (outcome_seen outcome.now)) result }
+    ensures text { TookOrFailed W.contents writer.old writer.new (outcome_text (outcome_seen outcome.now)) result }
     ensures failed { has_failed writer.new ≡ is_err result }
     ensures fault { IfErr result (λ fault. fault ≡ TraceFault.WriteFailed) }
 {
@@ -45,7 +45,7 @@ pub fn show_outcome<W: Write>(
 /// `WriteFailed` where the writer failed or took no octet. A front of the text was then written.
 pub fn show_value<W: Write>(region: &[u8], writer: &mut Checked<W>) -> Result<(), TraceFault>
     requires { has_failed writer.old ≡ false }
-    ensures text { Puts W.contents writer.old writer.new (region_text region.now) result }
+    ensures text { TookOrFailed W.contents writer.old writer.new (region_text region.now) result }
     ensures failed { has_failed writer.new ≡ is_err result }
     ensures fault { IfErr result (λ fault. fault ≡ TraceFault.WriteFailed) }
 {

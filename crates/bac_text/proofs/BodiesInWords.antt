@@ -12,7 +12,8 @@ use Rattle.bac_pdu.specs.Property.{IsWriteBody, reference_parameters, write_octe
 use Rattle.bac_pdu.proofs.SequenceLaws.{whole_spell}
 use Rattle.bac_pdu.proofs.ShortestLaws.{order_is_written}
 use Rattle.bac_text.specs.declared.pairs.PairFault.TheVariants.{TooLong}
-use Rattle.bac_text.specs.Pairs.{values_in, region_with, region_of, order_of, body_with}
+use Rattle.bac_text.specs.Pairs.{values_in, order_of, body_with}
+use Rattle.bac_text.specs.Inner.Pairs.{region_with, region_of}
 use Rattle.bac_text.specs.PairsInWords.{AreWritten, IsWritten, BodiesAreWritten}
 use Rattle.bac_text.proofs.ValueLists.{read_all}
 use Rattle.bac_text.proofs.ValueRegions.{values_are_region}

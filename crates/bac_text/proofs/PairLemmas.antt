@@ -11,7 +11,8 @@ use Rattle.bac_text.specs.declared.value_words.ValueFault.TheVariants as faults
 use Rattle.bac_text.specs.declared.pairs.PairFault.TheVariants.{Bad}
 use Rattle.bac_text.specs.ValueWords.{value_in}
 use Rattle.bac_text.specs.Inner.ValueWords.{appended}
-use Rattle.bac_text.specs.Pairs.{value_before, pairs_from, values_in, region_of}
+use Rattle.bac_text.specs.Pairs.{value_before, pairs_from, values_in}
+use Rattle.bac_text.specs.Inner.Pairs.{region_of}
 
 -- ---- one more value behind others
 

@@ -4,7 +4,7 @@ use Rattle.std.specs.Prelude.{is_err}
 use Rattle.std.proofs.lemmas.List.{append-nil}
 use Rattle.bac_text.specs.declared.checked.Checked.{Checked}
 use Rattle.bac_text.specs.declared.page.Page.{Page}
-use Rattle.bac_text.specs.Checked.{has_failed, Took, Puts}
+use Rattle.bac_text.specs.Checked.{has_failed, Took, TookOrFailed}
 use Rattle.bac_text.specs.Page.{held, writer_of, Writes, Wrote, Prints}
 use Rattle.bac_text.proofs.Printed.{writes_more}
 
@@ -32,7 +32,7 @@ module _ {W : Type 0} {contents : W → Option (List ℕ)} where
   -- The text was written, or, where the writer failed, a front of it.
   pub put : {A E : Type 0} {before after : Checked W} {text : List ℕ} (answer : Result A E)
       → Writes contents before after [] [] text →
-      has_failed after ≡ is_err answer → Puts contents before after text answer
+      has_failed after ≡ is_err answer → TookOrFailed contents before after text answer
   put (Ok done) written good = all_written written good
   put (Err fault) written bad = (written.taken, written.rest, written.whole, written.took)
 
@@ -41,7 +41,7 @@ module _ {W : Type 0} {contents : W → Option (List ℕ)} where
       (answer : Result A E) → after ≡ back →
       writer_of first ≡ writer → held first ≡ [] → Prints contents first last text
       → Writes contents (writer_of last) after (held last) [] [] →
-      has_failed after ≡ is_err answer → Puts contents writer back text answer
+      has_failed after ≡ is_err answer → TookOrFailed contents writer back text answer
   shown {writer = writer} {text = text} answer given same empty printed gone failed =
-      subst (λ (w : Checked W). Puts contents writer w text answer) given
+      subst (λ (w : Checked W). TookOrFailed contents writer w text answer) given
       (put answer (finished same empty printed gone) failed)

@@ -12,7 +12,8 @@ use Rattle.bac_pdu.specs.Property.{Order, reference_parameters, write_octets}
 use Rattle.bac_text.specs.declared.pairs.PairFault.{PairFault}
 use Rattle.bac_text.specs.declared.pairs.PairFault.TheVariants.{TooLong}
 use Rattle.bac_text.specs.ValueWords.{at_most}
-use Rattle.bac_text.specs.Pairs.{values_in, region_with, region_of, order_of, body_with, body_of}
+use Rattle.bac_text.specs.Pairs.{values_in, order_of, body_with, body_of}
+use Rattle.bac_text.specs.Inner.Pairs.{region_with, region_of}
 use Rattle.bac_text.proofs.WordValues.{at_most_fault}
 
 parameters_within : (front behind : List Parameter) (region : List ℕ)

@@ -81,6 +81,7 @@ TakesFront contents before after text = (taken rest : List ℕ) × (text ≡ tak
     × Took contents before after taken
 
 -- The writer took the text, or, where it failed, a front of it.
-abbrev pub Puts : {W A E : Type 0} → (W → Option (List ℕ)) → Checked W → Checked W → List ℕ → Result A E → Type 0
-Puts contents before after text (Ok done) = Took contents before after text
-Puts contents before after text (Err e) = TakesFront contents before after text
+abbrev pub TookOrFailed : {W A E : Type 0} → (W → Option (List ℕ)) → Checked W → Checked W → List ℕ → Result A E
+    → Type 0
+TookOrFailed contents before after text (Ok done) = Took contents before after text
+TookOrFailed contents before after text (Err e) = TakesFront contents before after text

@@ -7,3 +7,5 @@ pub mod HexLanes
 pub mod Address
 pub mod Values
 pub mod ValueWords
+pub mod Pairs
+pub mod Examples

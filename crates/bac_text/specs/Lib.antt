@@ -11,5 +11,4 @@ pub mod ValueWords
 pub mod Parameters
 pub mod Pairs
 pub mod PairsInWords
-pub mod Examples
 pub mod Inner

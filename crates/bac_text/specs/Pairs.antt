@@ -6,7 +6,6 @@ use Rattle.bac_pdu.specs.Parameter.{plain_all}
 use Rattle.bac_pdu.specs.Property.{Order, write_octets}
 use Rattle.bac_text.specs.declared.pairs.PairFault.{PairFault}
 use Rattle.bac_text.specs.declared.pairs.PairFault.TheVariants.{Bad, TooLong}
-use Rattle.bac_wire.specs.Limits.{frame_room}
 use Rattle.bac_text.specs.Limits.{longest_body}
 use Rattle.bac_text.specs.ValueWords.{value_in, at_most}
 
@@ -28,19 +27,11 @@ abbrev pub values_in : List (List ℕ) → Result (List Datum) ℕ
 values_in [] = Err 1
 values_in (tag ∷ others) = pairs_from 1 (tag ∷ others)
 
--- The shortest spellings of these values, one after another, where a frame has room for them.
-abbrev pub region_with : Result (List Datum) ℕ → Result (List ℕ) PairFault
-region_with (Ok values) = at_most TooLong frame_room (plain_all plain values)
-region_with (Err n) = Err (Bad n)
-
 -- The words that are left of these: none, or those behind the first pair that has no value.
 abbrev pub words_behind : {A : Type 0} → Result A PairFault → List (List ℕ) → List (List ℕ)
 words_behind (Ok it) words = []
 words_behind (Err TooLong) words = []
 words_behind (Err (Bad n)) words = drop (2 * n) words
-
-abbrev pub region_of : List (List ℕ) → Result (List ℕ) PairFault
-region_of words = region_with (values_in words)
 
 -- What a WriteProperty request orders: that a property has these octets as its value.
 abbrev pub order_of : Identifier → ℕ → Option ℕ → Option ℕ → List ℕ → Order

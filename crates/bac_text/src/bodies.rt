@@ -31,7 +31,7 @@ impl BodyRoom {
     }
 
     /// The body of the ReadProperty request (clause 15.5). There is always room for it.
-    pub fn read_body(&mut self, request: &ReadRequest) -> &[u8]
+    pub fn body_of_read(&mut self, request: &ReadRequest) -> &[u8]
         ensures body { result.now ≡ read_octets (reference request.now) }
         ensures short { length result.now ≤ longest_body }
     {
@@ -47,7 +47,7 @@ impl BodyRoom {
     ///
     /// `Bad` with the number of the first pair whose words are no tag and a value of it, or which lacks its value, or
     /// with 1 where there is no word; and then `TooLong` where the body would have more than `LONGEST_BODY` octets.
-    pub fn write_body<'a, S: WordSource<'a>>(
+    pub fn body_of_write<'a, S: WordSource<'a>>(
         &mut self,
         object: ObjectId,
         property: u32,
@@ -80,19 +80,19 @@ impl BodyRoom {
 }
 
 /// The body of the ReadProperty request (clause 15.5), to be kept.
-pub fn read_body(request: &ReadRequest) -> ArrayVec<u8, LONGEST_BODY>
+pub fn body_of_read(request: &ReadRequest) -> ArrayVec<u8, LONGEST_BODY>
     ensures { result.items ≡ read_octets (reference request.now) }
 {
     let mut room = BodyRoom::new();
-    kept(room.read_body(request))
+    kept(room.body_of_read(request))
 }
 
 /// Reads words, and makes the body of the WriteProperty request that they order (clause 15.9), to be kept.
 ///
 /// # Errors
 ///
-/// Those of [`BodyRoom::write_body`].
-pub fn read_write_body<'a, S: WordSource<'a>>(
+/// Those of [`BodyRoom::body_of_write`].
+pub fn body_of_write<'a, S: WordSource<'a>>(
     object: ObjectId,
     property: u32,
     index: Option<u32>,
@@ -106,7 +106,7 @@ pub fn read_write_body<'a, S: WordSource<'a>>(
     ensures left { S.left words.new ≡ words_behind result (S.left words.old) }
 {
     let mut room = BodyRoom::new();
-    let body = room.write_body(object, property, index, priority, words)?;
+    let body = room.body_of_write(object, property, index, priority, words)?;
     Ok(kept(body))
 }
 

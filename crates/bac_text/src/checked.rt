@@ -3,7 +3,7 @@ ghost use Rattle.std.specs.Prelude.{◌≡◌, ◌+◌, ◌-◌, ◌^◌, ◌++�
 ghost use Rattle.std.specs.Io.{ReadsAtMost, WritesAtMost};
 ghost use Rattle.std.specs.Io.KnownBytes.{ReadConsumes, WriteAppends, Keeps};
 ghost use Rattle.bac_text.specs.Checked.{inner_of, has_failed, has_ended, ends_of, reads_of, octets_of, last_of, gone};
-ghost use Rattle.bac_text.specs.Checked.{HasNotRead, fresh, is_end, ends_with, is_failed_write, Puts};
+ghost use Rattle.bac_text.specs.Checked.{HasNotRead, fresh, is_end, ends_with, is_failed_write, TookOrFailed};
 ghost use Rattle.bac_text.specs.Inner.Checked.{having_passed};
 
 use crate::transcript::{Part, Transcript};
@@ -145,7 +145,7 @@ impl<W: Write> Checked<W> {
     #[tactic(auto, using(crate::proofs::Known::Sent_more))]
     pub(crate) fn put(&mut self, text: &[u8]) -> Result<(), WriteFailed>
         requires { has_failed self.old ≡ false }
-        ensures text { Puts W.contents self.old self.new text.now result }
+        ensures text { TookOrFailed W.contents self.old self.new text.now result }
         ensures failed { has_failed self.new ≡ is_err result }
         ensures reads { HasNotRead self.old self.new }
     {

@@ -3,7 +3,7 @@
 ghost use Rattle.std.specs.Prelude.{◌≡◌, [], ◌∷◌, codes, replicate, Some, None, Ok, Err};
 ghost use Rattle.bac_text.specs.declared.pairs.PairFault.TheVariants.{Bad, TooLong};
 ghost use Rattle.bac_text.specs.Address.{peer_of};
-ghost use Rattle.bac_text.specs.Examples.{IsWritten, device, far_device, body_with_words};
+ghost use Rattle.bac_text.specs.Inner.Examples.{IsWritten, device, far_device, body_with_words};
 ghost use Rattle.bac_text.specs.PeerTexts.{peer_text};
 ghost use Rattle.bac_text.specs.Values.{region_text};
 ghost use Rattle.bac_text.specs.Words.{words_of};
@@ -11,7 +11,7 @@ ghost use Rattle.bac_text.specs.Words.{words_of};
 /// A value of each kind: the number of its tag and a word, the octets that they write (ANSI/ASHRAE 135, 20.2), and the
 /// text of these octets.
 #[tactic(none)]
-pub fn examples_of_values()
+fn examples_of_values()
     ensures null { IsWritten "0" "any" (0x00 ∷ []) "null" }
     ensures boolean { IsWritten "1" "false" (0x10 ∷ []) "false" }
     ensures unsigned { IsWritten "2" "72" (0x21 ∷ 0x48 ∷ []) "72" }
@@ -31,7 +31,7 @@ pub fn examples_of_values()
 
 /// What is printed of a region of no value, of several, of what is no value, and of texts that can't stand as they are.
 #[tactic(none)]
-pub fn examples_of_regions()
+fn examples_of_regions()
     ensures empty { region_text [] ≡ codes "{}" }
     ensures several { region_text (0x21 ∷ 0x05 ∷ 0x21 ∷ 0x06 ∷ []) ≡ codes "{5,6}" }
     ensures longer_than_needed { region_text (0x22 ∷ 0x00 ∷ 0x05 ∷ []) ≡ codes "5" }
@@ -42,7 +42,7 @@ pub fn examples_of_regions()
 
 /// What the words of a line write.
 #[tactic(none)]
-pub fn examples_of_words()
+fn examples_of_words()
     ensures words { words_of (codes " tick\t 5 ") ≡ codes "tick" ∷ codes "5" ∷ [] }
 
     // The usual port may be left out, and is printed.

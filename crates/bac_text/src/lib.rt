@@ -34,9 +34,8 @@ mod value_words;
 mod values;
 mod words;
 
-pub use bodies::{BodyRoom, LONGEST_BODY, read_body, read_write_body};
+pub use bodies::{BodyRoom, LONGEST_BODY, body_of_read, body_of_write};
 pub use checked::{Checked, WriteFailed};
-pub use examples::{examples_of_regions, examples_of_values, examples_of_words};
 pub use hex_digits::{LONGEST_DATAGRAM, LONGEST_LINE, read_datagram};
 pub use jobs::{Call, Search};
 pub use numbers::read_number;

@@ -5,7 +5,7 @@ ghost use Rattle.std.specs.Fmt.{signed_decimal};
 ghost use Rattle.bac_wire.specs.Datum.{datum, bit_string};
 ghost use Rattle.bac_wire.specs.DatumReading.{value_at};
 ghost use Rattle.bac_wire.specs.Identifier.{identifier};
-ghost use Rattle.bac_text.specs.Checked.{has_failed, Puts};
+ghost use Rattle.bac_text.specs.Checked.{has_failed, TookOrFailed};
 ghost use Rattle.bac_text.specs.Page.{Prints};
 ghost use Rattle.bac_text.specs.Values.{is_escaped, is_printable, bit_digit, quoted_octet, quoted, string_text};
 ghost use Rattle.bac_text.specs.Values.{lettered, octet_bits, bits_text, boolean_text, object_text, datum_text};
@@ -26,7 +26,7 @@ use std::io::Write;
 /// `WriteFailed` where the writer failed or took no octet. A front of the text was then written.
 pub fn show_value<W: Write>(region: &[u8], writer: &mut Checked<W>) -> Result<(), WriteFailed>
     requires { has_failed writer.old ≡ false }
-    ensures text { Puts W.contents writer.old writer.new (region_text region.now) result }
+    ensures text { TookOrFailed W.contents writer.old writer.new (region_text region.now) result }
     ensures failed { has_failed writer.new ≡ is_err result }
 {
     let mut page = Page::new(writer);

@@ -3,3 +3,4 @@ pub mod Machine
 pub mod Seen
 pub mod Waiting
 pub mod Table
+pub mod Examples

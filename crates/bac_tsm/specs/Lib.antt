@@ -12,7 +12,6 @@ pub mod Client
 pub mod Seen
 pub mod Watching
 pub mod Rule
-pub mod Examples
 pub mod Waiting
 pub mod Table
 pub mod Progress

@@ -39,7 +39,6 @@ pub use comparing::{same_end, same_entry, same_fault, same_outcome};
 pub use config::Config;
 pub use due::{Due, Entry};
 pub use event::{Event, Note};
-pub use examples::{examples_of_a_request, examples_of_answers, examples_of_many_events};
 pub use limits::{LONGEST_BODY, PLACES};
 pub use outcome::{Ended, Outcome};
 pub use running::{Watcher, run};

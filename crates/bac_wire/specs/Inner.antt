@@ -3,3 +3,4 @@ pub mod Writing
 pub mod Front
 pub mod Datum
 pub mod Region
+pub mod Examples

@@ -11,5 +11,4 @@ pub mod Region
 pub mod ItemReading
 pub mod Parameter
 pub mod ParameterReading
-pub mod Examples
 pub mod Inner

@@ -7,11 +7,11 @@ ghost use Rattle.bac_wire.specs.DatumReading.{value_at};
 ghost use Rattle.bac_wire.specs.ItemReading.{region_at};
 ghost use Rattle.bac_wire.specs.Parameter.{enclosed_octets, number_octets, object_octets};
 ghost use Rattle.bac_wire.specs.ParameterReading.{enclosed_at, number_at, object_at};
-ghost use Rattle.bac_wire.specs.Examples.{IsWritten, input, device};
+ghost use Rattle.bac_wire.specs.Inner.Examples.{IsWritten, input, device};
 
 /// What is written of a value, and read back (ANSI/ASHRAE 135, 20.2.2 to 20.2.14).
 #[tactic(none)]
-pub fn examples_of_octets()
+fn examples_of_octets()
     ensures null { IsWritten null (0x00 ∷ []) }
     ensures boolean { IsWritten (boolean true) (0x11 ∷ []) }
 
@@ -38,7 +38,7 @@ pub fn examples_of_octets()
 
 /// What is read at the front of octets, and what is left of them.
 #[tactic(none)]
-pub fn examples_of_reading()
+fn examples_of_reading()
     // The value that stands first.
     ensures first { value_at (0x21 ∷ 0x05 ∷ 0x21 ∷ 0x06 ∷ []) ≡ Some (unsigned 5, 0x21 ∷ 0x06 ∷ []) }
 
@@ -55,7 +55,7 @@ pub fn examples_of_reading()
 
 /// The parameters of a service: a number, an object and a value under context tags.
 #[tactic(none)]
-pub fn examples_of_parameters()
+fn examples_of_parameters()
     // The property 85 under tag 1, and analog-input 5 under tag 0.
     ensures number { number_octets 1 85 ≡ 0x19 ∷ 0x55 ∷ [] }
     ensures number_read { number_at 1 (0x19 ∷ 0x55 ∷ []) ≡ Some (85, []) }

@@ -23,7 +23,6 @@ mod object_id;
 mod tag;
 mod value;
 
-pub use examples::{examples_of_octets, examples_of_parameters, examples_of_reading};
 pub use frame::{FRAME_OCTETS, Frame, Full};
 pub use items::{NESTING, is_region, region};
 pub use object_id::ObjectId;

@@ -5,5 +5,4 @@ pub mod Marks
 pub mod Orders
 pub mod Job
 pub mod Line
-pub mod Examples
 pub mod Inner

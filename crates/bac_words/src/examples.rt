@@ -4,11 +4,11 @@ ghost use Rattle.std.specs.Prelude.{[], ◌∷◌, codes, Ok, Err};
 ghost use Rattle.bac_pdu.specs.declared.discovery.WhoIs.TheVariants.{All, Range};
 ghost use Rattle.bac_words.specs.declared.faults.UsageFault.TheVariants.{BadIndex, BadMac, BadValue};
 ghost use Rattle.bac_words.specs.Orders.{Reads, Writes, Seeks, Serves, Traces};
-ghost use Rattle.bac_words.specs.Examples.{IsOrdered, at_port, usual};
+ghost use Rattle.bac_words.specs.Inner.Examples.{IsOrdered, at_port, usual};
 
 /// What the words of a request order: to whom it goes, how long and how often, and its service body.
 #[tactic(none)]
-pub fn examples_of_requests()
+fn examples_of_requests()
     // The present value (85) of analog input (0) 5.
     ensures read { IsOrdered (codes "bactool bacrp 1234 0 5 85 --mac 192.0.2.7")
         (Ok (Reads (usual (0x0c ∷ 0x00 ∷ 0x00 ∷ 0x00 ∷ 0x05 ∷ 0x19 ∷ 0x55 ∷ [])))) }
@@ -44,7 +44,7 @@ pub fn examples_of_requests()
 
 /// What the words of the other tools order.
 #[tactic(none)]
-pub fn examples_of_other_tools()
+fn examples_of_other_tools()
     // Every device, one, and those within limits.
     ensures all { IsOrdered (codes "bactool bacwi --mac 192.0.2.7") (Ok (Seeks (at_port 47808) 3000 0 All)) }
     ensures one { IsOrdered (codes "bactool bacwi 1000 --mac 192.0.2.7")

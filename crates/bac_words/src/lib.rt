@@ -26,7 +26,6 @@ mod typed;
 
 pub use called::words_of;
 pub use command::bactool;
-pub use examples::{examples_of_other_tools, examples_of_requests};
 pub use faults::{UsageFault, usage_status};
 pub use jobs::{Job, Serve};
 pub use parse::parse_words;

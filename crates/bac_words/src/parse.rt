@@ -29,8 +29,8 @@ use arrayvec::ArrayVec;
 use bac_device::DeviceInfo;
 use bac_pdu::{Peer, ReadRequest, WhoIs};
 use bac_text::{
-    Call, LONGEST_BODY, PairFault, Search, plain_peer_in, priority_from, read_body,
-    read_write_body, read_write_index,
+    Call, LONGEST_BODY, PairFault, Search, body_of_read, body_of_write, plain_peer_in,
+    priority_from, read_write_index,
 };
 use bac_wire::ObjectId;
 use clap::ArgMatches;
@@ -84,7 +84,7 @@ fn read_job(matches: &ArgMatches<'_>) -> Result<Job, UsageFault>
     let Some(to) = peer(matches) else {
         return Err(UsageFault::BadMac);
     };
-    Ok(Job::Read(call(matches, to, read_body(&request))))
+    Ok(Job::Read(call(matches, to, body_of_read(&request))))
 }
 
 fn write_job(matches: &ArgMatches<'_>) -> Result<Job, UsageFault>
@@ -234,7 +234,7 @@ fn write_body(
 {
     let pairs = matches.get_strs("tag value").unwrap_or(&[]);
     let mut words = TypedWords::new(pairs);
-    read_write_body(
+    body_of_write(
         object(matches),
         needed(matches, "property"),
         index,

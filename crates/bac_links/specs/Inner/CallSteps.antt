@@ -55,15 +55,15 @@ answers None = []
 answers (Some outcome) = Some outcome ∷ []
 
 -- A call hands the client nothing but datagrams and ticks after its request.
-abbrev pub IsNews : Event → Type 0
-IsNews (Ask peer service body) = ⊥
-IsNews (Data peer bytes) = Unit {0}
-IsNews (Tick now) = Unit {0}
+abbrev pub AsksNothing : Event → Type 0
+AsksNothing (Ask peer service body) = ⊥
+AsksNothing (Data peer bytes) = Unit {0}
+AsksNothing (Tick now) = Unit {0}
 
 -- The client of a call that began at this time and was handed these events since, with its request open.
 pub record CarriesOn (purpose : Purpose) (call : Call) (time : ℕ) (later : List Event) (client : Client) : Type 0 where
   pub short : length call.body.items ≤ longest_body
-  pub quiet : All IsNews later
+  pub quiet : All AsksNothing later
   pub unended : end_in purpose call (begun_at purpose call time later) ≡ None
   pub client_is : client ≡ record {
     timeout = call.timeout;

@@ -20,13 +20,13 @@ use Rattle.bac_pdu.specs.PropertyReading.{ack_of, reference_at, read_of, write_o
 use Rattle.bac_tsm.specs.Lookahead.{next_number, refusal_of}
 use Rattle.bac_tsm.specs.Answers.{answer_in_datagram, same_station, is_answer_to}
 use Rattle.bac_pdu.specs.ValueReading.{who_is_of, introduction_of}
-use Rattle.bac_device.specs.Reply.{property_of, read_property, ordered, accepted, read_reply, write_reply}
-use Rattle.bac_device.specs.Reply.{write_in_body, full_reply, write_in_request, introduced, reply_apdu, write_apdu}
+use Rattle.bac_device.specs.Reply.{property_of, read_property, ordered_write, accepted_write, read_reply, write_reply}
+use Rattle.bac_device.specs.Reply.{write_in_body, full_reply, write_in_request, who_is_reply, reply_apdu, write_apdu}
 use Rattle.bac_device.specs.Reply.{reply_of, write_of_datagram}
 use Rattle.bac_device.specs.Inner.Demo.{with_row}
 use Rattle.bac_device.specs.Point.{description_of}
 use Rattle.bac_device.specs.Kind.{kind_of, one_value}
-use Rattle.bac_device.specs.Places.{place, standing_after, place_at, written}
+use Rattle.bac_device.specs.Places.{place, standing_after, place_at, written_value}
 use Rattle.bac_device.specs.Device.{add_point, device_text, device_number, device_property}
 use Rattle.bac_device.specs.Property.{element, kind_property, point_property}
 use Rattle.bac_script.proofs.examples.examples_of_a_device.Goals as goal
@@ -36,10 +36,10 @@ unfolding encode is_utf8 chars digits decode_pairs encode_with value_under value
     contents_of value_at tag_number_at long_length_at length_at shape_at tag_at kind_at context_at number_at object_at
     behind_opening enclosed_at behind_closing behind_items region_at plain_parameter wrapped address_at header_at
     link_at carried parts_at apdu_of ack_of reference_at read_of write_of next_number refusal_of answer_in_datagram
-    same_station is_answer_to who_is_of introduction_of property_of read_property ordered accepted read_reply
-    write_reply write_in_body full_reply write_in_request introduced reply_apdu write_apdu reply_of write_of_datagram
-    with_row description_of kind_of one_value place standing_after place_at written add_point device_text device_number
-    device_property element kind_property point_property
+    same_station is_answer_to who_is_of introduction_of property_of read_property ordered_write accepted_write
+    read_reply write_reply write_in_body full_reply write_in_request who_is_reply reply_apdu write_apdu reply_of
+    write_of_datagram with_row description_of kind_of one_value place standing_after place_at written_value add_point
+    device_text device_number device_property element kind_property point_property
 returns c =
     record {
       asked_who = record { wrote = refl; answered = refl };

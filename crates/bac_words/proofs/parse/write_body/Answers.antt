@@ -14,4 +14,4 @@ returns c =
     let typed = ap (λ (b : Bor (List (Bor Text))). map unmarked (texts b.now)) c.unwrap_or-pairs.ensures
     ∙ pairs_typed c.get_strs.result _ refl ∙ given in
     rw (← c.object.ensures, ← c.needed.ensures.value, ← c.priority.ensures.value, ← typed, ← c.new-words.ensures)
-    c.read_write_body.ensures.body
+    c.body_of_write.ensures.body

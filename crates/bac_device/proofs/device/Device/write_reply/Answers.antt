@@ -2,5 +2,5 @@ use Rattle.std.proofs.Common.{sym}
 use Rattle.bac_pdu.proofs.WriteLaws.{write_is}
 use Rattle.bac_device.proofs.device.Device.write_reply.Goals as goal
 
-pub accepted-requires : goal.accepted-requires
-accepted-requires c = ((write_is _ _).0 (sym c.in-Ok.ensures.value)).whole.urgent
+pub accepted_write-requires : goal.accepted_write-requires
+accepted_write-requires c = ((write_is _ _).0 (sym c.in-Ok.ensures.value)).whole.urgent

@@ -8,8 +8,8 @@ use Rattle.bac_device.specs.Steps.{◌>>=◌, or_fail}
 use Rattle.bac_device.specs.Property.{single}
 use Rattle.bac_device.specs.Places.{Standing}
 use Rattle.bac_device.specs.Device.{DeviceState}
-use Rattle.bac_device.specs.Reply.{property_of, takes_index, commanded, ordered, accepted}
-use Rattle.bac_device.proofs.device.Device.accepted.Goals as goal
+use Rattle.bac_device.specs.Reply.{property_of, takes_index, commanded_point, ordered_write, accepted_write}
+use Rattle.bac_device.proofs.device.Device.accepted_write.Goals as goal
 
 -- An index stands at no single value.
 no_index : {A : Type 0} (value : Datum) (index : Option ℕ) (rest : Result A Failure)
@@ -20,12 +20,12 @@ no_index value (Some index) rest = refl
 
 -- What an order comes to that names the present value of a point.
 accepted_at : (device : DeviceState) (o : Order) (standing : Standing) (value : Datum)
-    → commanded device o.reference ≡ Some standing
+    → commanded_point device o.reference ≡ Some standing
     → property_of device o.reference.object o.reference.property ≡ Ok (single value)
-    → accepted device o ≡ if is_some o.reference.index then Err NotAnArray else ordered standing o
-unfolding accepted
+    → accepted_write device o ≡ if is_some o.reference.index then Err NotAnArray else ordered_write standing o
+unfolding accepted_write
 accepted_at device o standing value found property =
-    rw (property, found) (no_index value o.reference.index (ordered standing o))
+    rw (property, found) (no_index value o.reference.index (ordered_write standing o))
 
 pub returns-then-is_some-2 : goal.returns-then-is_some-2
 returns-then-is_some-2 c =
@@ -41,4 +41,4 @@ returns c =
       accepted_at c.args.self.now (order c.args.request.now) c.in-Some.point.now _ (sym c.in-Some.ensures.point)
           c.in-Some.ensures.property,
       ← c.if-is_some-2.ensures,
-    ) c.ordered.ensures
+    ) c.ordered_write.ensures

@@ -5,7 +5,7 @@ use Rattle.bac_wire.specs.Region.{IsRegion}
 use Rattle.bac_text.proofs.BodiesInWords.{region_written}
 use Rattle.bac_text.proofs.ValueRegions.{values_are_region}
 use Rattle.bac_text.proofs.WriteBodies.{body-fault}
-use Rattle.bac_text.proofs.bodies.BodyRoom.write_body.Goals as goal
+use Rattle.bac_text.proofs.bodies.BodyRoom.body_of_write.Goals as goal
 
 pub returns-in_err-read_pairs : goal.returns-in_err-read_pairs
 returns-in_err-read_pairs g c =

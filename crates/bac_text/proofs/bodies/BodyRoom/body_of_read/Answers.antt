@@ -2,7 +2,7 @@ use Rattle.std.proofs.Common.{◌≡◌, ℕ, ◌≤◌, List, [], ◌++◌, len
 use Rattle.bac_wire.specs.Writing.{Appends}
 use Rattle.bac_pdu.specs.Property.{reference, read_octets}
 use Rattle.bac_pdu.proofs.LengthLaws.{read_octets_short}
-use Rattle.bac_text.proofs.bodies.BodyRoom.read_body.Goals as goal
+use Rattle.bac_text.proofs.bodies.BodyRoom.body_of_read.Goals as goal
 
 -- What is appended to nothing, where there is room for it.
 written : {A E : Type 0} (r : Result A E) (before after octets : List ℕ) → before ≡ [] → length octets ≤ 45

@@ -3,7 +3,8 @@ use Rattle.std.specs.Prelude.{◌≡◌, ℕ, List, [], ◌∷◌, codes, Some, 
 use Prim.Native.String.{String}
 use Rattle.bac_pdu.specs.Peer.{Station}
 use Rattle.bac_text.specs.declared.pairs.PairFault.{PairFault}
-use Rattle.bac_text.specs.Pairs.{region_of, body_of}
+use Rattle.bac_text.specs.Pairs.{body_of}
+use Rattle.bac_text.specs.Inner.Pairs.{region_of}
 use Rattle.bac_text.specs.Values.{region_text}
 
 -- A tag's number and a word write these octets, and these octets are printed so.
