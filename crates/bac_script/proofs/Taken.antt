@@ -1,18 +1,22 @@
 -- What is taken in several steps.
 use Rattle.std.proofs.Common.{◌≡◌, ◌⊎◌, ℕ, ◌+◌, ◌<◌, ◌≤◌, zero, suc, Bool, false, List, [], ◌∷◌, ◌++◌, length, take}
-use Rattle.std.proofs.Common.{drop, get_or, Option, Some, None, sym, ◌∙◌, ap, subst, inl, inr, append_assoc}
+use Rattle.std.proofs.Common.{drop, get_or, Option, Some, None, refl, sym, ◌∙◌, ap, subst, inl, inr, true}
+use Rattle.std.proofs.Common.{append_assoc}
 use Rattle.std.proofs.Common.{length-append, arith}
 use Rattle.std.specs.Prelude.{◌==◌, position}
 use Rattle.std.proofs.lemmas.Bool.{eqb-false, eqb-true}
 use Rattle.std.proofs.lemmas.Bool.Decides.{nat_tests}
-use Rattle.std.proofs.lemmas.List.{take-append-drop, take_all, take_more}
+use Rattle.std.proofs.lemmas.List.{take-append-drop, take_all, take_more, drop_all}
 use Rattle.std.proofs.lemmas.List.Sums.{fails_before_first}
 use Rattle.std.proofs.lemmas.List.Quantifiers.{position-Some}
 use Rattle.bac_text.specs.declared.checked.Checked.{Checked}
-use Rattle.bac_text.specs.Checked.{reads_of, last_of}
+use Rattle.bac_text.specs.Checked.{reads_of, ends_with, last_of}
 use Rattle.bac_script.specs.Inner.Feeds.{HasNoFeed}
 use Rattle.bac_script.specs.Inner.Limits.{line_room}
-use Rattle.bac_script.specs.Inner.Input.{TakesAndKeeps, ReadForLine}
+use Rattle.bac_script.specs.declared.input.Reading.{Reading}
+use Rattle.bac_script.specs.declared.input.Reading.TheVariants.{Open, AtEnd, Failed}
+use Rattle.bac_script.specs.Input.{HasNotEnded, ReaderStands}
+use Rattle.bac_script.specs.Inner.Input.{TakesAndKeeps, ReadForLine, IsNext}
 use Rattle.bac_text.proofs.Known.{Gave-more}
 
 pub Takes-more : {R : Type 0} {remaining : R → Option (List ℕ)} {a b c : Checked R} {held mid kept xs ys : List ℕ}
@@ -47,6 +51,35 @@ read_for_line {c = c} {held = held} p before asked none short (inr more) once = 
   no_feed = subst HasNoFeed (sym p.order) none;
   short = subst (λ (zs : List ℕ). length zs < line_room) (sym p.order) short;
 })
+
+-- Where reading is over, the next line is all that is held.
+pub next_at_end : {R : Type 0} {remaining : R → Option (List ℕ)} {a : Checked R} (b : Checked R) {c : Checked R}
+    {held : List ℕ} (reading : Reading) {count : ℕ} → (reading ≡ Open → ⊥) → count ≡ length held → HasNoFeed held
+    → length held < line_room → HasNotEnded a b → ReaderStands remaining reading b c []
+    → IsNext remaining a c held reading count
+next_at_end b Open over all none short before stands = absurd (over refl)
+next_at_end b {held = held} AtEnd {count = count} over all none short before stands =
+    let whole = sym (take_all count held (omega (arith, all))) in
+    record {
+      within = omega (arith, all);
+      cut = (subst HasNoFeed whole none, subst (λ (line : List ℕ). length line < line_room) whole short);
+      stands = (
+        drop_all count held (omega (arith, all)),
+        stands.1,
+        record {
+          last = stands.2.last;
+          once = stands.2.once ∙ ap (λ n. ends_with n true) before;
+          known = stands.2.known;
+        },
+      );
+    }
+next_at_end b {held = held} Failed {count = count} over all none short before stands =
+    let whole = sym (take_all count held (omega (arith, all))) in
+    record {
+      within = omega (arith, all);
+      cut = (subst HasNoFeed whole none, subst (λ (line : List ℕ). length line < line_room) whole short);
+      stands = (drop_all count held (omega (arith, all)), stands.1, stands.2 ∙ before);
+    }
 
 -- ---- line feeds
 

@@ -1,5 +1,38 @@
+use Rattle.std.proofs.Common.{◌≡◌, ◌<◌, length, List, ℕ, arith, sym, ◌∙◌, subst}
+use Rattle.bac_script.specs.Inner.Feeds.{HasNoFeed}
+use Rattle.bac_script.specs.Inner.Limits.{line_room}
+use Rattle.bac_script.specs.declared.input.Reading.TheVariants.{Open}
 use Rattle.bac_text.proofs.Printed.{◌⨾◌}
+use Rattle.bac_script.proofs.Taken.{Takes-more, read_for_line, next_at_end}
 use Rattle.bac_script.proofs.input.Chunk.next_line.Goals as goal
+
+pub loop-length-preserved : goal.loop-length-preserved
+loop-length-preserved g c =
+    record {
+      given = Takes-more c.loop-length.invariant.given
+          (rw c.line_length.ensures.held at c.read_more-reading.ensures.given);
+      printed = c.loop-length.invariant.printed ⨾ c.turn_in.ensures.printed;
+      sound = grind arith;
+      unended = grind arith;
+      asked = grind arith;
+      needed = read_for_line c.loop-length.invariant.given c.loop-length.invariant.needed
+          c.loop-length.invariant.asked c.in_default.ensures.line.0 c.in_default.ensures.line.1
+          (rw c.line_length.ensures.held at c.read_more-reading.ensures.last) c.read_more-reading.ensures.once;
+      spared = grind arith;
+      room = grind arith;
+    }
 
 pub returns-then-failed-clause-printed : goal.returns-then-failed-clause-printed
 returns-then-failed-clause-printed g c = c.loop-length.invariant.printed ⨾ c.turn_in.ensures.printed
+
+pub returns-then-ne-clause-printed : goal.returns-then-ne-clause-printed
+returns-then-ne-clause-printed g c = c.loop-length.invariant.printed ⨾ c.turn_in.ensures.printed
+
+pub returns-then-ne-clause-next : goal.returns-then-ne-clause-next
+returns-then-ne-clause-next g c =
+    let over : c.read_more-reading.result ≡ Open → ⊥ = grind arith in
+    let same = sym (c.read_more-reading.ensures.same over ∙ c.line_length.ensures.held) in
+    next_at_end c.loop-length.reader c.read_more-reading.result over c.len-length.ensures
+    (subst HasNoFeed same c.in_default.ensures.line.0)
+    (subst (λ (xs : List ℕ). length xs < line_room) same c.in_default.ensures.line.1) c.loop-length.invariant.unended
+    c.read_more-reading.ensures.stands
