@@ -77,7 +77,7 @@ has_name device name =
 
 -- The device with one more point, which no write has reached.
 abbrev pub with_point : DeviceState → Description → DeviceState
-with_point device point = record { info = device.info; standings = device.standings ++ standing_after [] point ∷ [] }
+with_point device point = record device { standings = device.standings ++ standing_after [] point ∷ [] }
 
 -- The device with this point, or the first refusal that applies: there are 32 points; a point is this object; the point
 -- or the device has this name; no point can be as this one is given.

@@ -7,12 +7,7 @@ use Rattle.bac_device.specs.declared.failure.Failure.TheVariants.{InvalidIndex, 
 -- The number of the error class: 1 is object, 2 is property.
 abbrev pub error_class : Failure → ℕ
 error_class UnknownObject = 1
-error_class UnknownProperty = 2
-error_class NotAnArray = 2
-error_class InvalidIndex = 2
-error_class WriteDenied = 2
-error_class WrongType = 2
-error_class OutOfRange = 2
+error_class _ = 2
 
 -- The number of the error code: unknown-object, unknown-property, property-is-not-an-array, invalid-array-index,
 -- write-access-denied, invalid-data-type and value-out-of-range.

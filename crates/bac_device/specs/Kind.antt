@@ -35,8 +35,7 @@ kind_of number =
 -- Whether points of this role can be written, and have a priority array (clause 19.2).
 abbrev pub is_commandable : Role → Bool
 is_commandable roles.Input = false
-is_commandable roles.Output = true
-is_commandable roles.Value = true
+is_commandable _ = true
 
 -- The value that the number of a present value stands for. The number of a Real is that of its four octets.
 abbrev pub value_of : Family → ℕ → Datum
@@ -80,7 +79,6 @@ allows MultiState extra n = nat_lt 0 n && nat_le n extra
 -- at least one state.
 abbrev pub allows_extra : Family → Role → ℕ → Bool
 allows_extra Analog role extra = true
-allows_extra Binary roles.Input extra = nat_lt extra 2
-allows_extra Binary roles.Output extra = nat_lt extra 2
 allows_extra Binary roles.Value extra = extra == 0
+allows_extra Binary role extra = nat_lt extra 2
 allows_extra MultiState role extra = nat_lt 0 extra

@@ -41,7 +41,7 @@ region_octets property = flat_map plain property.values
 
 -- The value at this position, counted from 0.
 abbrev pub element_at : List Datum → ℕ → Result Property Failure
-element_at values place = or_fail InvalidIndex (option_map single (slice_get values place))
+element_at values position = or_fail InvalidIndex (option_map single (slice_get values position))
 
 -- What an index chooses. Without one it is the whole property. An array has at 0 the number of its elements, and then
 -- these, from 1 on; what is no array has none.

@@ -202,7 +202,7 @@ write_of_datagram device from datagram =
 -- The device once the write is made, if there is one.
 abbrev pub with_write : DeviceState → Option Write → DeviceState
 with_write device None = device
-with_write device (Some write) = record { info = device.info; standings = map (put write) device.standings }
+with_write device (Some write) = record device { standings = map (put write) device.standings }
 
 -- ---- after a list of writes
 

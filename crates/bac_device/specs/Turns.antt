@@ -40,10 +40,9 @@ pub record Answers (device : DeviceState) (arrival : Arrival) (reply : Option (S
 -- Such calls for these datagrams, one after the other.
 abbrev pub AnswersInTurn : DeviceState → List Arrival → List (Option (Station × List ℕ)) → DeviceState → Type 0
 AnswersInTurn device [] [] after = after ≡ device
-AnswersInTurn device [] (reply ∷ replies) after = ⊥
-AnswersInTurn device (arrival ∷ arrivals) [] after = ⊥
 AnswersInTurn device (arrival ∷ arrivals) (reply ∷ replies) after = (next : DeviceState)
     × Answers device arrival reply next × AnswersInTurn next arrivals replies after
+AnswersInTurn device _ _ after = ⊥
 
 -- The replies are those of the definition, and the points stand as the accepted writes leave them.
 pub record AreDefined (device : DeviceState) (writes : List Write) (arrivals : List Arrival)

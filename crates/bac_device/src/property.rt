@@ -42,16 +42,16 @@ impl<'a> Property<'a> {
     }
 
     /// The value at this position, counted from 0.
-    pub(crate) fn value_at(&self, place: usize) -> Option<Value<'a>>
+    pub(crate) fn value_at(&self, position: usize) -> Option<Value<'a>>
         requires { IsSoundProperty self.now }
-        ensures value { option_map datum result ≡ slice_get (property_seen self.now).values place }
+        ensures value { option_map datum result ≡ slice_get (property_seen self.now).values position }
         ensures sound { IfSome result (λ value. IsSound (datum value)) }
     {
         match self {
-            Property::Single(value) => (place == 0).then_some(*value),
+            Property::Single(value) => (position == 0).then_some(*value),
             Property::EmptyList => None,
-            Property::ObjectList(device, points) => object_at(*device, points, place),
-            Property::PriorityArray(family, places) => place_at(*family, places, place),
+            Property::ObjectList(device, points) => object_at(*device, points, position),
+            Property::PriorityArray(family, places) => place_at(*family, places, position),
         }
     }
 
@@ -86,23 +86,24 @@ impl<'a> Property<'a> {
 }
 
 /// The object at this position of the object list.
-fn object_at(device: ObjectId, points: &[StandingPoint], place: usize) -> Option<Value<'static>>
-    ensures value { option_map datum result ≡ slice_get (object (identifier device) ∷ point_objects points.now) place }
+fn object_at(device: ObjectId, points: &[StandingPoint], position: usize) -> Option<Value<'static>>
+    ensures value { option_map datum result
+        ≡ slice_get (object (identifier device) ∷ point_objects points.now) position }
     ensures sound { IfSome result (λ value. IsSound (datum value)) }
 {
-    if place == 0 {
+    if position == 0 {
         return Some(Value::Object(device));
     }
-    let point = points.get(place - 1)?;
+    let point = points.get(position - 1)?;
     Some(Value::Object(point.id()))
 }
 
 /// The value of the place at this position of a priority array.
-fn place_at(family: Family, places: &[Option<u32>], place: usize) -> Option<Value<'static>>
-    ensures value { option_map datum result ≡ slice_get (map (place_value family) places.now) place }
+fn place_at(family: Family, places: &[Option<u32>], position: usize) -> Option<Value<'static>>
+    ensures value { option_map datum result ≡ slice_get (map (place_value family) places.now) position }
     ensures sound { IfSome result (λ value. IsSound (datum value)) }
 {
-    let held = places.get(place)?;
+    let held = places.get(position)?;
     Some(family.place_value(*held))
 }
 
@@ -113,10 +114,10 @@ pub(crate) fn append_region(frame: &mut Frame, property: &Property<'_>) -> Resul
     ensures ok { OnOk result (frame.new ≡ frame.old ++ region_octets (property_seen property.now)) }
     ensures full { OnErr result (frame_room < length frame.old + length (region_octets (property_seen property.now))) }
 {
-    for place in 0..property.count() {
-        match property.value_at(place) {
+    for position in 0..property.count() {
+        match property.value_at(position) {
             Some(value) => write_value(frame, &value)?,
-            // Each place below the count has a value.
+            // Each position below the count has a value.
             None => unreachable!(),
         }
     }

@@ -5,24 +5,23 @@ use Rattle.std.proofs.lemmas.Bool.{or_parts}
 use Rattle.std.proofs.lemmas.List.{append_cancel_left}
 use Rattle.bac_pdu.specs.Peer.{Station}
 use Rattle.bac_tsm.specs.Events.{Outcome, Note, Sent}
-use Rattle.bac_tsm.specs.Lookahead.{End, send_notes}
+use Rattle.bac_tsm.specs.Lookahead.{send_notes}
 use Rattle.bac_text.specs.declared.checked.Checked.{Checked}
 use Rattle.bac_text.specs.Checked.{Took}
 use Rattle.bac_links.specs.Limits.{most_turns}
-use Rattle.bac_links.specs.Told.{Told, Sending, after_wait, having_sent}
+use Rattle.bac_links.specs.Foretold.{Foretold, Sending, after_wait, having_sent}
 use Rattle.bac_links.specs.History.{Entry, Waited, Timed, Posted, Unposted, Foretells, Account, Over}
 use Rattle.bac_links.specs.Answered.{Answer, Brings, answers_of}
 use Rattle.bac_links.specs.Courses.{is_failure, first_below, stops_at}
 use Rattle.bac_links.specs.Ending.{ending_line, exit_of}
-use Rattle.bac_links.specs.Call.{posts, rules_for, wait_of, asked, heard_in, wait_in, time_in, events_of, entries_of}
-use Rattle.bac_links.specs.Call.{entries_to, sent_last, has_ended, EndsIn, FailsToSend, FailsToReceive, RunsOut, Tells}
+use Rattle.bac_links.specs.Call.{posts, rules_for, wait_of, asked, events_of, entries_of, entries_to, sent_last}
+use Rattle.bac_links.specs.Call.{has_ended, EndsIn, FailsToSend, StaysOpen, Tells}
 use Rattle.bac_links.specs.declared.ending.Purpose.{Purpose}
-use Rattle.bac_links.specs.declared.ending.Purpose.TheVariants.{Reading, Writing}
 use Rattle.bac_links.specs.declared.ending.Exit.{Exit}
 use Rattle.bac_links.specs.declared.fault.ToolFault.{ToolFault}
 use Rattle.bac_links.specs.declared.fault.ToolFault.TheVariants.{SendFailed, ReceiveFailed, TurnsSpent, WriteFailed}
 use Rattle.bac_text.specs.declared.jobs.Call.{Call}
-use Rattle.bac_links.proofs.Courses.{none_before, none_at, having_nothing}
+use Rattle.bac_links.proofs.Courses.{none_before, none_at, having_nothing, heard_at, wait_at, time_at}
 use Rattle.bac_links.proofs.Histories.{whatever_sent}
 
 -- ---- what an asker asks
@@ -99,7 +98,7 @@ no_loss w (x ∷ xs) (Timed time ∷ ys) to octets p e = no_loss w xs ys to octe
 no_loss w (x ∷ xs) (Posted a b ∷ ys) to octets p e = no_loss w xs ys to octets p cc
 
 -- Who tells one tells the other, where both waited as long and were answered alike.
-pub same_told : (w : ℕ) (xs ys : List Entry) (t : Told) (sent : List Sending) → Waits w xs → Waits w ys
+pub same_told : (w : ℕ) (xs ys : List Entry) (t : Foretold) (sent : List Sending) → Waits w xs → Waits w ys
     → answers_of xs ≡ answers_of ys → Foretells xs t →
     Foretells ys (having_sent sent t)
 same_told w [] [] t sent p q e f = tt
@@ -139,7 +138,7 @@ count_posts [] = refl
 count_posts (Sent ticket peer octets ∷ notes) = count_posts notes
 count_posts (_ ∷ notes) = count_posts notes
 
-module _ (purpose : Purpose) (call : Call) (t : Told) where
+module _ (purpose : Purpose) (call : Call) (t : Foretold) where
   -- What is sent after n turns.
   abbrev notes_at : ℕ → List Note
   notes_at n = send_notes (rules_for call) (events_of purpose call t n) (length (events_of purpose call t n) - 1)
@@ -149,30 +148,30 @@ module _ (purpose : Purpose) (call : Call) (t : Told) where
   plain_entries zero = plain_posts (wait_of call) (notes_at zero)
   plain_entries (suc n) =
       plain_both (wait_of call) (entries_of purpose call t n)
-      (wait_in call t n ∷ time_in call t (suc n) ∷ sent_last purpose call (events_of purpose call t (suc n)))
+      (wait_at call t n ∷ time_at call t (suc n) ∷ sent_last purpose call (events_of purpose call t (suc n)))
       (plain_entries n) (refl, plain_posts (wait_of call) (notes_at (suc n)))
 
   count_entries : (n : ℕ) → count (answers_of (entries_of purpose call t n)) ≡ n
   count_entries zero = count_posts (notes_at zero)
   count_entries (suc n) =
       count_both (entries_of purpose call t n)
-      (wait_in call t n ∷ time_in call t (suc n) ∷ sent_last purpose call (events_of purpose call t (suc n)))
+      (wait_at call t n ∷ time_at call t (suc n) ∷ sent_last purpose call (events_of purpose call t (suc n)))
       ∙ (let none = count_posts (notes_at (suc n)) in let before = count_entries n in omega (arith, before, none))
 
-  count_waited : (n : ℕ) → count (answers_of (entries_of purpose call t n ++ wait_in call t n ∷ [])) ≡ suc n
+  count_waited : (n : ℕ) → count (answers_of (entries_of purpose call t n ++ wait_at call t n ∷ [])) ≡ suc n
   count_waited n =
-      let c = count_both (entries_of purpose call t n) (wait_in call t n ∷ []) in
+      let c = count_both (entries_of purpose call t n) (wait_at call t n ∷ []) in
       omega (arith, c, count_entries n)
 
-  plain_waited : (n : ℕ) → Plain (wait_of call) (entries_of purpose call t n ++ wait_in call t n ∷ [])
+  plain_waited : (n : ℕ) → Plain (wait_of call) (entries_of purpose call t n ++ wait_at call t n ∷ [])
   plain_waited n =
-      plain_both (wait_of call) (entries_of purpose call t n) (wait_in call t n ∷ []) (plain_entries n) (refl, tt)
+      plain_both (wait_of call) (entries_of purpose call t n) (wait_at call t n ∷ []) (plain_entries n) (refl, tt)
 
-  count_to : (n : ℕ) (ending : Option Outcome) → count (answers_of (entries_to purpose call t n ending)) ≡ suc n
+  count_to : (n : ℕ) (ending : Option Outcome) → count (answers_of (entries_to purpose call t ending (suc n))) ≡ suc n
   count_to n (Some outcome) = count_waited n
   count_to n None = count_entries (suc n)
 
-  plain_to : (n : ℕ) (ending : Option Outcome) → Plain (wait_of call) (entries_to purpose call t n ending)
+  plain_to : (n : ℕ) (ending : Option Outcome) → Plain (wait_of call) (entries_to purpose call t ending (suc n))
   plain_to n (Some outcome) = plain_waited n
   plain_to n None = plain_entries (suc n)
 
@@ -183,15 +182,11 @@ data Way : Type 0 where
   Spent : Way
   Unsent : Way
 
-abbrev Goes : Purpose → Call → Told → List Entry → Way → Type 0
+abbrev Goes : Purpose → Call → Foretold → List Entry → Way → Type 0
 Goes purpose call t gained (Ends ending) = (n : ℕ) × EndsIn purpose call t gained ending n
-Goes purpose call t gained Deaf = (n : ℕ) × FailsToReceive purpose call t gained n
-Goes purpose call t gained Spent = (n : ℕ) × RunsOut purpose call t gained n
+Goes purpose call t gained Deaf = StaysOpen purpose call t (Err ReceiveFailed) gained
+Goes purpose call t gained Spent = StaysOpen purpose call t (Err TurnsSpent) gained
 Goes purpose call t gained Unsent = (n : ℕ) × FailsToSend purpose call t gained n
-
-abbrev outcome_in : Option End → Option Outcome
-outcome_in (Some end) = end.outcome
-outcome_in None = None
 
 abbrev lost : Entry → Entry
 lost (Posted to octets) = Unposted to octets
@@ -209,7 +204,7 @@ last_same (a ∷ xs) (b ∷ ys) x y e =
 counted : (xs ys : List Entry) (n : ℕ) → xs ≡ ys → count (answers_of ys) ≡ n → count (answers_of xs) ≡ n
 counted xs ys n e c = ap (λ (zs : List Entry). count (answers_of zs)) e ∙ c
 
-module _ (purpose : Purpose) (call : Call) (t : Told) where
+module _ (purpose : Purpose) (call : Call) (t : Foretold) where
   abbrev So : List Entry → Way → Type 0
   So = Goes purpose call t
 
@@ -223,11 +218,12 @@ module _ (purpose : Purpose) (call : Call) (t : Told) where
 
   goes_waits : (v : Way) (xs : List Entry) → So xs v → Waits (wait_of call) xs
   goes_waits (Ends o) xs a =
-      plain_waits (wait_of call) xs (subst (Plain (wait_of call)) (sym a.1.history) (plain_to purpose call t a.0 o))
+      plain_waits (wait_of call) xs (subst (Plain (wait_of call)) (sym a.1.stops.history)
+      (plain_to purpose call t a.0 o))
   goes_waits Deaf xs a =
-      plain_waits (wait_of call) xs (subst (Plain (wait_of call)) (sym a.1.history) (plain_waited purpose call t a.0))
+      plain_waits (wait_of call) xs (subst (Plain (wait_of call)) (sym a.2.history) (plain_waited purpose call t a.0))
   goes_waits Spent xs a =
-      plain_waits (wait_of call) xs (subst (Plain (wait_of call)) (sym a.1.history) (plain_entries purpose call t a.0))
+      plain_waits (wait_of call) xs (subst (Plain (wait_of call)) (sym a.2.history) (plain_entries purpose call t a.0))
   goes_waits Unsent xs a =
       subst (Waits (wait_of call)) (sym a.1.history)
       (waits_lost (wait_of call) a.1.made a.1.to a.1.octets
@@ -244,55 +240,59 @@ module _ (purpose : Purpose) (call : Call) (t : Told) where
   ended_not_deaf : (xs ys : List Entry) (o : Option Outcome) → So xs (Ends o) → So ys Deaf
       → answers_of xs ≡ answers_of ys → ⊥
   ended_not_deaf xs ys o a b e =
-      let here = counted xs _ (suc a.0) a.1.history (count_to purpose call t a.0 o) in
-      let there = counted ys _ (suc b.0) b.1.history (count_waited purpose call t b.0) in
+      let here = counted xs _ (suc a.0) a.1.stops.history (count_to purpose call t a.0 o) in
+      let there = counted ys _ (suc b.0) b.2.history (count_waited purpose call t b.0) in
       let both = ap count e in
       let same : a.0 ≡ b.0 = omega (arith, here, there, both) in
-      let test = stops_at (heard_in call t) (has_ended purpose call t) in
+      let test = stops_at (wait_of call) t (has_ended purpose call t) in
       let unstopped = none_at test a.0 (none_before test (suc a.0) (suc most_turns) a.1.stops.first) in
-      let unfailed : is_failure (heard_in call t a.0) ≡ false =
+      let unfailed : is_failure (heard_at call t a.0) ≡ false =
       (or_parts (has_ended purpose call t a.0) _ unstopped).1 in
-      let failed : is_failure (heard_in call t b.0) ≡ true = ap is_failure b.1.stops.failed in
-      let there_too : is_failure (heard_in call t a.0) ≡ true =
-      subst (λ (k : ℕ). is_failure (heard_in call t k) ≡ true) (sym same) failed in
+      let failed : is_failure (heard_at call t b.0) ≡ true = ap is_failure b.2.failed in
+      let there_too : is_failure (heard_at call t a.0) ≡ true =
+      subst (λ (k : ℕ). is_failure (heard_at call t k) ≡ true) (sym same) failed in
       cc
 
   ended_not_spent : (xs ys : List Entry) (o : Option Outcome) → So xs (Ends o) → So ys Spent
       → answers_of xs ≡ answers_of ys → ⊥
   ended_not_spent xs ys o a b e =
-      let here = counted xs _ (suc a.0) a.1.history (count_to purpose call t a.0 o) in
-      let there = counted ys _ b.0 b.1.history (count_entries purpose call t b.0) in
+      let here = counted xs _ (suc a.0) a.1.stops.history (count_to purpose call t a.0 o) in
+      let there = counted ys _ b.0 b.2.history (count_entries purpose call t b.0) in
       let both = ap count e in
       let same : b.0 ≡ suc a.0 = omega (arith, here, there, both) in
       let open_yet : has_ended purpose call t (suc a.0) ≡ false =
-      subst (λ (k : ℕ). has_ended purpose call t k ≡ false) same b.1.before.goes_on.unended in
+      subst (λ (k : ℕ). has_ended purpose call t k ≡ false) same b.2.before.unended in
       let over = a.1.stops.over in
       cc
 
   deaf_not_spent : (xs ys : List Entry) → So xs Deaf → So ys Spent → answers_of xs ≡ answers_of ys → ⊥
   deaf_not_spent xs ys a b e =
-      let test = stops_at (heard_in call t) (has_ended purpose call t) in
-      let none = subst (λ (k : ℕ). first_below test k ≡ None) b.1.all b.1.before.goes_on.passed in
-      let some = a.1.stops.first in
+      let test = stops_at (wait_of call) t (has_ended purpose call t) in
+      let none = subst (λ (k : ℕ). first_below test k ≡ None) b.2.all b.2.before.passed in
+      let some = a.2.first in
       cc
 
   alike : (v w : Way) (xs ys : List Entry) → So xs v → So ys w → answers_of xs ≡ answers_of ys → (xs ≡ ys) × (v ≡ w)
   alike (Ends o) (Ends p) xs ys a b e =
-      let here = counted xs _ (suc a.0) a.1.history (count_to purpose call t a.0 o) in
-      let there = counted ys _ (suc b.0) b.1.history (count_to purpose call t b.0 p) in
+      let here = counted xs _ (suc a.0) a.1.stops.history (count_to purpose call t a.0 o) in
+      let there = counted ys _ (suc b.0) b.1.stops.history (count_to purpose call t b.0 p) in
       let both = ap count e in
       let same : b.0 ≡ a.0 = omega (arith, here, there, both) in
       let b' = subst (EndsIn purpose call t ys p) same b.1 in
-      let outcome : o ≡ p = ap outcome_in (sym a.1.ended ∙ b'.ended) in
-      (a.1.history ∙ ap (entries_to purpose call t a.0) outcome ∙ sym b'.history, ap Ends outcome)
+      let ended : Some o ≡ Some p = sym a.1.ended ∙ b'.ended in
+      let outcome : o ≡ p = cc in (
+        a.1.stops.history ∙ ap (λ (o : Option Outcome). entries_to purpose call t o (suc a.0)) outcome
+            ∙ sym b'.stops.history,
+        ap Ends outcome,
+      )
   alike Deaf Deaf xs ys a b e =
-      let here = counted xs _ (suc a.0) a.1.history (count_waited purpose call t a.0) in
-      let there = counted ys _ (suc b.0) b.1.history (count_waited purpose call t b.0) in
+      let here = counted xs _ (suc a.0) a.2.history (count_waited purpose call t a.0) in
+      let there = counted ys _ (suc b.0) b.2.history (count_waited purpose call t b.0) in
       let both = ap count e in
       let same : a.0 ≡ b.0 = omega (arith, here, there, both) in
-      (a.1.history ∙ ap (λ (n : ℕ). entries_of purpose call t n ++ wait_in call t n ∷ []) same ∙ sym b.1.history, refl)
+      (a.2.history ∙ ap (λ (n : ℕ). entries_of purpose call t n ++ wait_at call t n ∷ []) same ∙ sym b.2.history, refl)
   alike Spent Spent xs ys a b e =
-      (a.1.history ∙ ap (entries_of purpose call t) (a.1.all ∙ sym b.1.all) ∙ sym b.1.history, refl)
+      (a.2.history ∙ ap (entries_of purpose call t) (a.2.all ∙ sym b.2.all) ∙ sym b.2.history, refl)
   alike Unsent Unsent xs ys a b e =
       let here = lost_count xs a.0 a.1 in
       let there = lost_count ys b.0 b.1 in
@@ -307,12 +307,13 @@ module _ (purpose : Purpose) (call : Call) (t : Told) where
   alike Spent (Ends o) xs ys a b e = absurd (ended_not_spent ys xs o b a (sym e))
   alike Deaf Spent xs ys a b e = absurd (deaf_not_spent xs ys a b e)
   alike Spent Deaf xs ys a b e = absurd (deaf_not_spent ys xs b a (sym e))
-  alike Unsent (Ends o) xs ys a b e = absurd (sent_all xs ys _ a e b.1.history (plain_to purpose call t b.0 o))
-  alike Unsent Deaf xs ys a b e = absurd (sent_all xs ys _ a e b.1.history (plain_waited purpose call t b.0))
-  alike Unsent Spent xs ys a b e = absurd (sent_all xs ys _ a e b.1.history (plain_entries purpose call t b.0))
-  alike (Ends o) Unsent xs ys a b e = absurd (sent_all ys xs _ b (sym e) a.1.history (plain_to purpose call t a.0 o))
-  alike Deaf Unsent xs ys a b e = absurd (sent_all ys xs _ b (sym e) a.1.history (plain_waited purpose call t a.0))
-  alike Spent Unsent xs ys a b e = absurd (sent_all ys xs _ b (sym e) a.1.history (plain_entries purpose call t a.0))
+  alike Unsent (Ends o) xs ys a b e = absurd (sent_all xs ys _ a e b.1.stops.history (plain_to purpose call t b.0 o))
+  alike Unsent Deaf xs ys a b e = absurd (sent_all xs ys _ a e b.2.history (plain_waited purpose call t b.0))
+  alike Unsent Spent xs ys a b e = absurd (sent_all xs ys _ a e b.2.history (plain_entries purpose call t b.0))
+  alike (Ends o) Unsent xs ys a b e = absurd
+      (sent_all ys xs _ b (sym e) a.1.stops.history (plain_to purpose call t a.0 o))
+  alike Deaf Unsent xs ys a b e = absurd (sent_all ys xs _ b (sym e) a.2.history (plain_waited purpose call t a.0))
+  alike Spent Unsent xs ys a b e = absurd (sent_all ys xs _ b (sym e) a.2.history (plain_entries purpose call t a.0))
 
 -- ---- over two links
 
@@ -328,52 +329,45 @@ line_of purpose _ = []
 
 module _ {W : Type 0} (contents : W → Option (List ℕ)) (purpose : Purpose) (call : Call) where
   -- The way of a call, and what it answers and prints where the writer goes along.
-  record Went (before after : Checked W) (told left : Account) (result : Result Exit ToolFault) : Type 0 where
+  record Went (before after : Checked W) (seen left : Account) (result : Result Exit ToolFault) : Type 0 where
     way : Way
-    over : Over told left (λ gained t. Goes purpose call t gained way)
+    over : Over seen left (λ gained t. Goes purpose call t gained way)
     answers : result ≢ Err WriteFailed → result ≡ result_of purpose way
     prints : IfOk result (λ _. Took contents before after (line_of purpose way))
 
-  went : (before after : Checked W) (told left : Account) (result : Result Exit ToolFault)
-      → Tells purpose call contents before after told left result → Went before after told left result
-  went before after told left (Ok exit) tells =
+  went : (before after : Checked W) (seen left : Account) (result : Result Exit ToolFault)
+      → Tells purpose call contents before after seen left result → Went before after seen left result
+  went before after seen left (Ok exit) tells =
       record { way = Ends tells.0; over = tells.3; answers = λ other. ap Ok tells.1; prints = tells.2 }
-  went before after told left (Err SendFailed) tells =
+  went before after seen left (Err SendFailed) tells =
       record { way = Unsent; over = tells; answers = λ other. refl; prints = tt }
-  went before after told left (Err ReceiveFailed) tells =
+  went before after seen left (Err ReceiveFailed) tells =
       record { way = Deaf; over = tells; answers = λ other. refl; prints = tt }
-  went before after told left (Err TurnsSpent) tells =
+  went before after seen left (Err TurnsSpent) tells =
       record { way = Spent; over = tells; answers = λ other. refl; prints = tt }
-  went before after told left (Err WriteFailed) tells =
+  went before after seen left (Err WriteFailed) tells =
       record { way = Ends tells.0; over = tells.2; answers = λ other. absurd (other refl); prints = tt }
-
--- The tools of a call, for a crate above.
-abbrev pub reading : Purpose
-reading = Reading
-
-abbrev pub writing : Purpose
-writing = Writing
 
 -- Two calls that are answered alike.
 module _ {V W : Type 0} (contents : V → Option (List ℕ)) (contents' : W → Option (List ℕ)) (purpose : Purpose)
     (call : Call) where
-  pub calls_alike : (before after : Checked V) (before' after' : Checked W) (told left told' left' : Account)
+  pub calls_alike : (before after : Checked V) (before' after' : Checked W) (seen left seen' left' : Account)
       (result result' : Result Exit ToolFault) (gained gained' : List Entry) →
-      Tells purpose call contents before after told left result
-      → Tells purpose call contents' before' after' told' left' result' →
-      left.history ≡ told.history ++ gained → left'.history ≡ told'.history ++ gained'
+      Tells purpose call contents before after seen left result
+      → Tells purpose call contents' before' after' seen' left' result' →
+      left.history ≡ seen.history ++ gained → left'.history ≡ seen'.history ++ gained'
       → answers_of gained ≡ answers_of gained' →
       (gained ≡ gained') × (result ≢ Err WriteFailed → result' ≢ Err WriteFailed → (result ≡ result')
       × IfOk result (λ _. (text : List ℕ) × Took contents before after text
       × IfOk result' (λ _. Took contents' before' after' text)))
-  calls_alike before after before' after' told left told' left' result result' gained gained' tells tells' gains gains'
+  calls_alike before after before' after' seen left seen' left' result result' gained gained' tells tells' gains gains'
       e =
-      let a = went contents purpose call before after told left result tells in
-      let b = went contents' purpose call before' after' told' left' result' tells' in
+      let a = went contents purpose call before after seen left result tells in
+      let b = went contents' purpose call before' after' seen' left' result' tells' in
       let first : a.over.gained ≡ gained =
-      append_cancel_left told.history _ _ (ap (λ (s : Account). s.history) (sym a.over.gains.0) ∙ gains) in
+      append_cancel_left seen.history _ _ (ap (λ (s : Account). s.history) (sym a.over.gains.0) ∙ gains) in
       let second : b.over.gained ≡ gained' =
-      append_cancel_left told'.history _ _ (ap (λ (s : Account). s.history) (sym b.over.gains.0) ∙ gains') in
+      append_cancel_left seen'.history _ _ (ap (λ (s : Account). s.history) (sym b.over.gains.0) ∙ gains') in
       let same = ap answers_of first ∙ e ∙ ap answers_of (sym second) in
       let t = a.over.some.0 in
       let here = a.over.holds t a.over.some.1 in

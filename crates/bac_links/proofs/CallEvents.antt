@@ -13,13 +13,13 @@ use Rattle.bac_pdu.specs.Peer.{station}
 use Rattle.bac_tsm.specs.Limits.{longest_body}
 use Rattle.bac_tsm.specs.Events.{Outcome, Event, Ask, Data, Tick, Note, Dropped, Rules, Request}
 use Rattle.bac_tsm.specs.Lookahead.{Accepted, End, accepted, accepted_at, end, end_notes, or_dropped, send_notes}
-use Rattle.bac_tsm.specs.Lookahead.{next_number, refusal_of, output, notes_on, is_tick}
+use Rattle.bac_tsm.specs.Lookahead.{next_invoke_id, refusal_of, output, notes_on, is_tick}
 use Rattle.bac_tsm.specs.Machine.{State, Stepped, Answered, Run, step, initial, folded, submit, tick, sent}
 use Rattle.bac_tsm.specs.declared.client.SubmitFault.{SubmitFault}
 use Rattle.bac_tsm.specs.Laws.{AnswersByNumber, state_at, waiting_at}
 use Rattle.bac_tsm.specs.Client.{Client, rules_of, keeping}
 use Rattle.bac_tsm.proofs.Laws.{drop_head, one_step, run_first, run_whole, both_are, looks_back, past_unended}
-use Rattle.bac_tsm.proofs.Laws.{early_unended, early_unsent, quiet_unsent, sent_first, by_number, few_places}
+use Rattle.bac_tsm.proofs.Laws.{early_unended, early_unsent, quiet_unsent, sent_first, by_number, few_open}
 use Rattle.bac_links.specs.Call.{post_in, posts, rules_for, service_of, asked, begun_at, end_in, sent_last, IsAccepted}
 use Rattle.bac_links.specs.Inner.CallSteps.{ending_in, endings, AsksNothing, IsAlone, CarriesOn}
 use Rattle.bac_links.specs.declared.ending.Purpose.{Purpose}
@@ -31,7 +31,7 @@ slice_get-last : (events : List Event) (event : Event) → slice_get (events ++ 
 slice_get-last [] event = refl
 slice_get-last (x ∷ events) event = slice_get-last events event
 
-module _ (rules : Rules) (by_number : AnswersByNumber rules) (small : rules.places ≤ 255) (events : List Event)
+module _ (rules : Rules) (by_number : AnswersByNumber rules) (small : rules.most_open ≤ 255) (events : List Event)
     (event : Event) where
   -- What is kept before the last event does not rest on it.
   state_before : state_at rules 0 (events ++ event ∷ []) (length events) ≡ state_at rules 0 events (length events)
@@ -80,7 +80,7 @@ module _ (purpose : Purpose) (call : Call) (time : ℕ) where
   -- The request is accepted, and no other is asked for.
   accepted_is : (later : List Event) → length call.body.items ≤ longest_body → All AsksNothing later → (j : ℕ) →
       accepted (rules_for call) 0 (begun_at purpose call time later) (suc (suc j)) ≡ asked purpose call ∷ []
-  unfolding refusal_of next_number
+  unfolding refusal_of next_invoke_id
   accepted_is later short quiet zero = rw (fitting short) refl
   accepted_is later short quiet (suc j) =
       let before = accepted_is later short quiet j in
@@ -179,7 +179,7 @@ module _ (purpose : Purpose) (call : Call) (time : ℕ) (later : List Event)
       → slice_get all i ≡ Some event →
       flat_map read (output (rules_for call) 0 all i)
       ≡ flat_map read (placed (rules_for call) all i (asked purpose call))
-  unfolding refusal_of next_number
+  unfolding refusal_of next_invoke_id
   told_at read silent zero event e =
       rw (
         early_unsent (rules_for call) all (asked purpose call) 0 (omega arith),
@@ -248,7 +248,7 @@ module _ (purpose : Purpose) (call : Call) (time : ℕ) (later : List Event)
         after = state_at (rules_for call) 0 after (length after);
       }
   step_is =
-      last_step (rules_for call) (by_number call.timeout call.retries) few_places before event
+      last_step (rules_for call) (by_number call.timeout call.retries) few_open before event
       ∙ both_are _ _ _ _ refl (ap (state_at (rules_for call) 0 after) (sym longer))
 
   told_last : TellsPlaced (rules_for call) after (asked purpose call) (length before)
@@ -364,9 +364,9 @@ module _ (purpose : Purpose) (call : Call) (time : ℕ) (short : length call.bod
         not_silent (asked purpose call).request (end_in purpose call first) x e (ap endings none));
     client_is =
         ap (λ (r : Run). Client_of call r.after)
-        (run_whole (rules_for call) 0 first (by_number call.timeout call.retries) few_places);
+        (run_whole (rules_for call) 0 first (by_number call.timeout call.retries) few_open);
   }
 
   pub begins_sent : sent_last purpose call first ≡ posts (sent submitted.after 0)
-  unfolding refusal_of next_number
+  unfolding refusal_of next_invoke_id
   begins_sent = rw (sent_first (rules_for call) first (asked purpose call), fitting purpose call time short) refl

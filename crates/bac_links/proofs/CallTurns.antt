@@ -6,6 +6,7 @@ use Rattle.std.proofs.lemmas.Bool.{cases_Bool}
 use Rattle.std.proofs.lemmas.List.{append-nil}
 use Rattle.std.proofs.lemmas.List.Elements.{All-cons, All-append}
 use Rattle.std.specs.List.{All}
+use Rattle.std.specs.Option.{option_map}
 use Rattle.bac_pdu.specs.Peer.{Station}
 use Rattle.bac_tsm.specs.Limits.{longest_body}
 use Rattle.bac_tsm.specs.declared.due.Entry.TheVariants.{Resend}
@@ -16,14 +17,14 @@ use Rattle.bac_tsm.specs.Client.{Client, rules_of, keeping}
 use Rattle.bac_text.specs.declared.checked.Checked.{Checked}
 use Rattle.bac_text.specs.Checked.{TookOrFailed}
 use Rattle.bac_links.specs.Limits.{most_turns}
-use Rattle.bac_links.specs.Told.{Told, Heard, Arrival, Failure, Sending, waited, having_sent}
-use Rattle.bac_links.specs.History.{Entry, Waited, Timed, Posted, Unposted, told_after, Account, Gains, GainsAll, Over}
+use Rattle.bac_links.specs.Foretold.{Foretold, Heard, Arrival, Failure, Sending, waited, having_sent}
+use Rattle.bac_links.specs.History.{Entry, Waited, Timed, Posted, Unposted, foretold_after, Account, Gains, GainsAll}
+use Rattle.bac_links.specs.History.{Over}
 use Rattle.bac_links.specs.Ending.{ending_line, exit_of}
 use Rattle.bac_links.specs.Handed.{data_in, turns}
-use Rattle.bac_links.specs.Courses.{first_below, stops_at}
+use Rattle.bac_links.specs.Courses.{first_below, stops_at, GoesOn}
 use Rattle.bac_links.specs.Call.{posts, rules_for, wait_of, asked, begun_at, events_of, entries_of, entries_to, end_in}
-use Rattle.bac_links.specs.Call.{has_ended, sent_last, heard_in, wait_in, time_in, IsOpenAfter, EndsIn, FailsToSend}
-use Rattle.bac_links.specs.Call.{RunsOut, Tells}
+use Rattle.bac_links.specs.Call.{has_ended, sent_last, IsAccepted, EndsIn, FailsToSend, StaysOpen, Tells}
 use Rattle.bac_links.specs.Inner.CallSteps.{endings, GainsLost, heard_step, timeouts, AsksNothing, IsAlone, CarriesOn}
 use Rattle.bac_links.specs.Inner.CallSteps.{Underway, TurnFails}
 use Rattle.bac_links.specs.declared.ending.Purpose.{Purpose}
@@ -31,8 +32,10 @@ use Rattle.bac_text.specs.declared.jobs.Call.{Call}
 use Rattle.bac_links.specs.declared.ending.Exit.{Exit}
 use Rattle.bac_links.specs.declared.fault.ToolFault.{ToolFault}
 use Rattle.bac_links.specs.declared.fault.ToolFault.TheVariants.{SendFailed, ReceiveFailed, TurnsSpent, WriteFailed}
-use Rattle.bac_links.proofs.Courses.{none_yet, one_more, ends_now, fails_now, having_nothing}
-use Rattle.bac_links.proofs.Histories.{Timely, told_after-append, gains_both, over_begun, over_map, over_on, posts_left}
+use Rattle.bac_links.proofs.Courses.{none_yet, one_more, ends_now, fails_now, having_nothing, heard_at}
+use Rattle.bac_links.proofs.Courses.{wait_at, time_at}
+use Rattle.bac_links.proofs.Histories.{Timely, foretold_after-append, gains_both, over_begun, over_map, over_on}
+use Rattle.bac_links.proofs.Histories.{posts_left}
 use Rattle.bac_links.proofs.Histories.{posts_timely}
 use Rattle.bac_links.proofs.CallEvents.{one_news, is_accepted, stands, carries_on, ends_next, sends_next, carried_alone}
 use Rattle.bac_links.proofs.CallEvents.{submitted, begins, begins_sent}
@@ -92,8 +95,13 @@ module _ (purpose : Purpose) (call : Call) (time : ℕ) (later : List Event) (cl
       )
   heard_end _ outcome now one = cc
 
+-- The request is open after n turns, and there is a further turn.
+record IsOpenAfter (purpose : Purpose) (call : Call) (t : Foretold) (n : ℕ) : Type 0 where
+  request : IsAccepted purpose call (events_of purpose call t n)
+  goes_on : GoesOn (wait_of call) t (has_ended purpose call t) n
+
 -- A call before turn n, with its request open.
-pub is_open : (purpose : Purpose) (call : Call) (t : Told) (gained : List Entry) (client : Client) (n : ℕ)
+is_open : (purpose : Purpose) (call : Call) (t : Foretold) (gained : List Entry) (client : Client) (n : ℕ)
     → Underway purpose call t gained client n → IsOpenAfter purpose call t n
 is_open purpose call t gained client n far = record {
   request = is_accepted purpose call (t.time []) (turns (wait_of call) t n) far.carried.short far.carried.quiet;
@@ -101,26 +109,26 @@ is_open purpose call t gained client n far = record {
 }
 
 -- Of what was foretold, n turns left what comes after so many waits.
-pub left_so : (purpose : Purpose) (call : Call) (t : Told) (n : ℕ) → (sent : List Sending)
-    × (told_after (entries_of purpose call t n) t ≡ having_sent sent (waited (wait_of call) n t))
+pub left_so : (purpose : Purpose) (call : Call) (t : Foretold) (n : ℕ) → (sent : List Sending)
+    × (foretold_after (entries_of purpose call t n) t ≡ having_sent sent (waited (wait_of call) n t))
 left_so purpose call t zero =
     let first = posts_left (send_notes (rules_for call) (events_of purpose call t 0) 1 (asked purpose call)) [] t in
-    (first.0, ap (told_after (sent_last purpose call (events_of purpose call t 0))) (having_nothing t) ∙ first.1)
+    (first.0, ap (foretold_after (sent_last purpose call (events_of purpose call t 0))) (having_nothing t) ∙ first.1)
 left_so purpose call t (suc n) =
     let before = left_so purpose call t n in
-    let more = wait_in call t n ∷ time_in call t (suc n) ∷ sent_last purpose call (events_of purpose call t (suc n)) in
+    let more = wait_at call t n ∷ time_at call t (suc n) ∷ sent_last purpose call (events_of purpose call t (suc n)) in
     let next = posts_left
     (send_notes (rules_for call) (events_of purpose call t (suc n)) (length (events_of purpose call t (suc n)) - 1)
     (asked purpose call)) before.0 (waited (wait_of call) (suc n) t) in
-    (next.0, told_after-append (entries_of purpose call t n) more t ∙ ap (told_after more) before.1 ∙ next.1)
+    (next.0, foretold_after-append (entries_of purpose call t n) more t ∙ ap (foretold_after more) before.1 ∙ next.1)
 
-module _ (purpose : Purpose) (call : Call) (t : Told) (gained : List Entry) (client : Client) (n : ℕ)
+module _ (purpose : Purpose) (call : Call) (t : Foretold) (gained : List Entry) (client : Client) (n : ℕ)
     (far : Underway purpose call t gained client n) where
   abbrev time_then : ℕ
   time_then = (waited (wait_of call) (suc n) t).time []
 
   abbrev heard : Heard
-  heard = heard_in call t n
+  heard = heard_at call t n
 
   abbrev later : List Event
   later = turns (wait_of call) t n
@@ -129,13 +137,13 @@ module _ (purpose : Purpose) (call : Call) (t : Told) (gained : List Entry) (cli
   next = turns (wait_of call) t (suc n)
 
   -- The next wait and the time after it, as they were foretold.
-  module _ (X : Type 0) (read : Told → X)
+  module _ (X : Type 0) (read : Foretold → X)
       (unsent : (sent : List Sending)
       → read (having_sent sent (waited (wait_of call) n t)) ≡ read (waited (wait_of call) n t)) where
-    pub reads_so : read (told_after gained t) ≡ read (waited (wait_of call) n t)
+    pub reads_so : read (foretold_after gained t) ≡ read (waited (wait_of call) n t)
     reads_so =
         let left = left_so purpose call t n in
-        ap (λ (xs : List Entry). read (told_after xs t)) far.history ∙ ap read left.1 ∙ unsent left.0
+        ap (λ (xs : List Entry). read (foretold_after xs t)) far.history ∙ ap read left.1 ∙ unsent left.0
 
   quiet_next : All AsksNothing next
   quiet_next = All-append AsksNothing later (data_in heard ++ Tick time_then ∷ []) far.carried.quiet (go heard)
@@ -145,45 +153,41 @@ module _ (purpose : Purpose) (call : Call) (t : Told) (gained : List Entry) (cli
           All-cons AsksNothing (Data from octets) (Tick time_then ∷ []) tt (one_news (Tick time_then) tt)
       go _ = one_news (Tick time_then) tt
 
-  passed_next : heard ≢ Failure → first_below (stops_at (heard_in call t) (has_ended purpose call t)) (suc n) ≡ None
+  passed_next : heard ≢ Failure → first_below (stops_at (wait_of call) t (has_ended purpose call t)) (suc n) ≡ None
   passed_next received =
-      one_more (heard_in call t) (has_ended purpose call t) n (is_open purpose call t gained client n far).goes_on
+      one_more (wait_of call) t (has_ended purpose call t) n (is_open purpose call t gained client n far).goes_on
       received
 
   ends_so : (all : List Entry) (position : ℕ) (ending : Option Outcome) → heard ≢ Failure → n < most_turns →
       end_in purpose call (events_of purpose call t (suc n)) ≡ Some (record { position = position; outcome = ending }) →
-      all ≡ entries_to purpose call t n ending → EndsIn purpose call t all ending n
+      all ≡ entries_to purpose call t ending (suc n) → EndsIn purpose call t all ending n
   ends_so all position ending received within ended e = record {
     request = is_accepted purpose call (t.time []) next far.carried.short quiet_next;
-    stops = ends_now (heard_in call t) (has_ended purpose call t) (suc n) (passed_next received) (rw ended refl)
-        (omega arith);
-    position = position;
-    ended = ended;
-    history = e;
+    stops = ends_now (wait_of call) t (has_ended purpose call t) (suc n) (entries_to purpose call t ending) all
+        (passed_next received) (rw ended refl) (omega arith) e;
+    ended = ap (option_map (λ (e : End). e.outcome)) ended;
   }
 
   -- And this wait behind what was gained.
-  waited_next : gained ++ wait_in call t n ∷ [] ≡ entries_of purpose call t n ++ wait_in call t n ∷ []
-  waited_next = ap (λ (xs : List Entry). xs ++ wait_in call t n ∷ []) far.history
+  waited_next : gained ++ wait_at call t n ∷ [] ≡ entries_of purpose call t n ++ wait_at call t n ∷ []
+  waited_next = ap (λ (xs : List Entry). xs ++ wait_at call t n ∷ []) far.history
 
   -- An answer ends the call.
   pub answered : (outcome : Outcome) → heard ≢ Failure →
       endings (heard_step (rules_of client) client.state heard).notes ≡ Some outcome ∷ [] → n < most_turns →
-      EndsIn purpose call t (gained ++ wait_in call t n ∷ []) (Some outcome) n
+      EndsIn purpose call t (gained ++ wait_at call t n ∷ []) (Some outcome) n
   answered outcome received one within =
       let end = heard_end purpose call (t.time []) later client far.carried heard outcome time_then one in
       ends_so _ end.0 (Some outcome) received within end.1 waited_next
 
   pub unheard : heard ≡ Failure → n < most_turns
-      → TurnFails purpose call t (gained ++ wait_in call t n ∷ []) ReceiveFailed
+      → TurnFails purpose call t (gained ++ wait_at call t n ∷ []) ReceiveFailed
   unheard failure within =
       let open_now = is_open purpose call t gained client n far in (
         n,
-        record {
-          request = open_now.request;
-          stops = fails_now (heard_in call t) (has_ended purpose call t) n open_now.goes_on failure within;
-          history = waited_next;
-        },
+        open_now.request,
+        fails_now (wait_of call) t (has_ended purpose call t) n (entries_of purpose call t) _ open_now.goes_on failure
+            within waited_next,
       )
 
   module _ (middle : Client) (received : heard ≢ Failure)
@@ -217,16 +221,16 @@ module _ (purpose : Purpose) (call : Call) (t : Told) (gained : List Entry) (cli
 
     -- What is gained in the turn.
     abbrev turned : List Entry → List Entry
-    turned rest = gained ++ wait_in call t n ∷ time_in call t (suc n) ∷ rest
+    turned rest = gained ++ wait_at call t n ∷ time_at call t (suc n) ∷ rest
 
     turned_is : (rest : List Entry)
-        → turned rest ≡ entries_of purpose call t n ++ wait_in call t n ∷ time_in call t (suc n) ∷ rest
-    turned_is rest = ap (λ (xs : List Entry). xs ++ wait_in call t n ∷ time_in call t (suc n) ∷ rest) far.history
+        → turned rest ≡ entries_of purpose call t n ++ wait_at call t n ∷ time_at call t (suc n) ∷ rest
+    turned_is rest = ap (λ (xs : List Entry). xs ++ wait_at call t n ∷ time_at call t (suc n) ∷ rest) far.history
 
     turned_next : turned (posts ticked.notes) ≡ entries_of purpose call t (suc n)
     turned_next =
         turned_is (posts ticked.notes)
-        ∙ ap (λ (xs : List Entry). entries_of purpose call t n ++ wait_in call t n ∷ time_in call t (suc n) ∷ xs)
+        ∙ ap (λ (xs : List Entry). entries_of purpose call t n ++ wait_at call t n ∷ time_at call t (suc n) ∷ xs)
         (sym sends_then)
 
     goes_on_so : (all : List Entry) (after : Client) → CarriesOn purpose call (t.time []) next after
@@ -254,19 +258,21 @@ module _ (purpose : Purpose) (call : Call) (t : Told) (gained : List Entry) (cli
         TurnFails purpose call t (turned (Unposted to octets ∷ [])) SendFailed
     unsent to octets none_then one within =
         let after = keeping middle ticked.after in
-        let made = entries_of purpose call t n ++ wait_in call t n ∷ time_in call t (suc n) ∷ [] in
+        let open_now = is_open purpose call t _ after (suc n)
+        (goes_on_so _ after (carries_then none_then after refl) refl) in
+        let made = entries_of purpose call t n ++ wait_at call t n ∷ time_at call t (suc n) ∷ [] in
         let behind = λ (x : Entry).
-        sym (append_assoc (entries_of purpose call t n) (wait_in call t n ∷ time_in call t (suc n) ∷ []) (x ∷ [])) in (
+        sym (append_assoc (entries_of purpose call t n) (wait_at call t n ∷ time_at call t (suc n) ∷ []) (x ∷ [])) in (
           suc n,
           record {
+            request = open_now.request;
             within = omega arith;
-            before = is_open purpose call t _ after (suc n)
-                (goes_on_so _ after (carries_then none_then after refl) refl);
+            before = open_now.goes_on;
             made = made;
             to = to;
             octets = octets;
             due =
-                ap (λ (xs : List Entry). entries_of purpose call t n ++ wait_in call t n ∷ time_in call t (suc n) ∷ xs)
+                ap (λ (xs : List Entry). entries_of purpose call t n ++ wait_at call t n ∷ time_at call t (suc n) ∷ xs)
                 (sends_then ∙ one)
                 ∙ behind (Posted to octets);
             history = turned_is (Unposted to octets ∷ []) ∙ behind (Unposted to octets);
@@ -275,7 +281,8 @@ module _ (purpose : Purpose) (call : Call) (t : Told) (gained : List Entry) (cli
 
 -- ---- the beginning
 
-module _ (purpose : Purpose) (call : Call) (t : Told) (short : length call.body.items ≤ longest_body) (client : Client)
+module _ (purpose : Purpose) (call : Call) (t : Foretold) (short : length call.body.items ≤ longest_body)
+    (client : Client)
     (client_is : client ≡ record {
       timeout = call.timeout;
       retries = call.retries;
@@ -283,7 +290,7 @@ module _ (purpose : Purpose) (call : Call) (t : Told) (short : length call.body.
     }) where
   underway : (gained : List Entry) → gained ≡ entries_of purpose call t 0 → Underway purpose call t gained client 0
   underway gained e = record {
-    passed = none_yet (stops_at (heard_in call t) (has_ended purpose call t));
+    passed = none_yet (stops_at (wait_of call) t (has_ended purpose call t));
     carried = subst (CarriesOn purpose call (t.time []) []) (sym client_is) (begins purpose call (t.time []) short);
     history = e;
   }
@@ -292,37 +299,40 @@ module _ (purpose : Purpose) (call : Call) (t : Told) (short : length call.body.
   sent_first = begins_sent purpose call (t.time []) short ∙ ap (λ (c : Client). posts (sent c.state 0)) (sym client_is)
 
   -- A call begins with its request sent.
-  pub begun : Underway purpose call t (time_in call t 0 ∷ posts (sent client.state 0)) client 0
-  begun = underway _ (ap (λ (xs : List Entry). time_in call t 0 ∷ xs) (sym sent_first))
+  pub begun : Underway purpose call t (time_at call t 0 ∷ posts (sent client.state 0)) client 0
+  begun = underway _ (ap (λ (xs : List Entry). time_at call t 0 ∷ xs) (sym sent_first))
 
   -- Or with a request that could not be sent.
   pub unbegun : (to : Station) (octets : List ℕ) → posts (sent client.state 0) ≡ Posted to octets ∷ [] →
-      FailsToSend purpose call t (time_in call t 0 ∷ Unposted to octets ∷ []) 0
-  unbegun to octets one = record {
-    within = omega arith;
-    before = is_open purpose call t _ client 0 (underway _ refl);
-    made = time_in call t 0 ∷ [];
-    to = to;
-    octets = octets;
-    due = ap (λ (xs : List Entry). time_in call t 0 ∷ xs) (sent_first ∙ one);
-    history = refl;
-  }
+      FailsToSend purpose call t (time_at call t 0 ∷ Unposted to octets ∷ []) 0
+  unbegun to octets one =
+      let open_now = is_open purpose call t _ client 0 (underway _ refl) in
+      record {
+        request = open_now.request;
+        within = omega arith;
+        before = open_now.goes_on;
+        made = time_at call t 0 ∷ [];
+        to = to;
+        octets = octets;
+        due = ap (λ (xs : List Entry). time_at call t 0 ∷ xs) (sent_first ∙ one);
+        history = refl;
+      }
 
 -- ---- over some calls
 
-module _ (purpose : Purpose) (call : Call) (told mid next : Account) (client : Client) (n : ℕ)
-    (far : Over told mid (λ gained t. Underway purpose call t gained client n))
+module _ (purpose : Purpose) (call : Call) (seen mid next : Account) (client : Client) (n : ℕ)
+    (far : Over seen mid (λ gained t. Underway purpose call t gained client n))
     (heard : Heard) (gains : Gains (Waited (wait_of call) heard) mid next) where
   -- What is told to be heard is what is heard.
-  heard_is : (gained : List Entry) (t : Told) → Underway purpose call t gained client n
-      → (told_after gained t).heard [] (wait_of call) ≡ heard → heard_in call t n ≡ heard
+  heard_is : (gained : List Entry) (t : Foretold) → Underway purpose call t gained client n
+      → (foretold_after gained t).heard [] (wait_of call) ≡ heard → heard_at call t n ≡ heard
   heard_is gained t u f =
       sym (reads_so purpose call t gained client n u Heard (λ l. l.heard [] (wait_of call)) (λ sent. refl)) ∙ f
 
-  waits : (P : List Entry → Told → Type 0)
-      → ((gained : List Entry) (t : Told) → Underway purpose call t gained client n → heard_in call t n ≡ heard →
-      P (gained ++ wait_in call t n ∷ []) t) → Over told next P
-  waits P makes = over_on told mid next _ P far (Waited (wait_of call) heard ∷ []) gains (λ now. (now, tt))
+  waits : (P : List Entry → Foretold → Type 0)
+      → ((gained : List Entry) (t : Foretold) → Underway purpose call t gained client n → heard_at call t n ≡ heard →
+      P (gained ++ wait_at call t n ∷ []) t) → Over seen next P
+  waits P makes = over_on seen mid next _ P far (Waited (wait_of call) heard ∷ []) gains (λ now. (now, tt))
       (λ gained t u f.
       let e = heard_is gained t u f.0 in
       subst (λ (h : Heard). P (gained ++ Waited (wait_of call) h ∷ []) t) e (makes gained t u e))
@@ -330,24 +340,24 @@ module _ (purpose : Purpose) (call : Call) (told mid next : Account) (client : C
   -- An answer ends the call.
   pub answered_over : (outcome : Outcome) → heard ≢ Failure
       → endings (heard_step (rules_of client) client.state heard).notes ≡ Some outcome ∷ [] →
-      n < most_turns → Over told next (λ gained t. EndsIn purpose call t gained (Some outcome) n)
+      n < most_turns → Over seen next (λ gained t. EndsIn purpose call t gained (Some outcome) n)
   answered_over outcome received one within = waits _ (λ gained t u e.
       subst (λ (x : Heard). x ≢ Failure
       → endings (heard_step (rules_of client) client.state x).notes ≡ Some outcome ∷ [] →
-      EndsIn purpose call t (gained ++ wait_in call t n ∷ []) (Some outcome) n)
+      EndsIn purpose call t (gained ++ wait_at call t n ∷ []) (Some outcome) n)
       e (λ received one. answered purpose call t gained client n u outcome received one within) received one)
 
   pub unheard_over : heard ≡ Failure → n < most_turns
-      → Over told next (λ gained t. TurnFails purpose call t gained ReceiveFailed)
+      → Over seen next (λ gained t. TurnFails purpose call t gained ReceiveFailed)
   unheard_over failure within = waits _ (λ gained t u e. unheard purpose call t gained client n u (e ∙ failure) within)
 
   module _ (middle : Client) (received : heard ≢ Failure)
       (none : endings (heard_step (rules_of client) client.state heard).notes ≡ [])
       (middle_is : middle ≡ keeping client (heard_step (rules_of client) client.state heard).after) where
     -- What holds where the link's hearing is put for what was foretold.
-    so : (t : Told) → heard_in call t n ≡ heard → (P : Type 0) → (heard_in call t n ≢ Failure →
-        endings (heard_step (rules_of client) client.state (heard_in call t n)).notes ≡ [] →
-        middle ≡ keeping client (heard_step (rules_of client) client.state (heard_in call t n)).after → P) → P
+    so : (t : Foretold) → heard_at call t n ≡ heard → (P : Type 0) → (heard_at call t n ≢ Failure →
+        endings (heard_step (rules_of client) client.state (heard_at call t n)).notes ≡ [] →
+        middle ≡ keeping client (heard_step (rules_of client) client.state (heard_at call t n)).after → P) → P
     so t e P makes =
         subst (λ (x : Heard). (x ≢ Failure → endings (heard_step (rules_of client) client.state x).notes ≡ [] →
         middle ≡ keeping client (heard_step (rules_of client) client.state x).after → P) → P)
@@ -356,7 +366,7 @@ module _ (purpose : Purpose) (call : Call) (told mid next : Account) (client : C
     pub alone : IsAlone middle.state
     alone =
         let it = (waits (λ gained t. (before : List Entry) × Underway purpose call t before client n
-        × (heard_in call t n ≡ heard)) (λ gained t u e. (gained, u, e))) in
+        × (heard_at call t n ≡ heard)) (λ gained t u e. (gained, u, e))) in
         let h = it.holds it.some.0 it.some.1 in
         so it.some.0 h.2 (IsAlone middle.state) (λ r o m. open_yet purpose call it.some.0 h.0 client n h.1 middle r o m)
 
@@ -364,16 +374,16 @@ module _ (purpose : Purpose) (call : Call) (told mid next : Account) (client : C
     at time = step (rules_of middle) middle.state (Tick time)
 
     module _ (last : Account) (time : ℕ) where
-      abbrev time_for : Told → ℕ
+      abbrev time_for : Foretold → ℕ
       time_for t = (waited (wait_of call) (suc n) t).time []
 
       timed : (rest : ℕ → List Entry) → ((now : ℕ) → Timely (rest time) now)
-          → GainsAll (Timed time ∷ rest time) next last → (Q : List Entry → Told → Type 0) →
-          ((gained : List Entry) (t : Told) → Underway purpose call t gained client n → heard_in call t n ≡ heard
+          → GainsAll (Timed time ∷ rest time) next last → (Q : List Entry → Foretold → Type 0) →
+          ((gained : List Entry) (t : Foretold) → Underway purpose call t gained client n → heard_at call t n ≡ heard
           → time ≡ time_for t →
-          Q (gained ++ wait_in call t n ∷ time_in call t (suc n) ∷ rest (time_for t)) t) → Over told last Q
+          Q (gained ++ wait_at call t n ∷ time_at call t (suc n) ∷ rest (time_for t)) t) → Over seen last Q
       timed rest timely ticks Q makes =
-          over_on told mid last _ Q far (Waited (wait_of call) heard ∷ Timed time ∷ rest time)
+          over_on seen mid last _ Q far (Waited (wait_of call) heard ∷ Timed time ∷ rest time)
           (gains_both (Waited (wait_of call) heard ∷ []) (Timed time ∷ rest time) mid next last gains ticks)
           (λ now. (time, (refl, timely time))) (λ gained t u f.
           let e = heard_is gained t u f.0 in
@@ -383,19 +393,19 @@ module _ (purpose : Purpose) (call : Call) (told mid next : Account) (client : C
           (subst (λ (h : Heard). Q (gained ++ Waited (wait_of call) h ∷ Timed (time_for t) ∷ rest (time_for t)) t) e
           (makes gained t u e now)))
 
-      abbrev sends : GainsAll (Timed time ∷ posts (at time).notes) next last → (Q : List Entry → Told → Type 0) →
-          ((gained : List Entry) (t : Told) → Underway purpose call t gained client n → heard_in call t n ≡ heard
+      abbrev sends : GainsAll (Timed time ∷ posts (at time).notes) next last → (Q : List Entry → Foretold → Type 0) →
+          ((gained : List Entry) (t : Foretold) → Underway purpose call t gained client n → heard_at call t n ≡ heard
           → time ≡ time_for t →
-          Q (gained ++ wait_in call t n ∷ time_in call t (suc n) ∷ posts (at (time_for t)).notes) t) → Over told last Q
+          Q (gained ++ wait_at call t n ∷ time_at call t (suc n) ∷ posts (at (time_for t)).notes) t) → Over seen last Q
       sends = timed (λ k. posts (at k).notes) (posts_timely (at time).notes)
 
       pub goes_on_over : (after : Client) → endings (at time).notes ≡ timeouts false
           → after ≡ keeping middle (at time).after →
           GainsAll (Timed time ∷ posts (at time).notes) next last
-          → Over told last (λ gained t. Underway purpose call t gained after (suc n))
+          → Over seen last (λ gained t. Underway purpose call t gained after (suc n))
       goes_on_over after none_then after_is ticks = sends ticks _ (λ gained t u heard_is time_is.
           subst (λ (k : ℕ). endings (at k).notes ≡ timeouts false → after ≡ keeping middle (at k).after →
-          Underway purpose call t (gained ++ wait_in call t n ∷ time_in call t (suc n) ∷ posts (at (time_for t)).notes)
+          Underway purpose call t (gained ++ wait_at call t n ∷ time_at call t (suc n) ∷ posts (at (time_for t)).notes)
           after (suc n)) (sym time_is)
           (λ none_then after_is. so t heard_is _ (λ r o m.
           goes_on purpose call t gained client n u middle r o m after none_then after_is))
@@ -403,10 +413,10 @@ module _ (purpose : Purpose) (call : Call) (told mid next : Account) (client : C
 
       pub timed_out_over : endings (at time).notes ≡ timeouts true
           → GainsAll (Timed time ∷ posts (at time).notes) next last → n < most_turns →
-          Over told last (λ gained t. EndsIn purpose call t gained None n)
+          Over seen last (λ gained t. EndsIn purpose call t gained None n)
       timed_out_over one ticks within = sends ticks _ (λ gained t u heard_is time_is.
           subst (λ (k : ℕ). endings (at k).notes ≡ timeouts true →
-          EndsIn purpose call t (gained ++ wait_in call t n ∷ time_in call t (suc n) ∷ posts (at (time_for t)).notes)
+          EndsIn purpose call t (gained ++ wait_at call t n ∷ time_at call t (suc n) ∷ posts (at (time_for t)).notes)
           None
           n) (sym time_is)
           (λ one. so t heard_is _ (λ r o m. timed_out purpose call t gained client n u middle r o m one within))
@@ -414,18 +424,18 @@ module _ (purpose : Purpose) (call : Call) (told mid next : Account) (client : C
 
       pub unsent_over : endings (at time).notes ≡ [] → GainsLost (at time).notes (Timed time ∷ []) next last
           → n < most_turns →
-          Over told last (λ gained t. TurnFails purpose call t gained SendFailed)
+          Over seen last (λ gained t. TurnFails purpose call t gained SendFailed)
       unsent_over none_then lost within =
           timed (λ k. Unposted lost.0 lost.1 ∷ []) (λ now. tt) lost.3 _ (λ gained t u heard_is time_is.
           subst (λ (k : ℕ). endings (at k).notes ≡ [] → posts (at k).notes ≡ Posted lost.0 lost.1 ∷ [] →
-          TurnFails purpose call t (gained ++ wait_in call t n ∷ time_in call t (suc n) ∷ Unposted lost.0 lost.1 ∷ [])
+          TurnFails purpose call t (gained ++ wait_at call t n ∷ time_at call t (suc n) ∷ Unposted lost.0 lost.1 ∷ [])
           SendFailed) (sym time_is)
           (λ none_then one. so t heard_is _ (λ r o m.
           unsent purpose call t gained client n u middle r o m lost.0 lost.1 none_then one within))
           none_then lost.2)
 
 -- A call begins with its request sent, or with one that could not be sent.
-module _ (purpose : Purpose) (call : Call) (told left : Account) (time : ℕ)
+module _ (purpose : Purpose) (call : Call) (seen left : Account) (time : ℕ)
     (short : length call.body.items ≤ longest_body)
     (client : Client) (client_is : client ≡ record {
       timeout = call.timeout;
@@ -436,20 +446,20 @@ module _ (purpose : Purpose) (call : Call) (told left : Account) (time : ℕ)
   IsClientAt k = client
       ≡ record { timeout = call.timeout; retries = call.retries; state = (submitted purpose call k short).after }
 
-  begun_with : (rest : List Entry) → Timely rest time → GainsAll (Timed time ∷ rest) told left
-      → (P : List Entry → Told → Type 0) →
-      ((t : Told) → IsClientAt (t.time []) → P (time_in call t 0 ∷ rest) t) → Over told left P
-  begun_with rest timely gains P makes = over_begun told left (Timed time ∷ rest) P gains time (refl, timely) (λ t f.
+  begun_with : (rest : List Entry) → Timely rest time → GainsAll (Timed time ∷ rest) seen left
+      → (P : List Entry → Foretold → Type 0) →
+      ((t : Foretold) → IsClientAt (t.time []) → P (time_at call t 0 ∷ rest) t) → Over seen left P
+  begun_with rest timely gains P makes = over_begun seen left (Timed time ∷ rest) P gains time (refl, timely) (λ t f.
       subst (λ (k : ℕ). P (Timed k ∷ rest) t) (sym f.0) (makes t (subst IsClientAt f.0 client_is)))
 
-  pub begun_over : GainsAll (Timed time ∷ posts (sent client.state 0)) told left
-      → Over told left (λ gained t. Underway purpose call t gained client 0)
+  pub begun_over : GainsAll (Timed time ∷ posts (sent client.state 0)) seen left
+      → Over seen left (λ gained t. Underway purpose call t gained client 0)
   begun_over gains =
       begun_with (posts (sent client.state 0)) (posts_timely (sent client.state 0) time) gains _
       (λ t client_is. begun purpose call t short client client_is)
 
-  pub unbegun_over : GainsLost (sent client.state 0) (Timed time ∷ []) told left
-      → Over told left (λ gained t. FailsToSend purpose call t gained 0)
+  pub unbegun_over : GainsLost (sent client.state 0) (Timed time ∷ []) seen left
+      → Over seen left (λ gained t. FailsToSend purpose call t gained 0)
   unbegun_over lost =
       begun_with (Unposted lost.0 lost.1 ∷ []) tt lost.3 _
       (λ t client_is. unbegun purpose call t short client client_is lost.0 lost.1 lost.2)
@@ -457,11 +467,11 @@ module _ (purpose : Purpose) (call : Call) (told left : Account) (time : ℕ)
 -- ---- the end
 
 module _ {W : Type 0} (purpose : Purpose) (call : Call) (contents : W → Option (List ℕ)) (before after : Checked W)
-    (told left : Account) where
+    (seen left : Account) where
   -- A turn that fails ends the call so.
   pub fails_so : (fault : ToolFault) → fault ≢ WriteFailed
-      → Over told left (λ gained t. TurnFails purpose call t gained fault) →
-      Tells purpose call contents before after told left (Err fault)
+      → Over seen left (λ gained t. TurnFails purpose call t gained fault) →
+      Tells purpose call contents before after seen left (Err fault)
   fails_so TurnsSpent other failed = absurd (failed.holds failed.some.0 failed.some.1)
   fails_so WriteFailed other failed = absurd (other refl)
   fails_so SendFailed other failed = failed
@@ -471,21 +481,22 @@ module _ {W : Type 0} (purpose : Purpose) (call : Call) (contents : W → Option
   pub shown_so : (ending : Option Outcome) (result : Result Exit ToolFault)
       → TookOrFailed contents before after (ending_line purpose ending) result →
       IfOk result (λ exit. exit ≡ exit_of purpose ending) → IfErr result (λ fault. fault ≡ WriteFailed) →
-      (n : ℕ) → Over told left (λ gained t. EndsIn purpose call t gained ending n)
-      → Tells purpose call contents before after told left result
+      (n : ℕ) → Over seen left (λ gained t. EndsIn purpose call t gained ending n)
+      → Tells purpose call contents before after seen left result
   shown_so ending (Ok exit) puts good bad n ends =
-      (ending, good, puts, over_map told left _ _ ends (λ gained t e. (n, e)))
+      (ending, good, puts, over_map seen left _ _ ends (λ gained t e. (n, e)))
   shown_so ending (Err fault) puts good bad n ends =
-      subst (λ (fault : ToolFault). Tells purpose call contents before after told left (Err fault)) (sym bad)
-      (ending, puts, over_map told left _ _ ends (λ gained t e. (n, e)))
+      subst (λ (fault : ToolFault). Tells purpose call contents before after seen left (Err fault)) (sym bad)
+      (ending, puts, over_map seen left _ _ ends (λ gained t e. (n, e)))
 
-module _ (purpose : Purpose) (call : Call) (told left : Account) where
-  pub unbegun_so : Over told left (λ gained t. FailsToSend purpose call t gained 0)
-      → Over told left (λ gained t. (n : ℕ) × FailsToSend purpose call t gained n)
-  unbegun_so failed = over_map told left _ _ failed (λ gained t e. (0, e))
+module _ (purpose : Purpose) (call : Call) (seen left : Account) where
+  pub unbegun_so : Over seen left (λ gained t. FailsToSend purpose call t gained 0)
+      → Over seen left (λ gained t. (n : ℕ) × FailsToSend purpose call t gained n)
+  unbegun_so failed = over_map seen left _ _ failed (λ gained t e. (0, e))
 
   pub spent_so : (client : Client) (n : ℕ) → n ≡ most_turns
-      → Over told left (λ gained t. Underway purpose call t gained client n) →
-      Over told left (λ gained t. (n : ℕ) × RunsOut purpose call t gained n)
-  spent_so client n all far = over_map told left _ _ far (λ gained t u.
-      (n, record { all = all; before = is_open purpose call t gained client n u; history = u.history }))
+      → Over seen left (λ gained t. Underway purpose call t gained client n) →
+      Over seen left (λ gained t. StaysOpen purpose call t (Err TurnsSpent) gained)
+  spent_so client n all far = over_map seen left _ _ far (λ gained t u.
+      let open_now = is_open purpose call t gained client n u in
+      (n, open_now.request, record { all = all; before = open_now.goes_on; history = u.history }))

@@ -1,11 +1,14 @@
 -- Turns go on one by one, until they stop; and what is sent meanwhile.
-use Rattle.std.proofs.Common.{◌≡◌, ◌≢◌, ℕ, zero, suc, ◌<◌, ◌≤◌, Bool, true, false, List, [], ◌++◌, append_assoc, Some}
-use Rattle.std.proofs.Common.{None, refl, sym, arith}
+use Rattle.std.proofs.Common.{◌≡◌, ◌≢◌, ℕ, zero, suc, ◌<◌, ◌≤◌, Bool, true, false, List, [], ◌∷◌, ◌++◌, append_assoc}
+use Rattle.std.proofs.Common.{Some, None, refl, sym, arith}
 use Rattle.std.proofs.lemmas.Bool.{or_parts}
 use Rattle.std.proofs.lemmas.List.{append-nil}
 use Rattle.bac_links.specs.Limits.{most_turns}
-use Rattle.bac_links.specs.Told.{Told, Heard, Failure, Sending, having_sent}
-use Rattle.bac_links.specs.Courses.{first_below, stops_at, GoesOn, EndsAfter, FailsAfter}
+use Rattle.bac_links.specs.Foretold.{Foretold, Heard, Failure, Sending, having_sent}
+use Rattle.bac_links.specs.History.{Entry}
+use Rattle.bac_links.specs.Courses.{first_below, heard_in, wait_in, time_in, stops_at, GoesOn, EndsAfter, FailsAfter}
+use Rattle.bac_links.specs.Call.{wait_of}
+use Rattle.bac_text.specs.declared.jobs.Call.{Call}
 
 -- ---- the first number that passes a test
 
@@ -34,38 +37,54 @@ module _ (test : ℕ → Bool) where
 
 -- ---- the turns of a tool
 
-module _ (hears : ℕ → Heard) (is_over : ℕ → Bool) (n : ℕ) where
+module _ (wait : ℕ) (t : Foretold) (is_over : ℕ → Bool) (n : ℕ) where
   abbrev Passed : ℕ → Type 0
-  Passed k = first_below (stops_at hears is_over) k ≡ None
+  Passed k = first_below (stops_at wait t is_over) k ≡ None
 
-  pub one_more : GoesOn hears is_over n → hears n ≢ Failure → Passed (suc n)
-  one_more on received = none_more (stops_at hears is_over) n on.passed (grind (arith, on.unended, received))
+  pub one_more : GoesOn wait t is_over n → heard_in wait t n ≢ Failure → Passed (suc n)
+  one_more on received = none_more (stops_at wait t is_over) n on.passed (grind (arith, on.unended, received))
 
-  pub ends_now : Passed n → is_over n ≡ true → n ≤ most_turns → EndsAfter hears is_over n
-  ends_now passed over within = record {
-    first = first_is (stops_at hears is_over) n (suc most_turns) passed (rw over refl) (omega arith);
-    over = over;
-  }
+  module _ (entries : ℕ → List Entry) (gained : List Entry) where
+    pub ends_now : Passed n → is_over n ≡ true → n ≤ most_turns → gained ≡ entries n
+        → EndsAfter wait t is_over entries gained n
+    ends_now passed over within history = record {
+      first = first_is (stops_at wait t is_over) n (suc most_turns) passed (rw over refl) (omega arith);
+      over = over;
+      history = history;
+    }
 
-  pub fails_now : GoesOn hears is_over n → hears n ≡ Failure → n < most_turns → FailsAfter hears is_over n
-  fails_now on failed within = record {
-    first = first_is (stops_at hears is_over) n most_turns on.passed (rw (on.unended, failed) refl) within;
-    unended = on.unended;
-    failed = failed;
-  }
+    pub fails_now : GoesOn wait t is_over n → heard_in wait t n ≡ Failure → n < most_turns
+        → gained ≡ entries n ++ wait_in wait t n ∷ [] → FailsAfter wait t is_over entries gained n
+    fails_now on failed within history = record {
+      first = first_is (stops_at wait t is_over) n most_turns on.passed (rw (on.unended, failed) refl) within;
+      unended = on.unended;
+      failed = failed;
+      history = history;
+    }
 
-  -- A turn after which it has ended was due.
-  pub was_due : EndsAfter hears is_over (suc n) → is_over n ≡ false
-  was_due ends =
-      (or_parts (is_over n) _
-      (none_at (stops_at hears is_over) n
-      (none_before (stops_at hears is_over) (suc n) (suc most_turns) ends.first))).0
+    -- A turn after which it has ended was due.
+    pub was_due : EndsAfter wait t is_over entries gained (suc n) → is_over n ≡ false
+    was_due ends =
+        (or_parts (is_over n) _
+        (none_at (stops_at wait t is_over) n
+        (none_before (stops_at wait t is_over) (suc n) (suc most_turns) ends.first))).0
 
 -- ---- what a link tells once more was sent
 
-pub having_nothing : (t : Told) → t ≡ having_sent [] t
+pub having_nothing : (t : Foretold) → t ≡ having_sent [] t
 having_nothing t = λ i. record { heard = t.heard; time = t.time; sent = sym (append-nil t.sent) i }
 
-pub having_sent-both : (t : Told) (first more : List Sending)
+pub having_sent-both : (t : Foretold) (first more : List Sending)
     → having_sent more (having_sent first t) ≡ having_sent (first ++ more) t
 having_sent-both t first more = rw (append_assoc t.sent first more) refl
+
+-- ---- what turn n of a call hears, its wait, and the time after n turns
+
+abbrev pub heard_at : Call → Foretold → ℕ → Heard
+heard_at call = heard_in (wait_of call)
+
+abbrev pub wait_at : Call → Foretold → ℕ → Entry
+wait_at call = wait_in (wait_of call)
+
+abbrev pub time_at : Call → Foretold → ℕ → Entry
+time_at call = time_in (wait_of call)

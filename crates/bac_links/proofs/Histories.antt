@@ -3,23 +3,25 @@ use Rattle.std.proofs.Common.{◌≡◌, ℕ, List, [], ◌∷◌, ◌++◌, app
 use Rattle.std.specs.Option.{option_map}
 use Rattle.std.proofs.lemmas.List.{append-nil}
 use Rattle.bac_tsm.specs.Events.{Note, Sent}
-use Rattle.bac_links.specs.Told.{Told, Heard, Silence, Sending, after_wait, having_sent}
-use Rattle.bac_links.specs.History.{Entry, Waited, Timed, Posted, Unposted, told_after, Foretells, Account, gaining}
+use Rattle.bac_links.specs.Foretold.{Foretold, Heard, Silence, Sending, after_wait, having_sent}
+use Rattle.bac_links.specs.History.{Entry, Waited, Timed, Posted, Unposted, foretold_after, Foretells, Account, gaining}
 use Rattle.bac_links.specs.History.{GainsAll, Over}
 use Rattle.bac_links.specs.Call.{posts}
 use Rattle.bac_links.proofs.Courses.{having_sent-both}
 
 -- ---- one after another
 
-pub told_after-append : (xs ys : List Entry) (t : Told) → told_after (xs ++ ys) t ≡ told_after ys (told_after xs t)
-told_after-append [] ys t = refl
-told_after-append (Waited wait heard ∷ xs) ys t = told_after-append xs ys (after_wait wait t)
-told_after-append (Timed time ∷ xs) ys t = told_after-append xs ys t
-told_after-append (Posted to octets ∷ xs) ys t =
-    told_after-append xs ys (having_sent (record { time = t.time []; to = to; octets = octets } ∷ []) t)
-told_after-append (Unposted to octets ∷ xs) ys t = told_after-append xs ys t
+pub foretold_after-append : (xs ys : List Entry) (t : Foretold)
+    → foretold_after (xs ++ ys) t ≡ foretold_after ys (foretold_after xs t)
+foretold_after-append [] ys t = refl
+foretold_after-append (Waited wait heard ∷ xs) ys t = foretold_after-append xs ys (after_wait wait t)
+foretold_after-append (Timed time ∷ xs) ys t = foretold_after-append xs ys t
+foretold_after-append (Posted to octets ∷ xs) ys t =
+    foretold_after-append xs ys (having_sent (record { time = t.time []; to = to; octets = octets } ∷ []) t)
+foretold_after-append (Unposted to octets ∷ xs) ys t = foretold_after-append xs ys t
 
-both_told : (xs ys : List Entry) (t : Told) → Foretells xs t → Foretells ys (told_after xs t) → Foretells (xs ++ ys) t
+both_told : (xs ys : List Entry) (t : Foretold) → Foretells xs t → Foretells ys (foretold_after xs t)
+    → Foretells (xs ++ ys) t
 both_told [] ys t first second = second
 both_told (Waited wait heard ∷ xs) ys t first second = (first.0, both_told xs ys (after_wait wait t) first.1 second)
 both_told (Timed time ∷ xs) ys t first second = (first.0, both_told xs ys t first.1 second)
@@ -27,7 +29,7 @@ both_told (Posted to octets ∷ xs) ys t first second =
     both_told xs ys (having_sent (record { time = t.time []; to = to; octets = octets } ∷ []) t) first second
 both_told (Unposted to octets ∷ xs) ys t first second = both_told xs ys t first second
 
-first_told : (xs ys : List Entry) (t : Told) → Foretells (xs ++ ys) t → Foretells xs t
+first_told : (xs ys : List Entry) (t : Foretold) → Foretells (xs ++ ys) t → Foretells xs t
 first_told [] ys t both = tt
 first_told (Waited wait heard ∷ xs) ys t both = (both.0, first_told xs ys (after_wait wait t) both.1)
 first_told (Timed time ∷ xs) ys t both = (both.0, first_told xs ys t both.1)
@@ -35,7 +37,7 @@ first_told (Posted to octets ∷ xs) ys t both =
     first_told xs ys (having_sent (record { time = t.time []; to = to; octets = octets } ∷ []) t) both
 first_told (Unposted to octets ∷ xs) ys t both = first_told xs ys t both
 
-then_told : (xs ys : List Entry) (t : Told) → Foretells (xs ++ ys) t → Foretells ys (told_after xs t)
+then_told : (xs ys : List Entry) (t : Foretold) → Foretells (xs ++ ys) t → Foretells ys (foretold_after xs t)
 then_told [] ys t both = both
 then_told (Waited wait heard ∷ xs) ys t both = then_told xs ys (after_wait wait t) both.1
 then_told (Timed time ∷ xs) ys t both = then_told xs ys t both.1
@@ -43,10 +45,10 @@ then_told (Posted to octets ∷ xs) ys t both =
     then_told xs ys (having_sent (record { time = t.time []; to = to; octets = octets } ∷ []) t) both
 then_told (Unposted to octets ∷ xs) ys t both = then_told xs ys t both
 
-foretold_then : (xs ys : List Entry) (o : Option Told)
-    → option_map (told_after ys) (option_map (told_after xs) o) ≡ option_map (told_after (xs ++ ys)) o
+foretold_then : (xs ys : List Entry) (o : Option Foretold)
+    → option_map (foretold_after ys) (option_map (foretold_after xs) o) ≡ option_map (foretold_after (xs ++ ys)) o
 foretold_then xs ys None = refl
-foretold_then xs ys (Some t) = ap Some (sym (told_after-append xs ys t))
+foretold_then xs ys (Some t) = ap Some (sym (foretold_after-append xs ys t))
 
 gaining_then : (xs ys : List Entry) (a : Account) → gaining ys (gaining xs a) ≡ gaining (xs ++ ys) a
 gaining_then xs ys a =
@@ -55,7 +57,7 @@ gaining_then xs ys a =
 gaining_none : (a : Account) → gaining [] a ≡ a
 gaining_none a = λ i. record { foretold = go a.foretold i; history = append-nil a.history i }
   where
-    go : (o : Option Told) → option_map (told_after []) o ≡ o
+    go : (o : Option Foretold) → option_map (foretold_after []) o ≡ o
     go None = refl
     go (Some t) = refl
 
@@ -63,7 +65,8 @@ pub gains_both : (xs ys : List Entry) (a b c : Account) → GainsAll xs a b → 
 gains_both xs ys a b c first second = (
   second.0 ∙ ap (gaining ys) first.0 ∙ gaining_then xs ys a,
   λ t e. both_told xs ys t (first.1 t e)
-      (second.1 (told_after xs t) (ap (λ (s : Account). s.foretold) first.0 ∙ ap (option_map (told_after xs)) e)),
+      (second.1 (foretold_after xs t)
+      (ap (λ (s : Account). s.foretold) first.0 ∙ ap (option_map (foretold_after xs)) e)),
 )
 
 -- ---- somebody tells it
@@ -84,7 +87,7 @@ timely_both (Posted to octets ∷ xs) ys now first second = timely_both xs ys no
 timely_both (Unposted to octets ∷ xs) ys now first second = timely_both xs ys now first second
 
 -- What is told does not rest on what was sent.
-pub whatever_sent : (xs : List Entry) (t : Told) (s : List Sending) → Foretells xs t
+pub whatever_sent : (xs : List Entry) (t : Foretold) (s : List Sending) → Foretells xs t
     → Foretells xs (record { heard = t.heard; time = t.time; sent = s })
 whatever_sent [] t s f = tt
 whatever_sent (Waited wait heard ∷ xs) t s f = (f.0, whatever_sent xs (after_wait wait t) s f.1)
@@ -94,7 +97,7 @@ whatever_sent (Posted to octets ∷ xs) t s f =
     whatever_sent xs (having_sent (x ∷ []) t) (s ++ x ∷ []) f
 whatever_sent (Unposted to octets ∷ xs) t s f = whatever_sent xs t s f
 
-timely_told : (xs : List Entry) (t : Told) → Foretells xs t → Timely xs (t.time [])
+timely_told : (xs : List Entry) (t : Foretold) → Foretells xs t → Timely xs (t.time [])
 timely_told [] t f = tt
 timely_told (Waited wait heard ∷ xs) t f = (t.time (wait ∷ []), timely_told xs (after_wait wait t) f.1)
 timely_told (Timed time ∷ xs) t f = (f.0, timely_told xs t f.1)
@@ -103,15 +106,15 @@ timely_told (Posted to octets ∷ xs) t f =
 timely_told (Unposted to octets ∷ xs) t f = timely_told xs t f
 
 -- What is heard and what the time is, where a first wait hears this at this time.
-abbrev heard_first : Heard → Told → List ℕ → ℕ → Heard
+abbrev heard_first : Heard → Foretold → List ℕ → ℕ → Heard
 heard_first heard t [] wait = heard
 heard_first heard t (first ∷ waits) wait = t.heard waits wait
 
-abbrev time_first : ℕ → Told → List ℕ → ℕ
+abbrev time_first : ℕ → Foretold → List ℕ → ℕ
 time_first now t [] = now
 time_first now t (first ∷ waits) = t.time waits
 
-pub teller : (xs : List Entry) (now : ℕ) → Timely xs now → (t : Told) × (Foretells xs t × (t.time [] ≡ now))
+pub teller : (xs : List Entry) (now : ℕ) → Timely xs now → (t : Foretold) × (Foretells xs t × (t.time [] ≡ now))
 teller [] now timely = (record { heard = λ waits wait. Silence; time = λ waits. now; sent = [] }, (tt, refl))
 teller (Waited wait heard ∷ xs) now timely =
     let later = teller xs timely.0 timely.1 in (
@@ -128,9 +131,9 @@ teller (Unposted to octets ∷ xs) now timely = teller xs now timely
 
 -- ---- over some calls
 
-pub over_begun : (a b : Account) (gained : List Entry) (P : List Entry → Told → Type 0) → GainsAll gained a b
+pub over_begun : (a b : Account) (gained : List Entry) (P : List Entry → Foretold → Type 0) → GainsAll gained a b
     → (now : ℕ) → Timely gained now →
-    ((t : Told) → Foretells gained t → P gained t) → Over a b P
+    ((t : Foretold) → Foretells gained t → P gained t) → Over a b P
 over_begun a b gained P gains now timely holds =
     let it = teller gained now timely in
     record {
@@ -140,11 +143,11 @@ over_begun a b gained P gains now timely holds =
       holds = holds;
     }
 
-pub over_none : (a : Account) (P : List Entry → Told → Type 0) → ((t : Told) → P [] t) → Over a a P
+pub over_none : (a : Account) (P : List Entry → Foretold → Type 0) → ((t : Foretold) → P [] t) → Over a a P
 over_none a P holds = over_begun a a [] P (sym (gaining_none a), λ t e. tt) 0 tt (λ t f. holds t)
 
-pub over_map : (a b : Account) (P Q : List Entry → Told → Type 0) → Over a b P
-    → ((gained : List Entry) (t : Told) → P gained t → Q gained t) → Over a b Q
+pub over_map : (a b : Account) (P Q : List Entry → Foretold → Type 0) → Over a b P
+    → ((gained : List Entry) (t : Foretold) → P gained t → Q gained t) → Over a b Q
 over_map a b P Q first makes =
     record {
       gained = first.gained;
@@ -153,9 +156,10 @@ over_map a b P Q first makes =
       holds = λ t f. makes first.gained t (first.holds t f);
     }
 
-pub over_on : (a b c : Account) (P Q : List Entry → Told → Type 0) → Over a b P → (more : List Entry)
+pub over_on : (a b c : Account) (P Q : List Entry → Foretold → Type 0) → Over a b P → (more : List Entry)
     → GainsAll more b c → ((now : ℕ) → Timely more now) →
-    ((gained : List Entry) (t : Told) → P gained t → Foretells more (told_after gained t) → Q (gained ++ more) t)
+    ((gained : List Entry) (t : Foretold) → P gained t → Foretells more (foretold_after gained t)
+    → Q (gained ++ more) t)
     → Over a c Q
 over_on a b c P Q first more gains timely makes =
     let all = first.gained ++ more in
@@ -166,13 +170,13 @@ over_on a b c P Q first more gains timely makes =
 -- ---- sends
 
 -- What was sent leaves what is heard and what the time is.
-pub posts_left : (notes : List Note) (sent : List Sending) (t : Told) → (all : List Sending)
-    × (told_after (posts notes) (having_sent sent t) ≡ having_sent all t)
+pub posts_left : (notes : List Note) (sent : List Sending) (t : Foretold) → (all : List Sending)
+    × (foretold_after (posts notes) (having_sent sent t) ≡ having_sent all t)
 posts_left [] sent t = (sent, refl)
 posts_left (Sent ticket peer octets ∷ notes) sent t =
     let x : Sending = record { time = t.time []; to = peer; octets = octets } in
     let rest = posts_left notes (sent ++ x ∷ []) t in
-    (rest.0, ap (told_after (posts notes)) (having_sent-both t sent (x ∷ [])) ∙ rest.1)
+    (rest.0, ap (foretold_after (posts notes)) (having_sent-both t sent (x ∷ [])) ∙ rest.1)
 posts_left (_ ∷ notes) sent t = posts_left notes sent t
 
 pub posts_timely : (notes : List Note) (now : ℕ) → Timely (posts notes) now

@@ -8,12 +8,12 @@ use Rattle.bac_tsm.specs.Events.{Outcome, Event, Tick}
 use Rattle.bac_tsm.specs.Lookahead.{clock}
 use Rattle.bac_tsm.proofs.Progress.{clock_rises, open_soon, never_due}
 use Rattle.bac_text.specs.declared.checked.Checked.{Checked}
-use Rattle.bac_links.specs.Told.{Told, after_wait, waited}
-use Rattle.bac_links.specs.Call.{rules_for, wait_of, heard_in, wait_in, asked, events_of, entries_of, has_ended, EndsIn}
+use Rattle.bac_links.specs.Foretold.{Foretold, after_wait, waited}
+use Rattle.bac_links.specs.Call.{rules_for, wait_of, asked, events_of, entries_of, entries_to, has_ended, EndsIn}
 use Rattle.bac_links.specs.Call.{FailsToSend, Tells}
-use Rattle.bac_links.specs.History.{Entry, Posted, Unposted, told_after, Account, Over}
-use Rattle.bac_links.proofs.Courses.{was_due}
-use Rattle.bac_links.proofs.Histories.{told_after-append, over_map}
+use Rattle.bac_links.specs.History.{Entry, Posted, Unposted, foretold_after, Account, Over}
+use Rattle.bac_links.proofs.Courses.{was_due, wait_at}
+use Rattle.bac_links.proofs.Histories.{foretold_after-append, over_map}
 use Rattle.bac_links.proofs.CallTurns.{left_so}
 use Rattle.bac_links.specs.Progress.{IsPrompt}
 use Rattle.bac_links.specs.declared.ending.Purpose.{Purpose}
@@ -54,26 +54,27 @@ greatest_tick-append (_ ∷ first) next = greatest_tick-append first next
 -- ---- what takes no longer than this
 
 module _ (longest : ℕ) where
-  prompt_first : (xs ys : List Entry) (t : Told) → IsPrompt longest (xs ++ ys) t → IsPrompt longest xs t
+  prompt_first : (xs ys : List Entry) (t : Foretold) → IsPrompt longest (xs ++ ys) t → IsPrompt longest xs t
   prompt_first [] ys t p = tt
-  prompt_first (x ∷ xs) ys t p = (p.0, prompt_first xs ys (told_after (x ∷ []) t) p.1)
+  prompt_first (x ∷ xs) ys t p = (p.0, prompt_first xs ys (foretold_after (x ∷ []) t) p.1)
 
-  prompt_then : (xs ys : List Entry) (t : Told) → IsPrompt longest (xs ++ ys) t → IsPrompt longest ys (told_after xs t)
+  prompt_then : (xs ys : List Entry) (t : Foretold) → IsPrompt longest (xs ++ ys) t
+      → IsPrompt longest ys (foretold_after xs t)
   prompt_then [] ys t p = p
   prompt_then (x ∷ xs) ys t p =
-      subst (IsPrompt longest ys) (sym (told_after-append (x ∷ []) xs t))
-      (prompt_then xs ys (told_after (x ∷ []) t) p.1)
+      subst (IsPrompt longest ys) (sym (foretold_after-append (x ∷ []) xs t))
+      (prompt_then xs ys (foretold_after (x ∷ []) t) p.1)
 
-  prompt_both : (xs ys : List Entry) (t : Told) → IsPrompt longest xs t → IsPrompt longest ys (told_after xs t)
+  prompt_both : (xs ys : List Entry) (t : Foretold) → IsPrompt longest xs t → IsPrompt longest ys (foretold_after xs t)
       → IsPrompt longest (xs ++ ys) t
   prompt_both [] ys t p q = q
   prompt_both (x ∷ xs) ys t p q = (
     p.0,
-    prompt_both xs ys (told_after (x ∷ []) t) p.1
-        (subst (IsPrompt longest ys) (told_after-append (x ∷ []) xs t) q),
+    prompt_both xs ys (foretold_after (x ∷ []) t) p.1
+        (subst (IsPrompt longest ys) (foretold_after-append (x ∷ []) xs t) q),
   )
 
-module _ (purpose : Purpose) (call : Call) (t : Told) (longest : ℕ) where
+module _ (purpose : Purpose) (call : Call) (t : Foretold) (longest : ℕ) where
   abbrev time_after : ℕ → ℕ
   time_after n = (waited (wait_of call) n t).time []
 
@@ -119,17 +120,17 @@ module _ (purpose : Purpose) (call : Call) (t : Told) (longest : ℕ) where
   -- What was gained leaves a time within the bound, where nothing took longer.
   abbrev pub InTime : List Entry → Type 0
   InTime gained = IsPrompt longest gained t
-      → (told_after gained t).time [] ≤ t.time [] + suc call.retries * (call.timeout + longest)
+      → (foretold_after gained t).time [] ≤ t.time [] + suc call.retries * (call.timeout + longest)
 
-  time_so : (n : ℕ) → (told_after (entries_of purpose call t n) t).time [] ≡ time_after n
-  time_so n = ap (λ (l : Told). l.time []) (left_so purpose call t n).1
+  time_so : (n : ℕ) → (foretold_after (entries_of purpose call t n) t).time [] ≡ time_after n
+  time_so n = ap (λ (l : Foretold). l.time []) (left_so purpose call t n).1
 
   -- A further wait.
-  wait_so : (n : ℕ) (rest : List Entry) → IsPrompt longest (entries_of purpose call t n ++ wait_in call t n ∷ rest) t
+  wait_so : (n : ℕ) (rest : List Entry) → IsPrompt longest (entries_of purpose call t n ++ wait_at call t n ∷ rest) t
       → time_after (suc n) ≤ time_after n + longest
   wait_so n rest prompt =
-      subst (λ (l : Told). l.time (wait_of call ∷ []) ≤ l.time [] + longest) (left_so purpose call t n).1
-      (prompt_then longest (entries_of purpose call t n) (wait_in call t n ∷ rest) t prompt).0
+      subst (λ (l : Foretold). l.time (wait_of call ∷ []) ≤ l.time [] + longest) (left_so purpose call t n).1
+      (prompt_then longest (entries_of purpose call t n) (wait_at call t n ∷ rest) t prompt).0
 
   turns_so : (n : ℕ) → IsPrompt longest (entries_of purpose call t n) t → IsSteady n
   turns_so zero prompt = λ k less. absurd (omega arith)
@@ -143,12 +144,12 @@ module _ (purpose : Purpose) (call : Call) (t : Told) (longest : ℕ) where
   open_so n still prompt = let h = open_in_time n (turns_so n prompt) still in omega (arith, h, time_so n)
 
   waited_so : (n : ℕ) → has_ended purpose call t n ≡ false
-      → InTime (entries_of purpose call t n ++ wait_in call t n ∷ [])
+      → InTime (entries_of purpose call t n ++ wait_at call t n ∷ [])
   waited_so n still prompt =
       let h = open_in_time n (turns_so n (prompt_first longest (entries_of purpose call t n) _ t prompt)) still in
       let last = wait_so n [] prompt in
-      let time = ap (λ (l : Told). l.time [])
-      (told_after-append (entries_of purpose call t n) (wait_in call t n ∷ []) t
+      let time = ap (λ (l : Foretold). l.time [])
+      (foretold_after-append (entries_of purpose call t n) (wait_at call t n ∷ []) t
       ∙ ap (after_wait (wait_of call)) (left_so purpose call t n).1) in
       omega (arith, h, last, time)
 
@@ -164,9 +165,14 @@ module _ (purpose : Purpose) (call : Call) (t : Told) (longest : ℕ) where
   at_end : (gained : List Entry) (ending : Option Outcome) (n : ℕ) → EndsIn purpose call t gained ending n
       → InTime gained
   at_end gained (Some outcome) n ends =
-      in_time _ _ ends.history (waited_so n (was_due (heard_in call t) (has_ended purpose call t) n ends.stops))
+      in_time _ _ ends.stops.history
+      (waited_so n
+      (was_due (wait_of call) t (has_ended purpose call t) n
+      (entries_to purpose call t (Some outcome)) gained ends.stops))
   at_end gained None n ends =
-      in_time _ _ ends.history (ended_so n (was_due (heard_in call t) (has_ended purpose call t) n ends.stops))
+      in_time _ _ ends.stops.history
+      (ended_so n
+      (was_due (wait_of call) t (has_ended purpose call t) n (entries_to purpose call t None) gained ends.stops))
 
   at_loss : (gained : List Entry) (n : ℕ) → FailsToSend purpose call t gained n → InTime gained
   at_loss gained n fails = in_time _ _ fails.history (λ prompt.
@@ -175,28 +181,28 @@ module _ (purpose : Purpose) (call : Call) (t : Told) (longest : ℕ) where
       let before = prompt_first longest fails.made (lost ∷ []) t prompt in
       let all = subst (λ (xs : List Entry). IsPrompt longest xs t) (sym fails.due)
       (prompt_both longest fails.made (due ∷ []) t before (omega arith, tt)) in
-      let h = open_so n fails.before.goes_on.unended all in
-      let posted = ap (λ (l : Told). l.time [])
-      (ap (λ (xs : List Entry). told_after xs t) fails.due ∙ told_after-append fails.made (due ∷ []) t) in
-      let unposted = ap (λ (l : Told). l.time []) (told_after-append fails.made (lost ∷ []) t) in
+      let h = open_so n fails.before.unended all in
+      let posted = ap (λ (l : Foretold). l.time [])
+      (ap (λ (xs : List Entry). foretold_after xs t) fails.due ∙ foretold_after-append fails.made (due ∷ []) t) in
+      let unposted = ap (λ (l : Foretold). l.time []) (foretold_after-append fails.made (lost ∷ []) t) in
       omega (arith, h, posted, unposted))
 
 pub left_in_time : {W : Type 0} (contents : W → Option (List ℕ)) (purpose : Purpose) (call : Call)
     (before after : Checked W)
-    (told left : Account) (result : Result Exit ToolFault) (longest : ℕ) →
-    Tells purpose call contents before after told left result
-    → Over told left (λ gained t. InTime purpose call t longest gained)
-left_in_time contents purpose call before after told left (Ok exit) longest tells =
-    over_map told left _ _ tells.3 (λ gained t h. at_end purpose call t longest gained tells.0 h.0 h.1)
-left_in_time contents purpose call before after told left (Err SendFailed) longest tells =
-    over_map told left _ _ tells (λ gained t h. at_loss purpose call t longest gained h.0 h.1)
-left_in_time contents purpose call before after told left (Err ReceiveFailed) longest tells =
-    over_map told left _ _ tells
+    (seen left : Account) (result : Result Exit ToolFault) (longest : ℕ) →
+    Tells purpose call contents before after seen left result
+    → Over seen left (λ gained t. InTime purpose call t longest gained)
+left_in_time contents purpose call before after seen left (Ok exit) longest tells =
+    over_map seen left _ _ tells.3 (λ gained t h. at_end purpose call t longest gained tells.0 h.0 h.1)
+left_in_time contents purpose call before after seen left (Err SendFailed) longest tells =
+    over_map seen left _ _ tells (λ gained t h. at_loss purpose call t longest gained h.0 h.1)
+left_in_time contents purpose call before after seen left (Err ReceiveFailed) longest tells =
+    over_map seen left _ _ tells
     (λ gained t h.
-    in_time purpose call t longest _ _ h.1.history (waited_so purpose call t longest h.0 h.1.stops.unended))
-left_in_time contents purpose call before after told left (Err TurnsSpent) longest tells =
-    over_map told left _ _ tells
+    in_time purpose call t longest _ _ h.2.history (waited_so purpose call t longest h.0 h.2.unended))
+left_in_time contents purpose call before after seen left (Err TurnsSpent) longest tells =
+    over_map seen left _ _ tells
     (λ gained t h.
-    in_time purpose call t longest _ _ h.1.history (open_so purpose call t longest h.0 h.1.before.goes_on.unended))
-left_in_time contents purpose call before after told left (Err WriteFailed) longest tells =
-    over_map told left _ _ tells.2 (λ gained t h. at_end purpose call t longest gained tells.0 h.0 h.1)
+    in_time purpose call t longest _ _ h.2.history (open_so purpose call t longest h.0 h.2.before.unended))
+left_in_time contents purpose call before after seen left (Err WriteFailed) longest tells =
+    over_map seen left _ _ tells.2 (λ gained t h. at_end purpose call t longest gained tells.0 h.0 h.1)

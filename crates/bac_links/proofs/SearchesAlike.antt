@@ -6,12 +6,12 @@ use Rattle.bac_pdu.specs.Peer.{station}
 use Rattle.bac_text.specs.declared.checked.Checked.{Checked}
 use Rattle.bac_text.specs.declared.jobs.Search.{Search}
 use Rattle.bac_text.specs.Checked.{Took}
-use Rattle.bac_links.specs.Told.{Told}
+use Rattle.bac_links.specs.Foretold.{Foretold}
 use Rattle.bac_links.specs.History.{Entry, Foretells, Account, Over}
 use Rattle.bac_links.specs.Answered.{Answer, answers_of}
-use Rattle.bac_links.specs.Search.{Found, found_by, found_lines, search_exit, search_wait, search_hears, search_waits}
-use Rattle.bac_links.specs.Search.{search_time, search_entries, who_is_to, is_late, SearchEnds, SearchFails}
-use Rattle.bac_links.specs.Search.{SearchSpent, SearchStops, SearchUnsent, Searched}
+use Rattle.bac_links.specs.Courses.{heard_in, wait_in, time_in}
+use Rattle.bac_links.specs.Search.{Found, found_by, found_lines, search_exit, search_wait, search_entries, who_is_to}
+use Rattle.bac_links.specs.Search.{found_after, is_late, SearchEnds, SearchStops, SearchUnsent, Searched}
 use Rattle.bac_links.specs.declared.ending.Exit.{Exit}
 use Rattle.bac_links.specs.declared.fault.ToolFault.{ToolFault}
 use Rattle.bac_links.specs.declared.fault.ToolFault.TheVariants.{SendFailed, ReceiveFailed, TurnsSpent, WriteFailed}
@@ -26,10 +26,10 @@ data Way : Type 0 where
   Stops : (found : List Found) (last : Found) → Way
   Unsent : Way
 
-abbrev Goes : Search → Told → List Entry → Way → Type 0
-Goes search t gained (Ends found) = (n : ℕ) × SearchEnds search t gained found n
-Goes search t gained (Deaf found) = (n : ℕ) × SearchFails search t gained found n
-Goes search t gained (Spent found) = (n : ℕ) × SearchSpent search t gained found n
+abbrev Goes : Search → Foretold → List Entry → Way → Type 0
+Goes search t gained (Ends found) = SearchEnds search t (Ok (search_exit found)) gained found
+Goes search t gained (Deaf found) = SearchEnds search t (Err ReceiveFailed) gained found
+Goes search t gained (Spent found) = SearchEnds search t (Err TurnsSpent) gained found
 Goes search t gained (Stops found last) = (n : ℕ) × SearchStops search t gained found last n
 Goes search t gained Unsent = SearchUnsent search t gained
 
@@ -44,29 +44,31 @@ sized (x ∷ xs) = ap suc (sized xs)
 same_size : (xs ys : List Entry) → answers_of xs ≡ answers_of ys → length xs ≡ length ys
 same_size xs ys e = sym (sized xs) ∙ ap size e ∙ sized ys
 
-module _ (search : Search) (t : Told) where
+module _ (search : Search) (t : Foretold) where
   plain_entries : (n : ℕ) → Plain (search_wait search) (search_entries search t n)
   plain_entries zero = tt
   plain_entries (suc n) =
       plain_both (search_wait search) (search_entries search t n)
-      (search_waits search t n ∷ search_time search t (suc n) ∷ []) (plain_entries n) (refl, tt)
+      (wait_in (search_wait search) t n ∷ time_in (search_wait search) t (suc n) ∷ []) (plain_entries n) (refl, tt)
 
-  plain_waited : (n : ℕ) → Plain (search_wait search) (search_entries search t n ++ search_waits search t n ∷ [])
+  plain_waited : (n : ℕ) → Plain (search_wait search)
+      (search_entries search t n ++ wait_in (search_wait search) t n ∷ [])
   plain_waited n =
-      plain_both (search_wait search) (search_entries search t n) (search_waits search t n ∷ []) (plain_entries n)
+      plain_both (search_wait search) (search_entries search t n) (wait_in (search_wait search) t n ∷ [])
+      (plain_entries n)
       (refl, tt)
 
   length_entries : (n : ℕ) → length (search_entries search t n) ≡ n + n + 2
   length_entries zero = refl
   length_entries (suc n) =
       let all = length-append (search_entries search t n)
-      (search_waits search t n ∷ search_time search t (suc n) ∷ []) in
+      (wait_in (search_wait search) t n ∷ time_in (search_wait search) t (suc n) ∷ []) in
       let before = length_entries n in
       omega (arith, all, before)
 
-  length_waited : (n : ℕ) → length (search_entries search t n ++ search_waits search t n ∷ []) ≡ n + n + 3
+  length_waited : (n : ℕ) → length (search_entries search t n ++ wait_in (search_wait search) t n ∷ []) ≡ n + n + 3
   length_waited n =
-      let all = length-append (search_entries search t n) (search_waits search t n ∷ []) in
+      let all = length-append (search_entries search t n) (wait_in (search_wait search) t n ∷ []) in
       let before = length_entries n in
       omega (arith, all, before)
 
@@ -75,11 +77,11 @@ module _ (search : Search) (t : Told) where
 
   goes_waits : (v : Way) (xs : List Entry) → So xs v → Waits (search_wait search) xs
   goes_waits (Ends found) xs a =
-      plain_waits (search_wait search) xs (subst (Plain (search_wait search)) (sym a.1.history) (plain_entries a.0))
+      plain_waits (search_wait search) xs (subst (Plain (search_wait search)) (sym a.2.history) (plain_entries a.0))
   goes_waits (Deaf found) xs a =
-      plain_waits (search_wait search) xs (subst (Plain (search_wait search)) (sym a.1.history) (plain_waited a.0))
+      plain_waits (search_wait search) xs (subst (Plain (search_wait search)) (sym a.2.history) (plain_waited a.0))
   goes_waits (Spent found) xs a =
-      plain_waits (search_wait search) xs (subst (Plain (search_wait search)) (sym a.1.history) (plain_entries a.0))
+      plain_waits (search_wait search) xs (subst (Plain (search_wait search)) (sym a.2.history) (plain_entries a.0))
   goes_waits (Stops found last) xs a =
       plain_waits (search_wait search) xs (subst (Plain (search_wait search)) (sym a.1.history) (plain_waited a.0))
   goes_waits Unsent xs a = subst (Waits (search_wait search)) (sym a) tt
@@ -88,14 +90,15 @@ module _ (search : Search) (t : Told) where
   sent_all : (xs ys zs : List Entry) → So xs Unsent → answers_of xs ≡ answers_of ys → ys ≡ zs
       → Plain (search_wait search) zs → ⊥
   sent_all xs ys zs a e same plain =
-      no_loss (search_wait search) (search_time search t zero ∷ []) zs (station search.to) (who_is_to search) plain
+      no_loss (search_wait search) (time_in (search_wait search) t zero ∷ []) zs (station search.to)
+      (who_is_to search) plain
       (ap answers_of (sym a) ∙ e ∙ ap answers_of same)
 
   abbrev ended_at : ℕ → List Entry
   ended_at n = search_entries search t n
 
   abbrev waited_at : ℕ → List Entry
-  waited_at n = search_entries search t n ++ search_waits search t n ∷ []
+  waited_at n = search_entries search t n ++ wait_in (search_wait search) t n ∷ []
 
   at_one : (xs ys : List Entry) (n m : ℕ) → answers_of xs ≡ answers_of ys → xs ≡ ended_at n → ys ≡ ended_at m → m ≡ n
   at_one xs ys n m e here there =
@@ -120,32 +123,30 @@ module _ (search : Search) (t : Told) where
   ended_not_spent : (xs ys : List Entry) (f g : List Found) → So xs (Ends f) → So ys (Spent g)
       → answers_of xs ≡ answers_of ys → ⊥
   ended_not_spent xs ys f g a b e =
-      let same = at_one xs ys a.0 b.0 e a.1.history b.1.history in
-      let open_yet = subst (λ (k : ℕ). is_late search t k ≡ false) same b.1.before.unended in
-      let over = a.1.stops.over in
+      let same = at_one xs ys a.0 b.0 e a.2.history b.2.history in
+      let open_yet = subst (λ (k : ℕ). is_late search t k ≡ false) same b.2.before.unended in
+      let over = a.2.over in
       cc
 
   deaf_not_stopped : (xs ys : List Entry) (f g : List Found) (last : Found) → So xs (Deaf f) → So ys (Stops g last)
       → answers_of xs ≡ answers_of ys → ⊥
   deaf_not_stopped xs ys f g last a b e =
-      let same = waits_one xs ys a.0 b.0 e a.1.history b.1.history in
-      let heard = subst (λ (k : ℕ). found_by search.who (search_hears search t k) ≡ last ∷ []) same b.1.heard in
-      let none : [] ≡ last ∷ [] = ap (found_by search.who) (sym a.1.stops.failed) ∙ heard in
+      let same = waits_one xs ys a.0 b.0 e a.2.history b.1.history in
+      let heard = subst (λ (k : ℕ). found_by search.who (heard_in (search_wait search) t k)
+      ≡ last ∷ []) same b.1.heard in
+      let none : [] ≡ last ∷ [] = ap (found_by search.who) (sym a.2.failed) ∙ heard in
       cc
 
   alike : (v w : Way) (xs ys : List Entry) → So xs v → So ys w → answers_of xs ≡ answers_of ys → (xs ≡ ys) × (v ≡ w)
   alike (Ends f) (Ends g) xs ys a b e =
-      let same = at_one xs ys a.0 b.0 e a.1.history b.1.history in
-      let b' = subst (SearchEnds search t ys g) same b.1 in
-      (a.1.history ∙ sym b'.history, ap Ends (a.1.finds ∙ sym b'.finds))
+      let same = sym (at_one xs ys a.0 b.0 e a.2.history b.2.history) in
+      (a.2.history ∙ ap ended_at same ∙ sym b.2.history, ap Ends (a.1 ∙ ap (found_after search t) same ∙ sym b.1))
   alike (Spent f) (Spent g) xs ys a b e =
-      let same = at_one xs ys a.0 b.0 e a.1.history b.1.history in
-      let b' = subst (SearchSpent search t ys g) same b.1 in
-      (a.1.history ∙ sym b'.history, ap Spent (a.1.finds ∙ sym b'.finds))
+      let same = sym (at_one xs ys a.0 b.0 e a.2.history b.2.history) in
+      (a.2.history ∙ ap ended_at same ∙ sym b.2.history, ap Spent (a.1 ∙ ap (found_after search t) same ∙ sym b.1))
   alike (Deaf f) (Deaf g) xs ys a b e =
-      let same = waits_one xs ys a.0 b.0 e a.1.history b.1.history in
-      let b' = subst (SearchFails search t ys g) same b.1 in
-      (a.1.history ∙ sym b'.history, ap Deaf (a.1.finds ∙ sym b'.finds))
+      let same = sym (waits_one xs ys a.0 b.0 e a.2.history b.2.history) in
+      (a.2.history ∙ ap waited_at same ∙ sym b.2.history, ap Deaf (a.1 ∙ ap (found_after search t) same ∙ sym b.1))
   alike (Stops f x) (Stops g y) xs ys a b e =
       let same = waits_one xs ys a.0 b.0 e a.1.history b.1.history in
       let b' = subst (SearchStops search t ys g y) same b.1 in
@@ -156,23 +157,23 @@ module _ (search : Search) (t : Told) where
   alike Unsent Unsent xs ys a b e = (a ∙ sym b, refl)
   alike (Ends f) (Spent g) xs ys a b e = absurd (ended_not_spent xs ys f g a b e)
   alike (Spent f) (Ends g) xs ys a b e = absurd (ended_not_spent ys xs g f b a (sym e))
-  alike (Ends f) (Deaf g) xs ys a b e = absurd (apart xs ys a.0 b.0 e a.1.history b.1.history)
-  alike (Deaf f) (Ends g) xs ys a b e = absurd (apart ys xs b.0 a.0 (sym e) b.1.history a.1.history)
-  alike (Ends f) (Stops g y) xs ys a b e = absurd (apart xs ys a.0 b.0 e a.1.history b.1.history)
-  alike (Stops f x) (Ends g) xs ys a b e = absurd (apart ys xs b.0 a.0 (sym e) b.1.history a.1.history)
-  alike (Spent f) (Deaf g) xs ys a b e = absurd (apart xs ys a.0 b.0 e a.1.history b.1.history)
-  alike (Deaf f) (Spent g) xs ys a b e = absurd (apart ys xs b.0 a.0 (sym e) b.1.history a.1.history)
-  alike (Spent f) (Stops g y) xs ys a b e = absurd (apart xs ys a.0 b.0 e a.1.history b.1.history)
-  alike (Stops f x) (Spent g) xs ys a b e = absurd (apart ys xs b.0 a.0 (sym e) b.1.history a.1.history)
+  alike (Ends f) (Deaf g) xs ys a b e = absurd (apart xs ys a.0 b.0 e a.2.history b.2.history)
+  alike (Deaf f) (Ends g) xs ys a b e = absurd (apart ys xs b.0 a.0 (sym e) b.2.history a.2.history)
+  alike (Ends f) (Stops g y) xs ys a b e = absurd (apart xs ys a.0 b.0 e a.2.history b.1.history)
+  alike (Stops f x) (Ends g) xs ys a b e = absurd (apart ys xs b.0 a.0 (sym e) b.2.history a.1.history)
+  alike (Spent f) (Deaf g) xs ys a b e = absurd (apart xs ys a.0 b.0 e a.2.history b.2.history)
+  alike (Deaf f) (Spent g) xs ys a b e = absurd (apart ys xs b.0 a.0 (sym e) b.2.history a.2.history)
+  alike (Spent f) (Stops g y) xs ys a b e = absurd (apart xs ys a.0 b.0 e a.2.history b.1.history)
+  alike (Stops f x) (Spent g) xs ys a b e = absurd (apart ys xs b.0 a.0 (sym e) b.2.history a.1.history)
   alike (Deaf f) (Stops g y) xs ys a b e = absurd (deaf_not_stopped xs ys f g y a b e)
   alike (Stops f x) (Deaf g) xs ys a b e = absurd (deaf_not_stopped ys xs g f x b a (sym e))
-  alike Unsent (Ends g) xs ys a b e = absurd (sent_all xs ys _ a e b.1.history (plain_entries b.0))
-  alike Unsent (Spent g) xs ys a b e = absurd (sent_all xs ys _ a e b.1.history (plain_entries b.0))
-  alike Unsent (Deaf g) xs ys a b e = absurd (sent_all xs ys _ a e b.1.history (plain_waited b.0))
+  alike Unsent (Ends g) xs ys a b e = absurd (sent_all xs ys _ a e b.2.history (plain_entries b.0))
+  alike Unsent (Spent g) xs ys a b e = absurd (sent_all xs ys _ a e b.2.history (plain_entries b.0))
+  alike Unsent (Deaf g) xs ys a b e = absurd (sent_all xs ys _ a e b.2.history (plain_waited b.0))
   alike Unsent (Stops g y) xs ys a b e = absurd (sent_all xs ys _ a e b.1.history (plain_waited b.0))
-  alike (Ends f) Unsent xs ys a b e = absurd (sent_all ys xs _ b (sym e) a.1.history (plain_entries a.0))
-  alike (Spent f) Unsent xs ys a b e = absurd (sent_all ys xs _ b (sym e) a.1.history (plain_entries a.0))
-  alike (Deaf f) Unsent xs ys a b e = absurd (sent_all ys xs _ b (sym e) a.1.history (plain_waited a.0))
+  alike (Ends f) Unsent xs ys a b e = absurd (sent_all ys xs _ b (sym e) a.2.history (plain_entries a.0))
+  alike (Spent f) Unsent xs ys a b e = absurd (sent_all ys xs _ b (sym e) a.2.history (plain_entries a.0))
+  alike (Deaf f) Unsent xs ys a b e = absurd (sent_all ys xs _ b (sym e) a.2.history (plain_waited a.0))
   alike (Stops f x) Unsent xs ys a b e = absurd (sent_all ys xs _ b (sym e) a.1.history (plain_waited a.0))
 
 -- ---- over two links
@@ -193,44 +194,44 @@ found_in Unsent = []
 
 module _ {W : Type 0} (contents : W → Option (List ℕ)) (search : Search) where
   -- The way of a search, and what it answers and prints where the writer goes along.
-  record Went (before after : Checked W) (told left : Account) (result : Result Exit ToolFault) : Type 0 where
+  record Went (before after : Checked W) (seen left : Account) (result : Result Exit ToolFault) : Type 0 where
     way : Way
-    over : Over told left (λ gained t. Goes search t gained way)
+    over : Over seen left (λ gained t. Goes search t gained way)
     answers : result ≡ result_of way
     prints : result ≢ Err WriteFailed → Took contents before after (found_lines (found_in way))
 
-  went : (before after : Checked W) (told left : Account) (result : Result Exit ToolFault)
-      → Searched search contents before after told left result → Went before after told left result
-  went before after told left (Ok exit) s =
+  went : (before after : Checked W) (seen left : Account) (result : Result Exit ToolFault)
+      → Searched search contents before after seen left result → Went before after seen left result
+  went before after seen left (Ok exit) s =
       record { way = Ends s.0; over = s.3; answers = ap Ok s.1; prints = λ other. s.2 }
-  went before after told left (Err SendFailed) s =
+  went before after seen left (Err SendFailed) s =
       record { way = Unsent; over = s.1; answers = refl; prints = λ other. s.0 }
-  went before after told left (Err ReceiveFailed) s =
-      record { way = Deaf s.0; over = s.2; answers = refl; prints = λ other. s.1 }
-  went before after told left (Err TurnsSpent) s =
-      record { way = Spent s.0; over = s.2; answers = refl; prints = λ other. s.1 }
-  went before after told left (Err WriteFailed) s =
+  went before after seen left (Err ReceiveFailed) s =
+      record { way = Deaf s.0; over = s.3; answers = refl; prints = λ other. s.2 }
+  went before after seen left (Err TurnsSpent) s =
+      record { way = Spent s.0; over = s.3; answers = refl; prints = λ other. s.2 }
+  went before after seen left (Err WriteFailed) s =
       record { way = Stops s.0 s.1; over = s.6; answers = refl; prints = λ other. absurd (other refl) }
 
 -- Two searches that are answered alike.
 module _ {V W : Type 0} (contents : V → Option (List ℕ)) (contents' : W → Option (List ℕ)) (search : Search) where
-  pub searches_alike : (before after : Checked V) (before' after' : Checked W) (told left told' left' : Account)
+  pub searches_alike : (before after : Checked V) (before' after' : Checked W) (seen left seen' left' : Account)
       (result result' : Result Exit ToolFault) (gained gained' : List Entry) →
-      Searched search contents before after told left result
-      → Searched search contents' before' after' told' left' result' →
-      left.history ≡ told.history ++ gained → left'.history ≡ told'.history ++ gained'
+      Searched search contents before after seen left result
+      → Searched search contents' before' after' seen' left' result' →
+      left.history ≡ seen.history ++ gained → left'.history ≡ seen'.history ++ gained'
       → answers_of gained ≡ answers_of gained' →
       (gained ≡ gained') × (result ≡ result')
       × (result ≢ Err WriteFailed → (text : List ℕ) × Took contents before after text
       × Took contents' before' after' text)
-  searches_alike before after before' after' told left told' left' result result' gained gained' tells tells' gains
+  searches_alike before after before' after' seen left seen' left' result result' gained gained' tells tells' gains
       gains' e =
-      let a = went contents search before after told left result tells in
-      let b = went contents' search before' after' told' left' result' tells' in
+      let a = went contents search before after seen left result tells in
+      let b = went contents' search before' after' seen' left' result' tells' in
       let first : a.over.gained ≡ gained =
-      append_cancel_left told.history _ _ (ap (λ (s : Account). s.history) (sym a.over.gains.0) ∙ gains) in
+      append_cancel_left seen.history _ _ (ap (λ (s : Account). s.history) (sym a.over.gains.0) ∙ gains) in
       let second : b.over.gained ≡ gained' =
-      append_cancel_left told'.history _ _ (ap (λ (s : Account). s.history) (sym b.over.gains.0) ∙ gains') in
+      append_cancel_left seen'.history _ _ (ap (λ (s : Account). s.history) (sym b.over.gains.0) ∙ gains') in
       let same = ap answers_of first ∙ e ∙ ap answers_of (sym second) in
       let t = a.over.some.0 in
       let here = a.over.holds t a.over.some.1 in

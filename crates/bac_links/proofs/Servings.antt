@@ -5,39 +5,41 @@ use Rattle.std.proofs.lemmas.List.{append-nil}
 use Rattle.std.proofs.lemmas.List.Concat.{flat_map-append}
 use Rattle.std.proofs.lemmas.Bool.{le-leb, lt-leb}
 use Rattle.bac_pdu.specs.Peer.{Station}
-use Rattle.bac_device.specs.Device.{DeviceState}
-use Rattle.bac_device.specs.Turns.{Arrival as Came, AnswersInTurn}
+use Rattle.bac_device.specs.Places.{Write}
+use Rattle.bac_device.specs.Device.{DeviceState, Holds}
+use Rattle.bac_device.specs.Turns.{Arrival as Came, AnswersInTurn, AreDefined}
 use Rattle.bac_device.proofs.StateLaws.{in_turn}
 use Rattle.bac_links.specs.Limits.{most_turns, serve_wait}
-use Rattle.bac_links.specs.Told.{Told, Heard, Silence, Arrival, Failure, Sending, after_wait, waited, having_sent}
-use Rattle.bac_links.specs.History.{Entry, Waited, Unposted, told_after, Foretells, Account, Over}
-use Rattle.bac_links.specs.Serve.{came_by, serve_hears, heards, arrivals_in, reply_entries, serve_entries, reply_count}
-use Rattle.bac_links.specs.Serve.{AnswersAll, all_came, HasServed, Serves}
-use Rattle.bac_links.specs.Courses.{first_below, stops_at, GoesOn}
+use Rattle.bac_links.specs.Foretold.{Foretold, Heard, Silence, Arrival, Failure, Sending, after_wait, waited}
+use Rattle.bac_links.specs.Foretold.{having_sent}
+use Rattle.bac_links.specs.History.{Entry, Waited, Unposted, foretold_after, Foretells, Account, Over}
+use Rattle.bac_links.specs.Serve.{came_by, heards, arrivals_in, reply_entries, serve_entries, all_came, Serves}
+use Rattle.bac_links.specs.Courses.{heard_in, first_below, stops_at, GoesOn}
 use Rattle.bac_links.proofs.Courses.{none_yet, one_more, ends_now, fails_now, having_nothing, having_sent-both}
-use Rattle.bac_links.proofs.Histories.{Timely, told_after-append, over_none, over_map, over_on}
-use Rattle.bac_links.specs.Inner.ServeSteps.{came_in, replied_in, ServesOne}
+use Rattle.bac_links.proofs.Histories.{Timely, foretold_after-append, over_none, over_map, over_on}
+use Rattle.bac_links.specs.Inner.ServeSteps.{came_in, replied_in, reply_count, ServesOne}
 use Rattle.bac_links.specs.declared.serving.Brought.{Brought}
 use Rattle.bac_links.specs.declared.fault.ToolFault.{ToolFault}
 use Rattle.bac_links.specs.declared.fault.ToolFault.TheVariants.{SendFailed, ReceiveFailed, TurnsSpent}
 
 -- A server after n waits, over what the link told: none of them failed, and before each fewer datagrams had come than
 -- were asked for.
-pub record ServesOver (t : Told) (gained : List Entry) (arrivals : List Came)
+pub record ServesOver (t : Foretold) (gained : List Entry) (arrivals : List Came)
     (replies : List (Option (Station × List ℕ))) (count n : ℕ) : Type 0 where
-  pub passed : first_below (stops_at (serve_hears t) (all_came count t)) n ≡ None
-  pub so : HasServed t gained arrivals replies n
+  pub passed : first_below (stops_at serve_wait t (all_came count t)) n ≡ None
+  pub came : arrivals ≡ arrivals_in (heards t n)
+  pub history : gained ≡ serve_entries (heards t n) replies
   pub sent : List Sending
-  pub left : told_after gained t ≡ having_sent sent (waited serve_wait n t)
+  pub left : foretold_after gained t ≡ having_sent sent (waited serve_wait n t)
 
 -- A server after n waits.
-pub record ServeGoes (before device : DeviceState) (told link : Account) (count came replied n : ℕ) : Type 0 where
+pub record ServeGoes (before device : DeviceState) (seen link : Account) (count came replied n : ℕ) : Type 0 where
   pub arrivals : List Came
   pub replies : List (Option (Station × List ℕ))
   pub in_turn : AnswersInTurn before arrivals replies device
   pub came_is : came ≡ length arrivals
   pub replied_is : replied ≡ reply_count replies
-  pub so_far : Over told link (λ gained t. ServesOver t gained arrivals replies count n)
+  pub so_far : Over seen link (λ gained t. ServesOver t gained arrivals replies count n)
 
 -- ---- datagrams one after another
 
@@ -56,9 +58,10 @@ same_length before after [] [] turns = refl
 same_length before after (x ∷ xs) (r ∷ rs) (next, one, rest) = ap suc (same_length next after xs rs rest)
 same_length before after _ _ turns = absurd turns
 
-pub defined : (before after : DeviceState) (xs : List Came) (rs : List (Option (Station × List ℕ)))
-    → AnswersInTurn before xs rs after → AnswersAll before xs rs after
-defined before after xs rs turns = λ writes holds. in_turn before xs rs after writes turns holds
+defined : (before after : DeviceState) (xs : List Came) (rs : List (Option (Station × List ℕ)))
+    → AnswersInTurn before xs rs after → (writes : List Write) → Holds before writes
+    → AreDefined before writes xs rs after
+defined before after xs rs turns writes holds = in_turn before xs rs after writes turns holds
 
 entries-append : (xs ys : List Heard) (rs ss : List (Option (Station × List ℕ))) → length (arrivals_in xs) ≡ length rs →
     serve_entries (xs ++ ys) (rs ++ ss) ≡ serve_entries xs rs ++ serve_entries ys ss
@@ -87,10 +90,10 @@ one_came (Arrival from octets) e = (_, refl)
 one_came _ e = absurd (omega (arith, e))
 
 -- Of what was foretold, a wait and its reply leave what comes after the wait.
-one_left : (heard : Heard) (replies : List (Option (Station × List ℕ))) (sent : List Sending) (t : Told)
+one_left : (heard : Heard) (replies : List (Option (Station × List ℕ))) (sent : List Sending) (t : Foretold)
     → length (came_by heard) ≡ length replies →
     (all : List Sending)
-    × (told_after (serve_entries (heard ∷ []) replies) (having_sent sent t)
+    × (foretold_after (serve_entries (heard ∷ []) replies) (having_sent sent t)
     ≡ having_sent all (after_wait serve_wait t))
 one_left (Arrival from octets) (None ∷ replies) sent t e = (sent, refl)
 one_left (Arrival from octets) (Some reply ∷ replies) sent t e = (_, having_sent-both (after_wait serve_wait t) sent _)
@@ -98,7 +101,7 @@ one_left Silence replies sent t e = (sent, refl)
 one_left Failure replies sent t e = (sent, refl)
 one_left _ _ sent t e = absurd (omega (arith, e))
 
-one_heard : (heard : Heard) (replies : List (Option (Station × List ℕ))) (t : Told)
+one_heard : (heard : Heard) (replies : List (Option (Station × List ℕ))) (t : Foretold)
     → length (came_by heard) ≡ length replies →
     Foretells (serve_entries (heard ∷ []) replies) t → t.heard [] serve_wait ≡ heard
 one_heard (Arrival from octets) (reply ∷ replies) t e f = f.0
@@ -108,94 +111,99 @@ one_heard _ _ t e f = absurd (omega (arith, e))
 
 one_timely : (heard : Heard) (replies : List (Option (Station × List ℕ))) (now : ℕ)
     → Timely (serve_entries (heard ∷ []) replies) now
-one_timely (Arrival from octets) [] now = tt
+one_timely (Arrival from octets) [] now = (now, tt)
 one_timely (Arrival from octets) (None ∷ replies) now = (now, tt)
 one_timely (Arrival from octets) (Some reply ∷ replies) now = (now, tt)
 one_timely Silence replies now = (now, tt)
 one_timely Failure replies now = (now, tt)
 
-pub serves_none : (device : DeviceState) (told : Account) (count : ℕ) → ServeGoes device device told told count 0 0 0
-serves_none device told count = record {
+pub serves_none : (device : DeviceState) (seen : Account) (count : ℕ) → ServeGoes device device seen seen count 0 0 0
+serves_none device seen count = record {
   arrivals = [];
   replies = [];
   in_turn = refl;
   came_is = refl;
   replied_is = refl;
-  so_far = over_none told _ (λ t. record {
-    passed = none_yet (stops_at (serve_hears t) (all_came count t));
-    so = record { came = refl; history = refl };
+  so_far = over_none seen _ (λ t. record {
+    passed = none_yet (stops_at serve_wait t (all_came count t));
+    came = refl;
+    history = refl;
     sent = [];
     left = having_nothing t;
   });
 }
 
-module _ (before device : DeviceState) (told mid : Account) (count came replied n : ℕ)
-    (goes : ServeGoes before device told mid count came replied n) where
+module _ (before device : DeviceState) (seen mid : Account) (count came replied n : ℕ)
+    (goes : ServeGoes before device seen mid count came replied n) where
   -- Over what was foretold.
-  module _ (gained : List Entry) (t : Told) (far : ServesOver t gained goes.arrivals goes.replies count n) where
+  module _ (gained : List Entry) (t : Foretold) (far : ServesOver t gained goes.arrivals goes.replies count n) where
     came_is : length (arrivals_in (heards t n)) ≡ came
-    came_is = sym (goes.came_is ∙ ap length far.so.came)
+    came_is = sym (goes.came_is ∙ ap length far.came)
 
-    waits_on : came < count → GoesOn (serve_hears t) (all_came count t) n
+    waits_on : came < count → GoesOn serve_wait t (all_came count t) n
     waits_on fewer =
         record {
           passed = far.passed;
           unended = lt-leb count (length (arrivals_in (heards t n))) (omega (arith, fewer, came_is));
         }
 
-    hears_so : (heard : Heard) → (told_after gained t).heard [] serve_wait ≡ heard → serve_hears t n ≡ heard
-    hears_so heard f = sym (ap (λ (l : Told). l.heard [] serve_wait) far.left) ∙ f
+    hears_so : (heard : Heard) → (foretold_after gained t).heard [] serve_wait ≡ heard → heard_in serve_wait t n ≡ heard
+    hears_so heard f = sym (ap (λ (l : Foretold). l.heard [] serve_wait) far.left) ∙ f
 
-    came_next : (heard : Heard) → serve_hears t n ≡ heard
+    came_next : (heard : Heard) → heard_in serve_wait t n ≡ heard
         → goes.arrivals ++ came_by heard ≡ arrivals_in (heards t (suc n))
     came_next heard e =
-        ap (λ (xs : List Came). xs ++ came_by heard) far.so.came
+        ap (λ (xs : List Came). xs ++ came_by heard) far.came
         ∙ ap (λ (h : Heard). arrivals_in (heards t n) ++ came_by h) (sym e)
-        ∙ arrivals-push (heards t n) (serve_hears t n)
+        ∙ arrivals-push (heards t n) (heard_in serve_wait t n)
 
     entries_next : (answers : List (Option (Station × List ℕ)))
         → serve_entries (heards t (suc n)) (goes.replies ++ answers)
-        ≡ serve_entries (heards t n) goes.replies ++ serve_entries (serve_hears t n ∷ []) answers
+        ≡ serve_entries (heards t n) goes.replies ++ serve_entries (heard_in serve_wait t n ∷ []) answers
     entries_next answers =
-        entries-append (heards t n) (serve_hears t n ∷ []) goes.replies answers
+        entries-append (heards t n) (heard_in serve_wait t n ∷ []) goes.replies answers
         (came_is ∙ goes.came_is ∙ same_length before device goes.arrivals goes.replies goes.in_turn)
 
     -- What was gained, and what the wait brings behind it.
-    behind : (more : Heard → List Entry) (heard : Heard) → serve_hears t n ≡ heard →
-        gained ++ more heard ≡ serve_entries (heards t n) goes.replies ++ more (serve_hears t n)
+    behind : (more : Heard → List Entry) (heard : Heard) → heard_in serve_wait t n ≡ heard →
+        gained ++ more heard ≡ serve_entries (heards t n) goes.replies ++ more (heard_in serve_wait t n)
     behind more heard e =
-        ap (λ (xs : List Entry). xs ++ more heard) far.so.history
+        ap (λ (xs : List Entry). xs ++ more heard) far.history
         ∙ ap (λ (h : Heard). serve_entries (heards t n) goes.replies ++ more h) (sym e)
 
-  pub serve_done : came ≡ count → n ≤ most_turns → Serves count before device told mid (Ok replied)
+  pub serve_done : came ≡ count → n ≤ most_turns → Serves count before device seen mid (Ok replied)
   serve_done all within = (
     goes.arrivals,
     goes.replies,
     defined before device goes.arrivals goes.replies goes.in_turn,
     (
-      sym goes.came_is ∙ all,
-      goes.replied_is,
-      over_map told mid _ _ goes.so_far (λ gained t far.
+      (sym goes.came_is ∙ all, goes.replied_is),
+      over_map seen mid _ _ goes.so_far (λ gained t far.
           let enough = le-leb count (length (arrivals_in (heards t n))) (omega (arith, all, came_is gained t far)) in
-          (n, record { stops = ends_now (serve_hears t) (all_came count t) n far.passed enough within; so = far.so })),
+          let entries = λ (n : ℕ). serve_entries (heards t n) goes.replies in (
+            n,
+            far.came,
+            ends_now serve_wait t
+                (all_came count t) n entries gained far.passed enough within far.history,
+          )),
     ),
   )
 
-  pub serve_spent : n ≡ most_turns → came < count → Serves count before device told mid (Err TurnsSpent)
+  pub serve_spent : n ≡ most_turns → came < count → Serves count before device seen mid (Err TurnsSpent)
   serve_spent all fewer = (
     goes.arrivals,
     goes.replies,
     defined before device goes.arrivals goes.replies goes.in_turn,
     (
-      rw (← goes.came_is) fewer,
-      over_map told mid _ _ goes.so_far
-          (λ gained t far. (n, record { all = all; before = waits_on gained t far fewer; so = far.so })),
+      tt,
+      over_map seen mid _ _ goes.so_far (λ gained t far.
+          (n, far.came, record { all = all; before = waits_on gained t far fewer; history = far.history })),
     ),
   )
 
   pub serve_on : (after : DeviceState) (left : Account) → came < count → (brings : Brought)
       → ServesOne device after mid left (Ok brings) →
-      ServeGoes before after told left count (came + came_in brings) (replied + replied_in brings) (suc n)
+      ServeGoes before after seen left count (came + came_in brings) (replied + replied_in brings) (suc n)
   serve_on after left fewer brings one =
       let as_many = same_length device after (came_by one.0) one.1 one.2 in
       record {
@@ -204,35 +212,33 @@ module _ (before device : DeviceState) (told mid : Account) (count came replied 
         in_turn = turns-append before device after goes.arrivals (came_by one.0) goes.replies one.1 goes.in_turn one.2;
         came_is = rw (goes.came_is, one.4) (sym (length-append goes.arrivals (came_by one.0)));
         replied_is = rw (goes.replied_is, one.5) (sym (count-append goes.replies one.1));
-        so_far = over_on told mid left _ _ goes.so_far (serve_entries (one.0 ∷ []) one.1) one.6 (one_timely one.0 one.1)
+        so_far = over_on seen mid left _ _ goes.so_far (serve_entries (one.0 ∷ []) one.1) one.6 (one_timely one.0 one.1)
             (λ gained t far f.
             let e = hears_so gained t far one.0 (one_heard one.0 one.1 _ as_many f) in
             let next = one_left one.0 one.1 far.sent (waited serve_wait n t) as_many in
             record {
-              passed = one_more (serve_hears t) (all_came count t) n (waits_on gained t far fewer)
+              passed = one_more serve_wait t (all_came count t) n (waits_on gained t far fewer)
                   (subst (λ (h : Heard). h ≢ Failure) (sym e) one.3);
-              so = record {
-                came = came_next gained t far one.0 e;
-                history = behind gained t far (λ h. serve_entries (h ∷ []) one.1) one.0 e
-                    ∙ sym (entries_next gained t far one.1);
-              };
+              came = came_next gained t far one.0 e;
+              history = behind gained t far (λ h. serve_entries (h ∷ []) one.1) one.0 e
+                  ∙ sym (entries_next gained t far one.1);
               sent = next.0;
               left =
-                  told_after-append gained (serve_entries (one.0 ∷ []) one.1) t
-                  ∙ ap (told_after (serve_entries (one.0 ∷ []) one.1)) far.left
+                  foretold_after-append gained (serve_entries (one.0 ∷ []) one.1) t
+                  ∙ ap (foretold_after (serve_entries (one.0 ∷ []) one.1)) far.left
                   ∙ next.1;
             });
       }
 
   pub serve_fails : (after : DeviceState) (left : Account) → n < most_turns → came < count → (fault : ToolFault)
-      → ServesOne device after mid left (Err fault) → Serves count before after told left (Err fault)
+      → ServesOne device after mid left (Err fault) → Serves count before after seen left (Err fault)
   serve_fails after left within fewer SendFailed one = (
     goes.arrivals ++ came_by one.0,
     goes.replies ++ Some one.1 ∷ [],
     defined before after (goes.arrivals ++ came_by one.0) (goes.replies ++ Some one.1 ∷ [])
         (turns-append before device after goes.arrivals (came_by one.0) goes.replies (Some one.1 ∷ []) goes.in_turn
         one.2),
-    over_on told mid left _ _ goes.so_far (Waited serve_wait one.0 ∷ Unposted one.1.0 one.1.1 ∷ []) one.4
+    over_on seen mid left _ _ goes.so_far (Waited serve_wait one.0 ∷ Unposted one.1.0 one.1.1 ∷ []) one.4
         (λ now. (now, tt)) (λ gained t far f.
         let e = hears_so gained t far one.0 f.0 in
         let last = one_came one.0 (same_length device after (came_by one.0) (Some one.1 ∷ []) one.2) in (
@@ -255,14 +261,17 @@ module _ (before device : DeviceState) (told mid : Account) (count came replied 
     goes.replies,
     defined before after goes.arrivals goes.replies
         (subst (AnswersInTurn before goes.arrivals goes.replies) (sym one.0) goes.in_turn),
-    over_on told mid left _ _ goes.so_far (Waited serve_wait Failure ∷ []) one.1 (λ now. (now, tt)) (λ gained t far f.
-        let e = hears_so gained t far Failure f.0 in (
-          n,
-          record {
-            stops = fails_now (serve_hears t) (all_came count t) n (waits_on gained t far fewer) e within;
-            came = far.so.came;
-            history = behind gained t far (λ h. Waited serve_wait h ∷ []) Failure e;
-          },
-        )),
+    (
+      tt,
+      over_on seen mid left _ _ goes.so_far (Waited serve_wait Failure ∷ []) one.1 (λ now. (now, tt))
+          (λ gained t far f.
+          let e = hears_so gained t far Failure f.0 in
+          let entries = λ (n : ℕ). serve_entries (heards t n) goes.replies in (
+            n,
+            far.came,
+            fails_now serve_wait t (all_came count t) n entries _ (waits_on gained t far fewer) e within
+                (behind gained t far (λ h. Waited serve_wait h ∷ []) Failure e),
+          )),
+    ),
   )
   serve_fails after left within fewer _ one = absurd one

@@ -1,22 +1,19 @@
 -- Two servers that are answered alike, over devices in the same state, ask and send alike, and end alike.
-use Rattle.std.proofs.Common.{◌≡◌, ◌≢◌, ℕ, zero, suc, ◌<◌, List, [], ◌∷◌, ◌++◌, length, length-append, append_assoc}
+use Rattle.std.proofs.Common.{◌≡◌, ◌≢◌, ℕ, zero, suc, ◌<◌, List, [], ◌∷◌, ◌++◌, length, append_assoc}
 use Rattle.std.proofs.Common.{Option, Some, None, Result, Ok, Err, false, refl, sym, ap, ◌∙◌, arith, subst}
 use Rattle.std.proofs.lemmas.Bool.{or_parts}
 use Rattle.std.proofs.lemmas.List.{append-nil, append_cancel_left, append_cancel_right}
 use Rattle.bac_pdu.specs.Peer.{Station}
 use Rattle.bac_device.specs.Device.{DeviceState, device_after, points_of, Holds}
-use Rattle.bac_device.specs.Info.{Info}
 use Rattle.bac_device.specs.Places.{Write}
-use Rattle.bac_device.specs.Point.{Description}
-use Rattle.bac_device.specs.Reply.{writes_after}
 use Rattle.bac_device.specs.Turns.{Arrival as Came, all_writes, replies_to}
 use Rattle.bac_links.specs.Limits.{serve_wait}
-use Rattle.bac_links.specs.Told.{Told, Heard, Silence, Arrival, Failure}
+use Rattle.bac_links.specs.Foretold.{Foretold, Heard, Silence, Arrival, Failure}
 use Rattle.bac_links.specs.History.{Entry, Waited, Timed, Posted, Unposted, Account}
 use Rattle.bac_links.specs.Answered.{Answer, Brings, answers_of}
-use Rattle.bac_links.specs.Courses.{is_failure, first_below, stops_at}
-use Rattle.bac_links.specs.Serve.{came_by, serve_hears, heards, arrivals_in, serve_entries, reply_count, all_came}
-use Rattle.bac_links.specs.Serve.{HasServed, ServeEnds, Serves}
+use Rattle.bac_links.specs.Courses.{is_failure, first_below, heard_in, stops_at}
+use Rattle.bac_links.specs.Serve.{heards, arrivals_in, serve_entries, all_came, ServeEnds, Serves}
+use Rattle.bac_links.specs.Inner.ServeSteps.{reply_count}
 use Rattle.bac_links.specs.declared.fault.ToolFault.{ToolFault}
 use Rattle.bac_links.specs.declared.fault.ToolFault.TheVariants.{SendFailed, ReceiveFailed, TurnsSpent, WriteFailed}
 use Rattle.bac_links.proofs.Courses.{none_at}
@@ -33,33 +30,30 @@ heard_among [] = []
 heard_among (Brings heard ∷ later) = heard ∷ heard_among later
 heard_among (_ ∷ later) = heard_among later
 
-abbrev heard_in : List Entry → List Heard
-heard_in entries = heard_among (answers_of entries)
+abbrev heard_of : List Entry → List Heard
+heard_of entries = heard_among (answers_of entries)
 
 abbrev onto : Heard → List Heard → List Heard
 onto heard hs = heard ∷ hs
 
-heard_both : (xs ys : List Entry) → heard_in (xs ++ ys) ≡ heard_in xs ++ heard_in ys
+heard_both : (xs ys : List Entry) → heard_of (xs ++ ys) ≡ heard_of xs ++ heard_of ys
 heard_both [] ys = refl
 heard_both (Waited wait heard ∷ xs) ys = ap (onto heard) (heard_both xs ys)
 heard_both (Timed time ∷ xs) ys = heard_both xs ys
 heard_both (Posted to octets ∷ xs) ys = heard_both xs ys
 heard_both (Unposted to octets ∷ xs) ys = heard_both xs ys
 
-heard_entries : (hs : List Heard) (rs : Replies) → length (arrivals_in hs) ≡ length rs
-    → heard_in (serve_entries hs rs) ≡ hs
-heard_entries [] rs e = refl
-heard_entries (Arrival from octets ∷ hs) [] e = absurd (omega (arith, e))
-heard_entries (Arrival from octets ∷ hs) (None ∷ rs) e =
-    ap (onto (Arrival from octets)) (heard_entries hs rs (omega (arith, e)))
-heard_entries (Arrival from octets ∷ hs) (Some reply ∷ rs) e =
-    ap (onto (Arrival from octets)) (heard_entries hs rs (omega (arith, e)))
-heard_entries (Silence ∷ hs) rs e = ap (onto Silence) (heard_entries hs rs e)
-heard_entries (Failure ∷ hs) rs e = ap (onto Failure) (heard_entries hs rs e)
+heard_entries : (hs : List Heard) (rs : Replies) → heard_of (serve_entries hs rs) ≡ hs
+heard_entries [] rs = refl
+heard_entries (Arrival from octets ∷ hs) [] = ap (onto (Arrival from octets)) (heard_entries hs [])
+heard_entries (Arrival from octets ∷ hs) (None ∷ rs) = ap (onto (Arrival from octets)) (heard_entries hs rs)
+heard_entries (Arrival from octets ∷ hs) (Some reply ∷ rs) = ap (onto (Arrival from octets)) (heard_entries hs rs)
+heard_entries (Silence ∷ hs) rs = ap (onto Silence) (heard_entries hs rs)
+heard_entries (Failure ∷ hs) rs = ap (onto Failure) (heard_entries hs rs)
 
 plain_entries : (hs : List Heard) (rs : Replies) → Plain serve_wait (serve_entries hs rs)
 plain_entries [] rs = tt
-plain_entries (Arrival from octets ∷ hs) [] = tt
+plain_entries (Arrival from octets ∷ hs) [] = (refl, plain_entries hs [])
 plain_entries (Arrival from octets ∷ hs) (None ∷ rs) = (refl, plain_entries hs rs)
 plain_entries (Arrival from octets ∷ hs) (Some reply ∷ rs) = (refl, plain_entries hs rs)
 plain_entries (Silence ∷ hs) rs = (refl, plain_entries hs rs)
@@ -102,75 +96,61 @@ Goes hs gained replies count (Err TurnsSpent) = Spent hs gained replies count
 Goes hs gained replies count (Err WriteFailed) = ⊥
 
 -- What a server gained, and how it ended.
-record Went (count : ℕ) (arrivals : List Came) (replies : Replies) (told left : Account)
+record Went (count : ℕ) (arrivals : List Came) (replies : Replies) (seen left : Account)
     (result : Result ℕ ToolFault) : Type 0 where
   gained : List Entry
-  gains : left.history ≡ told.history ++ gained
-  came : arrivals ≡ arrivals_in (heard_in gained)
-  goes : Goes (heard_in gained) gained replies count result
+  gains : left.history ≡ seen.history ++ gained
+  came : arrivals ≡ arrivals_in (heard_of gained)
+  goes : Goes (heard_of gained) gained replies count result
 
 -- The last of some waits, none of which failed.
-last_heard : (t : Told) (count n : ℕ) → 0 < n → first_below (stops_at (serve_hears t) (all_came count t)) n ≡ None →
+last_heard : (t : Foretold) (count n : ℕ) → 0 < n → first_below (stops_at serve_wait t (all_came count t)) n ≡ None →
     (before : List Heard) × (last : Heard) × (heards t n ≡ before ++ last ∷ []) × (last ≢ Failure)
 last_heard t count zero some passed = absurd (omega (arith, some))
 last_heard t count (suc n) some passed =
-    let sound : is_failure (serve_hears t n) ≡ false =
-    (or_parts (all_came count t n) _ (none_at (stops_at (serve_hears t) (all_came count t)) n passed)).1 in
-    (heards t n, serve_hears t n, refl, λ failed. let fails = ap is_failure failed in cc)
+    let sound : is_failure (heard_in serve_wait t n) ≡ false =
+    (or_parts (all_came count t n) _ (none_at (stops_at serve_wait t (all_came count t)) n passed)).1 in
+    (heards t n, heard_in serve_wait t n, refl, λ failed. let fails = ap is_failure failed in cc)
 
--- There are as many replies as datagrams.
-as_many : (info : Info) (points : List Description) (writes : List Write) (arrivals : List Came)
-    → length arrivals ≡ length (replies_to info points writes arrivals)
-as_many info points writes [] = refl
-as_many info points writes (arrival ∷ arrivals) =
-    ap suc (as_many info points (writes_after info points writes arrival.from arrival.datagram) arrivals)
+module _ (count : ℕ) (arrivals : List Came) (replies : Replies) (seen left : Account) where
+  heard_so : (t : Foretold) (gained : List Entry) (n : ℕ) → gained ≡ serve_entries (heards t n) replies
+      → heard_of gained ≡ heards t n
+  heard_so t gained n history = ap heard_of history ∙ heard_entries (heards t n) replies
 
-module _ (count : ℕ) (arrivals : List Came) (replies : Replies) (told left : Account)
-    (many : length arrivals ≡ length replies) where
-  heard_so : (t : Told) (gained : List Entry) (n : ℕ) → HasServed t gained arrivals replies n
-      → heard_in gained ≡ heards t n
-  heard_so t gained n so = ap heard_in so.history ∙ heard_entries (heards t n) replies (ap length (sym so.came) ∙ many)
-
-  went : (result : Result ℕ ToolFault) → ServeEnds count arrivals replies told left result
-      → Went count arrivals replies told left result
+  went : (result : Result ℕ ToolFault) → ServeEnds count arrivals replies seen left result
+      → Went count arrivals replies seen left result
   went (Ok replied) ends =
-      let over = ends.2 in
+      let over = ends.1 in
       let t = over.some.0 in
       let at_end = over.holds t over.some.1 in
-      let n = at_end.0 in
-      let so = at_end.1.so in
-      let heard = heard_so t over.gained n so in
+      let history = at_end.2.history in
+      let heard = heard_so t over.gained at_end.0 history in
       record {
         gained = over.gained;
         gains = ap (λ (s : Account). s.history) over.gains.0;
-        came = so.came ∙ ap arrivals_in (sym heard);
+        came = at_end.1 ∙ ap arrivals_in (sym heard);
         goes = subst (λ (hs : List Heard). Goes hs over.gained replies count (Ok replied)) (sym heard)
-            (ap length (sym so.came) ∙ ends.0, ends.1, so.history);
+            (ap length (sym at_end.1) ∙ ends.0.0, ends.0.1, history);
       }
   went (Err SendFailed) over =
       let t = over.some.0 in
       let at_end = over.holds t over.some.1 in
       let n = at_end.0 in
       let unsent = at_end.1 in
-      let split = arrivals-push (heards t n) (serve_hears t n) in
-      let made_many : length (arrivals_in (heards t n)) ≡ length unsent.made =
-      (let all = ap length unsent.came in let one = ap length split in
-      let came = length-append (arrivals_in (heards t n)) (came_by (serve_hears t n)) in
-      let single = ap length unsent.brought in let owed = ap length unsent.owed in
-      let made = length-append unsent.made (Some unsent.lost ∷ []) in
-      omega (arith, all, one, came, single, owed, made, many)) in
       let history = unsent.history
-      ∙ sym (append_assoc (serve_entries (heards t n) unsent.made) (Waited serve_wait (serve_hears t n) ∷ []) _) in
-      let heard : heard_in over.gained ≡ heards t (suc n) =
-      ap heard_in unsent.history ∙ heard_both (serve_entries (heards t n) unsent.made) _
-      ∙ ap (λ (hs : List Heard). hs ++ serve_hears t n ∷ []) (heard_entries (heards t n) unsent.made made_many) in
+      ∙ sym (append_assoc (serve_entries (heards t n) unsent.made)
+      (Waited serve_wait (heard_in serve_wait t n) ∷ []) _) in
+      let heard : heard_of over.gained ≡ heards t (suc n) =
+      ap heard_of unsent.history ∙ heard_both (serve_entries (heards t n) unsent.made) _
+      ∙ ap (λ (hs : List Heard). hs ++ heard_in serve_wait t n ∷ [])
+      (heard_entries (heards t n) unsent.made) in
       record {
         gained = over.gained;
         gains = ap (λ (s : Account). s.history) over.gains.0;
         came = unsent.came ∙ ap arrivals_in (sym heard);
         goes = record {
           before = heards t n;
-          last = serve_hears t n;
+          last = heard_in serve_wait t n;
           heard = heard;
           made = unsent.made;
           lost = unsent.lost;
@@ -178,23 +158,25 @@ module _ (count : ℕ) (arrivals : List Came) (replies : Replies) (told left : A
           history = history;
         };
       }
-  went (Err ReceiveFailed) over =
+  went (Err ReceiveFailed) ends =
+      let over = ends.1 in
       let t = over.some.0 in
       let at_end = over.holds t over.some.1 in
       let n = at_end.0 in
-      let deaf = at_end.1 in
+      let deaf_came = at_end.1 in
+      let deaf = at_end.2 in
       let history = deaf.history
-      ∙ ap (λ (h : Heard). serve_entries (heards t n) replies ++ Waited serve_wait h ∷ []) deaf.stops.failed in
-      let heard : heard_in over.gained ≡ heards t n ++ Failure ∷ [] =
-      ap heard_in history ∙ heard_both (serve_entries (heards t n) replies) _
+      ∙ ap (λ (h : Heard). serve_entries (heards t n) replies ++ Waited serve_wait h ∷ []) deaf.failed in
+      let heard : heard_of over.gained ≡ heards t n ++ Failure ∷ [] =
+      ap heard_of history ∙ heard_both (serve_entries (heards t n) replies) _
       ∙ ap (λ (hs : List Heard). hs ++ Failure ∷ [])
-      (heard_entries (heards t n) replies (ap length (sym deaf.came) ∙ many)) in
-      let came : arrivals ≡ arrivals_in (heard_in over.gained) =
-      deaf.came ∙ sym (append-nil (arrivals_in (heards t n))) ∙ arrivals-push (heards t n) Failure
+      (heard_entries (heards t n) replies) in
+      let came : arrivals ≡ arrivals_in (heard_of over.gained) =
+      deaf_came ∙ sym (append-nil (arrivals_in (heards t n))) ∙ arrivals-push (heards t n) Failure
       ∙ ap arrivals_in (sym heard) in
-      let open_yet = deaf.stops.unended in
+      let open_yet = deaf.unended in
       let few : length (arrivals_in (heards t n)) < count = grind (arith, open_yet) in
-      let same = ap length (sym deaf.came ∙ came) in
+      let same = ap length (sym deaf_came ∙ came) in
       record {
         gained = over.gained;
         gains = ap (λ (s : Account). s.history) over.gains.0;
@@ -206,24 +188,25 @@ module _ (count : ℕ) (arrivals : List Came) (replies : Replies) (told left : A
       let t = over.some.0 in
       let at_end = over.holds t over.some.1 in
       let n = at_end.0 in
-      let so = at_end.1.so in
-      let heard = heard_so t over.gained n so in
-      let last = last_heard t count n (let all = at_end.1.all in omega (arith, all)) at_end.1.before.passed in
-      let came = so.came ∙ ap arrivals_in (sym heard) in
+      let spent = at_end.2 in
+      let heard = heard_so t over.gained n spent.history in
+      let last = last_heard t count n (let all = spent.all in omega (arith, all)) spent.before.passed in
+      let open_yet = spent.before.unended in
+      let few : length (arrivals_in (heards t n)) < count = grind (arith, open_yet) in
       record {
         gained = over.gained;
         gains = ap (λ (s : Account). s.history) over.gains.0;
-        came = came;
+        came = at_end.1 ∙ ap arrivals_in (sym heard);
         goes = record {
           before = last.0;
           last = last.1;
           heard = heard ∙ last.2;
           unfailed = last.3;
-          fewer = (let same = ap length came in let fewer = ends.0 in omega (arith, same, fewer));
-          history = so.history ∙ ap (λ (hs : List Heard). serve_entries hs replies) (sym heard);
+          fewer = rw heard few;
+          history = spent.history ∙ ap (λ (hs : List Heard). serve_entries hs replies) (sym heard);
         };
       }
-  went (Err WriteFailed) ends = absurd ends
+  went (Err WriteFailed) ends = absurd (ends.1.holds ends.1.some.0 ends.1.some.1).2
 
 -- ---- two servers
 
@@ -286,31 +269,29 @@ module _ (hs : List Heard) (replies : Replies) (count : ℕ) where
   alike (Err WriteFailed) s xs ys a b e = absurd a
   alike r (Err WriteFailed) xs ys a b e = absurd b
 
-pub servings_alike : (count : ℕ) (before after after' : DeviceState) (told left told' left' : Account)
+pub servings_alike : (count : ℕ) (before after after' : DeviceState) (seen left seen' left' : Account)
     (result result' : Result ℕ ToolFault)
-    (writes : List Write) (gained gained' : List Entry) → Serves count before after told left result
-    → Serves count before after' told' left' result' →
-    Holds before writes → left.history ≡ told.history ++ gained → left'.history ≡ told'.history ++ gained'
+    (writes : List Write) (gained gained' : List Entry) → Serves count before after seen left result
+    → Serves count before after' seen' left' result' →
+    Holds before writes → left.history ≡ seen.history ++ gained → left'.history ≡ seen'.history ++ gained'
     → answers_of gained ≡ answers_of gained' →
     (gained ≡ gained') × (result ≡ result') × (after ≡ after')
-servings_alike count before after after' told left told' left' result result' writes gained gained' serves serves' holds
+servings_alike count before after after' seen left seen' left' result result' writes gained gained' serves serves' holds
     gains gains' e =
     let all = serves.2 writes holds in
     let all' = serves'.2 writes holds in
-    let many = as_many before.info (points_of before) writes serves.0 ∙ ap length (sym all.replied) in
-    let many' = as_many before.info (points_of before) writes serves'.0 ∙ ap length (sym all'.replied) in
-    let a = went count serves.0 serves.1 told left many result serves.3 in
-    let b = went count serves'.0 serves'.1 told' left' many' result' serves'.3 in
-    let first : a.gained ≡ gained = append_cancel_left told.history _ _ (sym a.gains ∙ gains) in
-    let second : b.gained ≡ gained' = append_cancel_left told'.history _ _ (sym b.gains ∙ gains') in
+    let a = went count serves.0 serves.1 seen left result serves.3 in
+    let b = went count serves'.0 serves'.1 seen' left' result' serves'.3 in
+    let first : a.gained ≡ gained = append_cancel_left seen.history _ _ (sym a.gains ∙ gains) in
+    let second : b.gained ≡ gained' = append_cancel_left seen'.history _ _ (sym b.gains ∙ gains') in
     let same = ap answers_of first ∙ e ∙ ap answers_of (sym second) in
     let heard = ap heard_among same in
     let arrivals : serves.0 ≡ serves'.0 = a.came ∙ ap arrivals_in heard ∙ sym b.came in
     let replies : serves.1 ≡ serves'.1 = all.replied ∙ ap (replies_to before.info (points_of before) writes) arrivals
     ∙ sym all'.replied in
     let goes = subst (λ (hs : List Heard). Goes hs b.gained serves.1 count result') (sym heard)
-    (subst (λ (rs : Replies). Goes (heard_in b.gained) b.gained rs count result') (sym replies) b.goes) in
-    let both = alike (heard_in a.gained) serves.1 count result result' a.gained b.gained a.goes goes same in (
+    (subst (λ (rs : Replies). Goes (heard_of b.gained) b.gained rs count result') (sym replies) b.goes) in
+    let both = alike (heard_of a.gained) serves.1 count result result' a.gained b.gained a.goes goes same in (
       sym first ∙ both.0 ∙ second,
       both.1,
       all.written ∙ ap

@@ -1,6 +1,6 @@
 -- What a link answered to what it was asked.
 use Rattle.std.specs.Prelude.{ℕ, List, map}
-use Rattle.bac_links.specs.Told.{Heard}
+use Rattle.bac_links.specs.Foretold.{Heard}
 use Rattle.bac_links.specs.History.{Entry, Waited, Timed, Posted, Unposted}
 
 -- What a link answered: what a wait brought, the time, that a datagram was sent, or that it could not be.

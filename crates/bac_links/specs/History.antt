@@ -2,7 +2,7 @@
 use Rattle.std.specs.Prelude.{◌≡◌, ℕ, List, [], ◌∷◌, ◌++◌, ⊤, Option, None, Result, Ok, Err}
 use Rattle.std.specs.Option.{ForSome, option_map}
 use Rattle.bac_pdu.specs.Peer.{Station}
-use Rattle.bac_links.specs.Told.{Told, Heard, after_wait, having_sent}
+use Rattle.bac_links.specs.Foretold.{Foretold, Heard, after_wait, having_sent}
 
 -- One thing that a link was asked, with its answer: a wait of so long, and what it heard; the time; a datagram that was
 -- sent, or that could not be.
@@ -12,17 +12,16 @@ pub data Entry : Type 0 where
   Posted : (to : Station) (octets : List ℕ) → Entry
   Unposted : (to : Station) (octets : List ℕ) → Entry
 
--- What a link that told this before tells, once all of this was asked and answered.
-abbrev pub told_after : List Entry → Told → Told
-told_after [] t = t
-told_after (Waited wait heard ∷ later) t = told_after later (after_wait wait t)
-told_after (Timed time ∷ later) t = told_after later t
-told_after (Posted to octets ∷ later) t =
-    told_after later (having_sent (record { time = t.time []; to = to; octets = octets } ∷ []) t)
-told_after (Unposted to octets ∷ later) t = told_after later t
+-- What a link that foretold this foretells once all of this was asked and answered.
+abbrev pub foretold_after : List Entry → Foretold → Foretold
+foretold_after [] t = t
+foretold_after (Waited wait heard ∷ later) t = foretold_after later (after_wait wait t)
+foretold_after (Posted to octets ∷ later) t =
+    foretold_after later (having_sent (record { time = t.time []; to = to; octets = octets } ∷ []) t)
+foretold_after (_ ∷ later) t = foretold_after later t
 
--- What was asked was answered as the link told.
-abbrev pub Foretells : List Entry → Told → Type 0
+-- What was asked was answered as was foretold.
+abbrev pub Foretells : List Entry → Foretold → Type 0
 Foretells [] t = ⊤
 Foretells (Waited wait heard ∷ later) t = (t.heard [] wait ≡ heard) × Foretells later (after_wait wait t)
 Foretells (Timed time ∷ later) t = (time ≡ t.time []) × Foretells later t
@@ -30,10 +29,9 @@ Foretells (Posted to octets ∷ later) t =
     Foretells later (having_sent (record { time = t.time []; to = to; octets = octets } ∷ []) t)
 Foretells (Unposted to octets ∷ later) t = Foretells later t
 
--- What contracts see of a link: what it tells of what comes, where it knows this, and all that it was asked and
--- answered.
+-- What contracts see of a link: what it foretells, where it knows this, and all that it was asked and answered.
 pub record Account : Type 0 where
-  pub foretold : Option Told
+  pub foretold : Option Foretold
   pub history : List Entry
 
 -- A link that knows nothing of what comes.
@@ -42,10 +40,9 @@ remembering entries = record { foretold = None; history = entries }
 
 -- The account of a link after these entries too.
 abbrev pub gaining : List Entry → Account → Account
-gaining gained account =
-    record { foretold = option_map (told_after gained) account.foretold; history = account.history ++ gained }
+gaining more a = record { foretold = option_map (foretold_after more) a.foretold; history = a.history ++ more }
 
--- The account of a link gains these entries, and they are what it told.
+-- The account of a link gains these entries, and they are what it foretold, where it did.
 abbrev pub GainsAll : List Entry → Account → Account → Type 0
 GainsAll gained before after = (after ≡ gaining gained before) × ForSome before.foretold (Foretells gained)
 
@@ -58,10 +55,10 @@ posted (Ok x) = Posted
 posted (Err e) = Unposted
 
 -- What holds of a link before and after some calls, whatever it knew. Its history gained some entries. There is a t
--- that tells them, and this holds of the entries and each t that does: what the link told, where it told what comes, is
+-- that foretells them, and this holds of the entries and each t that does: what the link foretold, where it did, is
 -- such a t.
-pub record Over (before after : Account) (P : List Entry → Told → Type 0) : Type 0 where
+pub record Over (before after : Account) (P : List Entry → Foretold → Type 0) : Type 0 where
   pub gained : List Entry
   pub gains : GainsAll gained before after
-  pub some : (t : Told) × Foretells gained t
-  pub holds : (t : Told) → Foretells gained t → P gained t
+  pub some : (t : Foretold) × Foretells gained t
+  pub holds : (t : Foretold) → Foretells gained t → P gained t

@@ -1,5 +1,5 @@
 pub mod Limits
-pub mod Told
+pub mod Foretold
 pub mod History
 pub mod Answered
 pub mod Memory

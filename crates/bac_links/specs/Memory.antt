@@ -1,9 +1,9 @@
--- What a link in memory tells.
+-- What a link in memory foretells.
 use Rattle.std.specs.Prelude.{ℕ, ◌+◌, ◌-◌, ◌^◌, min, List, [], ◌∷◌, map, length, nat_le, if◌then◌else◌, Option, Some}
 use Rattle.std.specs.Prelude.{None}
 use Rattle.bac_pdu.specs.Peer.{Station, station}
 use Rattle.bac_links.specs.Limits.{longest_datagram}
-use Rattle.bac_links.specs.Told.{Told, Heard, Silence, Arrival, Failure, Sending}
+use Rattle.bac_links.specs.Foretold.{Foretold, Heard, Silence, Arrival, Failure, Sending}
 use Rattle.bac_links.specs.History.{Account}
 use Rattle.bac_links.specs.declared.memory.Step.{Step}
 use Rattle.bac_links.specs.declared.memory.Step.TheVariants.{Quiet, Packet, Broken}
@@ -30,7 +30,7 @@ scene_of_kept kept.Broken = Breaks
 
 -- The address and the port of a station.
 abbrev pub unrouted : Station → Station
-unrouted peer = record { ip = peer.ip; port = peer.port; route = None }
+unrouted peer = record peer { route = None }
 
 -- A datagram comes from an address and a port, and is not heard where no receive can hold it.
 abbrev pub heard_at : Scene → Heard
@@ -57,23 +57,20 @@ time_after scenes now [] = now
 time_after [] now (wait ∷ waits) = time_after [] (min (now + wait) (2 ^ 64 - 1)) waits
 time_after (scene ∷ scenes) now (wait ∷ waits) = time_after scenes (time_at scene now) waits
 
-abbrev pub told_by : List Scene → ℕ → List Sending → Told
-told_by scenes now sent = record {
-  heard = λ waits wait. heard_after scenes waits;
-  time = time_after scenes now;
-  sent = sent;
-}
+abbrev pub foretold_by : List Scene → ℕ → List Sending → Foretold
+foretold_by scenes now sent =
+    record { heard = λ waits wait. heard_after scenes waits; time = time_after scenes now; sent = sent }
 
 abbrev pub sending_of : {A : Type 0} → Record A → Sending
 sending_of r = record { time = r.time; to = station r.to; octets = r.octets.items }
 
--- What a link in memory tells, as it stands.
-abbrev pub told_of : {A : Type 0} → MemoryLink A → Told
-told_of link = told_by (map scene_of_kept link.steps.items) link.time (map sending_of link.sent.items)
+-- What a link in memory foretells, as it stands.
+abbrev pub foretold_of : {A : Type 0} → MemoryLink A → Foretold
+foretold_of link = foretold_by (map scene_of_kept link.steps.items) link.time (map sending_of link.sent.items)
 
--- What a link in memory tells, and all that it was asked and answered.
+-- What a link in memory foretells, and all that it was asked and answered.
 abbrev pub account_of : {A : Type 0} → MemoryLink A → Account
-account_of link = record { foretold = Some (told_of link); history = link.history.entries }
+account_of link = record { foretold = Some (foretold_of link); history = link.history.entries }
 
 -- The number of the send that fails, if one is to.
 abbrev pub fails_at : {A : Type 0} → MemoryLink A → Option ℕ

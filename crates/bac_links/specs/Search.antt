@@ -1,14 +1,14 @@
--- A search for devices over what its link tells: what it sends, which devices it finds, what it prints, and when it
--- ends.
-use Rattle.std.specs.Prelude.{◌≡◌, ℕ, zero, suc, ◌-◌, ◌<◌, nat_le, max, ◌==◌, Bool, true, false, List, [], ◌∷◌, ◌++◌}
-use Rattle.std.specs.Prelude.{decimal, if◌then◌else◌, Option, Some, None, Result, Ok, Err}
+-- A search for devices over what its link foretells: what it sends, which devices it finds, what it prints, and when
+-- it ends.
+use Rattle.std.specs.Prelude.{◌≡◌, ℕ, zero, suc, ◌-◌, ◌<◌, nat_le, nat_lt, max, ◌==◌, Bool, false, List, [], ◌∷◌, ◌++◌}
+use Rattle.std.specs.Prelude.{length, decimal, if◌then◌else◌, Option, Some, None, Result, Err, IfOk}
 use Rattle.std.specs.Option.{option_to_list, option_and_then}
 use Rattle.std.specs.List.{flat_map}
 use Rattle.bac_text.specs.declared.checked.Checked.{Checked}
 use Rattle.bac_text.specs.Checked.{Took}
 use Rattle.bac_pdu.specs.declared.discovery.WhoIs.{WhoIs}
 use Rattle.bac_pdu.specs.Peer.{Station, station}
-use Rattle.bac_pdu.specs.Apdu.{Message, laid_out, confirmed, unconfirmed}
+use Rattle.bac_pdu.specs.Apdu.{Message, laid_out, unconfirmed}
 use Rattle.bac_pdu.specs.ApduReading.{apdu_of}
 use Rattle.bac_pdu.specs.Datagram.{Delivery, wrapped}
 use Rattle.bac_pdu.specs.DatagramReading.{carried}
@@ -16,13 +16,13 @@ use Rattle.bac_pdu.specs.Discovery.{Introduction, asks, who_is_octets}
 use Rattle.bac_pdu.specs.ValueReading.{introduction_of}
 use Rattle.bac_text.specs.PeerTexts.{peer_text}
 use Rattle.bac_links.specs.Limits.{most_turns, turn_wait}
-use Rattle.bac_links.specs.Told.{Told, Heard, Silence, Arrival, Failure, waited}
-use Rattle.bac_links.specs.History.{Entry, Waited, Timed, Posted, Unposted, Account, Over}
-use Rattle.bac_links.specs.Courses.{GoesOn, EndsAfter, FailsAfter}
+use Rattle.bac_links.specs.Foretold.{Foretold, Heard, Arrival, waited}
+use Rattle.bac_links.specs.History.{Entry, Posted, Unposted, Account, Over}
+use Rattle.bac_links.specs.Courses.{heard_in, wait_in, time_in, GoesOn, Stops}
 use Rattle.bac_links.specs.declared.ending.Exit.{Exit}
 use Rattle.bac_links.specs.declared.ending.Exit.TheVariants.{Good, Bad}
 use Rattle.bac_links.specs.declared.fault.ToolFault.{ToolFault}
-use Rattle.bac_links.specs.declared.fault.ToolFault.TheVariants.{SendFailed, ReceiveFailed, TurnsSpent, WriteFailed}
+use Rattle.bac_links.specs.declared.fault.ToolFault.TheVariants.{SendFailed, WriteFailed}
 use Rattle.bac_text.specs.declared.jobs.Search.{Search}
 
 -- A device that introduced itself, and where it is.
@@ -36,7 +36,6 @@ who_is_datagram to who = wrapped to.route false (laid_out (unconfirmed 8 (who_is
 
 -- What an I-Am (0) says.
 abbrev pub introduced_in : Message → Option Introduction
-introduced_in (confirmed part code id service body) = None
 introduced_in (unconfirmed service body) = if service == 0 then introduction_of body else None
 introduced_in _ = None
 
@@ -57,9 +56,8 @@ found_of who from octets = option_and_then (found_in who) (carried from octets)
 
 -- The device that a wait finds, if it finds one.
 abbrev pub found_by : WhoIs → Heard → List Found
-found_by who Silence = []
 found_by who (Arrival from octets) = option_to_list (found_of who from octets)
-found_by who Failure = []
+found_by who _ = []
 
 -- The line that is printed of a device.
 abbrev pub found_line : Found → List ℕ
@@ -73,105 +71,73 @@ found_line found =
 abbrev pub found_lines : List Found → List ℕ
 found_lines = flat_map found_line
 
-abbrev pub has_found : List Found → Bool
-has_found [] = false
-has_found (found ∷ later) = true
-
 -- The exit of a search: good where a device was found.
 abbrev pub search_exit : List Found → Exit
-search_exit found = if has_found found then Good else Bad
+search_exit found = if nat_lt 0 (length found) then Good else Bad
 
 abbrev pub search_wait : Search → ℕ
 search_wait search = turn_wait search.timeout
-
--- What turn n hears.
-abbrev pub search_hears : Search → Told → ℕ → Heard
-search_hears search t n = (waited (search_wait search) n t).heard [] (search_wait search)
-
--- The devices that the first n turns find, in their order.
-abbrev pub found_after : Search → Told → ℕ → List Found
-found_after search t zero = []
-found_after search t (suc n) = found_after search t n ++ found_by search.who (search_hears search t n)
-
--- The greatest time at the beginning and after each of the first n turns.
-abbrev pub greatest_time : Search → Told → ℕ → ℕ
-greatest_time search t zero = t.time []
-greatest_time search t (suc n) = max (greatest_time search t n) ((waited (search_wait search) (suc n) t).time [])
-
--- How much time has gone by after n turns.
-abbrev pub passed : Search → Told → ℕ → ℕ
-passed search t n = greatest_time search t n - t.time []
 
 -- The Who-Is, which is sent once.
 abbrev pub who_is_to : Search → List ℕ
 who_is_to search = who_is_datagram (station search.to) search.who
 
--- The wait of turn n, and the time after n turns.
-abbrev pub search_waits : Search → Told → ℕ → Entry
-search_waits search t n = Waited (search_wait search) (search_hears search t n)
+module _ (search : Search) (t : Foretold) where
+  -- The devices that the first n turns find, in their order.
+  abbrev pub found_after : ℕ → List Found
+  found_after zero = []
+  found_after (suc n) = found_after n ++ found_by search.who (heard_in (search_wait search) t n)
 
-abbrev pub search_time : Search → Told → ℕ → Entry
-search_time search t n = Timed ((waited (search_wait search) n t).time [])
+  -- The greatest time at the beginning and after each of the first n turns.
+  abbrev pub greatest_time : ℕ → ℕ
+  greatest_time zero = t.time []
+  greatest_time (suc n) = max (greatest_time n) ((waited (search_wait search) (suc n) t).time [])
 
--- What is asked and answered in n turns: the time first, and then the Who-Is is sent; in each turn a wait, and the
--- time.
-abbrev pub search_entries : Search → Told → ℕ → List Entry
-search_entries search t zero = search_time search t zero ∷ Posted (station search.to) (who_is_to search) ∷ []
-search_entries search t (suc n) =
-    search_entries search t n ++ search_waits search t n ∷ search_time search t (suc n) ∷ []
+  -- How much time has gone by after n turns.
+  abbrev pub passed : ℕ → ℕ
+  passed n = greatest_time n - t.time []
 
--- The time is up after n turns.
-abbrev pub is_late : Search → Told → ℕ → Bool
-is_late search t n = nat_le search.timeout (passed search t n)
+  -- The time is up after n turns.
+  abbrev pub is_late : ℕ → Bool
+  is_late n = nat_le search.timeout (passed n)
 
--- The time is up after n turns, which is the end.
-pub record SearchEnds (search : Search) (t : Told) (gained : List Entry) (found : List Found) (n : ℕ) : Type 0 where
-  pub stops : EndsAfter (search_hears search t) (is_late search t) n
-  pub finds : found ≡ found_after search t n
-  pub history : gained ≡ search_entries search t n
+  -- What is asked and answered in n turns: the time first, and then the Who-Is is sent; in each turn a wait, and the
+  -- time.
+  abbrev pub search_entries : ℕ → List Entry
+  search_entries zero = time_in (search_wait search) t zero ∷ Posted (station search.to) (who_is_to search) ∷ []
+  search_entries (suc n) =
+      search_entries n ++ wait_in (search_wait search) t n ∷ time_in (search_wait search) t (suc n) ∷ []
 
--- The Who-Is could not be sent.
-abbrev pub SearchUnsent : Search → Told → List Entry → Type 0
-SearchUnsent search t gained = gained ≡ search_time search t zero ∷ Unposted (station search.to) (who_is_to search) ∷ []
+  -- The search stops with this result after n turns, which found these devices.
+  abbrev pub SearchEnds : Result Exit ToolFault → List Entry → List Found → Type 0
+  SearchEnds result gained found =
+      (n : ℕ) × (found ≡ found_after n) × Stops (search_wait search) t is_late search_entries gained n result
 
--- The receive of turn n failed.
-pub record SearchFails (search : Search) (t : Told) (gained : List Entry) (found : List Found) (n : ℕ) : Type 0 where
-  pub stops : FailsAfter (search_hears search t) (is_late search t) n
-  pub finds : found ≡ found_after search t n
-  pub history : gained ≡ search_entries search t n ++ search_waits search t n ∷ []
+  -- The Who-Is could not be sent.
+  abbrev pub SearchUnsent : List Entry → Type 0
+  SearchUnsent gained =
+      gained ≡ time_in (search_wait search) t zero ∷ Unposted (station search.to) (who_is_to search) ∷ []
 
--- All turns went by, and there is still time.
-pub record SearchSpent (search : Search) (t : Told) (gained : List Entry) (found : List Found) (n : ℕ) : Type 0 where
-  pub all : n ≡ most_turns
-  pub before : GoesOn (search_hears search t) (is_late search t) n
-  pub finds : found ≡ found_after search t n
-  pub history : gained ≡ search_entries search t n
+  -- The line of the last of these devices, which turn n found, could not be written whole.
+  pub record SearchStops (gained : List Entry) (found : List Found) (last : Found) (n : ℕ) : Type 0 where
+    pub within : n < most_turns
+    pub before : GoesOn (search_wait search) t is_late n
+    pub finds : found ≡ found_after n
+    pub heard : found_by search.who (heard_in (search_wait search) t n) ≡ last ∷ []
+    pub history : gained ≡ search_entries n ++ wait_in (search_wait search) t n ∷ []
 
--- The line of the last of these devices, which turn n found, could not be written whole.
-pub record SearchStops (search : Search) (t : Told) (gained : List Entry) (found : List Found) (last : Found)
-    (n : ℕ) : Type 0 where
-  pub within : n < most_turns
-  pub before : GoesOn (search_hears search t) (is_late search t) n
-  pub finds : found ≡ found_after search t n
-  pub heard : found_by search.who (search_hears search t n) ≡ last ∷ []
-  pub history : gained ≡ search_entries search t n ++ search_waits search t n ∷ []
-
--- What a search prints, answers, and asks of its link: the lines of the devices that were found, each whole before the
--- next wait; of the last one a front, where the writer failed.
-abbrev pub Searched : {W : Type 0} → Search → (W → Option (List ℕ)) → Checked W → Checked W → Account → Account
-    → Result Exit ToolFault → Type 0
-Searched search contents before after told left (Ok exit) =
-    (found : List Found) × (exit ≡ search_exit found) × Took contents before after (found_lines found)
-    × Over told left (λ gained t. (n : ℕ) × SearchEnds search t gained found n)
-Searched search contents before after told left (Err SendFailed) =
-    Took contents before after [] × Over told left (λ gained t. SearchUnsent search t gained)
-Searched search contents before after told left (Err ReceiveFailed) =
-    (found : List Found) × Took contents before after (found_lines found)
-    × Over told left (λ gained t. (n : ℕ) × SearchFails search t gained found n)
-Searched search contents before after told left (Err TurnsSpent) =
-    (found : List Found) × Took contents before after (found_lines found)
-    × Over told left (λ gained t. (n : ℕ) × SearchSpent search t gained found n)
-Searched search contents before after told left (Err WriteFailed) =
-    (found : List Found) × (last : Found) × (taken rest : List ℕ) × (found_line last ≡ taken ++ rest)
-    × Took contents before after (found_lines found ++ taken)
-    × Over told left (λ gained t. (n : ℕ) × SearchStops search t gained found last n)
+module _ {W : Type 0} (search : Search) (contents : W → Option (List ℕ)) (before after : Checked W)
+    (seen left : Account) where
+  -- What a search prints, answers, and asks of its link: the lines of the devices that were found, each whole before
+  -- the next wait; of the last one a front, where the writer failed.
+  abbrev pub Searched : Result Exit ToolFault → Type 0
+  Searched (Err SendFailed) =
+      Took contents before after [] × Over seen left (λ gained t. SearchUnsent search t gained)
+  Searched (Err WriteFailed) =
+      (found : List Found) × (last : Found) × (taken rest : List ℕ) × (found_line last ≡ taken ++ rest)
+      × Took contents before after (found_lines found ++ taken)
+      × Over seen left (λ gained t. (n : ℕ) × SearchStops search t gained found last n)
+  Searched result =
+      (found : List Found) × IfOk result (λ exit. exit ≡ search_exit found)
+      × Took contents before after (found_lines found)
+      × Over seen left (λ gained t. SearchEnds search t result gained found)

@@ -6,11 +6,11 @@ ghost use Rattle.bac_tsm.specs.Machine.{step, sent};
 ghost use Rattle.bac_tsm.specs.Client.{rules_of, keeping, outcome_seen};
 ghost use Rattle.bac_text.specs.Checked.{has_failed};
 ghost use Rattle.bac_links.specs.Limits.{most_turns, turn_wait};
-ghost use Rattle.bac_links.specs.Told.{Heard, Failure};
+ghost use Rattle.bac_links.specs.Foretold.{Heard, Failure};
 ghost use Rattle.bac_links.specs.History.{Waited, Timed, Account, Gains, GainsAll, Over};
 ghost use Rattle.bac_links.specs.Fault.{is_link_fault, is_write_fault};
 ghost use Rattle.bac_links.specs.Inner.Ending.{ending_seen};
-ghost use Rattle.bac_links.specs.Call.{posts, wait_of, EndsIn, FailsToSend, Tells, ReadTells, WriteTells};
+ghost use Rattle.bac_links.specs.Call.{posts, wait_of, EndsIn, FailsToSend, Tells};
 ghost use Rattle.bac_links.specs.Inner.CallSteps.{endings, GainsLost, heard_step, IsAlone, timeouts, answers, Underway};
 ghost use Rattle.bac_links.specs.Inner.CallSteps.{TurnFails};
 ghost use Rattle.bac_links.specs.declared.ending.Purpose.{Purpose};
@@ -45,9 +45,9 @@ pub(crate) fn turn_wait(timeout: u32) -> u32
 fn send_request<L: Link>(client: &Client, ticket: u64, link: &mut L) -> Result<(), ToolFault>
     requires { L.has_failed link.old ≡ false }
     ensures fault { L.has_failed link.new ≡ is_link_fault result }
-    ensures ok { OnOk result (GainsAll (posts (sent client.now.state ticket)) (L.told link.old) (L.told link.new)) }
+    ensures ok { OnOk result (GainsAll (posts (sent client.now.state ticket)) (L.seen link.old) (L.seen link.new)) }
     ensures err { IfErr result (λ fault. (fault ≡ ToolFault.SendFailed)
-        × GainsLost (sent client.now.state ticket) [] (L.told link.old) (L.told link.new)) }
+        × GainsLost (sent client.now.state ticket) [] (L.seen link.old) (L.seen link.new)) }
 {
     if let Some((to, octets)) = client.to_send(ticket) {
         if link.send(to, octets).is_err() {
@@ -67,14 +67,14 @@ fn hear<'d, L: Link>(
     requires { L.has_failed link.old ≡ false }
     ensures fault { L.has_failed link.new ≡ is_link_fault result }
     ensures ok { IfOk result
-        (λ outcome. (heard : Heard) × Gains (Waited wait_ms heard) (L.told link.old) (L.told link.new)
+        (λ outcome. (heard : Heard) × Gains (Waited wait_ms heard) (L.seen link.old) (L.seen link.new)
         × (heard ≢ Failure)
         × (let handed = heard_step (rules_of client.old) client.old.state heard in
         (endings handed.notes ≡ answers (option_map outcome_seen outcome))
         × (client.new ≡ keeping client.old handed.after))) }
     ensures err { IfErr result
         (λ fault. (fault ≡ ToolFault.ReceiveFailed)
-        × Gains (Waited wait_ms Failure) (L.told link.old) (L.told link.new)) }
+        × Gains (Waited wait_ms Failure) (L.seen link.old) (L.seen link.new)) }
 {
     match link.receive(wait_ms, datagram) {
         Ok(Some(from)) => match client.datagram(from, datagram.as_slice()) {
@@ -93,10 +93,10 @@ fn pass_time<L: Link>(client: &mut Client, link: &mut L) -> Result<bool, ToolFau
     ensures ok { IfOk result (λ over. (time : ℕ) × (IsAlone client.old.state →
         (let ticked = step (rules_of client.old) client.old.state (Tick time) in
         (endings ticked.notes ≡ timeouts over) × (client.new ≡ keeping client.old ticked.after)
-        × GainsAll (Timed time ∷ posts ticked.notes) (L.told link.old) (L.told link.new)))) }
+        × GainsAll (Timed time ∷ posts ticked.notes) (L.seen link.old) (L.seen link.new)))) }
     ensures err { IfErr result (λ fault. (fault ≡ ToolFault.SendFailed) × ((time : ℕ) × (IsAlone client.old.state →
         (let ticked = step (rules_of client.old) client.old.state (Tick time) in
-        (endings ticked.notes ≡ []) × GainsLost ticked.notes (Timed time ∷ []) (L.told link.old) (L.told link.new))))) }
+        (endings ticked.notes ≡ []) × GainsLost ticked.notes (Timed time ∷ []) (L.seen link.old) (L.seen link.new))))) }
 {
     let due = client.tick(link.now());
     match due.as_slice().first() {
@@ -119,15 +119,15 @@ fn turn<'d, L: Link>(
     requires { L.has_failed link.old ≡ false }
     ensures fault { L.has_failed link.new ≡ is_link_fault result }
     ensures ok { IfOk result
-        (λ ending. (purpose : Purpose) (call : Asked) (told : Account) (n : ℕ) → wait_ms ≡ wait_of call →
-        Over told (L.told link.old) (λ gained t. Underway purpose call t gained client.old n) →
-        MatchOption ending (Over told (L.told link.new) (λ gained t. Underway purpose call t gained client.new (suc n)))
+        (λ ending. (purpose : Purpose) (call : Asked) (seen : Account) (n : ℕ) → wait_ms ≡ wait_of call →
+        Over seen (L.seen link.old) (λ gained t. Underway purpose call t gained client.old n) →
+        MatchOption ending (Over seen (L.seen link.new) (λ gained t. Underway purpose call t gained client.new (suc n)))
         (λ end. n < most_turns
-        → Over told (L.told link.new) (λ gained t. EndsIn purpose call t gained (ending_seen end) n))) }
+        → Over seen (L.seen link.new) (λ gained t. EndsIn purpose call t gained (ending_seen end) n))) }
     ensures err { IfErr result (λ fault. (fault ≢ ToolFault.WriteFailed)
-        × ((purpose : Purpose) (call : Asked) (told : Account) (n : ℕ) → wait_ms ≡ wait_of call →
-        Over told (L.told link.old) (λ gained t. Underway purpose call t gained client.old n) → n < most_turns →
-        Over told (L.told link.new) (λ gained t. TurnFails purpose call t gained fault))) }
+        × ((purpose : Purpose) (call : Asked) (seen : Account) (n : ℕ) → wait_ms ≡ wait_of call →
+        Over seen (L.seen link.old) (λ gained t. Underway purpose call t gained client.old n) → n < most_turns →
+        Over seen (L.seen link.new) (λ gained t. TurnFails purpose call t gained fault))) }
 {
     match hear(client, link, wait_ms, datagram) {
         Ok(Some(outcome)) => Ok(Some(Ending::Answered(outcome))),
@@ -146,9 +146,9 @@ fn begin<L: Link>(purpose: Purpose, call: &Call, link: &mut L) -> Result<Client,
     requires timeout { 0 < call.now.timeout }
     ensures fault { L.has_failed link.new ≡ is_link_fault result }
     ensures ok { IfOk result
-        (λ client. Over (L.told link.old) (L.told link.new) (λ gained t. Underway purpose call.now t gained client 0)) }
+        (λ client. Over (L.seen link.old) (L.seen link.new) (λ gained t. Underway purpose call.now t gained client 0)) }
     ensures err { IfErr result (λ fault. (fault ≡ ToolFault.SendFailed)
-        × Over (L.told link.old) (L.told link.new) (λ gained t. FailsToSend purpose call.now t gained 0)) }
+        × Over (L.seen link.old) (L.seen link.new) (λ gained t. FailsToSend purpose call.now t gained 0)) }
 {
     let config = Config {
         timeout: call.timeout,
@@ -175,7 +175,7 @@ fn run<L: Link, W: Write>(
     requires timeout { 0 < call.now.timeout }
     ensures link_fault { L.has_failed link.new ≡ is_link_fault result }
     ensures write_fault { has_failed writer.new ≡ is_write_fault result }
-    ensures told { Tells purpose call.now W.contents writer.old writer.new (L.told link.old) (L.told link.new) result }
+    ensures told { Tells purpose call.now W.contents writer.old writer.new (L.seen link.old) (L.seen link.new) result }
     ensures unprinted { IfErr result (λ fault. fault ≢ ToolFault.WriteFailed → writer.new ≡ writer.old) }
 {
     let mut client = begin(purpose, call, link)?;
@@ -208,7 +208,8 @@ pub fn run_read<L: Link, W: Write>(
     requires timeout { 0 < call.now.timeout }
     ensures link_fault { L.has_failed link.new ≡ is_link_fault result }
     ensures write_fault { has_failed writer.new ≡ is_write_fault result }
-    ensures told { ReadTells call.now W.contents writer.old writer.new (L.told link.old) (L.told link.new) result }
+    ensures told { Tells Purpose.Reading call.now W.contents writer.old writer.new (L.seen link.old) (L.seen link.new)
+        result }
     ensures unprinted { IfErr result (λ fault. fault ≢ ToolFault.WriteFailed → writer.new ≡ writer.old) }
 {
     run(Purpose::Reading, call, link, writer)
@@ -230,7 +231,8 @@ pub fn run_write<L: Link, W: Write>(
     requires timeout { 0 < call.now.timeout }
     ensures link_fault { L.has_failed link.new ≡ is_link_fault result }
     ensures write_fault { has_failed writer.new ≡ is_write_fault result }
-    ensures told { WriteTells call.now W.contents writer.old writer.new (L.told link.old) (L.told link.new) result }
+    ensures told { Tells Purpose.Writing call.now W.contents writer.old writer.new (L.seen link.old) (L.seen link.new)
+        result }
     ensures unprinted { IfErr result (λ fault. fault ≢ ToolFault.WriteFailed → writer.new ≡ writer.old) }
 {
     run(Purpose::Writing, call, link, writer)

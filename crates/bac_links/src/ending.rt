@@ -25,8 +25,10 @@ pub enum Exit {
 
 /// What a call is for.
 #[derive(Clone, Copy)]
-pub(crate) enum Purpose {
+pub enum Purpose {
+    /// To read a property.
     Reading,
+    /// To write one.
     Writing,
 }
 

@@ -9,7 +9,7 @@ ghost use Rattle.bac_text.specs.declared.checked.Checked.{Checked};
 ghost use Rattle.bac_text.specs.Checked.{Took};
 ghost use Rattle.bac_text.specs.declared.jobs.Call.{Call};
 ghost use Rattle.bac_text.specs.declared.jobs.Search.{Search};
-ghost use Rattle.bac_links.specs.History.{Entry, told_after, Account, Over};
+ghost use Rattle.bac_links.specs.History.{Entry, foretold_after, Account, Over};
 ghost use Rattle.bac_links.specs.Answered.{answers_of};
 ghost use Rattle.bac_links.specs.Call.{Tells};
 ghost use Rattle.bac_links.specs.Progress.{IsPrompt};
@@ -27,27 +27,27 @@ use std::io::Write;
 
 /// However a server ends, and whatever its link is, the device has its info and its points as before.
 pub fn a_server_keeps_its_points()
-    ensures { (count : ℕ) (before after : DeviceState) (told left : Account) (result : Result ℕ Fault)
+    ensures { (count : ℕ) (before after : DeviceState) (seen left : Account) (result : Result ℕ Fault)
         (writes : List Change)
-        → Serves count before after told left result → Holds before writes
+        → Serves count before after seen left result → Holds before writes
         → (after.info ≡ before.info) × (points_of after ≡ points_of before) }
 {}
 
 /// No call waits for ever: where none of its turns took longer than so long, by the times that the link gave, it ends
 /// within the timeout and so long, for each time that the request is sent, of its first time (clause 5.4.4).
 pub fn a_call_ends_in_time<W: Write>()
-    ensures { (purpose : Purpose) (call : Call) (before after : Checked W) (told left : Account)
+    ensures { (purpose : Purpose) (call : Call) (before after : Checked W) (seen left : Account)
         (result : Result Ended Fault) (longest : ℕ)
-        → Tells purpose call W.contents before after told left result
-        → Over told left
+        → Tells purpose call W.contents before after seen left result
+        → Over seen left
         (λ gained t. IsPrompt longest gained t
-        → (told_after gained t).time [] ≤ t.time [] + suc call.retries * (call.timeout + longest)) }
+        → (foretold_after gained t).time [] ≤ t.time [] + suc call.retries * (call.timeout + longest)) }
 {}
 
 /// No call ends with an exit over a link, a socket or another, whose history gained nothing.
 pub fn no_call_ends_unheard<W: Write>()
-    ensures { (purpose : Purpose) (call : Call) (before after : Checked W) (told : Account) (exit : Ended)
-        → Tells purpose call W.contents before after told told (Ok exit) → ⊥ }
+    ensures { (purpose : Purpose) (call : Call) (before after : Checked W) (seen : Account) (exit : Ended)
+        → Tells purpose call W.contents before after seen seen (Ok exit) → ⊥ }
 {}
 
 /// A call is a function of what it is for and of what its link answers. Two calls for the same, over any two links and
@@ -55,11 +55,11 @@ pub fn no_call_ends_unheard<W: Write>()
 /// printed the same.
 pub fn a_call_is_a_function<V: Write, W: Write>()
     ensures { (purpose : Purpose) (call : Call) (before after : Checked V) (other_before other_after : Checked W)
-        (told left other_told other_left : Account) (result other : Result Ended Fault)
+        (seen left other_seen other_left : Account) (result other : Result Ended Fault)
         (gained other_gained : List Entry)
-        → Tells purpose call V.contents before after told left result
-        → Tells purpose call W.contents other_before other_after other_told other_left other
-        → left.history ≡ told.history ++ gained → other_left.history ≡ other_told.history ++ other_gained
+        → Tells purpose call V.contents before after seen left result
+        → Tells purpose call W.contents other_before other_after other_seen other_left other
+        → left.history ≡ seen.history ++ gained → other_left.history ≡ other_seen.history ++ other_gained
         → answers_of gained ≡ answers_of other_gained
         → (gained ≡ other_gained) × (result ≢ Err Fault.WriteFailed → other ≢ Err Fault.WriteFailed → (result ≡ other)
         × IfOk result (λ _. (text : List ℕ) × Took V.contents before after text
@@ -69,11 +69,11 @@ pub fn a_call_is_a_function<V: Write, W: Write>()
 /// A search is a function of what it is for and of what its link answers, in the same sense as a call.
 pub fn a_search_is_a_function<V: Write, W: Write>()
     ensures { (search : Search) (before after : Checked V) (other_before other_after : Checked W)
-        (told left other_told other_left : Account) (result other : Result Ended Fault)
+        (seen left other_seen other_left : Account) (result other : Result Ended Fault)
         (gained other_gained : List Entry)
-        → Searched search V.contents before after told left result
-        → Searched search W.contents other_before other_after other_told other_left other
-        → left.history ≡ told.history ++ gained → other_left.history ≡ other_told.history ++ other_gained
+        → Searched search V.contents before after seen left result
+        → Searched search W.contents other_before other_after other_seen other_left other
+        → left.history ≡ seen.history ++ gained → other_left.history ≡ other_seen.history ++ other_gained
         → answers_of gained ≡ answers_of other_gained
         → (gained ≡ other_gained) × (result ≡ other)
         × (result ≢ Err Fault.WriteFailed → (text : List ℕ) × Took V.contents before after text
@@ -84,11 +84,11 @@ pub fn a_search_is_a_function<V: Write, W: Write>()
 /// answers. Two servers of as many, over any two links and over devices in the same state, that were answered alike,
 /// asked and sent alike and ended alike; and afterwards the devices are in the same state.
 pub fn a_server_is_a_function()
-    ensures { (count : ℕ) (before after other_after : DeviceState) (told left other_told other_left : Account)
+    ensures { (count : ℕ) (before after other_after : DeviceState) (seen left other_seen other_left : Account)
         (result other : Result ℕ Fault) (writes : List Change) (gained other_gained : List Entry)
-        → Serves count before after told left result → Serves count before other_after other_told other_left other
+        → Serves count before after seen left result → Serves count before other_after other_seen other_left other
         → Holds before writes
-        → left.history ≡ told.history ++ gained → other_left.history ≡ other_told.history ++ other_gained
+        → left.history ≡ seen.history ++ gained → other_left.history ≡ other_seen.history ++ other_gained
         → answers_of gained ≡ answers_of other_gained
         → (gained ≡ other_gained) × (result ≡ other) × (after ≡ other_after) }
 {}

@@ -1,10 +1,10 @@
-//! The tools over a link: what they send, print and answer is a function of what the link tells.
+//! The tools over a link: what they send, print and answer is a function of what the link answers.
 //!
 //! A [`Link`] sends and receives datagrams and knows the time: [`UdpLink`] over a socket, [`MemoryLink`] in memory.
 //! [`run_read`] and [`run_write`] make one request and print how it ended, [`run_whois`] prints the devices that it
 //! finds, and [`serve`] answers for a device. [`status`] is the program's status after that. `specs/Call.antt`,
-//! `specs/Search.antt` and `specs/Serve.antt` say what each of them asks of its link; `specs/Told.antt` says what a
-//! link tells.
+//! `specs/Search.antt` and `specs/Serve.antt` say what each of them asks of its link; `specs/Foretold.antt` says what a
+//! link foretells.
 //!
 //! Whole runs over links in memory, with what they send and print, are tests of `tool_trials` (`src/tests/links`).
 #![tactic(auto)]
@@ -23,7 +23,7 @@ mod udp;
 
 pub use call::{run_read, run_write};
 pub use datagram::{DATAGRAM_OCTETS, Datagram};
-pub use ending::{Exit, status};
+pub use ending::{Exit, Purpose, status};
 pub use fault::ToolFault;
 pub use link::{Link, LinkFault};
 pub use memory::{MemoryLink, Step};

@@ -1,7 +1,7 @@
 //! What the tools send and receive datagrams through.
 ghost use Rattle.std.specs.Prelude.{◌≡◌, Bool, false, is_err, None, IfOk, IfSome, MatchResult};
 ghost use Rattle.bac_pdu.specs.Peer.{station};
-ghost use Rattle.bac_links.specs.Told.{heard_by};
+ghost use Rattle.bac_links.specs.Foretold.{heard_by};
 ghost use Rattle.bac_links.specs.History.{Account, Waited, Timed, Gains, posted};
 
 use crate::datagram::Datagram;
@@ -17,7 +17,7 @@ pub struct LinkFault;
 pub trait Link {
     // What the link was asked and answered so far; and what it will hear, what its time will be, and what it sent,
     // where it knows this.
-    ghost told: { Self → Account };
+    ghost seen: { Self → Account };
 
     // A send or a receive has failed.
     ghost has_failed: { Self → Bool };
@@ -26,7 +26,7 @@ pub trait Link {
     fn send(&mut self, to: Peer, octets: &[u8]) -> Result<(), LinkFault>
         requires { has_failed self.old ≡ false }
         ensures fault { has_failed self.new ≡ is_err result }
-        ensures told { Gains (posted result (station to) octets.now) (told self.old) (told self.new) };
+        ensures told { Gains (posted result (station to) octets.now) (seen self.old) (seen self.new) };
 
     /// Waits so many milliseconds for a datagram, and tells from where it came. None where none came; then, and after a
     /// fault, the datagram is as it was.
@@ -36,12 +36,12 @@ pub trait Link {
         ensures plain { IfOk result (λ heard. IfSome heard (λ from. from.route ≡ None)) }
         ensures kept { MatchResult result (λ heard. heard ≡ None → datagram.new ≡ datagram.old)
             (λ fault. datagram.new ≡ datagram.old) }
-        ensures told { Gains (Waited wait_ms (heard_by result datagram.new)) (told self.old) (told self.new) };
+        ensures told { Gains (Waited wait_ms (heard_by result datagram.new)) (seen self.old) (seen self.new) };
 
     /// The time in milliseconds.
     fn now(&mut self) -> u64
         ensures fault { has_failed self.new ≡ has_failed self.old }
-        ensures told { Gains (Timed result) (told self.old) (told self.new) };
+        ensures told { Gains (Timed result) (seen self.old) (seen self.new) };
 
     /// Whether a send or a receive has failed.
     fn failed(&self) -> bool

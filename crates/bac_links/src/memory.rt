@@ -2,9 +2,9 @@
 ghost use Rattle.std.specs.Prelude.{◌≡◌, ◌++◌, ◌∷◌, [], false, length, map, IfOk, OnOk, OnErr, is_err, slice_get};
 ghost use Rattle.std.specs.Prelude.{IfSome, MatchResult, IsTrue, MatchOption, Some, None};
 ghost use Rattle.bac_pdu.specs.Peer.{station};
-ghost use Rattle.bac_links.specs.Told.{after_wait, heard_by};
+ghost use Rattle.bac_links.specs.Foretold.{after_wait, heard_by};
 ghost use Rattle.bac_links.specs.History.{Waited, Timed, Gains, posted};
-ghost use Rattle.bac_links.specs.Memory.{told_of, account_of, told_by, fails_at, scene_of_step, scene_of_kept};
+ghost use Rattle.bac_links.specs.Memory.{foretold_of, account_of, foretold_by, fails_at, scene_of_step, scene_of_kept};
 ghost use Rattle.bac_links.specs.Memory.{sending_of, unrouted};
 
 use crate::datagram::Datagram;
@@ -62,7 +62,7 @@ impl<A: Allocator + Copy> MemoryLink<A> {
     ///
     /// `LinkFault` where there is no memory for the steps.
     pub fn new(alloc: A, steps: &[Step<'_>], fail_send: Option<u32>) -> Result<Self, LinkFault>
-        ensures told { IfOk result (λ link. told_of link ≡ told_by (map scene_of_step steps.now) 0 []) }
+        ensures told { IfOk result (λ link. foretold_of link ≡ foretold_by (map scene_of_step steps.now) 0 []) }
         ensures fails_at { IfOk result (λ link. fails_at link ≡ fail_send) }
         ensures begun { IfOk result (λ link. link.history.entries ≡ []) }
         ensures sound { IfOk result (λ link. ⟦<MemoryLink<A> as Link>⟧.has_failed link ≡ false) }
@@ -132,8 +132,8 @@ fn without_route(peer: Peer) -> Peer
 impl<A: Allocator> MemoryLink<A> {
     /// The send with this number among those that succeeded, from 0, with its time.
     pub fn sent(&self, n: usize) -> Option<(u64, Peer, &[u8])>
-        ensures { MatchOption result (slice_get (told_of self.now).sent n ≡ None)
-            (λ s. slice_get (told_of self.now).sent n
+        ensures { MatchOption result (slice_get (foretold_of self.now).sent n ≡ None)
+            (λ s. slice_get (foretold_of self.now).sent n
             ≡ Some (record { time = s.0; to = station s.1; octets = s.2.now })) }
     {
         let record = self.sent.get(n)?;
@@ -145,10 +145,10 @@ impl<A: Allocator> MemoryLink<A> {
         requires { self.old.failed ≡ false }
         ensures fault { self.new.failed ≡ is_err result }
         ensures plain { IfOk result (λ heard. IfSome heard (λ from. from.route ≡ None)) }
-        ensures heard { (told_of self.old).heard [] wait_ms ≡ heard_by result datagram.new }
+        ensures heard { (foretold_of self.old).heard [] wait_ms ≡ heard_by result datagram.new }
         ensures kept { MatchResult result (λ heard. heard ≡ None → datagram.new ≡ datagram.old)
             (λ fault. datagram.new ≡ datagram.old) }
-        ensures goes_on { told_of self.new ≡ after_wait wait_ms (told_of self.old) }
+        ensures goes_on { foretold_of self.new ≡ after_wait wait_ms (foretold_of self.old) }
         ensures fails_at { fails_at self.new ≡ fails_at self.old }
         ensures history { self.new.history ≡ self.old.history }
     {
@@ -179,7 +179,7 @@ impl<A: Allocator> MemoryLink<A> {
 }
 
 impl<A: Allocator + Copy> Link for MemoryLink<A> {
-    ghost told = { account_of };
+    ghost seen = { account_of };
 
     ghost has_failed = { λ link. link.failed };
 
@@ -188,7 +188,7 @@ impl<A: Allocator + Copy> Link for MemoryLink<A> {
         requires { self.old.failed ≡ false }
         ensures fault { self.new.failed ≡ is_err result }
         ensures told { Gains (posted result (station to) octets.now) (account_of self.old) (account_of self.new) }
-        ensures its_number { fails_at self.old ≡ Some (length (told_of self.old).sent) → IsTrue (is_err result) }
+        ensures its_number { fails_at self.old ≡ Some (length (foretold_of self.old).sent) → IsTrue (is_err result) }
         ensures fails_at { fails_at self.new ≡ fails_at self.old }
     {
         let number = self.sent.len() as u64;

@@ -105,8 +105,8 @@ fn print_found<W: Write>(page: &mut Page<'_, W>, found: Found)
 fn ask<L: Link>(search: &Search, link: &mut L) -> Result<(), ToolFault>
     requires { L.has_failed link.old ≡ false }
     ensures fault { L.has_failed link.new ≡ is_link_fault result }
-    ensures told { Gains (posted result (station search.now.to) (who_is_to search.now)) (L.told link.old)
-        (L.told link.new) }
+    ensures told { Gains (posted result (station search.now.to) (who_is_to search.now)) (L.seen link.old)
+        (L.seen link.new) }
     ensures err { IfErr result (λ fault. fault ≡ ToolFault.SendFailed) }
 {
     let datagram = who_is(search.to, search.who);
@@ -129,7 +129,7 @@ fn listen<L: Link, W: Write>(
     requires writer { has_failed writer.old ≡ false }
     ensures link_fault { L.has_failed link.new ≡ is_link_fault result }
     ensures write_fault { has_failed writer.new ≡ is_write_fault result }
-    ensures told { Listens who wait_ms W.contents writer.old writer.new (L.told link.old) (L.told link.new) result }
+    ensures told { Listens who wait_ms W.contents writer.old writer.new (L.seen link.old) (L.seen link.new) result }
 {
     match link.receive(wait_ms, datagram) {
         Ok(Some(from)) => match read_found(who, from, datagram.as_slice()) {
@@ -163,7 +163,7 @@ pub fn run_whois<L: Link, W: Write>(
     requires timeout { 0 < search.now.timeout }
     ensures link_fault { L.has_failed link.new ≡ is_link_fault result }
     ensures write_fault { has_failed writer.new ≡ is_write_fault result }
-    ensures told { Searched search.now W.contents writer.old writer.new (L.told link.old) (L.told link.new) result }
+    ensures told { Searched search.now W.contents writer.old writer.new (L.seen link.old) (L.seen link.new) result }
 {
     let first = link.now();
     ask(search, link)?;

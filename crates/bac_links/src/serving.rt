@@ -56,7 +56,7 @@ fn serve_turn<L: Link>(
 ) -> Result<Brought, ToolFault>
     requires { L.has_failed link.old ≡ false }
     ensures fault { L.has_failed link.new ≡ is_link_fault result }
-    ensures told { ServesOne device.old device.new (L.told link.old) (L.told link.new) result }
+    ensures told { ServesOne device.old device.new (L.seen link.old) (L.seen link.new) result }
 {
     let from = match link.receive(SERVE_WAIT, datagram) {
         Ok(Some(from)) => from,
@@ -82,7 +82,7 @@ fn serve_turn<L: Link>(
 pub fn serve<L: Link>(link: &mut L, device: &mut Device, count: u32) -> Result<u32, ToolFault>
     requires { L.has_failed link.old ≡ false }
     ensures fault { L.has_failed link.new ≡ is_link_fault result }
-    ensures told { Serves count device.old device.new (L.told link.old) (L.told link.new) result }
+    ensures told { Serves count device.old device.new (L.seen link.old) (L.seen link.new) result }
 {
     if count == 0 {
         return Ok(0);

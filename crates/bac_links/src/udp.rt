@@ -4,7 +4,7 @@ ghost use Rattle.std.specs.Prelude.{false, is_err, max, vec_len};
 ghost use Rattle.std.specs.Duration.{as_nanos};
 ghost use Rattle.bac_pdu.specs.Peer.{station};
 ghost use Rattle.bac_links.specs.Limits.{longest_datagram};
-ghost use Rattle.bac_links.specs.Told.{heard_by};
+ghost use Rattle.bac_links.specs.Foretold.{heard_by};
 ghost use Rattle.bac_links.specs.History.{Waited, Timed, Gains, posted, remembering};
 ghost use Rattle.bac_links.specs.Inner.Socket.{IsAddressOf, heard_from, is_quiet, peer_at, time_by};
 
@@ -188,7 +188,7 @@ fn peer_of(address: SocketAddr) -> Option<Peer>
 }
 
 impl<R: Clock + Drop> Link for UdpLink<R> {
-    ghost told = { λ link. remembering link.history.entries };
+    ghost seen = { λ link. remembering link.history.entries };
 
     ghost has_failed = { λ link. link.failed };
 

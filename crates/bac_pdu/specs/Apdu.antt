@@ -96,9 +96,6 @@ laid_out (abort server id reason) = (if server then 113 else 112) ∷ id ∷ rea
 -- The APDUs that can be written: a code has four bits, and no SegmentACK is written.
 abbrev pub IsWritable : Message → Type 0
 IsWritable (confirmed part code id service body) = code < 16
-IsWritable (unconfirmed _ _) = Unit {0}
-IsWritable (simple_ack _ _) = Unit {0}
-IsWritable (complex_ack _ _ _ _) = Unit {0}
 IsWritable segment_ack = ⊥
 IsWritable _ = Unit {0}
 

@@ -9,10 +9,9 @@ use Rattle.bac_pdu.specs.Apdu.{abort}
 -- The part where the flag says that there is one, and the octets behind it.
 abbrev pub part_at : ℕ → List ℕ → Bool → Option (Option Part × List ℕ)
 part_at first octets false = Some (None, octets)
-part_at first [] true = None
-part_at first (sequence ∷ []) true = None
 part_at first (sequence ∷ window ∷ octets) true =
     Some (Some (record { more = bit 2 first; sequence = sequence; window = window }), octets)
+part_at first _ true = None
 
 -- The service, and the body behind it.
 abbrev pub service_at : List ℕ → Option (ℕ × List ℕ)

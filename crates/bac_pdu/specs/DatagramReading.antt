@@ -42,10 +42,9 @@ behind_control control octets = do
 
 -- The network header at the front, of version 1 and with bit 7 clear, and the APDU behind it.
 unfoldable pub header_at : List ℕ → Option (NetworkHeader × List ℕ)
-header_at [] = None
-header_at (version ∷ []) = None
 header_at (version ∷ control ∷ octets) =
     if version == 1 then (if bit 7 control then None else behind_control control octets) else None
+header_at _ = None
 
 -- The originator that a Forwarded-NPDU names, which is always for all, and the octets behind it.
 abbrev pub forwarded_at : List ℕ → Option ((Station × Bool) × List ℕ)

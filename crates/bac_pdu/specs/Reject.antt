@@ -31,11 +31,10 @@ LacksReference body = (body ≡ []) ⊎ ((id : Identifier) × SpellsAll SpellsPa
 -- What is wrong with the body of a ReadProperty, by reason: it has more octets than it should; no property is named; or
 -- anything else. The two other reasons never apply.
 abbrev pub ReadFault : List ℕ → RejectReason → Type 0
-ReadFault body OutOfRange = ⊥
 ReadFault body TooMany = HasMore (λ front. (r : Reference) × IsReadBody front r) body
 ReadFault body MissingParameter = LacksReference body
 ReadFault body InvalidTag = Unit {0}
-ReadFault body UnknownService = ⊥
+ReadFault body _ = ⊥
 
 -- What is wrong with the body of a WriteProperty, by reason: a priority that there is not; more octets than it should
 -- have; no property or no value; or anything else. `UnknownService` never applies.

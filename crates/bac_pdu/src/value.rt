@@ -1,4 +1,4 @@
-//! Values of the kind that a service body has at its place.
+//! Values of the kind that a service body has there.
 
 ghost use Rattle.std.specs.Prelude.{◌≡◌};
 ghost use Rattle.std.specs.Option.{option_map};

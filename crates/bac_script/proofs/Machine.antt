@@ -9,7 +9,7 @@ use Rattle.bac_tsm.specs.Machine.{State, Stepped}
 use Rattle.bac_tsm.specs.Limits.{table_size}
 use Rattle.bac_tsm.specs.Laws.{state_at, NumbersComeBackLate}
 use Rattle.bac_tsm.specs.Client.{client_rules, keeping}
-use Rattle.bac_tsm.proofs.Laws.{by_number, few_places, begins, one_step, back_late}
+use Rattle.bac_tsm.proofs.Laws.{by_number, few_open, begins, one_step, back_late}
 use Rattle.bac_device.specs.Places.{Write}
 use Rattle.bac_device.specs.Demo.{demo_points}
 use Rattle.bac_device.specs.Turns.{replies_to}
@@ -86,7 +86,7 @@ module _ (timeout retries first_ticket : ℕ) (events : List Event) where
   prints_output n writes (Settings t r f ∷ later) h e = absurd h.0
   prints_output n writes (Happens event ∷ later) h e =
       let here = drop_next events n event (events_in later) e in
-      let now = one_step (client_rules timeout retries) first_ticket events (by_number timeout retries) few_places n
+      let now = one_step (client_rules timeout retries) first_ticket events (by_number timeout retries) few_open n
       event here.0 in
       ap (text_after n writes later) now
       ∙ ap (λ (xs : List ℕ). notes_text (notes n) ++ xs) (prints_output (suc n) writes later h.1 here.1)
@@ -100,7 +100,7 @@ module _ (timeout retries first_ticket : ℕ) (events : List Event) where
       ap (λ (state : State).
       text_from (record { client = record { timeout = timeout; retries = retries; state = state }; writes = [] })
       all)
-      (begins (client_rules timeout retries) first_ticket events (by_number timeout retries) few_places)
+      (begins (client_rules timeout retries) first_ticket events (by_number timeout retries) few_open)
       ∙ prints_output 0 [] all h e
 
 -- The text of a script is what the machine prints.
@@ -116,5 +116,5 @@ text_is (Asks arrival ∷ later) h = sym (prints_all 3000 3 0 (events_in later) 
 pub requests_late : (all : List Said) → NumbersComeBackLate table_size (requests_in all)
 requests_late all =
     let settings = settings_in all in
-    back_late (client_rules settings.timeout settings.retries) settings.first_ticket (events_in all) few_places
+    back_late (client_rules settings.timeout settings.retries) settings.first_ticket (events_in all) few_open
     (length (events_in all))

@@ -12,7 +12,7 @@ use Rattle.bac_device.specs.Turns.{Arrival, replies_to}
 use Rattle.bac_script.specs.declared.input.Reading.{Reading}
 use Rattle.bac_script.specs.declared.input.Reading.TheVariants.{Open, AtEnd, Failed}
 use Rattle.bac_script.specs.declared.line.LineFault.{LineFault}
-use Rattle.bac_script.specs.declared.line.LineFault.TheVariants.{Bad, TooLong}
+use Rattle.bac_script.specs.declared.line.LineFault.TheVariants.{TooLong}
 use Rattle.bac_script.specs.declared.tracing.TraceEnd.{TraceEnd}
 use Rattle.bac_script.specs.declared.tracing.TraceFault.{TraceFault}
 use Rattle.bac_script.specs.declared.tracing.TraceFault.TheVariants.{BadLine, LineTooLong, ReadFailed, WriteFailed}
@@ -29,8 +29,7 @@ pieces (octet ∷ octets) = if octet == 10 then (octet ∷ []) ∷ pieces octets
 -- A piece without a line feed is a line only at the end of the input, or once it is too long.
 abbrev pub is_line : Reading → List ℕ → Bool
 is_line AtEnd piece = true
-is_line Open piece = ends_with_feed piece || nat_lt longest_line (length piece)
-is_line Failed piece = ends_with_feed piece || nat_lt longest_line (length piece)
+is_line _ piece = ends_with_feed piece || nat_lt longest_line (length piece)
 
 -- The lines of the octets that the reader gave, by how reading stopped.
 abbrev pub lines : List ℕ → Reading → List (List ℕ)
@@ -71,28 +70,22 @@ usual_settings = record { timeout = 3000; retries = 3; first_ticket = 0 }
 
 -- The settings that a script says, where its first line that says something says them; else the usual ones.
 abbrev pub settings_in : List Said → ClientSettings
-settings_in [] = usual_settings
 settings_in (Nothing ∷ later) = settings_in later
 settings_in (Settings timeout retries first_ticket ∷ later) =
     record { timeout = timeout; retries = retries; first_ticket = first_ticket }
-settings_in (Happens event ∷ later) = usual_settings
-settings_in (Asks arrival ∷ later) = usual_settings
+settings_in _ = usual_settings
 
 abbrev pub event_in : Said → List Event
-event_in Nothing = []
-event_in (Settings timeout retries first_ticket) = []
 event_in (Happens event) = event ∷ []
-event_in (Asks arrival) = []
+event_in _ = []
 
 -- The events of a script, in order.
 abbrev pub events_in : List Said → List Event
 events_in = flat_map event_in
 
 abbrev pub arrival_in : Said → List Arrival
-arrival_in Nothing = []
-arrival_in (Settings timeout retries first_ticket) = []
-arrival_in (Happens event) = []
 arrival_in (Asks arrival) = arrival ∷ []
+arrival_in _ = []
 
 -- The datagrams that the device is asked with, in order.
 abbrev pub arrivals_in : List Said → List Arrival
@@ -109,11 +102,10 @@ requests_in all =
 -- that the device is asked with, the next of its replies.
 abbrev pub printed : (ℕ → List Note) → ℕ → List Said → List (Option (Station × List ℕ)) → List ℕ
 printed notes at [] replies = []
-printed notes at (Nothing ∷ later) replies = printed notes at later replies
-printed notes at (Settings timeout retries first_ticket ∷ later) replies = printed notes at later replies
 printed notes at (Happens event ∷ later) replies = notes_text (notes at) ++ printed notes (suc at) later replies
 printed notes at (Asks arrival ∷ later) [] = []
 printed notes at (Asks arrival ∷ later) (reply ∷ replies) = reply_text reply ++ printed notes at later replies
+printed notes at (_ ∷ later) replies = printed notes at later replies
 
 -- The notes are those that the look-ahead gives for a client with these settings and these events, and the replies
 -- those of the demonstration device.
@@ -129,12 +121,10 @@ text_of all = text_with (settings_in all) (events_in all) (arrivals_in all) all
 abbrev pub text : List ℕ → Reading → List ℕ
 text octets reading = text_of (all_said (lines octets reading))
 
--- The fault of the line with this number. The last case never comes: it is asked only of a line that is bad or too
--- long.
+-- The fault of the line with this number, which is too long or else bad.
 abbrev pub fault_at : ℕ → Result Said LineFault → TraceFault
 fault_at n (Err TooLong) = LineTooLong n
-fault_at n (Err Bad) = BadLine n
-fault_at n (Ok one) = BadLine n
+fault_at n _ = BadLine n
 
 -- The fault of the first line that is bad or too long, if there is one, with its number from 1.
 abbrev pub fault_after : List Said → List (List ℕ) → Option TraceFault

@@ -8,7 +8,7 @@ ghost use Rattle.bac_script.specs.Input.{ReaderStands, ReadsNoMore};
 ghost use Rattle.bac_script.specs.Inner.Input.{most_to_come, may_read, empty_reads, TakesAndKeeps, ReadForLine};
 ghost use Rattle.bac_script.specs.Inner.Input.{IsLineCut, IsNext};
 
-use bac_text::{Checked, End, LONGEST_LINE, Page, WriteFailed, place_of_end};
+use bac_text::{Checked, End, LONGEST_LINE, Page, WriteFailed, position_of_end};
 use std::io::{Read, Write};
 use std::marker::Model;
 
@@ -151,8 +151,8 @@ impl Chunk {
             (λ count. (count ≤ length self.old) × IsLineCut Reading.Open (take count self.old)) }
     {
         let limit = self.end.min(self.start + LINE_ROOM);
-        if let Some(place) = feed_place(&self.octets[self.start + self.searched..limit]) {
-            return Some(self.searched + place + 1);
+        if let Some(position) = feed_position(&self.octets[self.start + self.searched..limit]) {
+            return Some(self.searched + position + 1);
         }
         self.searched = limit - self.start;
         if self.searched < LINE_ROOM {
@@ -202,8 +202,8 @@ impl Chunk {
 }
 
 // Where the first line feed stands.
-fn feed_place(octets: &[u8]) -> Option<usize>
+fn feed_position(octets: &[u8]) -> Option<usize>
     ensures { result ≡ position (λ octet. octet == 10) octets.now }
 {
-    place_of_end(octets, End::At(b'\n'))
+    position_of_end(octets, End::At(b'\n'))
 }

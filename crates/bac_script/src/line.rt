@@ -17,7 +17,7 @@ use crate::long_write::LongWrite;
 use bac_pdu::{Peer, READ_PROPERTY, ReadRequest, WRITE_PROPERTY};
 use bac_text::{
     BodyRoom, End, LONGEST_DATAGRAM, LONGEST_LINE, PairFault, WordSource, Words, peer_in,
-    place_of_end, plain_peer_in, priority_from, read_datagram, read_number, read_write_index,
+    plain_peer_in, position_of_end, priority_from, read_datagram, read_number, read_write_index,
 };
 use bac_tsm::Config;
 use bac_wire::ObjectId;
@@ -108,7 +108,7 @@ pub(crate) fn read_line<'a>(
 fn is_text(octets: &[u8]) -> bool
     ensures { result ≡ is_utf8 octets.now }
 {
-    match place_of_end(octets, End::PastAscii) {
+    match position_of_end(octets, End::PastAscii) {
         None => true,
         Some(_) => str::from_utf8(octets).is_ok(),
     }

@@ -29,9 +29,8 @@ values_in (tag ∷ others) = pairs_from 1 (tag ∷ others)
 
 -- The words that are left of these: none, or those behind the first pair that has no value.
 abbrev pub words_behind : {A : Type 0} → Result A PairFault → List (List ℕ) → List (List ℕ)
-words_behind (Ok it) words = []
-words_behind (Err TooLong) words = []
 words_behind (Err (Bad n)) words = drop (2 * n) words
+words_behind _ words = []
 
 -- What a WriteProperty request orders: that a property has these octets as its value.
 abbrev pub order_of : Identifier → ℕ → Option ℕ → Option ℕ → List ℕ → Order

@@ -39,9 +39,9 @@ octets_exactly count word = if length word == 2 * count then hex_in word else No
 abbrev pub is_bit_digit : ℕ → Bool
 is_bit_digit digit = digit == 48 || digit == 49
 
--- The bit that the digit at a place writes, and 0 where there is none.
+-- The bit that the digit at a position writes, and 0 where there is none.
 abbrev pub bit_at : List ℕ → ℕ → ℕ
-bit_at digits place = if slice_index digits place == 49 then 1 else 0
+bit_at digits position = if slice_index digits position == 49 then 1 else 0
 
 -- The octet of the first eight bits, the first of them the highest.
 abbrev pub bits_octet : List ℕ → ℕ

@@ -43,6 +43,6 @@ pub use page::Page;
 pub use pairs::PairFault;
 pub use parameters::{priority_from, read_write_index};
 pub use peers::{peer_in, plain_peer_in, read_peer};
-pub use search::{End, place_of_end};
+pub use search::{End, position_of_end};
 pub use values::show_value;
 pub use words::{WordSource, Words};

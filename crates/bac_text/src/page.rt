@@ -26,7 +26,7 @@ pub struct Page<'w, W> {
     held: ArrayVec<u8, PAGE_ROOM>,
 }
 
-// Writes the decimal digits of a number before a place of the room, and says where they begin.
+// Writes the decimal digits of a number before a position of the room, and says where they begin.
 #[tactic(auto, using(std::proofs::lemmas::Fmt::decimal_nonempty))]
 pub(crate) fn write_digits(number: u64, room: &mut [u8], end: usize) -> usize
     requires within { end ≤ length room.old }

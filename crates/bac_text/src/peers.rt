@@ -8,7 +8,7 @@ ghost use Rattle.bac_text.specs.Inner.Address.{digit};
 
 use crate::hex_digits::{HexDigits, read_hex};
 use crate::numbers::{leading_number, read_number};
-use crate::search::{End, place_of_end};
+use crate::search::{End, position_of_end};
 use bac_pdu::{ADDRESS_OCTETS, Peer, Route};
 
 /// The port of BACnet/IP where none is written (Annex J.1.2).
@@ -144,6 +144,6 @@ fn short_number(text: &[u8], digits: usize, limit: u32) -> Option<u32>
 pub(crate) fn cut(text: &[u8], octet: u8) -> Option<(&[u8], &[u8])>
     ensures { option_map (λ parts. (parts.0.now, parts.1.now)) result ≡ cut_at octet text.now }
 {
-    let place = place_of_end(text, End::At(octet))?;
-    Some((&text[..place], &text[place + 1..]))
+    let position = position_of_end(text, End::At(octet))?;
+    Some((&text[..position], &text[position + 1..]))
 }

@@ -23,7 +23,7 @@ pub enum End {
 }
 
 /// The position of the first octet that ends a piece, or the length where none does.
-pub fn place_of_end(octets: &[u8], end: End) -> Option<usize>
+pub fn position_of_end(octets: &[u8], end: End) -> Option<usize>
     ensures { result ≡ position (ends_at end) octets.now }
 {
     if octets.len() < FEW_LANES {

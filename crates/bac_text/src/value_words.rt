@@ -172,11 +172,11 @@ fn bits_octet(digits: &[u8]) -> u8
 }
 
 // The bit that the digit at this position writes, and 0 where there is none.
-fn bit_at(digits: &[u8], place: usize) -> u8
-    ensures value { result ≡ bit_at digits.now place }
+fn bit_at(digits: &[u8], position: usize) -> u8
+    ensures value { result ≡ bit_at digits.now position }
     ensures bit { result ≤ 1 }
 {
-    match digits.get(place) {
+    match digits.get(position) {
         Some(b'1') => 1,
         _ => 0,
     }

@@ -9,13 +9,14 @@ use Rattle.bac_device.specs.Demo.{demo_points}
 use Rattle.bac_device.specs.Device.{device_after}
 use Rattle.bac_text.specs.Checked.{Took, fresh, octets_of}
 use Rattle.bac_text.specs.declared.checked.Checked.{Checked}
-use Rattle.bac_links.proofs.Alike.{calls_alike, reading, writing}
+use Rattle.bac_links.proofs.Alike.{calls_alike}
 use Rattle.bac_links.proofs.SearchesAlike.{searches_alike}
 use Rattle.bac_links.proofs.ServingsAlike.{servings_alike}
 use Rattle.bac_links.specs.Answered.{answers_of}
 use Rattle.bac_links.specs.Fault.{is_write_fault}
 use Rattle.bac_links.specs.History.{Account, Entry}
 use Rattle.bac_links.specs.declared.ending.Exit.{Exit}
+use Rattle.bac_links.specs.declared.ending.Purpose.TheVariants.{Reading, Writing}
 use Rattle.bac_links.specs.declared.fault.ToolFault.{ToolFault}
 use Rattle.bac_links.specs.declared.fault.ToolFault.TheVariants.{WriteFailed}
 use Rattle.bac_links.specs.declared.link.LinkFault.{LinkFault}
@@ -42,8 +43,8 @@ use Rattle.bac_tools.specs.declared.report.Report.{Report}
 
 module _ {V W : Type 0} (contents : V → Option (List ℕ)) (contents' : W → Option (List ℕ)) (writer : V) (writer' : W)
     (wrote : Checked V) (wrote' : Checked W)
-    (told left told' left' : Account) (answer answer' : Result Exit ToolFault) (gained gained' : List Entry)
-    (gains : left.history ≡ told.history ++ gained) (gains' : left'.history ≡ told'.history ++ gained')
+    (seen left seen' left' : Account) (answer answer' : Result Exit ToolFault) (gained gained' : List Entry)
+    (gains : left.history ≡ seen.history ++ gained) (gains' : left'.history ≡ seen'.history ++ gained')
     (same : answers_of gained ≡ answers_of gained')
     (whole : answer ≢ Err WriteFailed) (whole' : answer' ≢ Err WriteFailed) where
   abbrev Same : Type 0
@@ -73,24 +74,24 @@ module _ {V W : Type 0} (contents : V → Option (List ℕ)) (contents' : W → 
       printed (Ok exit) (Err g) all all' e took none none' = cc
       printed (Err f) (Ok other) all all' e took none none' = cc
 
-  tools : (job : Job) → ToolRuns contents (fresh writer) wrote told left answer job
-      → ToolRuns contents' (fresh writer') wrote' told' left' answer' job → Same
+  tools : (job : Job) → ToolRuns contents (fresh writer) wrote seen left answer job
+      → ToolRuns contents' (fresh writer') wrote' seen' left' answer' job → Same
   tools (Read call) a b =
-      calls (calls_alike contents contents' reading call (fresh writer) wrote (fresh writer') wrote' told left told'
+      calls (calls_alike contents contents' Reading call (fresh writer) wrote (fresh writer') wrote' seen left seen'
       left' answer answer' gained gained'
       a.0 b.0 gains gains' same) a.1 b.1
   tools (Write call) a b =
-      calls (calls_alike contents contents' writing call (fresh writer) wrote (fresh writer') wrote' told left told'
+      calls (calls_alike contents contents' Writing call (fresh writer) wrote (fresh writer') wrote' seen left seen'
       left' answer answer' gained gained'
       a.0 b.0 gains gains' same) a.1 b.1
   tools (WhoIs search) a b =
-      let both = searches_alike contents contents' search (fresh writer) wrote (fresh writer') wrote' told left told'
+      let both = searches_alike contents contents' search (fresh writer) wrote (fresh writer') wrote' seen left seen'
       left' answer answer' gained gained' a b gains gains' same in
       let took = both.2 whole in
       (both.0, took.1.passed ∙ sym took.2.passed, both.1)
   tools (Device serve) a b =
-      let both = servings_alike serve.count (device_after serve.info demo_points []) a.0.device b.0.device told left
-      told' left' a.0.served b.0.served [] gained gained'
+      let both = servings_alike serve.count (device_after serve.info demo_points []) a.0.device b.0.device seen left
+      seen' left' a.0.served b.0.served [] gained gained'
       a.0.serves b.0.serves (after_holds serve.info demo_points []) gains gains' same in (
         both.0,
         ap (λ (w : Checked V). octets_of w) a.1 ∙ sym (ap (λ (w : Checked W). octets_of w) b.1),
@@ -113,11 +114,11 @@ not_refused words (Help e) other refusal taken = subst (IsAmong (kind_of e)) tak
 not_refused words (Words e) other refusal taken = subst (IsAmong (kind_of e)) taken refusal.1
 not_refused words _ other refusal taken = refusal
 
-none_gained : {L : Type 0} (told : L → Account) (opened opened' : Option (Result L LinkFault)) (gained : List Entry)
+none_gained : {L : Type 0} (seen : L → Account) (opened opened' : Option (Result L LinkFault)) (gained : List Entry)
     → opened ≡ None →
-    Gained told opened opened' gained → gained ≡ []
-none_gained told None opened' gained e gains = gains
-none_gained told (Some socket) opened' gained e gains = cc
+    Gained seen opened opened' gained → gained ≡ []
+none_gained seen None opened' gained e gains = gains
+none_gained seen (Some socket) opened' gained e gains = cc
 
 had_memory : (report : Report) (fault : UsageFault) → report.fault ≢ Some (faults.Usage Memory)
     → report ≡ usage_report fault → fault ≢ Memory
@@ -142,11 +143,11 @@ module _ {N L R W M K S V : Type 0} (gives : N → Binding → Result L LinkFaul
   over : (job : Job) (link left : L) (link' left' : K)
       → RunsOver out (fresh a.reader) a.reader' (fresh a.writer) a.writer' a.ran.report job link left →
       RunsOver out' (fresh b.reader) b.reader' (fresh b.writer) b.writer' b.ran.report job link' left' →
-      (out.told left).history ≡ (out.told link).history ++ one.gained
-      → (out'.told left').history ≡ (out'.told link').history ++ other.gained → Alike
+      (out.seen left).history ≡ (out.seen link).history ++ one.gained
+      → (out'.seen left').history ≡ (out'.seen link').history ++ other.gained → Alike
   over job link left link' left' r s gains gains' =
-      let both = tools out.contents out'.contents a.writer b.writer a.writer' b.writer' (out.told link) (out.told left)
-      (out'.told link') (out'.told left') r.answer s.answer
+      let both = tools out.contents out'.contents a.writer b.writer a.writer' b.writer' (out.seen link) (out.seen left)
+      (out'.seen link') (out'.seen left') r.answer s.answer
       one.gained other.gained gains gains' h.answers (unfailed r.answer _ r.write_fault a.written)
       (unfailed s.answer _ s.write_fault b.written) job r.tool s.tool in
       (both.0, both.1, r.reported ∙ ap tool_report both.2 ∙ sym s.reported)
@@ -154,7 +155,7 @@ module _ {N L R W M K S V : Type 0} (gives : N → Binding → Result L LinkFaul
   opened : (job : Job) (o p : Option (Result L LinkFault)) (o' p' : Option (Result K LinkFault)) →
       RunsOpened out (fresh a.reader) a.reader' (fresh a.writer) a.writer' a.ran.report job o p →
       RunsOpened out' (fresh b.reader) b.reader' (fresh b.writer) b.writer' b.ran.report job o' p' →
-      Gained out.told o p one.gained → Gained out'.told o' p' other.gained → is_socket o ≡ is_socket o' → Alike
+      Gained out.seen o p one.gained → Gained out'.seen o' p' other.gained → is_socket o ≡ is_socket o' → Alike
   opened job None p o' p' r s gains gains' e = absurd r
   opened job (Some (Err f)) p None p' r s gains gains' e = absurd s
   opened job (Some (Err f)) p (Some (Err g)) p' r s gains gains' e = (
@@ -186,16 +187,16 @@ module _ {N L R W M K S V : Type 0} (gives : N → Binding → Result L LinkFaul
   jobs : (job : Job) (o p : Option (Result L LinkFault)) (o' p' : Option (Result K LinkFault))
       → IsGiven gives out a.network (binding_of job) o →
       IsGiven gives' out' b.network (binding_of job) o' → Ours job o p → Theirs job o' p'
-      → Gained out.told o p one.gained →
-      Gained out'.told o' p' other.gained → is_socket o ≡ is_socket o' → Alike
+      → Gained out.seen o p one.gained →
+      Gained out'.seen o' p' other.gained → is_socket o ≡ is_socket o' → Alike
   jobs (Read call) o p o' p' given given' r s gains gains' e = opened (Read call) o p o' p' r s gains gains' e
   jobs (Write call) o p o' p' given given' r s gains gains' e = opened (Write call) o p o' p' r s gains gains' e
   jobs (WhoIs search) o p o' p' given given' r s gains gains' e = opened (WhoIs search) o p o' p' r s gains gains' e
   jobs (Device serve) o p o' p' given given' r s gains gains' e = opened (Device serve) o p o' p' r s gains gains' e
   jobs Trace o p o' p' given given' r s gains gains' e =
       let both = scripts r.0 s.0 in (
-        none_gained out.told o p one.gained given gains
-            ∙ sym (none_gained out'.told o' p' other.gained given' gains'),
+        none_gained out.seen o p one.gained given gains
+            ∙ sym (none_gained out'.seen o' p' other.gained given' gains'),
         both.0,
         both.1,
       )
@@ -215,8 +216,8 @@ module _ {N L R W M K S V : Type 0} (gives : N → Binding → Result L LinkFaul
 
   programs : (p : Mine) (q : Yours)
       → is_socket (opened_in gives out words p) ≡ is_socket (opened_in gives' out' words q) →
-      Gained out.told (opened_in gives out words p) a.ran.socket one.gained
-      → Gained out'.told (opened_in gives' out' words q) b.ran.socket other.gained → AreAlike words one other
+      Gained out.seen (opened_in gives out words p) a.ran.socket one.gained
+      → Gained out'.seen (opened_in gives' out' words q) b.ran.socket other.gained → AreAlike words one other
   programs (inl r) (inl s) e gains gains' =
       let printed = ap (λ (w : Checked W). octets_of w) r.unprinted
       ∙ sym (ap (λ (w : Checked V). octets_of w) s.unprinted) in

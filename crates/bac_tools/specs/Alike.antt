@@ -1,5 +1,5 @@
 -- That two runs of the program with the same words are alike.
-use Rattle.std.specs.Prelude.{◌≡◌, ◌≢◌, ◌⊎◌, ◌++◌, ℕ, Bool, false, true, List, [], Option, Some, None, Result, Ok, Err}
+use Rattle.std.specs.Prelude.{◌≡◌, ◌≢◌, ◌⊎◌, ◌++◌, ℕ, Bool, false, true, List, [], Option, Some, None, Result, Ok}
 use Rattle.std.proofs.Common.{inl, inr}
 use Rattle.clap.specs.Words.{Text}
 use Rattle.bac_text.specs.Checked.{ends_of, fresh, has_failed, octets_of}
@@ -31,14 +31,13 @@ pub record Observed : Type 0 where
 -- The network gave a socket.
 abbrev pub is_socket : {L : Type 0} → Option (Result L LinkFault) → Bool
 is_socket (Some (Ok link)) = true
-is_socket (Some (Err fault)) = false
-is_socket None = false
+is_socket _ = false
 
 -- What the socket that the network gave was asked and answered since then.
 abbrev pub Gained : {L : Type 0} → (L → Account) → Option (Result L LinkFault) → Option (Result L LinkFault)
     → List Entry → Type 0
-Gained told (Some (Ok link)) (Some (Ok link')) gained = (told link').history ≡ (told link).history ++ gained
-Gained told opened opened' gained = gained ≡ []
+Gained seen (Some (Ok link)) (Some (Ok link')) gained = (seen link').history ≡ (seen link).history ++ gained
+Gained seen opened opened' gained = gained ≡ []
 
 module _ {N L R W : Type 0} (gives : N → Binding → Result L LinkFault → Type 0) (out : Outside L R W)
     (words : List Text) where
@@ -60,7 +59,7 @@ module _ {N L R W : Type 0} (gives : N → Binding → Result L LinkFault → Ty
     pub memory : ran.report.fault ≢ Some (faults.Usage Memory)
     pub written : has_failed writer' ≡ false
     pub has_socket : observed.has_socket ≡ is_socket (opened_in program)
-    pub gained : Gained out.told (opened_in program) ran.socket observed.gained
+    pub gained : Gained out.seen (opened_in program) ran.socket observed.gained
     pub octets : observed.octets ≡ octets_of reader'
     pub ends : observed.ends ≡ ends_of reader'
     pub printed : observed.printed ≡ octets_of writer'

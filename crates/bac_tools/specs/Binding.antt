@@ -21,13 +21,9 @@ binding_of (WhoIs search) = Some (client_at search.port)
 binding_of (Device serve) = Some (server_at serve.port)
 binding_of Trace = None
 
--- There is a link that has not failed, or a fault that says why there is none.
-abbrev pub IsUnfailed : {L : Type 0} → (L → Bool) → Option (Result L LinkFault) → Type 0
-IsUnfailed failed None = ⊥
-IsUnfailed failed (Some (Ok link)) = failed link ≡ false
-IsUnfailed failed (Some (Err fault)) = ⊤
-
--- Where the job asks for a socket, there is a link that has not failed, or a fault.
+-- Where the job asks for a socket, there is a link that has not failed, or a fault that says why there is none.
 abbrev pub IsOpened : {L : Type 0} → (L → Bool) → Option Binding → Option (Result L LinkFault) → Type 0
 IsOpened failed None opened = ⊤
-IsOpened failed (Some binding) opened = IsUnfailed failed opened
+IsOpened failed (Some binding) (Some (Ok link)) = failed link ≡ false
+IsOpened failed (Some binding) (Some (Err fault)) = ⊤
+IsOpened failed (Some binding) None = ⊥

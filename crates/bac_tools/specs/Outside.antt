@@ -5,7 +5,7 @@ use Rattle.bac_links.specs.History.{Account}
 -- What a link was asked and what it foretold, and whether it has failed; the octets that a reader has left, and those
 -- of a writer, where they are known.
 pub record Outside (L R W : Type 0) : Type 0 where
-  pub told : L → Account
+  pub seen : L → Account
   pub failed : L → Bool
   pub remaining : R → Option (List ℕ)
   pub contents : W → Option (List ℕ)

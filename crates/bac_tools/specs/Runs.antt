@@ -1,15 +1,16 @@
 -- What a job prints, sends and leaves, and how the program ends: for each job by the definition of its tool.
-use Rattle.std.specs.Prelude.{◌≡◌, ◌≢◌, ◌↔◌, ◌⊎◌, ℕ, true, [], List, Option, Some, None, Result, Ok, Err, IfErr}
+use Rattle.std.specs.Prelude.{◌≡◌, ◌≢◌, ◌↔◌, ◌⊎◌, ℕ, true, [], List, Option, Some, Result, Ok, Err, IfErr}
 use Rattle.bac_device.specs.Demo.{demo_points}
 use Rattle.bac_device.specs.Device.{DeviceState, device_after}
 use Rattle.bac_text.specs.Checked.{has_failed}
 use Rattle.bac_text.specs.declared.checked.Checked.{Checked}
 use Rattle.bac_links.specs.History.{Account}
-use Rattle.bac_links.specs.Call.{ReadTells, WriteTells}
+use Rattle.bac_links.specs.Call.{Tells}
 use Rattle.bac_links.specs.Search.{Searched}
 use Rattle.bac_links.specs.Serve.{Serves}
 use Rattle.bac_links.specs.Fault.{is_link_fault, is_write_fault}
 use Rattle.bac_links.specs.declared.ending.Exit.{Exit}
+use Rattle.bac_links.specs.declared.ending.Purpose.TheVariants.{Reading, Writing}
 use Rattle.bac_links.specs.declared.fault.ToolFault.{ToolFault}
 use Rattle.bac_links.specs.declared.fault.ToolFault.TheVariants.{WriteFailed}
 use Rattle.bac_links.specs.declared.link.LinkFault.{LinkFault}
@@ -26,15 +27,15 @@ use Rattle.bac_tools.specs.Report.{as_exit, tool_report, trace_report, unbound_r
 use Rattle.bac_tools.specs.declared.report.Report.{Report}
 
 -- A demonstration device: its replies to the datagrams that come.
-pub record DevicePlays (serve : Serve) (told left : Account) (answer : Result Exit ToolFault) : Type 0 where
+pub record DevicePlays (serve : Serve) (seen left : Account) (answer : Result Exit ToolFault) : Type 0 where
   pub device : DeviceState
   pub served : Result ℕ ToolFault
-  pub serves : Serves serve.count (device_after serve.info demo_points []) device told left served
+  pub serves : Serves serve.count (device_after serve.info demo_points []) device seen left served
   pub answers : answer ≡ as_exit served
 
 -- ---- the tools over a link: what each does to its writer and its link, and its answer
 
-module _ {W : Type 0} (contents : W → Option (List ℕ)) (writer writer' : Checked W) (told left : Account)
+module _ {W : Type 0} (contents : W → Option (List ℕ)) (writer writer' : Checked W) (seen left : Account)
     (answer : Result Exit ToolFault) where
   -- Only where the writer is at fault was anything printed of a call that met a fault.
   abbrev pub Unprinted : Type 0
@@ -43,10 +44,10 @@ module _ {W : Type 0} (contents : W → Option (List ℕ)) (writer writer' : Che
   -- A request tells its events, its sends, its end and the line of that, by the look-ahead; a search the devices that
   -- it finds, and their lines; a device its replies, and it prints nothing.
   abbrev pub ToolRuns : Job → Type 0
-  ToolRuns (Read call) = ReadTells call contents writer writer' told left answer × Unprinted
-  ToolRuns (Write call) = WriteTells call contents writer writer' told left answer × Unprinted
-  ToolRuns (WhoIs search) = Searched search contents writer writer' told left answer
-  ToolRuns (Device serve) = DevicePlays serve told left answer × (writer' ≡ writer)
+  ToolRuns (Read call) = Tells Reading call contents writer writer' seen left answer × Unprinted
+  ToolRuns (Write call) = Tells Writing call contents writer writer' seen left answer × Unprinted
+  ToolRuns (WhoIs search) = Searched search contents writer writer' seen left answer
+  ToolRuns (Device serve) = DevicePlays serve seen left answer × (writer' ≡ writer)
   ToolRuns Trace = ⊥
 
 -- ---- the whole
@@ -57,7 +58,7 @@ module _ {L R W : Type 0} (out : Outside L R W) (reader reader' : Checked R) (wr
   -- their fault.
   pub record RunsOver (job : Job) (link link' : L) : Type 0 where
     pub answer : Result Exit ToolFault
-    pub tool : ToolRuns out.contents writer writer' (out.told link) (out.told link') answer job
+    pub tool : ToolRuns out.contents writer writer' (out.seen link) (out.seen link') answer job
     pub link_fault : out.failed link' ≡ is_link_fault answer
     pub write_fault : has_failed writer' ≡ is_write_fault answer
     pub unread : reader' ≡ reader
@@ -80,16 +81,11 @@ module _ {L R W : Type 0} (out : Outside L R W) (reader reader' : Checked R) (wr
 
   -- A job was run over the socket that was to be had, which is there afterwards.
   abbrev pub RunsOpened : Job → Option (Result L LinkFault) → Option (Result L LinkFault) → Type 0
-  RunsOpened job None opened' = ⊥
   RunsOpened job (Some (Err fault)) opened' = RunsUnbound fault opened'
   RunsOpened job (Some (Ok link)) (Some (Ok link')) = RunsOver job link link'
-  RunsOpened job (Some (Ok link)) (Some (Err fault)) = ⊥
-  RunsOpened job (Some (Ok link)) None = ⊥
+  RunsOpened job opened opened' = ⊥
 
   -- What a job does with what was opened for it, its reader and its writer, and the report.
   abbrev pub Runs : Job → Option (Result L LinkFault) → Option (Result L LinkFault) → Type 0
-  Runs (Read call) = RunsOpened (Read call)
-  Runs (Write call) = RunsOpened (Write call)
-  Runs (WhoIs search) = RunsOpened (WhoIs search)
-  Runs (Device serve) = RunsOpened (Device serve)
   Runs Trace = λ opened opened'. RunsScript × (opened' ≡ opened)
+  Runs job = RunsOpened job

@@ -14,13 +14,13 @@ use std::io::{Read, Write};
 pub fn the_program_is_a_function<M: Network, N: Network, R: Read, S: Read, V: Write, W: Write>()
     ensures { (words : List Text) (one other : Observed)
         → Run M.gives record {
-          told = M.Socket.told;
+          seen = M.Socket.seen;
           failed = M.Socket.has_failed;
           remaining = R.remaining;
           contents = V.contents;
         } words one
         → Run N.gives record {
-          told = N.Socket.told;
+          seen = N.Socket.seen;
           failed = N.Socket.has_failed;
           remaining = S.remaining;
           contents = W.contents;

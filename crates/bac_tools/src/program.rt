@@ -56,7 +56,7 @@ pub fn run_words<N: Network + Drop, R: Read, W: Write>(
     requires reader { has_failed reader.old ≡ false }
     requires writer { has_failed writer.old ≡ false }
     ensures runs { Program N.gives
-        record { told = N.Socket.told; failed = N.Socket.has_failed; remaining = R.remaining; contents = W.contents }
+        record { seen = N.Socket.seen; failed = N.Socket.has_failed; remaining = R.remaining; contents = W.contents }
         network reader.old reader.new writer.old writer.new result (texts words.now) }
     ensures status { IsStatusOf result.report.fault result.report.status }
 {

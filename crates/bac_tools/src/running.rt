@@ -29,7 +29,7 @@ pub fn run_job<L: Link, R: Read, W: Write>(
     requires opened { IsOpened L.has_failed (binding_of job) opened.old }
     requires reader { has_failed reader.old ≡ false }
     requires writer { has_failed writer.old ≡ false }
-    ensures runs { Runs record { told = L.told; failed = L.has_failed; remaining = R.remaining; contents = W.contents }
+    ensures runs { Runs record { seen = L.seen; failed = L.has_failed; remaining = R.remaining; contents = W.contents }
         reader.old reader.new writer.old writer.new result job opened.old opened.new }
     ensures status { IsStatusOf result.fault result.status }
 {
@@ -53,7 +53,7 @@ fn run_tool<L: Link, W: Write>(
     requires ready { IsReady job }
     requires link { L.has_failed link.old ≡ false }
     requires writer { has_failed writer.old ≡ false }
-    ensures tool { ToolRuns W.contents writer.old writer.new (L.told link.old) (L.told link.new) result job }
+    ensures tool { ToolRuns W.contents writer.old writer.new (L.seen link.old) (L.seen link.new) result job }
     ensures link_fault { L.has_failed link.new ≡ is_link_fault result }
     ensures write_fault { has_failed writer.new ≡ is_write_fault result }
 {
@@ -69,7 +69,7 @@ fn run_tool<L: Link, W: Write>(
 // Plays the demonstration device.
 fn play<L: Link>(device: Serve, link: &mut L) -> Result<Exit, ToolFault>
     requires { L.has_failed link.old ≡ false }
-    ensures plays { DevicePlays device (L.told link.old) (L.told link.new) result }
+    ensures plays { DevicePlays device (L.seen link.old) (L.seen link.new) result }
     ensures link_fault { L.has_failed link.new ≡ is_link_fault result }
     ensures write_fault { is_write_fault result ≡ false }
 {

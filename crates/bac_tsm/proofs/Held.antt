@@ -1,4 +1,4 @@
--- The requests at the places of a list, where a place or the list changes.
+-- The requests at the slots of a list, where a slot or the list changes.
 use Rattle.std.proofs.Common.{◌≡◌, ℕ, zero, suc, ◌<◌, ◌≤◌, List, [], ◌∷◌, ◌++◌, length, map, take, drop, set, get_or}
 use Rattle.std.proofs.Common.{refl, ap, ap₂, sym, subst, ◌∙◌, arith, ◌+◌, Bool, true, not, nat_eq, if◌then◌else◌}
 use Rattle.std.specs.Prelude.{remove}
@@ -6,7 +6,7 @@ use Rattle.std.proofs.lemmas.Bool.{eq-eqb, ne_eqb}
 use Rattle.std.proofs.lemmas.List.{map-append, take-map, drop-map, get_or-set_same, get_or-set_other, get_or-map}
 use Rattle.std.proofs.lemmas.List.{get_or_default, length-append}
 use Rattle.bac_tsm.specs.Machine.{Waiting}
-use Rattle.bac_tsm.specs.Table.{held_at, times_of_place, times}
+use Rattle.bac_tsm.specs.Table.{held_at, times_of_slot, times}
 use Rattle.bac_tsm.specs.Waiting.{nothing}
 use Rattle.std.specs.List.{filter}
 use Rattle.std.proofs.lemmas.List.Sums.{length-filter, sum_by-remove}
@@ -61,52 +61,52 @@ module _ {A : Type 0} (key : A → ℕ) (p : A → Bool) (n : ℕ) (says : (x : 
       grind (arith, nat_tests, one_passes xs i d, says x)
 
 abbrev pub itself : ℕ → ℕ
-itself place = place
+itself slot = slot
 
-abbrev at_place : List Waiting → ℕ → Waiting
-at_place places place = get_or places place nothing
+abbrev at_slot : List Waiting → ℕ → Waiting
+at_slot slots slot = get_or slots slot nothing
 
--- A place that is not among these can be filled with what one likes.
-held_elsewhere : (places : List Waiting) (place : ℕ) (w : Waiting) (order : List ℕ) → times_of_place place order ≡ 0 →
-    held_at (set places place w) order ≡ held_at places order
-held_elsewhere places place w [] none = refl
-held_elsewhere places place w (q ∷ qs) none =
-    grind (arith, nat_tests, get_or-set_other places place q w nothing, held_elsewhere places place w qs)
+-- A slot that is not among these can be filled with what one likes.
+held_elsewhere : (slots : List Waiting) (slot : ℕ) (w : Waiting) (order : List ℕ) → times_of_slot slot order ≡ 0 →
+    held_at (set slots slot w) order ≡ held_at slots order
+held_elsewhere slots slot w [] none = refl
+held_elsewhere slots slot w (q ∷ qs) none =
+    grind (arith, nat_tests, get_or-set_other slots slot q w nothing, held_elsewhere slots slot w qs)
 
-pub held-set : (places : List Waiting) (place : ℕ) (w : Waiting) (order : List ℕ) (i : ℕ) → place < length places →
-    i < length order → get_or order i 0 ≡ place → times_of_place place order ≤ 1 →
-    held_at (set places place w) order ≡ set (held_at places order) i w
-held-set places place w [] i there lt is once = absurd (omega arith)
-held-set places place w (q ∷ qs) zero there lt is once =
-    grind (arith, nat_tests, get_or-set_same places place w nothing there, held_elsewhere places place w qs)
-held-set places place w (q ∷ qs) (suc i) there lt is once =
-    let later : 0 < times_of_place place qs =
-    subst (λ (k : ℕ). 0 < times_of_place k qs) is (times_got itself qs i 0 (omega arith)) in
+pub held-set : (slots : List Waiting) (slot : ℕ) (w : Waiting) (order : List ℕ) (i : ℕ) → slot < length slots →
+    i < length order → get_or order i 0 ≡ slot → times_of_slot slot order ≤ 1 →
+    held_at (set slots slot w) order ≡ set (held_at slots order) i w
+held-set slots slot w [] i there lt is once = absurd (omega arith)
+held-set slots slot w (q ∷ qs) zero there lt is once =
+    grind (arith, nat_tests, get_or-set_same slots slot w nothing there, held_elsewhere slots slot w qs)
+held-set slots slot w (q ∷ qs) (suc i) there lt is once =
+    let later : 0 < times_of_slot slot qs =
+    subst (λ (k : ℕ). 0 < times_of_slot k qs) is (times_got itself qs i 0 (omega arith)) in
     grind (
       arith,
       nat_tests,
-      get_or-set_other places place q w nothing,
-      held-set places place w qs i there (omega arith) is,
+      get_or-set_other slots slot q w nothing,
+      held-set slots slot w qs i there (omega arith) is,
     )
 
--- A place that is not among these is filled, and put behind them.
-pub held-push : (places : List Waiting) (place : ℕ) (w : Waiting) (order : List ℕ) → place < length places
-    → times_of_place place order ≡ 0 →
-    held_at (set places place w) (order ++ place ∷ []) ≡ held_at places order ++ w ∷ []
-held-push places place w order there none =
-    map-append (at_place (set places place w)) order (place ∷ [])
-    ∙ ap₂ ◌++◌ (held_elsewhere places place w order none)
-    (ap (λ (v : Waiting). v ∷ []) (get_or-set_same places place w nothing there))
+-- A slot that is not among these is filled, and put behind them.
+pub held-push : (slots : List Waiting) (slot : ℕ) (w : Waiting) (order : List ℕ) → slot < length slots
+    → times_of_slot slot order ≡ 0 →
+    held_at (set slots slot w) (order ++ slot ∷ []) ≡ held_at slots order ++ w ∷ []
+held-push slots slot w order there none =
+    map-append (at_slot (set slots slot w)) order (slot ∷ [])
+    ∙ ap₂ ◌++◌ (held_elsewhere slots slot w order none)
+    (ap (λ (v : Waiting). v ∷ []) (get_or-set_same slots slot w nothing there))
 
 pub map-remove : {A B : Type 0} (f : A → B) (xs : List A) (i : ℕ) → map f (remove xs i) ≡ remove (map f xs) i
 map-remove f xs i =
     map-append f (take i xs) (drop (suc i) xs)
     ∙ ap₂ ◌++◌ (sym (take-map f i xs)) (sym (drop-map f (suc i) xs))
 
-pub held_got : (places : List Waiting) (order : List ℕ) (i place : ℕ) → i < length order → get_or order i 0 ≡ place →
-    get_or (held_at places order) i nothing ≡ get_or places place nothing
-held_got places order i place lt is = get_or-map (at_place places) order i 0 nothing lt ∙ ap (at_place places) is
+pub held_got : (slots : List Waiting) (order : List ℕ) (i slot : ℕ) → i < length order → get_or order i 0 ≡ slot →
+    get_or (held_at slots order) i nothing ≡ get_or slots slot nothing
+held_got slots order i slot lt is = get_or-map (at_slot slots) order i 0 nothing lt ∙ ap (at_slot slots) is
 
-pub same_turn : (order : List ℕ) (i place : ℕ) → i < length order → place ≡ get_or order i place
-    → place ≡ get_or order i 0
-same_turn order i place lt is = is ∙ get_or_default order i place 0 lt
+pub same_turn : (order : List ℕ) (i slot : ℕ) → i < length order → slot ≡ get_or order i slot
+    → slot ≡ get_or order i 0
+same_turn order i slot lt is = is ∙ get_or_default order i slot 0 lt

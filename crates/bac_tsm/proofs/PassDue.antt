@@ -12,12 +12,12 @@ use Rattle.bac_tsm.specs.Limits.{table_size}
 use Rattle.bac_tsm.specs.declared.due.Entry.TheVariants.{Resend, TimedOut as Expired}
 use Rattle.bac_tsm.specs.Events.{Rules}
 use Rattle.bac_tsm.specs.Machine.{Waiting, is_due, due_entry, kept}
-use Rattle.bac_tsm.specs.Table.{held_at, times_of_place, open_places, waiting_in, IsTable, AreBySend}
-use Rattle.bac_tsm.specs.Inner.Table.{IsTurnOf, IsPassed}
+use Rattle.bac_tsm.specs.Table.{held_at, times_of_slot, open_slots, waiting_in, IsTable, AreBySend}
+use Rattle.bac_tsm.specs.Inner.Table.{IsRankOf, IsPassed}
 use Rattle.bac_tsm.specs.Waiting.{nothing, ticket_in}
 use Rattle.bac_tsm.specs.Inner.Waiting.{sent_at}
 use Rattle.bac_tsm.proofs.Held.{itself, held_got, times_got}
-use Rattle.bac_tsm.proofs.TableReads.{times_split, turn, turn_lt, stands, open_below, open_read, one_turn, as_many}
+use Rattle.bac_tsm.proofs.TableReads.{times_split, rank, turn_lt, stands, open_below, open_read, one_turn, as_many}
 use Rattle.bac_tsm.proofs.TableReads.{count}
 use Rattle.bac_tsm.proofs.TableEdits.{changed_by, all_opened, queue-again}
 
@@ -28,9 +28,9 @@ younger timeout clock early late young le =
     grind (arith, nat_tests)
 
 -- Where some request is due, some was sent first.
-pub first_sent : {places : List Waiting} {numbers : List (Option ℕ)} {order tickets sends : List ℕ}
-    → IsTable places numbers order tickets →
-    AreBySend places (open_places order tickets) sends → (ws : List Waiting) → waiting_in places order tickets ≡ ws
+pub first_sent : {slots : List Waiting} {numbers : List (Option ℕ)} {order tickets sends : List ℕ}
+    → IsTable slots numbers order tickets →
+    AreBySend slots (open_slots order tickets) sends → (ws : List Waiting) → waiting_in slots order tickets ≡ ws
     → (rules : Rules) (clock : ℕ) →
     list_any (is_due rules clock) ws ≡ true → (items : List ℕ) → items ≡ sends
     → Some (get_or items 0 0) ≡ slice_get items 0
@@ -48,58 +48,58 @@ module _ (rules : Rules) (clock : ℕ) (w : Waiting) where
       × (w.request.ticket ≡ ticket)
   is_over ticket is = grind (arith, nat_tests, is)
 
-module _ {places : List Waiting} {numbers : List (Option ℕ)} {order tickets sends : List ℕ}
-    (t : IsTable places numbers order tickets)
-    (q : AreBySend places (open_places order tickets) sends) (ws : List Waiting)
-    (view : waiting_in places order tickets ≡ ws)
-    (items : List ℕ) (are : items ≡ sends) (place : ℕ) (front : Some place ≡ slice_get items 0) where
-  first : (0 < length sends) × (get_or sends 0 0 ≡ place)
+module _ {slots : List Waiting} {numbers : List (Option ℕ)} {order tickets sends : List ℕ}
+    (t : IsTable slots numbers order tickets)
+    (q : AreBySend slots (open_slots order tickets) sends) (ws : List Waiting)
+    (view : waiting_in slots order tickets ≡ ws)
+    (items : List ℕ) (are : items ≡ sends) (slot : ℕ) (front : Some slot ≡ slice_get items 0) where
+  first : (0 < length sends) × (get_or sends 0 0 ≡ slot)
   first =
       let e = sym (front ∙ ap (λ (xs : List ℕ). slice_get xs 0) are) in
-      (slice_get_within sends 0 place e, get_or_from_slice_get sends 0 place 0 e)
+      (slice_get_within sends 0 slot e, get_or_from_slice_get sends 0 slot 0 e)
 
-  some : 0 < times_of_place place (open_places order tickets)
+  some : 0 < times_of_slot slot (open_slots order tickets)
   some =
-      let there = subst (λ (k : ℕ). 0 < times_of_place k sends) first.1 (times_got itself sends 0 0 first.0) in
-      let e = q.same place in
+      let there = subst (λ (k : ℕ). 0 < times_of_slot k sends) first.1 (times_got itself sends 0 0 first.0) in
+      let e = q.same slot in
       omega arith
 
-  pub front_below : place < table_size
-  front_below = open_below t ws view place some
+  pub front_below : slot < table_size
+  front_below = open_below t ws view slot some
 
   abbrev i : ℕ
-  i = (turn t ws view place some).0
+  i = (rank t ws view slot some).0
 
-  module _ (rules : Rules) (clock : ℕ) (w : Waiting) (reads : w ≡ get_or places place nothing) where
+  module _ (rules : Rules) (clock : ℕ) (w : Waiting) (reads : w ≡ get_or slots slot nothing) where
     read : w ≡ get_or ws i nothing
-    read = reads ∙ open_read t ws view place some
+    read = reads ∙ open_read t ws view slot some
 
     none_due : is_due rules clock w ≡ false → All (λ v. is_due rules clock v ≡ false) ws
     none_due young =
         subst (All (λ v. is_due rules clock v ≡ false)) view
         (all_opened q (λ v. is_due rules clock v ≡ false) (λ k e lt.
-        younger rules.timeout clock (get_or (held_at places sends) 0 e).base (get_or (held_at places sends) k e).base
+        younger rules.timeout clock (get_or (held_at slots sends) 0 e).base (get_or (held_at slots sends) k e).base
         (rw (here e) young) (later k e lt)))
       where
-        here : (e : Waiting) → get_or (held_at places sends) 0 e ≡ w
-        here e = get_or_default (held_at places sends) 0 e nothing (rw length-map first.0)
-            ∙ held_got places sends 0 place first.0 first.1 ∙ sym reads
+        here : (e : Waiting) → get_or (held_at slots sends) 0 e ≡ w
+        here e = get_or_default (held_at slots sends) 0 e nothing (rw length-map first.0)
+            ∙ held_got slots sends 0 slot first.0 first.1 ∙ sym reads
 
-        later : (k : ℕ) (e : Waiting) → k < length (held_at places sends)
-            → (get_or (held_at places sends) 0 e).base ≤ (get_or (held_at places sends) k e).base
+        later : (k : ℕ) (e : Waiting) → k < length (held_at slots sends)
+            → (get_or (held_at slots sends) 0 e).base ≤ (get_or (held_at slots sends) k e).base
         later k e lt = grind (arith, q.by_send 0 k e)
 
     pub some_due : is_due rules clock w ≡ list_any (is_due rules clock) ws
     some_due = elim (cases_Bool (is_due rules clock w)) [
       | inl due ↦ due ∙ sym
-          (list_any_at (is_due rules clock) ws i nothing (turn_lt t ws view place some)
+          (list_any_at (is_due rules clock) ws i nothing (turn_lt t ws view slot some)
           (ap (is_due rules clock) (sym read) ∙ due))
       | inr young ↦ young ∙ sym (list_any_none (is_due rules clock) ws (none_due young))
     ]
 
-    pub not_found : (ticket : ℕ) → due_entry rules w ≡ Expired ticket → IsTurnOf ticket ws None → ⊥
+    pub not_found : (ticket : ℕ) → due_entry rules w ≡ Expired ticket → IsRankOf ticket ws None → ⊥
     not_found ticket over none =
-        none i nothing (turn_lt t ws view place some) (ap ticket_in (sym read) ∙ (is_over rules clock w ticket over).1)
+        none i nothing (turn_lt t ws view slot some) (ap ticket_in (sym read) ∙ (is_over rules clock w ticket over).1)
 
     module _ (due : list_any (is_due rules clock) ws ≡ true) where
       due_there : is_due rules clock (get_or ws i nothing) ≡ true
@@ -107,21 +107,21 @@ module _ {places : List Waiting} {numbers : List (Option ℕ)} {order tickets se
 
       pub sent_again : All (λ v. v.base ≤ clock) ws → (ticket : ℕ) → due_entry rules w ≡ Resend ticket
           → (changed : List Waiting) (rest after : List ℕ) →
-          changed ≡ set places place (sent_at clock (get_or places place nothing)) → rest ≡ remove sends 0
-          → after ≡ rest ++ place ∷ [] →
+          changed ≡ set slots slot (sent_at clock (get_or slots slot nothing)) → rest ≡ remove sends 0
+          → after ≡ rest ++ slot ∷ [] →
           IsPassed rules clock ws (due_entry rules w) (waiting_in changed order tickets)
-          × IsTable changed numbers order tickets × AreBySend changed (open_places order tickets) after
+          × IsTable changed numbers order tickets × AreBySend changed (open_slots order tickets) after
       sent_again past ticket again changed rest after is out back =
-          let v = sent_at clock (get_or places place nothing) in
-          let lt = turn_lt t ws view place some in
-          let moved = changed_by t ws view i lt place (stands t ws view place some) v refl in
+          let v = sent_at clock (get_or slots slot nothing) in
+          let lt = turn_lt t ws view slot some in
+          let moved = changed_by t ws view i lt slot (stands t ws view slot some) v refl in
           let kept_now : v ∷ [] ≡ kept rules clock (get_or ws i nothing) =
           rw (
             due_there,
             ap (λ (u : Waiting). nat_lt u.count rules.retries) (sym read)
                 ∙ is_again rules clock w ticket again,
           )
-          (ap (λ (u : Waiting). sent_at clock u ∷ []) (open_read t ws view place some)) in
+          (ap (λ (u : Waiting). sent_at clock u ∷ []) (open_read t ws view slot some)) in
           rw (is, back) (
             (
               i,
@@ -132,23 +132,23 @@ module _ {places : List Waiting} {numbers : List (Option ℕ)} {order tickets se
                   ∙ ap (λ (xs : List Waiting). take i ws ++ (xs ++ drop (suc i) ws)) kept_now,
             ),
             moved.1,
-            queue-again q place rest (0, first.0, first.1, out) v
-                (let all = t.all_places in let below = front_below in omega arith)
-                (let e = t.once place in let f = times_split t place (length tickets) in omega arith)
+            queue-again q slot rest (0, first.0, first.1, out) v
+                (let all = t.all_slots in let below = front_below in omega arith)
+                (let e = t.once slot in let f = times_split t slot (length tickets) in omega arith)
                 (subst (All (λ u. u.base ≤ clock)) (sym view) past),
           )
 
-      pub ended : (ticket j : ℕ) → due_entry rules w ≡ Expired ticket → IsTurnOf ticket ws (Some j)
+      pub ended : (ticket j : ℕ) → due_entry rules w ≡ Expired ticket → IsRankOf ticket ws (Some j)
           → (after : List Waiting) → after ≡ remove ws j →
           IsPassed rules clock ws (Expired ticket) after
       ended ticket j over its after to =
           let gone = is_over rules clock w ticket over in
           let same_turn : j ≡ i =
-          one_turn t ws view j i its.0 (turn_lt t ws view place some) (its.1 ∙ sym gone.1 ∙ ap ticket_in read) in
+          one_turn t ws view j i its.0 (turn_lt t ws view slot some) (its.1 ∙ sym gone.1 ∙ ap ticket_in read) in
           let none : kept rules clock (get_or ws i nothing) ≡ [] =
           rw (due_there, ap (λ (u : Waiting). nat_lt u.count rules.retries) (sym read) ∙ gone.0) refl in (
             i,
-            turn_lt t ws view place some,
+            turn_lt t ws view slot some,
             due_there,
             sym over ∙ ap (due_entry rules) read,
             to

@@ -17,12 +17,12 @@ use Rattle.std.proofs.lemmas.Bool.Decides.{nat_tests}
 use Rattle.bac_tsm.specs.Limits.{table_size}
 use Rattle.bac_tsm.specs.Machine.{Waiting}
 use Rattle.bac_tsm.specs.Answers.{Answer, is_answer_to}
-use Rattle.bac_tsm.specs.Table.{times, held_at, times_of_place, open_places, waiting_in, Names, IsTable}
-use Rattle.bac_tsm.specs.Inner.Table.{IsTurnOf}
+use Rattle.bac_tsm.specs.Table.{times, held_at, times_of_slot, open_slots, waiting_in, Names, IsTable}
+use Rattle.bac_tsm.specs.Inner.Table.{IsRankOf}
 use Rattle.bac_tsm.specs.Waiting.{ticket_in, number_in, nothing}
 use Rattle.bac_tsm.proofs.CallNotes.{TicketsRise, by_ticket, pairs_tail}
 use Rattle.bac_tsm.proofs.Held.{itself, held_got, times-append, times_got, none_passes, one_passes}
-use Rattle.bac_tsm.specs.Lookahead.{first_within, next_number}
+use Rattle.bac_tsm.specs.Lookahead.{first_within, next_invoke_id}
 use Rattle.bac_tsm.proofs.RequestLife.{NotBefore, first_from, first_at}
 use Rattle.bac_tsm.proofs.NumberCycle.{is_free, a_step}
 
@@ -32,15 +32,15 @@ pub any_number : (number : ℕ) (ws : List Waiting)
 any_number number [] = refl
 any_number number (w ∷ ws) = grind (arith, nat_tests, any_number number ws)
 
--- Where a place is among these, it stands at a turn, and the first such turn is found.
-pub record StandsAt (place : ℕ) (order : List ℕ) (i : ℕ) : Type 0 where
-  pub found : position (λ other. nat_eq other place) order ≡ Some i
+-- Where a slot is among these, it stands at a rank, and the first such rank is found.
+pub record StandsAt (slot : ℕ) (order : List ℕ) (i : ℕ) : Type 0 where
+  pub found : position (λ other. nat_eq other slot) order ≡ Some i
   pub within : i < length order
-  pub there : get_or order i 0 ≡ place
+  pub there : get_or order i 0 ≡ slot
 
-pub found_at : (place : ℕ) (order : List ℕ) → 0 < times_of_place place order → (i : ℕ) × StandsAt place order i
-found_at place order some =
-    let test = λ (other : ℕ). nat_eq other place in
+pub found_at : (slot : ℕ) (order : List ℕ) → 0 < times_of_slot slot order → (i : ℕ) × StandsAt slot order i
+found_at slot order some =
+    let test = λ (other : ℕ). nat_eq other slot in
     let within = first order some in (
       position_or_len test order,
       record {
@@ -50,75 +50,75 @@ found_at place order some =
       },
     )
   where
-    first : (order : List ℕ) → 0 < times_of_place place order
-        → position_or_len (λ other. nat_eq other place) order < length order
+    first : (order : List ℕ) → 0 < times_of_slot slot order
+        → position_or_len (λ other. nat_eq other slot) order < length order
     first [] some = absurd (omega arith)
     first (q ∷ qs) some = grind (arith, nat_tests, first qs, some)
 
 -- Where tickets rise, the one request with a ticket is the first with it.
-find_turn : (t : ℕ) (ws : List Waiting) (i : ℕ) → TicketsRise ws → i < length ws
+find_rank : (t : ℕ) (ws : List Waiting) (i : ℕ) → TicketsRise ws → i < length ws
     → (get_or ws i nothing).request.ticket ≡ t →
     find (by_ticket t) ws ≡ Some (get_or ws i nothing)
-find_turn t [] i rise lt is = absurd (omega arith)
-find_turn t (w ∷ ws) zero rise lt is = rw (eq-eqb w.request.ticket t is) refl
-find_turn t (w ∷ ws) (suc i) rise lt is =
+find_rank t [] i rise lt is = absurd (omega arith)
+find_rank t (w ∷ ws) zero rise lt is = rw (eq-eqb w.request.ticket t is) refl
+find_rank t (w ∷ ws) (suc i) rise lt is =
     let less : w.request.ticket < (get_or ws i nothing).request.ticket =
     rise 0 (suc i) nothing (omega arith) (omega arith) in
     rw (ne_eqb w.request.ticket t (λ q. omega arith))
-    (find_turn t ws i (pairs_tail (λ v w. v.request.ticket < w.request.ticket) w ws rise) (omega arith) is)
+    (find_rank t ws i (pairs_tail (λ v w. v.request.ticket < w.request.ticket) w ws rise) (omega arith) is)
 
-module _ {places : List Waiting} {numbers : List (Option ℕ)} {order tickets : List ℕ}
-    (t : IsTable places numbers order tickets) where
+module _ {slots : List Waiting} {numbers : List (Option ℕ)} {order tickets : List ℕ}
+    (t : IsTable slots numbers order tickets) where
   abbrev opened : List ℕ
-  opened = open_places order tickets
+  opened = open_slots order tickets
 
   pub as_many : length opened ≡ length tickets
   as_many =
-      sym (length-map opened (λ place. get_or places place nothing))
-      ∙ sym (length-map (waiting_in places order tickets) ticket_in) ∙ ap length t.ticketed
+      sym (length-map opened (λ slot. get_or slots slot nothing))
+      ∙ sym (length-map (waiting_in slots order tickets) ticket_in) ∙ ap length t.ticketed
 
-  -- Those before and those after a turn of the order are the order.
-  pub times_split : (place n : ℕ)
-      → times_of_place place order ≡ times_of_place place (take n order) + times_of_place place (drop n order)
-  times_split place n = ap (times_of_place place) (sym (take-append-drop n order))
-      ∙ times-append itself place (take n order) (drop n order)
+  -- Those before and those after a rank of the order are the order.
+  pub times_split : (slot n : ℕ)
+      → times_of_slot slot order ≡ times_of_slot slot (take n order) + times_of_slot slot (drop n order)
+  times_split slot n = ap (times_of_slot slot) (sym (take-append-drop n order))
+      ∙ times-append itself slot (take n order) (drop n order)
 
   pub few : length tickets ≤ length order
   few = let e = length-take (length tickets) order in let f = as_many in omega arith
 
-  -- A place that stands at a turn of the order.
-  module _ (i place : ℕ) (lt : i < length order) (is : get_or order i 0 ≡ place) where
-    pub read_within : place < table_size
+  -- A slot that stands at a rank of the order.
+  module _ (i slot : ℕ) (lt : i < length order) (is : get_or order i 0 ≡ slot) where
+    pub read_within : slot < table_size
     read_within =
-        let some = subst (λ (k : ℕ). 0 < times_of_place k order) is (times_got itself order i 0 lt) in
-        grind (arith, t.within place, some)
+        let some = subst (λ (k : ℕ). 0 < times_of_slot k order) is (times_got itself order i 0 lt) in
+        grind (arith, t.within slot, some)
 
-    pub read_listed : place < length places
-    read_listed = let all = t.all_places in let below = read_within in omega arith
+    pub read_listed : slot < length slots
+    read_listed = let all = t.all_slots in let below = read_within in omega arith
 
-  -- A turn of the open requests.
-  module _ (ws : List Waiting) (view : waiting_in places order tickets ≡ ws) where
+  -- A rank of the open requests.
+  module _ (ws : List Waiting) (view : waiting_in slots order tickets ≡ ws) where
     pub count : length tickets ≡ length ws
-    count = sym as_many ∙ sym (length-map opened (λ place. get_or places place nothing)) ∙ ap length view
+    count = sym as_many ∙ sym (length-map opened (λ slot. get_or slots slot nothing)) ∙ ap length view
 
-    pub turn_within : (i : ℕ) → i < length ws → i < length order
-    turn_within i lt = let e = count in let g = few in omega arith
+    pub rank_within : (i : ℕ) → i < length ws → i < length order
+    rank_within i lt = let e = count in let g = few in omega arith
 
     pub turn_opened : (i : ℕ) → i < length ws → i < length opened
     turn_opened i lt = let e = count in let f = as_many in omega arith
 
-    pub here : (i place : ℕ) → i < length ws → get_or order i 0 ≡ place → get_or opened i 0 ≡ place
-    here i place lt is = get_or-take (length tickets) order i 0 (let e = count in omega arith) ∙ is
+    pub here : (i slot : ℕ) → i < length ws → get_or order i 0 ≡ slot → get_or opened i 0 ≡ slot
+    here i slot lt is = get_or-take (length tickets) order i 0 (let e = count in omega arith) ∙ is
 
-    pub read_held : (i place : ℕ) → i < length ws → get_or order i 0 ≡ place
-        → get_or places place nothing ≡ get_or ws i nothing
-    read_held i place lt is =
-        sym (held_got places opened i place (turn_opened i lt) (here i place lt is))
+    pub read_held : (i slot : ℕ) → i < length ws → get_or order i 0 ≡ slot
+        → get_or slots slot nothing ≡ get_or ws i nothing
+    read_held i slot lt is =
+        sym (held_got slots opened i slot (turn_opened i lt) (here i slot lt is))
         ∙ ap (λ (vs : List Waiting). get_or vs i nothing) view
 
-    -- The first free place, where there is one.
+    -- The first free slot, where there is one.
     pub next_free : length ws < table_size → get_or order (length tickets) 0 < table_size
-    next_free room = read_within (length tickets) _ (let e = count in let g = t.all_turns in omega arith) refl
+    next_free room = read_within (length tickets) _ (let e = count in let g = t.all_ranks in omega arith) refl
 
     -- The tickets are those of the requests.
     pub ticket_got : (i : ℕ) → i < length ws → (d : Waiting) (e : ℕ)
@@ -134,26 +134,26 @@ module _ {places : List Waiting} {numbers : List (Option ℕ)} {order tickets : 
         let f = ticket_got j late d 0 in
         omega arith
 
-    -- A ticket stands at one turn.
+    -- A ticket stands at one rank.
     pub one_turn : (i j : ℕ) → i < length ws → j < length ws
         → (get_or ws i nothing).request.ticket ≡ (get_or ws j nothing).request.ticket → i ≡ j
     one_turn i j lt most same = grind (arith, rising i j nothing, rising j i nothing)
 
-    -- A turn at which the ticket stands.
-    pub likely_turn : (ticket : ℕ) (items : List ℕ) → items ≡ tickets → (i : ℕ) → slice_get items i ≡ Some ticket
-        → IsTurnOf ticket ws (Some i)
-    likely_turn ticket items are i there =
+    -- A rank at which the ticket stands.
+    pub likely_rank : (ticket : ℕ) (items : List ℕ) → items ≡ tickets → (i : ℕ) → slice_get items i ≡ Some ticket
+        → IsRankOf ticket ws (Some i)
+    likely_rank ticket items are i there =
         let got = ap (λ (ts : List ℕ). slice_get ts i) (sym are) ∙ there in
         let e = count in
         let within = slice_get_within tickets i ticket got in
         let lt : i < length ws = omega arith in
         let has = sym (ticket_got i lt nothing 0) ∙ get_or_from_slice_get tickets i ticket 0 got in
-        (lt, has, find_turn ticket ws i rising lt has)
+        (lt, has, find_rank ticket ws i rising lt has)
 
     -- What a search among the tickets answers.
-    pub searched_turn : (ticket : ℕ) (items : List ℕ) → items ≡ tickets → (r : Result ℕ ℕ) →
-        IsBinarySearchResult (λ y. nat_cmp y ticket) items r → IsTurnOf ticket ws (result_ok r)
-    searched_turn ticket items are r found =
+    pub searched_rank : (ticket : ℕ) (items : List ℕ) → items ≡ tickets → (r : Result ℕ ℕ) →
+        IsBinarySearchResult (λ y. nat_cmp y ticket) items r → IsRankOf ticket ws (result_ok r)
+    searched_rank ticket items are r found =
         by r (searched tickets ticket r
         (subst (λ (xs : List ℕ). IsBinarySearchResult (λ y. nat_cmp y ticket) xs r) are found) up)
       where
@@ -163,62 +163,62 @@ module _ {places : List Waiting} {numbers : List (Option ℕ)} {order tickets : 
         by : (r : Result ℕ ℕ) → MatchResult r (λ i. (i < length tickets) × (get_or tickets i 0 ≡ ticket))
             (λ i. (i ≤ length tickets) × ((k : ℕ) → k < i → get_or tickets k 0 < ticket)
             × ((k : ℕ) → i ≤ k → k < length tickets → ticket < get_or tickets k 0)) →
-            IsTurnOf ticket ws (result_ok r)
+            IsRankOf ticket ws (result_ok r)
         by (Ok i) h =
             let e = count in
             let lt : i < length ws = let f = h.0 in omega arith in
             let has = sym (ticket_got i lt nothing 0) ∙ h.1 in
-            (lt, has, find_turn ticket ws i rising lt has)
+            (lt, has, find_rank ticket ws i rising lt has)
         by (Err i) h = λ k d lt same.
             let e = count in
             let f = ticket_got k lt d 0 in
             grind (arith, h.1 k, h.2 k)
 
-  -- An open place, and the turn of the request there.
-  module _ (ws : List Waiting) (view : waiting_in places order tickets ≡ ws) (place : ℕ)
-      (some : 0 < times_of_place place opened) where
-    pub turn : (i : ℕ) × StandsAt place opened i
-    turn = found_at place opened some
+  -- An open slot, and the rank of the request there.
+  module _ (ws : List Waiting) (view : waiting_in slots order tickets ≡ ws) (slot : ℕ)
+      (some : 0 < times_of_slot slot opened) where
+    pub rank : (i : ℕ) × StandsAt slot opened i
+    rank = found_at slot opened some
 
-    pub turn_lt : turn.0 < length ws
-    turn_lt = let e = count ws view in let f = as_many in let lt = turn.1.within in omega arith
+    pub turn_lt : rank.0 < length ws
+    turn_lt = let e = count ws view in let f = as_many in let lt = rank.1.within in omega arith
 
-    pub stands : get_or order turn.0 0 ≡ place
-    stands = sym (get_or-take (length tickets) order turn.0 0
-        (let lt = turn_lt in let e = count ws view in omega arith)) ∙ turn.1.there
+    pub stands : get_or order rank.0 0 ≡ slot
+    stands = sym (get_or-take (length tickets) order rank.0 0
+        (let lt = turn_lt in let e = count ws view in omega arith)) ∙ rank.1.there
 
-    pub open_below : place < table_size
-    open_below = read_within turn.0 place (turn_within ws view turn.0 turn_lt) stands
+    pub open_below : slot < table_size
+    open_below = read_within rank.0 slot (rank_within ws view rank.0 turn_lt) stands
 
-    pub open_read : get_or places place nothing ≡ get_or ws turn.0 nothing
-    open_read = read_held ws view turn.0 place turn_lt stands
+    pub open_read : get_or slots slot nothing ≡ get_or ws rank.0 nothing
+    open_read = read_held ws view rank.0 slot turn_lt stands
 
   -- The entry of a number.
   module _ (number : ℕ) (fits : number < 256) where
-    -- The place that the entry names is open, and the request there has the number.
-    named : (place : ℕ) → get_or numbers number None ≡ Some place → Names places opened number (Some place)
-    named place is = subst (Names places opened number) is (t.numbered.named number fits)
+    -- The slot that the entry names is open, and the request there has the number.
+    named : (slot : ℕ) → get_or numbers number None ≡ Some slot → Names slots opened number (Some slot)
+    named slot is = subst (Names slots opened number) is (t.numbered.named number fits)
 
-    pub taken : (index : ℕ) → index ≡ number → (ws : List Waiting) → waiting_in places order tickets ≡ ws →
+    pub taken : (index : ℕ) → index ≡ number → (ws : List Waiting) → waiting_in slots order tickets ≡ ws →
         is_some (get_or numbers index None) ≡ list_any (λ w. nat_eq number w.request.number) ws
     taken index is ws view = rw (is, ← view) (by (get_or numbers number None) refl)
       where
         by : (entry : Option ℕ) → get_or numbers number None ≡ entry
-            → is_some entry ≡ list_any (λ w. nat_eq number w.request.number) (waiting_in places order tickets)
+            → is_some entry ≡ list_any (λ w. nat_eq number w.request.number) (waiting_in slots order tickets)
         by None is = sym
-            (any_number number (held_at places opened)
-            ∙ ap (nat_lt 0) (subst (Names places opened number) is (t.numbered.named number fits)))
-        by (Some place) is =
-            let turn = found_at place opened (named place is).0 in
-            let has = ap number_in (held_got places opened turn.0 place turn.1.within turn.1.there)
-            ∙ (named place is).1 in
-            sym (any_number number (held_at places opened) ∙ lt-ltb 0 _
-            (subst (λ (k : ℕ). 0 < times number_in k (held_at places opened)) has
-            (times_got number_in (held_at places opened) turn.0 nothing (rw length-map turn.1.within))))
+            (any_number number (held_at slots opened)
+            ∙ ap (nat_lt 0) (subst (Names slots opened number) is (t.numbered.named number fits)))
+        by (Some slot) is =
+            let rank = found_at slot opened (named slot is).0 in
+            let has = ap number_in (held_got slots opened rank.0 slot rank.1.within rank.1.there)
+            ∙ (named slot is).1 in
+            sym (any_number number (held_at slots opened) ∙ lt-ltb 0 _
+            (subst (λ (k : ℕ). 0 < times number_in k (held_at slots opened)) has
+            (times_got number_in (held_at slots opened) rank.0 nothing (rw length-map rank.1.within))))
 
   -- What an answer ends.
   module _ (answer : Answer) (number : ℕ) (its : number ≡ answer.number) (fits : number < 256) (ws : List Waiting)
-      (view : waiting_in places order tickets ≡ ws) where
+      (view : waiting_in slots order tickets ≡ ws) where
     abbrev ends : Waiting → Bool
     ends w = is_answer_to w.request answer
 
@@ -234,46 +234,46 @@ module _ {places : List Waiting} {numbers : List (Option ℕ)} {order tickets : 
     closed_none is =
         let none = none_passes number_in ends number says ws
         (subst (λ (vs : List Waiting). times number_in number vs ≡ 0) view
-        (subst (Names places opened number) is (t.numbered.named number fits))) in
+        (subst (Names slots opened number) is (t.numbered.named number fits))) in
         (sym (ap (map ticket_in) none.0), sym none.1)
 
-    module _ (place : ℕ) (is : get_or numbers number None ≡ Some place) where
-      some : 0 < times_of_place place opened
-      some = (named number fits place is).0
+    module _ (slot : ℕ) (is : get_or numbers number None ≡ Some slot) where
+      some : 0 < times_of_slot slot opened
+      some = (named number fits slot is).0
 
       abbrev i : ℕ
-      i = (turn ws view place some).0
+      i = (rank ws view slot some).0
 
-      pub named_below : place < table_size
-      named_below = open_below ws view place some
+      pub named_below : slot < table_size
+      named_below = open_below ws view slot some
 
-      module _ (w : Waiting) (reads : w ≡ get_or places place nothing) where
+      module _ (w : Waiting) (reads : w ≡ get_or slots slot nothing) where
         read : w ≡ get_or ws i nothing
-        read = reads ∙ open_read ws view place some
+        read = reads ∙ open_read ws view slot some
 
         found : (filter ends ws ≡ (if ends w then w ∷ [] else []))
             × (filter (λ v. not (ends v)) ws ≡ (if ends w then remove ws i else ws))
         found =
             rw read
-            (one_passes number_in ends number says ws i nothing (turn_lt ws view place some)
-            (ap number_in (sym (open_read ws view place some)) ∙ (named number fits place is).1)
+            (one_passes number_in ends number says ws i nothing (turn_lt ws view slot some)
+            (ap number_in (sym (open_read ws view slot some)) ∙ (named number fits slot is).1)
             (subst (λ (vs : List Waiting). times number_in number vs ≤ 1) view (t.numbered.apart number)))
 
         pub closed_not : ends w ≡ false → Ends [] ws
         closed_not fails = let both = rw fails at found in (sym (ap (map ticket_in) both.0), sym both.1)
 
         module _ (ticket : ℕ) (named : ticket ≡ w.request.ticket) where
-          pub closed_some_turn : IsTurnOf ticket ws None → ⊥
-          closed_some_turn none = none i nothing (turn_lt ws view place some) (sym (named ∙ ap ticket_in read))
+          pub closed_some_turn : IsRankOf ticket ws None → ⊥
+          closed_some_turn none = none i nothing (turn_lt ws view slot some) (sym (named ∙ ap ticket_in read))
 
-          pub closed_that : ends w ≡ true → (j : ℕ) → IsTurnOf ticket ws (Some j) → (after : List Waiting)
+          pub closed_that : ends w ≡ true → (j : ℕ) → IsRankOf ticket ws (Some j) → (after : List Waiting)
               → after ≡ remove ws j → Ends (ticket ∷ []) after
           closed_that passes j its after to =
               let both = rw passes at found in
               rw (
                 named,
                 to,
-                one_turn ws view j i its.0 (turn_lt ws view place some)
+                one_turn ws view j i its.0 (turn_lt ws view slot some)
                     (its.1 ∙ named ∙ ap ticket_in read),
               ) (sym (ap (map ticket_in) both.0), sym both.1)
 
@@ -304,15 +304,15 @@ module _ (last : ℕ) (ws : List Waiting) where
       grind (arith, nat_tests, found, list_any-map number_in (nat_eq ((last + j) % 256)) ws, before j)
 
   pub free_is : (d : ℕ) → TakenBefore d → 1 ≤ d → d < 257 → is_taken d ≡ false
-      → (last + d) % 256 ≡ next_number last (map number_in ws)
-  unfolding next_number
+      → (last + d) % 256 ≡ next_invoke_id last (map number_in ws)
+  unfolding next_invoke_id
   free_is d before low high free =
       rw (first_at (is_free last (map number_in ws)) 1 256 d low high (rw (list_any-map number_in _ ws, free) refl)
       (not_before d before)) refl
 
   -- Where all others are taken, the last one is given again.
-  pub last_is : last < 256 → TakenBefore 256 → last ≡ next_number last (map number_in ws)
-  unfolding next_number
+  pub last_is : last < 256 → TakenBefore 256 → last ≡ next_invoke_id last (map number_in ws)
+  unfolding next_invoke_id
   last_is fits before = go first refl
     where
       go : (o : Option ℕ) → first ≡ o → last ≡ (last + unwrap_or o 0) % 256
@@ -323,7 +323,7 @@ module _ (last : ℕ) (ws : List Waiting) where
           omega arith
 
 -- No open request has the next number.
-pub number_unused : (last number : ℕ) (ws : List Waiting) → number ≡ next_number last (map number_in ws)
+pub number_unused : (last number : ℕ) (ws : List Waiting) → number ≡ next_invoke_id last (map number_in ws)
     → length ws < 256 → times number_in number ws ≡ 0
 number_unused last number ws is few =
     let step = a_step last (map number_in ws) (rw length-map few) in

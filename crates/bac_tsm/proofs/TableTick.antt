@@ -57,7 +57,7 @@ module _ {A : Type 0} (key : A → ℕ) where
   abbrev Rise : List A → Type 0
   Rise = AllPairs (λ a b. key a < key b)
 
-  -- As many keys are lower than one in either list, and as many no higher, so it stands at one place in both.
+  -- As many keys are lower than one in either list, and as many no higher, so it stands at one slot in both.
   pub sorted_rising : (xs ys : List A) → IsPermutation xs ys → Rise xs → IsNonDecreasingBy key ys → ys ≡ xs
   sorted_rising xs ys moved rise up = sym (same_lists xs ys (sym (length_permutation xs ys moved)) here)
     where
@@ -81,7 +81,7 @@ module _ {A : Type 0} (key : A → ℕ) where
           let same : j ≡ k = omega arith in
           sym (rw same at is)
 
--- A sort in place leaves what it sorts to.
+-- A sort in slot leaves what it sorts to.
 pub refilled : (xs ys : List Entry) → length ys ≡ length xs → refill (length xs) xs ys ≡ ys
 refilled xs ys long =
     ap (λ (zs : List Entry). take (length xs) (ys ++ zs)) (drop_all (length ys) xs (omega arith))
@@ -132,43 +132,43 @@ module _ (rules : Rules) (clock : ℕ) where
   module _ (some : 0 < rules.timeout) {all : List Entry} {kept_in_all : List Waiting} {entries : List Entry}
       {ws : List Waiting} (h : HasTicked all kept_in_all entries ws) where
     -- One more has gone on.
-    one_more : (entry : Entry) (after : List Waiting) (turn : ℕ) (w : Waiting) → turn < length ws
-        → get_or ws turn nothing ≡ w → is_due rules clock w ≡ true → entry ≡ due_entry rules w →
-        after ≡ take turn ws ++ (kept rules clock w ++ drop (suc turn) ws)
+    one_more : (entry : Entry) (after : List Waiting) (rank : ℕ) (w : Waiting) → rank < length ws
+        → get_or ws rank nothing ≡ w → is_due rules clock w ≡ true → entry ≡ due_entry rules w →
+        after ≡ take rank ws ++ (kept rules clock w ++ drop (suc rank) ws)
         → HasTicked all kept_in_all (entries ++ entry ∷ []) after
-    one_more entry after turn w lt here due is to = record {
+    one_more entry after rank w lt here due is to = record {
       told =
           IsPermutation-trans _ _ _ (rw told_before at h.told)
           (rw (told_after, append_assoc)
           (IsPermutation-append_right entries _ _
-          (rw is (IsPermutation-middle (due_of (take turn ws)) (due_entry rules w)
-          (due_of (drop (suc turn) ws))))));
+          (rw is (IsPermutation-middle (due_of (take rank ws)) (due_entry rules w)
+          (due_of (drop (suc rank) ws))))));
       stay = simp (to, flat_map-append, (again some w due).1)
           (simp flat_map-append at (ap kept_of (sym split) ∙ h.stay));
       past =
           rw to
-          (All-append (λ v. v.base ≤ clock) (take turn ws) (kept rules clock w ++ drop (suc turn) ws)
-          (All-take (λ v. v.base ≤ clock) turn ws h.past)
-          (All-append (λ v. v.base ≤ clock) (kept rules clock w) (drop (suc turn) ws)
+          (All-append (λ v. v.base ≤ clock) (take rank ws) (kept rules clock w ++ drop (suc rank) ws)
+          (All-take (λ v. v.base ≤ clock) rank ws h.past)
+          (All-append (λ v. v.base ≤ clock) (kept rules clock w) (drop (suc rank) ws)
           (kept_of_one rules (λ v. v.base ≤ clock) clock w (λ young. absurd (false≢true (sym young ∙ due)))
           (omega arith))
-          (All-drop (λ v. v.base ≤ clock) (suc turn) ws h.past)));
+          (All-drop (λ v. v.base ≤ clock) (suc rank) ws h.past)));
     }
       where
-        split : ws ≡ take turn ws ++ (w ∷ drop (suc turn) ws)
-        split = sym (take-append-drop turn ws)
-            ∙ ap (λ (xs : List Waiting). take turn ws ++ xs) (rw (add-one, here) at (drop_more ws turn nothing lt))
+        split : ws ≡ take rank ws ++ (w ∷ drop (suc rank) ws)
+        split = sym (take-append-drop rank ws)
+            ∙ ap (λ (xs : List Waiting). take rank ws ++ xs) (rw (add-one, here) at (drop_more ws rank nothing lt))
 
-        told_before : due_of ws ≡ due_of (take turn ws) ++ (due_entry rules w ∷ due_of (drop (suc turn) ws))
-        told_before = ap due_of split ∙ flat_map-append (due_answer rules clock) (take turn ws) (w ∷ drop (suc turn) ws)
+        told_before : due_of ws ≡ due_of (take rank ws) ++ (due_entry rules w ∷ due_of (drop (suc rank) ws))
+        told_before = ap due_of split ∙ flat_map-append (due_answer rules clock) (take rank ws) (w ∷ drop (suc rank) ws)
             ∙ rw due refl
 
-        told_after : due_of after ≡ due_of (take turn ws) ++ due_of (drop (suc turn) ws)
+        told_after : due_of after ≡ due_of (take rank ws) ++ due_of (drop (suc rank) ws)
         told_after = simp (to, flat_map-append, (again some w due).0)
 
     pub passed : (entry : Entry) (after : List Waiting) → IsPassed rules clock ws entry after
         → HasTicked all kept_in_all (entries ++ entry ∷ []) after
-    passed entry after (turn, lt, due, is, to) = one_more entry after turn (get_or ws turn nothing) lt refl due is to
+    passed entry after (rank, lt, due, is, to) = one_more entry after rank (get_or ws rank nothing) lt refl due is to
 
     pub fewer : (entry : Entry) (after : List Waiting) → IsPassed rules clock ws entry after →
         (length entries < length all) × (length (due_of after) < length (due_of ws))

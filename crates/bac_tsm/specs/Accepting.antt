@@ -9,15 +9,15 @@ use Rattle.bac_tsm.specs.Positions.{first_within}
 
 -- The first number of the cycle after the last one that is not taken: the invoke id of a new request, which no open
 -- request has (clause 20.1.2.6).
-unfoldable pub next_number : ℕ → List ℕ → ℕ
-next_number last taken =
+unfoldable pub next_invoke_id : ℕ → List ℕ → ℕ
+next_invoke_id last taken =
     (last + unwrap_or (first_within (λ d. not (list_any (nat_eq ((last + d) % 256)) taken)) 1 256) 0) % 256
 
--- The first reason to refuse a request with this body, by the places, the open requests and the next ticket.
+-- The first reason to refuse a request with this body, by how many may be open, how many are and the next ticket.
 unfoldable pub refusal_of : ℕ → List ℕ → ℕ → ℕ → Option SubmitFault
-refusal_of places body open_count ticket =
+refusal_of most_open body open_count ticket =
     if nat_lt longest_body (length body) then Some TooLong
-    else if nat_le places open_count then Some TableFull
+    else if nat_le most_open open_count then Some TableFull
     else if nat_lt ticket (2 ^ 64 - 1) then None else Some TicketsSpent
 
 -- The request itself, where there is no reason to refuse it.

@@ -8,8 +8,8 @@ use Rattle.bac_tsm.specs.Watching.{is_send_of, is_end_of}
 
 -- What holds of the look-ahead, for every list of events.
 pub record FollowsTheRule (rules : Rules) (first_ticket : ℕ) (events : List Event) : Type 0 where
-  -- At each position at most as many requests are open as there are places.
-  pub few : (n : ℕ) → length (open_at rules first_ticket events n) ≤ rules.places
+  -- At each position at most as many requests are open as may be.
+  pub few : (n : ℕ) → length (open_at rules first_ticket events n) ≤ rules.most_open
   -- No two of them have one number.
   pub apart : (n : ℕ) → AllPairs (λ a b. a.request.number ≢ b.request.number) (open_at rules first_ticket events n)
   -- A request is placed to be sent at most once more than the retries.
@@ -24,5 +24,5 @@ pub record FollowsTheRule (rules : Rules) (first_ticket : ℕ) (events : List Ev
       → All (λ a. filter (is_end_of a.request.ticket) (output rules first_ticket events i)
       ≡ end_notes i a.request (end rules events a))
       (accepted rules first_ticket events (length events))
-  -- Between two accepted requests with one number stand at least 256 less the places others.
-  pub reuse : NumbersComeBackLate rules.places (accepted rules first_ticket events (length events))
+  -- Between two accepted requests with one number stand at least 256 others, less as many as may be open at once.
+  pub reuse : NumbersComeBackLate rules.most_open (accepted rules first_ticket events (length events))

@@ -8,7 +8,7 @@ ticket_in w = w.request.ticket
 abbrev pub number_in : Waiting → ℕ
 number_in w = w.request.number
 
--- A blank, which is read at a place that is not there.
+-- A blank, which is read at a slot that is not there.
 abbrev pub nothing : Waiting
 nothing = record {
   request = record {

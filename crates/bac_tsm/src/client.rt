@@ -23,7 +23,7 @@ use std::marker::Model;
 pub enum SubmitFault {
     /// The service body has more than 476 octets.
     TooLong,
-    /// As many requests are open as there are places.
+    /// As many requests are open as there are slots.
     TableFull,
     /// The next ticket would be `u64::MAX`.
     TicketsSpent,

@@ -60,7 +60,7 @@ impl Model for OpenRequest {
     } };
 }
 
-// A blank for the places of a list that hold no request.
+// A blank for the slots of a list that hold no request.
 impl Default for OpenRequest {
     ghost is_default = { λ r. r.request.ticket ≡ 0 };
 

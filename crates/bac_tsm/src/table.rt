@@ -5,15 +5,15 @@ ghost use Rattle.std.specs.Prelude.{position, get_or, remove, set};
 ghost use Rattle.std.specs.List.{All, AllPairs, filter, find, flat_map, list_any};
 ghost use Rattle.std.specs.Option.{option_copied, option_to_list};
 ghost use Rattle.bac_tsm.specs.Limits.{longest_body, table_size};
-ghost use Rattle.bac_tsm.specs.Lookahead.{next_number};
+ghost use Rattle.bac_tsm.specs.Lookahead.{next_invoke_id};
 ghost use Rattle.std.specs.List.Sorted.{IsPermutation, IsNonDecreasingBy};
 ghost use Rattle.bac_tsm.specs.Machine.{is_due, due_answer, kept};
 ghost use Rattle.bac_tsm.specs.Inner.Machine.{ticket_of};
 ghost use Rattle.bac_tsm.specs.Answers.{is_answer_to};
 ghost use Rattle.bac_tsm.specs.Inner.Seen.{answer_seen};
 ghost use Rattle.bac_tsm.specs.Client.{client_rules};
-ghost use Rattle.bac_tsm.specs.Table.{times, times_of_place};
-ghost use Rattle.bac_tsm.specs.Inner.Table.{IsTurnOf, IsPassed, IsTakenOut};
+ghost use Rattle.bac_tsm.specs.Table.{times, times_of_slot};
+ghost use Rattle.bac_tsm.specs.Inner.Table.{IsRankOf, IsPassed, IsTakenOut};
 ghost use Rattle.bac_tsm.specs.Waiting.{nothing, ticket_in, number_in};
 ghost use Rattle.bac_tsm.specs.Inner.Waiting.{begun, sent_at};
 
@@ -28,14 +28,14 @@ use std::marker::Model;
 
 /// The open requests, in the order of their tickets.
 ///
-/// A request stays at its place until it ends. All places stand in one order, first those of the open requests, by
-/// ticket, and then the free ones. The tickets stand beside it, so that one is found without a look at the places, and
-/// the place of each number in a table. The places of the open requests stand once more in the order of their last
+/// A request stays at its slot until it ends. All slots stand in one order, first those of the open requests, by
+/// ticket, and then the free ones. The tickets stand beside it, so that one is found without a look at the slots, and
+/// the slot of each number in a table. The slots of the open requests stand once more in the order of their last
 /// sends, so that a tick looks at those that are due, and at the first that isn't. Each datagram is written in one
-/// frame, and then kept at its place.
+/// frame, and then kept at its slot.
 #[derive(Drop)]
 pub(crate) struct Table {
-    places: [OpenRequest; PLACES],
+    slots: [OpenRequest; PLACES],
     numbers: [Option<u8>; 256],
     order: ArrayVec<u8, PLACES>,
     tickets: ArrayVec<u64, PLACES>,
@@ -46,14 +46,14 @@ pub(crate) struct Table {
 impl Model for Table {
     ghost use Rattle.std.specs.Prelude.{List};
     ghost use Rattle.bac_tsm.specs.Machine.{Waiting};
-    ghost use Rattle.bac_tsm.specs.Table.{waiting_in, open_places, IsTable, AreBySend};
+    ghost use Rattle.bac_tsm.specs.Table.{waiting_in, open_slots, IsTable, AreBySend};
 
     ghost Value = { List Waiting };
 
-    ghost view = { λ t. waiting_in t.places t.order.items t.tickets.items };
+    ghost view = { λ t. waiting_in t.slots t.order.items t.tickets.items };
 
-    ghost invariant = { λ t. IsTable t.places t.numbers t.order.items t.tickets.items
-        × AreBySend t.places (open_places t.order.items t.tickets.items) t.sends.items };
+    ghost invariant = { λ t. IsTable t.slots t.numbers t.order.items t.tickets.items
+        × AreBySend t.slots (open_slots t.order.items t.tickets.items) t.sends.items };
 }
 
 impl Table {
@@ -62,9 +62,9 @@ impl Table {
         ensures { result ≡ [] }
     {
         Table {
-            places: no_requests(),
+            slots: no_requests(),
             numbers: no_numbers(),
-            order: every_place(),
+            order: every_slot(),
             tickets: ArrayVec::new(),
             sends: ArrayVec::new(),
             draft: Frame::new(),
@@ -83,14 +83,14 @@ impl Table {
     pub(crate) fn find(&self, ticket: u64) -> Option<&OpenRequest>
         ensures { option_copied result ≡ find (λ w. nat_eq w.request.ticket ticket) self.now }
     {
-        let turn = self.turn_of(ticket)?;
-        Some(self.at(turn))
+        let rank = self.rank_of(ticket)?;
+        Some(self.at(rank))
     }
 
-    // The turn of the request with this ticket: its index in the order. Where it stands if no request between it and
+    // The rank of the request with this ticket: its index in the order. Where it stands if no request between it and
     // the last has ended is looked at first.
-    fn turn_of(&self, ticket: u64) -> Option<usize>
-        ensures { IsTurnOf ticket self.now result }
+    fn rank_of(&self, ticket: u64) -> Option<usize>
+        ensures { IsRankOf ticket self.now result }
     {
         let last = *self.tickets.last()?;
         let later = last.wrapping_sub(ticket) as usize;
@@ -101,19 +101,19 @@ impl Table {
         self.tickets.as_slice().binary_search(&ticket).ok()
     }
 
-    // The request at this turn.
-    #[tactic(auto, using(crate::proofs::TableReads::read_within, crate::proofs::TableReads::read_held, crate::proofs::TableReads::turn_within))]
-    fn at(&self, turn: usize) -> &OpenRequest
-        requires { turn < length self.now }
-        ensures { result.now ≡ get_or self.now turn nothing }
+    // The request at this rank.
+    #[tactic(auto, using(crate::proofs::TableReads::read_within, crate::proofs::TableReads::read_held, crate::proofs::TableReads::rank_within))]
+    fn at(&self, rank: usize) -> &OpenRequest
+        requires { rank < length self.now }
+        ensures { result.now ≡ get_or self.now rank nothing }
     {
-        held(&self.places, self.order[turn])
+        held(&self.slots, self.order[rank])
     }
 
     // The first number of the cycle after the last one that no open request has.
     #[tactic(auto, using(crate::proofs::TableReads::free_is, crate::proofs::TableReads::taken_on, crate::proofs::TableReads::last_is))]
     pub(crate) fn free_number(&self, last: u8) -> u8
-        ensures { result ≡ next_number last (map (λ w. w.request.number) self.now) }
+        ensures { result ≡ next_invoke_id last (map (λ w. w.request.number) self.now) }
     {
         for step in 1..=u8::MAX {
             let number = last.wrapping_add(step);
@@ -131,7 +131,7 @@ impl Table {
         self.numbers[usize::from(number)].is_some()
     }
 
-    // Opens a request with this body, at a place that is free.
+    // Opens a request with this body, at a slot that is free.
     pub(crate) fn open(&mut self, asked: Asked, body: &[u8])
         requires room { length self.old < table_size }
         requires number { times number_in asked.number self.old ≡ 0 }
@@ -140,11 +140,11 @@ impl Table {
         requires short { length body.now ≤ longest_body }
         ensures { self.new ≡ self.old ++ begun asked body.now ∷ [] }
     {
-        let place = self.order[self.tickets.len()];
-        self.numbers[usize::from(asked.number)] = Some(place);
-        begin_at(&mut self.places, place, asked, body, &mut self.draft);
+        let slot = self.order[self.tickets.len()];
+        self.numbers[usize::from(asked.number)] = Some(slot);
+        begin_at(&mut self.slots, slot, asked, body, &mut self.draft);
         self.tickets.push(asked.ticket);
-        put_last(&mut self.sends, place);
+        put_last(&mut self.sends, slot);
     }
 
     // Ends the request that the answer is to, and answers its ticket. Only the request with the answer's number is
@@ -154,14 +154,14 @@ impl Table {
             ≡ map ticket_in (filter (λ w. is_answer_to w.request (answer_seen answer.now)) self.old) }
         ensures others { self.new ≡ filter (λ w. not (is_answer_to w.request (answer_seen answer.now))) self.old }
     {
-        let place = self.numbers[usize::from(answer.number)]?;
-        let request = held(&self.places, place);
+        let slot = self.numbers[usize::from(answer.number)]?;
+        let request = held(&self.slots, slot);
         if !request.is_answered_by(answer) {
             return None;
         }
         let ticket = request.ticket();
-        let turn = self.turn_of(ticket)?;
-        self.end(turn);
+        let rank = self.rank_of(ticket)?;
+        self.end(rank);
         Some(ticket)
     }
 
@@ -172,7 +172,7 @@ impl Table {
         ensures rising { AllPairs (λ v w. v.request.ticket < w.request.ticket) self.now }
     {
         match self.sends.first() {
-            Some(place) => held(&self.places, *place).is_due(clock, config),
+            Some(slot) => held(&self.slots, *slot).is_due(clock, config),
             None => false,
         }
     }
@@ -205,67 +205,67 @@ impl Table {
         requires past { All (λ w. w.base ≤ clock) self.old }
         ensures { IsPassed (client_rules config.timeout config.retries) clock self.old result self.new }
     {
-        let place = self.sends[0];
-        let entry = held(&self.places, place).due_entry(config);
+        let slot = self.sends[0];
+        let entry = held(&self.slots, slot).due_entry(config);
         match entry {
             Entry::Resend(_) => {
-                send_again_at(&mut self.places, place, clock, config);
+                send_again_at(&mut self.slots, slot, clock, config);
                 self.sends.remove(0);
-                self.sends.push(place);
+                self.sends.push(slot);
             }
             Entry::TimedOut(ticket) => {
-                if let Some(turn) = self.turn_of(ticket) {
-                    self.end(turn);
+                if let Some(rank) = self.rank_of(ticket) {
+                    self.end(rank);
                 }
             }
         }
         entry
     }
 
-    // Ends the request at this turn: its place is the last of the free ones.
-    fn end(&mut self, turn: usize)
-        requires { turn < length self.old }
-        ensures { self.new ≡ remove self.old turn }
+    // Ends the request at this rank: its slot is the last of the free ones.
+    fn end(&mut self, rank: usize)
+        requires { rank < length self.old }
+        ensures { self.new ≡ remove self.old rank }
     {
-        let place = self.order.remove(turn);
-        let number = held(&self.places, place).number();
+        let slot = self.order.remove(rank);
+        let number = held(&self.slots, slot).number();
         self.numbers[usize::from(number)] = None;
-        self.order.push(place);
-        self.tickets.remove(turn);
-        take_out(&mut self.sends, place, turn);
+        self.order.push(slot);
+        self.tickets.remove(rank);
+        take_out(&mut self.sends, slot, rank);
     }
 }
 
-// The request at this place.
-fn held(places: &[OpenRequest; PLACES], place: u8) -> &OpenRequest
-    requires { place < table_size }
-    ensures { result.now ≡ get_or places.now place nothing }
+// The request at this slot.
+fn held(slots: &[OpenRequest; PLACES], slot: u8) -> &OpenRequest
+    requires { slot < table_size }
+    ensures { result.now ≡ get_or slots.now slot nothing }
 {
-    &places[usize::from(place)]
+    &slots[usize::from(slot)]
 }
 
-// Makes the request at this place a new one.
+// Makes the request at this slot a new one.
 fn begin_at(
-    places: &mut [OpenRequest; PLACES],
-    place: u8,
+    slots: &mut [OpenRequest; PLACES],
+    slot: u8,
     asked: Asked,
     body: &[u8],
     frame: &mut Frame,
 )
-    requires within { place < table_size }
+    requires within { slot < table_size }
     requires short { length body.now ≤ longest_body }
-    ensures { places.new ≡ set places.old place (begun asked body.now) }
+    ensures { slots.new ≡ set slots.old slot (begun asked body.now) }
 {
-    places[usize::from(place)].begin(asked, body, frame);
+    slots[usize::from(slot)].begin(asked, body, frame);
 }
 
-// Makes the request at this place one that is sent again now.
-fn send_again_at(places: &mut [OpenRequest; PLACES], place: u8, clock: u64, config: Config)
-    requires within { place < table_size }
-    requires left { (get_or places.old place nothing).count < config.retries }
-    ensures { places.new ≡ set places.old place (sent_at clock (get_or places.old place nothing)) }
+// Makes the request at this slot one that is sent again now.
+fn send_again_at(slots: &mut [OpenRequest; PLACES], slot: u8, clock: u64, config: Config)
+    requires within { slot < table_size }
+    requires left { (get_or slots.old slot nothing).count < config.retries }
+    ensures { slots.new ≡ set slots.old slot (sent_at clock (get_or slots.old slot nothing)) }
 {
-    places[usize::from(place)].send_again(clock, config);
+    slots[usize::from(slot)].send_again(clock, config);
 }
 
 // Puts the item behind the others.
@@ -276,30 +276,30 @@ fn put_last<T: Copy + Default>(items: &mut ArrayVec<T, PLACES>, item: T)
     items.push(item);
 }
 
-// A blank request at each place.
+// A blank request at each slot.
 fn no_requests() -> [OpenRequest; PLACES]
     ensures { length result ≡ table_size }
 {
     Default::default()
 }
 
-// Takes a place out. The likely turn is looked at first.
-fn take_out(places: &mut ArrayVec<u8, PLACES>, place: u8, likely: usize)
-    requires { 0 < times_of_place place places.old.items }
-    ensures { IsTakenOut place places.old.items places.new.items }
+// Takes a slot out. The likely rank is looked at first.
+fn take_out(slots: &mut ArrayVec<u8, PLACES>, slot: u8, likely: usize)
+    requires { 0 < times_of_slot slot slots.old.items }
+    ensures { IsTakenOut slot slots.old.items slots.new.items }
 {
-    if places.get(likely).copied() == Some(place) {
-        places.remove(likely);
-    } else if let Some(turn) = turn_of_place(places, place) {
-        places.remove(turn);
+    if slots.get(likely).copied() == Some(slot) {
+        slots.remove(likely);
+    } else if let Some(rank) = rank_of_slot(slots, slot) {
+        slots.remove(rank);
     }
 }
 
-// The first turn at which the place stands.
-fn turn_of_place(places: &[u8], place: u8) -> Option<usize>
-    ensures { result ≡ position (λ other. nat_eq other place) places.now }
+// The first rank at which the slot stands.
+fn rank_of_slot(slots: &[u8], slot: u8) -> Option<usize>
+    ensures { result ≡ position (λ other. nat_eq other slot) slots.now }
 {
-    places.iter().position(|other| *other == place)
+    slots.iter().position(|other| *other == slot)
 }
 
 // A table of numbers of which none is taken.
@@ -309,15 +309,15 @@ fn no_numbers() -> [Option<u8>; 256]
     [None; 256]
 }
 
-// Every place.
-fn every_place() -> ArrayVec<u8, PLACES>
+// Every slot.
+fn every_slot() -> ArrayVec<u8, PLACES>
     ensures whole { length result.items ≡ table_size }
-    ensures within { (place : ℕ) → table_size ≤ place → times_of_place place result.items ≡ 0 }
-    ensures once { (place : ℕ) → times_of_place place result.items ≤ 1 }
+    ensures within { (slot : ℕ) → table_size ≤ slot → times_of_slot slot result.items ≡ 0 }
+    ensures once { (slot : ℕ) → times_of_slot slot result.items ≤ 1 }
 {
-    let mut places = ArrayVec::new();
-    for place in 0..PLACES as u8 {
-        places.push(place);
+    let mut slots = ArrayVec::new();
+    for slot in 0..PLACES as u8 {
+        slots.push(slot);
     }
-    places
+    slots
 }

@@ -17,10 +17,10 @@ ghost use Rattle.bac_tsm.specs.Laws.{AnswersByNumber, NumbersComeBackLate, Passe
 #[tactic(auto, using(crate::proofs::WholeRun::run_whole, crate::proofs::WholeRun::run_first))]
 pub fn run_is_lookahead()
     ensures notes { (rules : Rules) (first_ticket : ℕ) (events : List Event) →
-        AnswersByNumber rules → rules.places ≤ 255 →
+        AnswersByNumber rules → rules.most_open ≤ 255 →
         (folded rules (initial first_ticket) 0 events).notes ≡ outputs rules first_ticket events 0 (length events) }
     ensures kept { (rules : Rules) (first_ticket : ℕ) (events : List Event) (n : ℕ) →
-        AnswersByNumber rules → rules.places ≤ 255 → n ≤ length events →
+        AnswersByNumber rules → rules.most_open ≤ 255 → n ≤ length events →
         (folded rules (initial first_ticket) 0 (take n events)).after ≡ state_at rules first_ticket events n }
 {}
 
@@ -51,14 +51,14 @@ pub fn answers_in_words()
         (outcome_of request from datagram ≡ Some outcome) ↔ IsAnsweredBy request from datagram outcome }
 {}
 
-/// At each position at most as many requests are open as there are places, under different numbers; each is sent at
+/// At each position at most as many requests are open as may be, under different numbers; each is sent at
 /// most once more than the retries.
 #[tactic(auto, using(crate::proofs::OpenRequests::roomy, crate::proofs::OpenRequests::tickets_rise, crate::proofs::NumberReuse::few_sends))]
 pub fn table_is_bounded()
     ensures few { (rules : Rules) (first_ticket : ℕ) (events : List Event) (n : ℕ) →
-        rules.places ≤ 255 → length (open_at rules first_ticket events n) ≤ rules.places }
+        rules.most_open ≤ 255 → length (open_at rules first_ticket events n) ≤ rules.most_open }
     ensures apart { (rules : Rules) (first_ticket : ℕ) (events : List Event) (n : ℕ) →
-        rules.places ≤ 255
+        rules.most_open ≤ 255
         → AllPairs (λ a b. a.request.number ≢ b.request.number) (open_at rules first_ticket events n) }
     ensures tickets { (rules : Rules) (first_ticket : ℕ) (events : List Event) (n : ℕ) →
         AllPairs (λ a b. a.request.ticket < b.request.ticket) (open_at rules first_ticket events n) }
@@ -74,17 +74,17 @@ pub fn output_looks_back()
         output rules first_ticket events n ≡ output rules first_ticket others n }
 {}
 
-/// Between two requests with the same number, at least 256 less the places others are accepted.
+/// Between two requests with the same number, at least 256 others are accepted, less as many as may be open at once.
 #[tactic(auto, using(crate::proofs::NumberReuse::back_late))]
 pub fn numbers_come_back_late()
     ensures { (rules : Rules) (first_ticket : ℕ) (events : List Event) (n : ℕ) →
-        rules.places ≤ 255 → NumbersComeBackLate rules.places (accepted rules first_ticket events n) }
+        rules.most_open ≤ 255 → NumbersComeBackLate rules.most_open (accepted rules first_ticket events n) }
 {}
 
 /// Each number that was passed since a request was accepted, given or skipped, is its own, or that of a request open
 /// then or accepted since.
 pub fn passed_numbers_are_held()
-    ensures { (rules : Rules) (first_ticket : ℕ) (events : List Event) (n : ℕ) → rules.places ≤ 255 →
+    ensures { (rules : Rules) (first_ticket : ℕ) (events : List Event) (n : ℕ) → rules.most_open ≤ 255 →
         (before since : List Accepted) (a : Accepted) → accepted rules first_ticket events n ≡ before ++ a ∷ since →
         PassedAreHeld a (open_among rules events a.position before) since }
 {}

@@ -1,12 +1,12 @@
 -- The shortest spelling of a value is a spelling.
 use Rattle.std.proofs.Common.{◌≡◌, ℕ, ℤ, pos, negsuc, suc, slice_index_or, ◌+◌, ◌-◌, ◌*◌, ◌^◌, ◌%◌, ◌<◌, ◌≤◌, min, zero}
-use Rattle.std.proofs.Common.{true, false, List, [], ◌∷◌, length, refl, sym, ap, ◌∙◌, arith}
+use Rattle.std.proofs.Common.{true, false, List, [], ◌∷◌, ◌++◌, length, take, refl, sym, ap, ◌∙◌, arith}
 use Rattle.std.specs.Prelude.{FitsSigned}
 use Rattle.std.specs.Int.{w64}
 use Rattle.std.proofs.lemmas.Int.{ints}
 use Rattle.std.proofs.lemmas.Bool.{lt-ltb, le-ltb}
 use Rattle.std.proofs.lemmas.Grind.{common_steps}
-use Rattle.std.proofs.lemmas.List.{append-nil}
+use Rattle.std.proofs.lemmas.List.{append-nil, take_at}
 use Rattle.byteorder.specs.Endian.{big_number, big_bytes, twos_complement, low_bytes}
 use Rattle.byteorder.specs.Numbers.{big_number-reads_back, length-bytes_high_first}
 use Rattle.bac_wire.specs.Identifier.{number_of}
@@ -33,6 +33,11 @@ pub number_back : (k n : ℕ) → n < 256 ^ k → n ≡ big_number (length (big_
 number_back k n fits =
     rw (length-bytes_high_first k n)
     (sym (ap (big_number k) (sym (append-nil (big_bytes k n))) ∙ big_number-reads_back k n [] fits))
+
+-- The first octets of a list that begins with the octets of a number are these octets.
+pub bytes_taken : (k n : ℕ) (rest : List ℕ) → take k (big_bytes k n ++ rest) ++ [] ≡ big_bytes k n
+bytes_taken k n rest =
+    append-nil (take k (big_bytes k n ++ rest)) ∙ take_at (big_bytes k n) rest k (length-bytes_high_first k n)
 
 -- ---- two's complement
 

@@ -65,8 +65,6 @@ pub record AreBits (unused : ℕ) (x : List ℕ) : Type 0 where
 
 -- The contents that stand for a value. Numbers may have more octets than they need.
 abbrev pub StandsFor : List ℕ → Datum → Type 0
-StandsFor contents null = contents ≡ []
-StandsFor contents (boolean _) = contents ≡ []
 StandsFor contents (unsigned n) = (1 ≤ length contents) × (length contents ≤ 8)
     × (n ≡ big_number (length contents) contents)
 StandsFor contents (signed z) = (1 ≤ length contents) × (length contents ≤ 8)
@@ -81,6 +79,7 @@ StandsFor contents (enumerated n) = (1 ≤ length contents) × (length contents 
 StandsFor contents (date d) = (length contents ≡ 4) × (contents ≡ d)
 StandsFor contents (time t) = (length contents ≡ 4) × (contents ≡ t)
 StandsFor contents (object id) = (length contents ≡ 4) × (id.instance < 2 ^ 22) × (big_number 4 contents ≡ number_of id)
+StandsFor contents _ = contents ≡ []
 
 -- The number that the tag holds: the length of the contents, or for a Boolean its value (20.2.3).
 abbrev pub shape_number : Datum → ℕ → ℕ
@@ -120,8 +119,6 @@ signed_count (negsuc n) = octet_count (2 * n)
 
 -- The contents that are written: a number in the fewest octets, all else as it is.
 abbrev pub plain_contents : Datum → List ℕ
-plain_contents null = []
-plain_contents (boolean _) = []
 plain_contents (unsigned n) = big_bytes (octet_count n) n
 plain_contents (signed z) = big_bytes (signed_count z) (low_bytes w64 (signed_count z) z)
 plain_contents (real r) = r
@@ -133,6 +130,7 @@ plain_contents (enumerated n) = big_bytes (octet_count n) n
 plain_contents (date d) = d
 plain_contents (time t) = t
 plain_contents (object id) = big_bytes 4 (number_of id)
+plain_contents _ = []
 
 -- The spelling that is written of a value.
 unfoldable pub plain : Datum → List ℕ
@@ -145,19 +143,16 @@ IsSound _ = Unit {0}
 
 -- A value within the range of its kind.
 abbrev pub InRange : Datum → Type 0
-InRange null = Unit {0}
-InRange (boolean _) = Unit {0}
 InRange (unsigned n) = n < 2 ^ 64
 InRange (signed z) = FitsSigned w64 z
 InRange (real r) = length r ≡ 4
 InRange (double d) = length d ≡ 8
-InRange (octet_string _) = Unit {0}
-InRange (char_string _ _) = Unit {0}
 InRange (bit_string unused x) = AreBits unused x
 InRange (enumerated n) = n < 2 ^ 32
 InRange (date d) = length d ≡ 4
 InRange (time t) = length t ≡ 4
 InRange (object id) = IsIdentifier id
+InRange _ = Unit {0}
 
 -- The values that have a spelling: within their range, with contents whose length fits a tag.
 pub record IsDatum (value : Datum) : Type 0 where

@@ -20,8 +20,7 @@ closing_tag number = record { number = number; shape = Closing }
 abbrev pub Counts : ℕ → Shape → ℕ → Type 0
 Counts number (App n) count = count ≡ (if number == 1 then 0 else n)
 Counts number (Context n) count = count ≡ n
-Counts number Opening count = ⊥
-Counts number Closing count = ⊥
+Counts number _ count = ⊥
 
 -- Primitive data: a tag and the octets that it counts.
 pub record IsPrimitive (octets : List ℕ) : Type 0 where

@@ -19,11 +19,9 @@ SpellsNumber high (_ ∷ _ ∷ _) number = ⊥
 abbrev pub SpellsLength : ℕ → List ℕ → ℕ → Type 0
 SpellsLength low [] n = (low < 5) × (n ≡ low)
 SpellsLength low (a ∷ []) n = (low ≡ 5) × (a < 254) × (n ≡ a)
-SpellsLength low (_ ∷ _ ∷ []) n = ⊥
 SpellsLength low (a ∷ b ∷ c ∷ []) n = (low ≡ 5) × (a ≡ 254) × (n ≡ big_number 2 (b ∷ c ∷ []))
-SpellsLength low (_ ∷ _ ∷ _ ∷ _ ∷ []) n = ⊥
 SpellsLength low (a ∷ b ∷ c ∷ d ∷ e ∷ []) n = (low ≡ 5) × (a ≡ 255) × (n ≡ big_number 4 (b ∷ c ∷ d ∷ e ∷ []))
-SpellsLength low (_ ∷ _ ∷ _ ∷ _ ∷ _ ∷ _ ∷ _) n = ⊥
+SpellsLength low _ n = ⊥
 
 -- The low half of the initial octet (20.2.1.1, 20.2.1.3): 8 is the context class, and below it the length, or 6 and 7
 -- for the brackets.
@@ -46,8 +44,7 @@ pub record SpellsTag (octets : List ℕ) (tag : Tag) : Type 0 where
 abbrev pub count_of : Shape → ℕ
 count_of (App n) = n
 count_of (Context n) = n
-count_of Opening = 0
-count_of Closing = 0
+count_of _ = 0
 
 -- The tags that have a spelling: their number fits an octet less the mark 255, and their length four octets.
 pub record IsTag (tag : Tag) : Type 0 where
@@ -79,8 +76,7 @@ low_half Closing = 15
 abbrev pub shape_octets : Shape → List ℕ
 shape_octets (App n) = plain_length n
 shape_octets (Context n) = plain_length n
-shape_octets Opening = []
-shape_octets Closing = []
+shape_octets _ = []
 
 -- The spelling that is written of a tag.
 unfoldable pub plain_tag : Tag → List ℕ

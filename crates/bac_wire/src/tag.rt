@@ -27,7 +27,7 @@ pub enum Shape {
 /// A tag: what stands before the contents of each part of an APDU's body (ANSI/ASHRAE 135, 20.2.1).
 #[derive(Clone, Copy, Debug, PartialEq, Eq)]
 pub struct Tag {
-    /// 0 to 254. In the application class it is the kind of the value, else the place among the parameters.
+    /// 0 to 254. In the application class it is the kind of the value, else it says which parameter stands here.
     pub number: u8,
     /// Its class, and what it says of the octets behind it.
     pub shape: Shape,

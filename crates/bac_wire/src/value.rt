@@ -268,6 +268,7 @@ fn append_octet(frame: &mut Frame, number: u8, n: u8) -> Result<(), Full>
     frame.append(&[16 * number + 1, n])
 }
 
+#[tactic(auto, using(crate::proofs::PlainDatum::bytes_taken))]
 fn append_signed(frame: &mut Frame, n: i64) -> Result<(), Full>
     ensures { Appends frame.old (tagged_octets 3 (big_bytes (count_signed n) (low_bytes w64 (count_signed n) n)))
         frame.new result }

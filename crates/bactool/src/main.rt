@@ -44,7 +44,7 @@ struct Finished {
 // Runs what the words ask for.
 fn run(rt: &HostRuntime, typed: &[String]) -> Finished
     ensures { IsCalled ⟦<Sockets<'static> as Network>⟧.gives record {
-      told = ⟦<UdpLink<HostRuntime> as Link>⟧.told;
+      seen = ⟦<UdpLink<HostRuntime> as Link>⟧.seen;
       failed = ⟦<UdpLink<HostRuntime> as Link>⟧.has_failed;
       remaining = ⟦<Stdin as Read>⟧.remaining;
       contents = ⟦<Stdout as Write>⟧.contents;

@@ -1,5 +1,6 @@
 -- One turn of a call, by the steps of the client.
 use Rattle.std.specs.Prelude.{◌≡◌, ℕ, ◌≤◌, Bool, true, false, List, [], ◌∷◌, ◌++◌, length, Option, Some, None}
+use Rattle.std.specs.Prelude.{Err}
 use Rattle.std.specs.List.{All, flat_map}
 use Rattle.bac_pdu.specs.Peer.{Station}
 use Rattle.bac_tsm.specs.Events.{Outcome, Data, Event, Ask, Tick, Note, Sent, Refused, Done, Dropped, TimedOut, Rules}
@@ -7,16 +8,16 @@ use Rattle.bac_tsm.specs.Machine.{State, Waiting, Stepped, step}
 use Rattle.bac_tsm.specs.Laws.{state_at}
 use Rattle.bac_tsm.specs.Limits.{longest_body}
 use Rattle.bac_tsm.specs.Client.{Client}
-use Rattle.bac_links.specs.Told.{Told, Heard, Silence, Arrival, Failure}
+use Rattle.bac_links.specs.Foretold.{Foretold, Heard, Silence, Arrival, Failure}
 use Rattle.bac_links.specs.History.{Entry, Posted, Unposted, Account, GainsAll}
 use Rattle.bac_links.specs.Handed.{turns}
 use Rattle.bac_links.specs.Courses.{first_below, stops_at}
-use Rattle.bac_links.specs.Call.{posts, rules_for, wait_of, heard_in, begun_at, entries_of, end_in, has_ended}
-use Rattle.bac_links.specs.Call.{FailsToSend, FailsToReceive}
+use Rattle.bac_links.specs.Call.{posts, rules_for, wait_of, begun_at, entries_of, end_in, has_ended}
+use Rattle.bac_links.specs.Call.{FailsToSend, StaysOpen}
 use Rattle.bac_links.specs.declared.ending.Purpose.{Purpose}
 use Rattle.bac_text.specs.declared.jobs.Call.{Call}
 use Rattle.bac_links.specs.declared.fault.ToolFault.{ToolFault}
-use Rattle.bac_links.specs.declared.fault.ToolFault.TheVariants.{SendFailed, ReceiveFailed, TurnsSpent, WriteFailed}
+use Rattle.bac_links.specs.declared.fault.ToolFault.TheVariants.{SendFailed, ReceiveFailed}
 
 -- The end in a note, and the ends among notes.
 abbrev pub ending_in : Note → List (Option Outcome)
@@ -72,15 +73,14 @@ pub record CarriesOn (purpose : Purpose) (call : Call) (time : ℕ) (later : Lis
   }
 
 -- A call after n turns, with its request open.
-pub record Underway (purpose : Purpose) (call : Call) (t : Told) (gained : List Entry) (client : Client) (n : ℕ)
+pub record Underway (purpose : Purpose) (call : Call) (t : Foretold) (gained : List Entry) (client : Client) (n : ℕ)
     : Type 0 where
-  pub passed : first_below (stops_at (heard_in call t) (has_ended purpose call t)) n ≡ None
+  pub passed : first_below (stops_at (wait_of call) t (has_ended purpose call t)) n ≡ None
   pub carried : CarriesOn purpose call (t.time []) (turns (wait_of call) t n) client
   pub history : gained ≡ entries_of purpose call t n
 
 -- A turn failed.
-abbrev pub TurnFails : Purpose → Call → Told → List Entry → ToolFault → Type 0
+abbrev pub TurnFails : Purpose → Call → Foretold → List Entry → ToolFault → Type 0
 TurnFails purpose call t gained SendFailed = (n : ℕ) × FailsToSend purpose call t gained n
-TurnFails purpose call t gained ReceiveFailed = (n : ℕ) × FailsToReceive purpose call t gained n
-TurnFails purpose call t gained TurnsSpent = ⊥
-TurnFails purpose call t gained WriteFailed = ⊥
+TurnFails purpose call t gained ReceiveFailed = StaysOpen purpose call t (Err ReceiveFailed) gained
+TurnFails purpose call t gained _ = ⊥

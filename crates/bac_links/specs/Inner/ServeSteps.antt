@@ -1,12 +1,14 @@
 -- One wait of a server, and the answer to what it brings.
 use Rattle.std.specs.Prelude.{◌≡◌, ◌≢◌, ℕ, List, [], ◌∷◌, length, Option, Some, Result, Ok, Err}
+use Rattle.std.specs.Option.{option_to_list}
+use Rattle.std.specs.List.{flat_map}
 use Rattle.bac_pdu.specs.Peer.{Station}
 use Rattle.bac_device.specs.Device.{DeviceState}
 use Rattle.bac_device.specs.Turns.{AnswersInTurn}
 use Rattle.bac_links.specs.Limits.{serve_wait}
-use Rattle.bac_links.specs.Told.{Heard, Failure}
+use Rattle.bac_links.specs.Foretold.{Heard, Failure}
 use Rattle.bac_links.specs.History.{Waited, Unposted, Account, GainsAll, Gains}
-use Rattle.bac_links.specs.Serve.{came_by, serve_entries, reply_count}
+use Rattle.bac_links.specs.Serve.{came_by, serve_entries}
 use Rattle.bac_links.specs.declared.fault.ToolFault.{ToolFault}
 use Rattle.bac_links.specs.declared.fault.ToolFault.TheVariants.{SendFailed, ReceiveFailed, TurnsSpent, WriteFailed}
 use Rattle.bac_links.specs.declared.serving.Brought.{Brought}
@@ -23,15 +25,19 @@ replied_in Nothing = 0
 replied_in Ignored = 0
 replied_in Answered = 1
 
+-- How many of these replies are no silence.
+abbrev pub reply_count : List (Option (Station × List ℕ)) → ℕ
+reply_count replies = length (flat_map option_to_list replies)
+
 -- One wait, and the answer to what it brought.
 abbrev pub ServesOne : DeviceState → DeviceState → Account → Account → Result Brought ToolFault → Type 0
-ServesOne before after told left (Ok brings) =
+ServesOne before after seen left (Ok brings) =
     (heard : Heard) × (replies : List (Option (Station × List ℕ))) × AnswersInTurn before (came_by heard) replies after
     × (heard ≢ Failure) × (came_in brings ≡ length (came_by heard)) × (replied_in brings ≡ reply_count replies)
-    × GainsAll (serve_entries (heard ∷ []) replies) told left
-ServesOne before after told left (Err SendFailed) =
+    × GainsAll (serve_entries (heard ∷ []) replies) seen left
+ServesOne before after seen left (Err SendFailed) =
     (heard : Heard) × (reply : Station × List ℕ) × AnswersInTurn before (came_by heard) (Some reply ∷ []) after
-    × (heard ≢ Failure) × GainsAll (Waited serve_wait heard ∷ Unposted reply.0 reply.1 ∷ []) told left
-ServesOne before after told left (Err ReceiveFailed) = (after ≡ before) × Gains (Waited serve_wait Failure) told left
-ServesOne before after told left (Err TurnsSpent) = ⊥
-ServesOne before after told left (Err WriteFailed) = ⊥
+    × (heard ≢ Failure) × GainsAll (Waited serve_wait heard ∷ Unposted reply.0 reply.1 ∷ []) seen left
+ServesOne before after seen left (Err ReceiveFailed) = (after ≡ before) × Gains (Waited serve_wait Failure) seen left
+ServesOne before after seen left (Err TurnsSpent) = ⊥
+ServesOne before after seen left (Err WriteFailed) = ⊥

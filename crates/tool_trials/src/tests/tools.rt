@@ -1,6 +1,6 @@
 //! From words to what is printed and the status, over links in memory.
 ghost use Rattle.std.specs.Prelude.{◌≡◌, [], map, IfOk};
-ghost use Rattle.bac_links.specs.Memory.{told_of, told_by, scene_of_step};
+ghost use Rattle.bac_links.specs.Memory.{foretold_of, foretold_by, scene_of_step};
 
 use super::*;
 use crate::tests::links::quiet;
@@ -24,7 +24,7 @@ impl Network for Rehearsal<'_, '_> {
     type Socket = MemoryLink;
 
     ghost gives = { λ network binding socket.
-        IfOk socket (λ link. told_of link ≡ told_by (map scene_of_step network.steps.now) 0 []) };
+        IfOk socket (λ link. foretold_of link ≡ foretold_by (map scene_of_step network.steps.now) 0 []) };
 
     fn bind(self, binding: Binding) -> Result<MemoryLink, LinkFault> {
         self.asked.set(self.asked.get().saturating_add(1));

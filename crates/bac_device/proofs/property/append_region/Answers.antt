@@ -20,14 +20,14 @@ one_more values i value read =
 pub unreachable-requires : goal.unreachable-requires
 unreachable-requires c =
     none-some _ (c.in-None.ensures.value
-    ∙ slice_get-get_or (property_seen c.args.property.now).values c.loop-place.place null (omega arith))
+    ∙ slice_get-get_or (property_seen c.args.property.now).values c.loop-position.position null (omega arith))
 
 pub returns-in_err-write_value-in-Some-clause-full : goal.returns-in_err-write_value-in-Some-clause-full
 returns-in_err-write_value-in-Some-clause-full c =
-    let more = one_more (property_seen c.args.property.now).values c.loop-place.place _ c.in-Some.ensures.value in
+    let more = one_more (property_seen c.args.property.now).values c.loop-position.position _ c.in-Some.ensures.value in
     grind (arith, common_steps)
 
-pub loop-place-preserved : goal.loop-place-preserved
-loop-place-preserved c =
-    let more = one_more (property_seen c.args.property.now).values c.loop-place.place _ c.in-Some.ensures.value in
+pub loop-position-preserved : goal.loop-position-preserved
+loop-position-preserved c =
+    let more = one_more (property_seen c.args.property.now).values c.loop-position.position _ c.in-Some.ensures.value in
     grind (arith, common_steps)

@@ -4,5 +4,6 @@ use Rattle.bac_wire.specs.Datum.{plain}
 use Rattle.bac_device.specs.Inner.Property.{property_seen}
 use Rattle.bac_device.proofs.property.append_region.Given as goal
 
-abbrev pub invariant-loop-place : goal.invariant-loop-place
-invariant-loop-place l = l.frame ≡ l.initial.frame ++ flat_map plain (take l.place (property_seen l.property).values)
+abbrev pub invariant-loop-position : goal.invariant-loop-position
+invariant-loop-position l =
+    l.frame ≡ l.initial.frame ++ flat_map plain (take l.position (property_seen l.property).values)

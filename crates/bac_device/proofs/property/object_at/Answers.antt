@@ -16,10 +16,10 @@ returns-clause-value c =
     let h = c.in_ok-point.ensures.lookup in
     let points = c.args.points.now in
     let f : Standing → Datum = λ standing. object standing.point.object in
-    let at : slice_get points (c.args.place - 1) ≡ Some c.in_ok-point.point.now =
-    slice_get_read points _ (c.args.place - 1) c.in_ok-point.point.now refl h.3.0 h.1 in
+    let at : slice_get points (c.args.position - 1) ≡ Some c.in_ok-point.point.now =
+    slice_get_read points _ (c.args.position - 1) c.in_ok-point.point.now refl h.3.0 h.1 in
     grind (
       arith,
-      slice_get_behind (object (identifier c.args.device)) (map f points) c.args.place c.if-place-eq0.false,
-      slice_get-map f points (c.args.place - 1),
+      slice_get_behind (object (identifier c.args.device)) (map f points) c.args.position c.if-position-eq0.false,
+      slice_get-map f points (c.args.position - 1),
     )

@@ -7,6 +7,6 @@ abbrev pub invariant-loop-turn : goal.invariant-loop-turn
 invariant-loop-turn g l = record {
   sound : g.L.Link.has_failed l.link ≡ false;
   unwritten : l.writer ≡ l.fn.writer;
-  so_far : Over (g.L.Link.told l.fn.link) (g.L.Link.told l.link)
+  so_far : Over (g.L.Link.seen l.fn.link) (g.L.Link.seen l.link)
       (λ gained t. Underway l.fn.purpose l.fn.call t gained l.client l._turn);
 }

@@ -1,6 +1,7 @@
 use Rattle.std.proofs.Common.{arith, add-one, refl, ◌∙◌}
 use Rattle.std.proofs.lemmas.Result.{err_from_is_err_and}
 use Rattle.bac_text.proofs.Known.{Took-none}
+use Rattle.bac_links.specs.declared.ending.Exit.TheVariants.{Good, Bad}
 use Rattle.bac_links.proofs.Searches.{begun, unbegun, goes_on, ended, fails, spent}
 use Rattle.bac_links.proofs.search.run_whois.Goals as goal
 
@@ -32,17 +33,15 @@ pub returns-then-any-clause-told : goal.returns-then-any-clause-told
 returns-then-any-clause-told g c =
     let told = rw c.turn_wait-wait_ms.ensures at c.in_ok-any.ensures.told in
     let over = rw (c.from.ensures, c.max-greatest.ensures) at c.if-greatest-first.true in
-    let all = ended c.args.search.now _ _ _ _ _ _ _ _ _ _ _ c.loop-turn.invariant.goes _ told _ _ c.now.ensures.told
-    (rw c.most_turns-turn-end.ensures at c.loop-turn-test.true) over in
-    (all.0, rw (← all.1, c.if-any.true) refl, all.2, all.3)
+    ended c.args.search.now _ _ _ _ _ _ _ _ _ _ _ c.loop-turn.invariant.goes _ told _ _ c.now.ensures.told Good
+    (rw c.if-any.true refl) (rw c.most_turns-turn-end.ensures at c.loop-turn-test.true) over
 
 pub returns-else-any-clause-told : goal.returns-else-any-clause-told
 returns-else-any-clause-told g c =
     let told = rw c.turn_wait-wait_ms.ensures at c.in_ok-any.ensures.told in
     let over = rw (c.from.ensures, c.max-greatest.ensures) at c.if-greatest-first.true in
-    let all = ended c.args.search.now _ _ _ _ _ _ _ _ _ _ _ c.loop-turn.invariant.goes _ told _ _ c.now.ensures.told
-    (rw c.most_turns-turn-end.ensures at c.loop-turn-test.true) over in
-    (all.0, rw (← all.1, c.if-any.false) refl, all.2, all.3)
+    ended c.args.search.now _ _ _ _ _ _ _ _ _ _ _ c.loop-turn.invariant.goes _ told _ _ c.now.ensures.told Bad
+    (rw c.if-any.false refl) (rw c.most_turns-turn-end.ensures at c.loop-turn-test.true) over
 
 pub loop-turn-preserved : goal.loop-turn-preserved
 loop-turn-preserved g c =

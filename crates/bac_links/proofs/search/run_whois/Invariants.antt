@@ -8,6 +8,6 @@ invariant-loop-turn g l = record {
   sound : g.L.Link.has_failed l.link ≡ false;
   unfailed : has_failed l.writer ≡ false;
   later : l.first ≤ l.greatest;
-  goes : SearchGoes l.fn.search g.W.Write.contents l.fn.writer l.writer (g.L.Link.told l.fn.link) (g.L.Link.told l.link)
+  goes : SearchGoes l.fn.search g.W.Write.contents l.fn.writer l.writer (g.L.Link.seen l.fn.link) (g.L.Link.seen l.link)
       l.first l.greatest l.any l._turn;
 }

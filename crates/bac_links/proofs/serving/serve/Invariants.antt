@@ -7,6 +7,6 @@ invariant-loop-turn g l = record {
   sound : g.L.Link.has_failed l.link ≡ false;
   fewer : l.came < l.fn.count;
   one_a_turn : l.replied ≤ l._turn;
-  goes : ServeGoes l.fn.device l.device (g.L.Link.told l.fn.link) (g.L.Link.told l.link) l.fn.count l.came l.replied
+  goes : ServeGoes l.fn.device l.device (g.L.Link.seen l.fn.link) (g.L.Link.seen l.link) l.fn.count l.came l.replied
       l._turn;
 }

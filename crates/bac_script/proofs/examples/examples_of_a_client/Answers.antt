@@ -17,7 +17,7 @@ use Rattle.bac_pdu.specs.Datagram.{wrapped}
 use Rattle.bac_pdu.specs.DatagramReading.{address_at, header_at, link_at, carried}
 use Rattle.bac_pdu.specs.ApduReading.{parts_at, apdu_of}
 use Rattle.bac_pdu.specs.PropertyReading.{ack_of, reference_at}
-use Rattle.bac_tsm.specs.Lookahead.{next_number, refusal_of}
+use Rattle.bac_tsm.specs.Lookahead.{next_invoke_id, refusal_of}
 use Rattle.bac_tsm.specs.Answers.{answer_in_datagram, same_station, is_answer_to}
 use Rattle.bac_script.proofs.examples.examples_of_a_client.Goals as goal
 
@@ -25,7 +25,7 @@ pub returns : goal.returns
 unfolding encode is_utf8 chars digits decode_pairs encode_with value_under values_within plain tagged plain_tag
     contents_of value_at tag_number_at long_length_at length_at shape_at tag_at kind_at context_at number_at object_at
     behind_opening enclosed_at behind_closing behind_items region_at plain_parameter wrapped address_at header_at
-    link_at carried parts_at apdu_of ack_of reference_at next_number refusal_of answer_in_datagram same_station
+    link_at carried parts_at apdu_of ack_of reference_at next_invoke_id refusal_of answer_in_datagram same_station
     is_answer_to
 returns c =
     record {

@@ -17,7 +17,7 @@ use Rattle.bac_pdu.specs.Datagram.{wrapped}
 use Rattle.bac_pdu.specs.DatagramReading.{address_at, header_at, link_at, carried}
 use Rattle.bac_pdu.specs.ApduReading.{parts_at, apdu_of}
 use Rattle.bac_pdu.specs.PropertyReading.{ack_of, reference_at, read_of, write_of}
-use Rattle.bac_tsm.specs.Lookahead.{next_number, refusal_of}
+use Rattle.bac_tsm.specs.Lookahead.{next_invoke_id, refusal_of}
 use Rattle.bac_tsm.specs.Answers.{answer_in_datagram, same_station, is_answer_to}
 use Rattle.bac_pdu.specs.ValueReading.{who_is_of, introduction_of}
 use Rattle.bac_device.specs.Reply.{property_of, read_property, ordered_write, accepted_write, read_reply, write_reply}
@@ -35,7 +35,7 @@ pub returns : goal.returns
 unfolding encode is_utf8 chars digits decode_pairs encode_with value_under values_within plain tagged plain_tag
     contents_of value_at tag_number_at long_length_at length_at shape_at tag_at kind_at context_at number_at object_at
     behind_opening enclosed_at behind_closing behind_items region_at plain_parameter wrapped address_at header_at
-    link_at carried parts_at apdu_of ack_of reference_at read_of write_of next_number refusal_of answer_in_datagram
+    link_at carried parts_at apdu_of ack_of reference_at read_of write_of next_invoke_id refusal_of answer_in_datagram
     same_station is_answer_to who_is_of introduction_of property_of read_property ordered_write accepted_write
     read_reply write_reply write_in_body full_reply write_in_request who_is_reply reply_apdu write_apdu reply_of
     write_of_datagram with_row description_of kind_of one_value place standing_after place_at written_value add_point

@@ -17,7 +17,7 @@ all_ascii octets none i = elim (cases_lt i (length octets)) [
 pub returns-in-None : goal.returns-in-None
 returns-in-None c =
     sym (is_utf8-from_IsUtf8 c.args.octets.now
-    (IsUtf8-from_ascii c.args.octets.now (all_ascii c.args.octets.now (sym c.place_of_end.ensures ∙ c.in-None.is))))
+    (IsUtf8-from_ascii c.args.octets.now (all_ascii c.args.octets.now (sym c.position_of_end.ensures ∙ c.in-None.is))))
 
 told : {T E : Type 0} (octets : List ℕ) (N : T → Type 0) (Q : E → Type 0) (r : Result T E) →
     MatchResult r (λ s. N s × IsUtf8 octets) (λ e. ¬ (IsUtf8 octets) × Q e) → is_ok r ≡ is_utf8 octets

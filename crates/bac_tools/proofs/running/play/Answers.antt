@@ -8,7 +8,7 @@ returns-in-Ok-clause-plays g c = record {
   device = c.serve.new.device;
   served = Ok c.in-Ok.field-0;
   serves = subst (λ (d : DeviceState).
-      Serves c.args.device.count d c.serve.new.device (g.L.Link.told c.args.link.now) (g.L.Link.told c.serve.new.link)
+      Serves c.args.device.count d c.serve.new.device (g.L.Link.seen c.args.link.now) (g.L.Link.seen c.serve.new.link)
       (Ok c.in-Ok.field-0)) c.demo-played.ensures c.in-Ok.ensures.told;
   answers = refl;
 }
@@ -18,7 +18,7 @@ returns-in-Err-clause-plays g c = record {
   device = c.serve.new.device;
   served = Err c.in-Err.fault;
   serves = subst (λ (d : DeviceState).
-      Serves c.args.device.count d c.serve.new.device (g.L.Link.told c.args.link.now) (g.L.Link.told c.serve.new.link)
+      Serves c.args.device.count d c.serve.new.device (g.L.Link.seen c.args.link.now) (g.L.Link.seen c.serve.new.link)
       (Err c.in-Err.fault)) c.demo-played.ensures c.in-Err.ensures.told;
   answers = refl;
 }

@@ -33,7 +33,7 @@ fn watch<'a>(alloc: Global, steps: &[Step<'_>], written: &'a Cell<usize>) -> Wat
 }
 
 impl Link for Watching<'_> {
-    ghost told = { λ watching. ⟦<MemoryLink as Link>⟧.told watching.link };
+    ghost seen = { λ watching. ⟦<MemoryLink as Link>⟧.seen watching.link };
 
     ghost has_failed = { λ watching. ⟦<MemoryLink as Link>⟧.has_failed watching.link };
 

@@ -3,7 +3,7 @@ use Rattle.bac_tsm.proofs.table.Table.new.Goals as goal
 
 pub invariant_of-result : goal.invariant_of-result
 invariant_of-result c = (
-  empty_table _ _ _ _ c.new.ensures c.no_requests.ensures c.no_numbers.ensures c.every_place.ensures.whole
-      c.every_place.ensures.within c.every_place.ensures.once,
+  empty_table _ _ _ _ c.new.ensures c.no_requests.ensures c.no_numbers.ensures c.every_slot.ensures.whole
+      c.every_slot.ensures.within c.every_slot.ensures.once,
   empty_queue _ _ _ _ c.new.ensures c.new-2.ensures,
 )

@@ -1,6 +1,6 @@
 use Rattle.std.proofs.Common.{sym, subst, ◌∙◌}
 use Rattle.bac_tsm.specs.Client.{client_rules}
-use Rattle.bac_tsm.specs.Inner.Table.{IsTurnOf}
+use Rattle.bac_tsm.specs.Inner.Table.{IsRankOf}
 use Rattle.bac_tsm.proofs.PassDue.{front_below, first_sent, sent_again, not_found, ended}
 use Rattle.bac_tsm.proofs.table.Table.pass.Goals as goal
 
@@ -42,8 +42,8 @@ returns-in-Some c =
     (first_sent c.self.invariant.0 c.self.invariant.1 _ c.self.view_is
     (client_rules c.args.config.timeout c.args.config.retries) c.args.clock c.requires.due _ c.deref.ensures.0)
     (client_rules c.args.config.timeout c.args.config.retries) c.args.clock _ c.held.ensures c.requires.due _
-    c.in-Some.turn (sym c.due_entry-entry.ensures ∙ c.in-TimedOut.is)
-    (subst (IsTurnOf c.in-TimedOut.ticket c.args.self.now) c.in-Some.is c.turn_of.ensures) _ c.end.ensures
+    c.in-Some.rank (sym c.due_entry-entry.ensures ∙ c.in-TimedOut.is)
+    (subst (IsRankOf c.in-TimedOut.ticket c.args.self.now) c.in-Some.is c.rank_of.ensures) _ c.end.ensures
 
 pub returns-in_default : goal.returns-in_default
 returns-in_default c =
@@ -52,4 +52,4 @@ returns-in_default c =
     (client_rules c.args.config.timeout c.args.config.retries) c.args.clock c.requires.due _ c.deref.ensures.0)
     (client_rules c.args.config.timeout c.args.config.retries) c.args.clock _ c.held.ensures _
     (sym c.due_entry-entry.ensures ∙ c.in-TimedOut.is)
-    (subst (IsTurnOf c.in-TimedOut.ticket c.args.self.now) c.in_default.is c.turn_of.ensures))
+    (subst (IsRankOf c.in-TimedOut.ticket c.args.self.now) c.in_default.is c.rank_of.ensures))

@@ -6,8 +6,8 @@ use Rattle.std.specs.Option.{is_some, option_copied}
 use Rattle.std.proofs.lemmas.Bool.{ltb-true}
 use Rattle.std.proofs.lemmas.Bool.Decides.{nat_tests}
 use Rattle.std.proofs.lemmas.Option.{none-some, same_Some, slice_get-get_or}
-use Rattle.bac_tsm.proofs.TableReads.{likely_turn, searched_turn}
-use Rattle.bac_tsm.proofs.table.Table.turn_of.Goals as goal
+use Rattle.bac_tsm.proofs.TableReads.{likely_rank, searched_rank}
+use Rattle.bac_tsm.proofs.table.Table.rank_of.Goals as goal
 
 got : (r : Option (Bor ℕ)) (xs : List ℕ) (i ticket : ℕ) → is_some r ≡ nat_lt i (length xs)
     → IfSome r (λ x. x.now ≡ get_or xs i x.now) →
@@ -19,11 +19,11 @@ got (Some x) xs i ticket within there is =
 pub returns-then-eq : goal.returns-then-eq
 returns-then-eq c =
     let is : c.copied.result ≡ Some c.args.ticket = grind (arith, nat_tests, sym c.eq.ensures ∙ c.if-eq.true) in
-    likely_turn c.self.invariant.0 _ c.self.view_is c.args.ticket _ c.deref-2.ensures.0 _
+    likely_rank c.self.invariant.0 _ c.self.view_is c.args.ticket _ c.deref-2.ensures.0 _
     (got c.get.result c.deref-2.result.now _ c.args.ticket c.get.ensures.lookup.0 c.get.ensures.lookup.1
     (sym c.copied.ensures ∙ is))
 
 pub returns : goal.returns
 returns c = rw c.ok.ensures.value
-    (searched_turn c.self.invariant.0 _ c.self.view_is c.args.ticket _ c.as_slice.ensures.value _
+    (searched_rank c.self.invariant.0 _ c.self.view_is c.args.ticket _ c.as_slice.ensures.value _
     c.binary_search.ensures.position)

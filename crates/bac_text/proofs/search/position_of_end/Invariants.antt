@@ -1,6 +1,6 @@
 use Rattle.std.proofs.Common.{◌≡◌, ℕ, ◌-◌, ◌<◌, ◌≤◌, false, length, get_or}
 use Rattle.bac_text.specs.Search.{ends_at}
-use Rattle.bac_text.proofs.search.place_of_end.Given as goal
+use Rattle.bac_text.proofs.search.position_of_end.Given as goal
 
 abbrev pub invariant-loop-start : goal.invariant-loop-start
 invariant-loop-start l = record {

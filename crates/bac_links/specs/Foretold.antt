@@ -1,5 +1,4 @@
--- What a link tells before it is asked: what each wait will hear and what the time will be then, by the waits; and what
--- it sent.
+-- What a link foretells: what each wait will hear and what the time will be then, by the waits; and what it sent.
 use Rattle.std.specs.Prelude.{ℕ, zero, suc, List, ◌∷◌, ◌++◌, Option, Result, Some, None, Ok, Err}
 use Rattle.bac_pdu.specs.declared.peer.Peer.{Peer}
 use Rattle.bac_pdu.specs.Peer.{Station, station}
@@ -18,27 +17,23 @@ pub record Sending : Type 0 where
   pub octets : List ℕ
 
 -- What the next wait hears after these earlier ones, what the time is after these waits, and what was sent so far.
-pub record Told : Type 0 where
+pub record Foretold : Type 0 where
   pub heard : List ℕ → ℕ → Heard
   pub time : List ℕ → ℕ
   pub sent : List Sending
 
--- What a link tells once it waited this long.
-abbrev pub after_wait : ℕ → Told → Told
-after_wait wait t = record {
-  heard = λ waits. t.heard (wait ∷ waits);
-  time = λ waits. t.time (wait ∷ waits);
-  sent = t.sent;
-}
+-- What a link foretells once it waited this long.
+abbrev pub after_wait : ℕ → Foretold → Foretold
+after_wait wait t = record t { heard = λ waits. t.heard (wait ∷ waits); time = λ waits. t.time (wait ∷ waits) }
 
--- What a link tells once it waited n times, each time as long.
-abbrev pub waited : ℕ → ℕ → Told → Told
+-- What a link foretells once it waited n times, each time as long.
+abbrev pub waited : ℕ → ℕ → Foretold → Foretold
 waited wait zero t = t
 waited wait (suc n) t = after_wait wait (waited wait n t)
 
--- What a link tells once it sent these too.
-abbrev pub having_sent : List Sending → Told → Told
-having_sent more t = record { heard = t.heard; time = t.time; sent = t.sent ++ more }
+-- What a link foretells once it sent these too.
+abbrev pub having_sent : List Sending → Foretold → Foretold
+having_sent more t = record t { sent = t.sent ++ more }
 
 -- What is heard where `receive` answers this and leaves these octets in its datagram.
 abbrev pub heard_by : Result (Option Peer) LinkFault → List ℕ → Heard

@@ -1,7 +1,7 @@
 use Rattle.std.proofs.Common.{◌≤◌, arith}
 use Rattle.bac_text.specs.Search.{ends_at}
 use Rattle.bac_text.proofs.Lanes.{position_is, position_none, all_before}
-use Rattle.bac_text.proofs.search.place_of_end.Goals as goal
+use Rattle.bac_text.proofs.search.position_of_end.Goals as goal
 
 pub returns-then-run-lt-LANES : goal.returns-then-run-lt-LANES
 returns-then-run-lt-LANES c =
