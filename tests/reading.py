@@ -2,7 +2,8 @@
 """What has to be read to believe a promise: docs/reading/, made from the sources. tests/sources.py says what needs what.
 
 Usage: tests/reading.py            compares docs/reading/, and the sizes that README.md tells, with the tree; says which definitions
-                                   lie in the wrong room, and which names a file brings in and doesn't say; ends with 1 where there are any
+                                   lie in the wrong room, and which names a file brings in that aren't there, or that it doesn't say; ends
+                                   with 1 where there are any
        tests/reading.py --write    writes docs/reading/ anew (make reading)
 """
 import collections
@@ -11,8 +12,8 @@ import os
 import re
 import sys
 
-from sources import (CLOSE, CRATES, DEFINITIONS, OPEN, PROBLEMS, SOURCES, TOKEN, closed, match_bracket, public_calls, read_tree, text_of,
-                     uses_in)
+from sources import (CLOSE, CRATES, DEFINITIONS, OPEN, PROBLEMS, SOURCES, TOKEN, closed, defined, match_bracket, public_calls, read_tree,
+                     text_of, uses_in)
 
 TOP = os.path.dirname(os.path.dirname(os.path.abspath(__file__)))
 FOLDER = "docs/reading"
@@ -180,7 +181,7 @@ def write(texts, sizes):
         file.write(readme)
 
 
-# ---- definitions in the wrong room, and names that are brought in and not said ----
+# ---- definitions in the wrong room, and names that are brought in and aren't there, or aren't said ----
 
 
 def rooms():
@@ -206,13 +207,16 @@ def rooms():
                 yield f"{specs.path}: {item.name} belongs in Inner, since only {who}"
 
 
-def unused():
+def unused_or_gone():
     for path in sorted(glob.glob("crates/*/src/**/*.rt", recursive=True) + glob.glob("crates/*/specs/**/*.antt", recursive=True)
                        + glob.glob("crates/*/proofs/**/*.antt", recursive=True)):
         crate = path.split("/")[1]
         names = list(unused_in_source(crate, path) if path.endswith(".rt") else unused_in_antt(path))
         if names:
             yield f"{path} brings in what it doesn't say: {', '.join(names)}"
+        for module, brought, _, _ in uses_in(text_of(path), ghost=path.endswith(".rt")):
+            if module in DEFINITIONS:
+                yield from (f"{path} brings in {name}, which {module} hasn't" for name, _ in brought or () if not defined(module, name))
 
 
 def is_said(name, tokens):
@@ -259,7 +263,7 @@ def main(arguments):
     if arguments == ["--write"]:
         write(texts, sizes)
     else:
-        PROBLEMS.extend([*compare(texts, sizes), *rooms(), *unused()])
+        PROBLEMS.extend([*compare(texts, sizes), *rooms(), *unused_or_gone()])
     print("\n".join(PROBLEMS) or "the reading lists agree with the tree")
     return 1 if PROBLEMS else 0
 
