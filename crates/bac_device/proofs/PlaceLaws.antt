@@ -1,23 +1,18 @@
 -- The places of a point after writes, and after one more.
-use Rattle.std.proofs.Common.{◌≡◌, ℕ, zero, suc, ◌-◌, ◌<◌, ◌≤◌, inl, inr, ◌==◌, ◌&&◌, Bool, true, false, nat_lt, nat_le}
-use Rattle.std.proofs.Common.{if◌then◌else◌, List, [], ◌∷◌, ◌++◌, map, filter, slice_get, slice_set, Option, Some, None}
-use Rattle.std.proofs.Common.{refl, sym, ap, ◌∙◌, arith}
+use Rattle.std.proofs.Common.{◌≡◌, ℕ, zero, suc, ◌-◌, ◌<◌, ◌≤◌, ◌==◌, ◌&&◌, Bool, true, false, if◌then◌else◌, List, []}
+use Rattle.std.proofs.Common.{◌∷◌, ◌++◌, map, filter, slice_set, Option, Some, None, refl, sym, ap, ◌∙◌, arith}
 use Rattle.std.specs.List.{last_or}
 use Rattle.std.specs.Option.{option_and_then}
 use Rattle.std.proofs.lemmas.Grind.{common_steps}
-use Rattle.std.proofs.lemmas.Bool.{cases_lt}
-use Rattle.std.proofs.lemmas.Bool.Decides.{nat_tests}
-use Rattle.std.proofs.lemmas.Option.{slice_get_past}
 use Rattle.bac_wire.specs.Identifier.{Identifier}
 use Rattle.bac_device.specs.Point.{Description, same_object}
-use Rattle.bac_device.specs.Places.{Write, NoneTo, is_to, place, place_at, priorities, standing_after, with_place, put}
-use Rattle.bac_device.specs.Device.{place_if}
+use Rattle.bac_device.specs.Places.{Write, NoneTo, is_to, place, priorities, standing_after, with_place, put}
 
 pub map_same : {A B : Type 0} (f g : A → B) → ((x : A) → f x ≡ g x) → (xs : List A) → map f xs ≡ map g xs
 map_same f g same [] = refl
 map_same f g same (x ∷ xs) = let head = same x in let rest = map_same f g same xs in cc
 
--- ---- reading a place
+-- ---- the sixteen places
 
 -- what holds at each number below a count
 abbrev Each : (ℕ → Type 0) → ℕ → Type 0
@@ -28,35 +23,6 @@ at_each : (P : ℕ → Type 0) (count n : ℕ) → Each P count → n < count �
 at_each P zero n all below = absurd (omega arith)
 at_each P (suc count) zero all below = all.0
 at_each P (suc count) (suc n) all below = at_each (λ n. P (suc n)) count n all.1 (omega arith)
-
-abbrev chosen : (ℕ → Option ℕ) → ℕ → Option (Option ℕ)
-chosen f priority = if priority == 0 then None else slice_get (map f priorities) (priority - 1)
-
-chosen_at : (f : ℕ → Option ℕ) (priority : ℕ)
-    → chosen f priority ≡ (if nat_lt 0 priority && nat_le priority 16 then Some (f priority) else None)
-chosen_at f priority = elim (cases_lt priority 17) [
-  | inl there ↦ at_each (λ n. chosen f n ≡ (if nat_lt 0 n && nat_le n 16 then Some (f n) else None)) 17 priority (
-    refl,
-    (
-      refl,
-      (
-        refl,
-        (
-          refl,
-          (refl, (refl, (refl, (refl, (refl, (refl, (refl, (refl, (refl, (refl, (refl, (refl, (refl, tt))))))))))))),
-        ),
-      ),
-    ),
-  )
-      there
-  | inr past ↦ grind (arith, nat_tests, slice_get_past (map f priorities) (priority - 1) (omega arith))
-]
-
--- what stands at a priority
-pub place_chosen : (writes : List Write) (priority : ℕ) (point : Description)
-    → place_at (standing_after writes point) priority ≡ place_if writes priority point
-unfolding place_at standing_after
-place_chosen writes priority point = grind (arith, chosen_at (place writes point.object) priority)
 
 -- ---- one more write
 

@@ -2,9 +2,8 @@
 use Rattle.std.proofs.Common.{◌≡◌, ℕ, ◌≤◌, Bool, true, false, List, [], ◌∷◌, length, Option, Some, None, refl, sym, ap}
 use Rattle.std.proofs.Common.{subst, arith, inl, inr, nat_le, nat_eq}
 use Rattle.std.specs.Prelude.{◌⊎◌, IfSome, if◌then◌else◌}
-use Rattle.std.specs.Option.{option_map, option_and_then}
+use Rattle.std.specs.Option.{option_map, option_and_then, ForSome}
 use Rattle.std.proofs.lemmas.Bool.{cond_both, leb-true}
-use Rattle.std.proofs.lemmas.Bool.Decides.{nat_tests}
 use Rattle.std.proofs.lemmas.Option.{none-some, some_pair_parts}
 use Rattle.bac_wire.specs.Datum.{plain}
 use Rattle.bac_wire.specs.Tag.{plain_tag}
@@ -16,14 +15,14 @@ use Rattle.bac_pdu.specs.Apdu.{Message, IsLaidOut, confirmed, unconfirmed, laid_
 use Rattle.bac_pdu.specs.Discovery.{asks}
 use Rattle.bac_pdu.specs.ValueReading.{who_is_of}
 use Rattle.bac_pdu.proofs.DatagramLaws.{carried_is, wrapped_takes, wrapped_short}
-use Rattle.bac_pdu.proofs.ApduLaws.{apdu_is}
+use Rattle.bac_pdu.proofs.ApduLaws.{apdu_is, announced_most}
 use Rattle.bac_device.specs.Info.{Info}
 use Rattle.bac_device.specs.Point.{Description}
 use Rattle.bac_device.specs.Places.{Write}
 use Rattle.bac_device.specs.Device.{DeviceState, device_after}
 use Rattle.bac_device.specs.Reply.{refused, fitting, full_reply, i_am, reply_message, reply_apdu, reply_of}
 use Rattle.bac_device.specs.Reply.{who_is_reply, writes_after}
-use Rattle.bac_device.specs.Size.{CarriesRequest, CarriesUnconfirmed, IsWithinAnnounced, HasFifteen, RepliesFit}
+use Rattle.bac_device.specs.Size.{FitsRequest, ReplyFits, RepliesFit}
 use Rattle.bac_device.specs.Turns.{Arrival, replies_to}
 
 -- a route leads to whom a datagram is from
@@ -31,7 +30,7 @@ pub carried_routable : (from : Station) (datagram : List ℕ) (delivery : Delive
     → IfSome delivery.peer.route IsRoutable
 carried_routable from datagram delivery carries =
     subst (λ (r : Option NetworkAddress). IfSome r IsRoutable) (sym (ap (λ (s : Station). s.route) carries.peer))
-    carries.heeded.answerable
+    carries.answerable
 
 -- what is sent to the peer of a delivery where this is the reply
 abbrev sent : Delivery → Option Message → Option (Station × List ℕ)
@@ -65,28 +64,19 @@ reply_takes device from to datagram reply d m P carries laid short all e =
 -- ---- a confirmed request
 
 -- no more than announced, or the Abort
-abbrev Fits : ℕ → ℕ → Message → Type 0
-Fits code id m = (length (laid_out m) ≤ announced_size code) ⊎ (laid_out m ≡ 0x71 ∷ id ∷ 0x04 ∷ [])
+abbrev Short : ℕ → ℕ → Message → Type 0
+Short code id m = (length (laid_out m) ≤ announced_size code) ⊎ (laid_out m ≡ 0x71 ∷ id ∷ 0x04 ∷ [])
 
-short : (code id : ℕ) (m : Message) → Fits code id m → length (laid_out m) ≤ 1476
-short code id m (inl few) = grind (arith, nat_tests, few)
-short code id m (inr abort) = omega (arith, ap length abort)
+no_longer : (code id : ℕ) (m : Message) → Short code id m → length (laid_out m) ≤ 1476
+no_longer code id m (inl few) = omega (arith, few, announced_most code)
+no_longer code id m (inr abort) = omega (arith, ap length abort)
 
 unless_broadcast : (b : Bool) (code id : ℕ) (full : Message)
-    → IfSome (if b then None else Some (fitting code id full)) (Fits code id)
+    → IfSome (if b then None else Some (fitting code id full)) (Short code id)
 unless_broadcast true code id full = tt
 unless_broadcast false code id full =
-    cond_both (nat_le (length (laid_out full)) (announced_size code)) full (refused id) (Fits code id)
+    cond_both (nat_le (length (laid_out full)) (announced_size code)) full (refused id) (Short code id)
     (λ e. inl (leb-true _ _ e)) (λ e. inr refl)
-
-pub request_fits : (device : DeviceState) (from to : Station) (datagram reply : List ℕ) (code id : ℕ)
-    → CarriesRequest from datagram code id
-    → reply_of device from datagram ≡ Some (to, reply) → IsWithinAnnounced to code id reply
-request_fits device from to datagram reply code id r e =
-    let all = unless_broadcast r.delivery.broadcast code id (full_reply device r.part id r.service r.body) in
-    let t = reply_takes device from to datagram reply r.delivery (confirmed r.part code id r.service r.body)
-    (Fits code id) r.carried r.confirms (short code id) all e in
-    record { apdu = laid_out t.0; taken = t.2; size = t.1 }
 
 -- ---- Who-Is
 
@@ -104,35 +94,49 @@ where_asked true (Some who) info =
     IfSome (if b then Some (i_am info) else None) (λ m. length (laid_out m) ≡ 15))
     [ true ↦ length_i_am info | false ↦ tt ]
 
-pub introduction_fits : (device : DeviceState) (from to : Station) (datagram reply : List ℕ)
-    → CarriesUnconfirmed from datagram → reply_of device from datagram ≡ Some (to, reply) → HasFifteen to reply
+-- ---- any request
+
+abbrev Fits : Message → Message → Type 0
+Fits request m = FitsRequest request (laid_out m)
+
+short : (request m : Message) → Fits request m → length (laid_out m) ≤ 1476
+short (confirmed part code id service body) m fits = no_longer code id m fits
+short (unconfirmed service body) m long = omega (arith, long)
+short _ m none = absurd none
+
+message_fits : (device : DeviceState) (broadcast : Bool) (request : Message)
+    → IfSome (reply_message device broadcast request) (Fits request)
 unfolding who_is_reply
-introduction_fits device from to datagram reply r e =
-    let all = where_asked (nat_eq r.service 8) (who_is_of r.body) device.info in
-    let t = reply_takes device from to datagram reply r.delivery (unconfirmed r.service r.body)
-    (λ m. length (laid_out m) ≡ 15) r.carried r.laid (λ m long. omega (arith, long)) all e in
-    record { apdu = laid_out t.0; taken = t.2; size = t.1 }
+message_fits device broadcast (confirmed part code id service body) =
+    unless_broadcast broadcast code id (full_reply device part id service body)
+message_fits device broadcast (unconfirmed service body) =
+    where_asked (nat_eq service 8) (who_is_of body) device.info
+message_fits device broadcast _ = tt
+
+pub reply_fits : (device : DeviceState) (from : Station) (datagram : List ℕ)
+    → ForSome (reply_of device from datagram) (ReplyFits from datagram)
+reply_fits device from datagram =
+    λ reply e delivery request carries laid.
+    let all = message_fits device delivery.broadcast request in
+    let t = reply_takes device from reply.0 datagram reply.1 delivery request (Fits request) carries laid
+    (short request) all e in
+    (laid_out t.0, t.2, t.1)
 
 -- ---- an answer
 
 -- what holds of each reply holds of an answer that is that of the definition
-pub of_answer : (P : Station → List ℕ → Type 0) (result : Option Peer) (frame : List ℕ)
+pub of_answer : (P : Station × List ℕ → Type 0) (result : Option Peer) (frame : List ℕ)
     (defined : Option (Station × List ℕ))
-    → option_map (λ peer. (station peer, frame)) result ≡ defined
-    → ((to : Station) (reply : List ℕ) → defined ≡ Some (to, reply) → P to reply)
-    → IfSome result (λ peer. P (station peer) frame)
+    → option_map (λ peer. (station peer, frame)) result ≡ defined → ForSome defined P
+    → IfSome result (λ peer. P (station peer, frame))
 of_answer P None frame defined e f = tt
-of_answer P (Some peer) frame defined e f = f (station peer) frame (sym e)
+of_answer P (Some peer) frame defined e f = f (station peer, frame) (sym e)
 
 -- The replies to any datagrams fit, one after the other.
 pub replies_fit : (info : Info) (points : List Description) (writes : List Write) (xs : List Arrival)
     → RepliesFit xs (replies_to info points writes xs)
 replies_fit info points writes [] = refl
 replies_fit info points writes (x ∷ xs) = (
-  λ r e. record {
-    confirmed = λ code id carried.
-        request_fits (device_after info points writes) x.from r.0 x.datagram r.1 code id carried e;
-    introduced = λ carried. introduction_fits (device_after info points writes) x.from r.0 x.datagram r.1 carried e;
-  },
+  reply_fits (device_after info points writes) x.from x.datagram,
   replies_fit info points (writes_after info points writes x.from x.datagram) xs,
 )

@@ -14,8 +14,8 @@ use Rattle.bac_device.specs.Inner.Places.{IsUrgent}
 use Rattle.bac_device.specs.Device.{DeviceState, points_of, device_after, Holds, with_point, standing_at, point_at}
 use Rattle.bac_device.specs.Device.{present_after, place_after}
 use Rattle.bac_device.specs.Reply.{with_write, reply_to, writes_after}
-use Rattle.bac_device.specs.Turns.{Arrival, AnswersInTurn, AreDefined}
-use Rattle.bac_device.proofs.PlaceLaws.{map_same, place_chosen, place_none, put_after}
+use Rattle.bac_device.specs.Turns.{Arrival, Answers, AnswersInTurn, AreDefined}
+use Rattle.bac_device.proofs.PlaceLaws.{map_same, place_none, put_after}
 
 find_map : {A B : Type 0} (f : A → B) (test : B → Bool) (xs : List A)
     → find test (map f xs) ≡ option_map f (find (λ x. test (f x)) xs)
@@ -43,7 +43,7 @@ pub place_held : (device : DeviceState) (writes : List Write) (object : Identifi
     ≡ place_after (points_of device) writes object priority
 place_held device writes object priority holds =
     ap (option_and_then (λ (standing : Standing). place_at standing priority)) (at_after device writes object holds)
-    ∙ grind (arith, place_chosen)
+    ∙ grind arith
 
 -- the points of a device are those with which it was made
 pub points_after : (info : Info) (points : List Description) (writes : List Write)
@@ -113,6 +113,20 @@ pub after_holds : (info : Info) (points : List Description) (writes : List Write
 after_holds info points writes =
     ap (λ (p : List Description). device_after info p writes) (sym (points_after info points writes))
 
+-- a reply and a device that are those of the definition answer a datagram
+pub answers : (device : DeviceState) (arrival : Arrival) (reply : Option (Station × List ℕ)) (after : DeviceState)
+    → ((writes : List Write) → Holds device writes
+    → reply ≡ reply_to device.info (points_of device) writes arrival.from arrival.datagram)
+    → ((writes : List Write) → Holds device writes
+    → after ≡ device_after device.info (points_of device)
+    (writes_after device.info (points_of device) writes arrival.from arrival.datagram))
+    → Answers device arrival reply after
+answers device arrival reply after replied written =
+    λ writes holds. record {
+      replied = ap (λ (r : Option (Station × List ℕ)). r ∷ []) (replied writes holds);
+      written = written writes holds;
+    }
+
 -- a device that answers datagrams in turn
 pub in_turn : (device : DeviceState) (arrivals : List Arrival) (replies : List (Option (Station × List ℕ)))
     (after : DeviceState) (writes : List Write)
@@ -124,14 +138,15 @@ in_turn device (arrival ∷ arrivals) [] after writes turns holds = absurd turns
 in_turn device (arrival ∷ arrivals) (reply ∷ replies) after writes (next, call, others) holds =
     let points = points_of device in
     let more = writes_after device.info points writes arrival.from arrival.datagram in
-    let same : next ≡ device_after device.info points more = call.written writes holds in
+    let one = call writes holds in
+    let same : next ≡ device_after device.info points more = one.written in
     let later = in_turn next arrivals replies after more others
     (subst (λ (d : DeviceState). Holds d more) (sym same) (after_holds device.info points more)) in
     let rest : AreDefined (device_after device.info points more) more arrivals replies after =
     subst (λ (d : DeviceState). AreDefined d more arrivals replies after) same later in
     let r = rw (points_after device.info points more) at rest.replied in
     record {
-      replied = ap (λ (first : Option (Station × List ℕ)). first ∷ replies) (call.replied writes holds)
+      replied = ap (λ (first : List (Option (Station × List ℕ))). first ++ replies) one.replied
           ∙ ap (λ rest. reply_to device.info points writes arrival.from arrival.datagram ∷ rest) r;
       written = rw (points_after device.info points more) at rest.written;
     }

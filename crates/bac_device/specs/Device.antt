@@ -1,20 +1,18 @@
 -- The device: what it keeps, its own properties, and what can be added to it (clause 12.11).
-use Rattle.std.specs.Prelude.{ℕ, ◌==◌, ◌&&◌, ◌||◌, Bool, nat_eq, nat_lt, nat_le, if◌then◌else◌, List, [], ◌∷◌, ◌++◌}
-use Rattle.std.specs.Prelude.{length, map, find, codes, Option, Some, None, Result, Err, ◌≡◌}
+use Rattle.std.specs.Prelude.{ℕ, ◌==◌, ◌&&◌, ◌||◌, Bool, nat_eq, if◌then◌else◌, List, [], ◌∷◌, ◌++◌}
+use Rattle.std.specs.Prelude.{length, map, find, codes, Option, Some, Result, Err, ◌≡◌}
 use Rattle.std.specs.List.{list_any}
-use Rattle.std.specs.Option.{option_map}
-use Rattle.std.specs.Cmp.Lexicographic.{pointwise}
+use Rattle.std.specs.Map.{lookup}
+use Rattle.std.specs.Option.{option_map, option_and_then, option_or, ok_or}
+use Rattle.std.specs.Str.{bytes_eq}
 use Rattle.bac_wire.specs.Identifier.{Identifier}
-use Rattle.bac_wire.specs.Steps.{◌>>=◌}
 use Rattle.bac_wire.specs.Datum as values
 use Rattle.bac_wire.specs.Datum.{Datum, unsigned, enumerated, char_string}
 use Rattle.bac_device.specs.declared.device.AddFault.{AddFault}
 use Rattle.bac_device.specs.declared.device.AddFault.TheVariants.{TooMany, Twice, NameTwice, BadPoint}
 use Rattle.bac_device.specs.Info.{Info}
-use Rattle.bac_device.specs.Steps.{or_fail}
-use Rattle.bac_device.specs.Kind.{is_commandable}
 use Rattle.bac_device.specs.Point.{Given, Description, description_of, same_object}
-use Rattle.bac_device.specs.Places.{Write, Standing, place, standing_after, present}
+use Rattle.bac_device.specs.Places.{Write, Standing, standing_after, present, place_at}
 use Rattle.bac_device.specs.Property.{Property, single, array, empty_list, point_objects}
 
 -- What a device keeps: what it is known by, and its points as they stand.
@@ -49,31 +47,21 @@ abbrev pub present_after : List Description → List Write → Identifier → Op
 present_after points writes object =
     option_map (λ point. present (standing_after writes point)) (point_at points object)
 
--- What the place of this priority of the point holds after these writes. None where the point has no such place.
-abbrev pub place_if : List Write → ℕ → Description → Option (Option ℕ)
-place_if writes priority point =
-    if is_commandable point.kind.role && (nat_lt 0 priority && nat_le priority 16)
-    then Some (place writes point.object priority)
-    else None
-
 -- What the place of this priority of the object holds after these writes. None where it has no such place.
 abbrev pub place_after : List Description → List Write → Identifier → ℕ → Option (Option ℕ)
-place_after points writes object priority = point_at points object >>= place_if writes priority
+place_after points writes object priority =
+    option_and_then (λ point. place_at (standing_after writes point) priority) (point_at points object)
 
 -- ---- adding a point
-
--- Whether two names are the same, octet by octet.
-abbrev pub same_name : List ℕ → List ℕ → Bool
-same_name a b = pointwise nat_eq a b
 
 -- Whether a point is this object.
 abbrev pub has_object : DeviceState → Identifier → Bool
 has_object device object = list_any (λ standing. same_object standing.point.object object) device.standings
 
--- Whether the device or a point has this name.
+-- Whether the device or a point has this name, octet by octet.
 abbrev pub has_name : DeviceState → List ℕ → Bool
 has_name device name =
-    same_name device.info.name name || list_any (λ standing. same_name standing.point.name name) device.standings
+    bytes_eq device.info.name name || list_any (λ standing. bytes_eq standing.point.name name) device.standings
 
 -- The device with one more point, which no write has reached.
 abbrev pub with_point : DeviceState → Description → DeviceState
@@ -86,7 +74,7 @@ add_point device point =
     if length device.standings == 32 then Err TooMany
     else if has_object device point.object then Err Twice
     else if has_name device point.name then Err NameTwice
-    else or_fail BadPoint (option_map (with_point device) (description_of point))
+    else ok_or (option_map (with_point device) (description_of point)) BadPoint
 
 -- ---- the properties of the device
 
@@ -101,35 +89,17 @@ is_device info object = (object.kind == 8) && ((object.instance == info.instance
 -- The texts that each device of this kind has: vendor-name, model-name, firmware-revision, application-software-version
 -- and description.
 unfoldable pub device_text : ℕ → Option (List ℕ)
-device_text number =
-    if number == 121 then Some (codes "Property tools")
-    else if number == 70 then Some (codes "bacdev")
-    else if number == 44 then Some (codes "1")
-    else if number == 12 then Some (codes "1")
-    else if number == 28 then Some (codes "Small BACnet/IP device")
-    else None
+device_text number = lookup (nat_eq number)
+    ((121, codes "Property tools") ∷ (70, codes "bacdev") ∷ (44, codes "1") ∷ (12, codes "1")
+    ∷ (28, codes "Small BACnet/IP device") ∷ [])
 
 -- The numbers that each device of this kind has: object-type, system-status (operational), vendor-identifier,
 -- protocol-version, protocol-revision, max-apdu-length-accepted, segmentation-supported (none), apdu-timeout,
 -- number-of-apdu-retries and database-revision.
 unfoldable pub device_number : ℕ → Option Datum
-device_number number =
-    if number == 79 then Some (enumerated 8)
-    else if number == 112 then Some (enumerated 0)
-    else if number == 120 then Some (unsigned 260)
-    else if number == 98 then Some (unsigned 1)
-    else if number == 139 then Some (unsigned 4)
-    else if number == 62 then Some (unsigned 1476)
-    else if number == 107 then Some (enumerated 3)
-    else if number == 11 then Some (unsigned 3000)
-    else if number == 73 then Some (unsigned 3)
-    else if number == 155 then Some (unsigned 1)
-    else None
-
--- The property that has this text; where there is no text, the one that has this number.
-abbrev pub text_or_number : Option (List ℕ) → Option Datum → Option Property
-text_or_number (Some text) number = Some (single (char_string 0 text))
-text_or_number None number = option_map single number
+device_number number = lookup (nat_eq number)
+    ((79, enumerated 8) ∷ (112, enumerated 0) ∷ (120, unsigned 260) ∷ (98, unsigned 1) ∷ (139, unsigned 4)
+    ∷ (62, unsigned 1476) ∷ (107, enumerated 3) ∷ (11, unsigned 3000) ∷ (73, unsigned 3) ∷ (155, unsigned 1) ∷ [])
 
 -- The property of the device of this number: object-identifier, object-list, object-name, device-address-binding, or
 -- one that each device of this kind has.
@@ -139,4 +109,4 @@ device_property device number =
     else if number == 76 then Some (array (values.object (device_object device.info) ∷ point_objects device.standings))
     else if number == 77 then Some (single (char_string 0 device.info.name))
     else if number == 30 then Some empty_list
-    else text_or_number (device_text number) (device_number number)
+    else option_map single (option_or (option_map (char_string 0) (device_text number)) (device_number number))

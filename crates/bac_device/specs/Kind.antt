@@ -1,11 +1,11 @@
 -- The types of point, and the values of each (clause 12).
-use Rattle.std.specs.Prelude.{ℕ, ◌^◌, ◌==◌, nat_lt, nat_le, ◌&&◌, Bool, true, false, if◌then◌else◌, List, Option, Some}
-use Rattle.std.specs.Prelude.{None}
+use Rattle.std.specs.Prelude.{ℕ, ◌^◌, ◌==◌, nat_eq, nat_lt, nat_le, ◌&&◌, Bool, true, false, List, [], ◌∷◌, Option}
+use Rattle.std.specs.Prelude.{Some, None}
 use Rattle.std.specs.Int.{w32, to_be_bytes, from_be_bytes}
+use Rattle.std.specs.Map.{lookup}
 use Rattle.std.specs.Option.{option_map}
 use Rattle.bac_wire.specs.Datum.{Datum, null, real, unsigned, enumerated}
 use Rattle.bac_wire.specs.DatumReading.{value_at}
-use Rattle.bac_wire.specs.ParameterReading.{unsigned_in, enumerated_in}
 use Rattle.bac_wire.specs.Steps.{◌>>=◌}
 use Rattle.bac_pdu.specs.PropertyReading.{whole_of}
 use Rattle.bac_device.specs.declared.kind.Family.{Family}
@@ -20,17 +20,10 @@ kind family role = record { family = family; role = role }
 
 -- The kind of each object type that a point can have (clause 21, BACnetObjectType).
 unfoldable pub kind_of : ℕ → Option Kind
-kind_of number =
-    if number == 0 then Some (kind Analog roles.Input)
-    else if number == 1 then Some (kind Analog roles.Output)
-    else if number == 2 then Some (kind Analog roles.Value)
-    else if number == 3 then Some (kind Binary roles.Input)
-    else if number == 4 then Some (kind Binary roles.Output)
-    else if number == 5 then Some (kind Binary roles.Value)
-    else if number == 13 then Some (kind MultiState roles.Input)
-    else if number == 14 then Some (kind MultiState roles.Output)
-    else if number == 19 then Some (kind MultiState roles.Value)
-    else None
+kind_of number = lookup (nat_eq number)
+    ((0, kind Analog roles.Input) ∷ (1, kind Analog roles.Output) ∷ (2, kind Analog roles.Value)
+    ∷ (3, kind Binary roles.Input) ∷ (4, kind Binary roles.Output) ∷ (5, kind Binary roles.Value)
+    ∷ (13, kind MultiState roles.Input) ∷ (14, kind MultiState roles.Output) ∷ (19, kind MultiState roles.Value) ∷ [])
 
 -- Whether points of this role can be written, and have a priority array (clause 19.2).
 abbrev pub is_commandable : Role → Bool
@@ -48,16 +41,12 @@ abbrev pub place_value : Family → Option ℕ → Datum
 place_value family None = null
 place_value family (Some n) = value_of family n
 
--- The number of a Real. None where the value is no Real.
-abbrev pub real_in : Datum → Option ℕ
-real_in (real octets) = Some (from_be_bytes w32 octets)
-real_in _ = None
-
 -- The number that a value stands for. None where it is of another family.
 abbrev pub number_in : Family → Datum → Option ℕ
-number_in Analog value = real_in value
-number_in Binary value = enumerated_in value
-number_in MultiState value = unsigned_in value
+number_in Analog (real octets) = Some (from_be_bytes w32 octets)
+number_in Binary (enumerated n) = Some n
+number_in MultiState (unsigned n) = Some n
+number_in _ _ = None
 
 -- What a value asks a place to hold: NULL, or the number of a value of the family. None where it is of another family.
 abbrev pub place_in : Family → Datum → Option (Option ℕ)

@@ -1,12 +1,12 @@
 -- What a point has after writes: the sixteen places of its priority array, and its present value (clause 19.2).
-use Rattle.std.specs.Prelude.{◌≡◌, ℕ, ◌-◌, ◌==◌, ◌&&◌, Bool, false, if◌then◌else◌, is_some, List, [], ◌∷◌, map, filter}
-use Rattle.std.specs.Prelude.{find, slice_get, slice_set, unwrap_or, Option, Some, None, Result, Ok, Err}
+use Rattle.std.specs.Prelude.{◌≡◌, ℕ, ◌-◌, ◌==◌, ◌&&◌, ◌||◌, not, Bool, false, if◌then◌else◌, is_some, List, [], ◌∷◌}
+use Rattle.std.specs.Prelude.{map, filter, find, slice_get, slice_set, unwrap_or, Option, Some, None, Result, Ok, Err}
 use Rattle.std.specs.List.{last_or, AllByRecursion}
-use Rattle.std.specs.Option.{option_and_then}
+use Rattle.std.specs.Option.{option_and_then, ok_or}
 use Rattle.bac_wire.specs.Identifier.{Identifier}
 use Rattle.bac_device.specs.declared.failure.Failure.{Failure}
 use Rattle.bac_device.specs.declared.failure.Failure.TheVariants.{WrongType, OutOfRange}
-use Rattle.bac_device.specs.Steps.{◌>>=◌, or_fail}
+use Rattle.bac_device.specs.Steps.{◌>>=◌}
 use Rattle.bac_device.specs.Kind.{is_commandable, place_in, one_value, allows}
 use Rattle.bac_device.specs.Point.{Description, same_object}
 
@@ -51,9 +51,8 @@ present standing = unwrap_or (option_and_then (λ place. place) (find is_some st
 -- What the place of this priority holds. None where the point has no such place.
 unfoldable pub place_at : Standing → ℕ → Option (Option ℕ)
 place_at standing priority =
-    if is_commandable standing.point.kind.role
-    then (if priority == 0 then None else slice_get standing.places (priority - 1))
-    else None
+    if not (is_commandable standing.point.kind.role) || priority == 0 then None
+    else slice_get standing.places (priority - 1)
 
 -- The number, where the point allows it; NULL is always allowed.
 abbrev pub in_range : Description → Option ℕ → Result (Option ℕ) Failure
@@ -64,12 +63,11 @@ in_range point (Some n) = if allows point.kind.family point.extra n then Ok (Som
 -- in its range, or NULL.
 unfoldable pub written_value : Description → List ℕ → Result (Option ℕ) Failure
 written_value point octets =
-    or_fail WrongType (option_and_then (place_in point.kind.family) (one_value octets)) >>= in_range point
+    ok_or (option_and_then (place_in point.kind.family) (one_value octets)) WrongType >>= in_range point
 
 -- The point, where the place of this priority holds this.
 abbrev pub with_place : Standing → ℕ → Option ℕ → Standing
-with_place standing priority value =
-    record { point = standing.point; places = slice_set standing.places (priority - 1) value }
+with_place standing priority value = record standing { places = slice_set standing.places (priority - 1) value }
 
 -- The point after one more write, which may be to another point.
 abbrev pub put : Write → Standing → Standing

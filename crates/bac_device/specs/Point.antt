@@ -29,19 +29,12 @@ pub record Description : Type 0 where
 abbrev pub same_object : Identifier → Identifier → Bool
 same_object a b = (a.kind == b.kind) && (a.instance == b.instance)
 
--- Whether a name has one to 64 octets.
-abbrev pub is_name : List ℕ → Bool
-is_name name = nat_lt 0 (length name) && nat_le (length name) 64
-
--- Whether the identifier has an instance that an object can have: not 4,194,303 (clause 12).
-abbrev pub is_numbered : Identifier → Bool
-is_numbered object = nat_lt object.instance 4194303
-
--- Whether a point of this kind can be as it is given.
+-- Whether a point of this kind can be as it is given: its name has one to 64 octets, its instance is one that an object
+-- can have, which 4,194,303 is not (clause 12), and its kind allows `extra` and `start`.
 abbrev pub is_described : Kind → Given → Bool
 is_described kind point =
-    is_name point.name && is_numbered point.object && allows_extra kind.family kind.role point.extra && allows
-    kind.family point.extra point.start
+    nat_lt 0 (length point.name) && nat_le (length point.name) 64 && nat_lt point.object.instance 4194303
+    && allows_extra kind.family kind.role point.extra && allows kind.family point.extra point.start
 
 -- The point of this kind that is given.
 abbrev pub described : Kind → Given → Description

@@ -1,8 +1,8 @@
 -- The values of a property, and the properties of a point (clause 12).
-use Rattle.std.specs.Prelude.{ℕ, ◌-◌, ◌==◌, Bool, true, false, not, if◌then◌else◌, List, [], ◌∷◌, length, map}
+use Rattle.std.specs.Prelude.{ℕ, ◌-◌, ◌==◌, ◌&&◌, Bool, true, false, not, if◌then◌else◌, List, [], ◌∷◌, length, map}
 use Rattle.std.specs.Prelude.{slice_get, Option, Some, None, Result, Ok, Err}
 use Rattle.std.specs.List.{flat_map}
-use Rattle.std.specs.Option.{option_map}
+use Rattle.std.specs.Option.{option_map, ok_or}
 use Rattle.bac_wire.specs.Datum.{Datum, boolean, unsigned, enumerated, char_string, bit_string, object, plain}
 use Rattle.bac_device.specs.declared.kind.Family.{Family}
 use Rattle.bac_device.specs.declared.kind.Family.TheVariants.{Analog, Binary, MultiState}
@@ -10,7 +10,6 @@ use Rattle.bac_device.specs.declared.kind.Role.{Role}
 use Rattle.bac_device.specs.declared.kind.Role.TheVariants as roles
 use Rattle.bac_device.specs.declared.failure.Failure.{Failure}
 use Rattle.bac_device.specs.declared.failure.Failure.TheVariants.{NotAnArray, InvalidIndex}
-use Rattle.bac_device.specs.Steps.{or_fail}
 use Rattle.bac_device.specs.Kind.{is_commandable, value_of, place_value}
 use Rattle.bac_device.specs.Places.{Standing, present}
 
@@ -39,10 +38,6 @@ point_objects standings = map (λ standing. object standing.point.object) standi
 abbrev pub region_octets : Property → List ℕ
 region_octets property = flat_map plain property.values
 
--- The value at this position, counted from 0.
-abbrev pub element_at : List Datum → ℕ → Result Property Failure
-element_at values position = or_fail InvalidIndex (option_map single (slice_get values position))
-
 -- What an index chooses. Without one it is the whole property. An array has at 0 the number of its elements, and then
 -- these, from 1 on; what is no array has none.
 unfoldable pub element : Property → Option ℕ → Result Property Failure
@@ -50,44 +45,27 @@ element property None = Ok property
 element property (Some index) =
     if not property.is_array then Err NotAnArray
     else if index == 0 then Ok (single (unsigned (length property.values)))
-    else element_at property.values (index - 1)
+    else ok_or (option_map single (slice_get property.values (index - 1))) InvalidIndex
 
 -- ---- the properties of a point
 
--- The property, where points of the role can be written; else none.
-abbrev pub if_commandable : Role → Property → Option Property
-if_commandable role property = if is_commandable role then Some property else None
+-- What `extra` is of a point of this kind, as the property of this number: the units (117) of an analog point, the
+-- polarity (84) of a binary input or output, the number of states (74) of a multi-state point. None as any other.
+abbrev pub extra_value : Family → Role → ℕ → ℕ → Option Datum
+extra_value Analog role extra number = if number == 117 then Some (enumerated extra) else None
+extra_value Binary roles.Value extra number = None
+extra_value Binary role extra number = if number == 84 then Some (enumerated extra) else None
+extra_value MultiState role extra number = if number == 74 then Some (unsigned extra) else None
 
--- The units of an analog point; no other has any.
-abbrev pub units : Family → ℕ → Option Property
-units Analog extra = Some (single (enumerated extra))
-units Binary extra = None
-units MultiState extra = None
-
--- The polarity of a binary input or output; no other point has one.
-abbrev pub polarity : Family → Role → ℕ → Option Property
-polarity Binary roles.Input extra = Some (single (enumerated extra))
-polarity Binary roles.Output extra = Some (single (enumerated extra))
-polarity _ _ extra = None
-
--- The number of states of a multi-state point; no other has one.
-abbrev pub number_of_states : Family → ℕ → Option Property
-number_of_states MultiState extra = Some (single (unsigned extra))
-number_of_states Analog extra = None
-number_of_states Binary extra = None
-
--- The properties that only points of some types have: units, polarity, number-of-states, priority-array and
--- relinquish-default.
+-- The properties that only points of some types have: priority-array and relinquish-default where they can be written;
+-- units, polarity and number-of-states.
 unfoldable pub kind_property : Standing → ℕ → Option Property
 kind_property standing number =
-    if number == 117 then units standing.point.kind.family standing.point.extra
-    else if number == 84 then polarity standing.point.kind.family standing.point.kind.role standing.point.extra
-    else if number == 74 then number_of_states standing.point.kind.family standing.point.extra
-    else if number == 87
-    then if_commandable standing.point.kind.role (array (map (place_value standing.point.kind.family) standing.places))
-    else if number == 104
-    then if_commandable standing.point.kind.role (single (value_of standing.point.kind.family standing.point.start))
-    else None
+    if number == 87 && is_commandable standing.point.kind.role
+    then Some (array (map (place_value standing.point.kind.family) standing.places))
+    else if number == 104 && is_commandable standing.point.kind.role
+    then Some (single (value_of standing.point.kind.family standing.point.start))
+    else option_map single (extra_value standing.point.kind.family standing.point.kind.role standing.point.extra number)
 
 -- The properties of every point: object-identifier, object-name, object-type, present-value, event-state (normal),
 -- out-of-service, status-flags (four, none set); and those of its type.

@@ -1,7 +1,7 @@
 -- What the device answers to a datagram, and which write it accepts (clauses 5.4, 15.5, 15.9 and 16.10).
-use Rattle.std.specs.Prelude.{ℕ, ◌==◌, nat_le, Bool, true, false, if◌then◌else◌, List, ◌++◌, length, map, Option, Some}
-use Rattle.std.specs.Prelude.{None, Result, Ok, Err}
-use Rattle.std.specs.Option.{option_and_then, option_map, option_to_list}
+use Rattle.std.specs.Prelude.{ℕ, ◌==◌, nat_le, Bool, true, false, not, ◌&&◌, ◌||◌, if◌then◌else◌, List, ◌++◌, length}
+use Rattle.std.specs.Prelude.{map, Option, Some, None, is_some, is_none, Result, Ok, Err}
+use Rattle.std.specs.Option.{option_and_then, option_map, option_to_list, ok_or}
 use Rattle.std.specs.Result.{result_ok}
 use Rattle.bac_wire.specs.Identifier.{Identifier}
 use Rattle.bac_pdu.specs.declared.apdu.Part.{Part}
@@ -22,7 +22,7 @@ use Rattle.bac_device.specs.declared.failure.Failure.{Failure}
 use Rattle.bac_device.specs.declared.failure.Failure.TheVariants.{UnknownObject, UnknownProperty, NotAnArray}
 use Rattle.bac_device.specs.declared.failure.Failure.TheVariants.{WriteDenied}
 use Rattle.bac_device.specs.Info.{Info}
-use Rattle.bac_device.specs.Steps.{◌>>=◌, or_fail}
+use Rattle.bac_device.specs.Steps.{◌>>=◌}
 use Rattle.bac_device.specs.Kind.{is_commandable}
 use Rattle.bac_device.specs.Point.{Description}
 use Rattle.bac_device.specs.Places.{Write, Standing, written_value, put}
@@ -35,9 +35,9 @@ use Rattle.bac_device.specs.Device.{DeviceState, device_after, device_object, is
 -- The property of this number of the object, or why there is none: no such object, or no such property.
 unfoldable pub property_of : DeviceState → Identifier → ℕ → Result Property Failure
 property_of device object number =
-    if is_device device.info object then or_fail UnknownProperty (device_property device number)
-    else or_fail UnknownObject (standing_at device object)
-    >>= (λ standing. or_fail UnknownProperty (point_property standing number))
+    if is_device device.info object then ok_or (device_property device number) UnknownProperty
+    else ok_or (standing_at device object) UnknownObject
+    >>= (λ standing. ok_or (point_property standing number) UnknownProperty)
 
 -- What is asked for: a property, or an element of it; or why it can't be read.
 unfoldable pub read_property : DeviceState → Reference → Result Property Failure
@@ -45,19 +45,12 @@ read_property device r = property_of device r.object r.property >>= (λ property
 
 -- ---- WriteProperty (clause 15.9)
 
--- Whether this index can stand at the property: none at any, and one only at an array.
-abbrev pub takes_index : Property → Option ℕ → Bool
-takes_index property None = true
-takes_index property (Some index) = property.is_array
-
 -- The point whose present value the reference names, where points of its type can be written.
 abbrev pub commanded_point : DeviceState → Reference → Option Standing
 commanded_point device r =
-    if is_device device.info r.object then None
-    else if r.property == 85
-    then option_and_then (λ standing. if is_commandable standing.point.kind.role then Some standing else None)
+    if not (r.property == 85) || is_device device.info r.object then None
+    else option_and_then (λ standing. if is_commandable standing.point.kind.role then Some standing else None)
     (standing_at device r.object)
-    else None
 
 -- The priority of a write: 16, the least urgent, where it names none. Priority 6 is kept for minimum on and off times
 -- (clause 19.2), and is refused.
@@ -78,9 +71,8 @@ ordered_write standing o =
 unfoldable pub accepted_write : DeviceState → Order → Result Write Failure
 accepted_write device o =
     property_of device o.reference.object o.reference.property >>= (λ property.
-    or_fail NotAnArray (if takes_index property o.reference.index then Some property else None) >>= (λ _.
-    or_fail WriteDenied (commanded_point device o.reference) >>= (λ standing.
-    ordered_write standing o)))
+    if is_some o.reference.index && not property.is_array then Err NotAnArray
+    else ok_or (commanded_point device o.reference) WriteDenied >>= (λ standing. ordered_write standing o))
 
 -- ---- the replies to confirmed requests
 
@@ -100,10 +92,8 @@ answered_object info object = if is_device info object then device_object info e
 
 -- What is acknowledged: the object, the property and the index that were asked for, and the values.
 abbrev pub answer_to : DeviceState → Reference → Property → Answer
-answer_to device r property = record {
-  reference = record { object = answered_object device.info r.object; property = r.property; index = r.index };
-  value = region_octets property;
-}
+answer_to device r property =
+    record { reference = record r { object = answered_object device.info r.object }; value = region_octets property }
 
 -- The ReadProperty-ACK with these values.
 abbrev pub ack : DeviceState → ℕ → Reference → Property → Message
@@ -136,10 +126,9 @@ full_reply device None id service body =
     else if service == 15 then write_reply device id body
     else reject id 9
 
--- The write that a request orders and the device accepts.
+-- The write that a request orders and the device accepts: a WriteProperty that comes whole.
 unfoldable pub write_in_request : DeviceState → Option Part → ℕ → List ℕ → Option Write
-write_in_request device (Some part) service body = None
-write_in_request device None service body = if service == 15 then write_in_body device body else None
+write_in_request device part service body = if is_none part && service == 15 then write_in_body device body else None
 
 -- The reply, or an Abort where it would have more octets than the requester announced (clause 5.4.5).
 abbrev pub fitting : ℕ → ℕ → Message → Message
@@ -210,10 +199,7 @@ with_write device (Some write) = record device { standings = map (put write) dev
 abbrev pub reply_to : Info → List Description → List Write → Station → List ℕ → Option (Station × List ℕ)
 reply_to info points writes from datagram = reply_of (device_after info points writes) from datagram
 
--- The write in a datagram from there that a device with these points, after these writes, accepts.
-abbrev pub write_in : Info → List Description → List Write → Station → List ℕ → Option Write
-write_in info points writes from datagram = write_of_datagram (device_after info points writes) from datagram
-
--- These writes, and the one that is accepted in the datagram, if there is one.
+-- These writes, and the one in a datagram from there that a device with these points then accepts, if there is one.
 abbrev pub writes_after : Info → List Description → List Write → Station → List ℕ → List Write
-writes_after info points writes from datagram = writes ++ option_to_list (write_in info points writes from datagram)
+writes_after info points writes from datagram =
+    writes ++ option_to_list (write_of_datagram (device_after info points writes) from datagram)

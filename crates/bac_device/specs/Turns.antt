@@ -27,15 +27,18 @@ replies_to info points writes (arrival ∷ arrivals) =
 
 -- ---- what a server that answers each in turn sees
 
+-- The replies are those of the definition, and the points stand as the accepted writes leave them.
+pub record AreDefined (device : DeviceState) (writes : List Write) (arrivals : List Arrival)
+    (replies : List (Option (Station × List ℕ))) (after : DeviceState) : Type 0 where
+  pub replied : replies ≡ replies_to device.info (points_of device) writes arrivals
+  pub written : after
+      ≡ device_after device.info (points_of device) (all_writes device.info (points_of device) writes arrivals)
+
 -- A call answers this datagram with this reply, and leaves this device: for any writes that the device holds, both are
 -- those of the definition.
-pub record Answers (device : DeviceState) (arrival : Arrival) (reply : Option (Station × List ℕ))
-    (after : DeviceState) : Type 0 where
-  pub replied : (writes : List Write) → Holds device writes
-      → reply ≡ reply_to device.info (points_of device) writes arrival.from arrival.datagram
-  pub written : (writes : List Write) → Holds device writes
-      → after ≡ device_after device.info (points_of device)
-      (writes_after device.info (points_of device) writes arrival.from arrival.datagram)
+abbrev pub Answers : DeviceState → Arrival → Option (Station × List ℕ) → DeviceState → Type 0
+Answers device arrival reply after = (writes : List Write) → Holds device writes
+    → AreDefined device writes (arrival ∷ []) (reply ∷ []) after
 
 -- Such calls for these datagrams, one after the other.
 abbrev pub AnswersInTurn : DeviceState → List Arrival → List (Option (Station × List ℕ)) → DeviceState → Type 0
@@ -43,10 +46,3 @@ AnswersInTurn device [] [] after = after ≡ device
 AnswersInTurn device (arrival ∷ arrivals) (reply ∷ replies) after = (next : DeviceState)
     × Answers device arrival reply next × AnswersInTurn next arrivals replies after
 AnswersInTurn device _ _ after = ⊥
-
--- The replies are those of the definition, and the points stand as the accepted writes leave them.
-pub record AreDefined (device : DeviceState) (writes : List Write) (arrivals : List Arrival)
-    (replies : List (Option (Station × List ℕ))) (after : DeviceState) : Type 0 where
-  pub replied : replies ≡ replies_to device.info (points_of device) writes arrivals
-  pub written : after
-      ≡ device_after device.info (points_of device) (all_writes device.info (points_of device) writes arrivals)

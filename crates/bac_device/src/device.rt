@@ -4,6 +4,7 @@ ghost use Rattle.std.specs.Prelude.{◌≡◌, ◌<◌, [], ◌∷◌, ◌++◌,
 ghost use Rattle.std.specs.Prelude.{Err, Some, None};
 ghost use Rattle.std.specs.List.{list_any};
 ghost use Rattle.std.specs.Option.{option_map, option_and_then, option_copied};
+ghost use Rattle.std.specs.Str.{bytes_eq};
 ghost use Rattle.bac_wire.specs.Datum.{datum, IsSound};
 ghost use Rattle.bac_wire.specs.Identifier.{identifier};
 ghost use Rattle.bac_device.specs.Kind.{value_of};
@@ -14,7 +15,7 @@ ghost use Rattle.bac_wire.specs.Steps.{result_seen};
 ghost use Rattle.bac_device.specs.Property.{single};
 ghost use Rattle.bac_device.specs.Inner.Property.{property_seen, IsSoundProperty};
 ghost use Rattle.bac_device.specs.Device.{Holds, points_of, device_after, standing_at, present_after, place_after};
-ghost use Rattle.bac_device.specs.Device.{same_name, add_point, device_text, device_number, device_property};
+ghost use Rattle.bac_device.specs.Device.{add_point, device_text, device_number, device_property};
 ghost use Rattle.bac_device.specs.Reply.{property_of, commanded_point, with_write};
 
 use crate::failure::Failure;
@@ -241,7 +242,7 @@ fn has_object(points: &[StandingPoint], object: ObjectId) -> bool
 
 /// Whether one of the points has this name.
 fn has_name(points: &[StandingPoint], name: &str) -> bool
-    ensures { result ≡ list_any (λ standing. same_name standing.point.name name.now) points.now }
+    ensures { result ≡ list_any (λ standing. bytes_eq standing.point.name name.now) points.now }
 {
     points.iter().any(|point| point.has_name(name))
 }

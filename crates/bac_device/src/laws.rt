@@ -1,14 +1,15 @@
 //! What holds of the definitions that the contracts cite. Each function has an empty body, and its clause is the law;
 //! those at the end are `==` of a type, and say what it compares.
 
-ghost use Rattle.std.specs.Prelude.{IsTrue, ◌≡◌, ◌↔◌, ℕ, List, Option, Some};
+ghost use Rattle.std.specs.Prelude.{IsTrue, ◌≡◌, ◌↔◌, ℕ, List, Option};
+ghost use Rattle.std.specs.Option.{ForSome};
 ghost use Rattle.bac_pdu.specs.Peer.{Station};
 ghost use Rattle.bac_device.specs.Info.{Info};
 ghost use Rattle.bac_device.specs.Point.{Description};
 ghost use Rattle.bac_device.specs.Places.{Write};
 ghost use Rattle.bac_device.specs.Device.{DeviceState, points_of, device_after, Holds};
 ghost use Rattle.bac_device.specs.Reply.{reply_of};
-ghost use Rattle.bac_device.specs.Size.{CarriesRequest, CarriesUnconfirmed, IsWithinAnnounced, HasFifteen, RepliesFit};
+ghost use Rattle.bac_device.specs.Size.{ReplyFits, RepliesFit};
 ghost use Rattle.bac_device.specs.Turns.{Arrival, AnswersInTurn, AreDefined, replies_to};
 
 use crate::device::AddFault;
@@ -37,12 +38,8 @@ pub fn points_stay()
 /// that of an I-Am, to which no size is announced, has fifteen. So it is of all replies to any datagrams, one after the
 /// other: those of a server, and of a script.
 pub fn replies_fit()
-    ensures confirmed { (device : DeviceState) (from to : Station) (datagram reply : List ℕ) (code id : ℕ)
-        → CarriesRequest from datagram code id → reply_of device from datagram ≡ Some (to, reply)
-        → IsWithinAnnounced to code id reply }
-    ensures introduced { (device : DeviceState) (from to : Station) (datagram reply : List ℕ)
-        → CarriesUnconfirmed from datagram → reply_of device from datagram ≡ Some (to, reply)
-        → HasFifteen to reply }
+    ensures fits { (device : DeviceState) (from : Station) (datagram : List ℕ)
+        → ForSome (reply_of device from datagram) (ReplyFits from datagram) }
     ensures in_turn { (info : Info) (points : List Description) (writes : List Write) (arrivals : List Arrival)
         → RepliesFit arrivals (replies_to info points writes arrivals) }
 {}

@@ -2,11 +2,11 @@
 
 ghost use Rattle.std.specs.Prelude.{◌≡◌, [], find, is_some, IfSome};
 ghost use Rattle.std.specs.Option.{option_map, option_copied};
+ghost use Rattle.std.specs.Str.{bytes_eq};
 ghost use Rattle.bac_wire.specs.Identifier.{identifier};
 ghost use Rattle.bac_device.specs.Point.{given, description_of, same_object};
 ghost use Rattle.bac_device.specs.Places.{standing_after, present, place_at, written_value, put};
 ghost use Rattle.bac_device.specs.Inner.Places.{write_seen};
-ghost use Rattle.bac_device.specs.Device.{same_name};
 ghost use Rattle.bac_device.specs.Kind.{is_commandable as has_priorities};
 ghost use Rattle.bac_device.specs.Property.{point_property, kind_property};
 ghost use Rattle.bac_device.specs.Inner.Property.{property_seen, IsSoundProperty};
@@ -63,13 +63,7 @@ impl Model for StandingPoint {
     ghost Value = { Standing };
 
     ghost view = { λ p. record {
-      point = record {
-        kind = p.kind;
-        object = identifier p.id;
-        name = p.name.bytes;
-        start = p.start;
-        extra = p.extra;
-      };
+      point = record { kind = p.kind; object = identifier p.id; name = p.name.bytes; start = p.start; extra = p.extra };
       places = p.places;
     } };
 }
@@ -133,7 +127,7 @@ impl StandingPoint {
 
     /// Whether the point has this name.
     pub(crate) fn has_name(&self, name: &str) -> bool
-        ensures { result ≡ same_name self.now.point.name name.now }
+        ensures { result ≡ bytes_eq self.now.point.name name.now }
     {
         self.name.as_str() == name
     }

@@ -1,6 +1,6 @@
 //! The reply to a datagram.
 
-ghost use Rattle.std.specs.Prelude.{◌≡◌, ℕ, ◌<◌, ◌≤◌, List, [], length, IfOk, IfSome, IfNone, OnOk, OnErr};
+ghost use Rattle.std.specs.Prelude.{◌≡◌, ◌<◌, ◌≤◌, List, [], length, IfOk, IfSome, IfNone, OnOk, OnErr};
 ghost use Rattle.std.specs.Option.{option_map};
 ghost use Rattle.bac_wire.specs.Limits.{frame_room};
 ghost use Rattle.bac_wire.specs.Identifier.{identifier};
@@ -15,7 +15,7 @@ ghost use Rattle.bac_device.specs.Inner.Places.{IsUrgent, write_seen};
 ghost use Rattle.bac_device.specs.Inner.Property.{property_seen, IsSoundProperty};
 ghost use Rattle.bac_device.specs.Failure.{error_class, error_code};
 ghost use Rattle.bac_device.specs.Device.{Holds, points_of, device_after};
-ghost use Rattle.bac_device.specs.Size.{CarriesRequest, CarriesUnconfirmed, IsWithinAnnounced, HasFifteen};
+ghost use Rattle.bac_device.specs.Size.{ReplyFits};
 ghost use Rattle.bac_device.specs.Reply.{answered_object, read_property, accepted_write, ordered_write};
 ghost use Rattle.bac_device.specs.Reply.{ack as ack_message};
 ghost use Rattle.bac_device.specs.Reply.{urgency as urgency_of, read_reply, write_reply, write_in_body, full_reply};
@@ -265,10 +265,7 @@ impl Device {
         ensures after { (writes : List Write) → Holds self.old writes
             → self.new ≡ device_after self.old.info (points_of self.old)
             (writes_after self.old.info (points_of self.old) writes (station from) datagram.now) }
-        ensures fits { (code id : ℕ) → CarriesRequest (station from) datagram.now code id
-            → IfSome result (λ peer. IsWithinAnnounced (station peer) code id frame.new) }
-        ensures introduced { CarriesUnconfirmed (station from) datagram.now
-            → IfSome result (λ peer. HasFifteen (station peer) frame.new) }
+        ensures fits { IfSome result (λ peer. ReplyFits (station from) datagram.now (station peer, frame.new)) }
         ensures silent { IfNone result (frame.new ≡ []) }
     {
         frame.clear();

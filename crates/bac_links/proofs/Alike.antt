@@ -9,19 +9,20 @@ use Rattle.bac_tsm.specs.Lookahead.{send_notes}
 use Rattle.bac_text.specs.declared.checked.Checked.{Checked}
 use Rattle.bac_text.specs.Checked.{Took}
 use Rattle.bac_links.specs.Limits.{most_turns}
-use Rattle.bac_links.specs.Foretold.{Foretold, Sending, after_wait, having_sent}
+use Rattle.bac_links.specs.Foretold.{Foretold, Sending, after_wait}
 use Rattle.bac_links.specs.History.{Entry, Waited, Timed, Posted, Unposted, Foretells, Account, Over}
 use Rattle.bac_links.specs.Answered.{Answer, Brings, answers_of}
 use Rattle.bac_links.specs.Courses.{is_failure, first_below, stops_at}
 use Rattle.bac_links.specs.Ending.{ending_line, exit_of}
-use Rattle.bac_links.specs.Call.{posts, rules_for, wait_of, asked, events_of, entries_of, entries_to, sent_last}
-use Rattle.bac_links.specs.Call.{has_ended, EndsIn, FailsToSend, StaysOpen, Tells}
+use Rattle.bac_links.specs.Call.{rules_for, asked, events_of, entries_of, entries_to, sent_last}
+use Rattle.bac_links.specs.Call.{has_ended, EndsIn, FailsToSend, Tells}
+use Rattle.bac_links.specs.Inner.CallSteps.{posts, wait_of, StaysOpen}
 use Rattle.bac_links.specs.declared.ending.Purpose.{Purpose}
 use Rattle.bac_links.specs.declared.ending.Exit.{Exit}
 use Rattle.bac_links.specs.declared.fault.ToolFault.{ToolFault}
 use Rattle.bac_links.specs.declared.fault.ToolFault.TheVariants.{SendFailed, ReceiveFailed, TurnsSpent, WriteFailed}
 use Rattle.bac_text.specs.declared.jobs.Call.{Call}
-use Rattle.bac_links.proofs.Courses.{none_before, none_at, having_nothing, heard_at, wait_at, time_at}
+use Rattle.bac_links.proofs.Courses.{none_before, none_at, having_nothing, having_sent, heard_at, wait_at, time_at}
 use Rattle.bac_links.proofs.Histories.{whatever_sent}
 
 -- ---- what an asker asks
@@ -210,45 +211,45 @@ module _ (purpose : Purpose) (call : Call) (t : Foretold) where
 
   lost_count : (xs : List Entry) (n : ℕ) → (f : FailsToSend purpose call t xs n) → count (answers_of xs) ≡ n
   lost_count xs n f =
-      let all = counted _ _ n (sym f.due) (count_entries purpose call t n) in
-      let one = count_both f.made (Posted f.to f.octets ∷ []) in
-      let other = count_both f.made (Unposted f.to f.octets ∷ []) in
-      let here = ap (λ (zs : List Entry). count (answers_of zs)) f.history in
+      let all = counted _ _ n (sym f.6) (count_entries purpose call t n) in
+      let one = count_both f.3 (Posted f.4 f.5 ∷ []) in
+      let other = count_both f.3 (Unposted f.4 f.5 ∷ []) in
+      let here = ap (λ (zs : List Entry). count (answers_of zs)) f.7 in
       omega (arith, all, one, other, here)
 
   goes_waits : (v : Way) (xs : List Entry) → So xs v → Waits (wait_of call) xs
   goes_waits (Ends o) xs a =
-      plain_waits (wait_of call) xs (subst (Plain (wait_of call)) (sym a.1.stops.history)
+      plain_waits (wait_of call) xs (subst (Plain (wait_of call)) (sym a.1.stops.0)
       (plain_to purpose call t a.0 o))
   goes_waits Deaf xs a =
-      plain_waits (wait_of call) xs (subst (Plain (wait_of call)) (sym a.2.history) (plain_waited purpose call t a.0))
+      plain_waits (wait_of call) xs (subst (Plain (wait_of call)) (sym a.2.0) (plain_waited purpose call t a.0))
   goes_waits Spent xs a =
-      plain_waits (wait_of call) xs (subst (Plain (wait_of call)) (sym a.2.history) (plain_entries purpose call t a.0))
+      plain_waits (wait_of call) xs (subst (Plain (wait_of call)) (sym a.2.0) (plain_entries purpose call t a.0))
   goes_waits Unsent xs a =
-      subst (Waits (wait_of call)) (sym a.1.history)
-      (waits_lost (wait_of call) a.1.made a.1.to a.1.octets
-      (plain_first (wait_of call) a.1.made (Posted a.1.to a.1.octets ∷ [])
-      (subst (Plain (wait_of call)) a.1.due (plain_entries purpose call t a.0))))
+      subst (Waits (wait_of call)) (sym a.1.7)
+      (waits_lost (wait_of call) a.1.3 a.1.4 a.1.5
+      (plain_first (wait_of call) a.1.3 (Posted a.1.4 a.1.5 ∷ [])
+      (subst (Plain (wait_of call)) a.1.6 (plain_entries purpose call t a.0))))
 
   -- A way on which each send was made is none on which one failed.
   sent_all : (xs ys zs : List Entry) → So xs Unsent → answers_of xs ≡ answers_of ys → ys ≡ zs → Plain (wait_of call) zs
       → ⊥
   sent_all xs ys zs a e same plain =
-      no_loss (wait_of call) a.1.made zs a.1.to a.1.octets plain
-      (ap answers_of (sym a.1.history) ∙ e ∙ ap answers_of same)
+      no_loss (wait_of call) a.1.3 zs a.1.4 a.1.5 plain
+      (ap answers_of (sym a.1.7) ∙ e ∙ ap answers_of same)
 
   ended_not_deaf : (xs ys : List Entry) (o : Option Outcome) → So xs (Ends o) → So ys Deaf
       → answers_of xs ≡ answers_of ys → ⊥
   ended_not_deaf xs ys o a b e =
-      let here = counted xs _ (suc a.0) a.1.stops.history (count_to purpose call t a.0 o) in
-      let there = counted ys _ (suc b.0) b.2.history (count_waited purpose call t b.0) in
+      let here = counted xs _ (suc a.0) a.1.stops.0 (count_to purpose call t a.0 o) in
+      let there = counted ys _ (suc b.0) b.2.0 (count_waited purpose call t b.0) in
       let both = ap count e in
       let same : a.0 ≡ b.0 = omega (arith, here, there, both) in
       let test = stops_at (wait_of call) t (has_ended purpose call t) in
-      let unstopped = none_at test a.0 (none_before test (suc a.0) (suc most_turns) a.1.stops.first) in
+      let unstopped = none_at test a.0 (none_before test (suc a.0) (suc most_turns) a.1.stops.1) in
       let unfailed : is_failure (heard_at call t a.0) ≡ false =
       (or_parts (has_ended purpose call t a.0) _ unstopped).1 in
-      let failed : is_failure (heard_at call t b.0) ≡ true = ap is_failure b.2.failed in
+      let failed : is_failure (heard_at call t b.0) ≡ true = ap is_failure b.2.3 in
       let there_too : is_failure (heard_at call t a.0) ≡ true =
       subst (λ (k : ℕ). is_failure (heard_at call t k) ≡ true) (sym same) failed in
       cc
@@ -256,64 +257,64 @@ module _ (purpose : Purpose) (call : Call) (t : Foretold) where
   ended_not_spent : (xs ys : List Entry) (o : Option Outcome) → So xs (Ends o) → So ys Spent
       → answers_of xs ≡ answers_of ys → ⊥
   ended_not_spent xs ys o a b e =
-      let here = counted xs _ (suc a.0) a.1.stops.history (count_to purpose call t a.0 o) in
-      let there = counted ys _ b.0 b.2.history (count_entries purpose call t b.0) in
+      let here = counted xs _ (suc a.0) a.1.stops.0 (count_to purpose call t a.0 o) in
+      let there = counted ys _ b.0 b.2.0 (count_entries purpose call t b.0) in
       let both = ap count e in
       let same : b.0 ≡ suc a.0 = omega (arith, here, there, both) in
       let open_yet : has_ended purpose call t (suc a.0) ≡ false =
-      subst (λ (k : ℕ). has_ended purpose call t k ≡ false) same b.2.before.unended in
-      let over = a.1.stops.over in
+      subst (λ (k : ℕ). has_ended purpose call t k ≡ false) same b.2.2.unended in
+      let over = a.1.stops.2 in
       cc
 
   deaf_not_spent : (xs ys : List Entry) → So xs Deaf → So ys Spent → answers_of xs ≡ answers_of ys → ⊥
   deaf_not_spent xs ys a b e =
       let test = stops_at (wait_of call) t (has_ended purpose call t) in
-      let none = subst (λ (k : ℕ). first_below test k ≡ None) b.2.all b.2.before.passed in
-      let some = a.2.first in
+      let none = subst (λ (k : ℕ). first_below test k ≡ None) b.2.1 b.2.2.passed in
+      let some = a.2.1 in
       cc
 
   alike : (v w : Way) (xs ys : List Entry) → So xs v → So ys w → answers_of xs ≡ answers_of ys → (xs ≡ ys) × (v ≡ w)
   alike (Ends o) (Ends p) xs ys a b e =
-      let here = counted xs _ (suc a.0) a.1.stops.history (count_to purpose call t a.0 o) in
-      let there = counted ys _ (suc b.0) b.1.stops.history (count_to purpose call t b.0 p) in
+      let here = counted xs _ (suc a.0) a.1.stops.0 (count_to purpose call t a.0 o) in
+      let there = counted ys _ (suc b.0) b.1.stops.0 (count_to purpose call t b.0 p) in
       let both = ap count e in
       let same : b.0 ≡ a.0 = omega (arith, here, there, both) in
       let b' = subst (EndsIn purpose call t ys p) same b.1 in
       let ended : Some o ≡ Some p = sym a.1.ended ∙ b'.ended in
       let outcome : o ≡ p = cc in (
-        a.1.stops.history ∙ ap (λ (o : Option Outcome). entries_to purpose call t o (suc a.0)) outcome
-            ∙ sym b'.stops.history,
+        a.1.stops.0 ∙ ap (λ (o : Option Outcome). entries_to purpose call t o (suc a.0)) outcome
+            ∙ sym b'.stops.0,
         ap Ends outcome,
       )
   alike Deaf Deaf xs ys a b e =
-      let here = counted xs _ (suc a.0) a.2.history (count_waited purpose call t a.0) in
-      let there = counted ys _ (suc b.0) b.2.history (count_waited purpose call t b.0) in
+      let here = counted xs _ (suc a.0) a.2.0 (count_waited purpose call t a.0) in
+      let there = counted ys _ (suc b.0) b.2.0 (count_waited purpose call t b.0) in
       let both = ap count e in
       let same : a.0 ≡ b.0 = omega (arith, here, there, both) in
-      (a.2.history ∙ ap (λ (n : ℕ). entries_of purpose call t n ++ wait_at call t n ∷ []) same ∙ sym b.2.history, refl)
+      (a.2.0 ∙ ap (λ (n : ℕ). entries_of purpose call t n ++ wait_at call t n ∷ []) same ∙ sym b.2.0, refl)
   alike Spent Spent xs ys a b e =
-      (a.2.history ∙ ap (entries_of purpose call t) (a.2.all ∙ sym b.2.all) ∙ sym b.2.history, refl)
+      (a.2.0 ∙ ap (entries_of purpose call t) (a.2.1 ∙ sym b.2.1) ∙ sym b.2.0, refl)
   alike Unsent Unsent xs ys a b e =
       let here = lost_count xs a.0 a.1 in
       let there = lost_count ys b.0 b.1 in
       let both = ap count e in
       let same : a.0 ≡ b.0 = omega (arith, here, there, both) in
-      let due = last_same a.1.made b.1.made (Posted a.1.to a.1.octets) (Posted b.1.to b.1.octets)
-      (sym a.1.due ∙ ap (entries_of purpose call t) same ∙ b.1.due) in
-      (a.1.history ∙ (λ i. due.0 i ++ lost (due.1 i) ∷ []) ∙ sym b.1.history, refl)
+      let due = last_same a.1.3 b.1.3 (Posted a.1.4 a.1.5) (Posted b.1.4 b.1.5)
+      (sym a.1.6 ∙ ap (entries_of purpose call t) same ∙ b.1.6) in
+      (a.1.7 ∙ (λ i. due.0 i ++ lost (due.1 i) ∷ []) ∙ sym b.1.7, refl)
   alike (Ends o) Deaf xs ys a b e = absurd (ended_not_deaf xs ys o a b e)
   alike Deaf (Ends o) xs ys a b e = absurd (ended_not_deaf ys xs o b a (sym e))
   alike (Ends o) Spent xs ys a b e = absurd (ended_not_spent xs ys o a b e)
   alike Spent (Ends o) xs ys a b e = absurd (ended_not_spent ys xs o b a (sym e))
   alike Deaf Spent xs ys a b e = absurd (deaf_not_spent xs ys a b e)
   alike Spent Deaf xs ys a b e = absurd (deaf_not_spent ys xs b a (sym e))
-  alike Unsent (Ends o) xs ys a b e = absurd (sent_all xs ys _ a e b.1.stops.history (plain_to purpose call t b.0 o))
-  alike Unsent Deaf xs ys a b e = absurd (sent_all xs ys _ a e b.2.history (plain_waited purpose call t b.0))
-  alike Unsent Spent xs ys a b e = absurd (sent_all xs ys _ a e b.2.history (plain_entries purpose call t b.0))
+  alike Unsent (Ends o) xs ys a b e = absurd (sent_all xs ys _ a e b.1.stops.0 (plain_to purpose call t b.0 o))
+  alike Unsent Deaf xs ys a b e = absurd (sent_all xs ys _ a e b.2.0 (plain_waited purpose call t b.0))
+  alike Unsent Spent xs ys a b e = absurd (sent_all xs ys _ a e b.2.0 (plain_entries purpose call t b.0))
   alike (Ends o) Unsent xs ys a b e = absurd
-      (sent_all ys xs _ b (sym e) a.1.stops.history (plain_to purpose call t a.0 o))
-  alike Deaf Unsent xs ys a b e = absurd (sent_all ys xs _ b (sym e) a.2.history (plain_waited purpose call t a.0))
-  alike Spent Unsent xs ys a b e = absurd (sent_all ys xs _ b (sym e) a.2.history (plain_entries purpose call t a.0))
+      (sent_all ys xs _ b (sym e) a.1.stops.0 (plain_to purpose call t a.0 o))
+  alike Deaf Unsent xs ys a b e = absurd (sent_all ys xs _ b (sym e) a.2.0 (plain_waited purpose call t a.0))
+  alike Spent Unsent xs ys a b e = absurd (sent_all ys xs _ b (sym e) a.2.0 (plain_entries purpose call t a.0))
 
 -- ---- over two links
 

@@ -20,8 +20,8 @@ use Rattle.bac_tsm.specs.Laws.{AnswersByNumber, state_at, waiting_at}
 use Rattle.bac_tsm.specs.Client.{Client, rules_of, keeping}
 use Rattle.bac_tsm.proofs.Laws.{drop_head, one_step, run_first, run_whole, both_are, looks_back, past_unended}
 use Rattle.bac_tsm.proofs.Laws.{early_unended, early_unsent, quiet_unsent, sent_first, by_number, few_open}
-use Rattle.bac_links.specs.Call.{post_in, posts, rules_for, service_of, asked, begun_at, end_in, sent_last, IsAccepted}
-use Rattle.bac_links.specs.Inner.CallSteps.{ending_in, endings, AsksNothing, IsAlone, CarriesOn}
+use Rattle.bac_links.specs.Call.{post_in, rules_for, service_of, asked, end_in, sent_last, IsAccepted}
+use Rattle.bac_links.specs.Inner.CallSteps.{posts, begun_at, ending_in, endings, AsksNothing, IsAlone, CarriesOn}
 use Rattle.bac_links.specs.declared.ending.Purpose.{Purpose}
 use Rattle.bac_text.specs.declared.jobs.Call.{Call}
 

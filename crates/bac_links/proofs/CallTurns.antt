@@ -17,14 +17,15 @@ use Rattle.bac_tsm.specs.Client.{Client, rules_of, keeping}
 use Rattle.bac_text.specs.declared.checked.Checked.{Checked}
 use Rattle.bac_text.specs.Checked.{TookOrFailed}
 use Rattle.bac_links.specs.Limits.{most_turns}
-use Rattle.bac_links.specs.Foretold.{Foretold, Heard, Arrival, Failure, Sending, waited, having_sent}
+use Rattle.bac_links.specs.Foretold.{Foretold, Heard, Arrival, Failure, Sending, waited}
 use Rattle.bac_links.specs.History.{Entry, Waited, Timed, Posted, Unposted, foretold_after, Account, Gains, GainsAll}
 use Rattle.bac_links.specs.History.{Over}
 use Rattle.bac_links.specs.Ending.{ending_line, exit_of}
 use Rattle.bac_links.specs.Handed.{data_in, turns}
 use Rattle.bac_links.specs.Courses.{first_below, stops_at, GoesOn}
-use Rattle.bac_links.specs.Call.{posts, rules_for, wait_of, asked, begun_at, events_of, entries_of, entries_to, end_in}
-use Rattle.bac_links.specs.Call.{has_ended, sent_last, IsAccepted, EndsIn, FailsToSend, StaysOpen, Tells}
+use Rattle.bac_links.specs.Call.{rules_for, asked, events_of, entries_of, entries_to, end_in}
+use Rattle.bac_links.specs.Call.{has_ended, sent_last, IsAccepted, EndsIn, FailsToSend, Tells}
+use Rattle.bac_links.specs.Inner.CallSteps.{posts, wait_of, begun_at, StaysOpen}
 use Rattle.bac_links.specs.Inner.CallSteps.{endings, GainsLost, heard_step, timeouts, AsksNothing, IsAlone, CarriesOn}
 use Rattle.bac_links.specs.Inner.CallSteps.{Underway, TurnFails}
 use Rattle.bac_links.specs.declared.ending.Purpose.{Purpose}
@@ -33,7 +34,7 @@ use Rattle.bac_links.specs.declared.ending.Exit.{Exit}
 use Rattle.bac_links.specs.declared.fault.ToolFault.{ToolFault}
 use Rattle.bac_links.specs.declared.fault.ToolFault.TheVariants.{SendFailed, ReceiveFailed, TurnsSpent, WriteFailed}
 use Rattle.bac_links.proofs.Courses.{none_yet, one_more, ends_now, fails_now, having_nothing, heard_at}
-use Rattle.bac_links.proofs.Courses.{wait_at, time_at}
+use Rattle.bac_links.proofs.Courses.{having_sent, wait_at, time_at}
 use Rattle.bac_links.proofs.Histories.{Timely, foretold_after-append, gains_both, over_begun, over_map, over_on}
 use Rattle.bac_links.proofs.Histories.{posts_left}
 use Rattle.bac_links.proofs.Histories.{posts_timely}
@@ -264,19 +265,18 @@ module _ (purpose : Purpose) (call : Call) (t : Foretold) (gained : List Entry) 
         let behind = λ (x : Entry).
         sym (append_assoc (entries_of purpose call t n) (wait_at call t n ∷ time_at call t (suc n) ∷ []) (x ∷ [])) in (
           suc n,
-          record {
-            request = open_now.request;
-            within = omega arith;
-            before = open_now.goes_on;
-            made = made;
-            to = to;
-            octets = octets;
-            due =
-                ap (λ (xs : List Entry). entries_of purpose call t n ++ wait_at call t n ∷ time_at call t (suc n) ∷ xs)
+          (
+            open_now.request,
+            omega arith,
+            open_now.goes_on,
+            made,
+            to,
+            octets,
+            ap (λ (xs : List Entry). entries_of purpose call t n ++ wait_at call t n ∷ time_at call t (suc n) ∷ xs)
                 (sends_then ∙ one)
-                ∙ behind (Posted to octets);
-            history = turned_is (Unposted to octets ∷ []) ∙ behind (Unposted to octets);
-          },
+                ∙ behind (Posted to octets),
+            turned_is (Unposted to octets ∷ []) ∙ behind (Unposted to octets),
+          ),
         )
 
 -- ---- the beginning
@@ -306,17 +306,16 @@ module _ (purpose : Purpose) (call : Call) (t : Foretold) (short : length call.b
   pub unbegun : (to : Station) (octets : List ℕ) → posts (sent client.state 0) ≡ Posted to octets ∷ [] →
       FailsToSend purpose call t (time_at call t 0 ∷ Unposted to octets ∷ []) 0
   unbegun to octets one =
-      let open_now = is_open purpose call t _ client 0 (underway _ refl) in
-      record {
-        request = open_now.request;
-        within = omega arith;
-        before = open_now.goes_on;
-        made = time_at call t 0 ∷ [];
-        to = to;
-        octets = octets;
-        due = ap (λ (xs : List Entry). time_at call t 0 ∷ xs) (sent_first ∙ one);
-        history = refl;
-      }
+      let open_now = is_open purpose call t _ client 0 (underway _ refl) in (
+        open_now.request,
+        omega arith,
+        open_now.goes_on,
+        time_at call t 0 ∷ [],
+        to,
+        octets,
+        ap (λ (xs : List Entry). time_at call t 0 ∷ xs) (sent_first ∙ one),
+        refl,
+      )
 
 -- ---- over some calls
 
@@ -499,4 +498,4 @@ module _ (purpose : Purpose) (call : Call) (seen left : Account) where
       Over seen left (λ gained t. StaysOpen purpose call t (Err TurnsSpent) gained)
   spent_so client n all far = over_map seen left _ _ far (λ gained t u.
       let open_now = is_open purpose call t gained client n u in
-      (n, open_now.request, record { all = all; before = open_now.goes_on; history = u.history }))
+      (n, open_now.request, (u.history, all, open_now.goes_on)))

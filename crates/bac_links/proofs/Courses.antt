@@ -4,10 +4,10 @@ use Rattle.std.proofs.Common.{Some, None, refl, sym, arith}
 use Rattle.std.proofs.lemmas.Bool.{or_parts}
 use Rattle.std.proofs.lemmas.List.{append-nil}
 use Rattle.bac_links.specs.Limits.{most_turns}
-use Rattle.bac_links.specs.Foretold.{Foretold, Heard, Failure, Sending, having_sent}
+use Rattle.bac_links.specs.Foretold.{Foretold, Heard, Failure, Sending}
 use Rattle.bac_links.specs.History.{Entry}
-use Rattle.bac_links.specs.Courses.{first_below, heard_in, wait_in, time_in, stops_at, GoesOn, EndsAfter, FailsAfter}
-use Rattle.bac_links.specs.Call.{wait_of}
+use Rattle.bac_links.specs.Courses.{first_below, heard_in, wait_in, time_in, stops_at, GoesOn}
+use Rattle.bac_links.specs.Inner.CallSteps.{wait_of}
 use Rattle.bac_text.specs.declared.jobs.Call.{Call}
 
 -- ---- the first number that passes a test
@@ -45,31 +45,41 @@ module _ (wait : ℕ) (t : Foretold) (is_over : ℕ → Bool) (n : ℕ) where
   one_more on received = none_more (stops_at wait t is_over) n on.passed (grind (arith, on.unended, received))
 
   module _ (entries : ℕ → List Entry) (gained : List Entry) where
-    pub ends_now : Passed n → is_over n ≡ true → n ≤ most_turns → gained ≡ entries n
-        → EndsAfter wait t is_over entries gained n
-    ends_now passed over within history = record {
-      first = first_is (stops_at wait t is_over) n (suc most_turns) passed (rw over refl) (omega arith);
-      over = over;
-      history = history;
-    }
+    -- What stopping with an end says.
+    abbrev pub EndsAfter : ℕ → Type 0
+    EndsAfter k = (gained ≡ entries k) × (first_below (stops_at wait t is_over) (suc most_turns) ≡ Some k)
+        × (is_over k ≡ true)
+
+    pub ends_now : Passed n → is_over n ≡ true → n ≤ most_turns → gained ≡ entries n → EndsAfter n
+    ends_now passed over within history = (
+      history,
+      first_is (stops_at wait t is_over) n (suc most_turns) passed (rw over refl) (omega arith),
+      over,
+    )
 
     pub fails_now : GoesOn wait t is_over n → heard_in wait t n ≡ Failure → n < most_turns
-        → gained ≡ entries n ++ wait_in wait t n ∷ [] → FailsAfter wait t is_over entries gained n
-    fails_now on failed within history = record {
-      first = first_is (stops_at wait t is_over) n most_turns on.passed (rw (on.unended, failed) refl) within;
-      unended = on.unended;
-      failed = failed;
-      history = history;
-    }
+        → gained ≡ entries n ++ wait_in wait t n ∷ [] →
+        (gained ≡ entries n ++ wait_in wait t n ∷ []) × (first_below (stops_at wait t is_over) most_turns ≡ Some n)
+        × (is_over n ≡ false) × (heard_in wait t n ≡ Failure)
+    fails_now on failed within history = (
+      history,
+      first_is (stops_at wait t is_over) n most_turns on.passed (rw (on.unended, failed) refl) within,
+      on.unended,
+      failed,
+    )
 
     -- A turn after which it has ended was due.
-    pub was_due : EndsAfter wait t is_over entries gained (suc n) → is_over n ≡ false
+    pub was_due : EndsAfter (suc n) → is_over n ≡ false
     was_due ends =
         (or_parts (is_over n) _
         (none_at (stops_at wait t is_over) n
-        (none_before (stops_at wait t is_over) (suc n) (suc most_turns) ends.first))).0
+        (none_before (stops_at wait t is_over) (suc n) (suc most_turns) ends.1))).0
 
 -- ---- what a link tells once more was sent
+
+-- What a link foretells once it sent these too.
+abbrev pub having_sent : List Sending → Foretold → Foretold
+having_sent more t = record t { sent = t.sent ++ more }
 
 pub having_nothing : (t : Foretold) → t ≡ having_sent [] t
 having_nothing t = λ i. record { heard = t.heard; time = t.time; sent = sym (append-nil t.sent) i }

@@ -3,11 +3,11 @@ use Rattle.std.proofs.Common.{◌≡◌, ℕ, List, [], ◌∷◌, ◌++◌, app
 use Rattle.std.specs.Option.{option_map}
 use Rattle.std.proofs.lemmas.List.{append-nil}
 use Rattle.bac_tsm.specs.Events.{Note, Sent}
-use Rattle.bac_links.specs.Foretold.{Foretold, Heard, Silence, Sending, after_wait, having_sent}
+use Rattle.bac_links.specs.Foretold.{Foretold, Heard, Silence, Sending, after_wait}
 use Rattle.bac_links.specs.History.{Entry, Waited, Timed, Posted, Unposted, foretold_after, Foretells, Account, gaining}
 use Rattle.bac_links.specs.History.{GainsAll, Over}
-use Rattle.bac_links.specs.Call.{posts}
-use Rattle.bac_links.proofs.Courses.{having_sent-both}
+use Rattle.bac_links.specs.Inner.CallSteps.{posts}
+use Rattle.bac_links.proofs.Courses.{having_sent, having_sent-both}
 
 -- ---- one after another
 

@@ -9,12 +9,13 @@ use Rattle.bac_tsm.specs.Lookahead.{clock}
 use Rattle.bac_tsm.proofs.Progress.{clock_rises, open_soon, never_due}
 use Rattle.bac_text.specs.declared.checked.Checked.{Checked}
 use Rattle.bac_links.specs.Foretold.{Foretold, after_wait, waited}
-use Rattle.bac_links.specs.Call.{rules_for, wait_of, asked, events_of, entries_of, entries_to, has_ended, EndsIn}
+use Rattle.bac_links.specs.Call.{rules_for, asked, events_of, entries_of, entries_to, has_ended, EndsIn}
 use Rattle.bac_links.specs.Call.{FailsToSend, Tells}
 use Rattle.bac_links.specs.History.{Entry, Posted, Unposted, foretold_after, Account, Over}
 use Rattle.bac_links.proofs.Courses.{was_due, wait_at}
 use Rattle.bac_links.proofs.Histories.{foretold_after-append, over_map}
 use Rattle.bac_links.proofs.CallTurns.{left_so}
+use Rattle.bac_links.specs.Inner.CallSteps.{wait_of}
 use Rattle.bac_links.specs.Progress.{IsPrompt}
 use Rattle.bac_links.specs.declared.ending.Purpose.{Purpose}
 use Rattle.bac_links.specs.declared.ending.Exit.{Exit}
@@ -165,26 +166,26 @@ module _ (purpose : Purpose) (call : Call) (t : Foretold) (longest : ℕ) where
   at_end : (gained : List Entry) (ending : Option Outcome) (n : ℕ) → EndsIn purpose call t gained ending n
       → InTime gained
   at_end gained (Some outcome) n ends =
-      in_time _ _ ends.stops.history
+      in_time _ _ ends.stops.0
       (waited_so n
       (was_due (wait_of call) t (has_ended purpose call t) n
       (entries_to purpose call t (Some outcome)) gained ends.stops))
   at_end gained None n ends =
-      in_time _ _ ends.stops.history
+      in_time _ _ ends.stops.0
       (ended_so n
       (was_due (wait_of call) t (has_ended purpose call t) n (entries_to purpose call t None) gained ends.stops))
 
   at_loss : (gained : List Entry) (n : ℕ) → FailsToSend purpose call t gained n → InTime gained
-  at_loss gained n fails = in_time _ _ fails.history (λ prompt.
-      let lost = Unposted fails.to fails.octets in
-      let due = Posted fails.to fails.octets in
-      let before = prompt_first longest fails.made (lost ∷ []) t prompt in
-      let all = subst (λ (xs : List Entry). IsPrompt longest xs t) (sym fails.due)
-      (prompt_both longest fails.made (due ∷ []) t before (omega arith, tt)) in
-      let h = open_so n fails.before.unended all in
+  at_loss gained n fails = in_time _ _ fails.7 (λ prompt.
+      let lost = Unposted fails.4 fails.5 in
+      let due = Posted fails.4 fails.5 in
+      let before = prompt_first longest fails.3 (lost ∷ []) t prompt in
+      let all = subst (λ (xs : List Entry). IsPrompt longest xs t) (sym fails.6)
+      (prompt_both longest fails.3 (due ∷ []) t before (omega arith, tt)) in
+      let h = open_so n fails.2.unended all in
       let posted = ap (λ (l : Foretold). l.time [])
-      (ap (λ (xs : List Entry). foretold_after xs t) fails.due ∙ foretold_after-append fails.made (due ∷ []) t) in
-      let unposted = ap (λ (l : Foretold). l.time []) (foretold_after-append fails.made (lost ∷ []) t) in
+      (ap (λ (xs : List Entry). foretold_after xs t) fails.6 ∙ foretold_after-append fails.3 (due ∷ []) t) in
+      let unposted = ap (λ (l : Foretold). l.time []) (foretold_after-append fails.3 (lost ∷ []) t) in
       omega (arith, h, posted, unposted))
 
 pub left_in_time : {W : Type 0} (contents : W → Option (List ℕ)) (purpose : Purpose) (call : Call)
@@ -199,10 +200,10 @@ left_in_time contents purpose call before after seen left (Err SendFailed) longe
 left_in_time contents purpose call before after seen left (Err ReceiveFailed) longest tells =
     over_map seen left _ _ tells
     (λ gained t h.
-    in_time purpose call t longest _ _ h.2.history (waited_so purpose call t longest h.0 h.2.unended))
+    in_time purpose call t longest _ _ h.2.0 (waited_so purpose call t longest h.0 h.2.2))
 left_in_time contents purpose call before after seen left (Err TurnsSpent) longest tells =
     over_map seen left _ _ tells
     (λ gained t h.
-    in_time purpose call t longest _ _ h.2.history (open_so purpose call t longest h.0 h.2.before.unended))
+    in_time purpose call t longest _ _ h.2.0 (open_so purpose call t longest h.0 h.2.2.unended))
 left_in_time contents purpose call before after seen left (Err WriteFailed) longest tells =
     over_map seen left _ _ tells.2 (λ gained t h. at_end purpose call t longest gained tells.0 h.0 h.1)

@@ -10,19 +10,23 @@ use Rattle.bac_text.specs.Checked.{Took}
 use Rattle.bac_text.proofs.Known.{Took-none, Took-more}
 use Rattle.bac_links.specs.Limits.{most_turns}
 use Rattle.bac_pdu.specs.Peer.{station}
-use Rattle.bac_links.specs.Foretold.{Foretold, Heard, Failure, Sending, waited, having_sent}
+use Rattle.bac_links.specs.Foretold.{Foretold, Heard, Failure, Sending, waited}
 use Rattle.bac_links.specs.History.{Entry, Waited, Timed, Posted, Unposted, foretold_after, Account, Gains, Over}
-use Rattle.bac_links.specs.Search.{Found, found_by, found_line, found_lines, who_is_to, found_after, greatest_time}
-use Rattle.bac_links.specs.Search.{passed, search_wait, search_entries, is_late, SearchUnsent, Searched}
+use Rattle.bac_links.specs.Search.{Found, found_by, found_line, who_is_to, found_after, greatest_time}
+use Rattle.bac_links.specs.Search.{search_entries, is_late, Searched}
 use Rattle.bac_links.specs.Courses.{heard_in, wait_in, time_in, GoesOn, first_below, stops_at}
 use Rattle.bac_links.specs.declared.ending.Exit.{Exit}
 use Rattle.bac_links.specs.declared.ending.Exit.TheVariants.{Good, Bad}
-use Rattle.bac_links.proofs.Courses.{none_yet, one_more, ends_now, fails_now}
+use Rattle.bac_links.proofs.Courses.{none_yet, one_more, ends_now, fails_now, having_sent}
 use Rattle.bac_links.proofs.Histories.{foretold_after-append, gains_both, over_begun, over_map, over_on}
-use Rattle.bac_links.specs.Inner.SearchSteps.{has_found, Listens}
+use Rattle.bac_links.specs.Inner.SearchSteps.{search_wait, found_lines, has_found, Listens}
 use Rattle.bac_text.specs.declared.jobs.Search.{Search}
 use Rattle.bac_links.specs.declared.fault.ToolFault.{ToolFault}
 use Rattle.bac_links.specs.declared.fault.ToolFault.TheVariants.{ReceiveFailed, TurnsSpent, WriteFailed}
+
+-- How much time has gone by after n turns.
+abbrev passed : Search → Foretold → ℕ → ℕ
+passed search t n = greatest_time search t n - t.time []
 
 -- A search after n turns, over what the link told.
 pub record SearchesSo (search : Search) (t : Foretold) (gained : List Entry) (first greatest : ℕ) (found : List Found)
@@ -246,7 +250,8 @@ begun search contents before seen mid link first positive asks sends = record {
 -- Or with one that could not be sent.
 pub unbegun : (search : Search) (seen mid link : Account) (first : ℕ) → Gains (Timed first) seen mid →
     Gains (Unposted (station search.to) (who_is_to search)) mid link
-    → Over seen link (λ gained t. SearchUnsent search t gained)
+    → Over seen link (λ gained t. gained ≡ time_in (search_wait search) t zero ∷ Unposted (station search.to)
+    (who_is_to search) ∷ [])
 unbegun search seen mid link first asks sends =
     let lost = Unposted (station search.to) (who_is_to search) in
     over_begun seen link _ _ (gains_both (Timed first ∷ []) (lost ∷ []) seen mid link asks sends) first (refl, tt)
@@ -262,5 +267,5 @@ spent search contents before after seen link first greatest any n all goes = (
   tt,
   goes.printed,
   over_map seen link _ _ goes.so_far
-      (λ gained t far. (n, far.finds, record { all = all; before = far.before; history = far.history })),
+      (λ gained t far. (n, far.finds, (far.history, all, far.before))),
 )

@@ -1,22 +1,38 @@
 -- Two searches that are answered alike ask alike, and end alike.
 use Rattle.std.proofs.Common.{◌≡◌, ◌≢◌, ℕ, zero, suc, ◌+◌, List, [], ◌∷◌, ◌++◌, length, length-append, Option, Result}
-use Rattle.std.proofs.Common.{Ok, Err, false, refl, sym, ap, ◌∙◌, arith, subst}
+use Rattle.std.proofs.Common.{Ok, Err, false, refl, sym, ap, ◌∙◌, arith, subst, if◌then◌else◌}
 use Rattle.std.proofs.lemmas.List.{append_cancel_left}
 use Rattle.bac_pdu.specs.Peer.{station}
 use Rattle.bac_text.specs.declared.checked.Checked.{Checked}
 use Rattle.bac_text.specs.declared.jobs.Search.{Search}
 use Rattle.bac_text.specs.Checked.{Took}
 use Rattle.bac_links.specs.Foretold.{Foretold}
-use Rattle.bac_links.specs.History.{Entry, Foretells, Account, Over}
+use Rattle.bac_links.specs.History.{Entry, Unposted, Foretells, Account, Over}
 use Rattle.bac_links.specs.Answered.{Answer, answers_of}
-use Rattle.bac_links.specs.Courses.{heard_in, wait_in, time_in}
-use Rattle.bac_links.specs.Search.{Found, found_by, found_lines, search_exit, search_wait, search_entries, who_is_to}
-use Rattle.bac_links.specs.Search.{found_after, is_late, SearchEnds, SearchStops, SearchUnsent, Searched}
+use Rattle.bac_links.specs.Inner.SearchSteps.{search_wait, found_lines, has_found}
+use Rattle.bac_links.specs.Courses.{heard_in, wait_in, time_in, Stops as Halts}
+use Rattle.bac_links.specs.Search.{Found, found_by, search_entries, who_is_to}
+use Rattle.bac_links.specs.Search.{found_after, is_late, SearchStops, Searched}
 use Rattle.bac_links.specs.declared.ending.Exit.{Exit}
+use Rattle.bac_links.specs.declared.ending.Exit.TheVariants.{Good, Bad}
 use Rattle.bac_links.specs.declared.fault.ToolFault.{ToolFault}
 use Rattle.bac_links.specs.declared.fault.ToolFault.TheVariants.{SendFailed, ReceiveFailed, TurnsSpent, WriteFailed}
 use Rattle.bac_links.proofs.Courses.{having_nothing}
 use Rattle.bac_links.proofs.Alike.{Plain, Waits, plain_both, plain_waits, no_loss, same_told}
+
+-- The exit of a search: good where a device was found.
+abbrev search_exit : List Found → Exit
+search_exit found = if has_found found then Good else Bad
+
+-- The search stops with this result after n turns, which found these devices.
+abbrev SearchEnds : Search → Foretold → Result Exit ToolFault → List Entry → List Found → Type 0
+SearchEnds search t result gained found = (n : ℕ) × (found ≡ found_after search t n)
+    × Halts (search_wait search) t (is_late search t) (search_entries search t) gained n result
+
+-- The Who-Is could not be sent.
+abbrev SearchUnsent : Search → Foretold → List Entry → Type 0
+SearchUnsent search t gained =
+    gained ≡ time_in (search_wait search) t zero ∷ Unposted (station search.to) (who_is_to search) ∷ []
 
 -- How a search comes to its end, or doesn't.
 data Way : Type 0 where
@@ -77,11 +93,11 @@ module _ (search : Search) (t : Foretold) where
 
   goes_waits : (v : Way) (xs : List Entry) → So xs v → Waits (search_wait search) xs
   goes_waits (Ends found) xs a =
-      plain_waits (search_wait search) xs (subst (Plain (search_wait search)) (sym a.2.history) (plain_entries a.0))
+      plain_waits (search_wait search) xs (subst (Plain (search_wait search)) (sym a.2.0) (plain_entries a.0))
   goes_waits (Deaf found) xs a =
-      plain_waits (search_wait search) xs (subst (Plain (search_wait search)) (sym a.2.history) (plain_waited a.0))
+      plain_waits (search_wait search) xs (subst (Plain (search_wait search)) (sym a.2.0) (plain_waited a.0))
   goes_waits (Spent found) xs a =
-      plain_waits (search_wait search) xs (subst (Plain (search_wait search)) (sym a.2.history) (plain_entries a.0))
+      plain_waits (search_wait search) xs (subst (Plain (search_wait search)) (sym a.2.0) (plain_entries a.0))
   goes_waits (Stops found last) xs a =
       plain_waits (search_wait search) xs (subst (Plain (search_wait search)) (sym a.1.history) (plain_waited a.0))
   goes_waits Unsent xs a = subst (Waits (search_wait search)) (sym a) tt
@@ -123,30 +139,30 @@ module _ (search : Search) (t : Foretold) where
   ended_not_spent : (xs ys : List Entry) (f g : List Found) → So xs (Ends f) → So ys (Spent g)
       → answers_of xs ≡ answers_of ys → ⊥
   ended_not_spent xs ys f g a b e =
-      let same = at_one xs ys a.0 b.0 e a.2.history b.2.history in
-      let open_yet = subst (λ (k : ℕ). is_late search t k ≡ false) same b.2.before.unended in
-      let over = a.2.over in
+      let same = at_one xs ys a.0 b.0 e a.2.0 b.2.0 in
+      let open_yet = subst (λ (k : ℕ). is_late search t k ≡ false) same b.2.2.unended in
+      let over = a.2.2 in
       cc
 
   deaf_not_stopped : (xs ys : List Entry) (f g : List Found) (last : Found) → So xs (Deaf f) → So ys (Stops g last)
       → answers_of xs ≡ answers_of ys → ⊥
   deaf_not_stopped xs ys f g last a b e =
-      let same = waits_one xs ys a.0 b.0 e a.2.history b.1.history in
+      let same = waits_one xs ys a.0 b.0 e a.2.0 b.1.history in
       let heard = subst (λ (k : ℕ). found_by search.who (heard_in (search_wait search) t k)
       ≡ last ∷ []) same b.1.heard in
-      let none : [] ≡ last ∷ [] = ap (found_by search.who) (sym a.2.failed) ∙ heard in
+      let none : [] ≡ last ∷ [] = ap (found_by search.who) (sym a.2.3) ∙ heard in
       cc
 
   alike : (v w : Way) (xs ys : List Entry) → So xs v → So ys w → answers_of xs ≡ answers_of ys → (xs ≡ ys) × (v ≡ w)
   alike (Ends f) (Ends g) xs ys a b e =
-      let same = sym (at_one xs ys a.0 b.0 e a.2.history b.2.history) in
-      (a.2.history ∙ ap ended_at same ∙ sym b.2.history, ap Ends (a.1 ∙ ap (found_after search t) same ∙ sym b.1))
+      let same = sym (at_one xs ys a.0 b.0 e a.2.0 b.2.0) in
+      (a.2.0 ∙ ap ended_at same ∙ sym b.2.0, ap Ends (a.1 ∙ ap (found_after search t) same ∙ sym b.1))
   alike (Spent f) (Spent g) xs ys a b e =
-      let same = sym (at_one xs ys a.0 b.0 e a.2.history b.2.history) in
-      (a.2.history ∙ ap ended_at same ∙ sym b.2.history, ap Spent (a.1 ∙ ap (found_after search t) same ∙ sym b.1))
+      let same = sym (at_one xs ys a.0 b.0 e a.2.0 b.2.0) in
+      (a.2.0 ∙ ap ended_at same ∙ sym b.2.0, ap Spent (a.1 ∙ ap (found_after search t) same ∙ sym b.1))
   alike (Deaf f) (Deaf g) xs ys a b e =
-      let same = sym (waits_one xs ys a.0 b.0 e a.2.history b.2.history) in
-      (a.2.history ∙ ap waited_at same ∙ sym b.2.history, ap Deaf (a.1 ∙ ap (found_after search t) same ∙ sym b.1))
+      let same = sym (waits_one xs ys a.0 b.0 e a.2.0 b.2.0) in
+      (a.2.0 ∙ ap waited_at same ∙ sym b.2.0, ap Deaf (a.1 ∙ ap (found_after search t) same ∙ sym b.1))
   alike (Stops f x) (Stops g y) xs ys a b e =
       let same = waits_one xs ys a.0 b.0 e a.1.history b.1.history in
       let b' = subst (SearchStops search t ys g y) same b.1 in
@@ -157,23 +173,23 @@ module _ (search : Search) (t : Foretold) where
   alike Unsent Unsent xs ys a b e = (a ∙ sym b, refl)
   alike (Ends f) (Spent g) xs ys a b e = absurd (ended_not_spent xs ys f g a b e)
   alike (Spent f) (Ends g) xs ys a b e = absurd (ended_not_spent ys xs g f b a (sym e))
-  alike (Ends f) (Deaf g) xs ys a b e = absurd (apart xs ys a.0 b.0 e a.2.history b.2.history)
-  alike (Deaf f) (Ends g) xs ys a b e = absurd (apart ys xs b.0 a.0 (sym e) b.2.history a.2.history)
-  alike (Ends f) (Stops g y) xs ys a b e = absurd (apart xs ys a.0 b.0 e a.2.history b.1.history)
-  alike (Stops f x) (Ends g) xs ys a b e = absurd (apart ys xs b.0 a.0 (sym e) b.2.history a.1.history)
-  alike (Spent f) (Deaf g) xs ys a b e = absurd (apart xs ys a.0 b.0 e a.2.history b.2.history)
-  alike (Deaf f) (Spent g) xs ys a b e = absurd (apart ys xs b.0 a.0 (sym e) b.2.history a.2.history)
-  alike (Spent f) (Stops g y) xs ys a b e = absurd (apart xs ys a.0 b.0 e a.2.history b.1.history)
-  alike (Stops f x) (Spent g) xs ys a b e = absurd (apart ys xs b.0 a.0 (sym e) b.2.history a.1.history)
+  alike (Ends f) (Deaf g) xs ys a b e = absurd (apart xs ys a.0 b.0 e a.2.0 b.2.0)
+  alike (Deaf f) (Ends g) xs ys a b e = absurd (apart ys xs b.0 a.0 (sym e) b.2.0 a.2.0)
+  alike (Ends f) (Stops g y) xs ys a b e = absurd (apart xs ys a.0 b.0 e a.2.0 b.1.history)
+  alike (Stops f x) (Ends g) xs ys a b e = absurd (apart ys xs b.0 a.0 (sym e) b.2.0 a.1.history)
+  alike (Spent f) (Deaf g) xs ys a b e = absurd (apart xs ys a.0 b.0 e a.2.0 b.2.0)
+  alike (Deaf f) (Spent g) xs ys a b e = absurd (apart ys xs b.0 a.0 (sym e) b.2.0 a.2.0)
+  alike (Spent f) (Stops g y) xs ys a b e = absurd (apart xs ys a.0 b.0 e a.2.0 b.1.history)
+  alike (Stops f x) (Spent g) xs ys a b e = absurd (apart ys xs b.0 a.0 (sym e) b.2.0 a.1.history)
   alike (Deaf f) (Stops g y) xs ys a b e = absurd (deaf_not_stopped xs ys f g y a b e)
   alike (Stops f x) (Deaf g) xs ys a b e = absurd (deaf_not_stopped ys xs g f x b a (sym e))
-  alike Unsent (Ends g) xs ys a b e = absurd (sent_all xs ys _ a e b.2.history (plain_entries b.0))
-  alike Unsent (Spent g) xs ys a b e = absurd (sent_all xs ys _ a e b.2.history (plain_entries b.0))
-  alike Unsent (Deaf g) xs ys a b e = absurd (sent_all xs ys _ a e b.2.history (plain_waited b.0))
+  alike Unsent (Ends g) xs ys a b e = absurd (sent_all xs ys _ a e b.2.0 (plain_entries b.0))
+  alike Unsent (Spent g) xs ys a b e = absurd (sent_all xs ys _ a e b.2.0 (plain_entries b.0))
+  alike Unsent (Deaf g) xs ys a b e = absurd (sent_all xs ys _ a e b.2.0 (plain_waited b.0))
   alike Unsent (Stops g y) xs ys a b e = absurd (sent_all xs ys _ a e b.1.history (plain_waited b.0))
-  alike (Ends f) Unsent xs ys a b e = absurd (sent_all ys xs _ b (sym e) a.2.history (plain_entries a.0))
-  alike (Spent f) Unsent xs ys a b e = absurd (sent_all ys xs _ b (sym e) a.2.history (plain_entries a.0))
-  alike (Deaf f) Unsent xs ys a b e = absurd (sent_all ys xs _ b (sym e) a.2.history (plain_waited a.0))
+  alike (Ends f) Unsent xs ys a b e = absurd (sent_all ys xs _ b (sym e) a.2.0 (plain_entries a.0))
+  alike (Spent f) Unsent xs ys a b e = absurd (sent_all ys xs _ b (sym e) a.2.0 (plain_entries a.0))
+  alike (Deaf f) Unsent xs ys a b e = absurd (sent_all ys xs _ b (sym e) a.2.0 (plain_waited a.0))
   alike (Stops f x) Unsent xs ys a b e = absurd (sent_all ys xs _ b (sym e) a.1.history (plain_waited a.0))
 
 -- ---- over two links

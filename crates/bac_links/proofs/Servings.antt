@@ -1,6 +1,7 @@
 -- A device that serves, wait by wait.
 use Rattle.std.proofs.Common.{◌≡◌, ◌≢◌, ℕ, suc, ◌+◌, ◌<◌, ◌≤◌, List, [], ◌∷◌, ◌++◌, length, length-append, Option, Some}
-use Rattle.std.proofs.Common.{None, Ok, Err, refl, sym, ap, ◌∙◌, arith, append_assoc, subst}
+use Rattle.std.proofs.Common.{None, Ok, Err, map, refl, sym, ap, ◌∙◌, arith, append_assoc, subst}
+use Rattle.std.specs.Option.{option_to_list}
 use Rattle.std.proofs.lemmas.List.{append-nil}
 use Rattle.std.proofs.lemmas.List.Concat.{flat_map-append}
 use Rattle.std.proofs.lemmas.Bool.{le-leb, lt-leb}
@@ -11,11 +12,11 @@ use Rattle.bac_device.specs.Turns.{Arrival as Came, AnswersInTurn, AreDefined}
 use Rattle.bac_device.proofs.StateLaws.{in_turn}
 use Rattle.bac_links.specs.Limits.{most_turns, serve_wait}
 use Rattle.bac_links.specs.Foretold.{Foretold, Heard, Silence, Arrival, Failure, Sending, after_wait, waited}
-use Rattle.bac_links.specs.Foretold.{having_sent}
-use Rattle.bac_links.specs.History.{Entry, Waited, Unposted, foretold_after, Foretells, Account, Over}
-use Rattle.bac_links.specs.Serve.{came_by, heards, arrivals_in, reply_entries, serve_entries, all_came, Serves}
+use Rattle.bac_links.specs.History.{Entry, Waited, Posted, Unposted, foretold_after, Foretells, Account, Over}
+use Rattle.bac_links.specs.Serve.{came_by, heards, arrivals_in, serve_entries, all_came, Serves}
 use Rattle.bac_links.specs.Courses.{heard_in, first_below, stops_at, GoesOn}
-use Rattle.bac_links.proofs.Courses.{none_yet, one_more, ends_now, fails_now, having_nothing, having_sent-both}
+use Rattle.bac_links.proofs.Courses.{none_yet, one_more, ends_now, fails_now, having_nothing, having_sent}
+use Rattle.bac_links.proofs.Courses.{having_sent-both}
 use Rattle.bac_links.proofs.Histories.{Timely, foretold_after-append, over_none, over_map, over_on}
 use Rattle.bac_links.specs.Inner.ServeSteps.{came_in, replied_in, reply_count, ServesOne}
 use Rattle.bac_links.specs.declared.serving.Brought.{Brought}
@@ -62,6 +63,10 @@ defined : (before after : DeviceState) (xs : List Came) (rs : List (Option (Stat
     → AnswersInTurn before xs rs after → (writes : List Write) → Holds before writes
     → AreDefined before writes xs rs after
 defined before after xs rs turns writes holds = in_turn before xs rs after writes turns holds
+
+-- The send of a reply, where there is one.
+abbrev reply_entries : Option (Station × List ℕ) → List Entry
+reply_entries reply = map (λ (sent : Station × List ℕ). Posted sent.0 sent.1) (option_to_list reply)
 
 entries-append : (xs ys : List Heard) (rs ss : List (Option (Station × List ℕ))) → length (arrivals_in xs) ≡ length rs →
     serve_entries (xs ++ ys) (rs ++ ss) ≡ serve_entries xs rs ++ serve_entries ys ss
@@ -197,7 +202,7 @@ module _ (before device : DeviceState) (seen mid : Account) (count came replied 
     (
       tt,
       over_map seen mid _ _ goes.so_far (λ gained t far.
-          (n, far.came, record { all = all; before = waits_on gained t far fewer; history = far.history })),
+          (n, far.came, (far.history, all, waits_on gained t far fewer))),
     ),
   )
 
@@ -243,17 +248,17 @@ module _ (before device : DeviceState) (seen mid : Account) (count came replied 
         let e = hears_so gained t far one.0 f.0 in
         let last = one_came one.0 (same_length device after (came_by one.0) (Some one.1 ∷ []) one.2) in (
           n,
-          record {
-            within = within;
-            before = waits_on gained t far fewer;
-            last = last.0;
-            brought = ap came_by e ∙ last.1;
-            came = came_next gained t far one.0 e;
-            made = goes.replies;
-            lost = one.1;
-            owed = refl;
-            history = behind gained t far (λ h. Waited serve_wait h ∷ Unposted one.1.0 one.1.1 ∷ []) one.0 e;
-          },
+          (
+            within,
+            waits_on gained t far fewer,
+            last.0,
+            ap came_by e ∙ last.1,
+            came_next gained t far one.0 e,
+            goes.replies,
+            one.1,
+            refl,
+            behind gained t far (λ h. Waited serve_wait h ∷ Unposted one.1.0 one.1.1 ∷ []) one.0 e,
+          ),
         )),
   )
   serve_fails after left within fewer ReceiveFailed one = (

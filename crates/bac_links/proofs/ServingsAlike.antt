@@ -123,7 +123,7 @@ module _ (count : ℕ) (arrivals : List Came) (replies : Replies) (seen left : A
       let over = ends.1 in
       let t = over.some.0 in
       let at_end = over.holds t over.some.1 in
-      let history = at_end.2.history in
+      let history = at_end.2.0 in
       let heard = heard_so t over.gained at_end.0 history in
       record {
         gained = over.gained;
@@ -137,24 +137,24 @@ module _ (count : ℕ) (arrivals : List Came) (replies : Replies) (seen left : A
       let at_end = over.holds t over.some.1 in
       let n = at_end.0 in
       let unsent = at_end.1 in
-      let history = unsent.history
-      ∙ sym (append_assoc (serve_entries (heards t n) unsent.made)
+      let history = unsent.8
+      ∙ sym (append_assoc (serve_entries (heards t n) unsent.5)
       (Waited serve_wait (heard_in serve_wait t n) ∷ []) _) in
       let heard : heard_of over.gained ≡ heards t (suc n) =
-      ap heard_of unsent.history ∙ heard_both (serve_entries (heards t n) unsent.made) _
+      ap heard_of unsent.8 ∙ heard_both (serve_entries (heards t n) unsent.5) _
       ∙ ap (λ (hs : List Heard). hs ++ heard_in serve_wait t n ∷ [])
-      (heard_entries (heards t n) unsent.made) in
+      (heard_entries (heards t n) unsent.5) in
       record {
         gained = over.gained;
         gains = ap (λ (s : Account). s.history) over.gains.0;
-        came = unsent.came ∙ ap arrivals_in (sym heard);
+        came = unsent.4 ∙ ap arrivals_in (sym heard);
         goes = record {
           before = heards t n;
           last = heard_in serve_wait t n;
           heard = heard;
-          made = unsent.made;
-          lost = unsent.lost;
-          owed = unsent.owed;
+          made = unsent.5;
+          lost = unsent.6;
+          owed = unsent.7;
           history = history;
         };
       }
@@ -165,8 +165,8 @@ module _ (count : ℕ) (arrivals : List Came) (replies : Replies) (seen left : A
       let n = at_end.0 in
       let deaf_came = at_end.1 in
       let deaf = at_end.2 in
-      let history = deaf.history
-      ∙ ap (λ (h : Heard). serve_entries (heards t n) replies ++ Waited serve_wait h ∷ []) deaf.failed in
+      let history = deaf.0
+      ∙ ap (λ (h : Heard). serve_entries (heards t n) replies ++ Waited serve_wait h ∷ []) deaf.3 in
       let heard : heard_of over.gained ≡ heards t n ++ Failure ∷ [] =
       ap heard_of history ∙ heard_both (serve_entries (heards t n) replies) _
       ∙ ap (λ (hs : List Heard). hs ++ Failure ∷ [])
@@ -174,7 +174,7 @@ module _ (count : ℕ) (arrivals : List Came) (replies : Replies) (seen left : A
       let came : arrivals ≡ arrivals_in (heard_of over.gained) =
       deaf_came ∙ sym (append-nil (arrivals_in (heards t n))) ∙ arrivals-push (heards t n) Failure
       ∙ ap arrivals_in (sym heard) in
-      let open_yet = deaf.unended in
+      let open_yet = deaf.2 in
       let few : length (arrivals_in (heards t n)) < count = grind (arith, open_yet) in
       let same = ap length (sym deaf_came ∙ came) in
       record {
@@ -189,9 +189,9 @@ module _ (count : ℕ) (arrivals : List Came) (replies : Replies) (seen left : A
       let at_end = over.holds t over.some.1 in
       let n = at_end.0 in
       let spent = at_end.2 in
-      let heard = heard_so t over.gained n spent.history in
-      let last = last_heard t count n (let all = spent.all in omega (arith, all)) spent.before.passed in
-      let open_yet = spent.before.unended in
+      let heard = heard_so t over.gained n spent.0 in
+      let last = last_heard t count n (let all = spent.1 in omega (arith, all)) spent.2.passed in
+      let open_yet = spent.2.unended in
       let few : length (arrivals_in (heards t n)) < count = grind (arith, open_yet) in
       record {
         gained = over.gained;
@@ -203,7 +203,7 @@ module _ (count : ℕ) (arrivals : List Came) (replies : Replies) (seen left : A
           heard = heard ∙ last.2;
           unfailed = last.3;
           fewer = rw heard few;
-          history = spent.history ∙ ap (λ (hs : List Heard). serve_entries hs replies) (sym heard);
+          history = spent.0 ∙ ap (λ (hs : List Heard). serve_entries hs replies) (sym heard);
         };
       }
   went (Err WriteFailed) ends = absurd (ends.1.holds ends.1.some.0 ends.1.some.1).2

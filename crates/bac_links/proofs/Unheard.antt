@@ -29,4 +29,4 @@ not_ended contents purpose call before after seen exit tells =
     let none = gained_none seen.history tells.3.gained (ap (λ (s : Account). s.history) tells.3.gains.0) in
     let it = tells.3.some in
     let h = tells.3.holds it.0 it.1 in
-    hears_once purpose call it.0 h.0 tells.0 (sym none ∙ h.1.stops.history)
+    hears_once purpose call it.0 h.0 tells.0 (sym none ∙ h.1.stops.0)

@@ -12,7 +12,7 @@ use Rattle.bac_links.specs.Limits.{most_turns, turn_wait}
 use Rattle.bac_links.specs.Foretold.{Foretold}
 use Rattle.bac_links.specs.History.{Entry, Posted, Unposted, Account, Over}
 use Rattle.bac_links.specs.Handed.{turns}
-use Rattle.bac_links.specs.Courses.{wait_in, time_in, GoesOn, EndsAfter, Stops}
+use Rattle.bac_links.specs.Courses.{wait_in, time_in, GoesOn, Stops}
 use Rattle.bac_links.specs.declared.ending.Purpose.{Purpose}
 use Rattle.bac_links.specs.declared.ending.Purpose.TheVariants.{Reading, Writing}
 use Rattle.bac_text.specs.declared.jobs.Call.{Call}
@@ -31,17 +31,10 @@ service_of Writing = 15
 abbrev pub rules_for : Call → Rules
 rules_for call = client_rules call.timeout call.retries
 
--- The send in a note, and the sends among notes.
+-- The send in a note.
 abbrev pub post_in : Note → List Entry
 post_in (Sent ticket peer octets) = Posted peer octets ∷ []
 post_in _ = []
-
-abbrev pub posts : List Note → List Entry
-posts = flat_map post_in
-
--- How long a turn waits.
-abbrev pub wait_of : Call → ℕ
-wait_of call = turn_wait call.timeout
 
 module _ (purpose : Purpose) (call : Call) where
   -- The request of a call. It is asked for after one event, by a client that has none open, so it has the first ticket
@@ -51,10 +44,6 @@ module _ (purpose : Purpose) (call : Call) where
     position = 1;
     request = request_of (rules_for call) 0 (station call.to) (service_of purpose) call.body.items 1;
   }
-
-  -- A call begins with the time and its request, and goes on so.
-  abbrev pub begun_at : ℕ → List Event → List Event
-  begun_at time later = Tick time ∷ Ask (station call.to) (service_of purpose) call.body.items ∷ later
 
   -- The request of the call is the one that is accepted.
   abbrev pub IsAccepted : List Event → Type 0
@@ -66,23 +55,25 @@ module _ (purpose : Purpose) (call : Call) where
 
   -- What is sent of the request at the last of these events, as the look-ahead says.
   abbrev pub sent_last : List Event → List Entry
-  sent_last events = posts (send_notes (rules_for call) events (length events - 1) asked)
+  sent_last events = flat_map post_in (send_notes (rules_for call) events (length events - 1) asked)
 
   module _ (t : Foretold) where
-    -- What the client is handed in n turns.
+    -- What the client is handed at the beginning, the time and the request, and then in n turns.
     abbrev pub events_of : ℕ → List Event
-    events_of n = begun_at (t.time []) (turns (wait_of call) t n)
+    events_of n = Tick (t.time []) ∷ Ask (station call.to) (service_of purpose) call.body.items
+        ∷ turns (turn_wait call.timeout) t n
 
     -- What is asked and answered in n turns: the time first; in each turn a wait, and the time; and the request is sent
     -- where it is due.
     abbrev pub entries_of : ℕ → List Entry
-    entries_of zero = time_in (wait_of call) t zero ∷ sent_last (events_of zero)
+    entries_of zero = time_in (turn_wait call.timeout) t zero ∷ sent_last (events_of zero)
     entries_of (suc n) =
-        entries_of n ++ wait_in (wait_of call) t n ∷ time_in (wait_of call) t (suc n) ∷ sent_last (events_of (suc n))
+        entries_of n ++ wait_in (turn_wait call.timeout) t n ∷ time_in (turn_wait call.timeout) t (suc n)
+        ∷ sent_last (events_of (suc n))
 
     -- The same, where the request ends in the last of these turns: after an answer the time is not asked for.
     abbrev pub entries_to : Option Outcome → ℕ → List Entry
-    entries_to (Some outcome) (suc n) = entries_of n ++ wait_in (wait_of call) t n ∷ []
+    entries_to (Some outcome) (suc n) = entries_of n ++ wait_in (turn_wait call.timeout) t n ∷ []
     entries_to _ n = entries_of n
 
     -- The request has ended in the first n turns.
@@ -92,36 +83,25 @@ module _ (purpose : Purpose) (call : Call) where
     -- The request ends in turn n, with this outcome.
     pub record EndsIn (gained : List Entry) (ending : Option Outcome) (n : ℕ) : Type 0 where
       pub request : IsAccepted (events_of (suc n))
-      pub stops : EndsAfter (wait_of call) t has_ended (entries_to ending) gained (suc n)
+      pub stops : Stops (turn_wait call.timeout) t has_ended (entries_to ending) gained (suc n) (Ok ending)
       pub ended : option_map (λ (e : End). e.outcome) (end_in (events_of (suc n))) ≡ Some ending
 
     -- The send that was due after n turns, or at the beginning, could not be made.
-    pub record FailsToSend (gained : List Entry) (n : ℕ) : Type 0 where
-      pub request : IsAccepted (events_of n)
-      pub within : n ≤ most_turns
-      pub before : GoesOn (wait_of call) t has_ended n
-      pub made : List Entry
-      pub to : Station
-      pub octets : List ℕ
-      pub due : entries_of n ≡ made ++ Posted to octets ∷ []
-      pub history : gained ≡ made ++ Unposted to octets ∷ []
+    abbrev pub FailsToSend : List Entry → ℕ → Type 0
+    FailsToSend gained n = IsAccepted (events_of n) × (n ≤ most_turns) × GoesOn (turn_wait call.timeout) t has_ended n
+        × (made : List Entry) × (to : Station) × (octets : List ℕ)
+        × (entries_of n ≡ made ++ Posted to octets ∷ []) × (gained ≡ made ++ Unposted to octets ∷ [])
 
-    -- The call stops with this result after n turns, in which the request stayed open.
-    abbrev pub StaysOpen : Result Exit ToolFault → List Entry → Type 0
-    StaysOpen result gained =
-        (n : ℕ) × IsAccepted (events_of n) × Stops (wait_of call) t has_ended entries_of gained n result
-
-module _ {W : Type 0} (purpose : Purpose) (call : Call) (contents : W → Option (List ℕ)) (before after : Checked W)
-    (seen left : Account) where
-  -- What a call prints, answers, and asks of its link: the line of how the request ended, or a front of it where the
-  -- writer failed; or nothing, where something else did.
-  abbrev pub Tells : Result Exit ToolFault → Type 0
-  Tells (Ok exit) =
-      (ending : Option Outcome) × (exit ≡ exit_of purpose ending)
-      × Took contents before after (ending_line purpose ending)
-      × Over seen left (λ gained t. (n : ℕ) × EndsIn purpose call t gained ending n)
-  Tells (Err WriteFailed) =
-      (ending : Option Outcome) × TakesFront contents before after (ending_line purpose ending)
-      × Over seen left (λ gained t. (n : ℕ) × EndsIn purpose call t gained ending n)
-  Tells (Err SendFailed) = Over seen left (λ gained t. (n : ℕ) × FailsToSend purpose call t gained n)
-  Tells result = Over seen left (λ gained t. StaysOpen purpose call t result gained)
+  module _ {W : Type 0} (contents : W → Option (List ℕ)) (before after : Checked W) (seen left : Account) where
+    -- What a call prints, answers, and asks of its link: the line of how the request ended, or a front of it where the
+    -- writer failed; or nothing, where something else did. Where the link fails to receive, or all turns go by, the
+    -- request stayed open.
+    abbrev pub Tells : Result Exit ToolFault → Type 0
+    Tells (Ok exit) = (ending : Option Outcome) × (exit ≡ exit_of purpose ending)
+        × Took contents before after (ending_line purpose ending)
+        × Over seen left (λ gained t. (n : ℕ) × EndsIn t gained ending n)
+    Tells (Err WriteFailed) = (ending : Option Outcome) × TakesFront contents before after (ending_line purpose ending)
+        × Over seen left (λ gained t. (n : ℕ) × EndsIn t gained ending n)
+    Tells (Err SendFailed) = Over seen left (λ gained t. (n : ℕ) × FailsToSend t gained n)
+    Tells result = Over seen left (λ gained t. (n : ℕ) × IsAccepted (events_of t n)
+        × Stops (turn_wait call.timeout) t (has_ended t) (entries_of t) gained n result)

@@ -44,28 +44,11 @@ module _ (wait : ℕ) (t : Foretold) where
 
     -- `entries` says what was asked and answered in so many turns; `gained` is what was until the tool stopped.
     module _ (entries : ℕ → List Entry) (gained : List Entry) (n : ℕ) where
-      -- The tool comes to its end after n turns.
-      pub record EndsAfter : Type 0 where
-        pub first : first_below stops_at (suc most_turns) ≡ Some n
-        pub over : is_over n ≡ true
-        pub history : gained ≡ entries n
-
-      -- The tool hears a failure in the turn after n turns.
-      pub record FailsAfter : Type 0 where
-        pub first : first_below stops_at most_turns ≡ Some n
-        pub unended : is_over n ≡ false
-        pub failed : heard_in n ≡ Failure
-        pub history : gained ≡ entries n ++ wait_in n ∷ []
-
-      -- All turns went by, and the tool has not come to its end.
-      pub record RunsOut : Type 0 where
-        pub all : n ≡ most_turns
-        pub before : GoesOn n
-        pub history : gained ≡ entries n
-
-      -- After n turns the tool stops with this result. So it stops with no other fault.
+      -- The tool stops with this result: after n turns it has come to its end; or it hears a failure in the turn after
+      -- them; or all turns went by, and it has not come to its end. It stops with no other fault.
       abbrev pub Stops : {A : Type 0} → Result A ToolFault → Type 0
-      Stops (Ok x) = EndsAfter
-      Stops (Err ReceiveFailed) = FailsAfter
-      Stops (Err TurnsSpent) = RunsOut
+      Stops (Ok x) = (gained ≡ entries n) × (first_below stops_at (suc most_turns) ≡ Some n) × (is_over n ≡ true)
+      Stops (Err ReceiveFailed) = (gained ≡ entries n ++ wait_in n ∷ []) × (first_below stops_at most_turns ≡ Some n)
+          × (is_over n ≡ false) × (heard_in n ≡ Failure)
+      Stops (Err TurnsSpent) = (gained ≡ entries n) × (n ≡ most_turns) × GoesOn n
       Stops _ = ⊥

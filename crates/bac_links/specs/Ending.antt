@@ -1,6 +1,7 @@
 -- What is printed of how a call's request ended, and how the tool ends then.
-use Rattle.std.specs.Prelude.{ℕ, List, ◌∷◌, [], ◌++◌, codes, Option, Some, None, Result, Ok, Err, is_some, Bool, true}
-use Rattle.std.specs.Prelude.{false, if◌then◌else◌}
+use Rattle.std.specs.Prelude.{ℕ, List, ◌∷◌, [], ◌++◌, codes, Option, Some, None, Result, Ok, Err, is_some}
+use Rattle.std.specs.Prelude.{if◌then◌else◌}
+use Rattle.std.specs.Option.{option_map_or}
 use Rattle.bac_tsm.specs.Events.{Outcome, Simple, Complex}
 use Rattle.bac_pdu.specs.Property.{Answer}
 use Rattle.bac_pdu.specs.PropertyReading.{ack_of}
@@ -12,16 +13,13 @@ use Rattle.bac_links.specs.declared.fault.ToolFault.{ToolFault}
 use Rattle.bac_links.specs.declared.ending.Exit.{Exit}
 use Rattle.bac_links.specs.declared.ending.Exit.TheVariants.{Good, Bad}
 
--- The text of the value; where the acknowledgement can't be read, `bad-ack`.
-abbrev pub value_text : Option Answer → List ℕ
-value_text (Some answer) = region_text answer.value
-value_text None = codes "bad-ack"
-
+-- What is printed of how the request ended: of a read the value; `bad-ack` where the acknowledgement can't be read, or
+-- is not one of the service; else the outcome, as `ok` of a write.
 abbrev pub ending_text : Purpose → Option Outcome → List ℕ
-ending_text Reading (Some (Complex body)) = value_text (ack_of body)
+ending_text Reading (Some (Complex body)) =
+    option_map_or (λ (answer : Answer). region_text answer.value) (ack_of body) (codes "bad-ack")
 ending_text Reading (Some Simple) = codes "bad-ack"
 ending_text Writing (Some (Complex body)) = codes "bad-ack"
-ending_text Writing (Some Simple) = codes "ok"
 ending_text purpose (Some outcome) = outcome_text outcome
 ending_text purpose None = codes "timeout"
 
@@ -30,13 +28,10 @@ abbrev pub ending_line : Purpose → Option Outcome → List ℕ
 ending_line purpose ending = ending_text purpose ending ++ 10 ∷ []
 
 -- A value that was read, or a write that was made, is good.
-abbrev pub is_good : Purpose → Option Outcome → Bool
-is_good Reading (Some (Complex body)) = is_some (ack_of body)
-is_good Writing (Some Simple) = true
-is_good purpose ending = false
-
 abbrev pub exit_of : Purpose → Option Outcome → Exit
-exit_of purpose ending = if is_good purpose ending then Good else Bad
+exit_of Reading (Some (Complex body)) = if is_some (ack_of body) then Good else Bad
+exit_of Writing (Some Simple) = Good
+exit_of purpose ending = Bad
 
 -- The status of the program.
 abbrev pub status_of : Result Exit ToolFault → ℕ

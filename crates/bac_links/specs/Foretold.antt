@@ -1,5 +1,5 @@
 -- What a link foretells: what each wait will hear and what the time will be then, by the waits; and what it sent.
-use Rattle.std.specs.Prelude.{ℕ, zero, suc, List, ◌∷◌, ◌++◌, Option, Result, Some, None, Ok, Err}
+use Rattle.std.specs.Prelude.{ℕ, zero, suc, List, ◌∷◌, Option, Result, Some, None, Ok, Err}
 use Rattle.bac_pdu.specs.declared.peer.Peer.{Peer}
 use Rattle.bac_pdu.specs.Peer.{Station, station}
 use Rattle.bac_links.specs.declared.link.LinkFault.{LinkFault}
@@ -30,10 +30,6 @@ after_wait wait t = record t { heard = λ waits. t.heard (wait ∷ waits); time 
 abbrev pub waited : ℕ → ℕ → Foretold → Foretold
 waited wait zero t = t
 waited wait (suc n) t = after_wait wait (waited wait n t)
-
--- What a link foretells once it sent these too.
-abbrev pub having_sent : List Sending → Foretold → Foretold
-having_sent more t = record t { sent = t.sent ++ more }
 
 -- What is heard where `receive` answers this and leaves these octets in its datagram.
 abbrev pub heard_by : Result (Option Peer) LinkFault → List ℕ → Heard

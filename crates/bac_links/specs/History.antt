@@ -2,7 +2,7 @@
 use Rattle.std.specs.Prelude.{◌≡◌, ℕ, List, [], ◌∷◌, ◌++◌, ⊤, Option, None, Result, Ok, Err}
 use Rattle.std.specs.Option.{ForSome, option_map}
 use Rattle.bac_pdu.specs.Peer.{Station}
-use Rattle.bac_links.specs.Foretold.{Foretold, Heard, after_wait, having_sent}
+use Rattle.bac_links.specs.Foretold.{Foretold, Heard, after_wait}
 
 -- One thing that a link was asked, with its answer: a wait of so long, and what it heard; the time; a datagram that was
 -- sent, or that could not be.
@@ -17,7 +17,7 @@ abbrev pub foretold_after : List Entry → Foretold → Foretold
 foretold_after [] t = t
 foretold_after (Waited wait heard ∷ later) t = foretold_after later (after_wait wait t)
 foretold_after (Posted to octets ∷ later) t =
-    foretold_after later (having_sent (record { time = t.time []; to = to; octets = octets } ∷ []) t)
+    foretold_after later (record t { sent = t.sent ++ record { time = t.time []; to = to; octets = octets } ∷ [] })
 foretold_after (_ ∷ later) t = foretold_after later t
 
 -- What was asked was answered as was foretold.
@@ -25,9 +25,7 @@ abbrev pub Foretells : List Entry → Foretold → Type 0
 Foretells [] t = ⊤
 Foretells (Waited wait heard ∷ later) t = (t.heard [] wait ≡ heard) × Foretells later (after_wait wait t)
 Foretells (Timed time ∷ later) t = (time ≡ t.time []) × Foretells later t
-Foretells (Posted to octets ∷ later) t =
-    Foretells later (having_sent (record { time = t.time []; to = to; octets = octets } ∷ []) t)
-Foretells (Unposted to octets ∷ later) t = Foretells later t
+Foretells (entry ∷ later) t = Foretells later (foretold_after (entry ∷ []) t)
 
 -- What contracts see of a link: what it foretells, where it knows this, and all that it was asked and answered.
 pub record Account : Type 0 where

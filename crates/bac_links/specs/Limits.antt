@@ -5,13 +5,9 @@ use Rattle.std.specs.Prelude.{ℕ, min}
 abbrev pub longest_datagram : ℕ
 longest_datagram = 2047
 
--- The longest wait of a turn, in milliseconds.
-abbrev pub longest_wait : ℕ
-longest_wait = 50
-
--- How long a turn of a call or a search with this timeout waits.
+-- How long a turn of a call or a search with this timeout waits, in milliseconds: 50 at most.
 abbrev pub turn_wait : ℕ → ℕ
-turn_wait timeout = min timeout longest_wait
+turn_wait timeout = min timeout 50
 
 -- How long a server waits for a datagram, in milliseconds.
 abbrev pub serve_wait : ℕ

@@ -2,15 +2,16 @@
 -- it ends.
 use Rattle.std.specs.Prelude.{◌≡◌, ℕ, zero, suc, ◌-◌, ◌<◌, nat_le, nat_lt, max, ◌==◌, Bool, false, List, [], ◌∷◌, ◌++◌}
 use Rattle.std.specs.Prelude.{length, decimal, if◌then◌else◌, Option, Some, None, Result, Err, IfOk}
-use Rattle.std.specs.Option.{option_to_list, option_and_then}
+use Rattle.std.specs.Option.{option_to_list}
 use Rattle.std.specs.List.{flat_map}
+use Rattle.bac_wire.specs.Steps.{◌>>=◌}
 use Rattle.bac_text.specs.declared.checked.Checked.{Checked}
 use Rattle.bac_text.specs.Checked.{Took}
 use Rattle.bac_pdu.specs.declared.discovery.WhoIs.{WhoIs}
 use Rattle.bac_pdu.specs.Peer.{Station, station}
 use Rattle.bac_pdu.specs.Apdu.{Message, laid_out, unconfirmed}
 use Rattle.bac_pdu.specs.ApduReading.{apdu_of}
-use Rattle.bac_pdu.specs.Datagram.{Delivery, wrapped}
+use Rattle.bac_pdu.specs.Datagram.{wrapped}
 use Rattle.bac_pdu.specs.DatagramReading.{carried}
 use Rattle.bac_pdu.specs.Discovery.{Introduction, asks, who_is_octets}
 use Rattle.bac_pdu.specs.ValueReading.{introduction_of}
@@ -30,29 +31,18 @@ pub record Found : Type 0 where
   pub peer : Station
   pub device : Introduction
 
--- A Who-Is (8) to this peer (clause 16.10).
-abbrev pub who_is_datagram : Station → WhoIs → List ℕ
-who_is_datagram to who = wrapped to.route false (laid_out (unconfirmed 8 (who_is_octets who)))
-
 -- What an I-Am (0) says.
 abbrev pub introduced_in : Message → Option Introduction
 introduced_in (unconfirmed service body) = if service == 0 then introduction_of body else None
 introduced_in _ = None
 
--- The device, where it is one that was asked for; else none.
-abbrev pub if_asked : WhoIs → Station → Introduction → Option Found
-if_asked who peer device =
-    if asks who device.device.instance then Some (record { peer = peer; device = device }) else None
-
--- The device that introduces itself in what a datagram carries.
-abbrev pub found_in : WhoIs → Delivery → Option Found
-found_in who delivery =
-    option_and_then (λ message. option_and_then (if_asked who delivery.peer) (introduced_in message))
-    (apdu_of delivery.apdu)
-
--- The device that introduces itself in a datagram, where it is one that was asked for.
+-- The device that introduces itself in a datagram, where it is one that was asked for; else none.
 unfoldable pub found_of : WhoIs → Station → List ℕ → Option Found
-found_of who from octets = option_and_then (found_in who) (carried from octets)
+found_of who from octets = do
+  delivery ← carried from octets
+  message ← apdu_of delivery.apdu
+  device ← introduced_in message
+  if asks who device.device.instance then Some (record { peer = delivery.peer; device = device }) else None
 
 -- The device that a wait finds, if it finds one.
 abbrev pub found_by : WhoIs → Heard → List Found
@@ -68,76 +58,54 @@ found_line found =
     ++ 32 ∷ (decimal found.device.segmentation
     ++ 32 ∷ (decimal found.device.vendor ++ 10 ∷ []))))
 
-abbrev pub found_lines : List Found → List ℕ
-found_lines = flat_map found_line
+module _ (search : Search) where
+  -- The Who-Is (8), which is sent once (clause 16.10).
+  abbrev pub who_is_to : List ℕ
+  who_is_to = wrapped (station search.to).route false (laid_out (unconfirmed 8 (who_is_octets search.who)))
 
--- The exit of a search: good where a device was found.
-abbrev pub search_exit : List Found → Exit
-search_exit found = if nat_lt 0 (length found) then Good else Bad
+  module _ (t : Foretold) where
+    -- The devices that the first n turns find, in their order.
+    abbrev pub found_after : ℕ → List Found
+    found_after zero = []
+    found_after (suc n) = found_after n ++ found_by search.who (heard_in (turn_wait search.timeout) t n)
 
-abbrev pub search_wait : Search → ℕ
-search_wait search = turn_wait search.timeout
+    -- The greatest time at the beginning and after each of the first n turns.
+    abbrev pub greatest_time : ℕ → ℕ
+    greatest_time zero = t.time []
+    greatest_time (suc n) = max (greatest_time n) ((waited (turn_wait search.timeout) (suc n) t).time [])
 
--- The Who-Is, which is sent once.
-abbrev pub who_is_to : Search → List ℕ
-who_is_to search = who_is_datagram (station search.to) search.who
+    -- After n turns so much time has gone by since the beginning that the search is over.
+    abbrev pub is_late : ℕ → Bool
+    is_late n = nat_le search.timeout (greatest_time n - t.time [])
 
-module _ (search : Search) (t : Foretold) where
-  -- The devices that the first n turns find, in their order.
-  abbrev pub found_after : ℕ → List Found
-  found_after zero = []
-  found_after (suc n) = found_after n ++ found_by search.who (heard_in (search_wait search) t n)
+    -- What is asked and answered in n turns: the time first, and then the Who-Is is sent; in each turn a wait, and the
+    -- time.
+    abbrev pub search_entries : ℕ → List Entry
+    search_entries zero = time_in (turn_wait search.timeout) t zero ∷ Posted (station search.to) who_is_to ∷ []
+    search_entries (suc n) =
+        search_entries n ++ wait_in (turn_wait search.timeout) t n ∷ time_in (turn_wait search.timeout) t (suc n) ∷ []
 
-  -- The greatest time at the beginning and after each of the first n turns.
-  abbrev pub greatest_time : ℕ → ℕ
-  greatest_time zero = t.time []
-  greatest_time (suc n) = max (greatest_time n) ((waited (search_wait search) (suc n) t).time [])
+    -- The line of the last of these devices, which turn n found, could not be written whole.
+    pub record SearchStops (gained : List Entry) (found : List Found) (last : Found) (n : ℕ) : Type 0 where
+      pub within : n < most_turns
+      pub before : GoesOn (turn_wait search.timeout) t is_late n
+      pub finds : found ≡ found_after n
+      pub heard : found_by search.who (heard_in (turn_wait search.timeout) t n) ≡ last ∷ []
+      pub history : gained ≡ search_entries n ++ wait_in (turn_wait search.timeout) t n ∷ []
 
-  -- How much time has gone by after n turns.
-  abbrev pub passed : ℕ → ℕ
-  passed n = greatest_time n - t.time []
-
-  -- The time is up after n turns.
-  abbrev pub is_late : ℕ → Bool
-  is_late n = nat_le search.timeout (passed n)
-
-  -- What is asked and answered in n turns: the time first, and then the Who-Is is sent; in each turn a wait, and the
-  -- time.
-  abbrev pub search_entries : ℕ → List Entry
-  search_entries zero = time_in (search_wait search) t zero ∷ Posted (station search.to) (who_is_to search) ∷ []
-  search_entries (suc n) =
-      search_entries n ++ wait_in (search_wait search) t n ∷ time_in (search_wait search) t (suc n) ∷ []
-
-  -- The search stops with this result after n turns, which found these devices.
-  abbrev pub SearchEnds : Result Exit ToolFault → List Entry → List Found → Type 0
-  SearchEnds result gained found =
-      (n : ℕ) × (found ≡ found_after n) × Stops (search_wait search) t is_late search_entries gained n result
-
-  -- The Who-Is could not be sent.
-  abbrev pub SearchUnsent : List Entry → Type 0
-  SearchUnsent gained =
-      gained ≡ time_in (search_wait search) t zero ∷ Unposted (station search.to) (who_is_to search) ∷ []
-
-  -- The line of the last of these devices, which turn n found, could not be written whole.
-  pub record SearchStops (gained : List Entry) (found : List Found) (last : Found) (n : ℕ) : Type 0 where
-    pub within : n < most_turns
-    pub before : GoesOn (search_wait search) t is_late n
-    pub finds : found ≡ found_after n
-    pub heard : found_by search.who (heard_in (search_wait search) t n) ≡ last ∷ []
-    pub history : gained ≡ search_entries n ++ wait_in (search_wait search) t n ∷ []
-
-module _ {W : Type 0} (search : Search) (contents : W → Option (List ℕ)) (before after : Checked W)
-    (seen left : Account) where
-  -- What a search prints, answers, and asks of its link: the lines of the devices that were found, each whole before
-  -- the next wait; of the last one a front, where the writer failed.
-  abbrev pub Searched : Result Exit ToolFault → Type 0
-  Searched (Err SendFailed) =
-      Took contents before after [] × Over seen left (λ gained t. SearchUnsent search t gained)
-  Searched (Err WriteFailed) =
-      (found : List Found) × (last : Found) × (taken rest : List ℕ) × (found_line last ≡ taken ++ rest)
-      × Took contents before after (found_lines found ++ taken)
-      × Over seen left (λ gained t. (n : ℕ) × SearchStops search t gained found last n)
-  Searched result =
-      (found : List Found) × IfOk result (λ exit. exit ≡ search_exit found)
-      × Took contents before after (found_lines found)
-      × Over seen left (λ gained t. SearchEnds search t result gained found)
+  module _ {W : Type 0} (contents : W → Option (List ℕ)) (before after : Checked W) (seen left : Account) where
+    -- What a search prints, answers, and asks of its link: the lines of the devices that were found, each whole before
+    -- the next wait; of the last one a front, where the writer failed; or none, where the Who-Is could not be sent. It
+    -- is good to have found a device.
+    abbrev pub Searched : Result Exit ToolFault → Type 0
+    Searched (Err SendFailed) = Took contents before after [] × Over seen left (λ gained t.
+        gained ≡ time_in (turn_wait search.timeout) t zero ∷ Unposted (station search.to) who_is_to ∷ [])
+    Searched (Err WriteFailed) =
+        (found : List Found) × (last : Found) × (taken rest : List ℕ) × (found_line last ≡ taken ++ rest)
+        × Took contents before after (flat_map found_line found ++ taken)
+        × Over seen left (λ gained t. (n : ℕ) × SearchStops t gained found last n)
+    Searched result =
+        (found : List Found) × IfOk result (λ exit. exit ≡ (if nat_lt 0 (length found) then Good else Bad))
+        × Took contents before after (flat_map found_line found)
+        × Over seen left (λ gained t. (n : ℕ) × (found ≡ found_after t n)
+        × Stops (turn_wait search.timeout) t (is_late t) (search_entries t) gained n result)

@@ -1,5 +1,5 @@
 -- A device that answers what its link foretells.
-use Rattle.std.specs.Prelude.{◌≡◌, ℕ, zero, suc, ◌<◌, nat_le, Bool, List, [], ◌∷◌, ◌++◌, length, Option, Some, None}
+use Rattle.std.specs.Prelude.{◌≡◌, ℕ, zero, suc, ◌<◌, nat_le, Bool, List, [], ◌∷◌, ◌++◌, map, length, Option, Some}
 use Rattle.std.specs.Prelude.{Result, Err, IfOk}
 use Rattle.std.specs.Option.{option_to_list}
 use Rattle.std.specs.List.{flat_map}
@@ -27,16 +27,12 @@ heards t (suc n) = heards t n ++ heard_in serve_wait t n ∷ []
 abbrev pub arrivals_in : List Heard → List Came
 arrivals_in = flat_map came_by
 
--- The send of a reply, where there is one.
-abbrev pub reply_entries : Option (Station × List ℕ) → List Entry
-reply_entries None = []
-reply_entries (Some reply) = Posted reply.0 reply.1 ∷ []
-
--- What is asked and answered in these waits, where each reply is sent before the next wait.
+-- What is asked and answered in these waits, where each reply, if there is one, is sent before the next wait.
 abbrev pub serve_entries : List Heard → List (Option (Station × List ℕ)) → List Entry
 serve_entries [] replies = []
 serve_entries (Arrival from octets ∷ later) (reply ∷ replies) =
-    Waited serve_wait (Arrival from octets) ∷ (reply_entries reply ++ serve_entries later replies)
+    Waited serve_wait (Arrival from octets)
+    ∷ (map (λ (sent : Station × List ℕ). Posted sent.0 sent.1) (option_to_list reply) ++ serve_entries later replies)
 serve_entries (heard ∷ later) replies = Waited serve_wait heard ∷ serve_entries later replies
 
 -- As many datagrams as were asked for came in n waits.
@@ -44,30 +40,21 @@ abbrev pub all_came : ℕ → Foretold → ℕ → Bool
 all_came count t n = nat_le count (length (arrivals_in (heards t n)))
 
 module _ (count : ℕ) (arrivals : List Came) (replies : List (Option (Station × List ℕ))) where
-  -- The server stops with this result after n waits: these datagrams have come, and the replies to them are sent.
-  abbrev pub ServeStops : Foretold → Result ℕ ToolFault → List Entry → Type 0
-  ServeStops t result gained = (n : ℕ) × (arrivals ≡ arrivals_in (heards t n))
-      × Stops serve_wait t (all_came count t) (λ n. serve_entries (heards t n) replies) gained n result
-
   -- The last reply, to the datagram that wait n brought, could not be sent.
-  pub record ServeUnsent (t : Foretold) (gained : List Entry) (n : ℕ) : Type 0 where
-    pub within : n < most_turns
-    pub before : GoesOn serve_wait t (all_came count t) n
-    pub last : Came
-    pub brought : came_by (heard_in serve_wait t n) ≡ last ∷ []
-    pub came : arrivals ≡ arrivals_in (heards t (suc n))
-    pub made : List (Option (Station × List ℕ))
-    pub lost : Station × List ℕ
-    pub owed : replies ≡ made ++ Some lost ∷ []
-    pub history : gained ≡ serve_entries (heards t n) made ++ wait_in serve_wait t n ∷ Unposted lost.0 lost.1 ∷ []
+  abbrev pub ServeUnsent : Foretold → List Entry → ℕ → Type 0
+  ServeUnsent t gained n = (n < most_turns) × GoesOn serve_wait t (all_came count t) n
+      × (last : Came) × (came_by (heard_in serve_wait t n) ≡ last ∷ []) × (arrivals ≡ arrivals_in (heards t (suc n)))
+      × (made : List (Option (Station × List ℕ))) × (lost : Station × List ℕ) × (replies ≡ made ++ Some lost ∷ [])
+      × (gained ≡ serve_entries (heards t n) made ++ wait_in serve_wait t n ∷ Unposted lost.0 lost.1 ∷ [])
 
-  -- What came, what was replied and what was sent, by how the server ends: where it comes to its end, as many datagrams
-  -- came as were asked for, and its answer is how many of the replies are no silence.
+  -- What came, what was replied and what was sent, by how the server ends after n waits: where it comes to its end, as
+  -- many datagrams came as were asked for, and its answer is how many of the replies are no silence.
   abbrev pub ServeEnds : Account → Account → Result ℕ ToolFault → Type 0
   ServeEnds seen left (Err SendFailed) = Over seen left (λ gained t. (n : ℕ) × ServeUnsent t gained n)
   ServeEnds seen left result =
       IfOk result (λ replied. (length arrivals ≡ count) × (replied ≡ length (flat_map option_to_list replies)))
-      × Over seen left (λ gained t. ServeStops t result gained)
+      × Over seen left (λ gained t. (n : ℕ) × (arrivals ≡ arrivals_in (heards t n))
+      × Stops serve_wait t (all_came count t) (λ n. serve_entries (heards t n) replies) gained n result)
 
 -- What a device that serves over a link answers and sends, and what is left of both. However the server ends, and
 -- whatever the link is, for any writes that leave the points as they stand in the device: these are the device's

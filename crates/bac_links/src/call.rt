@@ -10,10 +10,11 @@ ghost use Rattle.bac_links.specs.Foretold.{Heard, Failure};
 ghost use Rattle.bac_links.specs.History.{Waited, Timed, Account, Gains, GainsAll, Over};
 ghost use Rattle.bac_links.specs.Fault.{is_link_fault, is_write_fault};
 ghost use Rattle.bac_links.specs.Inner.Ending.{ending_seen};
-ghost use Rattle.bac_links.specs.Call.{posts, wait_of, EndsIn, FailsToSend, Tells};
-ghost use Rattle.bac_links.specs.Inner.CallSteps.{endings, GainsLost, heard_step, IsAlone, timeouts, answers, Underway};
-ghost use Rattle.bac_links.specs.Inner.CallSteps.{TurnFails};
+ghost use Rattle.bac_links.specs.Call.{EndsIn, FailsToSend, Tells};
+ghost use Rattle.bac_links.specs.Inner.CallSteps.{posts, wait_of, endings, GainsLost, heard_step, IsAlone, timeouts};
+ghost use Rattle.bac_links.specs.Inner.CallSteps.{answers, Underway, TurnFails};
 ghost use Rattle.bac_links.specs.declared.ending.Purpose.{Purpose};
+ghost use Rattle.bac_links.specs.declared.ending.Purpose.TheVariants.{Reading, Writing};
 ghost use Rattle.bac_text.specs.declared.jobs.Call.{Call as Asked};
 
 use crate::datagram::Datagram;
@@ -208,8 +209,7 @@ pub fn run_read<L: Link, W: Write>(
     requires timeout { 0 < call.now.timeout }
     ensures link_fault { L.has_failed link.new ≡ is_link_fault result }
     ensures write_fault { has_failed writer.new ≡ is_write_fault result }
-    ensures told { Tells Purpose.Reading call.now W.contents writer.old writer.new (L.seen link.old) (L.seen link.new)
-        result }
+    ensures told { Tells Reading call.now W.contents writer.old writer.new (L.seen link.old) (L.seen link.new) result }
     ensures unprinted { IfErr result (λ fault. fault ≢ ToolFault.WriteFailed → writer.new ≡ writer.old) }
 {
     run(Purpose::Reading, call, link, writer)
@@ -231,8 +231,7 @@ pub fn run_write<L: Link, W: Write>(
     requires timeout { 0 < call.now.timeout }
     ensures link_fault { L.has_failed link.new ≡ is_link_fault result }
     ensures write_fault { has_failed writer.new ≡ is_write_fault result }
-    ensures told { Tells Purpose.Writing call.now W.contents writer.old writer.new (L.seen link.old) (L.seen link.new)
-        result }
+    ensures told { Tells Writing call.now W.contents writer.old writer.new (L.seen link.old) (L.seen link.new) result }
     ensures unprinted { IfErr result (λ fault. fault ≢ ToolFault.WriteFailed → writer.new ≡ writer.old) }
 {
     run(Purpose::Writing, call, link, writer)

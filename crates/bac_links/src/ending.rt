@@ -1,10 +1,13 @@
 //! How a call ends, and what is printed of that.
-ghost use Rattle.std.specs.Prelude.{◌≡◌, false, is_err, is_some, if◌then◌else◌, IfOk, IfErr};
+ghost use Rattle.std.specs.Prelude.{◌≡◌, codes, false, is_err, is_some, if◌then◌else◌, IfOk, IfErr};
+ghost use Rattle.std.specs.Option.{option_map_or};
 ghost use Rattle.bac_text.specs.Checked.{has_failed, TookOrFailed};
 ghost use Rattle.bac_text.specs.Page.{Prints};
+ghost use Rattle.bac_text.specs.Values.{region_text};
 ghost use Rattle.bac_links.specs.Call.{service_of};
+ghost use Rattle.bac_pdu.specs.Property.{Answer};
 ghost use Rattle.bac_pdu.specs.PropertyReading.{ack_of};
-ghost use Rattle.bac_links.specs.Ending.{ending_text, ending_line, exit_of, status_of, value_text};
+ghost use Rattle.bac_links.specs.Ending.{ending_text, ending_line, exit_of, status_of};
 ghost use Rattle.bac_links.specs.Inner.Ending.{ending_seen};
 
 use crate::fault::ToolFault;
@@ -94,7 +97,8 @@ fn print_ending<W: Write>(page: &mut Page<'_, W>, purpose: Purpose, ending: Endi
 
 // Prints the value of an acknowledgement, or that there is none to read.
 fn print_value<W: Write>(page: &mut Page<'_, W>, body: &[u8]) -> Exit
-    ensures text { Prints W.contents page.old page.new (value_text (ack_of body.now)) }
+    ensures text { Prints W.contents page.old page.new
+        (option_map_or (λ (answer : Answer). region_text answer.value) (ack_of body.now) (codes "bad-ack")) }
     ensures exit { result ≡ (if is_some (ack_of body.now) then Exit.Good else Exit.Bad) }
 {
     match read_ack(body) {

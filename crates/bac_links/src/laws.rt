@@ -1,7 +1,7 @@
 //! What holds of the definitions that the contracts cite: each such function has an empty body, and its clause is the
 //! law. And that `==` on the public types is that of their values.
 
-ghost use Rattle.std.specs.Prelude.{◌≡◌, ◌≢◌, ◌≤◌, ◌+◌, ◌*◌, ◌++◌, ◌↔◌, ℕ, suc, [], IfOk, IsTrue, List, Result, Ok};
+ghost use Rattle.std.specs.Prelude.{◌≡◌, ◌≢◌, ◌≤◌, ◌+◌, ◌*◌, ◌↔◌, ℕ, suc, [], IfOk, IsTrue, List, Result, Ok};
 ghost use Rattle.std.specs.Prelude.{Err};
 ghost use Rattle.bac_device.specs.Places.{Write as Change};
 ghost use Rattle.bac_device.specs.Device.{DeviceState, points_of, Holds};
@@ -9,8 +9,8 @@ ghost use Rattle.bac_text.specs.declared.checked.Checked.{Checked};
 ghost use Rattle.bac_text.specs.Checked.{Took};
 ghost use Rattle.bac_text.specs.declared.jobs.Call.{Call};
 ghost use Rattle.bac_text.specs.declared.jobs.Search.{Search};
-ghost use Rattle.bac_links.specs.History.{Entry, foretold_after, Account, Over};
-ghost use Rattle.bac_links.specs.Answered.{answers_of};
+ghost use Rattle.bac_links.specs.History.{foretold_after, Account, Over};
+ghost use Rattle.bac_links.specs.Answered.{AskAlike};
 ghost use Rattle.bac_links.specs.Call.{Tells};
 ghost use Rattle.bac_links.specs.Progress.{IsPrompt};
 ghost use Rattle.bac_links.specs.Search.{Searched};
@@ -28,8 +28,7 @@ use std::io::Write;
 /// However a server ends, and whatever its link is, the device has its info and its points as before.
 pub fn a_server_keeps_its_points()
     ensures { (count : ℕ) (before after : DeviceState) (seen left : Account) (result : Result ℕ Fault)
-        (writes : List Change)
-        → Serves count before after seen left result → Holds before writes
+        (writes : List Change) → Serves count before after seen left result → Holds before writes
         → (after.info ≡ before.info) × (points_of after ≡ points_of before) }
 {}
 
@@ -39,8 +38,7 @@ pub fn a_call_ends_in_time<W: Write>()
     ensures { (purpose : Purpose) (call : Call) (before after : Checked W) (seen left : Account)
         (result : Result Ended Fault) (longest : ℕ)
         → Tells purpose call W.contents before after seen left result
-        → Over seen left
-        (λ gained t. IsPrompt longest gained t
+        → Over seen left (λ gained t. IsPrompt longest gained t
         → (foretold_after gained t).time [] ≤ t.time [] + suc call.retries * (call.timeout + longest)) }
 {}
 
@@ -55,13 +53,8 @@ pub fn no_call_ends_unheard<W: Write>()
 /// printed the same.
 pub fn a_call_is_a_function<V: Write, W: Write>()
     ensures { (purpose : Purpose) (call : Call) (before after : Checked V) (other_before other_after : Checked W)
-        (seen left other_seen other_left : Account) (result other : Result Ended Fault)
-        (gained other_gained : List Entry)
-        → Tells purpose call V.contents before after seen left result
-        → Tells purpose call W.contents other_before other_after other_seen other_left other
-        → left.history ≡ seen.history ++ gained → other_left.history ≡ other_seen.history ++ other_gained
-        → answers_of gained ≡ answers_of other_gained
-        → (gained ≡ other_gained) × (result ≢ Err Fault.WriteFailed → other ≢ Err Fault.WriteFailed → (result ≡ other)
+        → AskAlike (Tells purpose call V.contents before after) (Tells purpose call W.contents other_before other_after)
+        (λ result other. result ≢ Err Fault.WriteFailed → other ≢ Err Fault.WriteFailed → (result ≡ other)
         × IfOk result (λ _. (text : List ℕ) × Took V.contents before after text
         × IfOk other (λ _. Took W.contents other_before other_after text))) }
 {}
@@ -69,28 +62,18 @@ pub fn a_call_is_a_function<V: Write, W: Write>()
 /// A search is a function of what it is for and of what its link answers, in the same sense as a call.
 pub fn a_search_is_a_function<V: Write, W: Write>()
     ensures { (search : Search) (before after : Checked V) (other_before other_after : Checked W)
-        (seen left other_seen other_left : Account) (result other : Result Ended Fault)
-        (gained other_gained : List Entry)
-        → Searched search V.contents before after seen left result
-        → Searched search W.contents other_before other_after other_seen other_left other
-        → left.history ≡ seen.history ++ gained → other_left.history ≡ other_seen.history ++ other_gained
-        → answers_of gained ≡ answers_of other_gained
-        → (gained ≡ other_gained) × (result ≡ other)
-        × (result ≢ Err Fault.WriteFailed → (text : List ℕ) × Took V.contents before after text
-        × Took W.contents other_before other_after text) }
+        → AskAlike (Searched search V.contents before after) (Searched search W.contents other_before other_after)
+        (λ result other. (result ≡ other) × (result ≢ Err Fault.WriteFailed → (text : List ℕ)
+        × Took V.contents before after text × Took W.contents other_before other_after text)) }
 {}
 
 /// A server is a function of how many datagrams it is to answer, of the state of its device, and of what its link
 /// answers. Two servers of as many, over any two links and over devices in the same state, that were answered alike,
 /// asked and sent alike and ended alike; and afterwards the devices are in the same state.
 pub fn a_server_is_a_function()
-    ensures { (count : ℕ) (before after other_after : DeviceState) (seen left other_seen other_left : Account)
-        (result other : Result ℕ Fault) (writes : List Change) (gained other_gained : List Entry)
-        → Serves count before after seen left result → Serves count before other_after other_seen other_left other
-        → Holds before writes
-        → left.history ≡ seen.history ++ gained → other_left.history ≡ other_seen.history ++ other_gained
-        → answers_of gained ≡ answers_of other_gained
-        → (gained ≡ other_gained) × (result ≡ other) × (after ≡ other_after) }
+    ensures { (count : ℕ) (before after other_after : DeviceState) (writes : List Change) → Holds before writes
+        → AskAlike (Serves count before after) (Serves count before other_after)
+        (λ result other. (result ≡ other) × (after ≡ other_after)) }
 {}
 
 /// Exits are equal that are the same of the two.

@@ -1,5 +1,7 @@
 //! What the tools send and receive datagrams through.
-ghost use Rattle.std.specs.Prelude.{◌≡◌, Bool, false, is_err, None, IfOk, IfSome, MatchResult};
+ghost use Rattle.std.specs.Prelude.{◌≡◌, Bool, false, is_err, None, IfOk, IfNone, IfSome};
+ghost use Rattle.std.specs.Option.{option_flatten};
+ghost use Rattle.std.specs.Result.{result_ok};
 ghost use Rattle.bac_pdu.specs.Peer.{station};
 ghost use Rattle.bac_links.specs.Foretold.{heard_by};
 ghost use Rattle.bac_links.specs.History.{Account, Waited, Timed, Gains, posted};
@@ -34,8 +36,7 @@ pub trait Link {
         requires { has_failed self.old ≡ false }
         ensures fault { has_failed self.new ≡ is_err result }
         ensures plain { IfOk result (λ heard. IfSome heard (λ from. from.route ≡ None)) }
-        ensures kept { MatchResult result (λ heard. heard ≡ None → datagram.new ≡ datagram.old)
-            (λ fault. datagram.new ≡ datagram.old) }
+        ensures kept { IfNone (option_flatten (result_ok result)) (datagram.new ≡ datagram.old) }
         ensures told { Gains (Waited wait_ms (heard_by result datagram.new)) (seen self.old) (seen self.new) };
 
     /// The time in milliseconds.

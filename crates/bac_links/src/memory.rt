@@ -1,10 +1,12 @@
 //! A link in memory.
 ghost use Rattle.std.specs.Prelude.{◌≡◌, ◌++◌, ◌∷◌, [], false, length, map, IfOk, OnOk, OnErr, is_err, slice_get};
-ghost use Rattle.std.specs.Prelude.{IfSome, MatchResult, IsTrue, MatchOption, Some, None};
+ghost use Rattle.std.specs.Prelude.{IfNone, IfSome, IsTrue, MatchOption, Some, None};
+ghost use Rattle.std.specs.Option.{option_flatten};
+ghost use Rattle.std.specs.Result.{result_ok};
 ghost use Rattle.bac_pdu.specs.Peer.{station};
 ghost use Rattle.bac_links.specs.Foretold.{after_wait, heard_by};
 ghost use Rattle.bac_links.specs.History.{Waited, Timed, Gains, posted};
-ghost use Rattle.bac_links.specs.Memory.{foretold_of, account_of, foretold_by, fails_at, scene_of_step, scene_of_kept};
+ghost use Rattle.bac_links.specs.Memory.{foretold_of, seen_of, foretold_by, fails_at, scene_of_step, scene_of_kept};
 ghost use Rattle.bac_links.specs.Memory.{sending_of, unrouted};
 
 use crate::datagram::Datagram;
@@ -146,8 +148,7 @@ impl<A: Allocator> MemoryLink<A> {
         ensures fault { self.new.failed ≡ is_err result }
         ensures plain { IfOk result (λ heard. IfSome heard (λ from. from.route ≡ None)) }
         ensures heard { (foretold_of self.old).heard [] wait_ms ≡ heard_by result datagram.new }
-        ensures kept { MatchResult result (λ heard. heard ≡ None → datagram.new ≡ datagram.old)
-            (λ fault. datagram.new ≡ datagram.old) }
+        ensures kept { IfNone (option_flatten (result_ok result)) (datagram.new ≡ datagram.old) }
         ensures goes_on { foretold_of self.new ≡ after_wait wait_ms (foretold_of self.old) }
         ensures fails_at { fails_at self.new ≡ fails_at self.old }
         ensures history { self.new.history ≡ self.old.history }
@@ -179,7 +180,7 @@ impl<A: Allocator> MemoryLink<A> {
 }
 
 impl<A: Allocator + Copy> Link for MemoryLink<A> {
-    ghost seen = { account_of };
+    ghost seen = { seen_of };
 
     ghost has_failed = { λ link. link.failed };
 
@@ -187,7 +188,7 @@ impl<A: Allocator + Copy> Link for MemoryLink<A> {
     fn send(&mut self, to: Peer, octets: &[u8]) -> Result<(), LinkFault>
         requires { self.old.failed ≡ false }
         ensures fault { self.new.failed ≡ is_err result }
-        ensures told { Gains (posted result (station to) octets.now) (account_of self.old) (account_of self.new) }
+        ensures told { Gains (posted result (station to) octets.now) (seen_of self.old) (seen_of self.new) }
         ensures its_number { fails_at self.old ≡ Some (length (foretold_of self.old).sent) → IsTrue (is_err result) }
         ensures fails_at { fails_at self.new ≡ fails_at self.old }
     {
@@ -207,10 +208,8 @@ impl<A: Allocator + Copy> Link for MemoryLink<A> {
         requires { self.old.failed ≡ false }
         ensures fault { self.new.failed ≡ is_err result }
         ensures plain { IfOk result (λ heard. IfSome heard (λ from. from.route ≡ None)) }
-        ensures kept { MatchResult result (λ heard. heard ≡ None → datagram.new ≡ datagram.old)
-            (λ fault. datagram.new ≡ datagram.old) }
-        ensures told { Gains (Waited wait_ms (heard_by result datagram.new)) (account_of self.old)
-            (account_of self.new) }
+        ensures kept { IfNone (option_flatten (result_ok result)) (datagram.new ≡ datagram.old) }
+        ensures told { Gains (Waited wait_ms (heard_by result datagram.new)) (seen_of self.old) (seen_of self.new) }
         ensures fails_at { fails_at self.new ≡ fails_at self.old }
     {
         let heard = self.hear(wait_ms, datagram);
@@ -220,7 +219,7 @@ impl<A: Allocator + Copy> Link for MemoryLink<A> {
 
     fn now(&mut self) -> u64
         ensures fault { self.new.failed ≡ self.old.failed }
-        ensures told { Gains (Timed result) (account_of self.old) (account_of self.new) }
+        ensures told { Gains (Timed result) (seen_of self.old) (seen_of self.new) }
         ensures fails_at { fails_at self.new ≡ fails_at self.old }
     {
         self.history = self.history.and_time(self.time);

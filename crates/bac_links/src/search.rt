@@ -6,8 +6,8 @@ ghost use Rattle.bac_text.specs.Checked.{has_failed, TookOrFailed};
 ghost use Rattle.bac_text.specs.Page.{Prints};
 ghost use Rattle.bac_links.specs.History.{Gains, posted};
 ghost use Rattle.bac_links.specs.Fault.{is_link_fault, is_write_fault};
-ghost use Rattle.bac_links.specs.Search.{found_of, found_line, who_is_datagram, who_is_to, Searched};
-ghost use Rattle.bac_links.specs.Inner.Search.{found_seen};
+ghost use Rattle.bac_links.specs.Search.{found_of, found_line, who_is_to, Searched};
+ghost use Rattle.bac_links.specs.Inner.Search.{found_seen, who_is_datagram};
 ghost use Rattle.bac_links.specs.Inner.SearchSteps.{Listens};
 
 use crate::call::{most_turns, turn_wait};

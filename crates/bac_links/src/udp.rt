@@ -1,7 +1,9 @@
 //! A link over a UDP socket.
-ghost use Rattle.std.specs.Prelude.{◌≡◌, ◌+◌, ◌*◌, [], None, IfOk, IfSome, MatchOption, MatchResult, OnOk, OnErr, Ok};
+ghost use Rattle.std.specs.Prelude.{◌≡◌, ◌+◌, ◌*◌, [], None, IfOk, IfNone, IfSome, MatchOption, OnOk, OnErr, Ok};
 ghost use Rattle.std.specs.Prelude.{false, is_err, max, vec_len};
 ghost use Rattle.std.specs.Duration.{as_nanos};
+ghost use Rattle.std.specs.Option.{option_flatten};
+ghost use Rattle.std.specs.Result.{result_ok};
 ghost use Rattle.bac_pdu.specs.Peer.{station};
 ghost use Rattle.bac_links.specs.Limits.{longest_datagram};
 ghost use Rattle.bac_links.specs.Foretold.{heard_by};
@@ -109,8 +111,7 @@ impl<R: Clock + Drop> UdpLink<R> {
             × (self.new.time ≡ self.old.time) }
         ensures limited { OnOk result (self.new.wait_ms ≡ max wait_ms 1) }
         ensures plain { IfOk result (λ heard. IfSome heard (λ from. from.route ≡ None)) }
-        ensures kept { MatchResult result (λ heard. heard ≡ None → datagram.new ≡ datagram.old)
-            (λ fault. datagram.new ≡ datagram.old) }
+        ensures kept { IfNone (option_flatten (result_ok result)) (datagram.new ≡ datagram.old) }
     {
         self.limit_wait(wait_ms.max(1))?;
         match self.socket.recv_from(&mut self.buffer) {
@@ -216,8 +217,7 @@ impl<R: Clock + Drop> Link for UdpLink<R> {
         requires { self.old.failed ≡ false }
         ensures fault { self.new.failed ≡ is_err result }
         ensures plain { IfOk result (λ heard. IfSome heard (λ from. from.route ≡ None)) }
-        ensures kept { MatchResult result (λ heard. heard ≡ None → datagram.new ≡ datagram.old)
-            (λ fault. datagram.new ≡ datagram.old) }
+        ensures kept { IfNone (option_flatten (result_ok result)) (datagram.new ≡ datagram.old) }
         ensures limited { OnOk result (self.new.wait_ms ≡ max wait_ms 1) }
         ensures left { (self.new.refused ≡ self.old.refused) × (self.new.made ≡ self.old.made)
             × (self.new.time ≡ self.old.time) }

@@ -1,19 +1,25 @@
 -- What is read of an APDU is what its octets lay out, and what is laid out is read back.
 use Rattle.std.proofs.Common.{◌≡◌, ℕ, ◌+◌, ◌/◌, ◌%◌, Bool, true, false, cond, eqb, List, [], ◌∷◌, ◌++◌, Option, Some}
-use Rattle.std.proofs.Common.{None, refl, ap, subst, ◌∙◌, arith, inl, inr}
+use Rattle.std.proofs.Common.{None, refl, ap, subst, ◌∙◌, arith, inl, inr, zero, suc, ◌≤◌, slice_index_or}
 use Rattle.std.specs.Prelude.{◌↔◌}
 use Rattle.std.proofs.lemmas.Bool.{eqb-true}
 use Rattle.std.proofs.lemmas.Option.{none-some, same_Some, some_pair_parts}
 use Rattle.bac_wire.proofs.Readers.{Took, took, found_at, chosen}
+use Rattle.bac_wire.specs.Steps.{◌>>=◌}
 use Rattle.bac_wire.proofs.TagLaws.{bind_some}
 use Rattle.bac_pdu.specs.declared.apdu.Part.{Part}
 use Rattle.bac_pdu.specs.Bits.{bit}
 use Rattle.bac_pdu.specs.Apdu.{Message, confirmed, unconfirmed, simple_ack, complex_ack, segment_ack, error, reject}
-use Rattle.bac_pdu.specs.Apdu.{abort, SpellsPart, IsLaidOut, part_flags, part_octets, laid_out, IsWritable}
-use Rattle.bac_pdu.specs.ApduReading.{part_at, service_at, parts_at, confirmed_of, unconfirmed_of, complex_ack_of}
-use Rattle.bac_pdu.specs.ApduReading.{numbered_of, apdu_of}
+use Rattle.bac_pdu.specs.Apdu.{abort, Flags, IsLaidOut, part_flags, part_octets, laid_out, IsWritable}
+use Rattle.bac_pdu.specs.Apdu.{announced_size}
+use Rattle.bac_pdu.specs.ApduReading.{part_at, service_at, parts_at, confirmed_of, complex_ack_of, numbered_of}
+use Rattle.bac_pdu.specs.ApduReading.{apdu_of}
 
 -- ---- the part
+
+-- the octets of a part, under the flags that announce it
+abbrev SpellsPart : ℕ → List ℕ → Option Part → Type 0
+SpellsPart first octets part = Flags first part × (octets ≡ part_octets part)
 
 part_takes : (first : ℕ) (octets : List ℕ) (b : Bool) (part : Option Part) (rest : List ℕ) → bit 3 first ≡ b
     → part_at first octets b ≡ found_at part rest → Took (SpellsPart first) octets part rest
@@ -21,13 +27,13 @@ part_takes first octets false part rest flag e = took (SpellsPart first) [] None
 part_takes first (sequence ∷ window ∷ octets) true part rest flag e =
     took (SpellsPart first) (sequence ∷ window ∷ [])
     (Some (record { more = bit 2 first; sequence = sequence; window = window })) part octets rest e
-    (flag, refl, refl)
+    ((flag, refl), refl)
 part_takes first _ true part rest flag e = absurd (none-some (part, rest) e)
 
 part_again : (first : ℕ) (front : List ℕ) (part : Option Part) (rest : List ℕ) → SpellsPart first front part
     → part_at first (front ++ rest) (bit 3 first) ≡ found_at part rest
 part_again first front None rest s = rw (s.0, s.1) refl
-part_again first front (Some part) rest s = rw (s.0, s.2, ← s.1) refl
+part_again first front (Some part) rest s = rw (s.0.0, s.1, ← s.0.1) refl
 
 service_takes : (octets : List ℕ) (service : ℕ) (body : List ℕ) → service_at octets ≡ found_at service body
     → octets ≡ service ∷ body
@@ -62,15 +68,9 @@ confirmed_takes first (second ∷ id ∷ octets) m kind e =
     let a = bind_some _ _ _ e in
     let parts = parts_takes _ _ _ a.1 in
     let same = same_Some (confirmed a.0.0 (second % 16) id a.0.1 a.0.2) m a.2 in
-    rw (← same) (record {
-      first = first;
-      second = second;
-      part_octets = parts.0;
-      whole = ap (λ (w : List ℕ). first ∷ second ∷ id ∷ w) parts.2;
-      kind = kind;
-      coded = refl;
-      spelled = parts.1;
-    })
+    let line = parts.2 ∙ ap (λ (w : List ℕ). w ++ a.0.1 ∷ a.0.2) parts.1.1 in
+    rw (← same)
+    (first, second, kind, parts.1.0, refl, ap (λ (w : List ℕ). first ∷ second ∷ id ∷ w) line)
 confirmed_takes first _ m kind e = absurd (none-some m e)
 
 complex_takes : (first : ℕ) (octets : List ℕ) (m : Message) → first / 16 ≡ 3 → complex_ack_of first octets ≡ Some m
@@ -80,16 +80,11 @@ complex_takes first (id ∷ octets) m kind e =
     let a = bind_some _ _ _ e in
     let parts = parts_takes _ _ _ a.1 in
     let same = same_Some (complex_ack a.0.0 id a.0.1 a.0.2) m a.2 in
-    rw (← same) (record {
-      first = first;
-      part_octets = parts.0;
-      whole = ap (λ (w : List ℕ). first ∷ id ∷ w) parts.2;
-      kind = kind;
-      spelled = parts.1;
-    })
+    let line = parts.2 ∙ ap (λ (w : List ℕ). w ++ a.0.1 ∷ a.0.2) parts.1.1 in
+    rw (← same) (first, kind, parts.1.0, ap (λ (w : List ℕ). first ∷ id ∷ w) line)
 
-unconfirmed_takes : (first : ℕ) (octets : List ℕ) (m : Message) → first / 16 ≡ 1 → unconfirmed_of octets ≡ Some m
-    → IsLaidOut (first ∷ octets) m
+unconfirmed_takes : (first : ℕ) (octets : List ℕ) (m : Message) → first / 16 ≡ 1
+    → (service_at octets >>= (λ x. Some (unconfirmed x.0 x.1))) ≡ Some m → IsLaidOut (first ∷ octets) m
 unconfirmed_takes first [] m kind e = absurd (none-some m e)
 unconfirmed_takes first (service ∷ body) m kind e = rw (← same_Some (unconfirmed service body) m e) (first, kind, refl)
 
@@ -126,11 +121,11 @@ apdu_takes (first ∷ octets) m e =
 apdu_again : (octets : List ℕ) (m : Message) → IsLaidOut octets m → apdu_of octets ≡ Some m
 unfolding apdu_of
 apdu_again octets (confirmed part code id service body) s =
-    rw (s.whole, s.kind, parts_again _ _ _ service body s.spelled, s.coded) refl
+    rw (s.5, s.2, parts_again s.0 (part_octets part) part service body (s.3, refl), s.4) refl
 apdu_again octets (unconfirmed service body) s = rw (s.2, s.1) refl
 apdu_again octets (simple_ack id service) s = rw (s.3, s.2) refl
 apdu_again octets (complex_ack part id service body) s =
-    rw (s.whole, s.kind, parts_again _ _ _ service body s.spelled) refl
+    rw (s.3, s.1, parts_again s.0 (part_octets part) part service body (s.2, refl)) refl
 apdu_again octets segment_ack s = rw (s.3, s.2) refl
 apdu_again octets (error id service body) s = rw (s.2, s.1) refl
 apdu_again octets (reject id reason) s = rw (s.3, s.2) refl
@@ -156,7 +151,7 @@ request_part : (part : Option Part) → (part_flags part / 16 ≡ 0) × SpellsPa
 request_part None = (refl, (refl, refl))
 request_part (Some part) =
     let flags = request_flags part.more in
-    (flags.0, (flags.1, flags.2, refl))
+    (flags.0, ((flags.1, flags.2), refl))
 
 -- the flags of an answer, under its type
 answer_part : (part : Option Part) → ((48 + part_flags part) / 16 ≡ 3)
@@ -164,25 +159,17 @@ answer_part : (part : Option Part) → ((48 + part_flags part) / 16 ≡ 3)
 answer_part None = (refl, (refl, refl))
 answer_part (Some part) =
     let flags = answer_flags part.more in
-    (flags.0, (flags.1, flags.2, refl))
+    (flags.0, ((flags.1, flags.2), refl))
 
 laid_out_is : (m : Message) → IsWritable m → IsLaidOut (laid_out m) m
 laid_out_is (confirmed part code id service body) h =
     let p = request_part part in
-    record {
-      first = part_flags part;
-      second = code;
-      part_octets = part_octets part;
-      whole = refl;
-      kind = p.0;
-      coded = omega arith;
-      spelled = p.1;
-    }
+    (part_flags part, code, p.0, p.1.0, omega arith, refl)
 laid_out_is (unconfirmed service body) h = (16, refl, refl)
 laid_out_is (simple_ack id service) h = (32, [], refl, refl)
 laid_out_is (complex_ack part id service body) h =
     let p = answer_part part in
-    record { first = 48 + part_flags part; part_octets = part_octets part; whole = refl; kind = p.0; spelled = p.1 }
+    (48 + part_flags part, p.0, p.1.0, refl)
 laid_out_is segment_ack h = absurd h
 laid_out_is (error id service body) h = (80, refl, refl)
 laid_out_is (reject id reason) h = (96, [], refl, refl)
@@ -191,3 +178,28 @@ laid_out_is (abort false id reason) h = (112, [], refl, refl, refl)
 
 pub apdu_back : (m : Message) → IsWritable m → apdu_of (laid_out m) ≡ Some m
 apdu_back m h = apdu_again _ _ (laid_out_is m h)
+
+-- ---- what a code announces
+
+-- the octets that these codes announce, and 50 for each other one
+pub announced_other : (k : ℕ) → (k ≡ 1 → ⊥) → (k ≡ 2 → ⊥) → (k ≡ 3 → ⊥) → (k ≡ 4 → ⊥) → (k ≡ 5 → ⊥)
+    → ◌≡◌ {A = ℕ} 50 (slice_index_or (50 ∷ 128 ∷ 206 ∷ 480 ∷ 1024 ∷ 1476 ∷ []) k 50)
+announced_other zero a b c d e = refl
+announced_other (suc zero) a b c d e = absurd (a refl)
+announced_other (suc (suc zero)) a b c d e = absurd (b refl)
+announced_other (suc (suc (suc zero))) a b c d e = absurd (c refl)
+announced_other (suc (suc (suc (suc zero)))) a b c d e = absurd (d refl)
+announced_other (suc (suc (suc (suc (suc zero))))) a b c d e = absurd (e refl)
+announced_other (suc (suc (suc (suc (suc (suc k)))))) a b c d e = refl
+
+most_announced : (k : ℕ) → slice_index_or (50 ∷ 128 ∷ 206 ∷ 480 ∷ 1024 ∷ 1476 ∷ []) k 50 ≤ 1476
+most_announced zero = omega arith
+most_announced (suc zero) = omega arith
+most_announced (suc (suc zero)) = omega arith
+most_announced (suc (suc (suc zero))) = omega arith
+most_announced (suc (suc (suc (suc zero)))) = omega arith
+most_announced (suc (suc (suc (suc (suc zero))))) = omega arith
+most_announced (suc (suc (suc (suc (suc (suc k)))))) = omega arith
+
+pub announced_most : (code : ℕ) → announced_size code ≤ 1476
+announced_most code = most_announced (code % 16)

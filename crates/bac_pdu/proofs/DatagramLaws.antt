@@ -3,23 +3,23 @@ use Rattle.std.proofs.Common.{◌≡◌, ℕ, ◌/◌, ◌%◌, ◌<◌, ◌≤�
 use Rattle.std.proofs.Common.{take, drop, Option, Some, None, refl, sym, ap, ◌∙◌, append_assoc, arith, slice_index_or}
 use Rattle.std.proofs.Common.{◌+◌, cond, ◌||◌, subst, inl, inr}
 use Rattle.std.proofs.lemmas.Bool.{eqb-true, ltb-false, le-ltb, eq-eqb}
-use Rattle.std.proofs.lemmas.List.{take_at, drop_at, take-append-drop, length-append, length-take-le}
+use Rattle.std.proofs.lemmas.List.{take_at, drop_at, take-append-drop, length-append, length-take-le, nil_from_length}
 use Rattle.std.proofs.lemmas.Option.{none-some, some_pair_parts, cond_some}
 use Rattle.std.specs.Prelude.{IfSome, ◌↔◌, is_some, OnOk, Result, Ok, Err}
+use Rattle.std.specs.Option.{option_map_or}
 use Rattle.byteorder.specs.Endian.{big_number, big_bytes}
 use Rattle.byteorder.specs.Numbers.{big_number-reads_back}
 use Rattle.bac_wire.proofs.Readers.{IsReader, Took, took, took_as, reader_of, found_at, only_if, unless, chosen}
 use Rattle.bac_wire.proofs.TagLaws.{bind_some}
 use Rattle.bac_pdu.specs.Bits.{bit}
 use Rattle.bac_pdu.specs.Peer.{NetworkAddress, IsRoutable, Station}
-use Rattle.bac_pdu.specs.Header.{NetworkHeader, SpellsAddress, SpellsAnnounced, SpellsHops, SpellsHeader}
+use Rattle.bac_pdu.specs.Header.{NetworkHeader, SpellsAddress, SpellsAnnounced, SpellsHeader}
 use Rattle.bac_pdu.specs.Header.{address_octets, plain_header}
 use Rattle.bac_pdu.specs.DatagramReading.{counted_at, address_at, announced_at, behind_hops, behind_control, header_at}
-use Rattle.bac_pdu.specs.DatagramReading.{forwarded_at, origin_at, link_at, is_routable, is_for_all, is_answerable}
-use Rattle.bac_pdu.specs.DatagramReading.{carried}
+use Rattle.bac_pdu.specs.DatagramReading.{forwarded_at, origin_at, link_at, is_routable, carried}
 use Rattle.std.proofs.lemmas.Grind.{common_steps}
 use Rattle.bac_wire.specs.Front.{IsSingle}
-use Rattle.bac_pdu.specs.Datagram.{Delivery, SpellsOrigin, unicast, broadcast, forwarded, IsHeeded, Carries, Takes}
+use Rattle.bac_pdu.specs.Datagram.{Delivery, SpellsOrigin, unicast, broadcast, forwarded, Carries, Takes}
 use Rattle.bac_pdu.specs.Datagram.{wrapped, front_count}
 use Rattle.bac_pdu.specs.Inner.Datagram.{front_octets}
 
@@ -81,17 +81,23 @@ announced_again false front (Some station) rest s = absurd s
 announced_again true front None rest s = absurd s
 announced_again true front (Some station) rest s = rw (address_again _ _ _ s) refl
 
+-- one octet where there is a hop count, and none where there is none
+abbrev SpellsHops : Bool → List ℕ → Type 0
+SpellsHops b octets = length octets ≡ cond b 1 0
+
 hops_take : (b : Bool) (octets rest : List ℕ) → behind_hops b octets ≡ Some rest → (front : List ℕ) × SpellsHops b front
     × (octets ≡ front ++ rest)
 hops_take false octets rest e = ([], refl, cc)
 hops_take true [] rest e = absurd (none-some rest e)
 hops_take true (count ∷ octets) rest e =
     let same : octets ≡ rest = cc in
-    (count ∷ [], (count, refl), ap (λ (w : List ℕ). count ∷ w) same)
+    (count ∷ [], refl, ap (λ (w : List ℕ). count ∷ w) same)
 
 hops_again : (b : Bool) (front rest : List ℕ) → SpellsHops b front → behind_hops b (front ++ rest) ≡ Some rest
-hops_again false front rest s = rw s refl
-hops_again true front rest s = rw s.1 refl
+hops_again false front rest s = rw (nil_from_length front s) refl
+hops_again true [] rest s = absurd (omega (arith, s))
+hops_again true (count ∷ []) rest s = refl
+hops_again true (a ∷ b ∷ front) rest s = absurd (omega (arith, s))
 
 -- three parts, and a rest
 behind_all : (a b c rest : List ℕ) → (a ++ (b ++ c)) ++ rest ≡ a ++ (b ++ (c ++ rest))
@@ -189,13 +195,13 @@ header_written None false routable =
 header_written (Some station) true routable =
     record {
       spelled = without_source (Some station) 36 (address_octets station) (255 ∷ []) refl refl
-          (address_spells station (omega (arith, routable.global))) (255, refl);
+          (address_spells station (omega (arith, routable.global))) refl;
       expected = refl;
     }
 header_written (Some station) false routable =
     record {
       spelled = without_source (Some station) 32 (address_octets station) (255 ∷ []) refl refl
-          (address_spells station (omega (arith, routable.global))) (255, refl);
+          (address_spells station (omega (arith, routable.global))) refl;
       expected = refl;
     }
 
@@ -211,6 +217,14 @@ routable to = (
   },
   λ h. grind (arith, common_steps),
 )
+
+-- whether the header names no destination but all networks
+abbrev is_for_all : Option NetworkAddress → Bool
+is_for_all destination = option_map_or (λ to. eqb to.network 65535) destination true
+
+-- whether the header names no source but one that a route leads to
+abbrev is_answerable : Option NetworkAddress → Bool
+is_answerable source = option_map_or is_routable source true
 
 destined : (to : Option NetworkAddress) → (is_for_all to ≡ true) ↔ IfSome to (λ t. t.network ≡ 65535)
 destined None = (λ e. tt, λ h. refl)
@@ -271,6 +285,11 @@ heeded_as sender to_all header apdu =
     cond (is_for_all header.destination)
     (cond (is_answerable header.source) (Some (delivered_as sender to_all header apdu)) None) None
 
+-- a header that is not ignored
+record IsHeeded (header : NetworkHeader) : Type 0 where
+  pub destined : IfSome header.destination (λ to. to.network ≡ 65535)
+  pub answerable : IfSome header.source IsRoutable
+
 heeded_takes : (sender : Station) (to_all : Bool) (header : NetworkHeader) (apdu : List ℕ) (d : Delivery)
     → heeded_as sender to_all header apdu ≡ Some d → IsHeeded header × (delivered_as sender to_all header apdu ≡ d)
 heeded_takes sender to_all header apdu d e =
@@ -312,7 +331,8 @@ carried_takes from (kind ∷ function ∷ high ∷ low ∷ octets) d e =
       counted = eqb-true (big_number 2 (high ∷ low ∷ [])) (4 + length octets) counted.0 ∙ omega arith;
       sent = origin.1;
       headed = header.spelled;
-      heeded = heard.0;
+      destined = heard.0.destined;
+      answerable = heard.0.answerable;
       peer = refl;
       broadcast = refl;
     })
@@ -340,7 +360,8 @@ carried_again from datagram d c =
     ∙ ap length c.whole ∙ omega arith in
     let same : ◌≡◌ {A = Delivery} (delivered_as c.sender c.to_all c.network d.apdu) d =
     rw (← c.peer, ← c.broadcast) refl in
-    ap (carried from) c.whole ∙ carried_again_at _ _ _ _ _ _ _ _ _ _ counted c.sent c.headed c.heeded ∙ ap Some same
+    let heeded : IsHeeded c.network = record { destined = c.destined; answerable = c.answerable } in
+    ap (carried from) c.whole ∙ carried_again_at _ _ _ _ _ _ _ _ _ _ counted c.sent c.headed heeded ∙ ap Some same
 
 pub carried_is : (from : Station) (datagram : List ℕ) (d : Delivery)
     → (carried from datagram ≡ Some d) ↔ Carries from datagram d

@@ -9,19 +9,22 @@ use Rattle.bac_wire.specs.Datum.{Datum, Spells}
 use Rattle.bac_wire.specs.ParameterReading.{number_at}
 use Rattle.bac_wire.proofs.Readers.{only_if}
 use Rattle.bac_wire.proofs.TagLaws.{bind_some}
-use Rattle.bac_wire.proofs.ParameterLaws.{no_number, number_reader, IsStep, unsigned_step, enumerated_step, object_step}
+use Rattle.bac_wire.proofs.ParameterLaws.{no_number, IsStep, unsigned_step, enumerated_step, object_step}
 use Rattle.bac_pdu.specs.declared.discovery.WhoIs.{WhoIs}
 use Rattle.bac_pdu.specs.declared.discovery.WhoIs.TheVariants as limits
-use Rattle.bac_pdu.specs.Discovery.{SpellsNumbered, IsWhoIsBody, Introduction, IsIAmBody}
+use Rattle.bac_pdu.specs.Discovery.{IsWhoIsBody, Introduction, IsIAmBody}
 use Rattle.bac_pdu.specs.Failure.{IsErrorBody}
-use Rattle.bac_pdu.specs.ValueReading.{range_of, who_is_of, introduction_of, error_of}
+use Rattle.bac_pdu.specs.PropertyReading.{whole_of}
+use Rattle.bac_pdu.specs.ValueReading.{who_is_of, introduction_of, error_of}
 use Rattle.bac_pdu.proofs.SequenceLaws.{whole_ended}
-use Rattle.bac_pdu.proofs.ParameterLaws.{reader_step}
+use Rattle.bac_pdu.proofs.ParameterLaws.{numbered_step}
 
 -- ---- Who-Is
 
-numbered_step : (number : ℕ) → IsStep SpellsNumbered (λ n. (number, n)) (number_at number)
-numbered_step number = reader_step (λ n. (number, n)) (number_reader number) (λ front n s. s) (λ front n s. s)
+-- the two limits that a body is
+abbrev range_of : List ℕ → Option WhoIs
+range_of body =
+    number_at 0 body >>= (λ low. number_at 1 low.1 >>= (λ high. whole_of (limits.Range low.0 high.0) high.1))
 
 range_takes : (body : List ℕ) (w : WhoIs) → range_of body ≡ Some w → IsWhoIsBody body w
 range_takes body w e =

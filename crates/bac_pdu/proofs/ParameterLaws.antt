@@ -3,7 +3,8 @@ use Rattle.std.proofs.Common.{◌≡◌, ℕ, List, Option, Some, None, refl, ap
 use Rattle.bac_wire.specs.Front.{IsReader, SpellsTo}
 use Rattle.bac_wire.specs.ParameterReading.{number_at, object_at, enclosed_at}
 use Rattle.bac_wire.proofs.ParameterLaws.{number_reader, object_reader, enclosed_reader, IsStep}
-use Rattle.bac_pdu.specs.Parameter.{Parameter, object, property, index, value, priority, SpellsParameter, optional}
+use Rattle.bac_pdu.specs.Parameter.{Parameter, object, numbered, value, SpellsParameter}
+use Rattle.bac_pdu.specs.Inner.Parameter.{optional}
 use Rattle.bac_pdu.specs.PropertyReading.{or_none, optional_at}
 
 -- a reader of things of one kind, as a step of what reads such things among others
@@ -20,17 +21,12 @@ reader_step {at = at} made reader to from = record {
 pub object_step : IsStep SpellsParameter object (object_at 0)
 object_step = reader_step object (object_reader 0) (λ front x s. s) (λ front x s. s)
 
-pub property_step : IsStep SpellsParameter property (number_at 1)
-property_step = reader_step property (number_reader 1) (λ front x s. s) (λ front x s. s)
-
-pub index_step : IsStep SpellsParameter index (number_at 2)
-index_step = reader_step index (number_reader 2) (λ front x s. s) (λ front x s. s)
+pub numbered_step : (number : ℕ) → IsStep SpellsParameter (numbered number) (number_at number)
+numbered_step number =
+    reader_step (numbered number) (number_reader number) (λ front x s. s) (λ front x s. s)
 
 pub value_step : IsStep SpellsParameter value (enclosed_at 3)
 value_step = reader_step value (enclosed_reader 3) (λ front x s. s) (λ front x s. s)
-
-pub priority_step : IsStep SpellsParameter priority (number_at 4)
-priority_step = reader_step priority (number_reader 4) (λ front x s. s) (λ front x s. s)
 
 -- ---- a number that may be there
 

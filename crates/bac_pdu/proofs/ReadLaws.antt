@@ -10,12 +10,12 @@ use Rattle.bac_wire.proofs.TagLaws.{bind_some}
 use Rattle.bac_wire.proofs.ParameterLaws.{no_number, no_object, enclosed_no_number}
 use Rattle.bac_pdu.specs.declared.reject.RejectReason.{RejectReason}
 use Rattle.bac_pdu.specs.declared.reject.RejectReason.TheVariants.{InvalidTag, MissingParameter, OutOfRange, TooMany}
-use Rattle.bac_pdu.specs.Parameter.{Parameter, index, value, SpellsParameter}
+use Rattle.bac_pdu.specs.Parameter.{Parameter, numbered, value, SpellsParameter}
 use Rattle.bac_pdu.specs.Property.{Reference, Answer, reference_parameters, IsReadBody, IsAckBody}
 use Rattle.bac_pdu.specs.Reject.{LacksReference, ReadFault, IsOutcome}
 use Rattle.bac_pdu.specs.PropertyReading.{optional_at, reference_at, read_of, ack_of}
 use Rattle.bac_pdu.proofs.SequenceLaws.{then_to, split_to, to_front, from_front, whole_ended}
-use Rattle.bac_pdu.proofs.ParameterLaws.{object_step, property_step, value_step, index_step, optional_begins}
+use Rattle.bac_pdu.proofs.ParameterLaws.{object_step, numbered_step, value_step, optional_begins}
 use Rattle.bac_pdu.proofs.ParameterLaws.{optional_read}
 use Rattle.bac_pdu.proofs.RejectLaws.{and_then_ok, and_then_err, step_ok, needs_takes, needs_fails, ended_ok, ended_err}
 use Rattle.bac_pdu.proofs.RejectLaws.{IsJudge, outcome_is}
@@ -39,8 +39,8 @@ reference_takes body x e =
       object_step.takes body a.0.0 a.0.1 (needs_takes body (object_at 0 body) a.0 a.1),
       (
         b.0.1,
-        property_step.takes a.0.1 b.0.0 b.0.1 (needs_takes a.0.1 (number_at 1 a.0.1) b.0 b.1),
-        optional_begins 2 index index_step b.0.1,
+        (numbered_step 1).takes a.0.1 b.0.0 b.0.1 (needs_takes a.0.1 (number_at 1 a.0.1) b.0 b.1),
+        optional_begins 2 (numbered 2) (numbered_step 2) b.0.1,
       ),
     )
 
@@ -51,8 +51,8 @@ unfolding reference_at
 reference_again body r rest s none =
     rw (
       step_ok object_step (no_object 0) _ _ _ s.1,
-      step_ok property_step (no_number 1) _ _ _ s.2.1,
-      optional_read _ _ index_step s.2.0 r.index rest s.2.2 none,
+      step_ok (numbered_step 1) (no_number 1) _ _ _ s.2.1,
+      optional_read _ _ (numbered_step 2) s.2.0 r.index rest s.2.2 none,
     ) refl
 
 pub reference_lacks : (body : List ℕ) → LacksReference body → reference_at body ≡ Err MissingParameter
@@ -114,16 +114,17 @@ read_fault body reason e =
       | inr a ↦
           let end = ended_err a.0.0 a.0.1 reason a.2 in
           let t = to_front SpellsParameter body a.0.1 (reference_parameters a.0.0) (reference_takes body a.0 a.1) in
-          rw end.0 (record { front = t.0; rest = a.0.1; whole = (a.0.0, t.1); line = t.2; more = end.1 })
+          rw end.0 (a.0.0, a.0.1, record { front = t.0; spelled = t.1; whole = t.2 }, end.1)
     ]
 
 read_late : (body : List ℕ) (reason : RejectReason) → ReadFault body TooMany → read_of body ≡ Err reason
     → (reason ≡ TooMany) ⊎ (reason ≡ OutOfRange)
 unfolding read_of reference_at
 read_late body reason h e =
-    let s = from_front SpellsParameter body h.front h.rest (reference_parameters h.whole.0) h.line h.whole.1 in
+    let b = h.2 in
+    let s = from_front SpellsParameter body b.front h.1 (reference_parameters h.0) b.whole b.spelled in
     inl (ended_err _ _ reason
-    (rw (step_ok object_step (no_object 0) _ _ _ s.1, step_ok property_step (no_number 1) _ _ _ s.2.1) at e)).0
+    (rw (step_ok object_step (no_object 0) _ _ _ s.1, step_ok (numbered_step 1) (no_number 1) _ _ _ s.2.1) at e)).0
 
 read_missing : (body : List ℕ) → ReadFault body MissingParameter → read_of body ≡ Err MissingParameter
 unfolding read_of

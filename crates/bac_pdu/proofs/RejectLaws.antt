@@ -1,14 +1,15 @@
 -- Reading a body of a confirmed request answers its one outcome.
 use Rattle.std.proofs.Common.{◌≡◌, ℕ, List, [], ◌∷◌, Option, Some, None, Result, Ok, Err, refl, sym, ap, ◌∙◌, inl, inr}
 use Rattle.std.specs.Prelude.{◌↔◌, ◌⊎◌}
+use Rattle.std.specs.Option.{ok_or}
 use Rattle.std.proofs.lemmas.Option.{none-some}
 use Rattle.bac_wire.specs.Front.{Begins}
 use Rattle.bac_wire.proofs.ParameterLaws.{IsStep}
 use Rattle.bac_pdu.specs.declared.reject.RejectReason.{RejectReason}
 use Rattle.bac_pdu.specs.declared.reject.RejectReason.TheVariants.{InvalidTag, MissingParameter, OutOfRange, TooMany}
 use Rattle.bac_pdu.specs.declared.reject.RejectReason.TheVariants.{UnknownService}
-use Rattle.bac_pdu.specs.Reject.{IsFirst, IsRejectReason, IsOutcome}
-use Rattle.bac_pdu.specs.PropertyReading.{and_then, unless_missing, ended}
+use Rattle.bac_pdu.specs.Reject.{IsFirst, IsOutcome}
+use Rattle.bac_pdu.specs.PropertyReading.{and_then, unless_missing, whole_of}
 
 -- ---- results
 
@@ -48,6 +49,10 @@ needs_fails [] found reason e = inl (cc, refl)
 needs_fails (o ∷ os) None reason e = inr (cc, refl, λ h. absurd cc)
 needs_fails (o ∷ os) (Some y) reason e = absurd cc
 
+-- the result, where no octet is left
+abbrev pub ended : {A : Type 0} → A → List ℕ → Result A RejectReason
+ended x rest = ok_or (whole_of x rest) TooMany
+
 pub ended_ok : {A : Type 0} (x y : A) (rest : List ℕ) → ended x rest ≡ Ok y → (rest ≡ []) × (x ≡ y)
 ended_ok x y [] e = (refl, cc)
 ended_ok x y (o ∷ os) e = absurd cc
@@ -81,6 +86,11 @@ pub record IsJudge {A : Type 0} (IsWhole : List ℕ → A → Type 0) (HasFault 
   pub missing : (body : List ℕ) → HasFault body MissingParameter → of body ≡ Err MissingParameter
   pub invalid : (body : List ℕ) → HasFault body InvalidTag
   pub unknown : (body : List ℕ) → HasFault body UnknownService → ⊥
+
+-- the reason is the first that applies, in this order
+abbrev IsRejectReason : (List ℕ → RejectReason → Type 0) → List ℕ → RejectReason → Type 0
+IsRejectReason HasFault body reason =
+    IsFirst (HasFault body) (OutOfRange ∷ TooMany ∷ MissingParameter ∷ InvalidTag ∷ []) reason
 
 one_reason : {A : Type 0} (r : Result A RejectReason) (a b : RejectReason) → r ≡ Err a → r ≡ Err b → a ≡ b
 one_reason r a b e f = let two : Err a ≡ Err b = sym e ∙ f in cc

@@ -1,11 +1,10 @@
 -- Things that are spelled one after the other.
 use Rattle.std.proofs.Common.{◌≡◌, ℕ, List, [], ◌∷◌, ◌++◌, Option, Some, refl, sym, ap, subst, ◌∙◌, append_assoc}
-use Rattle.std.specs.List.{AllByRecursion}
+use Rattle.std.specs.List.{AllByRecursion, flat_map}
 use Rattle.std.proofs.lemmas.List.{append-nil}
 use Rattle.std.proofs.lemmas.Option.{none-some}
 use Rattle.bac_wire.specs.Front.{Begins, IsReader, SpellsTo, SpellsAll}
 use Rattle.bac_wire.proofs.Readers.{found_at}
-use Rattle.bac_pdu.specs.Parameter.{plain_all}
 use Rattle.bac_pdu.specs.PropertyReading.{whole_of}
 
 -- ---- what stands at the front
@@ -67,17 +66,17 @@ whole_ended x y (a ∷ rest) e = absurd (none-some y e)
 -- the spellings of these things, and then this rest
 pub all_spell : {A : Type 0} (Spells : List ℕ → A → Type 0) (plain : A → List ℕ) (Is : A → Type 0)
     → ((x : A) → Is x → Spells (plain x) x)
-    → (xs : List A) (rest : List ℕ) → AllByRecursion Is xs → SpellsTo Spells (plain_all plain xs ++ rest) xs rest
+    → (xs : List A) (rest : List ℕ) → AllByRecursion Is xs → SpellsTo Spells (flat_map plain xs ++ rest) xs rest
 all_spell Spells plain Is spell [] rest h = refl
 all_spell Spells plain Is spell (x ∷ xs) rest h = (
-  plain_all plain xs ++ rest,
-  record { front = plain x; spelled = spell x h.0; whole = append_assoc (plain x) (plain_all plain xs) rest },
+  flat_map plain xs ++ rest,
+  record { front = plain x; spelled = spell x h.0; whole = append_assoc (plain x) (flat_map plain xs) rest },
   all_spell _ _ _ spell xs rest h.1,
 )
 
 -- what is written of these things spells them
 pub whole_spell : {A : Type 0} (Spells : List ℕ → A → Type 0) (plain : A → List ℕ) (Is : A → Type 0)
     → ((x : A) → Is x → Spells (plain x) x)
-    → (xs : List A) → AllByRecursion Is xs → SpellsAll Spells (plain_all plain xs) xs
+    → (xs : List A) → AllByRecursion Is xs → SpellsAll Spells (flat_map plain xs) xs
 whole_spell Spells plain Is spell xs h =
-    subst (λ (w : List ℕ). SpellsTo Spells w xs []) (append-nil (plain_all plain xs)) (all_spell _ _ _ spell xs [] h)
+    subst (λ (w : List ℕ). SpellsTo Spells w xs []) (append-nil (flat_map plain xs)) (all_spell _ _ _ spell xs [] h)

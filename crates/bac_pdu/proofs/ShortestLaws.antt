@@ -2,7 +2,7 @@
 use Rattle.std.proofs.Common.{◌≡◌, ℕ, ◌+◌, ◌^◌, ◌<◌, ◌≤◌, List, [], ◌∷◌, ◌++◌, length, Option, Some, None, Ok, refl}
 use Rattle.std.proofs.Common.{sym, ap, subst, ◌∙◌, append_assoc, arith}
 use Rattle.std.specs.Prelude.{IfSome}
-use Rattle.std.specs.List.{AllByRecursion}
+use Rattle.std.specs.List.{AllByRecursion, flat_map}
 use Rattle.std.proofs.lemmas.Bool.{lt-ltb}
 use Rattle.std.proofs.lemmas.List.{append-nil, length-append}
 use Rattle.byteorder.specs.Endian.{big_bytes}
@@ -13,7 +13,7 @@ use Rattle.bac_wire.specs.Tag.{plain_number, plain_tag}
 use Rattle.bac_wire.specs.Region.{IsRegion, opening_tag, closing_tag}
 use Rattle.bac_wire.specs.Datum.{Datum, Spells, unsigned, enumerated, octet_count, plain, IsDatum}
 use Rattle.bac_wire.specs.Datum as values
-use Rattle.bac_wire.specs.Parameter.{context_tag, SpellsContext, SpellsIn, IsNumber, IsObject, SpellsEnclosed}
+use Rattle.bac_wire.specs.Parameter.{context_tag, SpellsContext, SpellsIn, SpellsEnclosed}
 use Rattle.bac_wire.specs.Parameter.{context_octets, number_octets, object_octets, enclosed_octets}
 use Rattle.bac_wire.proofs.TagLaws.{behind, tag_least}
 use Rattle.bac_wire.proofs.PlainDatum.{plain_spells}
@@ -21,14 +21,13 @@ use Rattle.bac_wire.proofs.ShortestDatum.{octet_count_least, ahead}
 use Rattle.bac_wire.proofs.ParameterLaws.{number_spells, object_spells, enclosed_spells}
 use Rattle.bac_pdu.specs.declared.discovery.WhoIs.{WhoIs}
 use Rattle.bac_pdu.specs.declared.discovery.WhoIs.TheVariants as limits
-use Rattle.bac_pdu.specs.Parameter.{Parameter, object, property, index, value, priority, IsParameter, SpellsParameter}
-use Rattle.bac_pdu.specs.Parameter.{optional, plain_parameter, plain_all}
-use Rattle.bac_pdu.specs.Inner.Parameter.{optional_octets}
+use Rattle.bac_pdu.specs.Parameter.{Parameter, object, numbered, value, IsParameter, SpellsParameter, plain_parameter}
+use Rattle.bac_pdu.specs.Inner.Parameter.{optional, optional_octets}
 use Rattle.bac_pdu.specs.Property.{Reference, Answer, Order, reference_parameters, answer_parameters, order_parameters}
 use Rattle.bac_pdu.specs.Property.{IsPriority, IsReadBody, IsAckBody, IsWriteBody, read_octets, ack_octets}
 use Rattle.bac_pdu.specs.Property.{write_octets}
 use Rattle.bac_pdu.specs.PropertyReading.{read_of, write_of, ack_of}
-use Rattle.bac_pdu.specs.Discovery.{SpellsNumbered, Introduction, introduction_values, IsWhoIsBody, IsIAmBody}
+use Rattle.bac_pdu.specs.Discovery.{Introduction, introduction_values, IsWhoIsBody, IsIAmBody}
 use Rattle.bac_pdu.specs.Discovery.{who_is_octets, i_am_octets}
 use Rattle.bac_pdu.specs.Inner.Discovery.{HasLimits}
 use Rattle.bac_pdu.specs.Failure.{IsErrorBody, error_octets}
@@ -41,21 +40,21 @@ use Rattle.bac_pdu.proofs.DiscoveryLaws.{who_is_is, introduction_is, error_is}
 -- ---- the parameters of a body, in their order
 
 plain_append : (ps qs : List Parameter)
-    → plain_all plain_parameter (ps ++ qs) ≡ plain_all plain_parameter ps ++ plain_all plain_parameter qs
+    → flat_map plain_parameter (ps ++ qs) ≡ flat_map plain_parameter ps ++ flat_map plain_parameter qs
 plain_append [] qs = refl
 plain_append (p ∷ ps) qs = ap (λ (rest : List ℕ). plain_parameter p ++ rest) (plain_append ps qs)
-    ∙ sym (append_assoc (plain_parameter p) (plain_all plain_parameter ps) (plain_all plain_parameter qs))
+    ∙ sym (append_assoc (plain_parameter p) (flat_map plain_parameter ps) (flat_map plain_parameter qs))
 
 optional_plain : (made : ℕ → Parameter) (number : ℕ) → ((n : ℕ) → plain_parameter (made n) ≡ number_octets number n)
     → (i : Option ℕ)
-    → plain_all plain_parameter (optional made i) ≡ optional_octets number i
+    → flat_map plain_parameter (optional made i) ≡ optional_octets number i
 optional_plain made number is None = refl
 optional_plain made number is (Some n) = append-nil (plain_parameter (made n)) ∙ is n
 
 pub read_written : (r : Reference)
     → object_octets 0 r.object ++ (number_octets 1 r.property ++ optional_octets 2 r.index) ≡ read_octets r
 unfolding plain_parameter
-read_written r = rw (optional_plain index 2 (λ n. refl) r.index) refl
+read_written r = rw (optional_plain (numbered 2) 2 (λ n. refl) r.index) refl
 
 pub ack_written : (a : Answer) → read_octets a.reference ++ enclosed_octets 3 a.value ≡ ack_octets a
 unfolding plain_parameter
@@ -67,9 +66,9 @@ pub write_written : (o : Order)
     → read_octets o.reference ++ (enclosed_octets 3 o.value ++ optional_octets 4 o.priority) ≡ write_octets o
 unfolding plain_parameter
 write_written o =
-    sym (plain_append (reference_parameters o.reference) (value o.value ∷ optional priority o.priority)
+    sym (plain_append (reference_parameters o.reference) (value o.value ∷ optional (numbered 4) o.priority)
     ∙ ap (λ (rest : List ℕ). read_octets o.reference ++ (enclosed_octets 3 o.value ++ rest))
-    (optional_plain priority 4 (λ n. refl) o.priority))
+    (optional_plain (numbered 4) 4 (λ n. refl) o.priority))
 
 pub optional_is : (number : ℕ → Parameter) (i : Option ℕ) → ((n : ℕ) → n < 2 ^ 32 → IsParameter (number n))
     → IfSome i (λ n. n < 2 ^ 32) → AllByRecursion IsParameter (optional number i)
@@ -78,7 +77,9 @@ optional_is number (Some n) is h = (is n h, tt)
 
 pub reference_known : (r : Reference) → IsIdentifier r.object → r.property < 2 ^ 32 → IfSome r.index (λ n. n < 2 ^ 32)
     → AllByRecursion IsParameter (reference_parameters r)
-reference_known r is fits index_fits = (is, (fits, optional_is index r.index (λ n less. less) index_fits))
+reference_known r is fits index_fits =
+    let last = optional_is (numbered 2) r.index (λ n less. (omega arith, less)) index_fits in
+    (is, ((omega arith, fits), last))
 
 -- ---- a parameter
 
@@ -92,28 +93,28 @@ context_least : (number : ℕ) (octets contents least : List ℕ) → AreOctets 
     → length contents < 5
     → length least ≤ length contents → length (context_octets number least) ≤ length octets
 context_least number octets contents least fit s short le =
-    let tags = tag_least s.tag (context_tag number (length contents))
-    (ahead s.tag contents (subst AreOctets s.whole fit)) s.tagged in
+    let tags = tag_least s.front (context_tag number (length contents))
+    (ahead s.front contents (subst AreOctets s.whole fit)) s.spelled in
     let one = short_tag number (length contents) short in
     let other = short_tag number (length least) (omega arith) in
     omega (
       arith,
       ap length s.whole,
-      length-append s.tag contents,
+      length-append s.front contents,
       length-append (plain_tag (context_tag number (length least))) least,
     )
 
-number_shortest : (number n : ℕ) (octets : List ℕ) → AreOctets octets → SpellsIn IsNumber number octets n
+number_shortest : (number n : ℕ) (octets : List ℕ) → AreOctets octets → SpellsIn enumerated number octets n
     → length (number_octets number n) ≤ length octets
 number_shortest number n octets fit s =
-    let inner = behind s.context.tag s.contents (subst AreOctets s.context.whole fit) in
+    let inner = behind s.context.front s.contents (subst AreOctets s.context.whole fit) in
     let le = octet_count_least (length s.contents) n s.stands.0
     (rw s.stands.2 (big_from-lt 0 (length s.contents) s.contents inner)) in
     context_least number octets s.contents (big_bytes (octet_count n) n) fit s.context (omega (arith, s.stands.1))
     (rw (length-bytes_high_first (octet_count n) n) le)
 
 object_shortest : (number : ℕ) (id : Identifier) (octets : List ℕ) → AreOctets octets
-    → SpellsIn IsObject number octets id → length (object_octets number id) ≤ length octets
+    → SpellsIn values.object number octets id → length (object_octets number id) ≤ length octets
 object_shortest number id octets fit s =
     let four = s.stands.0 in
     context_least number octets s.contents (big_bytes 4 (number_of id)) fit s.context (omega arith)
@@ -122,18 +123,16 @@ object_shortest number id octets fit s =
 enclosed_shortest : (number : ℕ) (region octets : List ℕ) → AreOctets octets → SpellsEnclosed number octets region
     → length (enclosed_octets number region) ≤ length octets
 enclosed_shortest number region octets fit s =
-    let fits : AreOctets (s.opening ++ s.behind) = subst AreOctets s.whole fit in
-    let inner : AreOctets (region ++ s.closed.closing) =
-    subst AreOctets s.closed.whole (behind s.opening s.behind fits) in
-    let opening = tag_least s.opening (opening_tag number) (ahead s.opening s.behind fits) s.opened in
-    let closing = tag_least s.closed.closing (closing_tag number) (behind region s.closed.closing inner)
-    s.closed.closed in
+    let o = s.opened in
+    let fits : AreOctets (o.front ++ (region ++ s.closing)) = subst AreOctets o.whole fit in
+    let inner : AreOctets (region ++ s.closing) = behind o.front (region ++ s.closing) fits in
+    let opening = tag_least o.front (opening_tag number) (ahead o.front (region ++ s.closing) fits) o.spelled in
+    let closing = tag_least s.closing (closing_tag number) (behind region s.closing inner) s.closed in
     omega (
       arith,
-      ap length s.whole,
-      ap length s.closed.whole,
-      length-append s.opening s.behind,
-      length-append region s.closed.closing,
+      ap length o.whole,
+      length-append o.front (region ++ s.closing),
+      length-append region s.closing,
       length-append (plain_tag (opening_tag number)) (region ++ plain_tag (closing_tag number)),
       length-append region (plain_tag (closing_tag number)),
     )
@@ -145,12 +144,8 @@ parameter_shortest (object id) h =
       spelled = object_spells 0 id (omega arith) h;
       shortest = λ octets fit s. object_shortest 0 id octets fit s;
     }
-parameter_shortest (property n) h =
-    record { spelled = number_spells 1 n (omega arith) h; shortest = λ octets fit s. number_shortest 1 n octets fit s }
-parameter_shortest (index n) h =
-    record { spelled = number_spells 2 n (omega arith) h; shortest = λ octets fit s. number_shortest 2 n octets fit s }
-parameter_shortest (priority n) h =
-    record { spelled = number_spells 4 n (omega arith) h; shortest = λ octets fit s. number_shortest 4 n octets fit s }
+parameter_shortest (numbered tag n) h =
+    record { spelled = number_spells tag n h.0 h.1; shortest = λ octets fit s. number_shortest tag n octets fit s }
 parameter_shortest (value region) h =
     record {
       spelled = enclosed_spells 3 region (omega arith) h;
@@ -164,24 +159,24 @@ all_least : {A : Type 0} (Spells : List ℕ → A → Type 0) (plain : A → Lis
     → ((x : A) → Is x → IsShortest Spells (plain x) x) → (xs : List A) (octets rest : List ℕ) → AllByRecursion Is xs
     → AreOctets octets
     → SpellsTo Spells octets xs rest
-    → length (plain_all plain xs) + length rest ≤ length octets
+    → length (flat_map plain xs) + length rest ≤ length octets
 all_least Spells plain Is each [] octets rest h fit s = omega (arith, ap length s)
 all_least Spells plain Is each (x ∷ xs) octets rest h fit s =
     let fits : AreOctets (s.1.front ++ s.0) = subst AreOctets s.1.whole fit in
     let first = (each x h.0).shortest s.1.front (ahead s.1.front s.0 fits) s.1.spelled in
     let others = all_least Spells plain Is each xs s.0 rest h.1 (behind s.1.front s.0 fits) s.2 in
-    omega (arith, ap length s.1.whole, length-append s.1.front s.0, length-append (plain x) (plain_all plain xs))
+    omega (arith, ap length s.1.whole, length-append s.1.front s.0, length-append (plain x) (flat_map plain xs))
 
 all_shortest : {A : Type 0} (Spells : List ℕ → A → Type 0) (plain : A → List ℕ) (Is : A → Type 0)
     → ((x : A) → Is x → IsShortest Spells (plain x) x) → (xs : List A) → AllByRecursion Is xs
-    → IsShortest (SpellsAll Spells) (plain_all plain xs) xs
+    → IsShortest (SpellsAll Spells) (flat_map plain xs) xs
 all_shortest Spells plain Is each xs h = record {
   spelled = whole_spell Spells plain Is (λ x is. (each x is).spelled) xs h;
   shortest = λ octets fit s. let all = all_least Spells plain Is each xs octets [] h fit s in omega arith;
 }
 
 parameters_shortest : (ps : List Parameter) → AllByRecursion IsParameter ps
-    → IsShortest (SpellsAll SpellsParameter) (plain_all plain_parameter ps) ps
+    → IsShortest (SpellsAll SpellsParameter) (flat_map plain_parameter ps) ps
 parameters_shortest ps h = all_shortest SpellsParameter plain_parameter IsParameter parameter_shortest ps h
 
 -- the value is written in the fewest octets
@@ -223,14 +218,9 @@ write_back o h urgent = write_again (write_octets o) o (write_shortest o h urgen
 
 range_shortest : (low high : ℕ) → low < 2 ^ 32 → high < 2 ^ 32
     → IsShortest IsWhoIsBody (who_is_octets (limits.Range low high)) (limits.Range low high)
+unfolding plain_parameter
 range_shortest low high l h =
-    let Fits : ℕ × ℕ → Type 0 = λ x. (x.0 < 255) × (x.1 < 2 ^ 32) in
-    let all = all_shortest SpellsNumbered (λ x. number_octets x.0 x.1) Fits
-    (λ x is. record {
-      spelled = number_spells x.0 x.1 is.0 is.1;
-      shortest = λ octets fit s. number_shortest x.0 x.1 octets fit s;
-    }) ((0, low) ∷ (1, high) ∷ [])
-    ((omega arith, l), ((omega arith, h), tt)) in
+    let all = parameters_shortest (numbered 0 low ∷ numbered 1 high ∷ []) ((omega arith, l), ((omega arith, h), tt)) in
     rw (← append-nil (number_octets 1 high)) (record { spelled = all.spelled; shortest = all.shortest })
 
 pub who_is_shortest : (w : WhoIs) → HasLimits w → IsShortest IsWhoIsBody (who_is_octets w) w
@@ -312,8 +302,8 @@ urgent_is (Some n) h = omega (arith, h.1)
 pub order_known : (o : Order) → AllByRecursion IsParameter (reference_parameters o.reference) → IsRegion 32 o.value
     → IfSome o.priority IsPriority → AllByRecursion IsParameter (order_parameters o)
 order_known o named region urgent =
-    all_append IsParameter (reference_parameters o.reference) (value o.value ∷ optional priority o.priority) named
-    (region, optional_is priority o.priority (λ n fits. fits) (urgent_is o.priority urgent))
+    all_append IsParameter (reference_parameters o.reference) (value o.value ∷ optional (numbered 4) o.priority) named
+    (region, optional_is (numbered 4) o.priority (λ n fits. (omega arith, fits)) (urgent_is o.priority urgent))
 
 -- what is written of an order
 pub order_is_written : (o : Order) → AllByRecursion IsParameter (reference_parameters o.reference) → IsRegion 32 o.value

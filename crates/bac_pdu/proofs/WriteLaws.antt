@@ -1,7 +1,8 @@
 -- Reading the body of a WriteProperty finds what it orders, or the first fault that it has.
-use Rattle.std.proofs.Common.{◌≡◌, ℕ, Bool, true, false, cond, List, [], ◌∷◌, ◌++◌, Option, Some, None, Result, Ok, Err}
-use Rattle.std.proofs.Common.{refl, ap, subst, ◌∙◌, arith, inl, inr}
-use Rattle.std.specs.Prelude.{◌↔◌, ◌⊎◌, IfSome}
+use Rattle.std.proofs.Common.{◌≡◌, ℕ, Bool, true, false, cond, ltb, List, [], ◌∷◌, ◌++◌, Option, Some, None, Result, Ok}
+use Rattle.std.proofs.Common.{Err, refl, ap, subst, ◌∙◌, arith, inl, inr}
+use Rattle.std.specs.Prelude.{◌↔◌, ◌⊎◌, IfSome, ◌&&◌}
+use Rattle.std.specs.Option.{option_map_or}
 use Rattle.std.proofs.lemmas.Bool.{false_from_ne_true, iff_false}
 use Rattle.std.proofs.lemmas.Grind.{common_steps}
 use Rattle.bac_wire.specs.Front.{SpellsTo, SpellsAll}
@@ -10,17 +11,21 @@ use Rattle.bac_wire.proofs.RegionReading.{no_octets}
 use Rattle.bac_wire.proofs.ParameterLaws.{no_number}
 use Rattle.bac_pdu.specs.declared.reject.RejectReason.{RejectReason}
 use Rattle.bac_pdu.specs.declared.reject.RejectReason.TheVariants.{MissingParameter, OutOfRange, TooMany}
-use Rattle.bac_pdu.specs.Parameter.{value, priority, SpellsParameter, optional}
+use Rattle.bac_pdu.specs.Parameter.{numbered, value, SpellsParameter}
+use Rattle.bac_pdu.specs.Inner.Parameter.{optional}
 use Rattle.bac_pdu.specs.Property.{Reference, Order, reference_parameters, order_parameters, IsWriteBody, IsPriority}
 use Rattle.bac_pdu.specs.Reject.{WriteFault, IsOutcome}
-use Rattle.bac_pdu.specs.PropertyReading.{or_none, optional_at, and_then, unless_missing, reference_at, ended}
-use Rattle.bac_pdu.specs.PropertyReading.{is_priority, write_of}
+use Rattle.bac_pdu.specs.PropertyReading.{or_none, optional_at, and_then, unless_missing, reference_at, write_of}
 use Rattle.bac_pdu.proofs.SequenceLaws.{to_front, from_front}
-use Rattle.bac_pdu.proofs.ParameterLaws.{value_step, priority_step, optional_begins, optional_read}
-use Rattle.bac_pdu.proofs.RejectLaws.{and_then_ok, and_then_err, step_ok, needs_takes, needs_fails, ended_ok, ended_err}
-use Rattle.bac_pdu.proofs.RejectLaws.{IsJudge, outcome_is}
+use Rattle.bac_pdu.proofs.ParameterLaws.{value_step, numbered_step, optional_begins, optional_read}
+use Rattle.bac_pdu.proofs.RejectLaws.{and_then_ok, and_then_err, step_ok, needs_takes, needs_fails, ended, ended_ok}
+use Rattle.bac_pdu.proofs.RejectLaws.{ended_err, IsJudge, outcome_is}
 use Rattle.bac_pdu.proofs.ReadLaws.{reference_takes, reference_again, reference_lacks, reference_fails, value_takes}
 use Rattle.bac_pdu.proofs.ReadLaws.{value_again}
+
+-- whether there is such a priority, or none is named
+abbrev is_priority : Option ℕ → Bool
+is_priority p = option_map_or (λ n. ltb 0 n && ltb n 17) p true
 
 no_value : enclosed_at 3 [] ≡ None
 unfolding enclosed_at behind_opening
@@ -30,11 +35,11 @@ write_again_at : (body : List ℕ) (o : Order) → SpellsAll SpellsParameter bod
     → write_of body ≡ cond (is_priority o.priority) (Ok o) (Err OutOfRange)
 unfolding write_of
 write_again_at body o s =
-    let t = value_again body o.value [] o.reference (optional priority o.priority) s in
+    let t = value_again body o.value [] o.reference (optional (numbered 4) o.priority) s in
     rw (
       t.2,
       step_ok value_step no_value _ _ _ t.3,
-      optional_read _ _ priority_step t.1 o.priority [] t.4 (λ none. no_number 4),
+      optional_read _ _ (numbered_step 4) t.1 o.priority [] t.4 (λ none. no_number 4),
     ) refl
 
 priority_is : (p : Option ℕ) → (is_priority p ≡ true) ↔ IfSome p IsPriority
@@ -65,11 +70,12 @@ out_of_range false o reason e = (refl, cc)
 -- what was read, with nothing behind the priority
 order_takes : (body x v rest : List ℕ) (r : Reference) (p : Option ℕ) → reference_at body ≡ Ok (r, x)
     → unless_missing x (enclosed_at 3 x) ≡ Ok (v, rest) → ended (optional_at 4 rest).0 (optional_at 4 rest).1 ≡ Ok p
-    → SpellsAll SpellsParameter body (reference_parameters r ++ value v ∷ optional priority p)
+    → SpellsAll SpellsParameter body (reference_parameters r ++ value v ∷ optional (numbered 4) p)
 order_takes body x v rest r p named valued e =
     let end = ended_ok (optional_at 4 rest).0 p (optional_at 4 rest).1 e in
-    let last = rw (end.0, end.1) at (optional_begins 4 priority priority_step rest) in
-    value_takes body x v rest [] r (optional priority p) named (needs_takes x (enclosed_at 3 x) (v, rest) valued) last
+    let last = rw (end.0, end.1) at (optional_begins 4 (numbered 4) (numbered_step 4) rest) in
+    let found = needs_takes x (enclosed_at 3 x) (v, rest) valued in
+    value_takes body x v rest [] r (optional (numbered 4) p) named found last
 
 write_takes : (body : List ℕ) (o : Order) → write_of body ≡ Ok o → IsWriteBody body o
 unfolding write_of
@@ -95,7 +101,7 @@ write_more body x v rest r named valued left =
     → ⊥ = λ empty.
     left (ap (λ (w : List ℕ). (optional_at 4 w).1) empty
     ∙ ap (λ (q : Option (ℕ × List ℕ)). (or_none [] q).1) (no_number 4)) in
-    record { front = t.0; rest = rest; whole = (o, record { spelled = t.1; urgent = tt }); line = t.2; more = some }
+    (o, rest, record { front = t.0; spelled = record { spelled = t.1; urgent = tt }; whole = t.2 }, some)
 
 write_fault : (body : List ℕ) (reason : RejectReason) → write_of body ≡ Err reason → WriteFault body reason
 unfolding write_of
@@ -138,9 +144,10 @@ write_late : (body : List ℕ) (reason : RejectReason) → WriteFault body TooMa
     → (reason ≡ TooMany) ⊎ (reason ≡ OutOfRange)
 unfolding write_of
 write_late body reason h e =
-    let o = h.whole.0 in
-    let s = from_front SpellsParameter body h.front h.rest (order_parameters o) h.line h.whole.1.spelled in
-    let t = value_again body o.value h.rest o.reference (optional priority o.priority) s in
+    let o = h.0 in
+    let b = h.2 in
+    let s = from_front SpellsParameter body b.front h.1 (order_parameters o) b.whole b.spelled.spelled in
+    let t = value_again body o.value h.1 o.reference (optional (numbered 4) o.priority) s in
     elim (and_then_err (ended (optional_at 4 t.1).0 (optional_at 4 t.1).1) (write_end o.reference o.value) reason
     (rw (t.2, step_ok value_step no_value _ _ _ t.3) at e)) [
       | inl third ↦ inl (ended_err (optional_at 4 t.1).0 (optional_at 4 t.1).1 reason third).0

@@ -1,6 +1,6 @@
 -- The kinds of APDU, how their octets are laid out (clause 20.1), and how long an APDU each code announces.
-use Rattle.std.specs.Prelude.{◌≡◌, ℕ, ◌+◌, ◌/◌, ◌%◌, ◌<◌, ◌==◌, Bool, true, false, if◌then◌else◌, List, [], ◌∷◌, ◌++◌}
-use Rattle.std.specs.Prelude.{Option, Some, None}
+use Rattle.std.specs.Prelude.{◌≡◌, ℕ, ◌+◌, ◌/◌, ◌%◌, ◌<◌, Bool, true, false, if◌then◌else◌, List, [], ◌∷◌, ◌++◌}
+use Rattle.std.specs.Prelude.{slice_index_or, Option, Some, None}
 use Rattle.bac_pdu.specs.declared.apdu.Part.{Part}
 use Rattle.bac_pdu.specs.declared.apdu.Apdu.{Apdu}
 use Rattle.bac_pdu.specs.declared.apdu.Apdu.TheVariants as kinds
@@ -30,39 +30,26 @@ message (kinds.Abort server id reason) = abort server id reason
 
 -- ---- how they are laid out: the high half of the first octet is the type
 
--- Bit 3 of the first octet says that the APDU is a part of a longer message; bit 2 then says that more parts follow,
--- and the part's sequence number and the window size stand behind the invoke id.
-abbrev pub SpellsPart : ℕ → List ℕ → Option Part → Type 0
-SpellsPart first octets None = (bit 3 first ≡ false) × (octets ≡ [])
-SpellsPart first octets (Some part) = (bit 3 first ≡ true) × (part.more ≡ bit 2 first)
-    × (octets ≡ part.sequence ∷ part.window ∷ [])
+-- Bit 3 of the first octet says that the APDU is a part of a longer message; bit 2 then says that more parts follow.
+abbrev pub Flags : ℕ → Option Part → Type 0
+Flags first None = bit 3 first ≡ false
+Flags first (Some part) = (bit 3 first ≡ true) × (part.more ≡ bit 2 first)
 
--- The octets of a Confirmed-Request: the type and the flags, what the sender accepts (the greatest APDU in the low
--- half), the invoke id, the part, the service and its body.
-pub record IsConfirmed (octets : List ℕ) (part : Option Part) (code id service : ℕ) (body : List ℕ) : Type 0 where
-  pub first : ℕ
-  pub second : ℕ
-  pub part_octets : List ℕ
-  pub whole : octets ≡ first ∷ second ∷ id ∷ (part_octets ++ service ∷ body)
-  pub kind : first / 16 ≡ 0
-  pub coded : second % 16 ≡ code
-  pub spelled : SpellsPart first part_octets part
+-- The sequence number and the window size, which stand behind the invoke id where the APDU is a part.
+abbrev pub part_octets : Option Part → List ℕ
+part_octets None = []
+part_octets (Some part) = part.sequence ∷ part.window ∷ []
 
--- The octets of a ComplexACK: the type and the flags, the invoke id, the part, the service and its body.
-pub record IsComplexAck (octets : List ℕ) (part : Option Part) (id service : ℕ) (body : List ℕ) : Type 0 where
-  pub first : ℕ
-  pub part_octets : List ℕ
-  pub whole : octets ≡ first ∷ id ∷ (part_octets ++ service ∷ body)
-  pub kind : first / 16 ≡ 3
-  pub spelled : SpellsPart first part_octets part
-
--- These octets are this APDU. Bits and octets that are not named here are not looked at.
+-- These octets are this APDU. The second octet of a Confirmed-Request is what its sender accepts, with the greatest
+-- APDU in the low half. Bits and octets that are not named here are not looked at.
 abbrev pub IsLaidOut : List ℕ → Message → Type 0
-IsLaidOut octets (confirmed part code id service body) = IsConfirmed octets part code id service body
+IsLaidOut octets (confirmed part code id service body) = (first : ℕ) × (second : ℕ) × (first / 16 ≡ 0)
+    × Flags first part × (second % 16 ≡ code) × (octets ≡ first ∷ second ∷ id ∷ (part_octets part ++ service ∷ body))
 IsLaidOut octets (unconfirmed service body) = (first : ℕ) × (first / 16 ≡ 1) × (octets ≡ first ∷ service ∷ body)
 IsLaidOut octets (simple_ack id service) = (first : ℕ) × (rest : List ℕ) × (first / 16 ≡ 2)
     × (octets ≡ first ∷ id ∷ service ∷ rest)
-IsLaidOut octets (complex_ack part id service body) = IsComplexAck octets part id service body
+IsLaidOut octets (complex_ack part id service body) = (first : ℕ) × (first / 16 ≡ 3) × Flags first part
+    × (octets ≡ first ∷ id ∷ (part_octets part ++ service ∷ body))
 IsLaidOut octets segment_ack = (first : ℕ) × (rest : List ℕ) × (first / 16 ≡ 4) × (octets ≡ first ∷ rest)
 IsLaidOut octets (error id service body) = (first : ℕ) × (first / 16 ≡ 5) × (octets ≡ first ∷ id ∷ service ∷ body)
 IsLaidOut octets (reject id reason) = (first : ℕ) × (rest : List ℕ) × (first / 16 ≡ 6)
@@ -76,11 +63,6 @@ IsLaidOut octets (abort server id reason) = (first : ℕ) × (rest : List ℕ) �
 abbrev pub part_flags : Option Part → ℕ
 part_flags None = 0
 part_flags (Some part) = if part.more then 12 else 8
-
--- The sequence number and the window size, where the APDU is a part.
-abbrev pub part_octets : Option Part → List ℕ
-part_octets None = []
-part_octets (Some part) = part.sequence ∷ part.window ∷ []
 
 -- The octets that are written of an APDU.
 abbrev pub laid_out : Message → List ℕ
@@ -99,12 +81,6 @@ IsWritable (confirmed part code id service body) = code < 16
 IsWritable segment_ack = ⊥
 IsWritable _ = Unit {0}
 
--- The octets of the greatest APDU that a code announces; the codes above 5 are taken as 0.
+-- The octets of the greatest APDU that a code announces, by its low four bits; the codes above 5 are taken as 0.
 abbrev pub announced_size : ℕ → ℕ
-announced_size code =
-    if code % 16 == 1 then 128
-    else if code % 16 == 2 then 206
-    else if code % 16 == 3 then 480
-    else if code % 16 == 4 then 1024
-    else if code % 16 == 5 then 1476
-    else 50
+announced_size code = slice_index_or (50 ∷ 128 ∷ 206 ∷ 480 ∷ 1024 ∷ 1476 ∷ []) (code % 16) 50

@@ -31,11 +31,6 @@ confirmed_of first (second ∷ id ∷ octets) =
     parts_at first octets >>= (λ x. Some (confirmed x.0 (second % 16) id x.1 x.2))
 confirmed_of first _ = None
 
--- The Unconfirmed-Request behind a first octet.
-abbrev pub unconfirmed_of : List ℕ → Option Message
-unconfirmed_of (service ∷ body) = Some (unconfirmed service body)
-unconfirmed_of _ = None
-
 -- The ComplexACK behind a first octet.
 abbrev pub complex_ack_of : ℕ → List ℕ → Option Message
 complex_ack_of first (id ∷ octets) = parts_at first octets >>= (λ x. Some (complex_ack x.0 id x.1 x.2))
@@ -51,7 +46,7 @@ unfoldable pub apdu_of : List ℕ → Option Message
 apdu_of [] = None
 apdu_of (first ∷ octets) =
     if first / 16 == 0 then confirmed_of first octets
-    else if first / 16 == 1 then unconfirmed_of octets
+    else if first / 16 == 1 then service_at octets >>= (λ x. Some (unconfirmed x.0 x.1))
     else if first / 16 == 2 then numbered_of (λ id service _. simple_ack id service) octets
     else if first / 16 == 3 then complex_ack_of first octets
     else if first / 16 == 4 then Some segment_ack

@@ -17,6 +17,10 @@ pub record Delivery : Type 0 where
 abbrev pub delivery : Carried → Delivery
 delivery carried = record { peer = station carried.peer; broadcast = carried.broadcast; apdu = carried.apdu.now }
 
+-- The station with this address in four octets and this port in two.
+abbrev pub originator : List ℕ → List ℕ → Station
+originator ip port = record { ip = big_number 4 ip; port = big_number 2 port; route = None }
+
 -- Who sent a datagram of this function, and whether to all: 10 is an Original-Unicast-NPDU and 11 an
 -- Original-Broadcast-NPDU, from where the datagram came; 4 is a Forwarded-NPDU, from the address and port in its next
 -- six octets, and always to all.
@@ -24,17 +28,11 @@ pub data SpellsOrigin (from : Station) : ℕ → List ℕ → Station → Bool �
   unicast : SpellsOrigin from 10 [] from false
   broadcast : SpellsOrigin from 11 [] from true
   forwarded : (a b c d e f : ℕ)
-      → SpellsOrigin from 4 (a ∷ b ∷ c ∷ d ∷ e ∷ f ∷ [])
-      (record { ip = big_number 4 (a ∷ b ∷ c ∷ d ∷ []); port = big_number 2 (e ∷ f ∷ []); route = None }) true
-
--- A network header that is not ignored: it names no destination but all networks, and no source but one that a route
--- leads to.
-pub record IsHeeded (header : NetworkHeader) : Type 0 where
-  pub destined : IfSome header.destination (λ to. to.network ≡ 65535)
-  pub answerable : IfSome header.source IsRoutable
+      → SpellsOrigin from 4 (a ∷ b ∷ c ∷ d ∷ e ∷ f ∷ []) (originator (a ∷ b ∷ c ∷ d ∷ []) (e ∷ f ∷ [])) true
 
 -- The datagram is the type 129, the function, the length of the whole datagram in two octets, the origin, the network
--- header and the APDU. The peer is the sender, with the source that the network header names as its route.
+-- header and the APDU. The network header names no destination but all networks, and no source but one that a route
+-- leads to. The peer is the sender, with that source as its route.
 pub record Carries (from : Station) (datagram : List ℕ) (delivery : Delivery) : Type 0 where
   pub function : ℕ
   pub high : ℕ
@@ -48,7 +46,8 @@ pub record Carries (from : Station) (datagram : List ℕ) (delivery : Delivery) 
   pub counted : big_number 2 (high ∷ low ∷ []) ≡ length datagram
   pub sent : SpellsOrigin from function origin sender to_all
   pub headed : SpellsHeader header network
-  pub heeded : IsHeeded network
+  pub destined : IfSome network.destination (λ to. to.network ≡ 65535)
+  pub answerable : IfSome network.source IsRoutable
   pub peer : delivery.peer ≡ record { ip = sender.ip; port = sender.port; route = network.source }
   pub broadcast : delivery.broadcast ≡ (to_all || is_some network.destination)
 

@@ -1,13 +1,14 @@
 -- Reading a datagram from left to right.
 use Rattle.std.specs.Prelude.{ℕ, ◌+◌, nat_lt, ◌==◌, Bool, true, false, ◌&&◌, ◌||◌, is_some, if◌then◌else◌, List, []}
 use Rattle.std.specs.Prelude.{◌∷◌, length, take, drop, Option, Some, None}
+use Rattle.std.specs.Option.{option_map_or}
 use Rattle.byteorder.specs.Endian.{big_number}
 use Rattle.bac_wire.specs.Steps.{◌>>=◌}
 use Rattle.bac_wire.specs.TagReading.{two_at}
 use Rattle.bac_pdu.specs.Bits.{bit}
 use Rattle.bac_pdu.specs.Peer.{NetworkAddress, Station}
 use Rattle.bac_pdu.specs.Header.{NetworkHeader}
-use Rattle.bac_pdu.specs.Datagram.{Delivery}
+use Rattle.bac_pdu.specs.Datagram.{Delivery, originator}
 
 -- As many octets as the first one says, and those behind them.
 abbrev pub counted_at : List ℕ → Option (List ℕ × List ℕ)
@@ -49,10 +50,7 @@ header_at _ = None
 -- The originator that a Forwarded-NPDU names, which is always for all, and the octets behind it.
 abbrev pub forwarded_at : List ℕ → Option ((Station × Bool) × List ℕ)
 forwarded_at (a ∷ b ∷ c ∷ d ∷ e ∷ f ∷ octets) =
-    Some (
-      (record { ip = big_number 4 (a ∷ b ∷ c ∷ d ∷ []); port = big_number 2 (e ∷ f ∷ []); route = None }, true),
-      octets,
-    )
+    Some ((originator (a ∷ b ∷ c ∷ d ∷ []) (e ∷ f ∷ []), true), octets)
 forwarded_at _ = None
 
 -- Who sent a datagram of this function, whether it was sent to all, and the octets behind.
@@ -77,22 +75,14 @@ abbrev pub is_routable : NetworkAddress → Bool
 is_routable to =
     nat_lt 0 to.network && (nat_lt to.network 65535 && (nat_lt 0 (length to.address) && nat_lt (length to.address) 8))
 
--- Whether the header names no destination but all networks.
-abbrev pub is_for_all : Option NetworkAddress → Bool
-is_for_all None = true
-is_for_all (Some to) = to.network == 65535
-
--- Whether the header names no source but one that a route leads to.
-abbrev pub is_answerable : Option NetworkAddress → Bool
-is_answerable None = true
-is_answerable (Some source) = is_routable source
-
--- What the datagram carries, or nothing where it is ignored.
+-- What the datagram carries, or nothing where it is ignored: where its header names a destination other than all
+-- networks, or a source that no route leads to.
 unfoldable pub carried : Station → List ℕ → Option Delivery
 carried from datagram = do
   link ← link_at from datagram
   header ← header_at link.1
-  if is_for_all header.0.destination then (if is_answerable header.0.source then
+  if option_map_or (λ to. to.network == 65535) header.0.destination true then
+      (if option_map_or is_routable header.0.source true then
       Some (record {
         peer = record { ip = link.0.0.ip; port = link.0.0.port; route = header.0.source };
         broadcast = link.0.1 || is_some header.0.destination;

@@ -1,23 +1,20 @@
 -- The bodies of Who-Is and I-Am (clauses 16.10 and 21).
 use Rattle.std.specs.Prelude.{◌≡◌, ℕ, nat_le, Bool, true, ◌&&◌, List, [], ◌∷◌, ◌++◌}
+use Rattle.std.specs.List.{flat_map}
 use Rattle.bac_wire.specs.Identifier.{Identifier, identifier}
 use Rattle.bac_wire.specs.Datum.{Datum, unsigned, enumerated, Spells, plain}
 use Rattle.bac_wire.specs.Datum as values
-use Rattle.bac_wire.specs.Parameter.{SpellsIn, IsNumber, number_octets}
+use Rattle.bac_wire.specs.Parameter.{number_octets}
 use Rattle.bac_pdu.specs.declared.discovery.IAm.{IAm}
 use Rattle.bac_pdu.specs.declared.discovery.WhoIs.{WhoIs}
 use Rattle.bac_pdu.specs.declared.discovery.WhoIs.TheVariants as limits
 use Rattle.bac_wire.specs.Front.{SpellsAll}
-use Rattle.bac_pdu.specs.Parameter.{plain_all}
-
--- A context tag of the first number, and under it the second.
-abbrev pub SpellsNumbered : List ℕ → ℕ × ℕ → Type 0
-SpellsNumbered octets x = SpellsIn IsNumber x.0 octets x.1
+use Rattle.bac_pdu.specs.Parameter.{numbered, SpellsParameter}
 
 -- The body of a Who-Is: nothing, or the low limit under tag 0 and the high one under tag 1.
 abbrev pub IsWhoIsBody : List ℕ → WhoIs → Type 0
 IsWhoIsBody body limits.All = body ≡ []
-IsWhoIsBody body (limits.Range low high) = SpellsAll SpellsNumbered body ((0, low) ∷ (1, high) ∷ [])
+IsWhoIsBody body (limits.Range low high) = SpellsAll SpellsParameter body (numbered 0 low ∷ numbered 1 high ∷ [])
 
 -- Whether a Who-Is asks for the device of this instance.
 abbrev pub asks : WhoIs → ℕ → Bool
@@ -55,4 +52,4 @@ who_is_octets (limits.Range low high) = number_octets 0 low ++ number_octets 1 h
 
 -- The body that is written of an I-Am.
 abbrev pub i_am_octets : Introduction → List ℕ
-i_am_octets i = plain_all plain (introduction_values i)
+i_am_octets i = flat_map plain (introduction_values i)

@@ -1,8 +1,8 @@
 -- The body of an Error (clauses 18 and 21).
 use Rattle.std.specs.Prelude.{ℕ, List, [], ◌∷◌}
+use Rattle.std.specs.List.{flat_map}
 use Rattle.bac_wire.specs.Datum.{enumerated, Spells, plain}
 use Rattle.bac_wire.specs.Front.{SpellsTo}
-use Rattle.bac_pdu.specs.Parameter.{plain_all}
 
 -- The body of an Error: the class and the code stand at the front, and what follows is not looked at.
 abbrev pub IsErrorBody : List ℕ → ℕ × ℕ → Type 0
@@ -10,4 +10,4 @@ IsErrorBody body x = (rest : List ℕ) × SpellsTo Spells body (enumerated x.0 �
 
 -- The body that is written of an Error.
 abbrev pub error_octets : ℕ → ℕ → List ℕ
-error_octets class code = plain_all plain (enumerated class ∷ enumerated code ∷ [])
+error_octets class code = flat_map plain (enumerated class ∷ enumerated code ∷ [])

@@ -19,18 +19,12 @@ pub record SpellsAddress (octets : List ℕ) (station : NetworkAddress) : Type 0
 -- The octets are an address where the bit that announces one is set, and nothing where it is not.
 abbrev pub SpellsAnnounced : Bool → List ℕ → Option NetworkAddress → Type 0
 SpellsAnnounced false octets None = octets ≡ []
-SpellsAnnounced false octets (Some station) = ⊥
-SpellsAnnounced true octets None = ⊥
 SpellsAnnounced true octets (Some station) = SpellsAddress octets station
-
--- The octets are a hop count where there is a destination, and nothing where there is none.
-abbrev pub SpellsHops : Bool → List ℕ → Type 0
-SpellsHops false octets = octets ≡ []
-SpellsHops true octets = (count : ℕ) × (octets ≡ count ∷ [])
+SpellsAnnounced _ octets _ = ⊥
 
 -- The version 1, the control octet, the destination, the source and the hop count. Of the control octet, bit 7 is clear
--- (it would announce a message of the network layer), bit 5 announces a destination, bit 3 a source, and bit 2 says
--- that a reply is expected.
+-- (it would announce a message of the network layer), bit 5 announces a destination and the hop count, which is one
+-- octet, bit 3 a source, and bit 2 says that a reply is expected.
 pub record SpellsHeader (octets : List ℕ) (header : NetworkHeader) : Type 0 where
   pub control : ℕ
   pub destination : List ℕ
@@ -40,7 +34,7 @@ pub record SpellsHeader (octets : List ℕ) (header : NetworkHeader) : Type 0 wh
   pub carries : bit 7 control ≡ false
   pub destined : SpellsAnnounced (bit 5 control) destination header.destination
   pub sent : SpellsAnnounced (bit 3 control) source header.source
-  pub hopped : SpellsHops (bit 5 control) hops
+  pub hopped : length hops ≡ (if bit 5 control then 1 else 0)
 
 -- ---- the form that is written
 

@@ -1,6 +1,9 @@
 -- The bodies of ReadProperty, its answer and WriteProperty: their parameters in their order (clauses 15.5, 15.9 and
 -- 21).
 use Rattle.std.specs.Prelude.{ℕ, ◌≤◌, List, [], ◌∷◌, ◌++◌, Option, IfSome}
+use Rattle.std.specs.Option.{option_map, option_to_list}
+use Rattle.std.specs.List.{flat_map}
+use Rattle.bac_wire.specs.declared.object_id.ObjectId.{ObjectId}
 use Rattle.bac_wire.specs.Identifier.{Identifier, identifier}
 use Rattle.bac_wire.specs.Tag.{plain_tag}
 use Rattle.bac_wire.specs.Region.{opening_tag, closing_tag}
@@ -8,8 +11,7 @@ use Rattle.bac_pdu.specs.declared.property.ReadRequest.{ReadRequest}
 use Rattle.bac_pdu.specs.declared.property.WriteRequest.{WriteRequest}
 use Rattle.bac_pdu.specs.declared.property.Ack.{Ack}
 use Rattle.bac_wire.specs.Front.{SpellsAll}
-use Rattle.bac_pdu.specs.Parameter.{Parameter, object, property, index, value, priority, SpellsParameter, optional}
-use Rattle.bac_pdu.specs.Parameter.{plain_parameter, plain_all}
+use Rattle.bac_pdu.specs.Parameter.{Parameter, object, numbered, value, SpellsParameter, plain_parameter}
 
 -- A property of an object, or an element of it: what a request names.
 pub record Reference : Type 0 where
@@ -30,30 +32,27 @@ pub record Order : Type 0 where
 
 -- ---- the records of the code, without where their octets lie in memory
 
+-- A property by the object, its number and an index, as each of the records has them.
+abbrev pub named : ObjectId → ℕ → Option ℕ → Reference
+named id number element = record { object = identifier id; property = number; index = element }
+
 -- What a `ReadRequest` names.
 abbrev pub reference : ReadRequest → Reference
-reference r = record { object = identifier r.object; property = r.property; index = r.index }
+reference r = named r.object r.property r.index
 
 -- What an `Ack` says.
 abbrev pub answer : Ack → Answer
-answer a = record {
-  reference = record { object = identifier a.object; property = a.property; index = a.index };
-  value = a.value.now;
-}
+answer a = record { reference = named a.object a.property a.index; value = a.value.now }
 
 -- What a `WriteRequest` says.
 abbrev pub order : WriteRequest → Order
-order w = record {
-  reference = record { object = identifier w.object; property = w.property; index = w.index };
-  value = w.value.now;
-  priority = w.priority;
-}
+order w = record { reference = named w.object w.property w.index; value = w.value.now; priority = w.priority }
 
 -- ---- the parameters in their order
 
--- The object, the property and, where it is an element, its index.
+-- The object, the property under tag 1 and, where it is an element, its index under tag 2.
 abbrev pub reference_parameters : Reference → List Parameter
-reference_parameters r = object r.object ∷ property r.property ∷ optional index r.index
+reference_parameters r = object r.object ∷ numbered 1 r.property ∷ option_to_list (option_map (numbered 2) r.index)
 
 -- The parameters of a ReadProperty-ACK.
 abbrev pub answer_parameters : Answer → List Parameter
@@ -61,7 +60,8 @@ answer_parameters a = reference_parameters a.reference ++ value a.value ∷ []
 
 -- The parameters of a WriteProperty.
 abbrev pub order_parameters : Order → List Parameter
-order_parameters o = reference_parameters o.reference ++ value o.value ∷ optional priority o.priority
+order_parameters o =
+    reference_parameters o.reference ++ value o.value ∷ option_to_list (option_map (numbered 4) o.priority)
 
 -- ---- the bodies
 
@@ -86,15 +86,15 @@ pub record IsWriteBody (body : List ℕ) (o : Order) : Type 0 where
 
 -- The body that is written of a ReadProperty.
 abbrev pub read_octets : Reference → List ℕ
-read_octets r = plain_all plain_parameter (reference_parameters r)
+read_octets r = flat_map plain_parameter (reference_parameters r)
 
 -- The body that is written of a ReadProperty-ACK.
 abbrev pub ack_octets : Answer → List ℕ
-ack_octets a = plain_all plain_parameter (answer_parameters a)
+ack_octets a = flat_map plain_parameter (answer_parameters a)
 
 -- The body that is written of a WriteProperty.
 abbrev pub write_octets : Order → List ℕ
-write_octets o = plain_all plain_parameter (order_parameters o)
+write_octets o = flat_map plain_parameter (order_parameters o)
 
 -- What stands before the value in the body of a ReadProperty-ACK: the parameters, and an opening tag 3.
 abbrev pub ack_front : Reference → List ℕ

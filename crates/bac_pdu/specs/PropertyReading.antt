@@ -1,6 +1,7 @@
 -- Reading the body of ReadProperty, of its answer or of WriteProperty from left to right.
-use Rattle.std.specs.Prelude.{ℕ, nat_lt, Bool, true, ◌&&◌, if◌then◌else◌, List, [], ◌∷◌, Option, Some, None, Result, Ok}
+use Rattle.std.specs.Prelude.{ℕ, nat_lt, true, ◌&&◌, if◌then◌else◌, List, [], ◌∷◌, Option, Some, None, Result, Ok}
 use Rattle.std.specs.Prelude.{Err}
+use Rattle.std.specs.Option.{ok_or, option_map_or}
 use Rattle.std.specs.Result.{result_ok}
 use Rattle.bac_wire.specs.Steps.{◌>>=◌}
 use Rattle.bac_wire.specs.ParameterReading.{number_at, object_at, enclosed_at}
@@ -22,53 +23,38 @@ abbrev pub and_then : {A B : Type 0} → Result A RejectReason → (A → Result
 and_then (Ok x) f = f x
 and_then (Err reason) f = Err reason
 
--- What was read; where something else stands there, the tag is invalid.
-abbrev pub or_invalid : {A : Type 0} → Option A → Result A RejectReason
-or_invalid None = Err InvalidTag
-or_invalid (Some x) = Ok x
-
--- What was read; where no octet is left for it, a parameter is missing.
+-- What was read; where no octet is left for it, a parameter is missing; where something else stands there, the tag is
+-- invalid.
 abbrev pub unless_missing : {A : Type 0} → List ℕ → Option A → Result A RejectReason
 unless_missing [] found = Err MissingParameter
-unless_missing (x ∷ xs) found = or_invalid found
+unless_missing (x ∷ xs) found = ok_or found InvalidTag
 
 -- The property that the front of a body names, and the octets behind it.
 unfoldable pub reference_at : List ℕ → Result (Reference × List ℕ) RejectReason
 reference_at body =
     and_then (unless_missing body (object_at 0 body)) (λ object.
     and_then (unless_missing object.1 (number_at 1 object.1)) (λ property.
-    Ok (
-      record { object = object.0; property = property.0; index = (optional_at 2 property.1).0 },
-      (optional_at 2 property.1).1,
-    )))
-
--- The result, where no octet is left.
-abbrev pub ended : {A : Type 0} → A → List ℕ → Result A RejectReason
-ended x [] = Ok x
-ended x (_ ∷ _) = Err TooMany
-
--- What the body of a ReadProperty asks for, or why it is rejected.
-unfoldable pub read_of : List ℕ → Result Reference RejectReason
-read_of body = and_then (reference_at body) (λ r. ended r.0 r.1)
-
--- Whether there is such a priority, or none is named.
-abbrev pub is_priority : Option ℕ → Bool
-is_priority None = true
-is_priority (Some n) = nat_lt 0 n && nat_lt n 17
-
--- What the body of a WriteProperty orders, or why it is rejected.
-unfoldable pub write_of : List ℕ → Result Order RejectReason
-write_of body =
-    and_then (reference_at body) (λ r.
-    and_then (unless_missing r.1 (enclosed_at 3 r.1)) (λ value.
-    and_then (ended (optional_at 4 value.1).0 (optional_at 4 value.1).1) (λ priority.
-    if is_priority priority then Ok (record { reference = r.0; value = value.0; priority = priority }) else Err
-    OutOfRange)))
+    let index = optional_at 2 property.1 in
+    Ok (record { object = object.0; property = property.0; index = index.0 }, index.1)))
 
 -- The result, where no octet is left.
 abbrev pub whole_of : {A : Type 0} → A → List ℕ → Option A
 whole_of x [] = Some x
 whole_of x (_ ∷ _) = None
+
+-- What the body of a ReadProperty asks for, or why it is rejected.
+unfoldable pub read_of : List ℕ → Result Reference RejectReason
+read_of body = and_then (reference_at body) (λ r. ok_or (whole_of r.0 r.1) TooMany)
+
+-- What the body of a WriteProperty orders, or why it is rejected. A priority that is named has to be 1 to 16.
+unfoldable pub write_of : List ℕ → Result Order RejectReason
+write_of body =
+    and_then (reference_at body) (λ r.
+    and_then (unless_missing r.1 (enclosed_at 3 r.1)) (λ value.
+    and_then (ok_or (whole_of (optional_at 4 value.1).0 (optional_at 4 value.1).1) TooMany) (λ priority.
+    if option_map_or (λ n. nat_lt 0 n && nat_lt n 17) priority true
+    then Ok (record { reference = r.0; value = value.0; priority = priority })
+    else Err OutOfRange)))
 
 -- What the body of a ReadProperty-ACK says.
 unfoldable pub ack_of : List ℕ → Option Answer

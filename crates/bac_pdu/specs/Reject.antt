@@ -1,10 +1,10 @@
 -- Why the body of a confirmed request is rejected (clause 18.9; which reason a body gets is this project's choice).
-use Rattle.std.specs.Prelude.{◌≡◌, ◌≢◌, ℕ, ◌⊎◌, List, [], ◌∷◌, ◌++◌, IfSome, IfOk, IfErr, Result, Ok}
+use Rattle.std.specs.Prelude.{◌≡◌, ◌≢◌, ℕ, ◌⊎◌, List, [], ◌∷◌, IfSome, IfOk, IfErr, Result, Ok}
 use Rattle.bac_wire.specs.Identifier.{Identifier}
 use Rattle.bac_pdu.specs.declared.reject.RejectReason.{RejectReason}
 use Rattle.bac_pdu.specs.declared.reject.RejectReason.TheVariants.{InvalidTag, MissingParameter, OutOfRange, TooMany}
 use Rattle.bac_pdu.specs.declared.reject.RejectReason.TheVariants.{UnknownService}
-use Rattle.bac_wire.specs.Front.{SpellsAll}
+use Rattle.bac_wire.specs.Front.{Begins, SpellsAll}
 use Rattle.bac_pdu.specs.Parameter.{object, SpellsParameter}
 use Rattle.bac_pdu.specs.Property.{Reference, Order, order_parameters, IsReadBody, IsWriteBody, IsPriority}
 
@@ -17,12 +17,8 @@ reason_number TooMany = 7
 reason_number UnknownService = 9
 
 -- The body has more octets than it should: a front of it is whole, and something follows.
-pub record HasMore (IsWhole : List ℕ → Type 0) (body : List ℕ) : Type 0 where
-  pub front : List ℕ
-  pub rest : List ℕ
-  pub whole : IsWhole front
-  pub line : body ≡ front ++ rest
-  pub more : rest ≢ []
+abbrev pub HasMore : {A : Type 0} → (List ℕ → A → Type 0) → List ℕ → Type 0
+HasMore {A} IsWhole body = (x : A) × (rest : List ℕ) × Begins IsWhole body x rest × (rest ≢ [])
 
 -- The body has no octet, or names an object alone.
 abbrev pub LacksReference : List ℕ → Type 0
@@ -31,7 +27,7 @@ LacksReference body = (body ≡ []) ⊎ ((id : Identifier) × SpellsAll SpellsPa
 -- What is wrong with the body of a ReadProperty, by reason: it has more octets than it should; no property is named; or
 -- anything else. The two other reasons never apply.
 abbrev pub ReadFault : List ℕ → RejectReason → Type 0
-ReadFault body TooMany = HasMore (λ front. (r : Reference) × IsReadBody front r) body
+ReadFault body TooMany = HasMore IsReadBody body
 ReadFault body MissingParameter = LacksReference body
 ReadFault body InvalidTag = Unit {0}
 ReadFault body _ = ⊥
@@ -41,7 +37,7 @@ ReadFault body _ = ⊥
 abbrev pub WriteFault : List ℕ → RejectReason → Type 0
 WriteFault body OutOfRange = (o : Order) × SpellsAll SpellsParameter body (order_parameters o)
     × (IfSome o.priority IsPriority → ⊥)
-WriteFault body TooMany = HasMore (λ front. (o : Order) × IsWriteBody front o) body
+WriteFault body TooMany = HasMore IsWriteBody body
 WriteFault body MissingParameter = LacksReference body ⊎ ((r : Reference) × IsReadBody body r)
 WriteFault body InvalidTag = Unit {0}
 WriteFault body UnknownService = ⊥
@@ -51,14 +47,10 @@ abbrev pub IsFirst : {A : Type 0} → (A → Type 0) → List A → A → Type 0
 IsFirst Applies [] x = ⊥
 IsFirst Applies (y ∷ ys) x = (Applies y × (x ≡ y)) ⊎ ((Applies y → ⊥) × IsFirst Applies ys x)
 
--- The reason is the first that applies, in this order.
-abbrev pub IsRejectReason : (List ℕ → RejectReason → Type 0) → List ℕ → RejectReason → Type 0
-IsRejectReason HasFault body reason =
-    IsFirst (HasFault body) (OutOfRange ∷ TooMany ∷ MissingParameter ∷ InvalidTag ∷ []) reason
-
--- The outcome is the record that the body is; where it is none, the reason to reject it.
+-- The outcome is the record that the body is; where it is none, the reason to reject it: the first that applies, in
+-- this order.
 pub record IsOutcome {A : Type 0} (IsWhole : List ℕ → A → Type 0) (HasFault : List ℕ → RejectReason → Type 0)
     (body : List ℕ) (outcome : Result A RejectReason) : Type 0 where
   pub whole : IfOk outcome (IsWhole body)
   pub all : (x : A) → IsWhole body x → outcome ≡ Ok x
-  pub rejected : IfErr outcome (IsRejectReason HasFault body)
+  pub rejected : IfErr outcome (IsFirst (HasFault body) (OutOfRange ∷ TooMany ∷ MissingParameter ∷ InvalidTag ∷ []))

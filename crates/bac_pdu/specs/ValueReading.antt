@@ -1,5 +1,5 @@
 -- Reading the bodies of Who-Is, I-Am and Error from left to right.
-use Rattle.std.specs.Prelude.{ℕ, ◌==◌, if◌then◌else◌, List, [], ◌∷◌, Option, Some, None}
+use Rattle.std.specs.Prelude.{ℕ, ◌==◌, if◌then◌else◌, List, [], Option, Some, None}
 use Rattle.bac_wire.specs.Steps.{◌>>=◌}
 use Rattle.bac_wire.specs.ParameterReading.{number_at, kind_at, unsigned_in, enumerated_in, object_in}
 use Rattle.bac_pdu.specs.declared.discovery.WhoIs.{WhoIs}
@@ -7,17 +7,13 @@ use Rattle.bac_pdu.specs.declared.discovery.WhoIs.TheVariants as limits
 use Rattle.bac_pdu.specs.Discovery.{Introduction}
 use Rattle.bac_pdu.specs.PropertyReading.{whole_of}
 
--- The two limits that the body of a Who-Is is.
-abbrev pub range_of : List ℕ → Option WhoIs
-range_of body = do
+-- Which devices the body of a Who-Is asks: all, or those between two limits.
+unfoldable pub who_is_of : List ℕ → Option WhoIs
+who_is_of [] = Some limits.All
+who_is_of body = do
   low ← number_at 0 body
   high ← number_at 1 low.1
   whole_of (limits.Range low.0 high.0) high.1
-
--- Which devices the body of a Who-Is asks.
-unfoldable pub who_is_of : List ℕ → Option WhoIs
-who_is_of [] = Some limits.All
-who_is_of (x ∷ xs) = range_of (x ∷ xs)
 
 -- What the body of an I-Am says.
 unfoldable pub introduction_of : List ℕ → Option Introduction

@@ -39,8 +39,7 @@ use std::alloc::AllocError;
 pub fn in_words()
     ensures carried { (from : Station) (datagram : List ℕ) (delivery : Delivery)
         → (carried from datagram ≡ Some delivery) ↔ Carries from datagram delivery }
-    ensures apdu { (octets : List ℕ) (message : Message)
-        → (apdu_of octets ≡ Some message) ↔ IsLaidOut octets message }
+    ensures apdu { (octets : List ℕ) (message : Message) → (apdu_of octets ≡ Some message) ↔ IsLaidOut octets message }
     ensures read { (body : List ℕ) (outcome : Result Reference AnyReason)
         → (read_of body ≡ outcome) ↔ IsOutcome IsReadBody ReadFault body outcome }
     ensures write { (body : List ℕ) (outcome : Result Order AnyReason)
@@ -55,20 +54,14 @@ pub fn in_words()
 /// What is written is read back.
 pub fn come_back()
     ensures taken { (from : Station) (expect : Bool) (apdu datagram : List ℕ)
-        → Takes None expect apdu datagram
-        → carried from datagram
-        ≡ Some (record {
-          peer = record { ip = from.ip; port = from.port; route = None };
-          broadcast = false;
-          apdu = apdu;
-        }) }
+        → Takes None expect apdu datagram → carried from datagram
+        ≡ Some (record { peer = record from { route = None }; broadcast = false; apdu = apdu }) }
     ensures apdu { (message : Message) → IsWritable message → apdu_of (laid_out message) ≡ Some message }
     ensures read { (r : Reference) → AllByRecursion IsParameter (reference_parameters r)
         → read_of (read_octets r) ≡ Ok r }
     ensures write { (o : Order) → AllByRecursion IsParameter (order_parameters o)
         → IfSome o.priority IsPriority → write_of (write_octets o) ≡ Ok o }
-    ensures ack { (a : Answer) → AllByRecursion IsParameter (answer_parameters a)
-        → ack_of (ack_octets a) ≡ Some a }
+    ensures ack { (a : Answer) → AllByRecursion IsParameter (answer_parameters a) → ack_of (ack_octets a) ≡ Some a }
     ensures limits { (low high : ℕ) → low < 2 ^ 32 → high < 2 ^ 32
         → who_is_of (who_is_octets (Range low high)) ≡ Some (Range low high) }
     ensures i_am { (i : Introduction) → i.device.kind ≡ 8
@@ -113,15 +106,16 @@ pub fn numbers()
     ensures address { ADDRESS_OCTETS ≡ 7 }
 {}
 
-/// A clone is what it was cloned from, and takes no memory.
+/// A clone of what a datagram or a Reject says is what it was cloned from, and takes no memory.
 pub fn clones_of_datagrams<'a>(
     peer: &Peer,
     route: &Route,
     carried: &Carried<'a>,
     part: &Part,
     apdu: &Apdu<'a>,
-) -> Result<(Peer, Route, Carried<'a>, Part, Apdu<'a>), AllocError>
-    ensures { result ≡ Ok (peer.now, route.now, carried.now, part.now, apdu.now) }
+    reason: &RejectReason,
+) -> Result<(Peer, Route, Carried<'a>, Part, Apdu<'a>, RejectReason), AllocError>
+    ensures { result ≡ Ok (peer.now, route.now, carried.now, part.now, apdu.now, reason.now) }
 {
     Ok((
         peer.clone()?,
@@ -129,6 +123,7 @@ pub fn clones_of_datagrams<'a>(
         carried.clone()?,
         part.clone()?,
         apdu.clone()?,
+        reason.clone()?,
     ))
 }
 
@@ -139,19 +134,8 @@ pub fn clones_of_bodies<'a>(
     read: &ReadRequest,
     ack: &Ack<'a>,
     write: &WriteRequest<'a>,
-    reason: &RejectReason,
-) -> Result<
-    (
-        WhoIs,
-        IAm,
-        ReadRequest,
-        Ack<'a>,
-        WriteRequest<'a>,
-        RejectReason,
-    ),
-    AllocError,
->
-    ensures { result ≡ Ok (limits.now, i_am.now, read.now, ack.now, write.now, reason.now) }
+) -> Result<(WhoIs, IAm, ReadRequest, Ack<'a>, WriteRequest<'a>), AllocError>
+    ensures { result ≡ Ok (limits.now, i_am.now, read.now, ack.now, write.now) }
 {
     Ok((
         limits.clone()?,
@@ -159,7 +143,6 @@ pub fn clones_of_bodies<'a>(
         read.clone()?,
         ack.clone()?,
         write.clone()?,
-        reason.clone()?,
     ))
 }
 

@@ -2,14 +2,13 @@
 
 ghost use Rattle.std.specs.Prelude.{◌≡◌, ◌<◌, ◌≤◌, ◌^◌, length, IfSome};
 ghost use Rattle.std.specs.Option.{option_map};
-ghost use Rattle.bac_wire.specs.Limits.{value_tag};
 ghost use Rattle.bac_wire.specs.Identifier.{IsIdentifier, identifier};
 ghost use Rattle.bac_wire.specs.Tag.{plain_tag};
 ghost use Rattle.bac_wire.specs.Region.{opening_tag, closing_tag};
+ghost use Rattle.bac_wire.specs.DatumReading.{number_within};
 ghost use Rattle.bac_wire.specs.ItemReading.{behind_closing};
 ghost use Rattle.bac_wire.specs.Parameter.{context_octets, number_octets, object_octets, enclosed_octets};
-ghost use Rattle.bac_wire.specs.ParameterReading.{context_at, number_of_contents, number_at, object_at, behind_opening};
-ghost use Rattle.bac_wire.specs.ParameterReading.{enclosed_at};
+ghost use Rattle.bac_wire.specs.ParameterReading.{context_at, number_at, object_at, behind_opening, enclosed_at};
 ghost use Rattle.bac_wire.specs.Writing.{Appends};
 ghost use Rattle.bac_wire.specs.Inner.Writing.{AppendsFront};
 ghost use Rattle.bac_pdu.specs.Inner.Parameter.{optional_octets};
@@ -53,7 +52,7 @@ pub(crate) fn number_and_rest(number: u8, octets: &[u8]) -> Option<(u32, &[u8])>
 }
 
 fn number_in(contents: &[u8]) -> Option<u32>
-    ensures { result ≡ number_of_contents contents.now }
+    ensures { result ≡ number_within 4 contents.now }
 {
     match contents {
         [] => None,
@@ -89,7 +88,7 @@ pub(crate) fn object_and_rest(number: u8, octets: &[u8]) -> Option<(ObjectId, &[
 /// The whole items between an opening and a closing tag 3.
 #[tactic(auto, unfolding(bac_wire::specs::ParameterReading::enclosed_at))]
 pub(crate) fn enclosed_and_rest(octets: &[u8]) -> Option<(&[u8], &[u8])>
-    ensures { option_map (λ x. (x.0.now, x.1.now)) result ≡ enclosed_at value_tag octets.now }
+    ensures { option_map (λ x. (x.0.now, x.1.now)) result ≡ enclosed_at 3 octets.now }
 {
     let inside = rest_behind_opening(octets)?;
     let (items, rest) = inside.split_at(region(inside)?);
@@ -99,7 +98,7 @@ pub(crate) fn enclosed_and_rest(octets: &[u8]) -> Option<(&[u8], &[u8])>
 
 #[tactic(auto, unfolding(bac_wire::specs::ParameterReading::behind_opening))]
 fn rest_behind_opening(octets: &[u8]) -> Option<&[u8]>
-    ensures { option_map (λ x. x.now) result ≡ behind_opening value_tag octets.now }
+    ensures { option_map (λ x. x.now) result ≡ behind_opening 3 octets.now }
 {
     let (tag, rest) = tag_and_rest(octets)?;
     match tag.shape {
@@ -110,7 +109,7 @@ fn rest_behind_opening(octets: &[u8]) -> Option<&[u8]>
 
 #[tactic(auto, unfolding(bac_wire::specs::ItemReading::behind_closing))]
 fn rest_behind_closing(octets: &[u8]) -> Option<&[u8]>
-    ensures { option_map (λ x. x.now) result ≡ behind_closing value_tag octets.now }
+    ensures { option_map (λ x. x.now) result ≡ behind_closing 3 octets.now }
 {
     let (tag, rest) = tag_and_rest(octets)?;
     match tag.shape {
@@ -193,7 +192,7 @@ fn append_four(body: &mut Frame, number: u8, contents: &[u8; 4]) -> Result<(), F
 
 /// Appends whole items between an opening and a closing tag 3. Where there is no room, a front of that may stay.
 pub(crate) fn append_enclosed(body: &mut Frame, items: &[u8]) -> Result<(), Full>
-    ensures { AppendsFront body.old (enclosed_octets value_tag items.now) body.new result }
+    ensures { AppendsFront body.old (enclosed_octets 3 items.now) body.new result }
 {
     append_opening(body)?;
     body.append(items)?;
@@ -203,7 +202,7 @@ pub(crate) fn append_enclosed(body: &mut Frame, items: &[u8]) -> Result<(), Full
 /// Appends an opening tag 3. Where there is no room, nothing is appended.
 #[tactic(auto, using(crate::proofs::ShortTags::opening_octet))]
 pub(crate) fn append_opening(body: &mut Frame) -> Result<(), Full>
-    ensures { Appends body.old (plain_tag (opening_tag value_tag)) body.new result }
+    ensures { Appends body.old (plain_tag (opening_tag 3)) body.new result }
 {
     body.append(&[16 * VALUE + 14])
 }
@@ -211,7 +210,7 @@ pub(crate) fn append_opening(body: &mut Frame) -> Result<(), Full>
 /// Appends a closing tag 3. Where there is no room, nothing is appended.
 #[tactic(auto, using(crate::proofs::ShortTags::closing_octet))]
 pub(crate) fn append_closing(body: &mut Frame) -> Result<(), Full>
-    ensures { Appends body.old (plain_tag (closing_tag value_tag)) body.new result }
+    ensures { Appends body.old (plain_tag (closing_tag 3)) body.new result }
 {
     body.append(&[16 * VALUE + 15])
 }

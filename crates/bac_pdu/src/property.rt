@@ -172,8 +172,7 @@ pub fn write_read(frame: &mut Frame, request: &ReadRequest) -> Result<(), Full>
     ensures appended { Appends frame.old (read_octets (reference request.now)) frame.new result }
     ensures shortest { OnOk result
         (IsShortest IsReadBody (read_octets (reference request.now)) (reference request.now)) }
-    ensures read_back { OnOk result
-        (read_of (read_octets (reference request.now)) ≡ Ok (reference request.now)) }
+    ensures read_back { OnOk result (read_of (read_octets (reference request.now)) ≡ Ok (reference request.now)) }
 {
     let start = frame.len();
     let appended = append_reference(frame, request);
@@ -213,8 +212,7 @@ pub fn write_write(frame: &mut Frame, request: &WriteRequest<'_>) -> Result<(), 
     requires region { IsRegion deepest request.now.value.now }
     requires priority { IfSome request.now.priority IsPriority }
     ensures appended { Appends frame.old (write_octets (order request.now)) frame.new result }
-    ensures shortest { OnOk result
-        (IsShortest IsWriteBody (write_octets (order request.now)) (order request.now)) }
+    ensures shortest { OnOk result (IsShortest IsWriteBody (write_octets (order request.now)) (order request.now)) }
     ensures read_back { OnOk result (write_of (write_octets (order request.now)) ≡ Ok (order request.now)) }
 {
     let start = frame.len();

@@ -2,6 +2,8 @@
 use Rattle.std.proofs.Common.{◌≡◌, ℕ, ◌+◌, Bool, true, List, [], ◌∷◌, ◌++◌, length, Option, Some, None, Result, Ok, Err}
 use Rattle.std.proofs.Common.{refl, sym, ◌∙◌, ap, subst, append_assoc, arith}
 use Rattle.std.specs.Prelude.{◌&&◌, slice_get, option_map, MatchOption}
+use Rattle.std.specs.Option.{option_map_or}
+use Rattle.std.specs.Result.{result_ok}
 use Rattle.std.specs.List.{list_all}
 use Rattle.std.proofs.Math.Bool.{and_assoc, and-true}
 use Rattle.bac_script.specs.declared.input.Reading.{Reading}
@@ -10,8 +12,8 @@ use Rattle.bac_script.specs.declared.tracing.TraceEnd.{TraceEnd}
 use Rattle.bac_script.specs.declared.tracing.TraceFault.{TraceFault}
 use Rattle.bac_script.specs.Line.{Said, said}
 use Rattle.bac_script.specs.Inner.Running.{Stage, ran}
-use Rattle.bac_script.specs.Script.{lines, is_nothing, says_nothing, and_then, said_from, all_said, text_of, fault_at}
-use Rattle.bac_script.specs.Script.{first_fault, EndsAs, RunsWhole}
+use Rattle.bac_script.specs.Script.{lines, is_nothing, said_from, all_said, text_of, fault_at}
+use Rattle.bac_script.specs.Script.{first_fault, text, EndsAs}
 use Rattle.bac_script.proofs.Machine.{first_stage, text_from, text_is}
 use Rattle.bac_script.proofs.Settled.{settings_first}
 
@@ -71,7 +73,8 @@ is_course (line ∷ later) stage is_first count =
         ((one : Said) → IsCourse (ran stage one).after (is_first && is_nothing one) (count + 1) later
         (said_from (is_first && is_nothing one) later)
         (course_on stage is_first count later one)) →
-        IsCourse stage is_first count (line ∷ later) (and_then s (said_from (is_first && says_nothing s) later))
+        IsCourse stage is_first count (line ∷ later)
+        (option_map_or (λ one. one ∷ said_from (is_first && is_nothing one) later) (result_ok s) [])
         (and_on stage count s (course_on stage is_first count later))
     go (Ok one) is h = record {
       text = ap (λ (xs : List ℕ). (ran stage one).text ++ xs) (h one).text;
@@ -97,6 +100,12 @@ pub fault_is : (all : List (List ℕ)) → (whole all).fault ≡ first_fault all
 fault_is all = (is_course all first_stage true 0).fault (length (all_said all) + 1) (list_all is_nothing (all_said all))
     (omega arith) refl
 
+-- The whole text was written, and the answer is the first fault, or how the input ended.
+abbrev pub RunsWhole : List ℕ → Reading → List ℕ → Result TraceEnd TraceFault → Type 0
+RunsWhole octets reading written answer = (written ≡ text octets reading)
+    × MatchOption (first_fault (lines octets reading)) (EndsAs reading (length (lines octets reading)) answer)
+    (λ fault. answer ≡ Err fault)
+
 -- A script whose course is this.
 pub runs_as : (octets : List ℕ) (reading : Reading) (one : Course) (answer : Result TraceEnd TraceFault)
     → whole (lines octets reading) ≡ one →
@@ -105,14 +114,12 @@ pub runs_as : (octets : List ℕ) (reading : Reading) (one : Course) (answer : R
 runs_as octets reading one answer is ends =
     let all = lines octets reading in
     let faults : one.fault ≡ first_fault all =
-    ap (λ (c : Course). c.fault) (sym is) ∙ fault_is all in
-    record {
-      wrote = ap (λ (c : Course). c.text) (sym is) ∙ runs_text all;
-      answered =
-          subst (λ (o : Option TraceFault).
+    ap (λ (c : Course). c.fault) (sym is) ∙ fault_is all in (
+      ap (λ (c : Course). c.text) (sym is) ∙ runs_text all,
+      subst (λ (o : Option TraceFault).
           MatchOption o (EndsAs reading (length all) answer) (λ fault. answer ≡ Err fault)) faults
-          (counted one.fault refl ends);
-    }
+          (counted one.fault refl ends),
+    )
   where
     counted : (o : Option TraceFault) → one.fault ≡ o
         → MatchOption o (EndsAs reading one.count answer) (λ fault. answer ≡ Err fault) →

@@ -1,6 +1,6 @@
 -- A script is a function of its octets and of whether they ended.
-use Rattle.std.proofs.Common.{◌≡◌, ◌⊎◌, ℕ, List, [], ◌∷◌, ◌++◌, length, Option, Some, None, Result, Ok, Err, refl, sym}
-use Rattle.std.proofs.Common.{◌∙◌, ap, inl, inr, arith}
+use Rattle.std.proofs.Common.{◌≡◌, ◌≢◌, ◌⊎◌, ℕ, List, [], ◌∷◌, ◌++◌, length, Option, Some, None, Result, Ok, Err, refl}
+use Rattle.std.proofs.Common.{sym, ◌∙◌, ap, inl, inr, arith}
 use Rattle.std.specs.Prelude.{MatchOption}
 use Rattle.std.proofs.lemmas.List.{append-nil}
 use Rattle.bac_text.specs.declared.checked.Checked.{Checked}
@@ -11,9 +11,10 @@ use Rattle.bac_script.specs.declared.tracing.TraceEnd.{TraceEnd}
 use Rattle.bac_script.specs.declared.tracing.TraceFault.{TraceFault}
 use Rattle.bac_script.specs.declared.tracing.TraceFault.TheVariants.{BadLine, LineTooLong, ReadFailed, WriteFailed}
 use Rattle.bac_script.specs.Input.{ReaderStands}
-use Rattle.bac_script.specs.Script.{lines, text, text_of, all_said, first_fault, EndsAs, RunsWhole, Runs}
+use Rattle.bac_script.specs.Script.{lines, text, text_of, all_said, first_fault, EndsAs, Runs}
 use Rattle.bac_script.specs.Tracing.{Traces}
-use Rattle.bac_script.specs.Alike.{IsFrontOf, WroteAll, AreAlike}
+use Rattle.bac_script.proofs.Courses.{RunsWhole}
+use Rattle.bac_script.specs.Alike.{IsFrontOf, AreAlike}
 
 -- How often reading met the end.
 abbrev ends : Reading → ℕ
@@ -44,13 +45,13 @@ same_lines octets Failed Failed e = refl
 front_of : (octets : List ℕ) (reading : Reading) (written : List ℕ) (answer : Result TraceEnd TraceFault)
     → Runs octets reading written answer → IsFrontOf written (text octets reading)
 front_of octets reading written (Err WriteFailed) runs = runs
-front_of octets reading written (Err ReadFailed) runs = ([], sym (append-nil written ∙ runs.wrote))
-front_of octets reading written (Err (BadLine n)) runs = ([], sym (append-nil written ∙ runs.wrote))
-front_of octets reading written (Err (LineTooLong n)) runs = ([], sym (append-nil written ∙ runs.wrote))
-front_of octets reading written (Ok end) runs = ([], sym (append-nil written ∙ runs.wrote))
+front_of octets reading written (Err ReadFailed) runs = ([], sym (append-nil written ∙ runs.0))
+front_of octets reading written (Err (BadLine n)) runs = ([], sym (append-nil written ∙ runs.0))
+front_of octets reading written (Err (LineTooLong n)) runs = ([], sym (append-nil written ∙ runs.0))
+front_of octets reading written (Ok end) runs = ([], sym (append-nil written ∙ runs.0))
 
 whole_of : (octets : List ℕ) (reading : Reading) (written : List ℕ) (answer : Result TraceEnd TraceFault)
-    → WroteAll answer → Runs octets reading written answer → RunsWhole octets reading written answer
+    → answer ≢ Err WriteFailed → Runs octets reading written answer → RunsWhole octets reading written answer
 whole_of octets reading written (Err WriteFailed) all runs = absurd (all refl)
 whole_of octets reading written (Err ReadFailed) all runs = runs
 whole_of octets reading written (Err (BadLine n)) all runs = runs
@@ -100,13 +101,13 @@ module _ (octets : List ℕ) (reading other : Reading) (alike : ends reading ≡
         same = λ all all'.
             let whole = whole_of octets reading written answer all runs in
             let whole' = whole_of octets other written' answer' all' runs' in (
-              whole.wrote ∙ same_text ∙ sym whole'.wrote,
+              whole.0 ∙ same_text ∙ sym whole'.0,
               same_answer (first_fault (lines octets other)) reading other (length (lines octets other)) answer answer'
                   alike
-                  (rw (← same_lines octets reading other alike) whole.answered) whole'.answered,
+                  (rw (← same_lines octets reading other alike) whole.1) whole'.1,
             );
-        front = λ all'. (front.0, (whole_of octets other written' answer' all' runs').wrote ∙ sym same_text ∙ front.1);
-        other_front = λ all. (front'.0, (whole_of octets reading written answer all runs).wrote ∙ same_text ∙ front'.1);
+        front = λ all'. (front.0, (whole_of octets other written' answer' all' runs').0 ∙ sym same_text ∙ front.1);
+        other_front = λ all. (front'.0, (whole_of octets reading written answer all runs).0 ∙ same_text ∙ front'.1);
         either = fronts written written' front.0 front'.0 (sym front.1 ∙ same_text ∙ front'.1);
       }
 

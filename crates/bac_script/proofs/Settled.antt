@@ -2,13 +2,16 @@
 use Rattle.std.proofs.Common.{ℕ, Bool, true, false, List, [], ◌∷◌, Option, Some, None, Result, Ok, Err}
 use Rattle.std.proofs.lemmas.Bool.{cond_both}
 use Rattle.std.specs.Prelude.{ok_or, option_map, bytes_eq, codes, slice_index, ◌==◌, if◌then◌else◌, IfSome, IfOk}
+use Rattle.std.specs.Option.{option_map_or}
+use Rattle.std.specs.Result.{result_ok}
 use Rattle.std.specs.Str.{is_utf8}
 use Rattle.bac_script.specs.declared.line.LineFault.{LineFault}
 use Rattle.bac_script.specs.declared.line.LineFault.TheVariants.{Bad}
+use Rattle.bac_tsm.specs.Events.{Data}
 use Rattle.bac_text.specs.Words.{words_of}
-use Rattle.bac_script.specs.Line.{Said, Nothing, Happens, Asks, reading_of, writing_of, arrival_of, handed, tick_of}
+use Rattle.bac_script.specs.Line.{Said, Nothing, Happens, Asks, reading_of, writing_of, arrival_of, tick_of}
 use Rattle.bac_script.specs.Line.{said_by, said_in, text_of_line, said}
-use Rattle.bac_script.specs.Script.{says_nothing, and_then, said_from, all_said}
+use Rattle.bac_script.specs.Script.{is_nothing, said_from, all_said}
 use Rattle.bac_script.proofs.Machine.{IsOther, NoSettings, SettingsFirst}
 
 -- What was found, mapped to what is no settings.
@@ -27,12 +30,14 @@ words_other (name ∷ others) =
     go : (remark reads writes hands ticks asks : Bool) →
         IfSome (if remark then Some Nothing else if reads then option_map Happens (reading_of others) else if writes
         then option_map Happens (writing_of others)
-        else if hands then option_map handed (arrival_of others) else if ticks then option_map Happens (tick_of others)
+        else if hands then option_map (λ arrival. Happens (Data arrival.from arrival.datagram)) (arrival_of others)
+        else if ticks then option_map Happens (tick_of others)
         else if asks then option_map Asks (arrival_of others) else None) IsOther
     go true reads writes hands ticks asks = tt
     go false true writes hands ticks asks = mapped_other Happens (reading_of others) (λ event. tt)
     go false false true hands ticks asks = mapped_other Happens (writing_of others) (λ event. tt)
-    go false false false true ticks asks = mapped_other handed (arrival_of others) (λ arrival. tt)
+    go false false false true ticks asks =
+        mapped_other (λ arrival. Happens (Data arrival.from arrival.datagram)) (arrival_of others) (λ arrival. tt)
     go false false false false true asks = mapped_other Happens (tick_of others) (λ event. tt)
     go false false false false false true = mapped_other Asks (arrival_of others) (λ arrival. tt)
     go false false false false false false = tt
@@ -48,7 +53,7 @@ text_other (Ok text) =
     (λ e. found_other (said_by false (words_of text)) Bad (words_other (words_of text))) (λ e. tt)
 
 other_then : (s : Result Said LineFault) (later : List Said) → IfOk s IsOther → NoSettings later
-    → NoSettings (and_then s later)
+    → NoSettings (option_map_or (λ one. one ∷ later) (result_ok s) [])
 other_then (Err fault) later h rest = tt
 other_then (Ok one) later h rest = (h, rest)
 
@@ -60,7 +65,7 @@ others_settled (line ∷ lines) =
 
 first_then : (s : Result Said LineFault) (lines : List (List ℕ)) → SettingsFirst (said_from true lines)
     → NoSettings (said_from false lines) →
-    SettingsFirst (and_then s (said_from (says_nothing s) lines))
+    SettingsFirst (option_map_or (λ one. one ∷ said_from (is_nothing one) lines) (result_ok s) [])
 first_then (Err fault) lines first others = tt
 first_then (Ok Nothing) lines first others = first
 first_then (Ok _) lines first others = others

@@ -16,16 +16,16 @@ use Rattle.bac_script.specs.declared.tracing.TraceEnd.{TraceEnd}
 use Rattle.bac_script.specs.declared.tracing.TraceFault.{TraceFault}
 use Rattle.bac_script.specs.declared.tracing.TraceFault.TheVariants.{BadLine, LineTooLong, ReadFailed, WriteFailed}
 use Rattle.bac_text.specs.Checked.{has_failed, ends_with, reads_of, last_of}
-use Rattle.bac_script.specs.Input.{HasNotEnded, ReadsNoMore, ReaderStands}
-use Rattle.bac_script.specs.Inner.Input.{TakesAndKeeps, ReadForLine, empty_reads, IsLineCut}
+use Rattle.bac_script.specs.Input.{ReadsNoMore, ReaderStands}
+use Rattle.bac_script.specs.Inner.Input.{HasNotEnded, TakesAndKeeps, ReadForLine, empty_reads, IsLineCut}
 use Rattle.bac_script.specs.Inner.Feeds.{HasNoFeed}
 use Rattle.bac_script.specs.Inner.Limits.{line_room}
 use Rattle.bac_script.specs.Line.{Said, said}
 use Rattle.bac_script.specs.Inner.Running.{Stage, Stands, new_client, device_with, ran}
-use Rattle.bac_script.specs.Script.{lines, is_nothing, fault_at, first_fault, RunsWhole, Runs}
+use Rattle.bac_script.specs.Script.{lines, is_nothing, fault_at, first_fault, Runs}
 use Rattle.bac_text.specs.Page.{held, writer_of, Writes, Prints}
-use Rattle.bac_script.specs.Tracing.{IsNeeded, Traces}
-use Rattle.bac_script.specs.Inner.Tracing.{RunsOn}
+use Rattle.bac_script.specs.Tracing.{Traces}
+use Rattle.bac_script.specs.Inner.Tracing.{IsNeeded, RunsOn}
 use Rattle.bac_script.proofs.Pieces.{NextLine, next_ended, next_long, next_last, lines-rest, lines-last, lines-ended}
 use Rattle.bac_script.proofs.Pieces.{said-whole_long}
 use Rattle.bac_script.proofs.Taken.{Takes-more, Takes-front}
@@ -34,7 +34,7 @@ use Rattle.bac_text.proofs.Known.{Gave-none}
 use Rattle.bac_text.proofs.Shown.{finished, all_written}
 use Rattle.bac_script.proofs.Machine.{first_stage}
 use Rattle.bac_script.proofs.Courses.{Course, behind, behind_both, and_on, course, course_on, whole, runs_text}
-use Rattle.bac_script.proofs.Courses.{fault_is, runs_as}
+use Rattle.bac_script.proofs.Courses.{fault_is, RunsWhole, runs_as}
 
 -- The course of each script that begins with these octets: this text, and then the course from this stage on.
 abbrev GoesOn : List ℕ → List ℕ → Stage → Bool → ℕ → Type 0
@@ -145,6 +145,10 @@ module _ {R W : Type 0} {remaining : R → Option (List ℕ)} {contents : W → 
   abbrev rest : List ℕ
   rest = drop n now
 
+  -- The lines so far, and what is held now.
+  abbrev octets_now : List ℕ
+  octets_now = (s.octets ++ line) ++ rest
+
   taken : TakesAndKeeps remaining reader reader' [] rest (s.octets ++ line)
   taken = Takes-more s.taken (Takes-front n q)
 
@@ -236,7 +240,7 @@ module _ {R W : Type 0} {remaining : R → Option (List ℕ)} {contents : W → 
       let c = rw is at cut in
       let h = rw is at stands in
       stops (Err ReadFailed) (s.printed ⨾ handed)
-      (runs_as _ reading (behind s.text (course s.stage is_first count [])) (Err ReadFailed)
+      (runs_as octets_now reading (behind s.text (course s.stage is_first count [])) (Err ReadFailed)
       (left [] (rw (is, h.0, append-nil line) (lines-rest line c.0 c.1))) (rw is refl))
 
   -- The input ends after a line feed.
@@ -248,7 +252,7 @@ module _ {R W : Type 0} {remaining : R → Option (List ℕ)} {contents : W → 
       let h = rw is at stands in
       let empty_reads : rest ≡ [] = h.0 in
       stops (Ok (record { lines = count })) (s.printed ⨾ handed)
-      (runs_as _ reading (behind s.text (course s.stage is_first count [])) (Ok (record { lines = count }))
+      (runs_as octets_now reading (behind s.text (course s.stage is_first count [])) (Ok (record { lines = count }))
       (left [] (rw (empty, empty_reads) refl)) (rw is refl))
 
   -- A line stops it.
@@ -259,8 +263,8 @@ module _ {R W : Type 0} {remaining : R → Option (List ℕ)} {contents : W → 
       let next = NextLine-from remaining reading middle reader' line rest cut stands going some in
       let at = next.same is_first ∙ bad in
       stops (Err (fault_at (count + 1) (Err fault))) (s.printed ⨾ handed)
-      (fault_runs _ reading (s.text ++ []) (count + 1) fault
-      (runs_as _ reading
+      (fault_runs octets_now reading (s.text ++ []) (count + 1) fault
+      (runs_as octets_now reading
       (record { text = s.text ++ []; fault = Some (fault_at (count + 1) (Err fault)); count = count })
       (Err (fault_at (count + 1) (Err fault)))
       (left (next.whole ∷ next.others) next.split
@@ -276,7 +280,8 @@ module _ {R W : Type 0} {remaining : R → Option (List ℕ)} {contents : W → 
       let c = rw is at cut in
       let h = rw is at stands in
       stops (Ok (record { lines = count + 1 })) (s.printed ⨾ handed ⨾ printed ⨾ prints_nothing last)
-      (runs_as _ reading (behind s.text (behind (ran s.stage one).text (course_on s.stage is_first count [] one)))
+      (runs_as octets_now reading
+      (behind s.text (behind (ran s.stage one).text (course_on s.stage is_first count [] one)))
       (Ok (record { lines = count + 1 }))
       (left (line ∷ []) (rw (is, h.0, append-nil line) (lines-last line c.0 some))
       ∙ ap (λ (r : Result Said LineFault). behind s.text (and_on s.stage count r (course_on s.stage is_first count [])))
@@ -332,10 +337,10 @@ pub front_runs : (octets : List ℕ) (reading : Reading) (printed taken rest : L
     printed ≡ taken ++ rest → Runs octets reading taken (Err WriteFailed)
 front_runs octets reading printed written rest (Err WriteFailed) runs e =
     (rest ++ runs.0, runs.1 ∙ ap (λ (xs : List ℕ). xs ++ runs.0) e ∙ append_assoc written rest runs.0)
-front_runs octets reading printed written rest (Err ReadFailed) runs e = (rest, sym runs.wrote ∙ e)
-front_runs octets reading printed written rest (Err (BadLine n)) runs e = (rest, sym runs.wrote ∙ e)
-front_runs octets reading printed written rest (Err (LineTooLong n)) runs e = (rest, sym runs.wrote ∙ e)
-front_runs octets reading printed written rest (Ok end) runs e = (rest, sym runs.wrote ∙ e)
+front_runs octets reading printed written rest (Err ReadFailed) runs e = (rest, sym runs.0 ∙ e)
+front_runs octets reading printed written rest (Err (BadLine n)) runs e = (rest, sym runs.0 ∙ e)
+front_runs octets reading printed written rest (Err (LineTooLong n)) runs e = (rest, sym runs.0 ∙ e)
+front_runs octets reading printed written rest (Ok end) runs e = (rest, sym runs.0 ∙ e)
 
 module _ {R W : Type 0} {remaining : R → Option (List ℕ)} {contents : W → Option (List ℕ)} {reader reader' : Checked R}
     {writer after back : Checked W}

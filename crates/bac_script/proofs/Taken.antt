@@ -15,7 +15,8 @@ use Rattle.bac_script.specs.Inner.Feeds.{HasNoFeed}
 use Rattle.bac_script.specs.Inner.Limits.{line_room}
 use Rattle.bac_script.specs.declared.input.Reading.{Reading}
 use Rattle.bac_script.specs.declared.input.Reading.TheVariants.{Open, AtEnd, Failed}
-use Rattle.bac_script.specs.Input.{HasNotEnded, ReaderStands}
+use Rattle.bac_script.specs.Input.{ReaderStands}
+use Rattle.bac_script.specs.Inner.Input.{HasNotEnded}
 use Rattle.bac_script.specs.Inner.Input.{TakesAndKeeps, ReadForLine, IsNext}
 use Rattle.bac_text.proofs.Known.{Gave-more}
 

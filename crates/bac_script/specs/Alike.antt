@@ -8,15 +8,11 @@ use Rattle.bac_script.specs.declared.tracing.TraceFault.TheVariants.{WriteFailed
 abbrev pub IsFrontOf : List ℕ → List ℕ → Type 0
 IsFrontOf front whole = (rest : List ℕ) × (whole ≡ front ++ rest)
 
--- The writer of this run did not fail.
-abbrev pub WroteAll : Result TraceEnd TraceFault → Type 0
-WroteAll answer = answer ≢ Err WriteFailed
-
 -- Where no writer failed, both runs wrote the same and ended alike. Where one writer failed, its run wrote a front of
 -- what the other run wrote. Where both failed, one of them wrote a front of what the other wrote.
 pub record AreAlike (written : List ℕ) (answer : Result TraceEnd TraceFault) (other : List ℕ)
     (other_answer : Result TraceEnd TraceFault) : Type 0 where
-  pub same : WroteAll answer → WroteAll other_answer → (written ≡ other) × (answer ≡ other_answer)
-  pub front : WroteAll other_answer → IsFrontOf written other
-  pub other_front : WroteAll answer → IsFrontOf other written
+  pub same : answer ≢ Err WriteFailed → other_answer ≢ Err WriteFailed → (written ≡ other) × (answer ≡ other_answer)
+  pub front : other_answer ≢ Err WriteFailed → IsFrontOf written other
+  pub other_front : answer ≢ Err WriteFailed → IsFrontOf other written
   pub either : IsFrontOf written other ⊎ IsFrontOf other written

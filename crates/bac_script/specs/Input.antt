@@ -10,10 +10,6 @@ use Rattle.bac_text.specs.Checked.{inner_of, has_failed, has_ended, ends_of, end
 abbrev pub most_reads : ℕ
 most_reads = 2 ^ 32 - 1
 
--- Since then no read gave nothing: the count of such reads is as before.
-abbrev pub HasNotEnded : {R : Type 0} → Checked R → Checked R → Type 0
-HasNotEnded before after = ends_of after ≡ ends_of before
-
 -- One read since then gave nothing, and it was the last; where the reader knows the octets that it has left, there are
 -- none.
 pub record HasEnded {R : Type 0} (remaining : R → Option (List ℕ)) (before after : Checked R) : Type 0 where
@@ -29,10 +25,11 @@ AreSpent reader = most_reads ≤ reads_of reader
 abbrev pub ReadsNoMore : {R : Type 0} → Checked R → Checked R → Type 0
 ReadsNoMore before after = reads_of after ≤ max (reads_of before) most_reads
 
--- The reader has ended or failed as `Reading` says of it, and where reading is over nothing is held.
+-- The reader has ended or failed as `Reading` says of it, and where reading is over nothing is held. Where it has not
+-- ended, no read gave nothing since then: the count of such reads is as before.
 abbrev pub ReaderStands : {R : Type 0} → (R → Option (List ℕ)) → Reading → Checked R → Checked R → List ℕ → Type 0
-ReaderStands remaining Open before after held = (has_failed after ≡ false) × HasNotEnded before after
+ReaderStands remaining Open before after held = (has_failed after ≡ false) × (ends_of after ≡ ends_of before)
 ReaderStands remaining AtEnd before after held = (held ≡ []) × (has_failed after ≡ false)
     × HasEnded remaining before after
 ReaderStands remaining Failed before after held =
-    (held ≡ []) × ((has_failed after ≡ true) ⊎ AreSpent after) × HasNotEnded before after
+    (held ≡ []) × ((has_failed after ≡ true) ⊎ AreSpent after) × (ends_of after ≡ ends_of before)

@@ -1,6 +1,7 @@
 -- The lines of a script, and what each says.
 use Rattle.std.specs.Prelude.{ℕ, ◌-◌, ◌^◌, ◌==◌, ◌&&◌, Bool, nat_lt, List, [], ◌∷◌, length, take, slice_index, bytes_eq}
 use Rattle.std.specs.Prelude.{codes, Option, Some, None, option_map, Result, Ok, Err, ok_or, if◌then◌else◌}
+use Rattle.std.specs.Result.{result_ok}
 use Rattle.std.specs.Str.{is_utf8}
 use Rattle.std.specs.Str.Lines.{strip_carriage_return}
 use Rattle.bac_tsm.specs.Events.{Event, Ask, Data, Tick}
@@ -12,8 +13,7 @@ use Rattle.bac_wire.specs.Steps.{◌>>=◌}
 use Rattle.bac_text.specs.Words.{words_of, number_up_to, octets_of, next_as, at_end}
 use Rattle.bac_text.specs.Parameters.{priority_from, write_index_of}
 use Rattle.bac_text.specs.Address.{plain_peer_of, peer_of}
-use Rattle.bac_pdu.specs.Property.{Reference, read_octets}
-use Rattle.bac_pdu.specs.Peer.{Station}
+use Rattle.bac_pdu.specs.Property.{read_octets}
 use Rattle.bac_text.specs.Pairs.{whole_body_of}
 
 -- What a line says: nothing, the client's settings, an event of the client, or a datagram that the device is asked
@@ -37,10 +37,6 @@ abbrev pub index_in : List (List ℕ) → Option (Option ℕ × List (List ℕ))
 index_in [] = Some (None, [])
 index_in (word ∷ others) = option_map (λ n. (Some n, others)) (number_up_to (2 ^ 32 - 1) word)
 
-abbrev pub reference_to : ℕ → ℕ → ℕ → Option ℕ → Reference
-reference_to kind instance property index =
-    record { object = record { kind = kind; instance = instance }; property = property; index = index }
-
 -- A ReadProperty request (service 12): PEER, KIND, INSTANCE, PROPERTY and, where there is one, INDEX.
 abbrev pub reading_of : List (List ℕ) → Option Event
 reading_of words = do
@@ -49,31 +45,25 @@ reading_of words = do
   instance ← next_as (number_up_to 4194303) kind.1
   property ← next_as (number_up_to 4194303) instance.1
   index ← index_in property.1
-  at_end index.1 (Ask peer.0 12 (read_octets (reference_to kind.0 instance.0 property.0 index.0)))
+  at_end index.1 (Ask peer.0 12 (read_octets
+      (record { object = record { kind = kind.0; instance = instance.0 }; property = property.0; index = index.0 })))
 
 -- The PRIORITY that a word says, 0 to 16.
 abbrev pub priority_of : List ℕ → Option (Option ℕ)
 priority_of word = option_map priority_from (number_up_to 16 word)
 
--- The peer that a body is for, and the body, however long it is: PEER, KIND, INSTANCE, PROPERTY, PRIORITY, INDEX, and
+-- A WriteProperty request (service 15), however long its body is: PEER, KIND, INSTANCE, PROPERTY, PRIORITY, INDEX, and
 -- tags and values.
-abbrev pub body_for : List (List ℕ) → Option (Station × Result (List ℕ) ℕ)
-body_for words = do
+abbrev pub writing_of : List (List ℕ) → Option Event
+writing_of words = do
   peer ← next_as peer_of words
   kind ← next_as (number_up_to 1023) peer.1
   instance ← next_as (number_up_to 4194303) kind.1
   property ← next_as (number_up_to 4194303) instance.1
   priority ← next_as priority_of property.1
   index ← next_as write_index_of priority.1
-  Some (peer.0, whole_body_of (record { kind = kind.0; instance = instance.0 }) property.0 index.0 priority.0 index.1)
-
--- A WriteProperty request (service 15) with this body, where the body could be read.
-abbrev pub requested : Station → Result (List ℕ) ℕ → Option Event
-requested peer (Ok body) = Some (Ask peer 15 body)
-requested peer (Err n) = None
-
-abbrev pub writing_of : List (List ℕ) → Option Event
-writing_of words = body_for words >>= (λ one. requested one.0 one.1)
+  option_map (Ask peer.0 15) (result_ok
+      (whole_body_of (record { kind = kind.0; instance = instance.0 }) property.0 index.0 priority.0 index.1))
 
 -- A datagram that comes from a peer: PEER and HEX.
 abbrev pub arrival_of : List (List ℕ) → Option Arrival
@@ -81,10 +71,6 @@ arrival_of words = do
   peer ← next_as plain_peer_of words
   octets ← next_as octets_of peer.1
   at_end octets.1 (record { from = peer.0; datagram = octets.0 })
-
--- The line says that the client is handed this datagram.
-abbrev pub handed : Arrival → Said
-handed arrival = Happens (Data arrival.from arrival.datagram)
 
 -- The time of a tick: N.
 abbrev pub tick_of : List (List ℕ) → Option Event
@@ -101,7 +87,8 @@ said_by is_first (name ∷ others) =
     else if is_first && bytes_eq name (codes "client") then settings_of others
     else if bytes_eq name (codes "read") then option_map Happens (reading_of others)
     else if bytes_eq name (codes "write") then option_map Happens (writing_of others)
-    else if bytes_eq name (codes "data") then option_map handed (arrival_of others)
+    else if bytes_eq name (codes "data")
+    then option_map (λ arrival. Happens (Data arrival.from arrival.datagram)) (arrival_of others)
     else if bytes_eq name (codes "tick") then option_map Happens (tick_of others)
     else if bytes_eq name (codes "ask") then option_map Asks (arrival_of others)
     else None

@@ -2,8 +2,10 @@
 use Rattle.std.specs.Prelude.{◌≡◌, ℕ, suc, ◌+◌, Bool, true, false, ◌&&◌, ◌||◌, ◌==◌, nat_lt, List, [], ◌∷◌, ◌++◌}
 use Rattle.std.specs.Prelude.{length, filter, slice_get, Option, Result, Ok, Err, option_map, if◌then◌else◌}
 use Rattle.std.specs.Prelude.{MatchOption}
+use Rattle.std.specs.Option.{option_map_or}
+use Rattle.std.specs.Result.{result_ok}
 use Rattle.std.specs.List.{onto_first, list_all, flat_map}
-use Rattle.bac_tsm.specs.Events.{Event, Note}
+use Rattle.bac_tsm.specs.Events.{Event, Note, Rules}
 use Rattle.bac_tsm.specs.Lookahead.{Accepted, accepted, output}
 use Rattle.bac_tsm.specs.Client.{client_rules}
 use Rattle.bac_pdu.specs.Peer.{Station}
@@ -35,25 +37,17 @@ is_line _ piece = ends_with_feed piece || nat_lt longest_line (length piece)
 abbrev pub lines : List ℕ → Reading → List (List ℕ)
 lines octets reading = filter (is_line reading) (pieces octets)
 
+-- It is said by a line that is blank or a remark.
 abbrev pub is_nothing : Said → Bool
 is_nothing Nothing = true
 is_nothing _ = false
-
--- The line is in the language and says nothing: it is blank or a remark.
-abbrev pub says_nothing : Result Said LineFault → Bool
-says_nothing (Ok one) = is_nothing one
-says_nothing (Err fault) = false
-
-abbrev pub and_then : Result Said LineFault → List Said → List Said
-and_then (Ok one) later = one ∷ later
-and_then (Err fault) later = []
 
 -- What the lines say, up to the first that is bad or too long. The flag says whether the first of them may still say
 -- settings.
 abbrev pub said_from : Bool → List (List ℕ) → List Said
 said_from is_first [] = []
 said_from is_first (line ∷ lines) =
-    and_then (said is_first line) (said_from (is_first && says_nothing (said is_first line)) lines)
+    option_map_or (λ one. one ∷ said_from (is_first && is_nothing one) lines) (result_ok (said is_first line)) []
 
 -- What the lines of a script say.
 abbrev pub all_said : List (List ℕ) → List Said
@@ -65,15 +59,12 @@ pub record ClientSettings : Type 0 where
   pub retries : ℕ
   pub first_ticket : ℕ
 
-abbrev pub usual_settings : ClientSettings
-usual_settings = record { timeout = 3000; retries = 3; first_ticket = 0 }
-
 -- The settings that a script says, where its first line that says something says them; else the usual ones.
 abbrev pub settings_in : List Said → ClientSettings
 settings_in (Nothing ∷ later) = settings_in later
 settings_in (Settings timeout retries first_ticket ∷ later) =
     record { timeout = timeout; retries = retries; first_ticket = first_ticket }
-settings_in _ = usual_settings
+settings_in _ = record { timeout = 3000; retries = 3; first_ticket = 0 }
 
 abbrev pub event_in : Said → List Event
 event_in (Happens event) = event ∷ []
@@ -91,12 +82,13 @@ arrival_in _ = []
 abbrev pub arrivals_in : List Said → List Arrival
 arrivals_in = flat_map arrival_in
 
+-- The rules of a script's client.
+abbrev pub rules_in : List Said → Rules
+rules_in all = client_rules (settings_in all).timeout (settings_in all).retries
+
 -- The requests of a script that its client accepts, in order.
 abbrev pub requests_in : List Said → List Accepted
-requests_in all =
-    accepted (client_rules (settings_in all).timeout (settings_in all).retries) (settings_in all).first_ticket
-    (events_in all)
-    (length (events_in all))
+requests_in all = accepted (rules_in all) (settings_in all).first_ticket (events_in all) (length (events_in all))
 
 -- What is printed: for each line with an event, the notes at the event's position among the events; for each datagram
 -- that the device is asked with, the next of its replies.
@@ -107,15 +99,11 @@ printed notes at (Asks arrival ∷ later) [] = []
 printed notes at (Asks arrival ∷ later) (reply ∷ replies) = reply_text reply ++ printed notes at later replies
 printed notes at (_ ∷ later) replies = printed notes at later replies
 
--- The notes are those that the look-ahead gives for a client with these settings and these events, and the replies
--- those of the demonstration device.
-abbrev pub text_with : ClientSettings → List Event → List Arrival → List Said → List ℕ
-text_with settings events arrivals all =
-    printed (output (client_rules settings.timeout settings.retries) settings.first_ticket events) 0 all
-    (replies_to small_device demo_points [] arrivals)
-
+-- The notes are those that the look-ahead gives for the script's client and its events, and the replies those of the
+-- demonstration device.
 abbrev pub text_of : List Said → List ℕ
-text_of all = text_with (settings_in all) (events_in all) (arrivals_in all) all
+text_of all = printed (output (rules_in all) (settings_in all).first_ticket (events_in all)) 0 all
+    (replies_to small_device demo_points [] (arrivals_in all))
 
 -- The text of a script: that of the lines before the first that is bad or too long, or of all lines.
 abbrev pub text : List ℕ → Reading → List ℕ
@@ -126,14 +114,12 @@ abbrev pub fault_at : ℕ → Result Said LineFault → TraceFault
 fault_at n (Err TooLong) = LineTooLong n
 fault_at n _ = BadLine n
 
--- The fault of the first line that is bad or too long, if there is one, with its number from 1.
-abbrev pub fault_after : List Said → List (List ℕ) → Option TraceFault
-fault_after before all =
-    option_map (λ line. fault_at (length before + 1) (said (list_all is_nothing before) line))
-    (slice_get all (length before))
-
+-- The fault of the first line that is bad or too long, if there is one, with its number from 1: it is the line behind
+-- those that say something in the language.
 abbrev pub first_fault : List (List ℕ) → Option TraceFault
-first_fault all = fault_after (all_said all) all
+first_fault all =
+    option_map (λ line. fault_at (length (all_said all) + 1) (said (list_all is_nothing (all_said all)) line))
+    (slice_get all (length (all_said all)))
 
 -- How a script without a fault ends: well at the end of its input, or with `ReadFailed` where its reader failed.
 -- Nothing else ends it.
@@ -142,17 +128,10 @@ EndsAs AtEnd count answer = answer ≡ Ok (record { lines = count })
 EndsAs Failed count answer = answer ≡ Err ReadFailed
 EndsAs Open count answer = ⊥
 
--- The whole text was written, and the answer is the first fault, or how the input ended.
-pub record RunsWhole (octets : List ℕ) (reading : Reading) (written : List ℕ)
-    (answer : Result TraceEnd TraceFault) : Type 0 where
-  pub wrote : written ≡ text octets reading
-  pub answered : MatchOption (first_fault (lines octets reading))
-      (EndsAs reading (length (lines octets reading)) answer) (λ fault. answer ≡ Err fault)
-
--- The whole text was written, or a front of it, where the writer failed.
+-- The whole text was written, and the answer is the first fault, or how the input ended; or, where the writer failed, a
+-- front of the text was written.
 abbrev pub Runs : List ℕ → Reading → List ℕ → Result TraceEnd TraceFault → Type 0
 Runs octets reading written (Err WriteFailed) = (rest : List ℕ) × (text octets reading ≡ written ++ rest)
-Runs octets reading written (Err ReadFailed) = RunsWhole octets reading written (Err ReadFailed)
-Runs octets reading written (Err (BadLine n)) = RunsWhole octets reading written (Err (BadLine n))
-Runs octets reading written (Err (LineTooLong n)) = RunsWhole octets reading written (Err (LineTooLong n))
-Runs octets reading written (Ok end) = RunsWhole octets reading written (Ok end)
+Runs octets reading written answer = (written ≡ text octets reading)
+    × MatchOption (first_fault (lines octets reading)) (EndsAs reading (length (lines octets reading)) answer)
+    (λ fault. answer ≡ Err fault)

@@ -5,7 +5,7 @@ use Rattle.bac_script.specs.declared.input.Reading.{Reading}
 use Rattle.bac_script.specs.declared.input.Reading.TheVariants.{Open}
 use Rattle.bac_script.specs.declared.tracing.TraceEnd.{TraceEnd}
 use Rattle.bac_script.specs.declared.tracing.TraceFault.{TraceFault}
-use Rattle.bac_script.specs.declared.tracing.TraceFault.TheVariants.{BadLine, LineTooLong, ReadFailed, WriteFailed}
+use Rattle.bac_script.specs.declared.tracing.TraceFault.TheVariants.{BadLine, LineTooLong}
 use Rattle.bac_text.specs.Checked.{reads_of, last_of, Took, Gave}
 use Rattle.bac_script.specs.Input.{ReaderStands, ReadsNoMore}
 use Rattle.bac_script.specs.Script.{lines, first_fault, Runs}
@@ -18,16 +18,12 @@ pub record LastIsNeeded {R : Type 0} (reader reader' : Checked R) (given : List 
   pub asked : reads_of reader' ≤ reads_of reader + length before + 1
   pub going : first_fault (lines before Open) ≡ None
 
--- Nothing was read, or the last read was needed.
-abbrev pub IsNeeded : {R : Type 0} → Checked R → Checked R → List ℕ → Type 0
-IsNeeded reader reader' given = ((reader' ≡ reader) × (given ≡ [])) ⊎ LastIsNeeded reader reader' given
-
--- The reader gave these octets, and reading stopped so.
+-- The reader gave these octets, and reading stopped so. Nothing was read, or the last read was needed.
 pub record HasRead {R : Type 0} (remaining : R → Option (List ℕ)) (reader reader' : Checked R) (given : List ℕ)
     (reading : Reading) : Type 0 where
   pub gave : Gave remaining reader reader' given
   pub stopped : ReaderStands remaining reading reader reader' []
-  pub needed : IsNeeded reader reader' given
+  pub needed : ((reader' ≡ reader) × (given ≡ [])) ⊎ LastIsNeeded reader reader' given
   pub spared : ReadsNoMore reader reader'
 
 -- What was written and answered is that of the script of the octets that the reader gave, and of how reading stopped.
@@ -45,5 +41,4 @@ abbrev pub trace_status_of : Result TraceEnd TraceFault → ℕ
 trace_status_of (Ok end) = 0
 trace_status_of (Err (BadLine n)) = 2
 trace_status_of (Err (LineTooLong n)) = 2
-trace_status_of (Err ReadFailed) = 3
-trace_status_of (Err WriteFailed) = 3
+trace_status_of _ = 3

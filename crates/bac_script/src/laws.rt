@@ -19,12 +19,11 @@ use std::io::{Read, Write};
 pub fn a_script_is_a_function<R: Read, S: Read, V: Write, W: Write>()
     ensures { (reader : R) (other_reader : S) (reader' : Checked R) (other_reader' : Checked S)
         (writer : V) (other_writer : W) (writer' : Checked V) (other_writer' : Checked W)
-        (answer other_answer : Result TraceEnd TraceFault)
+        (answer other : Result TraceEnd TraceFault)
         → Traces R.remaining V.contents (fresh reader) reader' (fresh writer) writer' answer
-        → Traces S.remaining W.contents (fresh other_reader) other_reader' (fresh other_writer) other_writer'
-        other_answer
+        → Traces S.remaining W.contents (fresh other_reader) other_reader' (fresh other_writer) other_writer' other
         → octets_of reader' ≡ octets_of other_reader' → ends_of reader' ≡ ends_of other_reader'
-        → AreAlike (octets_of writer') answer (octets_of other_writer') other_answer }
+        → AreAlike (octets_of writer') answer (octets_of other_writer') other }
 {}
 
 /// Between two requests of a script with the same number at least 192 others are accepted.

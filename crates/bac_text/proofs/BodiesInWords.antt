@@ -2,32 +2,40 @@
 use Rattle.std.proofs.Common.{◌≡◌, ℕ, ◌^◌, ◌<◌, ◌≤◌, List, length, Option, Some, None, Result, Ok, Err, refl, sym}
 use Rattle.std.proofs.Common.{subst, arith}
 use Rattle.std.specs.Prelude.{IfSome}
-use Rattle.std.specs.List.{AllByRecursion}
+use Rattle.std.specs.List.{AllByRecursion, flat_map}
 use Rattle.bac_wire.specs.Datum.{Datum, Spells, InRange, IsDatum, plain}
-use Rattle.bac_wire.specs.Front.{IsShortest}
+use Rattle.bac_wire.specs.Front.{IsShortest, SpellsAll}
 use Rattle.bac_wire.specs.Identifier.{Identifier, IsIdentifier}
 use Rattle.bac_wire.proofs.PlainDatum.{plain_spells}
-use Rattle.bac_pdu.specs.Parameter.{IsParameter, plain_all}
-use Rattle.bac_pdu.specs.Property.{IsWriteBody, reference_parameters, write_octets}
+use Rattle.bac_pdu.specs.Parameter.{IsParameter}
+use Rattle.bac_pdu.specs.Property.{IsPriority, IsWriteBody, reference_parameters, write_octets}
 use Rattle.bac_pdu.proofs.SequenceLaws.{whole_spell}
 use Rattle.bac_pdu.proofs.ShortestLaws.{order_is_written}
 use Rattle.bac_text.specs.declared.pairs.PairFault.TheVariants.{TooLong}
-use Rattle.bac_text.specs.Pairs.{values_in, order_of, body_with}
+use Rattle.bac_text.specs.Pairs.{values_in, order_of, body_of}
+use Rattle.bac_text.specs.Values.{values_of}
 use Rattle.bac_text.specs.Inner.Pairs.{region_with, region_of}
-use Rattle.bac_text.specs.PairsInWords.{AreWritten, IsWritten, BodiesAreWritten}
+use Rattle.bac_text.specs.PairsInWords.{IsWritten}
 use Rattle.bac_text.proofs.ValueLists.{read_all}
 use Rattle.bac_text.proofs.ValueRegions.{values_are_region}
 use Rattle.bac_text.proofs.WordRanges.{values_range, values_spelled}
 use Rattle.bac_text.proofs.WordValues.{at_most_found}
-use Rattle.bac_text.proofs.WriteBodies.{region_within}
+use Rattle.bac_text.proofs.WriteBodies.{body_with, region_within}
+
+-- A region is the spellings of the values that the words write, one after another, and is read as these values.
+pub record AreWritten (words : List (List ℕ)) (region : List ℕ) : Type 0 where
+  pub values : List Datum
+  pub said : values_in words ≡ Ok values
+  pub spelled : SpellsAll Spells region values
+  pub read : values_of region ≡ Some values
 
 -- The values of words whose spellings fit a frame, one after another.
 values_written : (words : List (List ℕ)) (values : List Datum) → values_in words ≡ Ok values
-    → length (plain_all plain values) ≤ 1497 → AreWritten words (plain_all plain values)
+    → length (flat_map plain values) ≤ 1497 → AreWritten words (flat_map plain values)
 values_written words values said fits =
     let range : AllByRecursion InRange values = rw said at (values_range words) in
     let spelled = whole_spell Spells plain IsDatum plain_spells values (values_spelled values range fits) in
-    record { values = values; said = said; spelled = spelled; read = read_all values (plain_all plain values) spelled }
+    record { values = values; said = said; spelled = spelled; read = read_all values (flat_map plain values) spelled }
 
 -- A region that was read of words.
 pub region_written : (words : List (List ℕ)) (region : List ℕ) → region_of words ≡ Ok region → AreWritten words region
@@ -37,23 +45,26 @@ region_written words region e = go (values_in words) refl e
         → AreWritten words region
     go (Err n) said e = absurd (cc)
     go (Ok values) said e =
-        let is = at_most_found TooLong 1497 (plain_all plain values) region e in
+        let is = at_most_found TooLong 1497 (flat_map plain values) region e in
         subst (AreWritten words) (sym is.0) (values_written words values said is.1)
 
 named : (object : Identifier) (property : ℕ) (index priority : Option ℕ) (region : List ℕ) → IsIdentifier object
     → property < 2 ^ 32 → IfSome index (λ n. n < 2 ^ 32) →
     AllByRecursion IsParameter (reference_parameters (order_of object property index priority region).reference)
-named object property None priority region id low h = (id, (low, tt))
-named object property (Some index) priority region id low h = (id, (low, (h, tt)))
+named object property None priority region id low h = (id, ((omega arith, low), tt))
+named object property (Some index) priority region id low h = (id, ((omega arith, low), ((omega arith, h), tt)))
 
-pub bodies_written : BodiesAreWritten
+pub bodies_written : (object : Identifier) (property : ℕ) (index priority : Option ℕ) (words : List (List ℕ))
+    (body : List ℕ) →
+    IsIdentifier object → property < 2 ^ 32 → IfSome index (λ n. n < 2 ^ 32) → IfSome priority IsPriority →
+    body_of object property index priority words ≡ Ok body → IsWritten object property index priority words body
 bodies_written object property index priority words body id low h urgent e = go (values_in words) refl e
   where
     go : (found : Result (List Datum) ℕ) → values_in words ≡ found
         → body_with object property index priority found ≡ Ok body → IsWritten object property index priority words body
     go (Err n) said e = absurd (cc)
     go (Ok values) said e =
-        let region = plain_all plain values in
+        let region = flat_map plain values in
         let order = order_of object property index priority region in
         let is = at_most_found TooLong 476 (write_octets order) body e in
         let within = region_within order in
@@ -61,7 +72,10 @@ bodies_written object property index priority words body id low h urgent e = go 
         let ordered = order_is_written order (named object property index priority region id low h)
         (values_are_region written.values region written.spelled) urgent in
         record {
+          values = written.values;
           region = region;
-          written = written;
+          said = written.said;
+          spelled = written.spelled;
+          read = written.read;
           ordered = subst (λ (w : List ℕ). IsShortest IsWriteBody w order) (sym is.0) ordered;
         }

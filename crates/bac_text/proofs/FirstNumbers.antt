@@ -6,8 +6,8 @@ use Rattle.std.specs.Str.Parse.{digits_value}
 use Rattle.std.proofs.lemmas.Bool.{cases_lt}
 use Rattle.std.proofs.lemmas.Bool.Decides.{nat_tests}
 use Rattle.std.proofs.lemmas.List.{length-take-le}
-use Rattle.bac_text.specs.Words.{is_blank, is_not_empty}
-use Rattle.bac_text.specs.Inner.Words.{IsFirstNumber}
+use Rattle.bac_text.specs.Words.{is_blank}
+use Rattle.bac_text.specs.Inner.Words.{is_not_empty, IsFirstNumber}
 use Rattle.bac_text.specs.Inner.Leading.{IsLeading}
 use Rattle.bac_text.proofs.NumberLemmas.{digit_in}
 use Rattle.bac_text.proofs.Lanes.{position_is, position_none}

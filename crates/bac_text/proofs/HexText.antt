@@ -56,5 +56,5 @@ pub ruleset digits_of_words = (digits_are_read, octets_of_digits, octets_of_othe
 
 -- An address of more than seven octets has no route.
 pub routable_digits : (network : ℕ) (digits : List ℕ) → IsTrue (is_ok (decode_of digits)) → 14 < length digits →
-    None ≡ routable network (octets_in digits)
+    None ≡ routable (record { network = network; address = octets_in digits })
 routable_digits network digits read long = let twice = length-octets_in digits read in grind (arith, nat_tests)

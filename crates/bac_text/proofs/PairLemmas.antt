@@ -4,9 +4,9 @@ use Rattle.std.proofs.Common.{Option, Some, None, Result, Ok, Err, refl, sym, �
 use Rattle.std.proofs.Common.{length-append}
 use Rattle.std.proofs.lemmas.Bool.Decides.{nat_tests}
 use Rattle.std.proofs.lemmas.List.{drop-drop, drop_all}
+use Rattle.std.specs.List.{flat_map}
 use Rattle.bac_wire.specs.Datum.{Datum, plain}
 use Rattle.bac_wire.specs.Tag.{plain_tag}
-use Rattle.bac_pdu.specs.Parameter.{plain_all}
 use Rattle.bac_text.specs.declared.value_words.ValueFault.TheVariants as faults
 use Rattle.bac_text.specs.declared.pairs.PairFault.TheVariants.{Bad}
 use Rattle.bac_text.specs.ValueWords.{value_in}
@@ -16,12 +16,12 @@ use Rattle.bac_text.specs.Inner.Pairs.{region_of}
 
 -- ---- one more value behind others
 
-plain_all-more : (values : List Datum) (value : Datum)
-    → plain_all plain (values ++ value ∷ []) ≡ plain_all plain values ++ plain value
-plain_all-more [] value = append-nil (plain value)
-plain_all-more (first ∷ others) value =
-    ap (λ (rest : List ℕ). plain first ++ rest) (plain_all-more others value)
-    ∙ sym (append_assoc (plain first) (plain_all plain others) (plain value))
+flat_map-more : (values : List Datum) (value : Datum)
+    → flat_map plain (values ++ value ∷ []) ≡ flat_map plain values ++ plain value
+flat_map-more [] value = append-nil (plain value)
+flat_map-more (first ∷ others) value =
+    ap (λ (rest : List ℕ). plain first ++ rest) (flat_map-more others value)
+    ∙ sym (append_assoc (plain first) (flat_map plain others) (plain value))
 
 -- ---- pairs from their front
 
@@ -32,8 +32,8 @@ then_values values (Err bad) = Err bad
 
 -- What was appended of these values, and whether they have passed the room.
 abbrev pub Stands : Bool → List ℕ → List Datum → Type 0
-Stands true region values = 1497 < length (plain_all plain values)
-Stands false region values = (region ≡ plain_all plain values) × (length region ≤ 1497)
+Stands true region values = 1497 < length (flat_map plain values)
+Stands false region values = (region ≡ flat_map plain values) × (length region ≤ 1497)
 
 -- The pair with this number is next.
 pub record Progress (all left : List (List ℕ)) (number : ℕ) (region : List ℕ) (is_too_long : Bool) : Type 0 where
@@ -63,14 +63,14 @@ stands-more : (b : Bool) (region new : List ℕ) (values : List Datum) (value : 
     → appended region (Some value) ≡ Ok new →
     Stands b new (values ++ value ∷ [])
 stands-more b region new values value stands e =
-    let more = plain_all-more values value in
+    let more = flat_map-more values value in
     grind (arith, nat_tests, length-append)
 
 stands-long : (b : Bool) (region : List ℕ) (values : List Datum) (value : Datum) → Stands b region values
     → appended region (Some value) ≡ Err faults.TooLong →
-    1497 < length (plain_all plain (values ++ value ∷ []))
+    1497 < length (flat_map plain (values ++ value ∷ []))
 stands-long b region values value stands e =
-    let more = plain_all-more values value in
+    let more = flat_map-more values value in
     grind (arith, nat_tests, length-append)
 
 -- No pair was taken yet.
@@ -146,7 +146,7 @@ values_in-some : (words : List (List ℕ)) (value : Datum) (others : List Datum)
 values_in-some [] value others e = absurd (cc)
 values_in-some (tag ∷ words) value others e = e
 
-plain_some : (value : Datum) (others : List Datum) → 0 < length (plain_all plain (value ∷ others))
+plain_some : (value : Datum) (others : List Datum) → 0 < length (flat_map plain (value ∷ others))
 unfolding plain plain_tag
 plain_some value others = omega arith
 
@@ -163,7 +163,7 @@ pub progress-none : (all left : List (List ℕ)) (n : ℕ) (region : List ℕ) �
     → region ≡ [] → all ≡ []
 progress-none all left n region p e none = go p.values (p.said ∙ said-all p.values n left e) (sym p.stands.0 ∙ none)
   where
-    go : (values : List Datum) → pairs_from 1 all ≡ Ok values → plain_all plain values ≡ [] → all ≡ []
+    go : (values : List Datum) → pairs_from 1 all ≡ Ok values → flat_map plain values ≡ [] → all ≡ []
     go [] said same = none_said all said
     go (value ∷ others) said same =
         absurd (let size = ap length same in let some = plain_some value others in omega arith)

@@ -1,7 +1,7 @@
 -- The values that a region is, from its front.
 use Rattle.std.proofs.Common.{◌≡◌, ℕ, zero, suc, ◌+◌, ◌<◌, ◌≤◌, List, [], ◌∷◌, length, Option, Some, None, refl, sym}
 use Rattle.std.proofs.Common.{◌∙◌, ap, subst, arith}
-use Rattle.std.specs.Prelude.{option_map}
+use Rattle.std.specs.Prelude.{◌↔◌, option_map}
 use Rattle.std.proofs.lemmas.Bool.Decides.{nat_tests}
 use Rattle.std.proofs.lemmas.Option.{none-some}
 use Rattle.bac_wire.specs.Datum.{Datum, Spells}
@@ -11,7 +11,6 @@ use Rattle.bac_wire.proofs.RegionReading.{tag_shorter}
 use Rattle.bac_wire.specs.Front.{SpellsAll}
 use Rattle.bac_pdu.proofs.SequenceLaws.{begins, begins_read}
 use Rattle.bac_wire.specs.Steps.{◌>>=◌}
-use Rattle.bac_text.specs.ValuesInWords.{AreSpelled}
 use Rattle.bac_text.specs.Values.{values_within, values_of}
 
 -- A value has an octet at least.
@@ -19,8 +18,9 @@ pub value-shorter : (octets : List ℕ) (value : Datum) (rest : List ℕ) → va
     → length rest < length octets
 value-shorter octets value rest e =
     let b = begins Spells value_at value_reader octets value rest e in
+    let t = b.spelled.tagged in
     subst (λ (w : List ℕ). length rest < length w) (sym b.whole)
-    (tag_shorter b.spelled.tag b.spelled.contents b.front rest _ b.spelled.tagged b.spelled.whole)
+    (tag_shorter t.front b.spelled.contents b.front rest _ t.spelled t.whole)
 
 -- The values of the octets behind the first, after it.
 abbrev then_others : ℕ → Option (Datum × List ℕ) → Option (List Datum)
@@ -128,5 +128,6 @@ read_all (value ∷ others) octets s =
     values-first octets value s.0 (begins_read Spells value_at value_reader octets value s.0 s.1)
     ∙ ap (option_map (λ more. value ∷ more)) (read_all others s.0 s.2)
 
-pub are_spelled : AreSpelled
+pub are_spelled : (region : List ℕ) (values : List Datum)
+    → (values_of region ≡ Some values) ↔ SpellsAll Spells region values
 are_spelled region values = (spelled values region, read_all values region)

@@ -24,9 +24,7 @@ contents_counted contents (values.object id) held = refl
 value_item : (octets : List ℕ) (value : Datum) → Spells octets value → IsItem 32 octets
 value_item octets value s = inl (record {
   tag = tag_before value (length s.contents);
-  spelling = s.tag;
   contents = s.contents;
-  whole = s.whole;
   tagged = s.tagged;
   counted = contents_counted s.contents value s.held;
 })

@@ -1,9 +1,11 @@
 -- The texts of values, and of what they are made of.
-use Rattle.std.proofs.Common.{◌≡◌, ℕ, ◌+◌, ◌-◌, ◌<◌, false, List, [], ◌∷◌, ◌++◌, length, take, get_or, Option, Some}
-use Rattle.std.proofs.Common.{None, refl, sym, ◌∙◌, ap, arith, append_assoc, decimal}
+use Rattle.std.proofs.Common.{◌≡◌, ℕ, ◌+◌, ◌-◌, ◌*◌, ◌<◌, min, false, List, [], ◌∷◌, ◌++◌, length, take, get_or, Option}
+use Rattle.std.proofs.Common.{Some, None, refl, sym, ◌∙◌, ap, arith, append_assoc, length-append, decimal}
 use Rattle.std.specs.Prelude.{◌==◌, ℤ, pos, negsuc, ◌<ℤ◌, unsigned_abs, option_map, IfSome}
 use Rattle.std.specs.Fmt.{signed_decimal}
 use Rattle.std.specs.List.{flat_map}
+use Rattle.std.specs.Option.{option_map_or}
+use Rattle.std.proofs.Math.Seq.{take-append-add}
 use Rattle.std.proofs.lemmas.List.{append-nil, take_more}
 use Rattle.std.proofs.lemmas.List.Concat.{flat_map-append}
 use Rattle.std.proofs.lemmas.Option.{none-some}
@@ -14,9 +16,9 @@ use Rattle.bac_text.specs.declared.page.Page.{Page}
 use Rattle.bac_text.specs.Page.{Prints}
 use Rattle.std.specs.Prelude.{codes}
 use Rattle.hex.specs.Hex.{encode_lower}
-use Rattle.bac_text.specs.Values.{octet_bits, bits_text, datum_text, values_within, values_of, joined, text_or_octets}
+use Rattle.bac_text.specs.Values.{octet_bits, bits_text, datum_text, values_within, values_of, values_text}
 use Rattle.bac_text.specs.Values.{region_text}
-use Rattle.bac_text.specs.Inner.Values.{separator}
+use Rattle.bac_text.specs.Inner.Values.{joined, separator}
 use Rattle.bac_text.proofs.Printed.{◌⨾◌, printed_as, prints_nothing}
 use Rattle.bac_text.proofs.ValueLists.{values-none, values-first, values-empty}
 
@@ -31,12 +33,21 @@ pub signed_negative : (z : ℤ) → z <ℤ pos 0 → 45 ∷ decimal (unsigned_ab
 signed_negative (pos n) h = absurd (omega (arith, ints))
 signed_negative (negsuc n) h = refl
 
+length_bits : (octets : List ℕ) → length (flat_map octet_bits octets) ≡ 8 * length octets
+length_bits [] = refl
+length_bits (x ∷ xs) = omega (arith, length-append (octet_bits x) (flat_map octet_bits xs), length_bits xs)
+
 -- The bits of octets, of which the last is known.
 pub bits_last : (others : List ℕ) (last unused : ℕ) →
     flat_map octet_bits others ++ take (8 - unused) (octet_bits last) ≡ bits_text unused (others ++ last ∷ [])
-bits_last [] last unused = refl
-bits_last (x ∷ []) last unused = refl
-bits_last (x ∷ y ∷ ys) last unused = ap (λ (bits : List ℕ). octet_bits x ++ bits) (bits_last (y ∷ ys) last unused)
+bits_last others last unused =
+    let front = flat_map octet_bits others in
+    let count : length front + (8 - unused) ≡ 8 * length (others ++ last ∷ []) - min unused 8 =
+    omega (arith, length_bits others, length-append others (last ∷ [])) in
+    sym (take-append-add front (octet_bits last) (8 - unused)) ∙ ap (λ (n : ℕ). take n (front ++ octet_bits last)) count
+    ∙ ap (λ (bits : List ℕ). take (8 * length (others ++ last ∷ []) - min unused 8) bits)
+    (ap (λ (bits : List ℕ). front ++ bits) (sym (append-nil (octet_bits last)))
+    ∙ sym (flat_map-append octet_bits others (last ∷ [])))
 
 -- One more value, and a comma where others follow.
 one_more : (first : Datum) (more : List Datum) (behind : List ℕ) → values_of behind ≡ Some more →
@@ -119,7 +130,7 @@ module _ {W : Type 0} {contents : W → Option (List ℕ)} where
     where
       go : (found : Option (List Datum)) → Some count ≡ option_map length found
           → IfSome found (λ values. Prints contents first second (joined values)) →
-          Prints contents before after (text_or_octets region found)
+          Prints contents before after (option_map_or values_text found (codes "hex " ++ encode_lower region))
       go None e p = absurd (none-some count (sym e))
       go (Some values) e p =
           let same : count ≡ length values = cc in

@@ -9,7 +9,8 @@ use Rattle.std.proofs.lemmas.List.{drop_all, take_rest}
 use Rattle.std.proofs.lemmas.List.Splits.{slice_split-cons_yes, slice_split-cons_no, length-slice_split}
 use Rattle.std.proofs.lemmas.Bool.{not-true}
 use Rattle.std.proofs.lemmas.Bool.Decides.{nat_tests}
-use Rattle.bac_text.specs.Words.{words_of, is_blank, is_not_empty}
+use Rattle.bac_text.specs.Words.{words_of, is_blank}
+use Rattle.bac_text.specs.Inner.Words.{is_not_empty}
 
 -- how many blanks stand first, and how many other octets
 abbrev blanks : List ℕ → ℕ

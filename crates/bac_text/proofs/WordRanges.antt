@@ -1,16 +1,18 @@
 -- The values that words write are within the ranges of their kinds, so they have spellings.
-use Rattle.std.proofs.Common.{◌≡◌, ℕ, ◌+◌, ◌≤◌, Bool, true, false, List, [], ◌∷◌, length, Option, Result, arith}
-use Rattle.std.proofs.Common.{length-append}
+use Rattle.std.proofs.Common.{◌≡◌, ℕ, ◌+◌, ◌≤◌, Bool, true, false, List, [], ◌∷◌, length, Option, Result, Ok, Err}
+use Rattle.std.proofs.Common.{refl, sym, ◌∙◌, arith, length-append}
 use Rattle.std.specs.Prelude.{◌==◌, if◌then◌else◌, option_map, IfSome, IfOk}
-use Rattle.std.specs.List.{AllByRecursion}
+use Rattle.std.specs.List.{AllByRecursion, flat_map}
+use Rattle.std.specs.Result.{result_ok}
 use Rattle.std.proofs.lemmas.Bool.Decides.{nat_tests}
 use Rattle.std.proofs.lemmas.Int.{ints}
-use Rattle.hex.proofs.HexLemmas.{decode_of-ok}
+use Rattle.hex.proofs.HexLemmas.{decode_of-ok, decode_sized-ok, decode_sized-twice}
+use Rattle.hex.specs.Hex.{decode_sized}
+use Rattle.hex.specs.declared.error.FromHexError.{FromHexError}
 use Rattle.bac_wire.specs.Datum.{Datum, signed, object, InRange, IsDatum, plain}
 use Rattle.bac_wire.proofs.ShortestDatum.{written_datum}
-use Rattle.bac_pdu.specs.Parameter.{plain_all}
 use Rattle.bac_text.specs.Words.{number_up_to}
-use Rattle.bac_text.specs.ValueWords.{signed_in, octets_exactly, bits_in, object_in, value_under, value_in}
+use Rattle.bac_text.specs.ValueWords.{signed_in, bits_in, object_in, value_under, value_in}
 use Rattle.bac_text.specs.Pairs.{value_before, pairs_from, values_in}
 
 either : (b : Bool) (x y : Option Datum) → IfSome x InRange → IfSome y InRange → IfSome (if b then x else y) InRange
@@ -23,11 +25,19 @@ number_most : (most : ℕ) (word : List ℕ) → IfSome (number_up_to most word)
 number_most most word = grind (arith, nat_tests)
 
 signed_range : (word : List ℕ) → IfSome (option_map signed (signed_in word)) InRange
-signed_range [] = tt
-signed_range (first ∷ digits) = grind (arith, ints, nat_tests, number_most)
+signed_range word = grind (arith, ints, nat_tests, number_most)
 
-exactly_range : (count : ℕ) (word : List ℕ) → IfSome (octets_exactly count word) (λ octets. length octets ≡ count)
-exactly_range count word = grind (arith, nat_tests, decode_of-ok)
+exactly_range : (count : ℕ) (word : List ℕ)
+    → IfSome (result_ok (decode_sized word count)) (λ octets. length octets ≡ count)
+exactly_range count word = go (decode_sized word count) refl
+  where
+    go : (found : Result (List ℕ) FromHexError) → decode_sized word count ≡ found
+        → IfSome (result_ok found) (λ octets. length octets ≡ count)
+    go (Err fault) is = tt
+    go (Ok octets) is =
+        let digits = decode_sized-ok word count octets is in
+        let twice = (decode_of-ok word octets (sym (decode_sized-twice word count digits) ∙ is)).2 in
+        omega (arith, digits, twice)
 
 bits_range : (digits : List ℕ) → IfSome (bits_in digits) InRange
 bits_range digits = grind (arith, nat_tests)
@@ -74,9 +84,9 @@ values_range [] = tt
 values_range (tag ∷ others) = pairs_range 1 (tag ∷ others)
 
 -- Values whose spellings fit a frame are spelled by them.
-pub values_spelled : (values : List Datum) → AllByRecursion InRange values → length (plain_all plain values) ≤ 1497
+pub values_spelled : (values : List Datum) → AllByRecursion InRange values → length (flat_map plain values) ≤ 1497
     → AllByRecursion IsDatum values
 values_spelled [] h fits = tt
 values_spelled (value ∷ others) h fits =
-    let size = length-append (plain value) (plain_all plain others) in
+    let size = length-append (plain value) (flat_map plain others) in
     (written_datum value 0 h.0 (omega arith), values_spelled others h.1 (omega arith))

@@ -1,21 +1,23 @@
 -- What is appended of a value, and the words of each kind.
 use Rattle.std.proofs.Common.{◌≡◌, ℕ, ◌+◌, ◌-◌, ◌*◌, ◌/◌, ◌%◌, ◌<◌, ◌≤◌, true, List, length, take, drop, get_or, Some}
 use Rattle.std.proofs.Common.{Result, Ok, Err, refl, ◌∙◌, arith, length-append}
-use Rattle.std.specs.Prelude.{option_map, map, MatchResult}
+use Rattle.std.specs.Prelude.{◌==◌, ◌||◌, option_map, map, MatchResult}
 use Rattle.std.specs.Char.{is_ascii_hexdigit}
+use Rattle.std.specs.Int.{div_ceil}
 use Rattle.std.specs.List.{list_all, range_with_len}
+use Rattle.std.specs.Result.{result_ok}
 use Rattle.std.proofs.lemmas.Bool.Decides.{nat_tests}
 use Rattle.std.proofs.lemmas.List.{get_or-take, length-take-le}
 use Rattle.std.proofs.lemmas.List.FromFn.{fill_by_all, length-map-range_with_len}
-use Rattle.hex.specs.Hex.{decode_sized}
+use Rattle.hex.specs.Hex.{decode_of, decode_sized}
 use Rattle.hex.specs.declared.error.FromHexError.{FromHexError}
 use Rattle.hex.proofs.HexLemmas.{decode_of-ok, decode_sized-twice}
 use Rattle.bac_wire.specs.Datum.{Datum, octet_string, bit_string, plain, plain_contents, tag_before}
 use Rattle.bac_wire.specs.Tag.{plain_tag}
 use Rattle.bac_text.proofs.HexText.{digits_decoded}
 use Rattle.bac_text.specs.declared.value_words.ValueFault.TheVariants.{TooLong}
-use Rattle.bac_text.specs.ValueWords.{hex_in, is_bit_digit, bits_octet, octets_for, bits_octets, bits_in, at_most}
-use Rattle.bac_text.specs.Inner.ValueWords.{appended}
+use Rattle.bac_text.specs.ValueWords.{bits_octet, bits_octets, bits_in}
+use Rattle.bac_text.specs.Inner.ValueWords.{at_most, appended}
 
 -- What has no more octets than it may is as it was.
 pub at_most_found : {E : Type 0} (fault : E) (most : ℕ) (octets found : List ℕ) → at_most fault most octets ≡ Ok found →
@@ -43,7 +45,7 @@ pub octets-decoded : (word out room : List ℕ) (n : ℕ) (r : Result Unit FromH
     → list_all is_ascii_hexdigit word ≡ true →
     length word ≡ 2 * n → n ≤ length room →
     MatchResult (decode_sized word (length (take n room))) (λ bytes. (r ≡ Ok tt) × (out ≡ bytes)) (λ e. r ≡ Err e)
-    → hex_in word ≡ Some out
+    → result_ok (decode_of word) ≡ Some out
 octets-decoded word out room n r digits size fits match =
     let found = digits_decoded word (omega arith) digits in
     let same = rw (length-take-le n room fits, decode_sized-twice word n size, found.1) at match in
@@ -51,7 +53,7 @@ octets-decoded word out room n r digits size fits match =
 
 pub octets-long : (region word : List ℕ) → length word % 2 ≡ 0 → list_all is_ascii_hexdigit word ≡ true
     → 1497 < length word / 2 →
-    appended region (option_map octet_string (hex_in word)) ≡ Err TooLong
+    appended region (option_map octet_string (result_ok (decode_of word))) ≡ Err TooLong
 octets-long region word even digits long =
     let found = digits_decoded word even digits in
     let size = plain_length (octet_string found.0) in
@@ -60,8 +62,9 @@ octets-long region word even digits long =
 
 -- ---- bits
 
-pub bits-written : (digits room : List ℕ) (count unused : ℕ) → list_all is_bit_digit digits ≡ true
-    → count ≡ octets_for (length digits) → count ≤ length room →
+pub bits-written : (digits room : List ℕ) (count unused : ℕ)
+    → list_all (λ digit. digit == 48 || digit == 49) digits ≡ true
+    → count ≡ div_ceil (length digits) 8 → count ≤ length room →
     ((k : ℕ) → k < count → get_or room k 0 ≡ bits_octet (drop (8 * k) digits)) → unused ≡ 8 * count - length digits →
     bits_in digits ≡ Some (bit_string unused (take count room))
 bits-written digits room count unused bits size room_for each rest =
@@ -70,10 +73,11 @@ bits-written digits room count unused bits size room_for each rest =
     (λ k h. get_or-take count room k 0 h ∙ each k h) in
     rw (bits, rest, same, size) refl
 
-pub bits-long : (region digits : List ℕ) → list_all is_bit_digit digits ≡ true → 1497 < octets_for (length digits)
+pub bits-long : (region digits : List ℕ) → list_all (λ digit. digit == 48 || digit == 49) digits ≡ true
+    → 1497 < div_ceil (length digits) 8
     → appended region (bits_in digits) ≡ Err TooLong
 bits-long region digits bits long =
-    let value = bit_string (8 * octets_for (length digits) - length digits) (bits_octets digits) in
+    let value = bit_string (8 * div_ceil (length digits) 8 - length digits) (bits_octets digits) in
     let size = plain_length value in
-    let count = length-map-range_with_len (λ k. bits_octet (drop (8 * k) digits)) 0 (octets_for (length digits)) in
+    let count = length-map-range_with_len (λ k. bits_octet (drop (8 * k) digits)) 0 (div_ceil (length digits) 8) in
     rw bits (appended-full region value (omega arith))

@@ -1,28 +1,37 @@
 -- The body of a WriteProperty request, by the region in it.
 use Rattle.std.proofs.Common.{◌≡◌, ℕ, ◌≤◌, List, [], ◌∷◌, ◌++◌, length, Option, Result, Ok, Err, arith, length-append}
 use Rattle.std.proofs.lemmas.Bool.Decides.{nat_tests}
+use Rattle.std.specs.List.{flat_map}
 use Rattle.bac_wire.specs.Datum.{Datum, plain}
 use Rattle.bac_wire.specs.Identifier.{Identifier}
 use Rattle.bac_wire.specs.Region.{opening_tag, closing_tag}
+use Rattle.bac_wire.specs.Steps.{result_seen}
 use Rattle.bac_wire.specs.Parameter.{enclosed_octets}
 use Rattle.bac_wire.specs.Tag.{plain_tag}
 use Rattle.bac_pdu.specs.Parameter as parameters
-use Rattle.bac_pdu.specs.Parameter.{Parameter, optional, plain_parameter, plain_all}
+use Rattle.bac_pdu.specs.Parameter.{Parameter, plain_parameter}
+use Rattle.bac_pdu.specs.Inner.Parameter.{optional}
 use Rattle.bac_pdu.specs.Property.{Order, reference_parameters, write_octets}
 use Rattle.bac_text.specs.declared.pairs.PairFault.{PairFault}
 use Rattle.bac_text.specs.declared.pairs.PairFault.TheVariants.{TooLong}
-use Rattle.bac_text.specs.ValueWords.{at_most}
-use Rattle.bac_text.specs.Pairs.{values_in, order_of, body_with, body_of}
+use Rattle.bac_text.specs.Inner.ValueWords.{at_most}
+use Rattle.bac_text.specs.Pairs.{values_in, sendable, order_of, body_of}
 use Rattle.bac_text.specs.Inner.Pairs.{region_with, region_of}
 use Rattle.bac_text.proofs.WordValues.{at_most_fault}
 
+-- The body that orders the values that were found, if it can be sent.
+abbrev pub body_with : Identifier → ℕ → Option ℕ → Option ℕ → Result (List Datum) ℕ → Result (List ℕ) PairFault
+body_with object property index priority found =
+    sendable (result_seen (λ values. write_octets (order_of object property index priority (flat_map plain values)))
+    found)
+
 parameters_within : (front behind : List Parameter) (region : List ℕ)
-    → length region ≤ length (plain_all plain_parameter (front ++ parameters.value region ∷ behind))
+    → length region ≤ length (flat_map plain_parameter (front ++ parameters.value region ∷ behind))
 unfolding plain_parameter
 parameters_within [] behind region =
     omega (
       arith,
-      length-append (enclosed_octets 3 region) (plain_all plain_parameter behind),
+      length-append (enclosed_octets 3 region) (flat_map plain_parameter behind),
       length-append (plain_tag (opening_tag 3)) (region ++ plain_tag (closing_tag 3)),
       length-append region (plain_tag (closing_tag 3)),
     )
@@ -31,13 +40,14 @@ parameters_within (first ∷ others) behind region =
     omega (
       arith,
       length-append (plain_parameter first)
-          (plain_all plain_parameter (others ++ parameters.value region ∷ behind)),
+          (flat_map plain_parameter (others ++ parameters.value region ∷ behind)),
       rest,
     )
 
 -- A body has its region in it.
 pub region_within : (o : Order) → length o.value ≤ length (write_octets o)
-region_within o = parameters_within (reference_parameters o.reference) (optional parameters.priority o.priority) o.value
+region_within o =
+    parameters_within (reference_parameters o.reference) (optional (parameters.numbered 4) o.priority) o.value
 
 pub body-fault : (object : Identifier) (property : ℕ) (index priority : Option ℕ) (words : List (List ℕ))
     (fault : PairFault) →
@@ -45,14 +55,14 @@ pub body-fault : (object : Identifier) (property : ℕ) (index priority : Option
 body-fault object property index priority words fault e = go (values_in words) e
   where
     within : (values : List Datum)
-        → length (plain_all plain values) ≤ length
-        (write_octets (order_of object property index priority (plain_all plain values)))
-    within values = region_within (order_of object property index priority (plain_all plain values))
+        → length (flat_map plain values) ≤ length
+        (write_octets (order_of object property index priority (flat_map plain values)))
+    within values = region_within (order_of object property index priority (flat_map plain values))
 
-    long : (values : List Datum) → at_most TooLong 1497 (plain_all plain values) ≡ Err fault →
+    long : (values : List Datum) → at_most TooLong 1497 (flat_map plain values) ≡ Err fault →
         body_with object property index priority (Ok values) ≡ Err fault
     long values e =
-        let past = at_most_fault TooLong fault 1497 (plain_all plain values) e in
+        let past = at_most_fault TooLong fault 1497 (flat_map plain values) e in
         let size = within values in
         grind (arith, nat_tests)
 

@@ -1,6 +1,7 @@
 -- A peer as it is written: four numbers joined by dots, a port after a colon, and a route after a slash.
 use Rattle.std.specs.Prelude.{ℕ, ◌+◌, ◌*◌, ◌==◌, nat_le, List, length, take, drop, Option, Some, None, option_map}
-use Rattle.std.specs.Prelude.{position, if◌then◌else◌}
+use Rattle.std.specs.Prelude.{position, codes, unwrap_or, if◌then◌else◌}
+use Rattle.std.specs.Option.{option_map_or}
 use Rattle.bac_pdu.specs.Peer.{NetworkAddress, Station}
 use Rattle.bac_pdu.specs.DatagramReading.{is_routable}
 use Rattle.bac_wire.specs.Steps.{◌>>=◌}
@@ -16,46 +17,31 @@ short_number digits limit text = if nat_le (length text) digits then number_up_t
 
 -- A number up to 255 before a dot (46), and what stands behind that.
 abbrev pub number_before_dot : List ℕ → Option (ℕ × List ℕ)
-number_before_dot text = do
-  parts ← cut_at 46 text
-  n ← short_number 3 255 parts.0
-  Some (n, parts.1)
+number_before_dot text = cut_at 46 text >>= (λ parts. option_map (λ n. (n, parts.1)) (short_number 3 255 parts.0))
 
--- A number, a dot and the rest of an address, after the numbers before it.
-abbrev pub number_then : (ℕ → List ℕ → Option ℕ) → ℕ → List ℕ → Option ℕ
-number_then rest high text = do
-  found ← number_before_dot text
-  rest (high * 256 + found.0) found.1
-
--- The last number of an address, after the numbers before it.
-abbrev pub last_number : ℕ → List ℕ → Option ℕ
-last_number high text = option_map (λ n. high * 256 + n) (short_number 3 255 text)
-
--- Four numbers joined by dots.
+-- Four numbers joined by dots, the highest first.
 abbrev pub address_of : List ℕ → Option ℕ
-address_of text = number_then (number_then (number_then last_number)) 0 text
+address_of text = do
+  first ← number_before_dot text
+  second ← number_before_dot first.1
+  third ← number_before_dot second.1
+  fourth ← short_number 3 255 third.1
+  Some (((first.0 * 256 + second.0) * 256 + third.0) * 256 + fourth)
 
-abbrev pub station_at : List ℕ → Option ℕ → Option Station
-station_at address port = do
-  port ← port
-  ip ← address_of address
+-- An address and a port.
+abbrev pub station_at : List ℕ × List ℕ → Option Station
+station_at parts = do
+  port ← short_number 5 65535 parts.1
+  ip ← address_of parts.0
   Some (record { ip = ip; port = port; route = None })
 
--- An address, and a colon (58) and a port, or the usual port 47808.
-abbrev pub station_cut : List ℕ → Option (List ℕ × List ℕ) → Option Station
-station_cut text None = station_at text (Some 47808)
-station_cut text (Some parts) = station_at parts.0 (short_number 5 65535 parts.1)
-
--- A peer without a route.
+-- A peer without a route: an address, and a colon (58) and a port, or the usual port 47808.
 abbrev pub plain_peer_of : List ℕ → Option Station
-plain_peer_of text = station_cut text (cut_at 58 text)
+plain_peer_of text = station_at (unwrap_or (cut_at 58 text) (text, codes "47808"))
 
 -- A network 1 to 65534 and an address of one to seven octets in it.
-abbrev pub routable : ℕ → List ℕ → Option NetworkAddress
-routable network address =
-    if is_routable (record { network = network; address = address })
-    then Some (record { network = network; address = address })
-    else None
+abbrev pub routable : NetworkAddress → Option NetworkAddress
+routable to = if is_routable to then Some to else None
 
 -- The number of the network, a slash (47) and the address in hexadecimal digits.
 abbrev pub route_of : List ℕ → Option NetworkAddress
@@ -63,18 +49,15 @@ route_of text = do
   parts ← cut_at 47 text
   network ← number_up_to 65535 parts.0
   address ← octets_of parts.1
-  routable network address
+  routable (record { network = network; address = address })
 
-abbrev pub behind : Station → NetworkAddress → Station
-behind router route = record { ip = router.ip; port = router.port; route = Some route }
-
-abbrev pub peer_cut : List ℕ → Option (List ℕ × List ℕ) → Option Station
-peer_cut text None = plain_peer_of text
-peer_cut text (Some parts) = do
+-- A router, and a route behind it.
+abbrev pub routed_peer_of : List ℕ × List ℕ → Option Station
+routed_peer_of parts = do
   router ← plain_peer_of parts.0
   route ← route_of parts.1
-  Some (behind router route)
+  Some (record router { route = Some route })
 
--- A peer, where a slash stands behind a router with a route.
+-- A peer, where a slash (47) stands behind a router with a route.
 abbrev pub peer_of : List ℕ → Option Station
-peer_of text = peer_cut text (cut_at 47 text)
+peer_of text = option_map_or routed_peer_of (cut_at 47 text) (plain_peer_of text)

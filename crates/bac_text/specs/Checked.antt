@@ -1,8 +1,10 @@
 -- What contracts see of a checked reader or writer.
-use Rattle.std.specs.Prelude.{◌≡◌, ℕ, ◌+◌, ◌-◌, ◌^◌, min, Bool, false, true, ◌&&◌, ◌==◌, nat_lt, if◌then◌else◌, List}
+use Rattle.std.specs.Prelude.{◌≡◌, ℕ, ◌+◌, ◌-◌, ◌^◌, min, Bool, false, ◌&&◌, ◌==◌, nat_lt, if◌then◌else◌, List}
 use Rattle.std.specs.Prelude.{[], ◌++◌, length, take, Option, Result, Ok, Err}
 use Rattle.std.specs.Io.KnownBytes.{Appends, Consumes}
+use Rattle.std.specs.Result.{result_unwrap_or}
 use Rattle.bac_text.specs.declared.checked.Checked.{Checked}
+use Rattle.bac_text.specs.declared.transcript.Transcript.{Transcript}
 
 abbrev pub inner_of : {T : Type 0} → Checked T → T
 inner_of checked = checked.inner
@@ -31,57 +33,46 @@ last_of checked = checked.transcript.last
 
 -- What is known of its reads is as before.
 abbrev pub HasNotRead : {T : Type 0} → Checked T → Checked T → Type 0
-HasNotRead before after = (has_ended after ≡ has_ended before) × (ends_of after ≡ ends_of before)
-    × (reads_of after ≡ reads_of before)
+HasNotRead before after = after ≡ record after { ended = before.ended; ends = before.ends; reads = before.reads }
+
+-- Nothing passed yet.
+abbrev pub nothing_passed : Transcript
+nothing_passed = record { octets = []; last = [] }
 
 -- A checked reader or writer as it is made.
 abbrev pub fresh : {T : Type 0} → T → Checked T
-fresh inner = record {
-  inner = inner;
-  failed = false;
-  ended = false;
-  ends = 0;
-  reads = 0;
-  transcript = record { octets = []; last = [] };
-}
+fresh inner =
+    record { inner = inner; failed = false; ended = false; ends = 0; reads = 0; transcript = nothing_passed }
 
--- The read gave nothing, though there was room for at least one octet.
-abbrev pub is_end : {E : Type 0} → Result ℕ E → List ℕ → Bool
-is_end (Ok given) room = given == 0 && nat_lt 0 (length room)
-is_end (Err e) room = false
+-- A read gave nothing, though there was room for at least one octet, or a write took nothing of at least one.
+abbrev pub passes_none : {E : Type 0} → Result ℕ E → List ℕ → Bool
+passes_none (Ok count) octets = count == 0 && nat_lt 0 (length octets)
+passes_none (Err e) octets = false
 
 -- One more read that gave nothing, where this is one. The count stays at 2^64 - 1.
 abbrev pub ends_with : ℕ → Bool → ℕ
 ends_with ends is = if is then min (ends + 1) (2 ^ 64 - 1) else ends
 
--- The write failed, or took nothing of at least one octet.
-abbrev pub is_failed_write : {E : Type 0} → Result ℕ E → List ℕ → Bool
-is_failed_write (Ok taken) text = taken == 0 && nat_lt 0 (length text)
-is_failed_write (Err e) text = true
-
 -- The octets that passed: what a read gave of its room, or a write took of its text.
 abbrev pub gone : {E : Type 0} → Result ℕ E → List ℕ → List ℕ
-gone (Ok count) octets = take count octets
-gone (Err e) octets = []
-
--- The writer took these octets; where it knows its octets, they are behind them.
-pub record Took {W : Type 0} (contents : W → Option (List ℕ)) (before after : Checked W) (taken : List ℕ) : Type 0 where
-  pub passed : octets_of after ≡ octets_of before ++ taken
-  pub known : Appends (contents (inner_of before)) (contents (inner_of after)) taken
+gone result octets = take (result_unwrap_or result 0) octets
 
 -- The reader gave these octets; where it knows those that it has left, they were the first of them.
-pub record Gave {R : Type 0} (remaining : R → Option (List ℕ)) (before after : Checked R) (given : List ℕ)
-    : Type 0 where
+pub record Gave {R : Type 0} (left : R → Option (List ℕ)) (before after : Checked R) (given : List ℕ) : Type 0 where
   pub passed : octets_of after ≡ octets_of before ++ given
-  pub known : Consumes (remaining (inner_of before)) (remaining (inner_of after)) given
+  pub known : Consumes (left (inner_of before)) (left (inner_of after)) given
 
--- The writer took a front of the text.
-abbrev pub TakesFront : {W : Type 0} → (W → Option (List ℕ)) → Checked W → Checked W → List ℕ → Type 0
-TakesFront contents before after text = (taken rest : List ℕ) × (text ≡ taken ++ rest)
-    × Took contents before after taken
+module _ {W : Type 0} (contents : W → Option (List ℕ)) (before after : Checked W) where
+  -- The writer took these octets; where it knows its octets, they are behind them.
+  pub record Took (taken : List ℕ) : Type 0 where
+    pub passed : octets_of after ≡ octets_of before ++ taken
+    pub known : Appends (contents (inner_of before)) (contents (inner_of after)) taken
 
--- The writer took the text, or, where it failed, a front of it.
-abbrev pub TookOrFailed : {W A E : Type 0} → (W → Option (List ℕ)) → Checked W → Checked W → List ℕ → Result A E
-    → Type 0
-TookOrFailed contents before after text (Ok done) = Took contents before after text
-TookOrFailed contents before after text (Err e) = TakesFront contents before after text
+  -- The writer took a front of the text.
+  abbrev pub TakesFront : List ℕ → Type 0
+  TakesFront text = (taken rest : List ℕ) × (text ≡ taken ++ rest) × Took taken
+
+  -- The writer took the text, or, where it failed, a front of it.
+  abbrev pub TookOrFailed : {A E : Type 0} → List ℕ → Result A E → Type 0
+  TookOrFailed text (Ok done) = Took text
+  TookOrFailed text (Err e) = TakesFront text

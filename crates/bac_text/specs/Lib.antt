@@ -6,7 +6,6 @@ pub mod Search
 pub mod Address
 pub mod PeerTexts
 pub mod Values
-pub mod ValuesInWords
 pub mod ValueWords
 pub mod Parameters
 pub mod Pairs

@@ -1,19 +1,20 @@
 -- The words of a property's value: tags and values in turn, and the body of the request that writes them.
-use Rattle.std.specs.Prelude.{ℕ, ◌+◌, ◌*◌, List, [], ◌∷◌, drop, Option, Some, None, Result, Ok, Err}
+use Rattle.std.specs.Prelude.{ℕ, ◌+◌, ◌*◌, nat_le, List, [], ◌∷◌, length, drop, Option, Some, None, Result, Ok, Err}
+use Rattle.std.specs.Prelude.{if◌then◌else◌}
+use Rattle.std.specs.List.{flat_map}
 use Rattle.bac_wire.specs.Datum.{Datum, plain}
 use Rattle.bac_wire.specs.Identifier.{Identifier}
-use Rattle.bac_pdu.specs.Parameter.{plain_all}
+use Rattle.bac_wire.specs.Steps.{result_seen}
 use Rattle.bac_pdu.specs.Property.{Order, write_octets}
 use Rattle.bac_text.specs.declared.pairs.PairFault.{PairFault}
 use Rattle.bac_text.specs.declared.pairs.PairFault.TheVariants.{Bad, TooLong}
 use Rattle.bac_text.specs.Limits.{longest_body}
-use Rattle.bac_text.specs.ValueWords.{value_in, at_most}
+use Rattle.bac_text.specs.ValueWords.{value_in}
 
 -- The value of a pair and those of the pairs behind it, or the number of the first pair that has none.
 abbrev pub value_before : ℕ → Option Datum → Result (List Datum) ℕ → Result (List Datum) ℕ
 value_before n None more = Err n
-value_before n (Some value) (Ok values) = Ok (value ∷ values)
-value_before n (Some value) (Err bad) = Err bad
+value_before n (Some value) more = result_seen (λ values. value ∷ values) more
 
 -- The values that words write two by two, or the number of the first pair that can't be read or lacks its value. The
 -- first pair has this number.
@@ -32,33 +33,26 @@ abbrev pub words_behind : {A : Type 0} → Result A PairFault → List (List ℕ
 words_behind (Err (Bad n)) words = drop (2 * n) words
 words_behind _ words = []
 
--- What a WriteProperty request orders: that a property has these octets as its value.
-abbrev pub order_of : Identifier → ℕ → Option ℕ → Option ℕ → List ℕ → Order
-order_of object property index priority region =
-    record {
-      reference = record { object = object; property = property; index = index };
-      value = region;
-      priority = priority;
-    }
-
--- The body that orders these values, however long it is (clause 15.9).
-abbrev pub whole_body_with : Identifier → ℕ → Option ℕ → Option ℕ → Result (List Datum) ℕ → Result (List ℕ) ℕ
-whole_body_with object property index priority (Ok values) =
-    Ok (write_octets (order_of object property index priority (plain_all plain values)))
-whole_body_with object property index priority (Err n) = Err n
-
--- The body of the request that writes the values of these words, or the number of the first pair that has none.
-abbrev pub whole_body_of : Identifier → ℕ → Option ℕ → Option ℕ → List (List ℕ) → Result (List ℕ) ℕ
-whole_body_of object property index priority words = whole_body_with object property index priority (values_in words)
-
 -- The body, where it is no longer than a client sends.
 abbrev pub sendable : Result (List ℕ) ℕ → Result (List ℕ) PairFault
-sendable (Ok body) = at_most TooLong longest_body body
+sendable (Ok body) = if nat_le (length body) longest_body then Ok body else Err TooLong
 sendable (Err n) = Err (Bad n)
 
-abbrev pub body_with : Identifier → ℕ → Option ℕ → Option ℕ → Result (List Datum) ℕ → Result (List ℕ) PairFault
-body_with object property index priority values = sendable (whole_body_with object property index priority values)
+module _ (object : Identifier) (property : ℕ) (index priority : Option ℕ) where
+  -- What a WriteProperty request orders: that a property has these octets as its value.
+  abbrev pub order_of : List ℕ → Order
+  order_of region =
+      record {
+        reference = record { object = object; property = property; index = index };
+        value = region;
+        priority = priority;
+      }
 
--- The body of the request that writes the values of these words, if it can be sent.
-abbrev pub body_of : Identifier → ℕ → Option ℕ → Option ℕ → List (List ℕ) → Result (List ℕ) PairFault
-body_of object property index priority words = body_with object property index priority (values_in words)
+  -- The body of the request that writes the values of these words, however long it is (clause 15.9), or the number of
+  -- the first pair that has none.
+  abbrev pub whole_body_of : List (List ℕ) → Result (List ℕ) ℕ
+  whole_body_of words = result_seen (λ values. write_octets (order_of (flat_map plain values))) (values_in words)
+
+  -- The body of the request that writes the values of these words, if it can be sent.
+  abbrev pub body_of : List (List ℕ) → Result (List ℕ) PairFault
+  body_of words = sendable (whole_body_of words)

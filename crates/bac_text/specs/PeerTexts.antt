@@ -1,7 +1,8 @@
 -- A peer as it is printed.
-use Rattle.std.specs.Prelude.{ℕ, List, [], ◌∷◌, ◌++◌, map, decimal, Option, Some, None}
+use Rattle.std.specs.Prelude.{ℕ, List, [], ◌∷◌, ◌++◌, map, decimal}
 use Rattle.std.specs.List.{join_with_byte}
 use Rattle.std.specs.Int.{w32, to_be_bytes}
+use Rattle.std.specs.Option.{option_map_or}
 use Rattle.hex.specs.Hex.{encode_lower}
 use Rattle.bac_pdu.specs.Peer.{NetworkAddress, Station}
 
@@ -10,10 +11,9 @@ abbrev pub address_text : ℕ → List ℕ
 address_text ip = join_with_byte 46 (map decimal (to_be_bytes w32 ip))
 
 -- A slash, the number of the network, a slash and the address there.
-abbrev pub route_text : Option NetworkAddress → List ℕ
-route_text None = []
-route_text (Some route) = 47 ∷ (decimal route.network ++ 47 ∷ encode_lower route.address)
+abbrev pub route_text : NetworkAddress → List ℕ
+route_text route = 47 ∷ (decimal route.network ++ 47 ∷ encode_lower route.address)
 
 -- The address, a colon and the port, and the route, if there is one.
 abbrev pub peer_text : Station → List ℕ
-peer_text peer = address_text peer.ip ++ 58 ∷ (decimal peer.port ++ route_text peer.route)
+peer_text peer = address_text peer.ip ++ 58 ∷ (decimal peer.port ++ option_map_or route_text peer.route [])

@@ -1,6 +1,7 @@
 -- The words of a line, and what they write: numbers and octets.
 use Rattle.std.specs.Prelude.{ℕ, Bool, ◌&&◌, ◌||◌, ◌==◌, nat_lt, nat_le, List, [], ◌∷◌, length, filter, Option, Some}
 use Rattle.std.specs.Prelude.{None, option_map, if◌then◌else◌}
+use Rattle.std.specs.Int.{is_in_range}
 use Rattle.std.specs.Str.{all_ascii_digits}
 use Rattle.std.specs.Str.Parse.{digits_value}
 use Rattle.std.specs.List.{slice_split}
@@ -12,23 +13,20 @@ use Rattle.bac_text.specs.Limits.{longest_line}
 abbrev pub is_blank : ℕ → Bool
 is_blank octet = octet == 32 || octet == 9
 
-abbrev pub is_not_empty : List ℕ → Bool
-is_not_empty word = nat_lt 0 (length word)
-
--- The words of a line: the runs of octets that are no blanks.
+-- The words of a line: the runs of one or more octets that are no blanks.
 abbrev pub words_of : List ℕ → List (List ℕ)
-words_of text = filter is_not_empty (slice_split is_blank text)
+words_of text = filter (λ word. nat_lt 0 (length word)) (slice_split is_blank text)
 
 -- The number that one or more decimal digits write, where it is at most this.
 abbrev pub number_up_to : ℕ → List ℕ → Option ℕ
 number_up_to most word =
-    if is_not_empty word && (all_ascii_digits word && nat_le (digits_value 10 word) most)
+    if nat_lt 0 (length word) && (all_ascii_digits word && nat_le (digits_value 10 word) most)
     then Some (digits_value 10 word) else None
 
 -- The octets that a word writes, as a positive even number of hexadecimal digits of either case. No word of
 -- a line is longer than the longest line.
 abbrev pub octets_of : List ℕ → Option (List ℕ)
-octets_of word = if is_not_empty word && nat_le (length word) longest_line then result_ok (decode_of word) else None
+octets_of word = if is_in_range 1 longest_line (length word) then result_ok (decode_of word) else None
 
 -- The first word, read by this function, and the words after it.
 abbrev pub next_as : {A : Type 0} → (List ℕ → Option A) → List (List ℕ) → Option (A × List (List ℕ))

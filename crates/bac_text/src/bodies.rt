@@ -1,6 +1,7 @@
 //! The service bodies of requests.
-ghost use Rattle.std.specs.Prelude.{◌≡◌, ◌≤◌, length, IfSome, IfOk, MatchResult, Ok, Err};
+ghost use Rattle.std.specs.Prelude.{◌≡◌, ◌≤◌, length, IfSome, IfOk};
 ghost use Rattle.bac_wire.specs.Identifier.{identifier};
+ghost use Rattle.bac_wire.specs.Steps.{result_seen};
 ghost use Rattle.bac_pdu.specs.Property.{IsPriority, reference, read_octets};
 ghost use Rattle.bac_text.specs.Limits.{longest_body};
 ghost use Rattle.bac_text.specs.Pairs.{body_of, words_behind};
@@ -56,9 +57,8 @@ impl BodyRoom {
         words: &mut S,
     ) -> Result<&[u8], PairFault>
         requires { IfSome priority IsPriority }
-        ensures body { MatchResult result
-            (λ body. body_of (identifier object) property index priority (S.left words.old) ≡ Ok body.now)
-            (λ fault. body_of (identifier object) property index priority (S.left words.old) ≡ Err fault) }
+        ensures body { result_seen (λ body. body.now) result ≡
+            body_of (identifier object) property index priority (S.left words.old) }
         ensures short { IfOk result (λ body. length body.now ≤ longest_body) }
         ensures left { S.left words.new ≡ words_behind result (S.left words.old) }
     {
@@ -100,9 +100,8 @@ pub fn body_of_write<'a, S: WordSource<'a>>(
     words: &mut S,
 ) -> Result<ArrayVec<u8, LONGEST_BODY>, PairFault>
     requires { IfSome priority IsPriority }
-    ensures body { MatchResult result
-        (λ body. body_of (identifier object) property index priority (S.left words.old) ≡ Ok body.items)
-        (λ fault. body_of (identifier object) property index priority (S.left words.old) ≡ Err fault) }
+    ensures body { result_seen (λ body. body.items) result ≡
+        body_of (identifier object) property index priority (S.left words.old) }
     ensures left { S.left words.new ≡ words_behind result (S.left words.old) }
 {
     let mut room = BodyRoom::new();

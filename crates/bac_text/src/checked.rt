@@ -3,7 +3,7 @@ ghost use Rattle.std.specs.Prelude.{◌≡◌, ◌+◌, ◌-◌, ◌^◌, ◌++�
 ghost use Rattle.std.specs.Io.{ReadsAtMost, WritesAtMost};
 ghost use Rattle.std.specs.Io.KnownBytes.{ReadConsumes, WriteAppends, Keeps};
 ghost use Rattle.bac_text.specs.Checked.{inner_of, has_failed, has_ended, ends_of, reads_of, octets_of, last_of, gone};
-ghost use Rattle.bac_text.specs.Checked.{HasNotRead, fresh, is_end, ends_with, is_failed_write, TookOrFailed};
+ghost use Rattle.bac_text.specs.Checked.{HasNotRead, fresh, passes_none, ends_with, TookOrFailed};
 ghost use Rattle.bac_text.specs.Inner.Checked.{having_passed};
 
 use crate::transcript::{Part, Transcript};
@@ -85,11 +85,10 @@ impl<R: Read> Read for Checked<R> {
 
     fn read(&mut self, buf: &mut [u8]) -> io::Result<usize>
         ensures bound { ReadsAtMost result buf.new }
-        ensures bytes { ReadConsumes (R.remaining (inner_of self.old)) (R.remaining (inner_of self.new)) result
-            buf.new }
+        ensures bytes { ReadConsumes (R.remaining self.old.inner) (R.remaining self.new.inner) result buf.new }
         ensures failed { has_failed self.new ≡ (has_failed self.old || is_err result) }
-        ensures ended { has_ended self.new ≡ is_end result buf.new }
-        ensures ends { ends_of self.new ≡ ends_with (ends_of self.old) (is_end result buf.new) }
+        ensures ended { has_ended self.new ≡ passes_none result buf.new }
+        ensures ends { ends_of self.new ≡ ends_with (ends_of self.old) (passes_none result buf.new) }
         ensures passed { octets_of self.new ≡ octets_of self.old ++ gone result buf.new }
         ensures last { last_of self.new ≡ gone result buf.new }
         ensures reads { reads_of self.new ≡ min (reads_of self.old + 1) (2 ^ 64 - 1) }
@@ -113,8 +112,8 @@ impl<W: Write> Write for Checked<W> {
 
     fn write(&mut self, buf: &[u8]) -> io::Result<usize>
         ensures bound { WritesAtMost result buf.now }
-        ensures bytes { WriteAppends (W.contents (inner_of self.old)) (W.contents (inner_of self.new)) result buf.now }
-        ensures failed { has_failed self.new ≡ (has_failed self.old || is_failed_write result buf.now) }
+        ensures bytes { WriteAppends (W.contents self.old.inner) (W.contents self.new.inner) result buf.now }
+        ensures failed { has_failed self.new ≡ (has_failed self.old || is_err result || passes_none result buf.now) }
         ensures passed { octets_of self.new ≡ octets_of self.old ++ gone result buf.now }
         ensures last { last_of self.new ≡ gone result buf.now }
         ensures reads { HasNotRead self.old self.new }
@@ -130,11 +129,8 @@ impl<W: Write> Write for Checked<W> {
     }
 
     fn flush(&mut self) -> io::Result<()>
-        ensures bytes { Keeps (W.contents (inner_of self.old)) (W.contents (inner_of self.new)) }
-        ensures failed { has_failed self.new ≡ has_failed self.old }
-        ensures passed { octets_of self.new ≡ octets_of self.old }
-        ensures last { last_of self.new ≡ last_of self.old }
-        ensures reads { HasNotRead self.old self.new }
+        ensures bytes { Keeps (W.contents self.old.inner) (W.contents self.new.inner) }
+        ensures reads { self.new ≡ record self.old { inner = self.new.inner } }
     {
         self.inner.flush()
     }

@@ -1,5 +1,6 @@
 //! A peer as it is printed.
-ghost use Rattle.std.specs.Prelude.{◌≡◌, ◌+◌, ◌≤◌, ◌++◌, ◌∷◌, option_map, drop, length, decimal};
+ghost use Rattle.std.specs.Prelude.{◌≡◌, ◌+◌, ◌≤◌, [], ◌++◌, ◌∷◌, option_map, drop, length, decimal};
+ghost use Rattle.std.specs.Option.{option_map_or};
 ghost use Rattle.bac_pdu.specs.Peer.{station, network_address};
 ghost use Rattle.bac_text.specs.Page.{Prints};
 ghost use Rattle.bac_text.specs.PeerTexts.{address_text, route_text, peer_text};
@@ -25,7 +26,7 @@ impl<W: Write> Page<'_, W> {
 
     #[tactic(auto, using(crate::proofs::Printed::printing))]
     fn print_route(&mut self, route: Option<Route>)
-        ensures { Prints W.contents self.old self.new (route_text (option_map network_address route)) }
+        ensures { Prints W.contents self.old self.new (option_map_or route_text (option_map network_address route) []) }
     {
         if let Some(route) = route {
             self.print(b"/");

@@ -115,7 +115,8 @@ fn read_route(text: &[u8]) -> Option<Route>
 
 #[tactic(auto, using(crate::proofs::HexText::routable_digits))]
 fn route_to(network: u16, address: HexDigits<'_>) -> Option<Route>
-    ensures { option_map network_address result ≡ routable network (octets_in address.entry.digits.now) }
+    ensures { option_map network_address result ≡
+        routable (record { network = network; address = octets_in address.entry.digits.now }) }
 {
     let mut room = [0; ADDRESS_OCTETS];
     if address.digits.len() > 2 * ADDRESS_OCTETS {

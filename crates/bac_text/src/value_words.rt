@@ -1,10 +1,13 @@
 //! A value as two words: the number of its application tag, and the value by that number.
-ghost use Rattle.std.specs.Prelude.{◌≡◌, ◌≢◌, ◌≤◌, option_map, IfSome, MatchResult, OnErr, Ok, Err};
+ghost use Rattle.std.specs.Prelude.{◌≡◌, ◌≢◌, ◌≤◌, ◌==◌, ◌||◌, if◌then◌else◌, slice_index, option_map, IfSome};
+ghost use Rattle.std.specs.Prelude.{MatchResult, OnErr, Ok, Err};
 ghost use Rattle.std.specs.List.{list_all};
+ghost use Rattle.std.specs.Result.{result_ok};
+ghost use Rattle.hex.specs.Hex.{decode_of, decode_sized};
 ghost use Rattle.bac_wire.specs.Datum.{datum, octet_string, IsSound};
 ghost use Rattle.bac_wire.specs.Identifier.{identifier};
-ghost use Rattle.bac_text.specs.ValueWords.{boolean_in, signed_in, hex_in, octets_exactly, is_bit_digit, bit_at};
-ghost use Rattle.bac_text.specs.ValueWords.{bits_octet, bits_in, object_in, value_under, value_in};
+ghost use Rattle.bac_text.specs.ValueWords.{boolean_in, signed_in, bits_octet, bits_in, object_in, value_under};
+ghost use Rattle.bac_text.specs.ValueWords.{value_in};
 ghost use Rattle.bac_text.specs.Inner.ValueWords.{appended};
 
 use crate::hex_digits::is_hex;
@@ -90,7 +93,7 @@ fn read_signed(word: &[u8]) -> Option<i64>
 }
 
 fn read_four(word: &[u8]) -> Option<[u8; 4]>
-    ensures { result ≡ octets_exactly 4 word.now }
+    ensures { result ≡ result_ok (decode_sized word.now 4) }
 {
     let mut octets = [0; 4];
     hex::decode_to_slice(word, &mut octets).ok()?;
@@ -98,7 +101,7 @@ fn read_four(word: &[u8]) -> Option<[u8; 4]>
 }
 
 fn read_eight(word: &[u8]) -> Option<[u8; 8]>
-    ensures { result ≡ octets_exactly 8 word.now }
+    ensures { result ≡ result_ok (decode_sized word.now 8) }
 {
     let mut octets = [0; 8];
     hex::decode_to_slice(word, &mut octets).ok()?;
@@ -117,8 +120,8 @@ fn read_object(word: &[u8]) -> Option<ObjectId>
 // Appends an octet string of hexadecimal digits.
 fn append_octets(region: &mut Frame, digits: &[u8]) -> Result<(), ValueFault>
     ensures value { MatchResult result
-        (λ _. appended region.old (option_map octet_string (hex_in digits.now)) ≡ Ok region.new)
-        (λ fault. appended region.old (option_map octet_string (hex_in digits.now)) ≡ Err fault) }
+        (λ _. appended region.old (option_map octet_string (result_ok (decode_of digits.now))) ≡ Ok region.new)
+        (λ fault. appended region.old (option_map octet_string (result_ok (decode_of digits.now))) ≡ Err fault) }
     ensures err { OnErr result (region.new ≡ region.old) }
 {
     if digits.len() % 2 == 1 || !is_hex(digits) {
@@ -157,7 +160,7 @@ fn append_bits(region: &mut Frame, digits: &[u8]) -> Result<(), ValueFault>
 }
 
 fn are_bits(digits: &[u8]) -> bool
-    ensures { result ≡ list_all is_bit_digit digits.now }
+    ensures { result ≡ list_all (λ digit. digit == 48 || digit == 49) digits.now }
 {
     digits.iter().all(|digit| *digit == b'0' || *digit == b'1')
 }
@@ -173,7 +176,7 @@ fn bits_octet(digits: &[u8]) -> u8
 
 // The bit that the digit at this position writes, and 0 where there is none.
 fn bit_at(digits: &[u8], position: usize) -> u8
-    ensures value { result ≡ bit_at digits.now position }
+    ensures value { result ≡ (if slice_index digits.now position == 49 then 1 else 0) }
     ensures bit { result ≤ 1 }
 {
     match digits.get(position) {

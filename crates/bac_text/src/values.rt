@@ -1,16 +1,17 @@
 //! What is printed of values.
-ghost use Rattle.std.specs.Prelude.{◌≡◌, ◌<◌, false, length, option_map, is_err, IfSome};
+ghost use Rattle.std.specs.Prelude.{◌≡◌, ◌<◌, ◌+◌, ◌%◌, ◌==◌, ◌||◌, false, length, option_map, is_err, IfSome};
 ghost use Rattle.std.specs.List.{flat_map};
 ghost use Rattle.std.specs.Fmt.{signed_decimal};
-ghost use Rattle.bac_wire.specs.Datum.{datum, bit_string};
+ghost use Rattle.std.specs.Int.{is_in_range};
+ghost use Rattle.bac_wire.specs.Datum.{datum, boolean, char_string, bit_string, object};
 ghost use Rattle.bac_wire.specs.DatumReading.{value_at};
 ghost use Rattle.bac_wire.specs.Identifier.{identifier};
 ghost use Rattle.bac_text.specs.Checked.{has_failed, TookOrFailed};
 ghost use Rattle.bac_text.specs.Page.{Prints};
-ghost use Rattle.bac_text.specs.Values.{is_escaped, is_printable, bit_digit, quoted_octet, quoted, string_text};
-ghost use Rattle.bac_text.specs.Values.{lettered, octet_bits, bits_text, boolean_text, object_text, datum_text};
-ghost use Rattle.bac_text.specs.Values.{values_of, joined, region_text, ack_text};
-ghost use Rattle.bac_text.specs.Inner.Values.{separator};
+ghost use Rattle.bac_text.specs.Values.{quoted_octet, quoted};
+ghost use Rattle.bac_text.specs.Values.{lettered, octet_bits, bits_text, datum_text};
+ghost use Rattle.bac_text.specs.Values.{values_of, region_text, ack_text};
+ghost use Rattle.bac_text.specs.Inner.Values.{joined, separator};
 
 use crate::checked::{Checked, WriteFailed};
 use crate::page::Page;
@@ -112,7 +113,7 @@ impl<W: Write> Page<'_, W> {
     }
 
     fn print_boolean(&mut self, value: bool)
-        ensures { Prints W.contents self.old self.new (boolean_text value) }
+        ensures { Prints W.contents self.old self.new (datum_text (boolean value)) }
     {
         if value {
             self.print(b"true");
@@ -133,7 +134,7 @@ impl<W: Write> Page<'_, W> {
 
     #[tactic(auto, using(crate::proofs::Printed::printing))]
     fn print_object(&mut self, id: ObjectId)
-        ensures { Prints W.contents self.old self.new (object_text (identifier id)) }
+        ensures { Prints W.contents self.old self.new (datum_text (object (identifier id))) }
     {
         self.print_number(u64::from(id.kind()));
         self.print(b":");
@@ -152,7 +153,7 @@ impl<W: Write> Page<'_, W> {
 
     #[tactic(auto, using(crate::proofs::Printed::printing))]
     fn print_string(&mut self, set: u8, text: &[u8])
-        ensures { Prints W.contents self.old self.new (string_text set text.now) }
+        ensures { Prints W.contents self.old self.new (datum_text (char_string set text.now)) }
     {
         if set != 0 {
             self.print_number(u64::from(set));
@@ -243,21 +244,21 @@ fn bit_digits(octet: u8) -> [u8; 8]
 
 // The lowest bit of a number as a digit.
 fn bit_digit(number: u8) -> u8
-    ensures { result ≡ bit_digit number }
+    ensures { result ≡ 48 + number % 2 }
 {
     b'0' + number % 2
 }
 
 // Whether an octet of a text in quotes has a backslash before it.
 fn is_escaped(octet: u8) -> bool
-    ensures { result ≡ is_escaped octet }
+    ensures { result ≡ (octet == 34 || octet == 92) }
 {
     octet == b'"' || octet == b'\\'
 }
 
 // Whether an octet of a text in quotes may stand for itself.
 fn is_printable(octet: u8) -> bool
-    ensures { result ≡ is_printable octet }
+    ensures { result ≡ is_in_range 32 126 octet }
 {
     b' ' <= octet && octet <= b'~'
 }

@@ -1,5 +1,5 @@
 //! Words that are taken one after another.
-ghost use Rattle.std.specs.Prelude.{◌≡◌, ◌<◌, ◌≤◌, ◌^◌, ℕ, List, [], ◌∷◌, length, drop, not, position, None, Some};
+ghost use Rattle.std.specs.Prelude.{◌≡◌, ◌<◌, ◌≤◌, ◌^◌, ℕ, List, [], ◌∷◌, length, drop, not, position, option_map};
 ghost use Rattle.std.specs.Prelude.{IfSome, MatchOption};
 ghost use Rattle.bac_text.specs.Words.{is_blank, words_of, number_up_to, next_as};
 ghost use Rattle.bac_text.specs.Inner.Words.{IsFirstNumber};
@@ -49,8 +49,7 @@ impl<'a> Words<'a> {
     /// Takes the next word and reads it as a number, if it is one of decimal digits and at most `most`. What is no such
     /// number is taken too.
     pub fn next_number(&mut self, most: u64) -> Option<u64>
-        ensures value { MatchOption result (next_as (number_up_to most) self.old ≡ None)
-            (λ number. next_as (number_up_to most) self.old ≡ Some (number, self.new)) }
+        ensures value { next_as (number_up_to most) self.old ≡ option_map (λ number. (number, self.new)) result }
         ensures most { IfSome result (λ number. number ≤ most) }
         ensures taken { self.new ≡ drop 1 self.old }
     {

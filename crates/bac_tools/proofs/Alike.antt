@@ -1,6 +1,8 @@
 -- Two runs of the program with the same words are alike.
 use Rattle.std.proofs.Common.{◌≡◌, ◌≢◌, ◌++◌, ℕ, inl, inr, List, [], Option, Some, None, Result, Ok, Err, IfOk, IfErr}
 use Rattle.std.proofs.Common.{Bool, false, refl, sym, ap, ◌∙◌, subst}
+use Rattle.std.specs.Prelude.{◌⊎◌, IsErrAnd, option_and_then}
+use Rattle.std.specs.Result.{result_map_both, result_ok}
 use Rattle.clap.specs.Kinds.{IsAmong}
 use Rattle.clap.specs.Values.{kind_of}
 use Rattle.clap.specs.Words.{Text, fault_of}
@@ -16,6 +18,7 @@ use Rattle.bac_links.specs.Answered.{answers_of}
 use Rattle.bac_links.specs.Fault.{is_write_fault}
 use Rattle.bac_links.specs.History.{Account, Entry}
 use Rattle.bac_links.specs.declared.ending.Exit.{Exit}
+use Rattle.bac_links.specs.declared.ending.Exit.TheVariants.{Good}
 use Rattle.bac_links.specs.declared.ending.Purpose.TheVariants.{Reading, Writing}
 use Rattle.bac_links.specs.declared.fault.ToolFault.{ToolFault}
 use Rattle.bac_links.specs.declared.fault.ToolFault.TheVariants.{WriteFailed}
@@ -23,19 +26,20 @@ use Rattle.bac_links.specs.declared.link.LinkFault.{LinkFault}
 use Rattle.bac_script.proofs.Functions.{traces_alike}
 use Rattle.bac_words.proofs.OneAnswer.{one_answer}
 use Rattle.bac_words.specs.Command.{bactool}
-use Rattle.bac_words.specs.Line.{IsRefusal}
+use Rattle.bac_words.specs.Line.{Answers, IsRefusal}
 use Rattle.bac_words.specs.Marks.{marked_words}
 use Rattle.bac_words.specs.declared.faults.UsageFault.{UsageFault}
 use Rattle.bac_words.specs.declared.faults.UsageFault.TheVariants.{Help, Memory, Words}
 use Rattle.bac_words.specs.declared.jobs.Job.{Job}
 use Rattle.bac_words.specs.declared.jobs.Job.TheVariants.{Read, Write, WhoIs, Device, Trace}
-use Rattle.bac_tools.specs.Alike.{AreAlike, AreGivenAlike, Gained, Observed, Run, is_socket, opened_in}
+use Rattle.bac_tools.specs.Alike.{AreAlike, AreGivenAlike, Gained, Run, is_socket}
 use Rattle.bac_tools.specs.Binding.{binding_of}
 use Rattle.bac_tools.specs.Outside.{Outside}
-use Rattle.bac_tools.specs.Program.{IsGiven, Program}
-use Rattle.bac_tools.specs.Report.{as_exit, tool_report, trace_report, usage_report}
+use Rattle.bac_tools.specs.Program.{Ends, IsGiven}
+use Rattle.bac_tools.specs.Report.{report_of, tool_report, trace_report}
 use Rattle.bac_tools.specs.Runs.{Runs, RunsOpened, RunsOver, RunsScript, ToolRuns}
 use Rattle.bac_tools.specs.declared.binding.Binding.{Binding}
+use Rattle.bac_tools.specs.declared.program.Ran.{Ran}
 use Rattle.bac_tools.specs.declared.report.Fault.TheVariants as faults
 use Rattle.bac_tools.specs.declared.report.Report.{Report}
 
@@ -73,6 +77,9 @@ module _ {V W : Type 0} (contents : V → Option (List ℕ)) (contents' : W → 
           ∙ sym (ap (λ (w : Checked W). octets_of w) (none' (λ is. all' (ap Err is))))
       printed (Ok exit) (Err g) all all' e took none none' = cc
       printed (Err f) (Ok other) all all' e took none none' = cc
+
+  abbrev as_exit : Result ℕ ToolFault → Result Exit ToolFault
+  as_exit served = result_map_both (λ replied. Good) (λ fault. fault) served
 
   tools : (job : Job) → ToolRuns contents (fresh writer) wrote seen left answer job
       → ToolRuns contents' (fresh writer') wrote' seen' left' answer' job → Same
@@ -121,47 +128,48 @@ none_gained seen None opened' gained e gains = gains
 none_gained seen (Some socket) opened' gained e gains = cc
 
 had_memory : (report : Report) (fault : UsageFault) → report.fault ≢ Some (faults.Usage Memory)
-    → report ≡ usage_report fault → fault ≢ Memory
+    → report ≡ report_of (faults.Usage fault) → fault ≢ Memory
 had_memory report fault memory reported e =
     memory (ap (λ (r : Report). r.fault) reported ∙ ap (λ (f : UsageFault). Some (faults.Usage f)) e)
 
 -- ---- two runs
 
-module _ {N L R W M K S V : Type 0} (gives : N → Binding → Result L LinkFault → Type 0) (out : Outside L R W)
-    (gives' : M → Binding → Result K LinkFault → Type 0) (out' : Outside K S V) (words : List Text)
-    (one other : Observed)
-    (a : Run gives out words one) (b : Run gives' out' words other) (h : AreGivenAlike one other) where
+module _ {N L R W M K S V : Type 0} {gives : N → Binding → Result L LinkFault → Type 0} {out : Outside L R W}
+    {gives' : M → Binding → Result K LinkFault → Type 0} {out' : Outside K S V} {words : List Text}
+    (one : Run gives out words) (other : Run gives' out' words) (h : AreGivenAlike one other) where
   abbrev Alike : Type 0
-  Alike = (one.gained ≡ other.gained) × (octets_of a.writer' ≡ octets_of b.writer') × (a.ran.report ≡ b.ran.report)
+  Alike = (one.gained ≡ other.gained) × (octets_of one.writer' ≡ octets_of other.writer')
+      × (one.ran.report ≡ other.ran.report)
 
   abbrev Ours : Job → Option (Result L LinkFault) → Option (Result L LinkFault) → Type 0
-  Ours = Runs out (fresh a.reader) a.reader' (fresh a.writer) a.writer' a.ran.report
+  Ours = Runs out (fresh one.reader) one.reader' (fresh one.writer) one.writer' one.ran.report
 
   abbrev Theirs : Job → Option (Result K LinkFault) → Option (Result K LinkFault) → Type 0
-  Theirs = Runs out' (fresh b.reader) b.reader' (fresh b.writer) b.writer' b.ran.report
+  Theirs = Runs out' (fresh other.reader) other.reader' (fresh other.writer) other.writer' other.ran.report
 
   over : (job : Job) (link left : L) (link' left' : K)
-      → RunsOver out (fresh a.reader) a.reader' (fresh a.writer) a.writer' a.ran.report job link left →
-      RunsOver out' (fresh b.reader) b.reader' (fresh b.writer) b.writer' b.ran.report job link' left' →
+      → RunsOver out (fresh one.reader) one.reader' (fresh one.writer) one.writer' one.ran.report job link left →
+      RunsOver out' (fresh other.reader) other.reader' (fresh other.writer) other.writer' other.ran.report job link'
+      left' →
       (out.seen left).history ≡ (out.seen link).history ++ one.gained
       → (out'.seen left').history ≡ (out'.seen link').history ++ other.gained → Alike
   over job link left link' left' r s gains gains' =
-      let both = tools out.contents out'.contents a.writer b.writer a.writer' b.writer' (out.seen link) (out.seen left)
-      (out'.seen link') (out'.seen left') r.answer s.answer
-      one.gained other.gained gains gains' h.answers (unfailed r.answer _ r.write_fault a.written)
-      (unfailed s.answer _ s.write_fault b.written) job r.tool s.tool in
+      let both = tools out.contents out'.contents one.writer other.writer one.writer' other.writer' (out.seen link)
+      (out.seen left) (out'.seen link') (out'.seen left') r.answer s.answer
+      one.gained other.gained gains gains' h.answers (unfailed r.answer _ r.write_fault one.written)
+      (unfailed s.answer _ s.write_fault other.written) job r.tool s.tool in
       (both.0, both.1, r.reported ∙ ap tool_report both.2 ∙ sym s.reported)
 
   opened : (job : Job) (o p : Option (Result L LinkFault)) (o' p' : Option (Result K LinkFault)) →
-      RunsOpened out (fresh a.reader) a.reader' (fresh a.writer) a.writer' a.ran.report job o p →
-      RunsOpened out' (fresh b.reader) b.reader' (fresh b.writer) b.writer' b.ran.report job o' p' →
+      RunsOpened out (fresh one.reader) one.reader' (fresh one.writer) one.writer' one.ran.report job o p →
+      RunsOpened out' (fresh other.reader) other.reader' (fresh other.writer) other.writer' other.ran.report job o' p' →
       Gained out.seen o p one.gained → Gained out'.seen o' p' other.gained → is_socket o ≡ is_socket o' → Alike
   opened job None p o' p' r s gains gains' e = absurd r
   opened job (Some (Err f)) p None p' r s gains gains' e = absurd s
   opened job (Some (Err f)) p (Some (Err g)) p' r s gains gains' e = (
     gains ∙ sym gains',
-    ap (λ (w : Checked W). octets_of w) r.unprinted ∙ sym (ap (λ (w : Checked V). octets_of w) s.unprinted),
-    r.reported ∙ sym s.reported,
+    ap (λ (w : Checked W). octets_of w) r.2 ∙ sym (ap (λ (w : Checked V). octets_of w) s.2),
+    r.3 ∙ sym s.3,
   )
   opened job (Some (Err f)) p (Some (Ok k)) p' r s gains gains' e = cc
   opened job (Some (Ok l)) None o' p' r s gains gains' e = absurd r
@@ -173,20 +181,20 @@ module _ {N L R W M K S V : Type 0} (gives : N → Binding → Result L LinkFaul
   opened job (Some (Ok l)) (Some (Ok m)) (Some (Ok k)) (Some (Ok n)) r s gains gains' e =
       over job l m k n r s gains gains'
 
-  scripts : RunsScript out (fresh a.reader) a.reader' (fresh a.writer) a.writer' a.ran.report →
-      RunsScript out' (fresh b.reader) b.reader' (fresh b.writer) b.writer' b.ran.report →
-      (octets_of a.writer' ≡ octets_of b.writer') × (a.ran.report ≡ b.ran.report)
+  scripts : RunsScript out (fresh one.reader) one.reader' (fresh one.writer) one.writer' one.ran.report →
+      RunsScript out' (fresh other.reader) other.reader' (fresh other.writer) other.writer' other.ran.report →
+      (octets_of one.writer' ≡ octets_of other.writer') × (one.ran.report ≡ other.ran.report)
   scripts r s =
-      let both = traces_alike a.reader b.reader a.reader' b.reader' a.writer b.writer a.writer' b.writer' r.answer
-      s.answer r.script s.script
-      (sym a.octets ∙ h.octets ∙ b.octets) (sym a.ends ∙ h.ends ∙ b.ends) in
-      let same = both.same (λ e. let fails = r.write_fault.1 e in let sound = a.written in cc)
-      (λ e. let fails = s.write_fault.1 e in let sound = b.written in cc) in
+      let both = traces_alike one.reader other.reader one.reader' other.reader' one.writer other.writer one.writer'
+      other.writer' r.answer s.answer r.script s.script
+      h.octets h.ends in
+      let same = both.same (λ e. let fails = r.write_fault.1 e in let sound = one.written in cc)
+      (λ e. let fails = s.write_fault.1 e in let sound = other.written in cc) in
       (same.0, r.reported ∙ ap trace_report same.1 ∙ sym s.reported)
 
   jobs : (job : Job) (o p : Option (Result L LinkFault)) (o' p' : Option (Result K LinkFault))
-      → IsGiven gives out a.network (binding_of job) o →
-      IsGiven gives' out' b.network (binding_of job) o' → Ours job o p → Theirs job o' p'
+      → IsGiven gives out one.network (binding_of job) o →
+      IsGiven gives' out' other.network (binding_of job) o' → Ours job o p → Theirs job o' p'
       → Gained out.seen o p one.gained →
       Gained out'.seen o' p' other.gained → is_socket o ≡ is_socket o' → Alike
   jobs (Read call) o p o' p' given given' r s gains gains' e = opened (Read call) o p o' p' r s gains gains' e
@@ -201,74 +209,81 @@ module _ {N L R W M K S V : Type 0} (gives : N → Binding → Result L LinkFaul
         both.1,
       )
 
-  abbrev Mine : Type 0
-  Mine = Program gives out a.network (fresh a.reader) a.reader' (fresh a.writer) a.writer' a.ran words
+  -- What the answers to the words, and what was opened for them, come to.
+  abbrev Comes : Result Job UsageFault → Result Job UsageFault → Type 0
+  Comes r s = (one.gained ≡ other.gained) × (octets_of one.writer' ≡ octets_of other.writer')
+      × ((one.ran.report ≡ other.ran.report) ⊎ (IsErrAnd r (IsRefusal words) × IsErrAnd s (IsRefusal words)))
 
-  abbrev Yours : Type 0
-  Yours = Program gives' out' b.network (fresh b.reader) b.reader' (fresh b.writer) b.writer' b.ran words
+  taken : (r : Result Job UsageFault) (fault : UsageFault) → fault ≢ Memory → IsRefusal words fault
+      → IsErrAnd r (IsRefusal words) ⊎ Answers words r → IsErrAnd r (IsRefusal words)
+  taken r fault memory refusal answered = elim answered [
+    | inl refused ↦ refused
+    | inr answers ↦ absurd (not_refused words fault memory refusal answers.taken)
+  ]
 
-  alike : Alike → AreAlike words one other
-  alike same = record {
-    asked = same.0;
-    printed = a.printed ∙ same.1 ∙ sym b.printed;
-    told = inl (a.report ∙ same.2 ∙ sym b.report);
-  }
-
-  programs : (p : Mine) (q : Yours)
-      → is_socket (opened_in gives out words p) ≡ is_socket (opened_in gives' out' words q) →
-      Gained out.seen (opened_in gives out words p) a.ran.socket one.gained
-      → Gained out'.seen (opened_in gives' out' words q) b.ran.socket other.gained → AreAlike words one other
-  programs (inl r) (inl s) e gains gains' =
-      let printed = ap (λ (w : Checked W). octets_of w) r.unprinted
-      ∙ sym (ap (λ (w : Checked V). octets_of w) s.unprinted) in
-      elim r.wrong [
-        | inl refused ↦ elim s.wrong [
-          | inl refused' ↦ record {
-            asked = gains ∙ sym gains';
-            printed = a.printed ∙ printed ∙ sym b.printed;
-            told = inr (
-              record {
-                fault = r.fault;
-                memory = had_memory a.ran.report r.fault a.memory r.reported;
-                refusal = refused;
-                told = a.report ∙ r.reported;
-              },
-              record {
-                fault = s.fault;
-                memory = had_memory b.ran.report s.fault b.memory s.reported;
-                refusal = refused';
-                told = b.report ∙ s.reported;
-              },
-            );
-          }
-          | inr answers ↦ absurd
-              (not_refused words r.fault (had_memory a.ran.report r.fault a.memory r.reported) refused answers.taken)
-        ]
-        | inr answers ↦ elim s.wrong [
+  compared : (r s : Result Job UsageFault) (o : Option (Result L LinkFault)) (o' : Option (Result K LinkFault))
+      → IsErrAnd r (IsRefusal words) ⊎ Answers words r → IsErrAnd s (IsRefusal words) ⊎ Answers words s
+      → IsGiven gives out one.network (option_and_then binding_of (result_ok r)) o
+      → IsGiven gives' out' other.network (option_and_then binding_of (result_ok s)) o'
+      → Ends gives out one.network (fresh one.reader) one.reader' (fresh one.writer) one.writer' one.ran r o
+      → Ends gives' out' other.network (fresh other.reader) other.reader' (fresh other.writer) other.writer' other.ran s
+      o'
+      → Gained out.seen o one.ran.socket one.gained → Gained out'.seen o' other.ran.socket other.gained
+      → is_socket o ≡ is_socket o' → Comes r s
+  compared (Err f) (Err g) o o' p q given given' r s gains gains' e =
+      let gained = none_gained out.seen o one.ran.socket one.gained given gains
+      ∙ sym (none_gained out'.seen o' other.ran.socket other.gained given' gains') in
+      let printed = ap (λ (w : Checked W). octets_of w) r.1 ∙ sym (ap (λ (w : Checked V). octets_of w) s.1) in
+      let report = ap (λ (x : Ran L). x.report) r.2 in
+      let report' = ap (λ (x : Ran K). x.report) s.2 in
+      elim p [
+        | inl refused ↦
+            (gained, printed, inr (refused, taken (Err g) f (had_memory one.ran.report f one.memory report) refused q))
+        | inr answers ↦ elim q [
           | inl refused ↦ absurd
-              (not_refused words s.fault (had_memory b.ran.report s.fault b.memory s.reported) refused answers.taken)
+              (not_refused words g (had_memory other.ran.report g other.memory report') refused answers.taken)
           | inr answers' ↦
-              let result = one_answer words (Err r.fault) (Err s.fault) answers answers' in
-              let fault : r.fault ≡ s.fault = cc in
-              alike (gains ∙ sym gains', printed, r.reported ∙ ap usage_report fault ∙ sym s.reported)
+              let result = one_answer words (Err f) (Err g) answers answers' in
+              let fault : f ≡ g = cc in
+              (gained, printed, inl (report ∙ ap (λ (f : UsageFault). report_of (faults.Usage f)) fault ∙ sym report'))
         ]
       ]
-  programs (inl r) (inr s) e gains gains' = elim r.wrong [
-    | inl refused ↦ absurd
-        (not_refused words r.fault (had_memory a.ran.report r.fault a.memory r.reported) refused s.asked.taken)
-    | inr answers ↦ let result = one_answer words (Err r.fault) (Ok s.job) answers s.asked in cc
+  compared (Err f) (Ok k) o o' p q given given' r s gains gains' e = elim p [
+    | inl refused ↦
+        let report = ap (λ (x : Ran L). x.report) r.2 in
+        absurd (taken (Ok k) f (had_memory one.ran.report f one.memory report) refused q)
+    | inr answers ↦ elim q [
+      | inl refused ↦ absurd refused
+      | inr answers' ↦ let result = one_answer words (Err f) (Ok k) answers answers' in cc
+    ]
   ]
-  programs (inr r) (inl s) e gains gains' = elim s.wrong [
-    | inl refused ↦ absurd
-        (not_refused words s.fault (had_memory b.ran.report s.fault b.memory s.reported) refused r.asked.taken)
-    | inr answers ↦ let result = one_answer words (Err s.fault) (Ok r.job) answers r.asked in cc
+  compared (Ok j) (Err g) o o' p q given given' r s gains gains' e = elim q [
+    | inl refused ↦
+        let report = ap (λ (x : Ran K). x.report) s.2 in
+        absurd (taken (Ok j) g (had_memory other.ran.report g other.memory report) refused p)
+    | inr answers' ↦ elim p [
+      | inl refused ↦ absurd refused
+      | inr answers ↦ let result = one_answer words (Ok j) (Err g) answers answers' in cc
+    ]
   ]
-  programs (inr r) (inr s) e gains gains' =
-      let result = one_answer words (Ok r.job) (Ok s.job) r.asked s.asked in
-      let job : s.job ≡ r.job = cc in
-      alike (jobs r.job r.opened a.ran.socket s.opened b.ran.socket r.given
-      (subst (λ (j : Job). IsGiven gives' out' b.network (binding_of j) s.opened) job s.given) r.runs
-      (subst (λ (j : Job). Theirs j s.opened b.ran.socket) job s.runs) gains gains' e)
+  compared (Ok j) (Ok k) o o' p q given given' r s gains gains' e = elim p [
+    | inl refused ↦ absurd refused
+    | inr answers ↦ elim q [
+      | inl refused ↦ absurd refused
+      | inr answers' ↦
+          let result = one_answer words (Ok j) (Ok k) answers answers' in
+          let job : k ≡ j = cc in
+          let same = jobs j o one.ran.socket o' other.ran.socket given
+          (subst (λ (j : Job). IsGiven gives' out' other.network (binding_of j) o') job given') r
+          (subst (λ (j : Job). Theirs j o' other.ran.socket) job s) gains gains' e in
+          (same.0, same.1, inl same.2)
+    ]
+  ]
 
-  pub runs_alike : AreAlike words one other
-  runs_alike = programs a.program b.program (sym a.has_socket ∙ h.socket ∙ b.has_socket) a.gained b.gained
+  pub runs_alike : AreAlike one other
+  runs_alike =
+      let p = one.program in
+      let q = other.program in
+      let alike = compared p.answer q.answer p.opened q.opened p.answered q.answered p.given q.given p.ends q.ends
+      one.gains other.gains h.socket in
+      record { asked = alike.0; printed = alike.1; told = alike.2 }

@@ -1,5 +1,5 @@
 -- The socket that a job asks for.
-use Rattle.std.specs.Prelude.{◌≡◌, ℕ, Bool, false, Option, Some, None, Result, Ok, Err, ⊤}
+use Rattle.std.specs.Prelude.{◌≡◌, ℕ, Bool, false, Option, Some, None, Result, IfOk, IsSomeAnd, ⊤}
 use Rattle.bac_links.specs.declared.link.LinkFault.{LinkFault}
 use Rattle.bac_links.specs.declared.udp.Refused.TheVariants.{Fails, IsLost}
 use Rattle.bac_words.specs.declared.jobs.Job.{Job}
@@ -10,20 +10,15 @@ use Rattle.bac_tools.specs.declared.binding.Binding.{Binding}
 abbrev pub client_at : ℕ → Binding
 client_at port = record { at = record { ip = 0; port = port; route = None }; refused = Fails }
 
--- A server's socket: it goes on where the system refuses what it sends.
-abbrev pub server_at : ℕ → Binding
-server_at port = record { at = record { ip = 0; port = port; route = None }; refused = IsLost }
-
+-- The socket of a job. A server's is as a client's, but it goes on where the system refuses what it sends.
 abbrev pub binding_of : Job → Option Binding
 binding_of (Read call) = Some (client_at call.port)
 binding_of (Write call) = Some (client_at call.port)
 binding_of (WhoIs search) = Some (client_at search.port)
-binding_of (Device serve) = Some (server_at serve.port)
+binding_of (Device serve) = Some (record (client_at serve.port) { refused = IsLost })
 binding_of Trace = None
 
 -- Where the job asks for a socket, there is a link that has not failed, or a fault that says why there is none.
 abbrev pub IsOpened : {L : Type 0} → (L → Bool) → Option Binding → Option (Result L LinkFault) → Type 0
 IsOpened failed None opened = ⊤
-IsOpened failed (Some binding) (Some (Ok link)) = failed link ≡ false
-IsOpened failed (Some binding) (Some (Err fault)) = ⊤
-IsOpened failed (Some binding) None = ⊥
+IsOpened failed (Some binding) opened = IsSomeAnd opened (λ socket. IfOk socket (λ link. failed link ≡ false))

@@ -1,5 +1,6 @@
 -- What a job prints, sends and leaves, and how the program ends: for each job by the definition of its tool.
 use Rattle.std.specs.Prelude.{◌≡◌, ◌≢◌, ◌↔◌, ◌⊎◌, ℕ, true, [], List, Option, Some, Result, Ok, Err, IfErr}
+use Rattle.std.specs.Result.{result_map_both}
 use Rattle.bac_device.specs.Demo.{demo_points}
 use Rattle.bac_device.specs.Device.{DeviceState, device_after}
 use Rattle.bac_text.specs.Checked.{has_failed}
@@ -10,6 +11,7 @@ use Rattle.bac_links.specs.Search.{Searched}
 use Rattle.bac_links.specs.Serve.{Serves}
 use Rattle.bac_links.specs.Fault.{is_link_fault, is_write_fault}
 use Rattle.bac_links.specs.declared.ending.Exit.{Exit}
+use Rattle.bac_links.specs.declared.ending.Exit.TheVariants.{Good}
 use Rattle.bac_links.specs.declared.ending.Purpose.TheVariants.{Reading, Writing}
 use Rattle.bac_links.specs.declared.fault.ToolFault.{ToolFault}
 use Rattle.bac_links.specs.declared.fault.ToolFault.TheVariants.{WriteFailed}
@@ -23,15 +25,16 @@ use Rattle.bac_words.specs.declared.jobs.Job.{Job}
 use Rattle.bac_words.specs.declared.jobs.Job.TheVariants.{Read, Write, WhoIs, Device, Trace}
 use Rattle.bac_words.specs.declared.jobs.Serve.{Serve}
 use Rattle.bac_tools.specs.Outside.{Outside}
-use Rattle.bac_tools.specs.Report.{as_exit, tool_report, trace_report, unbound_report}
+use Rattle.bac_tools.specs.Report.{report_of, tool_report, trace_report}
+use Rattle.bac_tools.specs.declared.report.Fault.TheVariants as faults
 use Rattle.bac_tools.specs.declared.report.Report.{Report}
 
--- A demonstration device: its replies to the datagrams that come.
+-- A demonstration device: its replies to the datagrams that come. However many they are, its exit is good.
 pub record DevicePlays (serve : Serve) (seen left : Account) (answer : Result Exit ToolFault) : Type 0 where
   pub device : DeviceState
   pub served : Result ℕ ToolFault
   pub serves : Serves serve.count (device_after serve.info demo_points []) device seen left served
-  pub answers : answer ≡ as_exit served
+  pub answers : answer ≡ result_map_both (λ replied. Good) (λ fault. fault) served
 
 -- ---- the tools over a link: what each does to its writer and its link, and its answer
 
@@ -64,13 +67,6 @@ module _ {L R W : Type 0} (out : Outside L R W) (reader reader' : Checked R) (wr
     pub unread : reader' ≡ reader
     pub reported : report ≡ tool_report answer
 
-  -- No socket was to be had: nothing was read and nothing printed, and why there was none is handed back.
-  pub record RunsUnbound (fault : LinkFault) (opened' : Option (Result L LinkFault)) : Type 0 where
-    pub refused : opened' ≡ Some (Err fault)
-    pub unread : reader' ≡ reader
-    pub unprinted : writer' ≡ writer
-    pub reported : report ≡ unbound_report fault
-
   -- A script was run: its text was printed, and the report says how it ended.
   pub record RunsScript : Type 0 where
     pub answer : Result TraceEnd TraceFault
@@ -79,9 +75,11 @@ module _ {L R W : Type 0} (out : Outside L R W) (reader reader' : Checked R) (wr
     pub write_fault : (has_failed writer' ≡ true) ↔ (answer ≡ Err stops.WriteFailed)
     pub reported : report ≡ trace_report answer
 
-  -- A job was run over the socket that was to be had, which is there afterwards.
+  -- A job was run over the socket that was to be had, which is there afterwards. Where none was to be had, nothing was
+  -- read and nothing printed, and why there was none is told and handed back.
   abbrev pub RunsOpened : Job → Option (Result L LinkFault) → Option (Result L LinkFault) → Type 0
-  RunsOpened job (Some (Err fault)) opened' = RunsUnbound fault opened'
+  RunsOpened job (Some (Err fault)) opened' = (opened' ≡ Some (Err fault)) × (reader' ≡ reader) × (writer' ≡ writer)
+      × (report ≡ report_of (faults.Link fault))
   RunsOpened job (Some (Ok link)) (Some (Ok link')) = RunsOver job link link'
   RunsOpened job opened opened' = ⊥
 

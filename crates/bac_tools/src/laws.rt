@@ -1,7 +1,7 @@
 //! What holds of the definitions that the contracts cite: the clause of a function with an empty body is the law.
 ghost use Rattle.std.specs.Prelude.{List};
 ghost use Rattle.clap.specs.Words.{Text};
-ghost use Rattle.bac_tools.specs.Alike.{Observed, Run, AreGivenAlike, AreAlike};
+ghost use Rattle.bac_tools.specs.Alike.{Run, AreGivenAlike, AreAlike};
 
 use crate::program::Network;
 use std::io::{Read, Write};
@@ -12,18 +12,12 @@ use std::io::{Read, Write};
 /// same, printed the same, and have the same report. Where `clap` does not take the words, each report tells of an
 /// error that `clap` may give at these.
 pub fn the_program_is_a_function<M: Network, N: Network, R: Read, S: Read, V: Write, W: Write>()
-    ensures { (words : List Text) (one other : Observed)
-        → Run M.gives record {
-          seen = M.Socket.seen;
-          failed = M.Socket.has_failed;
-          remaining = R.remaining;
-          contents = V.contents;
-        } words one
-        → Run N.gives record {
-          seen = N.Socket.seen;
-          failed = N.Socket.has_failed;
-          remaining = S.remaining;
-          contents = W.contents;
-        } words other
-        → AreGivenAlike one other → AreAlike words one other }
+    ensures { (words : List Text)
+        (one : Run M.gives
+        record { seen = M.Socket.seen; failed = M.Socket.has_failed; remaining = R.remaining; contents = V.contents }
+        words)
+        (other : Run N.gives
+        record { seen = N.Socket.seen; failed = N.Socket.has_failed; remaining = S.remaining; contents = W.contents }
+        words)
+        → AreGivenAlike one other → AreAlike one other }
 {}

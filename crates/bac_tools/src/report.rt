@@ -1,7 +1,8 @@
 //! How the program ends.
 ghost use Rattle.std.specs.Prelude.{◌≡◌};
-ghost use Rattle.bac_tools.specs.Report.{tool_report, trace_report, unbound_report, usage_report};
+ghost use Rattle.bac_tools.specs.Report.{report_of, tool_report, trace_report};
 ghost use Rattle.bac_tools.specs.Inner.Report.{unread_report};
+ghost use Rattle.bac_tools.specs.declared.report.Fault.TheVariants.{Link, Usage};
 
 use bac_links::{Exit, LinkFault, ToolFault, status};
 use bac_script::{TraceEnd, TraceFault, trace_status};
@@ -62,7 +63,7 @@ impl From<Result<TraceEnd, TraceFault>> for Report {
 }
 
 impl From<LinkFault> for Report {
-    ghost from_gives = { λ fault report. report ≡ unbound_report fault };
+    ghost from_gives = { λ fault report. report ≡ report_of (Link fault) };
 
     fn from(fault: LinkFault) -> Report {
         Report {
@@ -73,7 +74,7 @@ impl From<LinkFault> for Report {
 }
 
 impl From<UsageFault> for Report {
-    ghost from_gives = { λ fault report. report ≡ usage_report fault };
+    ghost from_gives = { λ fault report. report ≡ report_of (Usage fault) };
 
     fn from(fault: UsageFault) -> Report {
         Report {

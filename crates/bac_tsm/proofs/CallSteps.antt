@@ -6,13 +6,14 @@ use Rattle.std.proofs.lemmas.List.Elements.{All-filter, All-weaker}
 use Rattle.bac_tsm.specs.declared.due.Entry.{Entry}
 use Rattle.bac_tsm.specs.Events.{Rules, Request, Outcome}
 use Rattle.bac_tsm.specs.Machine.{Waiting, due_answer, kept, tick, Delivered, deliver, datagram}
-use Rattle.bac_tsm.specs.Client.{Client, client_rules, rules_of, keeping, IsTimely}
+use Rattle.bac_tsm.specs.Client.{Client, client_rules, rules_of, keeping}
+use Rattle.bac_tsm.specs.Inner.Client.{IsTimely}
 use Rattle.bac_tsm.proofs.CallNotes.{kept_of_all}
 use Rattle.std.specs.Option.{option_map, option_to_list}
 use Rattle.std.proofs.lemmas.List.{nil_from_length}
 use Rattle.bac_pdu.specs.Peer.{Station}
 use Rattle.bac_tsm.specs.Answers.{Answer, answer_in_datagram, outcome_of, is_answer_to}
-use Rattle.bac_tsm.specs.Waiting.{ticket_in}
+use Rattle.bac_tsm.specs.Inner.Waiting.{ticket_in}
 
 -- A client with this table, as its callers see it.
 abbrev seen_as : ℕ → ℕ → ℕ → ℕ → ℕ → List Waiting → Client
@@ -39,22 +40,20 @@ ticked timeout retries clock last next ws now later is answer after both client 
 
 pub timely-filter : (p : Waiting → Bool) (clock next : ℕ) (ws : List Waiting) → IsTimely clock next ws
     → IsTimely clock next (filter p ws)
-timely-filter p clock next ws t = record {
-  below = All-filter p (λ w. w.request.ticket < next) ws t.below;
-  past = All-filter p (λ w. w.base ≤ clock) ws t.past;
-}
+timely-filter p clock next ws t =
+    (All-filter p (λ w. w.request.ticket < next) ws t.0, All-filter p (λ w. w.base ≤ clock) ws t.1)
 
-module _ {clock next : ℕ} {ws : List Waiting} (t : IsTimely clock next ws) (now later : ℕ) (is : later ≡ max now clock)
+module _ (clock next : ℕ) (ws : List Waiting) (t : IsTimely clock next ws) (now later : ℕ) (is : later ≡ max now clock)
   where
     pub past_later : All (λ w. w.base ≤ later) ws
-    past_later = All-weaker (λ w. w.base ≤ clock) (λ w. w.base ≤ later) (λ w le. omega arith) ws t.past
+    past_later = All-weaker (λ w. w.base ≤ clock) (λ w. w.base ≤ later) (λ w le. omega arith) ws t.1
 
     pub timely-tick : (rules : Rules) (after : List Waiting) → after ≡ flat_map (kept rules later) ws
         → IsTimely later next after
-    timely-tick rules after to = rw to (record {
-      below = kept_of_all rules (λ w. w.request.ticket < next) later (λ w lt. lt) ws t.below;
-      past = kept_of_all rules (λ w. w.base ≤ later) later (λ w le. omega arith) ws past_later;
-    })
+    timely-tick rules after to = rw to (
+      kept_of_all rules (λ w. w.request.ticket < next) later (λ w lt. lt) ws t.0,
+      kept_of_all rules (λ w. w.base ≤ later) later (λ w le. omega arith) ws past_later,
+    )
 
 -- ---- what a datagram answers and leaves
 

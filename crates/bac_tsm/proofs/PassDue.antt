@@ -12,10 +12,10 @@ use Rattle.bac_tsm.specs.Limits.{table_size}
 use Rattle.bac_tsm.specs.declared.due.Entry.TheVariants.{Resend, TimedOut as Expired}
 use Rattle.bac_tsm.specs.Events.{Rules}
 use Rattle.bac_tsm.specs.Machine.{Waiting, is_due, due_entry, kept}
-use Rattle.bac_tsm.specs.Table.{held_at, times_of_slot, open_slots, waiting_in, IsTable, AreBySend}
-use Rattle.bac_tsm.specs.Inner.Table.{IsRankOf, IsPassed}
-use Rattle.bac_tsm.specs.Waiting.{nothing, ticket_in}
-use Rattle.bac_tsm.specs.Inner.Waiting.{sent_at}
+use Rattle.bac_tsm.specs.Table.{held_at, times_of_slot, open_slots, IsTable, AreBySend}
+use Rattle.bac_tsm.specs.Inner.Table.{waiting_in, IsRankOf, IsPassed}
+use Rattle.bac_tsm.specs.Waiting.{nothing}
+use Rattle.bac_tsm.specs.Inner.Waiting.{ticket_in, sent_at}
 use Rattle.bac_tsm.proofs.Held.{itself, held_got, times_got}
 use Rattle.bac_tsm.proofs.TableReads.{times_split, rank, turn_lt, stands, open_below, open_read, one_turn, as_many}
 use Rattle.bac_tsm.proofs.TableReads.{count}

@@ -15,11 +15,12 @@ use Rattle.bac_tsm.specs.Limits.{table_size}
 use Rattle.bac_tsm.specs.declared.request.Asked.{Asked}
 use Rattle.bac_tsm.specs.Events.{Request}
 use Rattle.bac_tsm.specs.Machine.{Waiting}
-use Rattle.bac_tsm.specs.Table.{times, held_at, number_at, times_of_slot, open_slots, waiting_in, Names, AreNamed}
+use Rattle.bac_tsm.specs.Table.{times, held_at, times_of_slot, open_slots, Names, AreNamed}
+use Rattle.bac_tsm.specs.Inner.Table.{number_at, waiting_in}
 use Rattle.bac_tsm.specs.Table.{IsTable, AreBySend}
 use Rattle.bac_tsm.specs.Inner.Table.{IsTakenOut}
-use Rattle.bac_tsm.specs.Waiting.{ticket_in, number_in, nothing}
-use Rattle.bac_tsm.specs.Inner.Waiting.{begun}
+use Rattle.bac_tsm.specs.Waiting.{nothing}
+use Rattle.bac_tsm.specs.Inner.Waiting.{ticket_in, number_in, begun}
 use Rattle.bac_tsm.proofs.Held.{itself, held-set, held-push, map-remove, held_got, same_turn, times-append, times_one}
 use Rattle.bac_tsm.proofs.Held.{times_other, times-remove, times_got}
 use Rattle.bac_tsm.proofs.TableReads.{times_split, few, read_listed, count, rank_within, turn_opened, here, ticket_got}

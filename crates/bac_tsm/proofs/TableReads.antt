@@ -17,9 +17,10 @@ use Rattle.std.proofs.lemmas.Bool.Decides.{nat_tests}
 use Rattle.bac_tsm.specs.Limits.{table_size}
 use Rattle.bac_tsm.specs.Machine.{Waiting}
 use Rattle.bac_tsm.specs.Answers.{Answer, is_answer_to}
-use Rattle.bac_tsm.specs.Table.{times, held_at, times_of_slot, open_slots, waiting_in, Names, IsTable}
-use Rattle.bac_tsm.specs.Inner.Table.{IsRankOf}
-use Rattle.bac_tsm.specs.Waiting.{ticket_in, number_in, nothing}
+use Rattle.bac_tsm.specs.Table.{times, held_at, times_of_slot, open_slots, Names, IsTable}
+use Rattle.bac_tsm.specs.Inner.Table.{waiting_in, IsRankOf}
+use Rattle.bac_tsm.specs.Waiting.{nothing}
+use Rattle.bac_tsm.specs.Inner.Waiting.{ticket_in, number_in}
 use Rattle.bac_tsm.proofs.CallNotes.{TicketsRise, by_ticket, pairs_tail}
 use Rattle.bac_tsm.proofs.Held.{itself, held_got, times-append, times_got, none_passes, one_passes}
 use Rattle.bac_tsm.specs.Lookahead.{first_within, next_invoke_id}

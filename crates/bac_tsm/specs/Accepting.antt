@@ -1,6 +1,6 @@
 -- What a new request gets, or why it is refused.
 use Rattle.std.specs.Prelude.{ℕ, ◌+◌, ◌-◌, ◌%◌, ◌^◌, List, length, Option, Some, None, not, nat_lt, nat_le, nat_eq}
-use Rattle.std.specs.Prelude.{if◌then◌else◌, unwrap_or, Result, Ok, Err}
+use Rattle.std.specs.Prelude.{if◌then◌else◌, unwrap_or}
 use Rattle.std.specs.List.{list_any}
 use Rattle.bac_tsm.specs.Limits.{longest_body}
 use Rattle.bac_tsm.specs.declared.client.SubmitFault.{SubmitFault}
@@ -19,8 +19,3 @@ refusal_of most_open body open_count ticket =
     if nat_lt longest_body (length body) then Some TooLong
     else if nat_le most_open open_count then Some TableFull
     else if nat_lt ticket (2 ^ 64 - 1) then None else Some TicketsSpent
-
--- The request itself, where there is no reason to refuse it.
-abbrev pub unless_refused : {A : Type 0} → Option SubmitFault → A → Result A SubmitFault
-unless_refused None request = Ok request
-unless_refused (Some why) request = Err why

@@ -1,6 +1,7 @@
 -- Positions in a list of events, and the clock there.
 use Rattle.std.specs.Prelude.{ℕ, zero, suc, ◌-◌, max, List, [], ◌∷◌, length, take, Option, Some, None, Bool, true}
 use Rattle.std.specs.Prelude.{false, nat_lt, if◌then◌else◌}
+use Rattle.std.specs.Option.{option_map_or}
 use Rattle.bac_tsm.specs.Events.{Event, Tick}
 
 -- The first of n numbers from i on that passes the test.
@@ -29,5 +30,4 @@ is_tick _ = false
 
 -- Position i comes before this one, or there is none.
 abbrev pub is_before : ℕ → Option ℕ → Bool
-is_before i None = true
-is_before i (Some j) = nat_lt i j
+is_before i j = option_map_or (nat_lt i) j true

@@ -1,7 +1,8 @@
 -- A request as it was accepted, its end, and the notes on it.
-use Rattle.std.specs.Prelude.{ℕ, List, [], ◌∷◌, map, Option, Some, None, Bool, false, nat_lt, nat_eq, if◌then◌else◌}
+use Rattle.std.specs.Prelude.{ℕ, List, [], ◌∷◌, Option, Some, None, nat_lt, nat_eq, if◌then◌else◌}
 use Rattle.std.specs.Prelude.{Result, Ok, Err}
 use Rattle.std.specs.List.{fold}
+use Rattle.std.specs.Option.{option_map_or}
 use Rattle.bac_tsm.specs.declared.client.SubmitFault.{SubmitFault}
 use Rattle.bac_tsm.specs.Events.{Outcome, Event, Data, Note, Sent, Refused, Done, Dropped, TimedOut, Request, Rules}
 
@@ -21,38 +22,20 @@ earlier_end None late = late
 earlier_end (Some early) None = Some early
 earlier_end (Some early) (Some late) = if nat_lt early.position late.position then Some early else Some late
 
--- There is an end, and it lies before position i.
-abbrev pub is_over : ℕ → Option End → Bool
-is_over i None = false
-is_over i (Some e) = nat_lt e.position i
-
 -- The outcome that the event gives to a request, if it is an answer to it.
 abbrev pub outcome_of_event : Rules → Request → Option Event → Option Outcome
 outcome_of_event rules request (Some (Data peer bytes)) = rules.outcome_of request peer bytes
 outcome_of_event rules request _ = None
 
--- The numbers of these requests.
-abbrev pub numbers_of : List Accepted → List ℕ
-numbers_of requests = map (λ a. a.request.number) requests
-
 -- The number of the last of these requests, 0 if there is none.
 abbrev pub last_number : List Accepted → ℕ
 last_number requests = fold (λ last a. a.request.number) 0 requests
 
--- The request that was accepted, if one was.
-abbrev pub ok_to_list : Result Accepted SubmitFault → List Accepted
-ok_to_list (Ok a) = a ∷ []
-ok_to_list (Err why) = []
-
--- The note on an end.
-abbrev pub end_note : Request → Option Outcome → Note
-end_note request None = TimedOut request.ticket
-end_note request (Some outcome) = Done request.ticket outcome
-
--- The note on an end, if it is at position i.
+-- The note on an end, if it is at position i: the outcome, or that the time ran out where there is none.
 abbrev pub end_notes : ℕ → Request → Option End → List Note
 end_notes i request None = []
-end_notes i request (Some e) = if nat_eq e.position i then end_note request e.outcome ∷ [] else []
+end_notes i request (Some e) =
+    if nat_eq e.position i then option_map_or (Done request.ticket) e.outcome (TimedOut request.ticket) ∷ [] else []
 
 -- These notes, or that the datagram was dropped.
 abbrev pub or_dropped : List Note → List Note

@@ -15,14 +15,10 @@ pub record FollowsTheRule (rules : Rules) (first_ticket : ℕ) (events : List Ev
   -- A request is placed to be sent at most once more than the retries.
   pub few_sends : (a : Accepted) → length (sends rules events a) ≤ 1 + rules.retries
   -- The notes that send a request stand exactly where it is placed to be sent, with its peer and octets.
-  pub sent_where_placed : (i : ℕ)
-      → All (λ a. filter (is_send_of a.request.ticket) (output rules first_ticket events i)
-      ≡ send_notes rules events i a)
-      (accepted rules first_ticket events (length events))
+  pub sent_where_placed : (i : ℕ) → All (λ a. filter (is_send_of a.request.ticket) (output rules first_ticket events i)
+      ≡ send_notes rules events i a) (accepted rules first_ticket events (length events))
   -- The note that ends it stands exactly where its end is, with the outcome.
-  pub ended_where_placed : (i : ℕ)
-      → All (λ a. filter (is_end_of a.request.ticket) (output rules first_ticket events i)
-      ≡ end_notes i a.request (end rules events a))
-      (accepted rules first_ticket events (length events))
+  pub ended_where_placed : (i : ℕ) → All (λ a. filter (is_end_of a.request.ticket) (output rules first_ticket events i)
+      ≡ end_notes i a.request (end rules events a)) (accepted rules first_ticket events (length events))
   -- Between two accepted requests with one number stand at least 256 others, less as many as may be open at once.
   pub reuse : NumbersComeBackLate rules.most_open (accepted rules first_ticket events (length events))

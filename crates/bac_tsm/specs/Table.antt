@@ -3,15 +3,11 @@ use Rattle.std.specs.Prelude.{◌≡◌, ℕ, ◌<◌, ◌≤◌, List, length, 
 use Rattle.std.specs.List.{AllPairs, filter}
 use Rattle.bac_tsm.specs.Limits.{table_size}
 use Rattle.bac_tsm.specs.Machine.{Waiting}
-use Rattle.bac_tsm.specs.Waiting.{ticket_in, number_in, nothing}
+use Rattle.bac_tsm.specs.Waiting.{nothing}
 
 -- The request at each of these slots.
 abbrev pub held_at : List Waiting → List ℕ → List Waiting
 held_at slots order = map (λ slot. get_or slots slot nothing) order
-
--- The number of the request at this slot.
-abbrev pub number_at : List Waiting → ℕ → ℕ
-number_at slots slot = (get_or slots slot nothing).request.number
 
 -- How many of these things have this key.
 abbrev pub times : {A : Type 0} → (A → ℕ) → ℕ → List A → ℕ
@@ -25,19 +21,16 @@ times_of_slot = times (λ slot. slot)
 abbrev pub open_slots : List ℕ → List ℕ → List ℕ
 open_slots order tickets = take (length tickets) order
 
--- The open requests.
-abbrev pub waiting_in : List Waiting → List ℕ → List ℕ → List Waiting
-waiting_in slots order tickets = held_at slots (open_slots order tickets)
-
 -- The entry of a number: none where no open request has it, else the slot of the one that has it.
 abbrev pub Names : List Waiting → List ℕ → ℕ → Option ℕ → Type 0
-Names slots order number None = times number_in number (held_at slots order) ≡ 0
-Names slots order number (Some slot) = (0 < times_of_slot slot order) × (number_at slots slot ≡ number)
+Names slots order number None = times (λ w. w.request.number) number (held_at slots order) ≡ 0
+Names slots order number (Some slot) = (0 < times_of_slot slot order)
+    × ((get_or slots slot nothing).request.number ≡ number)
 
 -- No two open requests have one number, and each number has an entry that says so.
 pub record AreNamed (slots : List Waiting) (numbers : List (Option ℕ)) (order : List ℕ) : Type 0 where
   pub all_numbers : length numbers ≡ 256
-  pub apart : (number : ℕ) → times number_in number (held_at slots order) ≤ 1
+  pub apart : (number : ℕ) → times (λ w. w.request.number) number (held_at slots order) ≤ 1
   pub named : (number : ℕ) → number < 256 → Names slots order number (get_or numbers number None)
 
 -- The parts of the table fit each other: each slot stands in the order once, and the tickets are those of the open
@@ -48,7 +41,7 @@ pub record IsTable (slots : List Waiting) (numbers : List (Option ℕ)) (order t
   pub within : (slot : ℕ) → table_size ≤ slot → times_of_slot slot order ≡ 0
   pub once : (slot : ℕ) → times_of_slot slot order ≤ 1
   pub numbered : AreNamed slots numbers (open_slots order tickets)
-  pub ticketed : map ticket_in (waiting_in slots order tickets) ≡ tickets
+  pub ticketed : map (λ w. w.request.ticket) (held_at slots (open_slots order tickets)) ≡ tickets
   pub rise : AllPairs (λ early late. early < late) tickets
 
 -- The slots of the open requests stand in the order of their last sends, each once.

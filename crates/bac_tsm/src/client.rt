@@ -4,9 +4,9 @@ ghost use Rattle.std.specs.Prelude.{◌≡◌, ◌<◌, ◌≤◌, IfNone, lengt
 ghost use Rattle.std.specs.Option.{option_map, option_copied};
 ghost use Rattle.bac_tsm.specs.Limits.{longest_body, table_size};
 ghost use Rattle.bac_tsm.specs.Lookahead.{refusal_of};
-ghost use Rattle.bac_tsm.specs.Machine.{submit, datagram, tick, to_send, number_of, open_under, initial};
+ghost use Rattle.bac_tsm.specs.Machine.{submit, datagram, tick, to_send, open_under, initial};
 ghost use Rattle.bac_pdu.specs.Peer.{station};
-ghost use Rattle.bac_tsm.specs.Client.{rules_of, keeping, end_seen, send_seen};
+ghost use Rattle.bac_tsm.specs.Client.{client_of, rules_of, keeping, end_seen};
 
 use crate::answer::read_answer;
 use crate::config::Config;
@@ -43,33 +43,28 @@ pub struct Client {
 }
 
 impl Model for Client {
-    ghost use Rattle.bac_tsm.specs.Client.{Client as Held};
-    ghost use Rattle.bac_tsm.specs.Client.{IsTimely};
+    ghost use Rattle.std.specs.Prelude.{◌<◌, ◌≤◌};
+    ghost use Rattle.std.specs.List.{All};
+    ghost use Rattle.bac_tsm.specs.Client.{Client as Held, client_of};
 
     ghost Value = { Held };
 
-    ghost view = { λ c. record {
-      timeout = c.config.timeout;
-      retries = c.config.retries;
-      state = record {
-        clock = c.clock;
-        last_number = c.last_number;
-        next_ticket = c.next_ticket;
-        waiting = c.table;
-      };
-    } };
+    ghost view = { λ c. client_of c.config (record {
+      clock = c.clock;
+      last_number = c.last_number;
+      next_ticket = c.next_ticket;
+      waiting = c.table;
+    }) };
 
-    ghost invariant = { λ c. IsTimely c.clock c.next_ticket c.table };
+    // Of the open requests the tickets are below the next one, and each was last sent before now, or now.
+    ghost invariant = { λ c. All (λ w. w.request.ticket < c.next_ticket) c.table
+        × All (λ w. w.base ≤ c.clock) c.table };
 }
 
 impl Client {
     /// A client with no request open, whose clock is 0. Its tickets count up from the first.
     pub fn new(config: Config, first_ticket: u64) -> Self
-        ensures { result ≡ record {
-          timeout = config.timeout;
-          retries = config.retries;
-          state = initial first_ticket;
-        } }
+        ensures { result ≡ client_of config (initial first_ticket) }
     {
         Client {
             config,
@@ -143,7 +138,7 @@ impl Client {
 
     /// Where the request with this ticket goes, and its datagram. None where no open request has the ticket.
     pub fn to_send(&self, ticket: u64) -> Option<(Peer, &[u8])>
-        ensures { option_map send_seen result ≡ to_send self.now.state ticket }
+        ensures { option_map (λ to. (station to.0, to.1.now)) result ≡ to_send self.now.state ticket }
     {
         let open = self.find(ticket)?;
         Some((open.peer, open.datagram.as_slice()))
@@ -159,7 +154,7 @@ impl Client {
 
     /// The invoke id of the request with this ticket. None where no open request has the ticket.
     pub fn number_of(&self, ticket: u64) -> Option<u8>
-        ensures { result ≡ number_of self.now.state ticket }
+        ensures { result ≡ option_map (λ w. w.request.number) (open_under self.now.state ticket) }
     {
         let open = self.find(ticket)?;
         Some(open.number)

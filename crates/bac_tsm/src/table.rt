@@ -14,8 +14,8 @@ ghost use Rattle.bac_tsm.specs.Inner.Seen.{answer_seen};
 ghost use Rattle.bac_tsm.specs.Client.{client_rules};
 ghost use Rattle.bac_tsm.specs.Table.{times, times_of_slot};
 ghost use Rattle.bac_tsm.specs.Inner.Table.{IsRankOf, IsPassed, IsTakenOut};
-ghost use Rattle.bac_tsm.specs.Waiting.{nothing, ticket_in, number_in};
-ghost use Rattle.bac_tsm.specs.Inner.Waiting.{begun, sent_at};
+ghost use Rattle.bac_tsm.specs.Waiting.{nothing};
+ghost use Rattle.bac_tsm.specs.Inner.Waiting.{begun, sent_at, ticket_in, number_in};
 
 use crate::answer::Answer;
 use crate::config::Config;
@@ -46,11 +46,11 @@ pub(crate) struct Table {
 impl Model for Table {
     ghost use Rattle.std.specs.Prelude.{List};
     ghost use Rattle.bac_tsm.specs.Machine.{Waiting};
-    ghost use Rattle.bac_tsm.specs.Table.{waiting_in, open_slots, IsTable, AreBySend};
+    ghost use Rattle.bac_tsm.specs.Table.{held_at, open_slots, IsTable, AreBySend};
 
     ghost Value = { List Waiting };
 
-    ghost view = { λ t. waiting_in t.slots t.order.items t.tickets.items };
+    ghost view = { λ t. held_at t.slots (open_slots t.order.items t.tickets.items) };
 
     ghost invariant = { λ t. IsTable t.slots t.numbers t.order.items t.tickets.items
         × AreBySend t.slots (open_slots t.order.items t.tickets.items) t.sends.items };

@@ -1,37 +1,27 @@
 //! The laws of the client: what its machine does is what the look-ahead says.
 
 ghost use Rattle.std.specs.Prelude.{◌≡◌, ◌≢◌, ◌↔◌, ℕ, suc, ◌+◌, ◌<◌, ◌≤◌, List, ◌∷◌, ◌++◌, length, Some, IsSomeAnd};
-ghost use Rattle.std.specs.Prelude.{take, true};
-ghost use Rattle.std.specs.List.{AllPairs};
+ghost use Rattle.std.specs.Prelude.{◌%◌, filter, map, take, true, nat_eq};
+ghost use Rattle.std.specs.List.{AllPairs, list_any};
 ghost use Rattle.bac_pdu.specs.Peer.{Station};
 ghost use Rattle.bac_tsm.specs.Answers.{same_station, outcome_of};
 ghost use Rattle.bac_tsm.specs.AnswersInWords.{IsAnsweredBy};
 ghost use Rattle.bac_tsm.specs.Client.{client_rules};
 ghost use Rattle.bac_tsm.specs.Events.{Event, Outcome, Request, Rules};
-ghost use Rattle.bac_tsm.specs.Lookahead.{Accepted, accepted, due, end, open_among, open_at, output, sends};
+ghost use Rattle.bac_tsm.specs.Lookahead.{Accepted, accepted, due, end, is_open_at, open_at, output, sends};
 ghost use Rattle.bac_tsm.specs.Progress.{TimeoutsPass, last_of};
-ghost use Rattle.bac_tsm.specs.Machine.{folded, initial};
-ghost use Rattle.bac_tsm.specs.Laws.{AnswersByNumber, NumbersComeBackLate, PassedAreHeld, outputs, state_at};
+ghost use Rattle.bac_tsm.specs.Laws.{AnswersByNumber, MachineIsLookahead, NumbersComeBackLate, steps_through};
 
 /// The machine tells, at each position, the notes that the look-ahead gives there, and keeps what it says is open.
-#[tactic(auto, using(crate::proofs::WholeRun::run_whole, crate::proofs::WholeRun::run_first))]
 pub fn run_is_lookahead()
-    ensures notes { (rules : Rules) (first_ticket : ℕ) (events : List Event) →
-        AnswersByNumber rules → rules.most_open ≤ 255 →
-        (folded rules (initial first_ticket) 0 events).notes ≡ outputs rules first_ticket events 0 (length events) }
-    ensures kept { (rules : Rules) (first_ticket : ℕ) (events : List Event) (n : ℕ) →
-        AnswersByNumber rules → rules.most_open ≤ 255 → n ≤ length events →
-        (folded rules (initial first_ticket) 0 (take n events)).after ≡ state_at rules first_ticket events n }
+    ensures { (rules : Rules) (first_ticket : ℕ) (events : List Event) →
+        AnswersByNumber rules → rules.most_open ≤ 255 → MachineIsLookahead rules first_ticket events }
 {}
 
 /// The same of the rules that a client goes by.
 pub fn client_is_lookahead()
-    ensures notes { (timeout retries first_ticket : ℕ) (events : List Event)
-        → let rules = client_rules timeout retries in
-        (folded rules (initial first_ticket) 0 events).notes ≡ outputs rules first_ticket events 0 (length events) }
-    ensures kept { (timeout retries first_ticket : ℕ) (events : List Event) (n : ℕ) → n ≤ length events
-        → let rules = client_rules timeout retries in
-        (folded rules (initial first_ticket) 0 (take n events)).after ≡ state_at rules first_ticket events n }
+    ensures { (timeout retries first_ticket : ℕ) (events : List Event) →
+        MachineIsLookahead (client_rules timeout retries) first_ticket events }
 {}
 
 /// The requests that one datagram answers have the same number.
@@ -57,9 +47,8 @@ pub fn answers_in_words()
 pub fn table_is_bounded()
     ensures few { (rules : Rules) (first_ticket : ℕ) (events : List Event) (n : ℕ) →
         rules.most_open ≤ 255 → length (open_at rules first_ticket events n) ≤ rules.most_open }
-    ensures apart { (rules : Rules) (first_ticket : ℕ) (events : List Event) (n : ℕ) →
-        rules.most_open ≤ 255
-        → AllPairs (λ a b. a.request.number ≢ b.request.number) (open_at rules first_ticket events n) }
+    ensures apart { (rules : Rules) (first_ticket : ℕ) (events : List Event) (n : ℕ) → rules.most_open ≤ 255 →
+        AllPairs (λ a b. a.request.number ≢ b.request.number) (open_at rules first_ticket events n) }
     ensures tickets { (rules : Rules) (first_ticket : ℕ) (events : List Event) (n : ℕ) →
         AllPairs (λ a b. a.request.ticket < b.request.ticket) (open_at rules first_ticket events n) }
     ensures sends { (rules : Rules) (events : List Event) (a : Accepted) →
@@ -86,7 +75,9 @@ pub fn numbers_come_back_late()
 pub fn passed_numbers_are_held()
     ensures { (rules : Rules) (first_ticket : ℕ) (events : List Event) (n : ℕ) → rules.most_open ≤ 255 →
         (before since : List Accepted) (a : Accepted) → accepted rules first_ticket events n ≡ before ++ a ∷ since →
-        PassedAreHeld a (open_among rules events a.position before) since }
+        (step : ℕ) → 1 ≤ step → step ≤ steps_through a.request.number since →
+        list_any (nat_eq ((a.request.number + step) % 256)) (map (λ b. b.request.number)
+        (a ∷ (filter (is_open_at rules events a.position) before ++ since))) ≡ true }
 {}
 
 /// No request waits for ever: as often as the timeout passed, by ticks, it has been due, and once that is more often

@@ -147,9 +147,10 @@ value_again : (front : List ℕ) (value : Datum) (rest : List ℕ) → Spells fr
     → value_at (front ++ rest) ≡ Some (value, rest)
 unfolding value_at
 value_again front value rest s =
-    let tag = tag_reader.again s.tag (tag_before value (length s.contents)) (s.contents ++ rest) s.tagged in
+    let t = s.tagged in
+    let tag = tag_reader.again t.front (tag_before value (length s.contents)) (s.contents ++ rest) t.spelled in
     let shaped = shaped_again value s.contents rest s.held in
-    rw (s.whole, append_assoc s.tag s.contents rest, tag, shaped) refl
+    rw (t.whole, append_assoc t.front s.contents rest, tag, shaped) refl
 
 boolean_takes : (n : ℕ) (value : Datum) → boolean_of n ≡ Some value → (b : Bool) × (value ≡ boolean b)
     × (n ≡ cond b 1 0)
@@ -198,7 +199,7 @@ shape_takes number (App n) tag after value rest s e =
     let taken = behind_takes number n after value rest e in
     let tagged : SpellsTag tag (tag_before value (length taken.0)) = rw (taken.1, taken.2) s in (
       tag ++ taken.0,
-      record { tag = tag; contents = taken.0; whole = refl; tagged = tagged; held = taken.3 },
+      record { contents = taken.0; tagged = record { front = tag; spelled = tagged; whole = refl }; held = taken.3 },
       ap (λ (w : List ℕ). tag ++ w) taken.4 ∙ sym (append_assoc tag taken.0 rest),
     )
 shape_takes number _ tag after value rest s e = absurd cc

@@ -13,16 +13,15 @@ use Rattle.bac_wire.specs.Inner.Front.{Finds}
 use Rattle.bac_wire.specs.Tag.{SpellsTag}
 use Rattle.bac_wire.specs.Steps.{◌>>=◌}
 use Rattle.bac_wire.specs.TagReading.{tag_at}
-use Rattle.bac_wire.specs.Region.{opening_tag, closing_tag, IsSequence, none, more, IsItem, IsRegion, IsClosedBy}
-use Rattle.bac_wire.specs.Region.{HasEnded, LeavesRest, IsClosedRegion, FindsRegion, SpellsClosed, Opens, here, past}
-use Rattle.bac_wire.specs.Region.{into}
+use Rattle.bac_wire.specs.Region.{opening_tag, closing_tag, IsSequence, none, more, IsItem, IsRegion, HasEnded}
+use Rattle.bac_wire.specs.Region.{LeavesRest, IsClosedRegion, FindsRegion, SpellsClosed, Opens, here, past, into}
 use Rattle.bac_wire.specs.Inner.Region.{CountsBehind, LeavesBehind}
 use Rattle.bac_wire.specs.ItemReading.{behind_count, behind_closing, behind_item, behind_items, region_at}
 use Rattle.bac_wire.proofs.Readers.{IsReader, found_at, take_front, unless}
 use Rattle.bac_wire.proofs.TagLaws.{tag_reader, bind_some}
 use Rattle.bac_wire.proofs.RegionReading.{no_octets, closing_read, after_shorter, item_shorter, item_at, ended_none}
 use Rattle.bac_wire.proofs.RegionReading.{one_step, closed_takes, closed_again, item_at_takes, items_take, item_again}
-use Rattle.bac_wire.proofs.RegionReading.{items_again}
+use Rattle.bac_wire.proofs.RegionReading.{items_again, IsClosedBy}
 
 -- ---- one rest, and one item
 
@@ -71,7 +70,7 @@ item_ended depth octets item rest ended i e =
 pub item_opens : (depth number : ℕ) (item closing u v : List ℕ) → IsItem depth item
     → SpellsTag closing (closing_tag number) → item ++ u ≡ closing ++ v → ⊥
 item_opens depth number item closing u v i s e =
-    item_ended depth (item ++ u) item u (inr (number, v, record { closing = closing; closed = s; whole = e })) i refl
+    item_ended depth (item ++ u) item u (inr (number, v, record { front = closing; spelled = s; whole = e })) i refl
 
 -- ---- one region, and how deep it is
 
@@ -311,7 +310,7 @@ closed_line number front region rest s =
       rest = rest;
       region = s.items;
       whole = line;
-      closed = record { closing = s.closing; closed = s.closed; whole = refl };
+      closed = record { front = s.closing; spelled = s.closed; whole = refl };
     }
 
 pub region_reader : (number : ℕ) → IsReader (SpellsClosed number) (region_at number)
@@ -319,11 +318,11 @@ region_reader number = record {
   takes = λ octets region rest e.
       let t = region_takes number octets region rest e in
       let c = t.0.closed in
-      let line = t.0.whole ∙ ap (λ (w : List ℕ). region ++ w) (c.whole ∙ ap (λ (w : List ℕ). c.closing ++ w) t.1)
-      ∙ sym (append_assoc region c.closing rest) in
+      let line = t.0.whole ∙ ap (λ (w : List ℕ). region ++ w) (c.whole ∙ ap (λ (w : List ℕ). c.front ++ w) t.1)
+      ∙ sym (append_assoc region c.front rest) in
       record {
-        front = region ++ c.closing;
-        spelled = record { closing = c.closing; whole = refl; items = t.0.region; closed = c.closed };
+        front = region ++ c.front;
+        spelled = record { closing = c.front; whole = refl; items = t.0.region; closed = c.spelled };
         whole = line;
       };
   again = λ front region rest s. region_again number (front ++ rest) region (closed_line number front region rest s);

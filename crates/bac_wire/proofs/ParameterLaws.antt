@@ -16,13 +16,13 @@ use Rattle.bac_wire.specs.Tag.{SpellsTag, plain_tag}
 use Rattle.bac_wire.specs.Steps.{◌>>=◌}
 use Rattle.bac_wire.specs.TagReading.{tag_at}
 use Rattle.bac_wire.specs.Region.{IsRegion, opening_tag, closing_tag}
-use Rattle.bac_wire.specs.Datum.{Datum, Spells, unsigned, enumerated, octet_count}
+use Rattle.bac_wire.specs.Datum.{Datum, Spells, StandsFor, unsigned, enumerated, octet_count}
 use Rattle.bac_wire.specs.Datum as values
-use Rattle.bac_wire.specs.DatumReading.{value_at}
+use Rattle.bac_wire.specs.DatumReading.{number_within, value_at}
 use Rattle.bac_wire.specs.ItemReading.{region_at}
-use Rattle.bac_wire.specs.Parameter.{context_tag, SpellsContext, IsNumber, IsObject, SpellsIn, SpellsEnclosed}
+use Rattle.bac_wire.specs.Parameter.{context_tag, SpellsContext, SpellsIn, SpellsEnclosed}
 use Rattle.bac_wire.specs.Parameter.{context_octets, number_octets, object_octets, enclosed_octets}
-use Rattle.bac_wire.specs.ParameterReading.{counted_of, context_at, number_of_contents, object_of_contents, number_at}
+use Rattle.bac_wire.specs.ParameterReading.{counted_of, context_at, object_of_contents, number_at}
 use Rattle.bac_wire.specs.ParameterReading.{object_at, opening_of, behind_opening, enclosed_at, unsigned_in}
 use Rattle.bac_wire.specs.ParameterReading.{enumerated_in, object_in, kind_at}
 use Rattle.bac_wire.proofs.Readers.{reader_of, found_at, only_if, unless}
@@ -50,7 +50,7 @@ counted_takes number octets tag (Context n) after contents rest e is f =
     let after_is : after ≡ contents ++ rest = sym (take-append-drop n after)
     ∙ ap (λ (w : List ℕ). w ++ drop n after) parts.0 ∙ ap (λ (w : List ℕ). contents ++ w) parts.1 in
     let here : SpellsContext number (taken.front ++ contents) contents =
-    record { tag = taken.front; whole = refl; tagged = subst (SpellsTag taken.front) tag_here taken.spelled } in (
+    record { front = taken.front; spelled = subst (SpellsTag taken.front) tag_here taken.spelled; whole = refl } in (
       taken.front ++ contents,
       here,
       taken.whole ∙ ap (λ (w : List ℕ). taken.front ++ w) after_is
@@ -81,28 +81,31 @@ context_again : (number : ℕ) (front contents rest : List ℕ) → SpellsContex
     → context_at number (front ++ rest) ≡ found_at contents rest
 unfolding context_at
 context_again number front contents rest s =
-    rw (tag_again front s.tag contents rest (context_tag number (length contents)) s.whole s.tagged)
+    rw (tag_again front s.front contents rest (context_tag number (length contents)) s.whole s.spelled)
     (counted_again number contents rest)
 
 -- ---- what the contents stand for
 
-object_takes : (contents : List ℕ) (id : Identifier) → object_of_contents contents ≡ Some id → IsObject contents id
+object_takes : (contents : List ℕ) (id : Identifier) → object_of_contents contents ≡ Some id
+    → StandsFor contents (values.object id)
 object_takes contents id e =
     let four = cond_some (eqb (length contents) 4) (identifier_of (big_number 4 contents)) id e in
-    subst (IsObject contents) four.1 (eqb-true (length contents) 4 four.0, omega arith, omega arith)
+    subst (λ (o : Identifier). StandsFor contents (values.object o)) four.1
+    (eqb-true (length contents) 4 four.0, omega arith, omega arith)
 
-object_again : (contents : List ℕ) (id : Identifier) → IsObject contents id → object_of_contents contents ≡ Some id
+object_again : (contents : List ℕ) (id : Identifier) → StandsFor contents (values.object id)
+    → object_of_contents contents ≡ Some id
 object_again contents id s =
     rw (eq-eqb (length contents) 4 s.0) (ap Some (same_identifier (big_number 4 contents) id s.1 s.2))
 
 -- ---- numbers and objects
 
-in_reader : {A : Type 0} (Stands : List ℕ → A → Type 0) (of : List ℕ → Option A)
-    → ((contents : List ℕ) (x : A) → of contents ≡ Some x → Stands contents x)
-    → ((contents : List ℕ) (x : A) → Stands contents x → of contents ≡ Some x)
-    → (number : ℕ) → IsReader (SpellsIn Stands number)
+in_reader : {A : Type 0} (kind : A → Datum) (of : List ℕ → Option A)
+    → ((contents : List ℕ) (x : A) → of contents ≡ Some x → StandsFor contents (kind x))
+    → ((contents : List ℕ) (x : A) → StandsFor contents (kind x) → of contents ≡ Some x)
+    → (number : ℕ) → IsReader (SpellsIn kind number)
     (λ octets. context_at number octets >>= (λ c. of c.0 >>= (λ a. found_at a c.1)))
-in_reader Stands of taken_as again_as number = record {
+in_reader kind of taken_as again_as number = record {
   takes = λ octets x rest e.
       let a = bind_some (context_at number octets) (λ c. of c.0 >>= (λ a. found_at a c.1)) (x, rest) e in
       let b = bind_some (of a.0.0) (λ y. found_at y a.0.1) (x, rest) a.2 in
@@ -117,15 +120,15 @@ in_reader Stands of taken_as again_as number = record {
       rw (context_again number front s.contents rest s.context, again_as s.contents x s.stands) refl;
 }
 
-pub number_reader : (number : ℕ) → IsReader (SpellsIn IsNumber number) (number_at number)
+pub number_reader : (number : ℕ) → IsReader (SpellsIn enumerated number) (number_at number)
 unfolding number_at
 number_reader number =
-    in_reader IsNumber number_of_contents (within_takes 4)
+    in_reader enumerated (number_within 4) (within_takes 4)
     (λ contents n s. within_again 4 contents s.0 s.1 ∙ ap Some (sym s.2)) number
 
-pub object_reader : (number : ℕ) → IsReader (SpellsIn IsObject number) (object_at number)
+pub object_reader : (number : ℕ) → IsReader (SpellsIn values.object number) (object_at number)
 unfolding object_at
-object_reader number = in_reader IsObject object_of_contents object_takes object_again number
+object_reader number = in_reader values.object object_of_contents object_takes object_again number
 
 pub context_reader : (number : ℕ) → IsReader (SpellsContext number) (context_at number)
 context_reader number =
@@ -163,7 +166,16 @@ enclosed_takes number octets region rest e =
     let line = t.whole ∙ ap (λ (w : List ℕ). t.front ++ w) (same.2 ∙ b.whole)
     ∙ sym (append_assoc t.front b.front rest) in (
       t.front ++ b.front,
-      record { opening = t.front; behind = b.front; whole = refl; opened = opened; closed = b.spelled },
+      record {
+        closing = b.spelled.closing;
+        opened = record {
+          front = t.front;
+          spelled = opened;
+          whole = ap (λ (w : List ℕ). t.front ++ w) b.spelled.whole;
+        };
+        parts = b.spelled.items;
+        closed = b.spelled.closed;
+      },
       line,
     )
 
@@ -171,8 +183,13 @@ enclosed_again : (number : ℕ) (front region rest : List ℕ) → SpellsEnclose
     → enclosed_at number (front ++ rest) ≡ found_at region rest
 unfolding enclosed_at behind_opening
 enclosed_again number front region rest s =
-    rw (tag_again front s.opening s.behind rest (opening_tag number) s.whole s.opened, eq-eqb number number refl)
-    ((region_reader number).again s.behind region rest s.closed)
+    let o = s.opened in
+    rw (
+      tag_again front o.front (region ++ s.closing) rest (opening_tag number) o.whole o.spelled,
+      eq-eqb number number refl,
+    )
+    ((region_reader number).again (region ++ s.closing) region rest
+    (record { closing = s.closing; whole = refl; items = s.parts; closed = s.closed }))
 
 pub enclosed_reader : (number : ℕ) → IsReader (SpellsEnclosed number) (enclosed_at number)
 enclosed_reader number =
@@ -183,7 +200,8 @@ pub enclosed_no_number : (number other : ℕ) (octets front region rest : List �
     → octets ≡ front ++ rest → number_at number octets ≡ None
 unfolding number_at context_at
 enclosed_no_number number other octets front region rest s e =
-    rw (e, tag_again front s.opening s.behind rest (opening_tag other) s.whole s.opened) refl
+    let o = s.opened in
+    rw (e, tag_again front o.front (region ++ s.closing) rest (opening_tag other) o.whole o.spelled) refl
 
 -- ---- values of one kind
 
@@ -228,12 +246,12 @@ object_step = kind_step values.object object_in (λ value x e. grind arith) (λ 
 pub context_spells : (number : ℕ) (contents : List ℕ) → number < 255 → length contents < 2 ^ 32
     → SpellsContext number (context_octets number contents) contents
 context_spells number contents low short = record {
-  tag = plain_tag (context_tag number (length contents));
+  front = plain_tag (context_tag number (length contents));
+  spelled = plain_tag_spells (context_tag number (length contents)) (record { number = low; count = short });
   whole = refl;
-  tagged = plain_tag_spells (context_tag number (length contents)) (record { number = low; count = short });
 }
 
-pub number_spells : (number n : ℕ) → number < 255 → n < 2 ^ 32 → SpellsIn IsNumber number (number_octets number n) n
+pub number_spells : (number n : ℕ) → number < 255 → n < 2 ^ 32 → SpellsIn enumerated number (number_octets number n) n
 number_spells number n low fits =
     let contents = big_bytes (octet_count n) n in
     let long : length contents ≡ octet_count n = length-bytes_high_first (octet_count n) n in
@@ -246,7 +264,7 @@ number_spells number n low fits =
     }
 
 pub object_spells : (number : ℕ) (id : Identifier) → number < 255 → IsIdentifier id
-    → SpellsIn IsObject number (object_octets number id) id
+    → SpellsIn values.object number (object_octets number id) id
 object_spells number id low h =
     let kind = h.kind in
     let instance = h.instance in
@@ -260,14 +278,12 @@ object_spells number id low h =
 pub enclosed_spells : (number : ℕ) (region : List ℕ) → number < 255 → IsRegion 32 region
     → SpellsEnclosed number (enclosed_octets number region) region
 enclosed_spells number region low items = record {
-  opening = plain_tag (opening_tag number);
-  behind = region ++ plain_tag (closing_tag number);
-  whole = refl;
-  opened = plain_tag_spells (opening_tag number) (record { number = low; count = omega arith });
-  closed = record {
-    closing = plain_tag (closing_tag number);
+  closing = plain_tag (closing_tag number);
+  opened = record {
+    front = plain_tag (opening_tag number);
+    spelled = plain_tag_spells (opening_tag number) (record { number = low; count = omega arith });
     whole = refl;
-    items = items;
-    closed = plain_tag_spells (closing_tag number) (record { number = low; count = omega arith });
   };
+  parts = items;
+  closed = plain_tag_spells (closing_tag number) (record { number = low; count = omega arith });
 }

@@ -1,6 +1,7 @@
 -- The shortest spelling of a value is a spelling.
 use Rattle.std.proofs.Common.{◌≡◌, ℕ, ℤ, pos, negsuc, suc, slice_index_or, ◌+◌, ◌-◌, ◌*◌, ◌^◌, ◌%◌, ◌<◌, ◌≤◌, min, zero}
-use Rattle.std.proofs.Common.{true, false, List, [], ◌∷◌, ◌++◌, length, take, refl, sym, ap, ◌∙◌, arith}
+use Rattle.std.proofs.Common.{Bool, true, false, not, cond, ltb, List, [], ◌∷◌, ◌++◌, length, take, refl, sym, ap}
+use Rattle.std.proofs.Common.{subst, ◌∙◌, arith}
 use Rattle.std.specs.Prelude.{FitsSigned}
 use Rattle.std.specs.Int.{w64}
 use Rattle.std.proofs.lemmas.Int.{ints}
@@ -16,17 +17,53 @@ use Rattle.bac_wire.specs.Datum.{octet_count, plain_contents, plain, InRange, Is
 use Rattle.bac_wire.specs.Inner.Datum.{tagged}
 use Rattle.bac_wire.proofs.TagLaws.{plain_tag_spells}
 
+-- the same count, case by case
+abbrev pub count_by_cases : ℕ → ℕ
+count_by_cases n =
+    cond (ltb n (256 ^ 1)) 1 (cond (ltb n (256 ^ 2)) 2 (cond (ltb n (256 ^ 3)) 3 (cond (ltb n (256 ^ 4)) 4
+    (cond (ltb n (256 ^ 5)) 5 (cond (ltb n (256 ^ 6)) 6 (cond (ltb n (256 ^ 7)) 7 8))))))
+
+-- one more, where this one is too few
+abbrev counted : Bool → ℕ → ℕ
+counted enough more = cond (not enough) (1 + more) 0
+
+pub count_is : (n : ℕ) → octet_count n ≡ count_by_cases n
+count_is n =
+    go (ltb n (256 ^ 1)) (ltb n (256 ^ 2)) (ltb n (256 ^ 3)) (ltb n (256 ^ 4)) (ltb n (256 ^ 5)) (ltb n (256 ^ 6))
+    (ltb n (256 ^ 7))
+  where
+    go : (a b c d e f g : Bool)
+        → 1 + counted a (counted b (counted c (counted d (counted e (counted f (counted g 0))))))
+        ≡ cond a 1 (cond b 2 (cond c 3 (cond d 4 (cond e 5 (cond f 6 (cond g 7 8))))))
+    go true b c d e f g = refl
+    go false true c d e f g = refl
+    go false false true d e f g = refl
+    go false false false true e f g = refl
+    go false false false false true f g = refl
+    go false false false false false true g = refl
+    go false false false false false false true = refl
+    go false false false false false false false = refl
+
 pub count_low : (n : ℕ) → 1 ≤ octet_count n
-count_low n = grind (arith, common_steps)
+count_low n = omega arith
+
+pub cases_high : (n : ℕ) → count_by_cases n ≤ 8
+cases_high n = grind (arith, common_steps)
 
 pub count_high : (n : ℕ) → octet_count n ≤ 8
-count_high n = grind (arith, common_steps)
+count_high n = subst (λ (k : ℕ). k ≤ 8) (sym (count_is n)) (cases_high n)
+
+cases_fit : (n : ℕ) → n < 2 ^ 64 → n < 256 ^ count_by_cases n
+cases_fit n fits = grind (arith, common_steps)
 
 pub count_fits : (n : ℕ) → n < 2 ^ 64 → n < 256 ^ octet_count n
-count_fits n fits = grind (arith, common_steps)
+count_fits n fits = subst (λ (k : ℕ). n < 256 ^ k) (sym (count_is n)) (cases_fit n fits)
+
+cases_four : (n : ℕ) → n < 2 ^ 32 → count_by_cases n ≤ 4
+cases_four n fits = grind (arith, common_steps)
 
 pub count_four : (n : ℕ) → n < 2 ^ 32 → octet_count n ≤ 4
-count_four n fits = grind (arith, common_steps)
+count_four n fits = subst (λ (k : ℕ). k ≤ 4) (sym (count_is n)) (cases_four n fits)
 
 -- the octets of a number give it back
 pub number_back : (k n : ℕ) → n < 256 ^ k → n ≡ big_number (length (big_bytes k n)) (big_bytes k n)
@@ -112,10 +149,12 @@ tag_fits value h = record { number = omega arith; count = h.short }
 pub plain_spells : (value : Datum) → IsDatum value → Spells (plain value) value
 unfolding plain
 plain_spells value h = record {
-  tag = plain_tag (tag_before value (length (plain_contents value)));
   contents = plain_contents value;
-  whole = refl;
-  tagged = plain_tag_spells (tag_before value (length (plain_contents value))) (tag_fits value h);
+  tagged = record {
+    front = plain_tag (tag_before value (length (plain_contents value)));
+    spelled = plain_tag_spells (tag_before value (length (plain_contents value))) (tag_fits value h);
+    whole = refl;
+  };
   held = plain_holds value h.range;
 }
 

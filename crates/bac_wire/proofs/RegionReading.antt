@@ -14,8 +14,9 @@ use Rattle.bac_wire.specs.Steps.{◌>>=◌}
 use Rattle.bac_wire.specs.TagReading.{tag_at}
 use Rattle.bac_wire.specs.ItemReading.{behind_count, closing_of, behind_closing, behind_item, behind_tag}
 use Rattle.bac_wire.specs.ItemReading.{behind_tag_found, behind_items}
+use Rattle.bac_wire.specs.Front.{Begins}
 use Rattle.bac_wire.specs.Region.{opening_tag, closing_tag, Counts, IsPrimitive, none, more, IsBracketed, IsItem}
-use Rattle.bac_wire.specs.Region.{IsRegion, IsClosedBy, HasEnded, LeavesRest}
+use Rattle.bac_wire.specs.Region.{IsRegion, HasEnded, LeavesRest}
 use Rattle.bac_wire.specs.Inner.Region.{LeavesBehind}
 use Rattle.bac_wire.proofs.Readers.{found_at, chosen, unless}
 use Rattle.bac_wire.proofs.TagLaws.{tag_reader, bind_some}
@@ -48,17 +49,21 @@ tag_again front spelling others rest tag e s = ap (λ (w : List ℕ). tag_at (w 
 
 -- ---- a closing tag
 
+-- the octets are a closing tag of this number, and then this rest
+abbrev pub IsClosedBy : ℕ → List ℕ → List ℕ → Type 0
+IsClosedBy number octets rest = Begins SpellsTag octets (closing_tag number) rest
+
 pub closing_read : (number : ℕ) (octets rest : List ℕ) → IsClosedBy number octets rest
     → tag_at octets ≡ found_at (closing_tag number) rest
-closing_read number octets rest c = ap tag_at c.whole ∙ tag_reader.again c.closing (closing_tag number) rest c.closed
+closing_read number octets rest c = ap tag_at c.whole ∙ tag_reader.again c.front (closing_tag number) rest c.spelled
 
 closed_since : (tag : Tag) (number : ℕ) (octets rest : List ℕ) → tag_at octets ≡ found_at tag rest → tag.shape ≡ Closing
     → tag.number ≡ number → IsClosedBy number octets rest
 closed_since tag number octets rest e shape same =
     let taken = tag_reader.takes octets tag rest e in
     record {
-      closing = taken.front;
-      closed = subst (SpellsTag taken.front) (tag_parts tag number Closing shape same) taken.spelled;
+      front = taken.front;
+      spelled = subst (SpellsTag taken.front) (tag_parts tag number Closing shape same) taken.spelled;
       whole = taken.whole;
     }
 
@@ -148,10 +153,8 @@ counted_behind depth octets tag contents rest e counted =
     let item : IsPrimitive (taken.front ++ contents) =
     record {
       tag = tag;
-      spelling = taken.front;
       contents = contents;
-      whole = refl;
-      tagged = taken.spelled;
+      tagged = record { front = taken.front; spelled = taken.spelled; whole = refl };
       counted = counted;
     } in
     record {
@@ -190,21 +193,21 @@ item_takes items (suc depth) octets tag Opening after rest takes e is f =
     let c = closed_takes tag.number inside.0 rest inside.2 in
     let taken = tag_reader.takes octets tag after e in
     let opened = subst (SpellsTag taken.front) (tag_parts tag tag.number Opening is refl) taken.spelled in
-    let line : octets ≡ (taken.front ++ (l.front ++ c.closing)) ++ rest = taken.whole
+    let line : octets ≡ (taken.front ++ (l.front ++ c.front)) ++ rest = taken.whole
     ∙ ap (λ (w : List ℕ). taken.front ++ w) (l.whole ∙ ap (λ (w : List ℕ). l.front ++ w) c.whole)
     ∙ simp append_assoc in
     record {
-      front = taken.front ++ (l.front ++ c.closing);
-      item = inr (record {
-        number = tag.number;
-        opening = taken.front;
-        inside = l.front;
-        closing = c.closing;
-        whole = refl;
-        opened = opened;
-        parts = l.region;
-        closed = c.closed;
-      });
+      front = taken.front ++ (l.front ++ c.front);
+      item = inr (
+        tag.number,
+        l.front,
+        record {
+          closing = c.front;
+          opened = record { front = taken.front; spelled = opened; whole = refl };
+          parts = l.region;
+          closed = c.spelled;
+        },
+      );
       whole = line;
     }
 item_takes items _ octets tag _ after rest takes e is f = absurd (none-some rest f)
@@ -286,25 +289,26 @@ counted_again items top tag _ contents rest counted = absurd counted
 primitive_again : (items : ℕ → List ℕ → Option (List ℕ)) (top : ℕ) (item rest : List ℕ) → IsPrimitive item
     → item_at items top (item ++ rest) ≡ Some rest
 primitive_again items top item rest p =
-    rw (tag_again item p.spelling p.contents rest p.tag p.whole p.tagged)
+    rw (tag_again item p.tagged.front p.contents rest p.tag p.tagged.whole p.tagged.spelled)
     (counted_again items top p.tag p.tag.shape p.contents rest p.counted)
 
-bracket_again : (items : ℕ → List ℕ → Option (List ℕ)) (most depth top : ℕ) (item rest : List ℕ) → Again items most
-    → depth ≤ top
-    → length (item ++ rest) < suc most → IsBracketed (IsItem depth) item
+bracket_again : (items : ℕ → List ℕ → Option (List ℕ)) (most depth top number : ℕ) (item inside rest : List ℕ)
+    → Again items most → depth ≤ top
+    → length (item ++ rest) < suc most → IsBracketed (IsItem depth) number item inside
     → item_at items (suc top) (item ++ rest) ≡ Some rest
-bracket_again items most depth top item rest again le short b =
-    let read = tag_again item b.opening (b.inside ++ b.closing) rest (opening_tag b.number) b.whole b.opened in
-    let line = append_assoc b.inside b.closing rest in
-    let c : IsClosedBy b.number (b.closing ++ rest) rest =
-    record { closing = b.closing; closed = b.closed; whole = refl } in
-    let inside = again depth top b.inside (b.closing ++ rest) le
+bracket_again items most depth top number item inside rest again le short b =
+    let read = tag_again item b.opened.front (inside ++ b.closing) rest (opening_tag number) b.opened.whole
+    b.opened.spelled in
+    let line = append_assoc inside b.closing rest in
+    let c : IsClosedBy number (b.closing ++ rest) rest =
+    record { front = b.closing; spelled = b.closed; whole = refl } in
+    let within = again depth top inside (b.closing ++ rest) le
     (omega (
       arith,
-      after_shorter (item ++ rest) (opening_tag b.number) ((b.inside ++ b.closing) ++ rest) read,
+      after_shorter (item ++ rest) (opening_tag number) ((inside ++ b.closing) ++ rest) read,
       ap length line,
-    )) b.parts (inr (b.number, rest, c)) in
-    rw (read, line, inside, closed_again b.number (b.closing ++ rest) rest c) refl
+    )) b.parts (inr (number, rest, c)) in
+    rw (read, line, within, closed_again number (b.closing ++ rest) rest c) refl
 
 pub item_again : (items : ℕ → List ℕ → Option (List ℕ)) (most depth top : ℕ) (item rest : List ℕ) → Again items most
     → depth ≤ top
@@ -315,16 +319,17 @@ item_again items most (suc depth) (suc top) item rest again le short i =
     elim i [
       | inl p ↦ primitive_again items (suc top) item rest p
       | inr b ↦
-          bracket_again items most depth top item rest again (omega arith) short b
+          bracket_again items most depth top b.0 item b.1 rest again (omega arith) short b.2
     ]
 
 pub item_shorter : (depth : ℕ) (item rest : List ℕ) → IsItem depth item → length rest < length (item ++ rest)
-item_shorter zero item rest p = tag_shorter p.spelling p.contents item rest p.tag p.tagged p.whole
+item_shorter zero item rest p = tag_shorter p.tagged.front p.contents item rest p.tag p.tagged.spelled p.tagged.whole
 item_shorter (suc depth) item rest i =
     elim i [
-      | inl p ↦ tag_shorter p.spelling p.contents item rest p.tag p.tagged p.whole
+      | inl p ↦ tag_shorter p.tagged.front p.contents item rest p.tag p.tagged.spelled p.tagged.whole
       | inr b ↦
-          tag_shorter b.opening (b.inside ++ b.closing) item rest (opening_tag b.number) b.opened b.whole
+          tag_shorter b.2.opened.front (b.1 ++ b.2.closing) item rest (opening_tag b.0) b.2.opened.spelled
+          b.2.opened.whole
     ]
 
 -- behind an item the others are read

@@ -16,13 +16,16 @@ use Rattle.bac_wire.specs.Tag.{plain_number, plain_length, plain_tag}
 use Rattle.bac_wire.specs.Datum.{Datum, boolean, unsigned, signed, enumerated, tag_number, StandsFor, shape_number}
 use Rattle.bac_wire.specs.Datum.{tag_before, Spells, octet_count, signed_count, plain_contents, plain, InRange, IsDatum}
 use Rattle.bac_wire.proofs.TagLaws.{tag_least, behind}
-use Rattle.bac_wire.proofs.PlainDatum.{count_high, plain_spells}
+use Rattle.bac_wire.proofs.PlainDatum.{count_by_cases, count_is, cases_high, plain_spells}
 
 -- ---- the fewest octets of a number
 
+cases_least : (k n : ℕ) → 1 ≤ k → n < 256 ^ k → count_by_cases n ≤ k
+cases_least (suc (suc (suc (suc (suc (suc (suc (suc zero)))))))) n low fits = cases_high n
+cases_least k n low fits = grind (arith, common_steps, cases_high)
+
 pub octet_count_least : (k n : ℕ) → 1 ≤ k → n < 256 ^ k → octet_count n ≤ k
-octet_count_least (suc (suc (suc (suc (suc (suc (suc (suc zero)))))))) n low fits = count_high n
-octet_count_least k n low fits = grind (arith, common_steps, count_high)
+octet_count_least k n low fits = subst (λ (c : ℕ). c ≤ k) (sym (count_is n)) (cases_least k n low fits)
 
 -- a bit less, doubled
 half_octets : (k : ℕ) → 1 ≤ k → 2 * 2 ^ (8 * k - 1) ≡ 256 ^ k
@@ -93,16 +96,17 @@ value_least : (other : List ℕ) (value : Datum) → AreOctets other → Spells 
     → length (plain value) ≤ length other
 unfolding plain
 value_least other value fit s =
-    let fits : AreOctets (s.tag ++ s.contents) = subst AreOctets s.whole fit in
-    let contents = contents_least s.contents value (behind s.tag s.contents fits) s.held in
-    let tag = tag_least s.tag (tag_before value (length s.contents)) (ahead s.tag s.contents fits) s.tagged in
+    let t = s.tagged in
+    let fits : AreOctets (t.front ++ s.contents) = subst AreOctets t.whole fit in
+    let contents = contents_least s.contents value (behind t.front s.contents fits) s.held in
+    let tag = tag_least t.front (tag_before value (length s.contents)) (ahead t.front s.contents fits) t.spelled in
     let count = shape_number_grows value (length (plain_contents value)) (length s.contents) contents in
     let grows = tag_grows (tag_number value) (shape_number value (length (plain_contents value)))
     (shape_number value (length s.contents)) count in
     omega (
       arith,
-      ap length s.whole,
-      length-append s.tag s.contents,
+      ap length t.whole,
+      length-append t.front s.contents,
       length-append (plain_tag (tag_before value (length (plain_contents value)))) (plain_contents value),
     )
 

@@ -9,7 +9,7 @@ use Rattle.bac_wire.specs.declared.tag.Tag.{Tag}
 use Rattle.std.proofs.lemmas.Bool.{ltb-true, ltb-false, eqb-true, cond_both}
 use Rattle.bac_wire.proofs.Readers.{IsReader, Took, took, took_as, reader_of, found_at, chosen, only_if, one_front}
 use Rattle.bac_wire.specs.Tag.{SpellsNumber, SpellsLength, SpellsShape, SpellsTag, IsTag, plain_number, plain_length}
-use Rattle.bac_wire.specs.Tag.{low_half, shape_octets, plain_tag}
+use Rattle.bac_wire.specs.Tag.{low_half, count_of, plain_tag}
 use Rattle.bac_wire.specs.Steps.{◌>>=◌}
 use Rattle.bac_wire.specs.TagReading.{extended_number, tag_number_at, two_at, four_at, long_length_at, length_at}
 use Rattle.bac_wire.specs.TagReading.{shape_at}
@@ -199,7 +199,7 @@ low_half_below (App n) = omega arith
 low_half_below _ = omega arith
 
 shape_octets_spell : (shape : Shape) (tag : Tag) → tag.shape ≡ shape → IsTag tag
-    → SpellsShape (low_half shape) (shape_octets shape) shape
+    → SpellsShape (low_half shape) (plain_length (count_of shape)) shape
 shape_octets_spell (App n) tag e fits = let limit : n < 2 ^ 32 = rw e at fits.count in plain_length_spells n limit
 shape_octets_spell (Context n) tag e fits =
     let limit : n < 2 ^ 32 = rw e at fits.count in
@@ -218,7 +218,7 @@ plain_tag_spells tag fits =
     record {
       initial = first;
       number_octets = plain_number tag.number;
-      length_octets = shape_octets tag.shape;
+      length_octets = plain_length (count_of tag.shape);
       whole = refl;
       number = rw high_is (plain_number_spells tag.number fits.number);
       shape = rw low_is (shape_octets_spell tag.shape tag refl fits);
@@ -238,7 +238,7 @@ length_least low (a ∷ b ∷ c ∷ d ∷ e ∷ []) n fit s = grind (arith, comm
 length_least low _ n fit s = grind (arith, common_steps)
 
 shape_least : (low : ℕ) (octets : List ℕ) (shape : Shape) → AreOctets octets → SpellsShape low octets shape
-    → length (shape_octets shape) ≤ length octets
+    → length (plain_length (count_of shape)) ≤ length octets
 shape_least low octets (App n) fit s = length_least low octets n fit s
 shape_least low octets (Context n) fit s = length_least (low - 8) octets n fit s.1
 shape_least low octets _ fit s = omega arith
@@ -261,7 +261,7 @@ tag_least octets tag fit s =
       shape,
       ap length s.whole,
       length-append s.number_octets s.length_octets,
-      length-append (plain_number tag.number) (shape_octets tag.shape),
+      length-append (plain_number tag.number) (plain_length (count_of tag.shape)),
     )
 
 pub plain_tag_shortest : (tag : Tag) → IsTag tag → IsShortest SpellsTag (plain_tag tag) tag

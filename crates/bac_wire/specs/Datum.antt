@@ -1,12 +1,14 @@
 -- The values behind application tags, and the octets that spell them (ANSI/ASHRAE 135, 20.2.2 to 20.2.14).
-use Rattle.std.specs.Prelude.{FitsSigned, ◌≡◌, ℕ, ℤ, pos, negsuc, ◌*◌, ◌^◌, ◌<◌, ◌≤◌, Bool, nat_lt, if◌then◌else◌, List}
-use Rattle.std.specs.Prelude.{[], ◌∷◌, ◌++◌, length}
+use Rattle.std.specs.Prelude.{FitsSigned, ◌≡◌, ℕ, ℤ, pos, negsuc, ◌+◌, ◌*◌, ◌^◌, ◌<◌, ◌≤◌, Bool, nat_lt, if◌then◌else◌}
+use Rattle.std.specs.Prelude.{List, [], ◌∷◌, ◌++◌, length}
+use Rattle.std.specs.List.{position_or_len}
 use Rattle.std.specs.Int.{w64}
 use Rattle.byteorder.specs.Endian.{big_number, big_bytes, twos_complement, low_bytes}
 use Rattle.bac_wire.specs.declared.tag.Shape.TheVariants.{App}
 use Rattle.bac_wire.specs.declared.tag.Tag.{Tag}
 use Rattle.bac_wire.specs.declared.value.Value.{Value}
 use Rattle.bac_wire.specs.declared.value.Value.TheVariants as values
+use Rattle.bac_wire.specs.Front.{Begins}
 use Rattle.bac_wire.specs.Identifier.{Identifier, IsIdentifier, identifier, number_of}
 use Rattle.bac_wire.specs.Tag.{SpellsTag, plain_tag}
 
@@ -92,25 +94,15 @@ tag_before value n = record { number = tag_number value; shape = App (shape_numb
 
 -- A spelling of a value: its application tag, and its contents.
 pub record Spells (spelling : List ℕ) (value : Datum) : Type 0 where
-  pub tag : List ℕ
   pub contents : List ℕ
-  pub whole : spelling ≡ tag ++ contents
-  pub tagged : SpellsTag tag (tag_before value (length contents))
+  pub tagged : Begins SpellsTag spelling (tag_before value (length contents)) contents
   pub held : StandsFor contents value
 
 -- ---- the shortest spelling
 
--- The fewest octets that hold the number, at least one.
+-- The fewest octets that hold the number, up to eight: one more than the counts, from 1 on, that are too few.
 abbrev pub octet_count : ℕ → ℕ
-octet_count n =
-    if nat_lt n (256 ^ 1) then 1
-    else if nat_lt n (256 ^ 2) then 2
-    else if nat_lt n (256 ^ 3) then 3
-    else if nat_lt n (256 ^ 4) then 4
-    else if nat_lt n (256 ^ 5) then 5
-    else if nat_lt n (256 ^ 6) then 6
-    else if nat_lt n (256 ^ 7) then 7
-    else 8
+octet_count n = 1 + position_or_len (λ k. nat_lt n (256 ^ k)) (1 ∷ 2 ∷ 3 ∷ 4 ∷ 5 ∷ 6 ∷ 7 ∷ [])
 
 -- The fewest octets that hold the number in two's complement, where the sign takes a bit more.
 abbrev pub signed_count : ℤ → ℕ

@@ -26,16 +26,13 @@ behind_closing number octets = tag_at octets >>= (λ x. closing_of number x.0 x.
 abbrev pub behind_item : (ℕ → List ℕ → Option (List ℕ)) → ℕ → Tag → Shape → List ℕ → Option (List ℕ)
 behind_item items depth tag (App n) rest = if tag.number == 1 then Some rest else behind_count n rest
 behind_item items depth tag (Context n) rest = behind_count n rest
-behind_item items zero tag Opening rest = None
 behind_item items (suc depth) tag Opening rest = items depth rest >>= behind_closing tag.number
-behind_item items depth tag Closing rest = None
+behind_item items depth tag _ rest = None
 
 -- The octets behind the items that begin with this tag. A closing tag begins no item: there it is all octets.
 abbrev pub behind_tag : (ℕ → List ℕ → Option (List ℕ)) → ℕ → List ℕ → Tag → Shape → List ℕ → Option (List ℕ)
 behind_tag items depth octets tag Closing rest = Some octets
-behind_tag items depth octets tag Opening rest = behind_item items depth tag Opening rest >>= items depth
-behind_tag items depth octets tag (App n) rest = behind_item items depth tag (App n) rest >>= items depth
-behind_tag items depth octets tag (Context n) rest = behind_item items depth tag (Context n) rest >>= items depth
+behind_tag items depth octets tag shape rest = behind_item items depth tag shape rest >>= items depth
 
 -- The octets behind the items that begin with the tag that was found. Without a tag the octets are at their end, or are
 -- no items.

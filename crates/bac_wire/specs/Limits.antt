@@ -5,10 +5,7 @@ use Rattle.std.specs.Prelude.{ℕ}
 abbrev pub frame_room : ℕ
 frame_room = 1497
 
--- The opening tags that may be open at once in a region.
+-- The opening tags that may be open at once in a region. The tag 3 round a parameter's value (clause 15) is not one of
+-- those.
 abbrev pub deepest : ℕ
 deepest = 32
-
--- The number of the tags round a parameter's value, which are not counted among those (clause 15).
-abbrev pub value_tag : ℕ
-value_tag = 3

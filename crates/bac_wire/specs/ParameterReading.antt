@@ -21,27 +21,21 @@ counted_of number tag _ rest = None
 unfoldable pub context_at : ℕ → List ℕ → Option (List ℕ × List ℕ)
 context_at number octets = tag_at octets >>= (λ x. counted_of number x.0 x.0.shape x.1)
 
--- The number in one to four octets.
-abbrev pub number_of_contents : List ℕ → Option ℕ
-number_of_contents contents = number_within 4 contents
-
 -- The object's identifier in four octets.
 abbrev pub object_of_contents : List ℕ → Option Identifier
 object_of_contents contents = if length contents == 4 then Some (identifier_of (big_number 4 contents)) else None
 
+-- What was read, taken as another thing where it is one, and the octets behind it.
+abbrev pub read_as : {A B : Type 0} → (A → Option B) → Option (A × List ℕ) → Option (B × List ℕ)
+read_as taken read = read >>= (λ x. taken x.0 >>= (λ y. Some (y, x.1)))
+
 -- The number in one to four octets under this tag.
 unfoldable pub number_at : ℕ → List ℕ → Option (ℕ × List ℕ)
-number_at number octets = do
-  x ← context_at number octets
-  n ← number_of_contents x.0
-  Some (n, x.1)
+number_at number octets = read_as (number_within 4) (context_at number octets)
 
 -- The object's identifier under this tag.
 unfoldable pub object_at : ℕ → List ℕ → Option (Identifier × List ℕ)
-object_at number octets = do
-  x ← context_at number octets
-  id ← object_of_contents x.0
-  Some (id, x.1)
+object_at number octets = read_as object_of_contents (context_at number octets)
 
 -- ---- items between two tags
 
@@ -77,7 +71,4 @@ object_in _ = None
 
 -- The value at the front, where it is of the kind that `in_kind` takes.
 unfoldable pub kind_at : {A : Type 0} → (Datum → Option A) → List ℕ → Option (A × List ℕ)
-kind_at in_kind octets = do
-  x ← value_at octets
-  a ← in_kind x.0
-  Some (a, x.1)
+kind_at in_kind octets = read_as in_kind (value_at octets)

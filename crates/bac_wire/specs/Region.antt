@@ -6,6 +6,7 @@ use Rattle.bac_wire.specs.declared.tag.Shape.{Shape}
 use Rattle.bac_wire.specs.declared.tag.Shape.TheVariants.{App, Context, Opening, Closing}
 use Rattle.bac_wire.specs.declared.tag.Tag.{Tag}
 use Rattle.bac_wire.specs.Limits.{deepest}
+use Rattle.bac_wire.specs.Front.{Begins}
 use Rattle.bac_wire.specs.Tag.{SpellsTag}
 
 -- The opening tag of this number, which begins constructed data.
@@ -25,10 +26,8 @@ Counts number _ count = ⊥
 -- Primitive data: a tag and the octets that it counts.
 pub record IsPrimitive (octets : List ℕ) : Type 0 where
   pub tag : Tag
-  pub spelling : List ℕ
   pub contents : List ℕ
-  pub whole : octets ≡ spelling ++ contents
-  pub tagged : SpellsTag spelling tag
+  pub tagged : Begins SpellsTag octets tag contents
   pub counted : Counts tag.number tag.shape (length contents)
 
 -- Parts of this kind, one after the other, or none.
@@ -36,21 +35,18 @@ pub data IsSequence (Part : List ℕ → Type 0) : List ℕ → Type 0 where
   none : IsSequence Part []
   more : {first rest : List ℕ} → Part first → IsSequence Part rest → IsSequence Part (first ++ rest)
 
--- Constructed data: an opening tag, a sequence, and the closing tag of the same number.
-pub record IsBracketed (Part : List ℕ → Type 0) (octets : List ℕ) : Type 0 where
-  pub number : ℕ
-  pub opening : List ℕ
-  pub inside : List ℕ
+-- Constructed data: an opening tag of this number, inside a sequence, and the closing tag of the same number.
+pub record IsBracketed (Part : List ℕ → Type 0) (number : ℕ) (octets inside : List ℕ) : Type 0 where
   pub closing : List ℕ
-  pub whole : octets ≡ opening ++ (inside ++ closing)
-  pub opened : SpellsTag opening (opening_tag number)
+  pub opened : Begins SpellsTag octets (opening_tag number) (inside ++ closing)
   pub parts : IsSequence Part inside
   pub closed : SpellsTag closing (closing_tag number)
 
 -- An item with at most this many opening tags open at once.
 abbrev pub IsItem : ℕ → List ℕ → Type 0
 IsItem zero octets = IsPrimitive octets
-IsItem (suc depth) octets = IsPrimitive octets ⊎ IsBracketed (IsItem depth) octets
+IsItem (suc depth) octets = IsPrimitive octets
+    ⊎ ((number : ℕ) × (inside : List ℕ) × IsBracketed (IsItem depth) number octets inside)
 
 -- Whole items, the empty list included.
 abbrev pub IsRegion : ℕ → List ℕ → Type 0
@@ -58,15 +54,9 @@ IsRegion depth octets = IsSequence (IsItem depth) octets
 
 -- ---- what stands behind the items at the front
 
--- The octets are a closing tag of this number, and then this rest.
-pub record IsClosedBy (number : ℕ) (octets rest : List ℕ) : Type 0 where
-  pub closing : List ℕ
-  pub closed : SpellsTag closing (closing_tag number)
-  pub whole : octets ≡ closing ++ rest
-
 -- Nothing is left, or a closing tag begins what is left.
 abbrev pub HasEnded : List ℕ → Type 0
-HasEnded octets = (octets ≡ []) ⊎ ((number : ℕ) × (rest : List ℕ) × IsClosedBy number octets rest)
+HasEnded octets = (octets ≡ []) ⊎ ((number : ℕ) × (rest : List ℕ) × Begins SpellsTag octets (closing_tag number) rest)
 
 -- The octets are whole items, and then this rest, which is empty or begins with a closing tag.
 pub record LeavesRest (depth : ℕ) (octets rest : List ℕ) : Type 0 where
@@ -81,7 +71,7 @@ pub record IsClosedRegion (depth number : ℕ) (octets front : List ℕ) : Type 
   pub rest : List ℕ
   pub region : IsRegion depth front
   pub whole : octets ≡ front ++ behind
-  pub closed : IsClosedBy number behind rest
+  pub closed : Begins SpellsTag behind (closing_tag number) rest
 
 -- A size that was found is that of a region that a closing tag of this number ends; where there is such a region, its
 -- size is found.

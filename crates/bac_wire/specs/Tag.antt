@@ -72,12 +72,7 @@ low_half (Context n) = 8 + min n 5
 low_half Opening = 14
 low_half Closing = 15
 
--- The length octets, of which a bracket has none.
-abbrev pub shape_octets : Shape → List ℕ
-shape_octets (App n) = plain_length n
-shape_octets (Context n) = plain_length n
-shape_octets _ = []
-
--- The spelling that is written of a tag.
+-- The spelling that is written of a tag. A bracket has no length octets, as the length 0 has none.
 unfoldable pub plain_tag : Tag → List ℕ
-plain_tag tag = (16 * min tag.number 15 + low_half tag.shape) ∷ (plain_number tag.number ++ shape_octets tag.shape)
+plain_tag tag =
+    (16 * min tag.number 15 + low_half tag.shape) ∷ (plain_number tag.number ++ plain_length (count_of tag.shape))

@@ -2,7 +2,7 @@
 
 ghost use Rattle.std.specs.Prelude.{◌≡◌, ◌↔◌, List, ℕ, Some, IsTrue};
 ghost use Rattle.std.specs.Option.{option_map};
-ghost use Rattle.bac_wire.specs.Limits.{deepest, value_tag};
+ghost use Rattle.bac_wire.specs.Limits.{deepest};
 ghost use Rattle.bac_wire.specs.Inner.Front.{Finds};
 ghost use Rattle.bac_wire.specs.TagReading.{tag_at};
 ghost use Rattle.bac_wire.specs.ItemReading.{behind_closing as closing_at};
@@ -20,7 +20,7 @@ const REGION_END: u8 = 3;
 /// How many octets at the front are whole items, up to a closing tag 3; `None` where no such tag ends them. Contents
 /// are passed over by their length, so an octet in them ends nothing (ANSI/ASHRAE 135, 20.2.1.3).
 pub fn region(octets: &[u8]) -> Option<usize>
-    ensures { FindsRegion deepest value_tag octets.now result }
+    ensures { FindsRegion deepest 3 octets.now result }
 {
     let rest = behind_items(octets, NESTING)?;
     behind_closing(rest, REGION_END)?;

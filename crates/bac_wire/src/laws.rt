@@ -8,12 +8,12 @@ ghost use Rattle.bac_wire.specs.Front.{IsPrefixFree, IsReadBack, IsReader, IsSho
 ghost use Rattle.bac_wire.specs.Tag.{SpellsTag, IsTag, plain_tag};
 ghost use Rattle.bac_wire.specs.TagReading.{tag_at};
 ghost use Rattle.bac_wire.specs.Identifier.{Identifier, IsIdentifier, identifier};
-ghost use Rattle.bac_wire.specs.Datum.{Datum, IsDatum, IsSound, Spells, datum, plain};
+ghost use Rattle.bac_wire.specs.Datum.{Datum, IsDatum, IsSound, Spells, datum, plain, enumerated, object as identified};
 ghost use Rattle.bac_wire.specs.DatumReading.{value_at};
 ghost use Rattle.bac_wire.specs.Region.{IsItem, IsRegion, IsClosedRegion, LeavesRest, Opens, SpellsClosed, closing_tag};
 ghost use Rattle.bac_wire.specs.ItemReading.{behind_items, region_at};
-ghost use Rattle.bac_wire.specs.Parameter.{SpellsContext, SpellsIn, SpellsEnclosed, IsNumber, IsObject, number_octets};
-ghost use Rattle.bac_wire.specs.Parameter.{object_octets, enclosed_octets};
+ghost use Rattle.bac_wire.specs.Parameter.{SpellsContext, SpellsIn, SpellsEnclosed, number_octets, object_octets};
+ghost use Rattle.bac_wire.specs.Parameter.{enclosed_octets};
 ghost use Rattle.bac_wire.specs.ParameterReading.{context_at, number_at, object_at, enclosed_at};
 
 use crate::frame::{FRAME_OCTETS, Full};
@@ -68,13 +68,13 @@ pub fn regions()
 /// Parameters: each function reads what stands under a context tag of its number, and the written forms spell them.
 pub fn parameters()
     ensures context { (number : ℕ) → IsReader (SpellsContext number) (context_at number) }
-    ensures number { (number : ℕ) → IsReader (SpellsIn IsNumber number) (number_at number) }
-    ensures object { (number : ℕ) → IsReader (SpellsIn IsObject number) (object_at number) }
+    ensures number { (number : ℕ) → IsReader (SpellsIn enumerated number) (number_at number) }
+    ensures object { (number : ℕ) → IsReader (SpellsIn identified number) (object_at number) }
     ensures enclosed { (number : ℕ) → IsReader (SpellsEnclosed number) (enclosed_at number) }
     ensures of_number { (number n : ℕ) → number < 255 → n < 2 ^ 32
-        → SpellsIn IsNumber number (number_octets number n) n }
+        → SpellsIn enumerated number (number_octets number n) n }
     ensures of_object { (number : ℕ) (id : Identifier) → number < 255 → IsIdentifier id
-        → SpellsIn IsObject number (object_octets number id) id }
+        → SpellsIn identified number (object_octets number id) id }
     ensures of_region { (number : ℕ) (region : List ℕ) → number < 255 → IsRegion deepest region
         → SpellsEnclosed number (enclosed_octets number region) region }
 {}

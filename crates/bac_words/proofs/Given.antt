@@ -1,15 +1,24 @@
--- The numbers of an argument that several tools have.
-use Rattle.std.proofs.Common.{◌≡◌, true, inl, inr, List, [], map, Option, Some, None, unwrap_or, refl}
+-- The numbers of an argument that several tools have, and the peer that a word names.
+use Rattle.std.proofs.Common.{◌≡◌, ◌∙◌, ℕ, true, inl, inr, codes, List, [], map, Option, Some, None, refl, ap}
+use Rattle.std.proofs.Common.{unwrap_or}
+use Rattle.std.specs.Prelude.{IfSome}
 use Rattle.std.specs.Borrow.{Bor}
 use Rattle.std.specs.Option.{option_map}
+use Rattle.std.proofs.lemmas.Option.{same_Some}
 use Rattle.clap.specs.Walk.{Row, Rule, Text, texts}
 use Rattle.clap.proofs.WalkLemmas.{first_value-rows}
 use Rattle.clap_laws.specs.Inner.Commands.{rules_of}
 use Rattle.clap_laws.specs.Inner.Numbers.{FitsWord, bounds_in, is_needed}
 use Rattle.clap_laws.specs.Passes.{IsTaken}
 use Rattle.clap_laws.proofs.Getters.{needed}
+use Rattle.bac_wire.specs.Steps.{◌>>=◌}
+use Rattle.bac_pdu.specs.Peer.{Station, network_address, station}
+use Rattle.bac_pdu.specs.declared.peer.Peer.{Peer}
+use Rattle.bac_pdu.specs.declared.route.Route.{Route}
+use Rattle.bac_text.specs.Address.{address_of, cut_at, plain_peer_of, short_number, station_at}
 use Rattle.bac_words.specs.Command.{bacrp, bacwp, bacwi}
 use Rattle.bac_words.specs.Inner.Job.{IsClient, IsGiven, IsNumberWord, IsRequest, bounds}
+use Rattle.bac_words.specs.Job.{peer_in}
 use Rattle.bac_words.specs.Marks.{unmarked}
 
 -- What the getters of words read.
@@ -45,3 +54,37 @@ pub pairs_typed : (o : Option (Bor (List (Bor Text)))) (none : Bor (List (Bor Te
     map unmarked (texts (unwrap_or o none).now) ≡ map unmarked (unwrap_or (option_map (λ p. texts p.now) o) [])
 pairs_typed None none empty = rw empty refl
 pairs_typed (Some p) none empty = refl
+
+-- ---- the peer that a word names has no route, so it is what is seen of it
+
+abbrev IsPlain : Station → Type 0
+IsPlain to = to.route ≡ None
+
+plain_at : (parts : List ℕ × List ℕ) → IfSome (station_at parts) IsPlain
+plain_at parts = at_port (short_number 5 65535 parts.1) (address_of parts.0)
+  where
+    at_port : (port ip : Option ℕ)
+        → IfSome (port >>= λ n. ip >>= λ m. Some (record { ip = m; port = n; route = None })) IsPlain
+    at_port None ip = tt
+    at_port (Some n) None = tt
+    at_port (Some n) (Some m) = refl
+
+no_route : (route : Option Route) → option_map network_address route ≡ None → route ≡ None
+no_route None e = refl
+no_route (Some r) e = cc
+
+same_peer : (p : Peer) (s : Station) → station p ≡ s → IsPlain s
+    → p ≡ record { ip = s.ip; port = s.port; route = None }
+same_peer p s e plain =
+    let routes = no_route p.route (ap (λ (s : Station). s.route) e ∙ plain) in
+    λ i. record { ip = (e i).ip; port = (e i).port; route = routes i }
+
+pub peer_named : (word : Text) (p : Option Peer) → option_map station p ≡ plain_peer_of word → p ≡ peer_in word
+peer_named word p = go p (plain_peer_of word) (plain_at (unwrap_or (cut_at 58 word) (word, codes "47808")))
+  where
+    go : (p : Option Peer) (o : Option Station) → IfSome o IsPlain → option_map station p ≡ o
+        → p ≡ option_map (λ to. record { ip = to.ip; port = to.port; route = None }) o
+    go None None plain e = refl
+    go (Some p) (Some s) plain e = ap Some (same_peer p s (same_Some (station p) s e) plain)
+    go None (Some s) plain e = cc
+    go (Some p) None plain e = cc

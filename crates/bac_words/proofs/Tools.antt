@@ -18,7 +18,7 @@ use Rattle.bac_words.specs.declared.faults.UsageFault.{UsageFault}
 use Rattle.bac_words.specs.Command.{bactool}
 use Rattle.bac_words.specs.Inner.Fault.{fault_by, fault_from}
 use Rattle.bac_words.specs.Inner.Job.{IsTool}
-use Rattle.bac_words.specs.Line.{IsRefusal, IsRefused}
+use Rattle.bac_words.specs.Line.{IsRefusal}
 use Rattle.bac_words.specs.Marks.{marked_words}
 use Rattle.clap_laws.specs.Entering.{asks_for_help}
 use Rattle.bac_words.specs.declared.jobs.Job.{Job}
@@ -102,7 +102,7 @@ refusal words e _ is h = elim h [
 -- an error of `clap` is passed up as a refusal
 pub refused : (words marked : List Text) (e : Error) (r : Result Job UsageFault) → marked ≡ marked_words words
     → HasKind (fault_of bactool marked) e
-    → IsErrAnd r (λ f. f ≡ fault_from e) → IsRefused words r
+    → IsErrAnd r (λ f. f ≡ fault_from e) → IsErrAnd r (IsRefusal words)
 refused words marked e (Ok x) same h is = absurd is
 refused words marked e (Err f) same h is =
     subst (IsRefusal words) (sym is)

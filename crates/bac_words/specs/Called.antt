@@ -1,6 +1,7 @@
 -- The words that the program runs, by those that it was called with.
 use Rattle.std.specs.Prelude.{ℕ, Bool, ◌||◌, List, [], ◌∷◌, ◌++◌, Option, Some, None, option_and_then, codes}
 use Rattle.std.specs.Prelude.{if◌then◌else◌}
+use Rattle.std.specs.Option.{option_map_or}
 use Rattle.std.specs.Path.{path_file_name}
 use Rattle.std.specs.Str.{bytes_eq}
 
@@ -12,12 +13,8 @@ is_tool name = bytes_eq name (codes "bacrp") || bytes_eq name (codes "bacwp") ||
 abbrev pub tool_named : List ℕ → Option (List ℕ)
 tool_named program = option_and_then (λ name. if is_tool name then Some name else None) (path_file_name program)
 
--- The first words that are run: the program's own name; or, where that names a tool, a name without a letter and the
--- tool, so that help and usage begin with the tool.
-abbrev pub names_of : List ℕ → Option (List ℕ) → List (List ℕ)
-names_of program None = program ∷ []
-names_of program (Some tool) = [] ∷ tool ∷ []
-
+-- The words that are run. First comes the program's own name; or, where that names a tool, a name without a letter and
+-- the tool, so that help and usage begin with the tool.
 abbrev pub words_called : List (List ℕ) → List (List ℕ)
 words_called [] = []
-words_called (program ∷ rest) = names_of program (tool_named program) ++ rest
+words_called (program ∷ rest) = option_map_or (λ tool. [] ∷ tool ∷ []) (tool_named program) (program ∷ []) ++ rest

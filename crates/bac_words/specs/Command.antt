@@ -1,17 +1,14 @@
 -- The command line of `bactool`, as `clap` reads it: five tools, each with its words.
 use Rattle.std.specs.Prelude.{List, [], ◌∷◌, ◌++◌, codes}
-use Rattle.clap.specs.Words.{App, Rule, new_app, new_rule, with_subcommand}
-use Rattle.clap_laws.specs.Commands.{number, needed, by_name, several, with_rules, wanting}
+use Rattle.std.specs.List.{fold}
+use Rattle.clap.specs.Words.{App, Rule, new_app, new_rule, with_rule, with_subcommand}
+use Rattle.clap_laws.specs.Commands.{number, needed, by_name, several, wanting}
 
 abbrev pub target_rules : List Rule
 target_rules = needed (number (codes "device-instance") 0 4194303)
     ∷ needed (number (codes "object-type") 0 1023)
     ∷ needed (number (codes "object-instance") 0 4194303)
     ∷ needed (number (codes "property") 0 4194303) ∷ []
-
--- The instance of a device. The greatest number stands for every device, so no device has it.
-abbrev pub own_instance_rule : Rule
-own_instance_rule = needed (number (codes "device-instance") 0 4194302)
 
 abbrev pub mac_rule : Rule
 mac_rule = needed (by_name (new_rule (codes "mac")))
@@ -26,21 +23,22 @@ abbrev pub retries_rule : Rule
 retries_rule = by_name (number (codes "apdu-retries") 0 9)
 
 abbrev pub bacrp : App
-bacrp = with_rules (new_app (codes "bacrp")) (target_rules ++ number (codes "index") 0 4294967295
+bacrp = fold with_rule (new_app (codes "bacrp")) (target_rules ++ number (codes "index") 0 4294967295
     ∷ mac_rule ∷ timeout_rule ∷ retries_rule ∷ port_rule ∷ [])
 
 abbrev pub bacwp : App
-bacwp = with_rules (new_app (codes "bacwp")) (target_rules ++ needed (number (codes "priority") 0 16)
+bacwp = fold with_rule (new_app (codes "bacwp")) (target_rules ++ needed (number (codes "priority") 0 16)
     ∷ needed (new_rule (codes "index")) ∷ needed (several (new_rule (codes "tag value")))
     ∷ mac_rule ∷ timeout_rule ∷ retries_rule ∷ port_rule ∷ [])
 
 abbrev pub bacwi : App
-bacwi = with_rules (new_app (codes "bacwi")) (number (codes "min") 0 4194303
+bacwi = fold with_rule (new_app (codes "bacwi")) (number (codes "min") 0 4194303
     ∷ number (codes "max") 0 4194303 ∷ mac_rule ∷ timeout_rule ∷ port_rule ∷ [])
 
+-- A device. The greatest instance stands for every device, so no device has it.
 abbrev pub bacdev : App
-bacdev = with_rules (new_app (codes "bacdev"))
-    (own_instance_rule ∷ port_rule ∷ by_name (number (codes "count") 1 65535) ∷ [])
+bacdev = fold with_rule (new_app (codes "bacdev")) (needed (number (codes "device-instance") 0 4194302)
+    ∷ port_rule ∷ by_name (number (codes "count") 1 65535) ∷ [])
 
 abbrev pub bactrace : App
 bactrace = new_app (codes "bactrace")

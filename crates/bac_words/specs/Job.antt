@@ -1,17 +1,20 @@
 -- What the words of a tool ask for, and the first thing that is wrong with them.
 use Rattle.std.specs.Prelude.{◌<◌, ℕ, List, [], Option, Some, None, Result, Ok, Err, codes, map, unwrap_or}
-use Rattle.std.specs.Prelude.{option_and_then, if◌then◌else◌, ⊤}
+use Rattle.std.specs.Prelude.{option_and_then, option_map, if◌then◌else◌, ⊤}
+use Rattle.std.specs.Result.{result_map_both}
 use Rattle.std.specs.Str.{bytes_eq}
+use Rattle.arrayvec.specs.ArrayVec.{ArrayVec}
 use Rattle.clap.specs.Words.{Row, Text, all_of, first_of}
 use Rattle.clap_laws.specs.Numbers.{number_of}
 use Rattle.bac_wire.specs.Identifier.{Identifier}
-use Rattle.bac_pdu.specs.Peer.{Station}
+use Rattle.bac_pdu.specs.declared.peer.Peer.{Peer}
 use Rattle.bac_pdu.specs.Property.{Reference, read_octets}
 use Rattle.bac_pdu.specs.declared.discovery.WhoIs.{WhoIs}
 use Rattle.bac_pdu.specs.declared.discovery.WhoIs.TheVariants.{All, Range}
 use Rattle.bac_text.specs.Address.{plain_peer_of}
 use Rattle.bac_text.specs.Parameters.{priority_from, write_index_of}
 use Rattle.bac_text.specs.Pairs.{body_of}
+use Rattle.bac_text.specs.declared.jobs.Call.{Call}
 use Rattle.bac_text.specs.declared.pairs.PairFault.{PairFault}
 use Rattle.bac_words.specs.declared.jobs.Job.{Job}
 use Rattle.bac_words.specs.declared.jobs.Job.TheVariants as job
@@ -19,7 +22,6 @@ use Rattle.bac_words.specs.declared.faults.UsageFault.{UsageFault}
 use Rattle.bac_words.specs.declared.faults.UsageFault.TheVariants.{BadIndex, BadMac}
 use Rattle.bac_words.specs.Fault.{usage_of}
 use Rattle.bac_words.specs.Marks.{unmarked}
-use Rattle.bac_words.specs.Orders.{RequestOrder, Order, Reads, Writes, Seeks, Serves, Traces}
 
 -- What is made of a value that has to be there; where it is not, the fault.
 abbrev pub with_given : {A B : Type 0} → Option A → UsageFault → (A → Result B UsageFault) → Result B UsageFault
@@ -32,9 +34,13 @@ needed_number id rows = unwrap_or (number_of id rows) 0
 
 -- ---- what the words say
 
--- The peer that `--mac` says, which has no route.
-abbrev pub peer_given : List Row → Option Station
-peer_given rows = option_and_then plain_peer_of (first_of (codes "mac") rows)
+-- The peer that a word says, which has no route.
+abbrev pub peer_in : Text → Option Peer
+peer_in word = option_map (λ to. record { ip = to.ip; port = to.port; route = None }) (plain_peer_of word)
+
+-- The peer that `--mac` says.
+abbrev pub peer_given : List Row → Option Peer
+peer_given rows = option_and_then peer_in (first_of (codes "mac") rows)
 
 abbrev pub timeout_given : List Row → ℕ
 timeout_given rows = unwrap_or (number_of (codes "apdu-timeout") rows) 3000
@@ -57,63 +63,62 @@ index_given rows = option_and_then (λ word. write_index_of (unmarked word)) (fi
 abbrev pub pairs_given : List Row → List Text
 pairs_given rows = map unmarked (unwrap_or (all_of (codes "tag value") rows) [])
 
-abbrev pub request_given : Station → List Row → List ℕ → RequestOrder
-request_given to rows body =
+abbrev pub call_given : Peer → List Row → ArrayVec ℕ → Call
+call_given to rows body =
     record { to = to; timeout = timeout_given rows; retries = retries_given rows; port = port_given rows; body = body }
 
 -- ---- the tools
 
+abbrev pub property_given : List Row → ℕ
+property_given rows = needed_number (codes "property") rows
+
 abbrev pub reference_given : List Row → Reference
 reference_given rows =
-    record {
-      object = object_given rows;
-      property = needed_number (codes "property") rows;
-      index = number_of (codes "index") rows;
-    }
+    record { object = object_given rows; property = property_given rows; index = number_of (codes "index") rows }
 
-abbrev pub read_order : List Row → Result Order UsageFault
+abbrev pub read_order : List Row → Result Job UsageFault
 read_order rows =
-    with_given (peer_given rows) BadMac (λ to. Ok (Reads (request_given to rows (read_octets (reference_given rows)))))
+    with_given (peer_given rows) BadMac
+    (λ to. Ok (job.Read (call_given to rows (record { items = read_octets (reference_given rows) }))))
 
 -- The body of the request, by the same reading of pairs as that of a script.
 abbrev pub body_given : List Row → Option ℕ → Result (List ℕ) PairFault
-body_given rows index =
-    body_of (object_given rows) (needed_number (codes "property") rows) index
+body_given rows index = body_of (object_given rows) (property_given rows) index
     (priority_from (needed_number (codes "priority") rows)) (pairs_given rows)
 
-abbrev pub written : Station → List Row → Result (List ℕ) PairFault → Result Order UsageFault
-written to rows (Ok body) = Ok (Writes (request_given to rows body))
-written to rows (Err fault) = Err (usage_of fault)
-
-abbrev pub write_order : List Row → Result Order UsageFault
+abbrev pub write_order : List Row → Result Job UsageFault
 write_order rows =
-    with_given (peer_given rows) BadMac
-    (λ to. with_given (index_given rows) BadIndex (λ index. written to rows (body_given rows index)))
+    with_given (peer_given rows) BadMac (λ to. with_given (index_given rows) BadIndex (λ index. result_map_both
+    (λ body. job.Write (call_given to rows (record { items = body }))) usage_of (body_given rows index)))
 
 -- The limits of a search: one number is both of them, and no number is no limit.
 abbrev pub limits : Option ℕ → Option ℕ → WhoIs
 limits None most = All
 limits (Some least) most = Range least (unwrap_or most least)
 
-abbrev pub search_order : List Row → Result Order UsageFault
-search_order rows = with_given (peer_given rows) BadMac (λ to.
-    Ok (Seeks to (timeout_given rows) (port_given rows)
-    (limits (number_of (codes "min") rows) (number_of (codes "max") rows))))
+abbrev pub search_order : List Row → Result Job UsageFault
+search_order rows =
+    let who = limits (number_of (codes "min") rows) (number_of (codes "max") rows) in
+    with_given (peer_given rows) BadMac
+    (λ to. Ok (job.WhoIs (record { to = to; timeout = timeout_given rows; port = port_given rows; who = who })))
 
-abbrev pub serve_order : List Row → Result Order UsageFault
+abbrev pub serve_order : List Row → Result Job UsageFault
 serve_order rows =
-    Ok (Serves (record { instance = needed_number (codes "device-instance") rows; name = codes "Small device" })
-    (unwrap_or (number_of (codes "port") rows) 47808) (unwrap_or (number_of (codes "count") rows) 65535))
+    Ok (job.Device (record {
+      info = record { instance = needed_number (codes "device-instance") rows; name = codes "Small device" };
+      port = unwrap_or (number_of (codes "port") rows) 47808;
+      count = unwrap_or (number_of (codes "count") rows) 65535;
+    }))
 
 -- ---- the whole line
 
 -- What the matches of a tool ask for.
-abbrev pub order_of : Text × List Row → Result Order UsageFault
+abbrev pub order_of : Text × List Row → Result Job UsageFault
 order_of matches = if bytes_eq matches.0 (codes "bacrp") then read_order matches.1
     else (if bytes_eq matches.0 (codes "bacwp") then write_order matches.1
     else (if bytes_eq matches.0 (codes "bacwi") then search_order matches.1
     else (if bytes_eq matches.0 (codes "bacdev") then serve_order matches.1
-    else Ok Traces)))
+    else Ok job.Trace)))
 
 -- The job can be run: a request and a search wait for some time, and a device takes some datagram.
 abbrev pub IsReady : Job → Type 0

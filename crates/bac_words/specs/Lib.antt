@@ -2,7 +2,6 @@ pub mod Called
 pub mod Command
 pub mod Fault
 pub mod Marks
-pub mod Orders
 pub mod Job
 pub mod Line
 pub mod Inner

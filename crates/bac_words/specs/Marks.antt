@@ -1,15 +1,13 @@
 -- The words as `clap` is to see them, and as they were typed.
-use Rattle.std.specs.Prelude.{ℕ, Bool, ◌==◌, ◌&&◌, ◌||◌, nat_le, List, [], ◌∷◌, drop, map}
+use Rattle.std.specs.Prelude.{Bool, ◌==◌, ◌&&◌, ◌||◌, List, [], ◌∷◌, drop, map}
 use Rattle.std.specs.Prelude.{if◌then◌else◌, slice_index}
+use Rattle.std.specs.Char.{is_ascii_digit}
 use Rattle.clap.specs.Words.{Text}
-
-abbrev pub is_digit : ℕ → Bool
-is_digit byte = nat_le 48 byte && nat_le byte 57
 
 -- A word that begins with `~` (126), or with `-` (45) and a digit.
 abbrev pub wants_mark : Text → Bool
 wants_mark word =
-    slice_index word 0 == 126 || (slice_index word 0 == 45 && is_digit (slice_index word 1))
+    slice_index word 0 == 126 || (slice_index word 0 == 45 && is_ascii_digit (slice_index word 1))
 
 -- The word, with a `~` in front where it wants a mark.
 abbrev pub marked : Text → Text

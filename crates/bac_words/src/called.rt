@@ -1,7 +1,8 @@
 //! The words that the program was called with.
-ghost use Rattle.std.specs.Prelude.{◌≡◌, IfOk, map, option_copied};
+ghost use Rattle.std.specs.Prelude.{◌≡◌, [], ◌∷◌, IfOk, map, option_copied};
+ghost use Rattle.std.specs.Option.{option_map_or};
 ghost use Rattle.std.specs.String.{string_bytes};
-ghost use Rattle.bac_words.specs.Called.{is_tool, names_of, tool_named, words_called};
+ghost use Rattle.bac_words.specs.Called.{is_tool, tool_named, words_called};
 
 use std::alloc::{AllocError, Global};
 use std::path::Path;
@@ -23,8 +24,8 @@ pub fn words_of(alloc: Global, typed: &[String]) -> Result<Vec<&str>, AllocError
 
 // The program's name, or an empty one and the tool.
 fn names_of(alloc: Global, program: &str) -> Result<Vec<&str>, AllocError>
-    ensures { IfOk result
-        (λ names. map (λ name. name.now) names.items ≡ names_of program.now (tool_named program.now)) }
+    ensures { IfOk result (λ names. map (λ name. name.now) names.items
+        ≡ option_map_or (λ tool. [] ∷ tool ∷ []) (tool_named program.now) (program.now ∷ [])) }
 {
     match tool_called(program) {
         Some(tool) => Vec::from_slice(alloc, &["", tool]),

@@ -1,9 +1,9 @@
 //! The command that `clap` reads the words by.
 ghost use Rattle.std.specs.Prelude.{◌≡◌, false, IfOk, codes, map};
-ghost use Rattle.std.specs.List.{list_any};
-ghost use Rattle.clap.specs.Words.{App, new_app, new_rule, rule_of, with_subcommand};
-ghost use Rattle.clap_laws.specs.Commands.{IsCommand, number, needed, by_name, several, with_rules};
-ghost use Rattle.bac_words.specs.Command.{own_instance_rule, mac_rule, timeout_rule, retries_rule, port_rule, bacrp};
+ghost use Rattle.std.specs.List.{fold, list_any};
+ghost use Rattle.clap.specs.Words.{App, new_app, new_rule, rule_of, with_rule, with_subcommand};
+ghost use Rattle.clap_laws.specs.Commands.{IsCommand, number, needed, by_name, several};
+ghost use Rattle.bac_words.specs.Command.{mac_rule, timeout_rule, retries_rule, port_rule, bacrp};
 ghost use Rattle.bac_words.specs.Command.{bacwp, bacwi, bacdev};
 ghost use Rattle.bac_words.specs.Command.{bactrace, bactool};
 
@@ -40,7 +40,7 @@ fn option<'a>(alloc: Global, id: &'a str, least: u32, most: u32, help: &'a str) 
 
 /// The instance that `bacdev` has; the last one stands for every device.
 fn own_instance_arg<'a>(alloc: Global) -> Arg<'a>
-    ensures rule { rule_of result ≡ own_instance_rule }
+    ensures rule { rule_of result ≡ needed (number (codes "device-instance") 0 4194302) }
     ensures local { result.global ≡ false }
 {
     needed(alloc, "device-instance", 0, 4_194_302, help::OWN_INSTANCE)
@@ -107,7 +107,7 @@ fn named<'a>(alloc: Global, name: &'a str, about: &'a str, lines: &'a str) -> Co
 fn tool<'a>(command: Command<'a>, arguments: Vec<Arg<'a>>) -> Result<Command<'a>, AllocError>
     requires { list_any (λ a. a.global) arguments.items ≡ false }
     ensures { (app : App) → IsCommand command.entry app
-        → IfOk result (λ c. IsCommand c (with_rules app (map rule_of arguments.entry.items))) }
+        → IfOk result (λ c. IsCommand c (fold with_rule app (map rule_of arguments.entry.items))) }
 {
     command.args(arguments)
 }

@@ -10,7 +10,7 @@
 //!
 //! ```text
 //! ensures read { IsOrdered (codes "bactool bacrp 1234 0 5 85 --mac 192.0.2.7")
-//!     (Ok (Reads (usual (0x0c ∷ 0x00 ∷ 0x00 ∷ 0x00 ∷ 0x05 ∷ 0x19 ∷ 0x55 ∷ [])))) }
+//!     (Ok (Read (usual (0x0c ∷ 0x00 ∷ 0x00 ∷ 0x00 ∷ 0x05 ∷ 0x19 ∷ 0x55 ∷ [])))) }
 //! ```
 #![tactic(auto)]
 

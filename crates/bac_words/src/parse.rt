@@ -1,24 +1,22 @@
 //! From the words to the job.
-ghost use Rattle.std.specs.Prelude.{◌≡◌, ◌<◌, ◌⊎◌, IfOk, IfSome, IsSomeAnd, MatchResult, Ok, Err, Some, codes};
-ghost use Rattle.std.specs.Prelude.{option_map};
+ghost use Rattle.std.specs.Prelude.{◌≡◌, ◌<◌, ◌⊎◌, IfOk, IfSome, IsSomeAnd, Some, codes};
+ghost use Rattle.std.specs.Prelude.{IsErrAnd, option_map};
 ghost use Rattle.clap.specs.Words.{found_of, rows_of, subcommand_rows_of};
 ghost use Rattle.clap.specs.Walk.{texts};
 ghost use Rattle.bac_wire.specs.Identifier.{identifier};
-ghost use Rattle.bac_pdu.specs.Peer.{station};
+ghost use Rattle.bac_wire.specs.Steps.{result_seen};
 ghost use Rattle.bac_pdu.specs.Property.{IsPriority};
 ghost use Rattle.clap_laws.specs.Inner.Commands.{rules_of};
 ghost use Rattle.clap_laws.specs.Numbers.{number_of};
 ghost use Rattle.clap_laws.specs.Inner.Numbers.{IsWithin};
 ghost use Rattle.clap_laws.specs.Passes.{IsTaken};
-ghost use Rattle.bac_text.specs.Address.{plain_peer_of};
 ghost use Rattle.bac_text.specs.Parameters.{priority_from};
 ghost use Rattle.bac_words.specs.Command.{bacdev, bacrp, bacwi, bacwp};
-ghost use Rattle.bac_words.specs.Job.{peer_given, index_given, object_given, needed_number, timeout_given};
-ghost use Rattle.bac_words.specs.Job.{retries_given, port_given, request_given, body_given, limits, read_order};
+ghost use Rattle.bac_words.specs.Job.{peer_in, peer_given, index_given, object_given, needed_number, timeout_given};
+ghost use Rattle.bac_words.specs.Job.{retries_given, port_given, call_given, body_given, limits, read_order};
 ghost use Rattle.bac_words.specs.Job.{write_order, search_order, serve_order, order_of, IsReady};
 ghost use Rattle.bac_words.specs.Inner.Job.{IsTool, IsRequest, IsClient, IsNumberWord, IsGiven, bounds};
-ghost use Rattle.bac_words.specs.Line.{Answers, IsRefused};
-ghost use Rattle.bac_words.specs.Orders.{request_seen, seen};
+ghost use Rattle.bac_words.specs.Line.{Answers, IsRefusal};
 
 use crate::command::bactool;
 use crate::faults::UsageFault;
@@ -43,7 +41,7 @@ use std::alloc::Global;
 /// `Memory` where there is none, `Help` and `Words` where `clap` doesn't take the words, and else the first of
 /// `BadMac`, `BadIndex`, and `BadValue` or `BodyTooLong`.
 pub fn parse_words(alloc: Global, words: &[&str]) -> Result<Job, UsageFault>
-    ensures answer { IsRefused (texts words.now) result ⊎ Answers (texts words.now) result }
+    ensures answer { IsErrAnd result (IsRefusal (texts words.now)) ⊎ Answers (texts words.now) result }
     ensures ready { IfOk result IsReady }
 {
     let marked = marked_words(alloc, words)?;
@@ -55,7 +53,7 @@ pub fn parse_words(alloc: Global, words: &[&str]) -> Result<Job, UsageFault>
 // The job of the tool that was met.
 fn job(matches: &ArgMatches<'_>) -> Result<Job, UsageFault>
     requires { IsSomeAnd (subcommand_rows_of matches.now) IsTool }
-    ensures job { option_map order_of (subcommand_rows_of matches.now) ≡ Some (seen result) }
+    ensures job { option_map order_of (subcommand_rows_of matches.now) ≡ Some result }
     ensures ready { IfOk result IsReady }
 {
     let Some((name, tool)) = matches.subcommand() else {
@@ -73,7 +71,7 @@ fn job(matches: &ArgMatches<'_>) -> Result<Job, UsageFault>
 #[tactic(auto, using(crate::proofs::Given::of_tool, crate::proofs::Given::given_to_tool))]
 fn read_job(matches: &ArgMatches<'_>) -> Result<Job, UsageFault>
     requires { IsTaken (rules_of bacrp) (rows_of (found_of matches.now)) }
-    ensures job { seen result ≡ read_order (rows_of (found_of matches.now)) }
+    ensures job { result ≡ read_order (rows_of (found_of matches.now)) }
     ensures ready { IfOk result IsReady }
 {
     let request = ReadRequest {
@@ -89,7 +87,7 @@ fn read_job(matches: &ArgMatches<'_>) -> Result<Job, UsageFault>
 
 fn write_job(matches: &ArgMatches<'_>) -> Result<Job, UsageFault>
     requires { IsTaken (rules_of bacwp) (rows_of (found_of matches.now)) }
-    ensures job { seen result ≡ write_order (rows_of (found_of matches.now)) }
+    ensures job { result ≡ write_order (rows_of (found_of matches.now)) }
     ensures ready { IfOk result IsReady }
 {
     let Some(to) = peer(matches) else {
@@ -105,7 +103,7 @@ fn write_job(matches: &ArgMatches<'_>) -> Result<Job, UsageFault>
 #[tactic(auto, using(crate::proofs::Given::of_tool, crate::proofs::Given::given_to_tool))]
 fn search_job(matches: &ArgMatches<'_>) -> Result<Job, UsageFault>
     requires { IsTaken (rules_of bacwi) (rows_of (found_of matches.now)) }
-    ensures job { seen result ≡ search_order (rows_of (found_of matches.now)) }
+    ensures job { result ≡ search_order (rows_of (found_of matches.now)) }
     ensures ready { IfOk result IsReady }
 {
     let least = number(matches, "min");
@@ -124,7 +122,7 @@ fn search_job(matches: &ArgMatches<'_>) -> Result<Job, UsageFault>
 #[tactic(auto, using(crate::proofs::Given::of_tool, crate::proofs::Given::given_to_tool))]
 fn serve_job(matches: &ArgMatches<'_>) -> Result<Job, UsageFault>
     requires { IsTaken (rules_of bacdev) (rows_of (found_of matches.now)) }
-    ensures job { seen result ≡ serve_order (rows_of (found_of matches.now)) }
+    ensures job { result ≡ serve_order (rows_of (found_of matches.now)) }
     ensures ready { IfOk result IsReady }
 {
     let instance = needed(matches, "device-instance");
@@ -137,7 +135,7 @@ fn serve_job(matches: &ArgMatches<'_>) -> Result<Job, UsageFault>
 // The request to this peer with this body.
 fn call(matches: &ArgMatches<'_>, to: Peer, body: ArrayVec<u8, LONGEST_BODY>) -> Call
     requires { IsRequest (rows_of (found_of matches.now)) }
-    ensures request { request_seen result ≡ request_given (station to) (rows_of (found_of matches.now)) body.items }
+    ensures request { result ≡ call_given to (rows_of (found_of matches.now)) body }
     ensures ready { 0 < result.timeout }
 {
     Call {
@@ -201,14 +199,15 @@ fn priority(matches: &ArgMatches<'_>) -> Option<u8>
 // The peer of `--mac`, which has no route.
 #[tactic(auto, using(crate::proofs::Given::first_words))]
 fn peer(matches: &ArgMatches<'_>) -> Option<Peer>
-    ensures { option_map station result ≡ peer_given (rows_of (found_of matches.now)) }
+    ensures { result ≡ peer_given (rows_of (found_of matches.now)) }
 {
     peer_of(matches.get_str("mac")?)
 }
 
 // The peer that a word names, as it stands.
+#[tactic(auto, using(crate::proofs::Given::peer_named))]
 fn peer_of(word: &str) -> Option<Peer>
-    ensures { option_map station result ≡ plain_peer_of word.now }
+    ensures { result ≡ peer_in word.now }
 {
     plain_peer_in(word.as_bytes())
 }
@@ -228,9 +227,7 @@ fn write_body(
     index: Option<u32>,
 ) -> Result<ArrayVec<u8, LONGEST_BODY>, PairFault>
     requires { IsTaken (rules_of bacwp) (rows_of (found_of matches.now)) }
-    ensures { MatchResult result
-        (λ body. body_given (rows_of (found_of matches.now)) index ≡ Ok body.items)
-        (λ fault. body_given (rows_of (found_of matches.now)) index ≡ Err fault) }
+    ensures { result_seen (λ body. body.items) result ≡ body_given (rows_of (found_of matches.now)) index }
 {
     let pairs = matches.get_strs("tag value").unwrap_or(&[]);
     let mut words = TypedWords::new(pairs);

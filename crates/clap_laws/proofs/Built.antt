@@ -9,8 +9,8 @@ use Rattle.clap.specs.Walk.{Text}
 use Rattle.clap.specs.Words.{AddsArg, AddsInTurn, AddsSubcommand, App, rule_of, with_rule, with_subcommand}
 use Rattle.clap.specs.declared.builder.arg.Arg.{Arg}
 use Rattle.clap.specs.declared.builder.command.Command.{Command}
-use Rattle.clap_laws.specs.Commands.{IsCommand, wanting, with_rules}
-use Rattle.std.specs.List.{list_any}
+use Rattle.clap_laws.specs.Commands.{IsCommand, wanting}
+use Rattle.std.specs.List.{fold, list_any}
 
 pub with_tool : {app tool : App} (old new sub : Command) → IsCommand old app → IsCommand sub tool
     → AddsSubcommand old sub new
@@ -23,7 +23,7 @@ with_tool old new sub is tool_is added = record {
 -- arguments in turn
 pub in_turn : (args : List Arg) (app : App) (old new : Command) → IsCommand old app
     → list_any (λ a. a.global) args ≡ false → AddsInTurn AddsArg old args new
-    → IsCommand new (with_rules app (map rule_of args))
+    → IsCommand new (fold with_rule app (map rule_of args))
 in_turn [] app old new is local same = subst (λ c. IsCommand c app) same is
 in_turn (a ∷ rest) app old new is local chain =
     let parts = or_parts a.global (list_any (λ a. a.global) rest) local in

@@ -6,9 +6,9 @@ use Rattle.std.specs.List.{find}
 use Rattle.clap.specs.Walk.{finished, settled, Text, answers_to, nothing_held, walk, walk_from, stop_after}
 use Rattle.clap.specs.Simple.{App, Shape, argument_words, built, entered, label_of, names_of, rows_at}
 use Rattle.clap.specs.Kinds.{check_kinds}
-use Rattle.clap.specs.Faults.{check_fault, defaults_fault, entered_fault, level_fault}
+use Rattle.clap.specs.Faults.{check_fault, defaults_fault, entered_fault, fault_of, level_fault}
 use Rattle.std.specs.Option.{option_map, option_map_or}
-use Rattle.clap_laws.specs.Entering.{Enters, WordsEnter}
+use Rattle.clap_laws.specs.Entering.{Enters}
 use Rattle.clap_laws.proofs.Rows.{asks, none_fails, walk_goes}
 
 enters_by : (a : App) (words : List Text) (stop : Option (Text × List Text))
@@ -39,7 +39,8 @@ has_tool : (wants_help there wants_argument wanted : Bool) → wanted ≡ true
     → check_kinds wants_help (not there && wanted) wants_argument ≡ [] → there ≡ true
 has_tool wants_help there wants_argument wanted is none = grind arith
 
-pub enters : WordsEnter
+pub enters : (a : App) (words : List Text) → (built a).top.subcommand_required ≡ true → fault_of a words ≡ []
+    → Enters a words
 enters a words wanted none =
     let stop = stop_after (built a).top.rules (names_of (built a)) (argument_words a words) in
     let all = none_fails _ _ none in

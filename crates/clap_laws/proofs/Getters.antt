@@ -20,10 +20,10 @@ use Rattle.clap.specs.declared.builder.value_parser.ValueParser.TheVariants as v
 use Rattle.clap.proofs.CallerReads.{signed_reads}
 use Rattle.clap.proofs.ValueTestLemmas.{accepts-Accepts}
 use Rattle.clap.proofs.WalkLemmas.{both, one_text-rows}
-use Rattle.clap_laws.specs.Passes.{IsTaken, RowPasses, RowsPass}
-use Rattle.clap_laws.specs.Numbers.{decimal, number_of}
-use Rattle.clap_laws.specs.Inner.Numbers.{FitsWord, IsWithin, bounds_by, bounds_in, is_needed}
-use Rattle.clap_laws.proofs.Rows.{any_not, when_found}
+use Rattle.clap_laws.specs.Passes.{IsTaken, RowPasses}
+use Rattle.clap_laws.specs.Numbers.{number_of}
+use Rattle.clap_laws.specs.Inner.Numbers.{FitsWord, IsWithin, bounds_by, bounds_in, decimal, is_needed}
+use Rattle.clap_laws.proofs.Rows.{RowsPass, any_not, when_found}
 
 -- the entry of an id passed
 entry : (c : List Rule) (id : Text) (rows : List Row) (r : Row) → RowsPass c rows

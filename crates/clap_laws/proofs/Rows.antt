@@ -3,7 +3,7 @@
 use Rattle.std.proofs.Common.{◌≡◌, ◌∙◌, ◌<◌, ◌&&◌, ◌||◌, ℕ, Bool, cond, true, false, not, zero, suc, refl, sym, ap}
 use Rattle.std.proofs.Common.{subst, arith, List, [], ◌∷◌, ◌++◌, length, drop, Option, Some, None, is_some, IfSome}
 use Rattle.std.proofs.Common.{encode_utf8, slice_get, length-append, codes, if◌then◌else◌}
-use Rattle.std.specs.List.{find, fold, list_all, list_any}
+use Rattle.std.specs.List.{AllByRecursion, find, fold, list_all, list_any}
 use Rattle.std.specs.Str.{bytes_eq, chars}
 use Rattle.std.specs.Prelude.{nat_lt}
 use Rattle.std.proofs.lemmas.Slice.Eq.{bytes_eq-Decides}
@@ -20,21 +20,21 @@ use Rattle.clap.specs.Walk.{arg_by_long, arg_by_short, at_row, attached_value, b
 use Rattle.clap.specs.Walk.{finished, is_empty, long_met, long_or_other, more_values, nothing_held, option_met, plain}
 use Rattle.clap.specs.Walk.{plain_word, reacted, reading_by, settled, short_met, short_or_plain, subcommand_met}
 use Rattle.clap.specs.Walk.{subcommand_or_other, takes_values, to_positional, used, used_as, values_or_missing, walk}
-use Rattle.clap.specs.Walk.{walk_from, walked, walked_from, with_default, with_values, word_met}
+use Rattle.clap.specs.Walk.{rows_after, walk_from, walked, walked_from, with_default, with_values, word_met}
 use Rattle.clap.specs.Walk as w
 use Rattle.clap.specs.Simple.{Shape}
 use Rattle.clap.specs.Takes.{value_passes, values_pass, is_given}
 use Rattle.clap.specs.Faults.{action_fault, check_fault, defaults_fault, stray_fault, bundle_fault, bundle_step_fault}
 use Rattle.clap.specs.Faults.{flag_word_fault, flags_fault, long_fault, option_fault, other_fault, positional_fault}
 use Rattle.clap.specs.Faults.{react_fault, settle_fault, short_fault, step_fault, use_fault, values_fault, walk_fault}
-use Rattle.clap.specs.Faults.{word_fault}
+use Rattle.clap.specs.Faults.{level_fault, word_fault}
 use Rattle.clap.specs.declared.builder.action.ArgAction.{ArgAction}
 use Rattle.clap.specs.declared.builder.action.ArgAction.TheVariants as action
 use Rattle.clap.specs.declared.parser.matches.ValueSource.TheVariants.{CommandLine}
 use Rattle.clap.proofs.WalkLemmas.{both}
 use Rattle.clap.proofs.SimpleLemmas.{is_false}
-use Rattle.clap_laws.specs.Passes.{RowPasses, RowsPass}
-use Rattle.clap_laws.specs.Entering.{keeps_values, is_plain_rule, has_distinct_ids, IsPlainLevel, LevelsPass}
+use Rattle.clap_laws.specs.Passes.{IsTaken, RowPasses}
+use Rattle.clap_laws.specs.Entering.{keeps_values, is_plain_rule, has_distinct_ids, IsPlainLevel}
 
 -- What holds of the element that a search finds, by induction over the list.
 pub when_found : {X : Type 0} (p : X → Bool) (P : List X → Type 0) (a : X) → ((xs : List X) → p a ≡ true → P (a ∷ xs))
@@ -81,6 +81,9 @@ owned p c a is =
     record { own = rw other later.own; plain = later.plain }) c is
 
 -- ---- rows
+
+abbrev pub RowsPass : List Rule → List Row → Type 0
+RowsPass rules rows = AllByRecursion (RowPasses rules) rows
 
 append_pass : (c : List Rule) (xs ys : List Row) → RowsPass c xs → RowsPass c ys → RowsPass c (xs ++ ys)
 append_pass c [] ys h k = k
@@ -357,7 +360,8 @@ last_check : (wants_help wants_subcommand wants_argument : Bool)
 last_check wants_help wants_subcommand wants_argument none = grind arith
 
 -- a level of a command with no subcommand, of which nothing is wrong
-pub level_taken : LevelsPass
+pub level_taken : (s : Shape) (words : List Text) → IsPlainLevel s.rules → s.subcommand_negates_reqs ≡ false
+    → level_fault s [] nothing_held words false [] ≡ [] → IsTaken s.rules (rows_after s.rules [] words)
 level_taken s words level negates none =
     let end = (walk s.rules [] nothing_held words).held in
     let all = none_fails _ _ none in

@@ -1,6 +1,6 @@
 -- Commands as they are put together.
-use Rattle.std.specs.Prelude.{◌≡◌, ℕ, pos, true, false, List, [], ◌∷◌, Some}
-use Rattle.clap.specs.Words.{App, Rule, Text, app_of, new_rule, with_rule}
+use Rattle.std.specs.Prelude.{◌≡◌, ℕ, pos, true, false, Some}
+use Rattle.clap.specs.Words.{App, Rule, Text, app_of, new_rule}
 use Rattle.clap.specs.Lexer.{usize_max}
 use Rattle.clap.specs.declared.builder.command.Command.TheViews.{out-Command}
 use Rattle.clap.specs.declared.builder.command.Command.{Command}
@@ -20,13 +20,7 @@ by_name a = record a { long = Some a.id }
 
 -- One word or more.
 abbrev pub several : Rule → Rule
-several a = record a {
-  range = Some (record { start_inclusive = 1; end_inclusive = usize_max });
-}
-
-abbrev pub with_rules : App → List Rule → App
-with_rules a [] = a
-with_rules a (r ∷ rs) = with_rules (with_rule a r) rs
+several a = record a { range = Some (record { start_inclusive = 1; end_inclusive = usize_max }) }
 
 -- One of the subcommands is wanted.
 abbrev pub wanting : App → App

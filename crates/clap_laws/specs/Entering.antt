@@ -4,12 +4,11 @@ use Rattle.std.specs.List.{find, list_all, list_any}
 use Rattle.std.specs.Str.{bytes_eq}
 use Rattle.clap.specs.Facts.{unwrap_or_range}
 use Rattle.clap.specs.Values.{is_request}
-use Rattle.clap.specs.Walk.{Rule, Text, action_of, answers_to, is_empty, nothing_held, rows_after}
+use Rattle.clap.specs.Walk.{Rule, Text, action_of, answers_to, is_empty, nothing_held}
 use Rattle.clap.specs.Simple.{App, Shape, built, label_of, rows_at, subcommand_of}
-use Rattle.clap.specs.Faults.{fault_of, level_fault}
+use Rattle.clap.specs.Faults.{level_fault}
 use Rattle.clap.specs.declared.builder.action.ArgAction.{ArgAction}
 use Rattle.clap.specs.declared.builder.action.ArgAction.TheVariants as action
-use Rattle.clap_laws.specs.Passes.{IsTaken}
 
 -- An argument that keeps one value or more of each use.
 abbrev pub keeps_values : ArgAction → Bool
@@ -44,13 +43,3 @@ pub record Enters (a : App) (words : List Text) : Type 0 where
   pub other : asks_for_help (built a) name ≡ false
   pub rows : subcommand_of a words ≡ Some (rows_at tool rest)
   pub passes : level_fault tool [] nothing_held rest false [] ≡ []
-
--- Where a program wants a subcommand and takes the words, they enter one.
-abbrev pub WordsEnter : Type 0
-WordsEnter = (a : App) (words : List Text) → (built a).top.subcommand_required ≡ true → fault_of a words ≡ []
-    → Enters a words
-
--- Where a level takes the words, each entry passed its rules, and what is required was given.
-abbrev pub LevelsPass : Type 0
-LevelsPass = (s : Shape) (words : List Text) → IsPlainLevel s.rules → s.subcommand_negates_reqs ≡ false →
-    level_fault s [] nothing_held words false [] ≡ [] → IsTaken s.rules (rows_after s.rules [] words)

@@ -4,10 +4,6 @@ use Rattle.std.specs.Option.{option_map}
 use Rattle.std.specs.Str.Parse.{digits_value, without_leading_plus}
 use Rattle.clap.specs.Words.{Row, Text, one_of}
 
--- The number that a text writes in decimal digits, where a plus may stand first.
-abbrev pub decimal : Text → ℕ
-decimal text = digits_value 10 (without_leading_plus text)
-
--- The number that the words give for an argument, if they give one.
+-- The number that the words give for an argument, in decimal digits, where a plus may stand first; if they give one.
 abbrev pub number_of : Text → List Row → Option ℕ
-number_of id rows = option_map decimal (one_of id rows)
+number_of id rows = option_map (λ text. digits_value 10 (without_leading_plus text)) (one_of id rows)

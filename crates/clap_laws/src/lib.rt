@@ -2,15 +2,22 @@
 //! the law.
 #![tactic(auto)]
 
-ghost use Rattle.clap_laws.specs.Entering.{LevelsPass, WordsEnter};
+ghost use Rattle.std.specs.Prelude.{◌≡◌, true, false, List, []};
+ghost use Rattle.clap.specs.Faults.{fault_of, level_fault};
+ghost use Rattle.clap.specs.Simple.{App, Shape, built};
+ghost use Rattle.clap.specs.Walk.{Text, nothing_held, rows_after};
+ghost use Rattle.clap_laws.specs.Entering.{Enters, IsPlainLevel};
+ghost use Rattle.clap_laws.specs.Passes.{IsTaken};
 
 /// Words that a program takes, where it wants a subcommand, name one other than `help`, which takes the words after it.
 pub fn words_enter()
-    ensures { WordsEnter }
+    ensures { (a : App) (words : List Text) → (built a).top.subcommand_required ≡ true → fault_of a words ≡ []
+        → Enters a words }
 {}
 
 /// Where a command without subcommands takes words, each value passed its argument's rules, and what is required was
 /// given.
 pub fn levels_pass()
-    ensures { LevelsPass }
+    ensures { (s : Shape) (words : List Text) → IsPlainLevel s.rules → s.subcommand_negates_reqs ≡ false
+        → level_fault s [] nothing_held words false [] ≡ [] → IsTaken s.rules (rows_after s.rules [] words) }
 {}

@@ -1,8 +1,8 @@
 -- One turn of a call, by the steps of the client.
 use Rattle.std.specs.Prelude.{◌≡◌, ℕ, ◌≤◌, Bool, true, false, List, [], ◌∷◌, ◌++◌, length, Option, Some, None}
-use Rattle.std.specs.Prelude.{Err}
+use Rattle.std.specs.Prelude.{Result, Err}
 use Rattle.std.specs.List.{All, flat_map}
-use Rattle.bac_pdu.specs.Peer.{Station}
+use Rattle.bac_pdu.specs.Peer.{Station, station}
 use Rattle.bac_tsm.specs.Events.{Outcome, Data, Event, Ask, Tick, Note, Sent, Refused, Done, Dropped, TimedOut, Rules}
 use Rattle.bac_tsm.specs.Machine.{State, Waiting, Stepped, step}
 use Rattle.bac_tsm.specs.Laws.{state_at}
@@ -11,13 +11,33 @@ use Rattle.bac_tsm.specs.Client.{Client}
 use Rattle.bac_links.specs.Foretold.{Foretold, Heard, Silence, Arrival, Failure}
 use Rattle.bac_links.specs.History.{Entry, Posted, Unposted, Account, GainsAll}
 use Rattle.bac_links.specs.Handed.{turns}
-use Rattle.bac_links.specs.Courses.{first_below, stops_at}
-use Rattle.bac_links.specs.Call.{posts, rules_for, wait_of, begun_at, entries_of, end_in, has_ended}
-use Rattle.bac_links.specs.Call.{FailsToSend, StaysOpen}
+use Rattle.bac_links.specs.Courses.{first_below, stops_at, Stops}
+use Rattle.bac_links.specs.Limits.{turn_wait}
+use Rattle.bac_links.specs.Call.{service_of, rules_for, post_in, IsAccepted, end_in, events_of, entries_of, has_ended}
+use Rattle.bac_links.specs.Call.{FailsToSend}
 use Rattle.bac_links.specs.declared.ending.Purpose.{Purpose}
+use Rattle.bac_links.specs.declared.ending.Exit.{Exit}
 use Rattle.bac_text.specs.declared.jobs.Call.{Call}
 use Rattle.bac_links.specs.declared.fault.ToolFault.{ToolFault}
 use Rattle.bac_links.specs.declared.fault.ToolFault.TheVariants.{SendFailed, ReceiveFailed}
+
+-- The sends among notes.
+abbrev pub posts : List Note → List Entry
+posts = flat_map post_in
+
+-- How long a turn waits.
+abbrev pub wait_of : Call → ℕ
+wait_of call = turn_wait call.timeout
+
+-- A call begins with the time and its request, and goes on so.
+abbrev pub begun_at : Purpose → Call → ℕ → List Event → List Event
+begun_at purpose call time later =
+    Tick time ∷ Ask (station call.to) (service_of purpose) call.body.items ∷ later
+
+-- The call stops with this result after n turns, in which the request stayed open.
+abbrev pub StaysOpen : Purpose → Call → Foretold → Result Exit ToolFault → List Entry → Type 0
+StaysOpen purpose call t result gained = (n : ℕ) × IsAccepted purpose call (events_of purpose call t n)
+    × Stops (wait_of call) t (has_ended purpose call t) (entries_of purpose call t) gained n result
 
 -- The end in a note, and the ends among notes.
 abbrev pub ending_in : Note → List (Option Outcome)

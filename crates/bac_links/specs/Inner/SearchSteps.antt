@@ -1,13 +1,23 @@
 -- One turn of a search.
 use Rattle.std.specs.Prelude.{◌≡◌, ◌≢◌, ℕ, nat_lt, Bool, List, [], ◌∷◌, ◌++◌, length, Option, Result, Ok, Err}
+use Rattle.std.specs.List.{flat_map}
+use Rattle.bac_text.specs.declared.jobs.Search.{Search}
 use Rattle.bac_text.specs.declared.checked.Checked.{Checked}
 use Rattle.bac_text.specs.Checked.{Took}
 use Rattle.bac_pdu.specs.declared.discovery.WhoIs.{WhoIs}
+use Rattle.bac_links.specs.Limits.{turn_wait}
 use Rattle.bac_links.specs.Foretold.{Heard, Failure}
 use Rattle.bac_links.specs.History.{Waited, Account, Gains}
-use Rattle.bac_links.specs.Search.{Found, found_by, found_line, found_lines}
+use Rattle.bac_links.specs.Search.{Found, found_by, found_line}
 use Rattle.bac_links.specs.declared.fault.ToolFault.{ToolFault}
 use Rattle.bac_links.specs.declared.fault.ToolFault.TheVariants.{SendFailed, ReceiveFailed, TurnsSpent, WriteFailed}
+
+-- How long a turn waits.
+abbrev pub search_wait : Search → ℕ
+search_wait search = turn_wait search.timeout
+
+abbrev pub found_lines : List Found → List ℕ
+found_lines = flat_map found_line
 
 abbrev pub has_found : List Found → Bool
 has_found found = nat_lt 0 (length found)

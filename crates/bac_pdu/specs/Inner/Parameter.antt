@@ -1,6 +1,11 @@
 -- A parameter that may be left out.
 use Rattle.std.specs.Prelude.{ℕ, List, [], Option, Some, None}
+use Rattle.std.specs.Option.{option_map, option_to_list}
 use Rattle.bac_wire.specs.Parameter.{number_octets}
+
+-- The parameter, where there is a value for it; else none.
+abbrev pub optional : {A B : Type 0} → (A → B) → Option A → List B
+optional made x = option_to_list (option_map made x)
 
 -- A number under this tag, where there is one.
 abbrev pub optional_octets : ℕ → Option ℕ → List ℕ

@@ -5,8 +5,12 @@ use Rattle.bac_script.specs.declared.input.Reading.{Reading}
 use Rattle.bac_script.specs.declared.input.Reading.TheVariants.{Open, AtEnd, Failed}
 use Rattle.bac_script.specs.Inner.Feeds.{HasNoFeed}
 use Rattle.bac_script.specs.Inner.Limits.{line_room, chunk_room}
-use Rattle.bac_text.specs.Checked.{reads_of, last_of, Gave}
+use Rattle.bac_text.specs.Checked.{ends_of, reads_of, last_of, Gave}
 use Rattle.bac_script.specs.Input.{most_reads, ReaderStands}
+
+-- Since then no read gave nothing: the count of such reads is as before.
+abbrev pub HasNotEnded : {R : Type 0} → Checked R → Checked R → Type 0
+HasNotEnded before after = ends_of after ≡ ends_of before
 
 -- So many reads may still be made.
 abbrev pub may_read : {R : Type 0} → Checked R → ℕ

@@ -1,6 +1,6 @@
 -- A line as the program keeps it, and what it says.
 use Rattle.std.specs.Prelude.{ℕ, List}
-use Rattle.bac_tsm.specs.Events.{Ask, Tick}
+use Rattle.bac_tsm.specs.Events.{Ask, Data, Tick}
 use Rattle.bac_script.specs.declared.line.Line.{Line}
 use Rattle.bac_script.specs.declared.line.Line.TheVariants as line
 use Rattle.bac_script.specs.declared.long_write.LongWrite.{LongWrite}
@@ -9,7 +9,7 @@ use Rattle.bac_wire.specs.Identifier.{identifier}
 use Rattle.bac_pdu.specs.Peer.{station}
 use Rattle.bac_device.specs.Turns.{Arrival}
 use Rattle.bac_text.specs.Pairs.{whole_body_of}
-use Rattle.bac_script.specs.Line.{Said, Nothing, Settings, Happens, Asks, handed}
+use Rattle.bac_script.specs.Line.{Said, Nothing, Settings, Happens, Asks}
 use Rattle.bac_script.specs.Inner.LongBody.{octets_or_none}
 
 abbrev pub arrival_seen : Received → Arrival
@@ -25,6 +25,6 @@ line_seen line.Skipped = Nothing
 line_seen (line.Client config first_ticket) = Settings config.timeout config.retries first_ticket
 line_seen (line.Request peer service body) = Happens (Ask (station peer.now) service body.now)
 line_seen (line.LongWrite write) = Happens (Ask (station write.peer.now) 15 (long_body write))
-line_seen (line.Data received) = handed (arrival_seen received)
+line_seen (line.Data received) = Happens (Data (station received.from.now) received.datagram.now)
 line_seen (line.Tick now) = Happens (Tick now)
 line_seen (line.Ask received) = Asks (arrival_seen received)

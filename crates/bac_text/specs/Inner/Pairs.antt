@@ -1,16 +1,16 @@
 -- The region that the words of a property's value write.
 use Rattle.std.specs.Prelude.{ℕ, List, Result, Ok, Err}
+use Rattle.std.specs.List.{flat_map}
 use Rattle.bac_wire.specs.Limits.{frame_room}
 use Rattle.bac_wire.specs.Datum.{Datum, plain}
-use Rattle.bac_pdu.specs.Parameter.{plain_all}
 use Rattle.bac_text.specs.declared.pairs.PairFault.{PairFault}
 use Rattle.bac_text.specs.declared.pairs.PairFault.TheVariants.{Bad, TooLong}
-use Rattle.bac_text.specs.ValueWords.{at_most}
+use Rattle.bac_text.specs.Inner.ValueWords.{at_most}
 use Rattle.bac_text.specs.Pairs.{values_in}
 
 -- The shortest spellings of these values, one after another, where a frame has room for them.
 abbrev pub region_with : Result (List Datum) ℕ → Result (List ℕ) PairFault
-region_with (Ok values) = at_most TooLong frame_room (plain_all plain values)
+region_with (Ok values) = at_most TooLong frame_room (flat_map plain values)
 region_with (Err n) = Err (Bad n)
 
 -- The region of these words, or why there is none.

@@ -1,5 +1,12 @@
--- What stands between two values in a text.
-use Rattle.std.specs.Prelude.{ℕ, List, [], ◌∷◌}
+-- The texts of values in a row, and what stands between two of them.
+use Rattle.std.specs.Prelude.{ℕ, List, [], ◌∷◌, map}
+use Rattle.std.specs.List.{join_with_byte}
+use Rattle.bac_wire.specs.Datum.{Datum}
+use Rattle.bac_text.specs.Values.{datum_text}
+
+-- The texts of values, joined by commas (44).
+abbrev pub joined : List Datum → List ℕ
+joined values = join_with_byte 44 (map datum_text values)
 
 -- A comma, where more octets follow; else nothing.
 abbrev pub separator : List ℕ → List ℕ

@@ -1,8 +1,12 @@
 -- The first word of a text that still has to be cut, and hexadecimal words that are known to be right.
-use Rattle.std.specs.Prelude.{◌≡◌, ℕ, nat_le, List, [], ◌∷◌, Option, Some, None, if◌then◌else◌}
+use Rattle.std.specs.Prelude.{◌≡◌, ℕ, Bool, nat_lt, nat_le, List, [], ◌∷◌, length, Option, Some, None, if◌then◌else◌}
 use Rattle.std.specs.Result.{result_unwrap_or}
 use Rattle.hex.specs.Hex.{decode_of}
 use Rattle.bac_text.specs.Words.{words_of, number_up_to}
+
+-- A word of one octet or more.
+abbrev pub is_not_empty : List ℕ → Bool
+is_not_empty word = nat_lt 0 (length word)
 
 -- This number, where it is at most the limit.
 abbrev pub up_to : ℕ → ℕ → Option ℕ

@@ -6,6 +6,15 @@ use Rattle.bac_tsm.specs.Events.{Rules}
 use Rattle.bac_tsm.specs.declared.due.Entry.{Entry}
 use Rattle.bac_tsm.specs.Machine.{Waiting, is_due, due_entry, kept}
 use Rattle.bac_tsm.specs.Waiting.{nothing}
+use Rattle.bac_tsm.specs.Table.{held_at, open_slots}
+
+-- The number of the request at this slot.
+abbrev pub number_at : List Waiting → ℕ → ℕ
+number_at slots slot = (get_or slots slot nothing).request.number
+
+-- The open requests.
+abbrev pub waiting_in : List Waiting → List ℕ → List ℕ → List Waiting
+waiting_in slots order tickets = held_at slots (open_slots order tickets)
 
 -- The rank at which the request with this ticket stands, if one has it.
 abbrev pub IsRankOf : ℕ → List Waiting → Option ℕ → Type 0

@@ -5,6 +5,14 @@ use Rattle.bac_tsm.specs.declared.request.Asked.{Asked}
 use Rattle.bac_tsm.specs.Machine.{Waiting}
 use Rattle.bac_tsm.specs.Answers.{octets_of}
 
+-- The ticket of a request that waits.
+abbrev pub ticket_in : Waiting → ℕ
+ticket_in w = w.request.ticket
+
+-- Its number.
+abbrev pub number_in : Waiting → ℕ
+number_in w = w.request.number
+
 -- A new request with this body, as it waits for an answer.
 abbrev pub begun : Asked → List ℕ → Waiting
 begun asked body = record {

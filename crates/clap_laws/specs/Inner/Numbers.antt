@@ -2,11 +2,16 @@
 use Rattle.std.specs.Prelude.{◌<◌, ◌≤◌, ◌^◌, ◌&&◌, ℕ, Bool, pos, false, List, Option, None, Some, ⊤}
 use Rattle.std.specs.Option.{option_and_then, option_map_or}
 use Rattle.std.specs.Str.{bytes_eq}
+use Rattle.std.specs.Str.Parse.{digits_value, without_leading_plus}
 use Rattle.clap.specs.Facts.{parser_of_value}
 use Rattle.clap.specs.Walk.{arg_by_id}
 use Rattle.clap.specs.Words.{Rule, Text}
 use Rattle.clap.specs.declared.builder.value_parser.ValueParser.{ValueParser}
 use Rattle.clap.specs.declared.builder.value_parser.ValueParser.TheVariants.{Signed}
+
+-- The number that a text writes in decimal digits, where a plus may stand first.
+abbrev pub decimal : Text → ℕ
+decimal text = digits_value 10 (without_leading_plus text)
 
 -- The least and the most that an argument's number may be.
 abbrev pub bounds_by : ValueParser → Option (ℕ × ℕ)

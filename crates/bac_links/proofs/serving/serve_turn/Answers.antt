@@ -1,5 +1,6 @@
 use Rattle.std.proofs.Common.{[], ◌∷◌, Some, None, refl}
 use Rattle.bac_pdu.specs.Peer.{station}
+use Rattle.bac_device.proofs.StateLaws.{answers}
 use Rattle.bac_links.specs.Foretold.{Silence, Arrival}
 use Rattle.bac_links.specs.History.{Waited}
 use Rattle.bac_links.specs.Limits.{serve_wait}
@@ -15,7 +16,7 @@ returns-in_default-clause-told g c =
     let gains = rw (c.in-Ok-Some.field-0-is, ← c.as_slice.ensures.value) at c.in-Ok-Some.ensures.told in (
       Arrival (station c.in-Ok-Some.from) c.as_slice.result.now,
       None ∷ [],
-      (c.answer.new.self, record { replied = c.in_default.ensures.reply; written = c.in_default.ensures.after }, refl),
+      (c.answer.new.self, answers _ _ _ _ c.in_default.ensures.reply c.in_default.ensures.after, refl),
       (λ q. cc),
       refl,
       refl,
@@ -29,7 +30,7 @@ returns-in-Ok-clause-told g c =
     let sends = rw c.as_slice-2.ensures.value at c.in-Ok.ensures.told in (
       heard,
       Some (station c.in-Some.to, c.answer.new.frame) ∷ [],
-      (c.answer.new.self, record { replied = c.in-Some.ensures.reply; written = c.in-Some.ensures.after }, refl),
+      (c.answer.new.self, answers _ _ _ _ c.in-Some.ensures.reply c.in-Some.ensures.after, refl),
       (λ q. cc),
       refl,
       refl,
@@ -43,7 +44,7 @@ returns-in-Err-send-clause-told g c =
     let sends = rw c.as_slice-2.ensures.value at c.in-Err-send.ensures.told in (
       heard,
       (station c.in-Some.to, c.answer.new.frame),
-      (c.answer.new.self, record { replied = c.in-Some.ensures.reply; written = c.in-Some.ensures.after }, refl),
+      (c.answer.new.self, answers _ _ _ _ c.in-Some.ensures.reply c.in-Some.ensures.after, refl),
       (λ q. cc),
       gains_both (Waited serve_wait heard ∷ []) _ _ _ _ gains sends,
     )

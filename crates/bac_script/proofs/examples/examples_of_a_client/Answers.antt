@@ -29,8 +29,8 @@ unfolding encode is_utf8 chars digits decode_pairs encode_with value_under value
     is_answer_to
 returns c =
     record {
-      answered = record { wrote = refl; answered = refl };
-      retried = record { wrote = refl; answered = refl };
-      late = record { wrote = refl; answered = refl };
-      written = record { wrote = refl; answered = refl };
+      answered = (refl, refl);
+      retried = (refl, refl);
+      late = (refl, refl);
+      written = (refl, refl);
     }

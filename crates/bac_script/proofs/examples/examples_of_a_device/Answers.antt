@@ -42,7 +42,7 @@ unfolding encode is_utf8 chars digits decode_pairs encode_with value_under value
     device_text device_number device_property element kind_property point_property
 returns c =
     record {
-      asked_who = record { wrote = refl; answered = refl };
-      unknown = record { wrote = refl; answered = refl };
-      commanded = record { wrote = refl; answered = refl };
+      asked_who = (refl, refl);
+      unknown = (refl, refl);
+      commanded = (refl, refl);
     }

@@ -29,11 +29,11 @@ unfolding encode is_utf8 chars digits decode_pairs encode_with value_under value
     is_answer_to
 returns c =
     record {
-      empty = record { wrote = refl; answered = refl };
-      silent = record { wrote = refl; answered = refl };
-      bad = record { wrote = refl; answered = refl };
-      bad_at_once = record { wrote = refl; answered = refl };
-      too_long = record { wrote = refl; answered = refl };
-      without_feed = record { wrote = refl; answered = refl };
-      cut = record { wrote = refl; answered = refl };
+      empty = (refl, refl);
+      silent = (refl, refl);
+      bad = (refl, refl);
+      bad_at_once = (refl, refl);
+      too_long = (refl, refl);
+      without_feed = (refl, refl);
+      cut = (refl, refl);
     }

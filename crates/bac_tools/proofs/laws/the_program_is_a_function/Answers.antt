@@ -2,4 +2,4 @@ use Rattle.bac_tools.proofs.Alike.{runs_alike}
 use Rattle.bac_tools.proofs.laws.the_program_is_a_function.Goals as goal
 
 pub returns : goal.returns
-returns g c = λ words one other a b h. runs_alike _ _ _ _ words one other a b h
+returns g c = λ words one other h. runs_alike one other h

@@ -6,9 +6,9 @@ use Rattle.bac_words.proofs.examples.examples_of_other_tools.Goals as goal
 pub returns : goal.returns
 unfolding walk_fault walked defaults_fault
 returns c = record {
-  all = record { taken = refl; ordered = refl };
-  one = record { taken = refl; ordered = refl };
-  some = record { taken = refl; ordered = refl };
-  device = record { taken = refl; ordered = refl };
-  script = record { taken = refl; ordered = refl };
+  all = record { taken = refl; answer_is = refl };
+  one = record { taken = refl; answer_is = refl };
+  some = record { taken = refl; answer_is = refl };
+  device = record { taken = refl; answer_is = refl };
+  script = record { taken = refl; answer_is = refl };
 }

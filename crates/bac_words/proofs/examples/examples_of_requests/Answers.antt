@@ -10,12 +10,12 @@ use Rattle.bac_words.proofs.examples.examples_of_requests.Goals as goal
 pub returns : goal.returns
 unfolding walk_fault walked defaults_fault plain plain_tag plain_parameter value_under
 returns c = record {
-  read = record { taken = refl; ordered = refl };
-  element = record { taken = refl; ordered = refl };
-  write = record { taken = refl; ordered = refl };
-  relinquish = record { taken = refl; ordered = refl };
-  negative = record { taken = refl; ordered = refl };
-  bad_mac = record { taken = refl; ordered = refl };
-  bad_index = record { taken = refl; ordered = refl };
-  bad_value = record { taken = refl; ordered = refl };
+  read = record { taken = refl; answer_is = refl };
+  element = record { taken = refl; answer_is = refl };
+  write = record { taken = refl; answer_is = refl };
+  relinquish = record { taken = refl; answer_is = refl };
+  negative = record { taken = refl; answer_is = refl };
+  bad_mac = record { taken = refl; answer_is = refl };
+  bad_index = record { taken = refl; answer_is = refl };
+  bad_value = record { taken = refl; answer_is = refl };
 }

@@ -1,19 +1,18 @@
 use Rattle.std.proofs.Common.{◌≡◌, ℕ, Option, Some, None, Result, Ok, Err, refl, sym, is_some}
-use Rattle.std.specs.Prelude.{if◌then◌else◌}
+use Rattle.std.specs.Prelude.{if◌then◌else◌, ◌&&◌, not}
 use Rattle.bac_wire.specs.Datum.{Datum}
 use Rattle.bac_pdu.specs.Property.{Order, order}
 use Rattle.bac_device.specs.declared.failure.Failure.{Failure}
 use Rattle.bac_device.specs.declared.failure.Failure.TheVariants.{NotAnArray}
-use Rattle.bac_device.specs.Steps.{◌>>=◌, or_fail}
 use Rattle.bac_device.specs.Property.{single}
 use Rattle.bac_device.specs.Places.{Standing}
 use Rattle.bac_device.specs.Device.{DeviceState}
-use Rattle.bac_device.specs.Reply.{property_of, takes_index, commanded_point, ordered_write, accepted_write}
+use Rattle.bac_device.specs.Reply.{property_of, commanded_point, ordered_write, accepted_write}
 use Rattle.bac_device.proofs.device.Device.accepted_write.Goals as goal
 
 -- An index stands at no single value.
 no_index : {A : Type 0} (value : Datum) (index : Option ℕ) (rest : Result A Failure)
-    → (or_fail NotAnArray (if takes_index (single value) index then Some (single value) else None) >>= (λ _. rest))
+    → (if is_some index && not (single value).is_array then Err NotAnArray else rest)
     ≡ if is_some index then Err NotAnArray else rest
 no_index value None rest = refl
 no_index value (Some index) rest = refl

@@ -12,8 +12,8 @@ returns-in_err-read_pairs g c =
     let p = err_from_is_err_and c.from_residual.result c.from_residual.ensures.1 in
     record {
       body = rw (p.1, p.2)
-          (body-fault (identifier c.args.object) c.args.property c.args.index c.args.priority
-          (g.S.WordSource.left c.args.words.now) _ c.in_err-read_pairs.ensures.value);
+          (sym (body-fault (identifier c.args.object) c.args.property c.args.index c.args.priority
+          (g.S.WordSource.left c.args.words.now) _ c.in_err-read_pairs.ensures.value));
       short = rw p.1 tt;
       left = rw (p.1, p.2) c.in_err-read_pairs.ensures.left;
     }

@@ -1,17 +1,16 @@
-use Rattle.std.proofs.Common.{arith, ◌∙◌}
-use Rattle.bac_text.proofs.Known.{Sent_more, Sent_all}
+use Rattle.std.proofs.Common.{arith}
+use Rattle.bac_text.proofs.Known.{Sent_more, Sent_all, unread_more}
 use Rattle.bac_text.proofs.checked.Checked.put.Goals as goal
 
 -- the octets that a write took were sent too
 pub loop-rest-preserved : goal.loop-rest-preserved
 loop-rest-preserved g c =
-    let before = c.loop-rest.invariant.reads in
-    let after = c.write.ensures.reads in
     record {
       sent = Sent_more g.W.Write.contents c.args.self.now c.loop-rest.self c.write.new.self c.args.text.now
           c.loop-rest.rest.now c.in-Ok.taken c.loop-rest.invariant.sent c.in-Ok.ensures.passed c.in-Ok.ensures.bytes;
       sound = grind arith;
-      reads = (after.0 ∙ before.0, after.1 ∙ before.1, after.2 ∙ before.2);
+      reads = unread_more c.args.self.now c.loop-rest.self c.write.new.self c.loop-rest.invariant.reads
+          c.write.ensures.reads;
     }
 
 pub returns-clause-text : goal.returns-clause-text

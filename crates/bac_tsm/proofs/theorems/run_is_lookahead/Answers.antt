@@ -1,0 +1,5 @@
+use Rattle.bac_tsm.proofs.WholeRun.{is_lookahead}
+use Rattle.bac_tsm.proofs.theorems.run_is_lookahead.Goals as goal
+
+pub returns : goal.returns
+returns c = is_lookahead

@@ -1,0 +1,8 @@
+-- What is true of the open requests of a client.
+use Rattle.std.specs.Prelude.{ℕ, ◌<◌, ◌≤◌, List}
+use Rattle.std.specs.List.{All}
+use Rattle.bac_tsm.specs.Machine.{Waiting}
+
+-- The tickets are below the next one, and each was last sent before now, or now.
+abbrev pub IsTimely : ℕ → ℕ → List Waiting → Type 0
+IsTimely clock next_ticket ws = All (λ w. w.request.ticket < next_ticket) ws × All (λ w. w.base ≤ clock) ws

@@ -1,0 +1,7 @@
+-- Notes as a watcher is told them.
+use Rattle.std.specs.Prelude.{ℕ, List, map}
+use Rattle.bac_tsm.specs.Events.{Note}
+
+-- These notes, at this position.
+abbrev pub noted_at : ℕ → List Note → List (ℕ × Note)
+noted_at at notes = map (λ note. (at, note)) notes
