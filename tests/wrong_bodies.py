@@ -55,9 +55,11 @@ LARGEST = 60  # bodies of a round
 HEAD = re.compile(r"( *)(?:pub(?:\([^)]*\))? )?(?:const |unsafe )*fn (\w+)")
 IMPL = re.compile(r"impl(?:<.*?>)? (?:(\w+)(<.*>)? for )?(?:\w+::)*(\w+)")
 CYCLE = re.compile(r" *#\[cycle\((\w+)\)\]")
-# What a check prints of a goal, of an answer, of a function, and of a text that it does not take as a program.
+# What a check prints of a goal, of an answer, of a function, once as it goes and once at its end, and of a text that it
+# does not take as a program.
 NOTE = re.compile(r"note: src/\S+ .*not proved.*?\(`(\S+)`\)(.*)")
 ANSWER = re.compile(r"(?:\./)?proofs/(\S+)/\w+\.antt:\d+:\d+: error: (?:`(\S+)`: )?(.*)")
+CHECKED = re.compile(r"checked (\S+), \d+ of \d+")
 VERDICT = re.compile(r"fn (\S+): (proved|not proved|no proof|could not tell)(.*)")
 REFUSED = re.compile(r"(?m)^(?:\./)?(src/\S+?):(\d+):\d+: error.*")
 NAMES = re.compile(r"has no field|is not in scope|has no `|was not admitted")
@@ -131,7 +133,8 @@ class Edit:
     def __init__(self, crate, file, is_twin=False):
         self.crate, self.file, self.is_twin, self.is_wide = crate, file, is_twin, False
         self.name = f"{crate}/{os.path.basename(file)[: -len('.edit')]}{' (twin)' * is_twin}"
-        self.pairs, self.functions, self.keys, self.kind, self.why, self.tries, said = [], [], set(), "", [], 0, {}
+        self.pairs, self.functions, self.keys, self.kind, self.why, said = [], [], set(), "", [], {}
+        self.tries, self.took = 0, 0.0
         for line in text_of(file).split("\n"):
             word, _, text = line.partition(":")
             said[word] = text[1:] if text.startswith(" ") else text
@@ -276,6 +279,7 @@ class Round:
 
     def __init__(self, bodies, number, texts, edits):
         self.bodies, self.crate, self.number, self.texts, self.edits = bodies, bodies.crate, number, dict(texts), edits
+        self.took = {}  # the seconds between what a check says of one function and of the next, by the function
         self.copies = sorted((it.copy for it in edits if it.copy), key=lambda copy: -copy.behind)
         for it in self.copies:
             lines = self.text(it.path).split("\n")
@@ -329,13 +333,18 @@ class Round:
                 with open(f"{here}/{path}", "w", encoding="utf-8") as it:
                     it.write(text)
             self.answer(f"{here}/proofs")
-            with open(f"{folder}/said", "w+", encoding="utf-8", errors="replace") as said:
-                ran = subprocess.Popen(["rt", "check", "--jobs", "1"], cwd=here, stdin=subprocess.DEVNULL, stdout=said, stderr=subprocess.STDOUT)
+            how = {"cwd": here, "stdin": subprocess.DEVNULL, "stdout": subprocess.PIPE, "stderr": subprocess.STDOUT}
+            with subprocess.Popen(["rt", "check", "--jobs", "1"], text=True, errors="replace", **how) as ran:
                 self.running.add(ran.pid)
+                said, last = [], time.monotonic()
+                for line in ran.stdout:
+                    said.append(line)
+                    if checked := CHECKED.match(line):
+                        now = time.monotonic()
+                        self.took[checked[1]], last = now - last, now
                 _, ran.returncode, used = os.wait4(ran.pid, 0)
                 self.running.remove(ran.pid)
-                said.seek(0)
-                return said.read(), used.ru_utime + used.ru_stime
+            return "".join(said), used.ru_utime + used.ru_stime
 
 
 def joined(round, edit):
@@ -443,6 +452,8 @@ class Bodies:
 
     def judge(self, round, said, seconds):
         self.strange += judge_round(said, round)
+        for it in round.edits:
+            it.took = sum(took for symbol, took in round.took.items() if it.touches(symbol))
         self.bare = {it: symbols for it, symbols in self.bare.items() if it not in opened_by(rows_of(said, self.crate), self.bare)}
         self.seconds, self.open = self.seconds + seconds, self.open - 1
         if self.options.said:
@@ -470,17 +481,17 @@ class Bodies:
             if it.is_well() and (self.options.goals or it.kind in ("step", "name")):
                 told = it.answer or ("it is outside a function" if it.is_wide else "its twin is proved")
                 reason = f" ({told})" if it.kind in ("step", "name") else ""
-                lines.append(f"    {it.name}: {it.kind}{reason}: {'; '.join(it.why)}")
+                lines.append(f"    {it.name}: {it.kind}{reason}, {it.took:.0f} s: {'; '.join(it.why)}")
         print("\n".join(lines), flush=True)
 
 
 def try_all(crates, jobs):
-    """Tries the bodies of these crates, the dearest rounds first, and prints a line a round."""
+    """Tries the bodies of these crates, those of the upper ones first, which are dearer, and prints a line a round."""
     whole, began, waiting = sum(len(it.edits) for it in crates), time.monotonic(), {}
     with concurrent.futures.ThreadPoolExecutor(jobs) as pool:
 
         def begin(rounds):
-            dear = lambda it: LARGEST if it.edits[0].is_wide else len(it.edits)
+            dear = lambda it: (list(crates_below()).index(it.crate), len(it.edits))
             waiting.update((pool.submit(it.check), it) for it in sorted(rounds, key=dear, reverse=True))
 
         try:
@@ -527,7 +538,7 @@ def usual_jobs():
 def main():
     parser = argparse.ArgumentParser(description=__doc__, formatter_class=argparse.RawDescriptionHelpFormatter)
     parser.add_argument("--list", action="store_true", help="try nothing: name the bodies that don't fit the code, and print the rounds")
-    parser.add_argument("--goals", action="store_true", help="print each refusal")
+    parser.add_argument("--goals", action="store_true", help="print each refusal, and the seconds until it, with lemmas read meanwhile")
     parser.add_argument("--clauses", action="store_true", help="print the clauses of public functions that no body leaves open")
     parser.add_argument("--alone", action="store_true", help="give each body its own check")
     parser.add_argument("--no-twins", action="store_true", help="leave the twins out")
