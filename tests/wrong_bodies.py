@@ -538,7 +538,7 @@ def usual_jobs():
 def main():
     parser = argparse.ArgumentParser(description=__doc__, formatter_class=argparse.RawDescriptionHelpFormatter)
     parser.add_argument("--list", action="store_true", help="try nothing: name the bodies that don't fit the code, and print the rounds")
-    parser.add_argument("--goals", action="store_true", help="print each refusal, and the seconds until it, with lemmas read meanwhile")
+    parser.add_argument("--goals", action="store_true", help="print each refusal, and the seconds that it took")
     parser.add_argument("--clauses", action="store_true", help="print the clauses of public functions that no body leaves open")
     parser.add_argument("--alone", action="store_true", help="give each body its own check")
     parser.add_argument("--no-twins", action="store_true", help="leave the twins out")
