@@ -1,13 +1,15 @@
 #!/usr/bin/env python3
 """Tries wrong bodies of functions, many in one check, and says of each by what the prover refuses it.
 
-A wrong body is a file NAME.edit in crates/CRATE/must-fail or crates/CRATE/wrong, with lines as `rt must-fail` reads them, and four of its own:
+A wrong body is a file NAME.edit in crates/CRATE/must-fail or crates/CRATE/wrong, with lines as `rt must-fail` reads them, and some of its own:
 
     file: src/FILE.rt
     in: FUNCTION    where a line of that file stands in other functions too: the one that is meant
     old: TEXT       stands once in that file, or behind the head of that function, in the body of a function
     new: TEXT       what stands there in the wrong body
+    body: TEXT      instead of the two: the whole wrong body of the function that `in:` names, and to call that function is to call the right one
     twin: TEXT      what stands there in a right body of the same shape, which must be proved: so the wrong one is not refused for its shape
+    by: FUNCTION    the function that refuses an edit of a constant or a type
     answer: TEXT    only an answer refuses this body, and TEXT says why it is kept all the same
     hole: TEXT      no contract can refuse this body: TEXT says why, and names the file of the test that does. It must be proved
 
@@ -18,8 +20,8 @@ stand in the function's place, those of one function in different rounds: a call
 it calls, which no edit changes. What is refused for nothing but a callee, or was not tried since a callee was not, is
 tried again, and so is what doesn't compile beside its function. A function that no edit touches must stay proved, but
 for its callees, and so must one with a twin. Rounds are about as large as one another and go side by side. An edit of a
-constant or a type may stand in must-fail alone: it has a round of its own, in which whatever rests on it is proved
-anew, and what refuses any of these functions refuses it, an answer too. A body is refused by a
+constant or a type may stand in must-fail alone: it has a round of its own, in which the function that refuses it is
+proved anew, with those that it calls. A body is refused by a
 
     clause  of the function, or its type's invariant; false: there are values at which it does not hold; open: no proof is found; limit: none in time
     safety  a callee's `requires`, an index, a sum, a cast
@@ -111,6 +113,14 @@ def functions_of(crate, path, text):
     return [it._replace(symbols=all_of[it.key]) for it in found]
 
 
+def body_of(crate, path, name):
+    """What stands between the brackets of this function, or "" where it isn't there."""
+    file = f"{ROOT}/crates/{crate}/{path}"
+    text = text_of(file) if os.path.isfile(file) else ""
+    found = [it for it in functions_of(crate, path, text) if it.shown.split("::")[-1] == name]
+    return "\n".join(text.split("\n")[found[0].body + 1 : found[0].last]) if found else ""
+
+
 class Pair(collections.namedtuple("Pair", "path within old new")):
     """What an edit replaces in a file, and by what: where a function is named, the first behind its head, else the only one."""
 
@@ -140,10 +150,11 @@ class Edit:
             said[word] = text[1:] if text.startswith(" ") else text
             if word == "file":
                 said.pop("in", None)
-            if word == ("twin" if is_twin else "new"):
-                self.pairs.append(Pair(said["file"], said.get("in"), said["old"], said[word]))
+            if word == "twin" if is_twin else word in ("new", "body"):
+                old = said["old"] if "old" in said else body_of(crate, said["file"], said.get("in"))
+                self.pairs.append(Pair(said["file"], said.get("in"), old, said[word]))
         self.has_twin, self.twin, self.hole, self.answer = "twin" in said, None, said.get("hole", ""), said.get("answer", "")
-        self.copy = None
+        self.copy, self.calls_right, self.by = None, "body" in said, said.get("by", "")
         self.is_unfit = self.unfit()
         self.shown = "the crate" if self.is_wide else ", ".join(dict.fromkeys(it.shown for _, it in self.functions))
 
@@ -155,7 +166,7 @@ class Edit:
             if not os.path.isfile(f"{ROOT}/crates/{self.crate}/{path}"):
                 return f"{path} is not there"
             text = texts.get(path) or text_of(f"{ROOT}/crates/{self.crate}/{path}")
-            places = pair.places(text)
+            places = pair.places(text) if old else []
             if len(places) != 1:
                 return f"old text stands {len(places)} times in {path}"
             line = text[: places[0] + len(old)].count("\n")
@@ -171,8 +182,12 @@ class Edit:
             texts[path] = pair.applied(text)
         if self.is_wide and not self.file.split("/")[-2] == "must-fail":
             return "it is outside a function, and only must-fail may hold such an edit"
+        if self.is_wide and not self.by:
+            return "it is outside a function, and no line `by:` names one that refuses it"
         if self.hole and not any(os.path.isfile(f"{ROOT}/{it.strip('`,.')}") for it in self.hole.split()):
             return "its `hole:` names no file of the test that refuses it"
+        if self.calls_right and not all(it.beside for _, it in self.functions):
+            return "it calls a function beside which it may not stand"
         return "" if self.pairs else "it has no `new:`"
 
     def applied(self, texts):
@@ -303,7 +318,7 @@ class Round:
         for place, _, _ in list(os.walk(proofs)):
             parts = os.path.relpath(place, proofs).split("/")
             for it in self.edits:
-                if it.copy and parts[-1] == it.copy.own and it.functions[0][1].symbols.match("::".join([self.crate, *parts])):
+                if it.copy and not it.calls_right and parts[-1] == it.copy.own and it.functions[0][1].symbols.match("::".join([self.crate, *parts])):
                     mine = [*parts[:-2], *(it.copy.owner or parts[-2:-1]), it.copy.name]
                     shutil.copytree(place, "/".join([proofs, *mine]))
                     for file in glob.glob("/".join([proofs, *mine, "*.antt"])):
@@ -334,7 +349,8 @@ class Round:
                     it.write(text)
             self.answer(f"{here}/proofs")
             how = {"cwd": here, "stdin": subprocess.DEVNULL, "stdout": subprocess.PIPE, "stderr": subprocess.STDOUT}
-            with subprocess.Popen(["rt", "check", "--jobs", "1"], text=True, errors="replace", **how) as ran:
+            only = [word for it in self.edits if it.is_wide for word in ("--only", it.by)]
+            with subprocess.Popen(["rt", "check", "--jobs", "1", *only], text=True, errors="replace", **how) as ran:
                 self.running.add(ran.pid)
                 said, last = [], time.monotonic()
                 for line in ran.stdout:
@@ -418,7 +434,7 @@ def judge_round(said, round):
     errors = [] if rows else [(it[1], int(it[2]) - 1, it[0]) for it in REFUSED.finditer(said)]
     hit = [it for it in group for path, first, last in round.at(it) if any(path == file and first <= at <= last for file, at, _ in errors)]
     for it in [] if rows else hit or group:
-        if it.copy:
+        if it.copy and not it.calls_right:
             it.copy = None
         else:
             it.kind, it.why = "bad", [f"no contract was tried: {errors[0][2] if errors else said[-300:]}"]
@@ -467,7 +483,7 @@ class Bodies:
         self.left = [it for it in self.left if not it.kind]
         self.are_alone = self.are_alone or any(it.tries > 1 for it in self.left)
         for it in self.left:
-            it.copy = None if it.tries else it.copy
+            it.copy = it.copy if it.calls_right or not it.tries else None
         if not self.left:
             self.tell()
         return self.rounds()
