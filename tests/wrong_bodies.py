@@ -1,13 +1,15 @@
 #!/usr/bin/env python3
 """Tries wrong bodies of functions, many in one check, and says of each by what the prover refuses it.
 
-A wrong body is a file NAME.edit in crates/CRATE/must-fail or crates/CRATE/wrong, with lines as `rt must-fail` reads them, and some of its own:
+A wrong body is a file NAME.edit in crates/CRATE/must-fail or crates/CRATE/wrong, with lines as `rt must-fail` reads
+them, and some of its own:
 
     file: src/FILE.rt
     in: FUNCTION    where a line of that file stands in other functions too: the one that is meant
     old: TEXT       stands once in that file, or behind the head of that function, in the body of a function
     new: TEXT       what stands there in the wrong body
-    body: TEXT      instead of the two: the whole wrong body of the function that `in:` names, and to call that function is to call the right one
+    body: TEXT      instead of these two: the whole wrong body of the function that `in:` names. What it calls by that
+                    name is the right function
     twin: TEXT      what stands there in a right body of the same shape, which must be proved: so the wrong one is not refused for its shape
     by: FUNCTION    the function that refuses an edit of a constant or a type
     answer: TEXT    only an answer refuses this body, and TEXT says why it is kept all the same
@@ -52,7 +54,7 @@ STRENGTHS = ["false", "open", "limit"]
 # What a check takes of the machine's memory, in MB.
 CHECK_MEMORY = 3000
 SAMPLE = 8
-LARGEST = 60  # bodies of a round
+LARGEST = 80  # bodies of a round
 # The layout is rt fmt's: a function ends at the first line that is its indent and a bracket.
 HEAD = re.compile(r"( *)(?:pub(?:\([^)]*\))? )?(?:const |unsafe )*fn (\w+)")
 IMPL = re.compile(r"impl(?:<.*?>)? (?:(\w+)(<.*>)? for )?(?:\w+::)*(\w+)")
@@ -205,7 +207,8 @@ class Edit:
             return
         path, of = self.functions[0]
         own = of.shown.split("::")[-1]
-        name, lines = f"{own}_again_{number}", self.applied({})[path].split("\n")[of.start : of.last + 1]
+        fewer = sum(it.old.count("\n") for it in self.pairs)  # what stands in a body is one line
+        name, lines = f"{own}_again_{number}", self.applied({})[path].split("\n")[of.start : of.last + 1 - fewer]
         head = of.first - of.start
         lines[head] = re.sub(rf"\bfn {own}\b", f"fn {name}", lines[head], count=1)
         lines = [of.beside.head, *lines, "}"] if of.beside.head else lines
@@ -536,7 +539,8 @@ def edits_of(crate, options):
     for it in [] if options.no_twins else edits:
         it.twin = Edit(crate, it.file, is_twin=True) if it.has_twin else None
     edits += [it.twin for it in edits if it.twin]
-    return edits if options.alone else beside(edits)
+    beside([it for it in edits if it.calls_right or not options.alone])
+    return edits
 
 
 def strays():
