@@ -383,7 +383,9 @@ def rounds_of(edits, are_alone):
     busy = lambda edit: 0 if edit.copy else max((of_key[key] for key in edit.keys), default=0)
     rounds = [({}, set(), []) for _ in range(max(-(-len(edits) // LARGEST), *map(busy, edits), 0))]
     for edit in sorted(edits, key=lambda edit: -busy(edit)):
-        smallest = [] if are_alone else sorted(range(len(rounds)), key=lambda at: len(rounds[at][2]))
+        # what has to be proved is not tried beside a callee that is refused in its own place
+        is_lost = lambda group: bool(edit.hole) and any(not it.copy and not it.hole for it in group)
+        smallest = [] if are_alone else sorted(range(len(rounds)), key=lambda at: (is_lost(rounds[at][2]), len(rounds[at][2])))
         at, more = next(((at, more) for at in smallest for more in [joined(rounds[at], edit)] if more), (None, None))
         if more:
             rounds[at] = more
