@@ -168,14 +168,14 @@ def build(crates, screen, is_done):
     done = set(filter(is_done, crates))
     left, working, kept, long = {it: crates[it] for it in crates if it not in done}, [], len(done), chains(crates)
     places = min(processors(), room())
-    jobs = places + processors()  # more than there are processors, so that none stands idle when a crate ends beside another
     try:
         while left or working:
             ready = sorted((crate for crate in left if left[crate] <= done), key=long.get, reverse=True)
-            free, among = jobs - sum(work.jobs for work in working), sum(map(long.get, ready))
+            free, among = processors() - sum(work.jobs for work in working), sum(map(long.get, ready))
             for crate in ready[: places - len(working)]:
-                share = min(round(free * long[crate] / among), processors(), size(crate) // PROCESS_CODE)
-                working.append(Work(crate, all_below(crate, crates), max(share, 1)))
+                share = max(min(-(-free * long[crate] // among), size(crate) // PROCESS_CODE), 1)
+                working.append(Work(crate, all_below(crate, crates), share))
+                free, among = free - share, among - long[crate]
                 del left[crate]
             time.sleep(0.5)
             for work in [work for work in working if work.has_ended()]:

@@ -55,8 +55,8 @@ def bodies(name, *words):
     return Part(name, gently("tests/wrong_bodies.py", *words), tried, failed)
 
 
-def build(command, **settings):
-    return Part("build", command, r"^ *\d+ of \d+ +\w+ +proved", settings=settings)
+def build(command):
+    return Part("build", command, r"^ *\d+ of \d+ +\w+ +proved")
 
 
 def examples():
@@ -183,10 +183,8 @@ def test(clock):
 
 
 def gate(clock):
-    # the build has one processor fewer, so that its proofs and those of rt ci together take some 15 GB with four
-    fewer = str(max(processors() - 1, 1))
     allocation = Part("allocation", gently("tests/allocation.sh"), r"over (\d+) scripts")
-    others = [build(gently("./build.py"), RT_JOBS=fewer), bodies("wrong bodies")]
+    others = [build(gently("./build.py")), bodies("wrong bodies")]
     with tempfile.TemporaryDirectory(prefix="gate-") as room:
         read_back = r"^(\d+) rows .* and (\d+) other texts|agree with the tree$"
         documents = Part("documents", ["make", "--no-print-directory", "documents"], read_back)
