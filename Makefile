@@ -1,6 +1,6 @@
 # make, make help: lists these targets with what they cost, and builds nothing
 # make try: runs a first script by the toolchain's runner, in a minute or two; nothing is proved yet
-# make program: proves and builds the program: 10 to 25 minutes the first time, then only what has changed
+# make program: proves and builds the program: 8 to 20 minutes the first time, then only what has changed
 # make demo: the same, and shows what it does, with a small device on this machine
 # make check: proves every crate, without tests and wrong bodies, over what earlier checks kept; for daily work. A few
 #     minutes where little has changed

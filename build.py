@@ -27,7 +27,7 @@ TRIALS = ["bac_trials", "tool_trials"]
 ROOMS = "out/build"
 CRATE_MEMORY = 2 << 30  # what a crate takes while it is proved, in octets
 PROCESS_CODE = 9000  # octets of code for each process: each loads the proofs of the crates below anew
-COST = """From nothing this takes 20 to 50 minutes of processor time, as fast as the machine is: 10 to 25 minutes of the clock with four
+COST = """From nothing this takes 15 to 40 minutes of processor time, as fast as the machine is: 8 to 20 minutes of the clock with four
 processors, longer with two. Memory: some 2 GB for each crate at work. Disk: 3.2 GB, which are kept, so that the next build proves only what
 has changed."""
 
