@@ -78,7 +78,8 @@ try check test gate bench: kit
 
 kit:
 	@command -v rt >/dev/null || { \
-	    echo "This needs rt, a command of the Rattle kit, which is not in the PATH; README.md says where it comes from." >&2; \
+	    echo "This needs rt, a command of the Rattle kit, which is not in the PATH;" \
+	        "README.md says where it comes from." >&2; \
 	    exit 1; \
 	}
 

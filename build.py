@@ -5,12 +5,14 @@ With --tests it runs the tests of the trials, over what is kept of the crates be
 of bac_trials are proved first. To prove those of tool_trials takes 12 to 19 minutes of processor time: so they are
 run as the sources stand, by `rt try`, until `rt test` was run there.
 
-Crates that don't rest on one another are proved side by side, as many as there are processors and memory for; RT_JOBS is another number
-of processors to use. On a terminal one line moves; elsewhere there is a line for each crate, and one each minute. What the prover says of
-a crate goes to out/build/CRATE.log; where it refuses a crate, the end of that file is shown.
+Crates that don't rest on one another are proved side by side, as many as there are processors and memory for; RT_JOBS
+is another number of processors to use. On a terminal one line moves; elsewhere there is a line for each crate, and one
+each minute. What the prover says of a crate goes to out/build/CRATE.log; where it refuses a crate, the end of that file
+is shown.
 
-`rt` lets nobody else into a crate that it works in, nor into the crates below. So each crate is proved in a room of its own, out/build/CRATE: a copy
-of the sources, with links to what is built of the crates below. What is kept of the crate goes there and comes back.
+`rt` lets nobody else into a crate that it works in, nor into the crates below. So each crate is proved in a room of its
+own, out/build/CRATE: a copy of the sources, with links to what is built of the crates below. What is kept of the crate
+goes there and comes back.
 """
 import fcntl
 import glob
@@ -27,9 +29,9 @@ TRIALS = ["bac_trials", "tool_trials"]
 ROOMS = "out/build"
 CRATE_MEMORY = 2 << 30  # what a crate takes while it is proved, in octets
 PROCESS_CODE = 9000  # octets of code for each process: each loads the proofs of the crates below anew
-COST = """From nothing this takes 15 to 40 minutes of processor time, as fast as the machine is: 8 to 20 minutes of the clock with four
-processors, longer with two. Memory: some 2 GB for each crate at work. Disk: 3.2 GB, which are kept, so that the next build proves only what
-has changed."""
+COST = """From nothing this takes 15 to 40 minutes of processor time, as fast as the machine is: 8 to 20 minutes of the
+clock with four processors, longer with two. Memory: some 2 GB for each crate at work. Disk: 3.2 GB, which are kept, so
+that the next build proves only what has changed."""
 
 
 def needed(tops):
@@ -50,7 +52,8 @@ def all_below(crate, crates):
 
 def size(crate):
     """The octets of its code: a measure of how long it takes to prove. Lemmas take little."""
-    return sum(os.path.getsize(os.path.join(folder, name)) for folder, _, names in os.walk(f"crates/{crate}/src") for name in names)
+    files = (os.path.join(folder, name) for folder, _, names in os.walk(f"crates/{crate}/src") for name in names)
+    return sum(map(os.path.getsize, files))
 
 
 def processors():
@@ -79,9 +82,8 @@ class Work:
         command += ["--", "--help"] if crate == PROGRAM else []
         command = command if self.is_proved else ["rt", "try", "--test", "--seconds", "900"]
         with open(self.log, "w", encoding="utf-8") as log:
-            self.process = subprocess.Popen(
-                command, cwd=f"{self.room}/{self.home}", stdin=subprocess.DEVNULL, stdout=log, stderr=log, start_new_session=True
-            )
+            how = {"stdin": subprocess.DEVNULL, "stdout": log, "stderr": log, "start_new_session": True}
+            self.process = subprocess.Popen(command, cwd=f"{self.room}/{self.home}", **how)
 
     def enter(self, below):
         self.leave()  # a build that was killed may have left the room as it was
@@ -188,7 +190,8 @@ def build(crates, screen, is_done):
                     return False
                 done.add(work.crate)
                 took = f"{work.seconds:.0f} s of processor time"
-                screen.line(f"{len(done) - kept:2} of {screen.crates}  {work.crate:12} {work.came()}  {screen.passed()}  {took}")
+                count = f"{len(done) - kept:2} of {screen.crates}"
+                screen.line(f"{count}  {work.crate:12} {work.came()}  {screen.passed()}  {took}")
             if working:
                 screen.go_on(len(done) - kept, working)
         return True
@@ -200,7 +203,8 @@ def build(crates, screen, is_done):
 def main(wants_tests):
     os.chdir(os.path.dirname(os.path.abspath(__file__)))
     if not shutil.which("rt"):
-        print("This needs rt, a command of the Rattle kit, which is not in the PATH; README.md says where it comes from.", file=sys.stderr)
+        needs = "This needs rt, a command of the Rattle kit, which is not in the PATH;"
+        print(needs, "README.md says where it comes from.", file=sys.stderr)
         return 1
     os.makedirs(ROOMS, exist_ok=True)
     crates = needed(TRIALS if wants_tests else [PROGRAM])

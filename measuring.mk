@@ -1,14 +1,14 @@
-# What measures and tries the built program from outside. None of it is in the gate. docs/SPEED.md has what was measured.
+# What measures and tries the built program from outside, none of it in the gate. docs/SPEED.md has what was measured.
 #
 # make bench: what the program costs. Over 127.0.0.1: bacdev beside a bare echo server, bacrp beside a bare client,
-#     memory; then a script of a million lines, and replies and values in memory, whose benchmarks are proved first (some
-#     minutes, kept in ROOM for the next time). ROUNDS=15 ROOM=~/.cache/bactool-bench
+#     memory; then a script of a million lines, and replies and values in memory, whose benchmarks are proved first
+#     (some minutes, kept in ROOM for the next time). ROUNDS=15 ROOM=~/.cache/bactool-bench
 # make bench-loopback: its first part alone
 # make soak: random datagrams against bacdev, a random script through bactrace. DATAGRAMS=1000000 LINES=10000000, which
 #     take some two minutes
 # make interop: nmap and tshark against the device and the tools (tests/interop.sh); it installs both. Under a minute
-# make holes: wrong bodies that no contract can refuse, each with the test that has to fail. A minute or two of processor
-#     time each, and 24 of them. JOBS=1
+# make holes: wrong bodies that no contract can refuse, each with the test that has to fail. A minute or two of
+#     processor time each, and 24 of them. JOBS=1
 
 ROUNDS ?= 15
 ROOM ?= $(HOME)/.cache/bactool-bench

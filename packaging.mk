@@ -7,8 +7,8 @@
 #     It builds nothing. A second
 # make lint: the manual pages by mandoc and against the help, the numbers against Wireshark's names, the completions in
 #     bash, zsh and fish, make install in a folder of its own, the documents against the tree, that something reads each
-#     row of the rules back, and what make says at first. What mandoc, tshark and a shell would look at is left out where
-#     it is not installed. Up to a minute
+#     row of the rules back, and what make says at first. What mandoc, tshark and a shell would look at is left out
+#     where it is not installed. Up to a minute
 # make guide: runs every command of docs/GUIDE.md and the scripts of examples/, and compares what comes out; make
 #     examples runs it too. It needs perl. Half a minute
 # make deb: a Debian package in crates/bactool/out, of the same octets each time; needs dpkg-deb and binutils. A second

@@ -1,7 +1,7 @@
 #!/usr/bin/env bash
 # Makes a script of a million mixed lines (reads, writes, their answers, questions to the device, ticks), and tells what
-# `bactool bactrace` takes over it, by what `sha256sum`, `wc -l` and `cat` take over the same file: run by turns, the least of
-# so many rounds of each. Usage: bench/lines.sh [ROUNDS [PROGRAM]], once `make demo` has built the program.
+# `bactool bactrace` takes over it, by what `sha256sum`, `wc -l` and `cat` take over the same file: run by turns, the
+# least of so many rounds of each. Usage: bench/lines.sh [ROUNDS [PROGRAM]], once `make demo` has built the program.
 set -euo pipefail
 top=$(cd "$(dirname "$0")/.." && pwd)
 rounds=${1:-5}

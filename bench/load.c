@@ -1,12 +1,13 @@
 /* Loads a server on 127.0.0.1 with requests of one property, and prints how many it answers a second.
  * Usage: load PORT OUTSTANDING COUNT LENGTH FIRST
- * OUTSTANDING requests are on their way at a time, COUNT in all. Each reply must have LENGTH octets and begin with those
- * of FIRST (in hexadecimal) and the request's invoke id, in the order of the requests. */
+ * OUTSTANDING requests are on their way at a time, COUNT in all. Each reply must have LENGTH octets and begin with
+ * those of FIRST (in hexadecimal) and the request's invoke id, in the order of the requests. */
 #include "udp.h"
 #include <time.h>
 
 /* ReadProperty: the present value of analog input 5. Its invoke id is octet 8. */
-static unsigned char request[] = { 0x81, 0x0a, 0x00, 0x11, 0x01, 0x04, 0x00, 0x05, 0x01, 0x0c, 0x0c, 0x00, 0x00, 0x00, 0x05, 0x19, 0x55 };
+static unsigned char request[] = { 0x81, 0x0a, 0x00, 0x11, 0x01, 0x04, 0x00, 0x05, 0x01, 0x0c,
+                                  0x0c, 0x00, 0x00, 0x00, 0x05, 0x19, 0x55 };
 
 static void ask(int client, long which)
 {

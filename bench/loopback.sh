@@ -60,11 +60,12 @@ show_replies() {
     local kind=$1 one many
     read -r -a one < <(spread "$room/$kind.1")
     read -r -a many < <(spread "$room/$kind.32")
-    printf '%-34s %8s (%s to %s)   %8s (%s to %s)\n' "$2" "${one[1]}" "${one[0]}" "${one[2]}" "${many[1]}" "${many[0]}" "${many[2]}"
+    printf '%-34s %8s (%s to %s)   %8s (%s to %s)\n' \
+        "$2" "${one[1]}" "${one[0]}" "${one[2]}" "${many[1]}" "${many[0]}" "${many[2]}"
 }
 
-# bacdev's replies a second by those of the echo server: the median over the rounds, each beside the other, and their best
-# rounds, which tell more where other work disturbs both.
+# bacdev's replies a second by those of the echo server: the median over the rounds, each beside the other, and their
+# best rounds, which tell more where other work disturbs both.
 show_ratios() {
     local outstanding text=() best=()
     for outstanding in 1 32; do

@@ -1,4 +1,4 @@
-/* Runs a command many times, one after the other, and prints the median and the least of the microseconds from start to end.
+/* Runs a command many times, one after the other, and prints the median and the least of the microseconds that it took.
  * Usage: median RUNS COMMAND [WORD ..]. What the command prints is thrown away; each run must end with status 0. */
 #include "udp.h"
 #include <fcntl.h>

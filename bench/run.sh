@@ -4,7 +4,11 @@
 set -eu
 top=$(cd "$(dirname "$0")/.." && pwd)
 room=${1:-$(mktemp -d)}
-printf 'bac_wire: arrayvec byteorder\nbac_pdu: bac_wire arrayvec byteorder\nbac_device: bac_wire bac_pdu arrayvec\n' > "$room/crates.txt"
+cat >"$room/crates.txt" <<'CRATES'
+bac_wire: arrayvec byteorder
+bac_pdu: bac_wire arrayvec byteorder
+bac_device: bac_wire bac_pdu arrayvec
+CRATES
 for crate in bac_wire bac_pdu bac_device; do
     mkdir -p "$room/crates/$crate"
     for part in src specs proofs; do

@@ -4,8 +4,9 @@
 Usage: bench/soak_device.py DATAGRAMS [SEED], once the program is built; BACTOOL names another program.
 
 What each datagram must get is read from its octets by the rules of docs/PROTOCOL.md: silence, an I-Am, or one reply to
-its confirmed request, to its own invoke id and of no more octets than it announced. It stops at the first that is not so,
-and shows it. Everything stays on this machine: a forwarded datagram names 127.0.0.1 as its originator, or port 0 there.
+its confirmed request, to its own invoke id and of no more octets than it announced. It stops at the first that is not
+so, and shows it. Everything stays on this machine: a forwarded datagram names 127.0.0.1 as its originator, or port 0
+there.
 """
 import os
 import random
@@ -21,10 +22,22 @@ INSTANCE = 1234
 AT_MOST = 65535  # datagrams that one bacdev answers
 BATCH = 16
 ANNOUNCED = [50, 128, 206, 480, 1024, 1476] + [50] * 10
-OBJECTS = [(8, 1234), (8, 4194303), (0, 5), (0, 35), (0, 36), (1, 1), (2, 2), (3, 3), (4, 4), (5, 5), (13, 1), (14, 1), (19, 1), (0, 99), (1023, 0)]
-PROPERTIES = [75, 76, 77, 79, 85, 36, 81, 111, 117, 84, 74, 87, 104, 112, 121, 120, 70, 44, 12, 28, 98, 139, 62, 107, 11, 73, 30, 155, 1, 4194303]
-COMMANDS = [((1, 1), "4441a00000"), ((2, 2), "44c1200000"), ((4, 4), "9101"), ((5, 5), "9100"), ((14, 1), "2103"), ((19, 1), "2104")]
-VALUES = ["00", "10", "11", "2100", "2101", "2103", "2105", "31ff", "4441a00000", "447fc00000", "9100", "9101", "9102", "c402000001", "7300686f", "0e21053f", ""]
+OBJECTS = [
+    *[(8, 1234), (8, 4194303), (0, 5), (0, 35), (0, 36), (1, 1), (2, 2), (3, 3), (4, 4), (5, 5), (13, 1), (14, 1)],
+    *[(19, 1), (0, 99), (1023, 0)],
+]
+PROPERTIES = [
+    *[75, 76, 77, 79, 85, 36, 81, 111, 117, 84, 74, 87, 104, 112, 121, 120, 70, 44, 12, 28, 98, 139, 62, 107, 11, 73],
+    *[30, 155, 1, 4194303],
+]
+COMMANDS = [
+    *[((1, 1), "4441a00000"), ((2, 2), "44c1200000"), ((4, 4), "9101"), ((5, 5), "9100"), ((14, 1), "2103")],
+    *[((19, 1), "2104")],
+]
+VALUES = [
+    *["00", "10", "11", "2100", "2101", "2103", "2105", "31ff", "4441a00000", "447fc00000", "9100", "9101", "9102"],
+    *["c402000001", "7300686f", "0e21053f", ""],
+]
 
 
 def octets_of(number):
@@ -205,7 +218,7 @@ def limits(body):
 
 
 def expected(datagram):
-    """What comes back: None for nothing, else the route, and the invoke id with what it announced, or None for an I-Am."""
+    """What comes back: None for nothing, else the route, and the invoke id with what it announced (I-Am: None)."""
     carried = opened(datagram)
     if not carried or carried[2]:
         return None
@@ -273,7 +286,7 @@ def kind_of(reply, route, wanted):
 
 
 class Served:
-    """A bacdev of its own, which is asked by two sockets: one for what is tried, one to know that it has been answered."""
+    """A bacdev of its own, asked by two sockets: one for what is tried, one to know that it has been answered."""
 
     def __init__(self):
         port = int(subprocess.run([TOP + "/examples/free-port.sh"], stdout=subprocess.PIPE, check=True).stdout)
@@ -362,7 +375,8 @@ def main(words):
         memory.append(device.resident())
         if not device.end():
             stop(seed, "it didn't end by its count", [], [])
-    print("%d datagrams in %.0f s, %.0f replies" % (sum(counts.values()), time.time() - begun, sum(counts.values()) - counts["no reply"]))
+    count, took = sum(counts.values()), time.time() - begun
+    print("%d datagrams in %.0f s, %.0f replies" % (count, took, count - counts["no reply"]))
     for kind, count in sorted(counts.items()):
         print("%9d  %s" % (count, kind))
     print("resident memory %d to %d KB" % (min(memory), max(memory)))

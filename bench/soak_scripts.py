@@ -3,9 +3,9 @@
 
 Usage: bench/soak_scripts.py LINES [SEED], once the program is built; BACTOOL names another program.
 
-Each line but a tick prints one line. A request that is sent gets the next ticket, and is sent again three times at most; it
-ends once, and only while it is open; at most 64 are open, under different invoke numbers, and `full` comes only where 64
-are. It stops at the first line that is not so, and shows it.
+Each line but a tick prints one line. A request that is sent gets the next ticket, and is sent again three times at
+most; it ends once, and only while it is open; at most 64 are open, under different invoke numbers, and `full` comes
+only where 64 are. It stops at the first line that is not so, and shows it.
 """
 import os
 import random
@@ -20,19 +20,32 @@ TOP = os.path.dirname(os.path.dirname(os.path.abspath(__file__)))
 PROGRAM = os.environ.get("BACTOOL", TOP + "/crates/bactool/out/bactool")
 PLACES = int(os.environ.get("PLACES", 64))
 BLOCK = 1000
-PEERS = ["127.0.0.1:47808"] * 8 + ["127.0.0.1", "10.0.0.9:1", "127.0.0.1:47808/5/07", "10.0.0.9:65535/65534/01020304050607"]
-PRINTED = re.compile(r"send (\d+) (\S+) ([0-9a-f]+)|done (\d+) (.+)|timeout (\d+)|full|too-long|drop|silent|reply (\S+) 810a[0-9a-f]+")
+ROUTED = ["127.0.0.1:47808/5/07", "10.0.0.9:65535/65534/01020304050607"]
+PEERS = ["127.0.0.1:47808"] * 8 + ["127.0.0.1", "10.0.0.9:1"] + ROUTED
+PRINTED = re.compile(
+    r"send (\d+) (\S+) ([0-9a-f]+)|done (\d+) (.+)|timeout (\d+)|full|too-long|drop|silent|reply (\S+) 810a[0-9a-f]+"
+)
+MOST = 4194304
+PAIRS = [
+    *["4 41a00000", "0 x", "1 true", "2 18446744073709551615", "3 -129", "5 0123456789abcdef", "6 00ff", "7 text"],
+    *["8 101", "9 4294967295", "12 8:1234"],
+]
+APDUS = [
+    *["0005010c0c000000051955", "0005010c0c023fffff194c", "0000010c0c004000011957", "1008", "10080a03e81a04d2"],
+    *["0005090f0c0040000119553e4441a000003f4910", "0005090f0c0040000119553e003f4908", "0005010e", "08050100010c"],
+]
 
 
 def read_line(dice):
     index = " %d" % dice.choice([0, 1, 4294967295]) if dice.random() < 0.2 else ""
-    return "read %s %d %d %d%s" % (dice.choice(PEERS), dice.randrange(1024), dice.randrange(4194304), dice.randrange(4194304), index)
+    numbers = dice.randrange(1024), dice.randrange(MOST), dice.randrange(MOST)
+    return "read %s %d %d %d%s" % (dice.choice(PEERS), *numbers, index)
 
 
 def write_line(dice):
-    pairs = ["4 41a00000", "0 x", "1 true", "2 18446744073709551615", "3 -129", "5 0123456789abcdef", "6 00ff", "7 text", "8 101", "9 4294967295", "12 8:1234"]
-    values = " ".join(dice.choices(pairs, k=dice.choice([1, 1, 2, 60])))
-    return "write %s %d %d 85 %d -1 %s" % (dice.choice(PEERS), dice.randrange(1024), dice.randrange(4194304), dice.randrange(17), values)
+    values = " ".join(dice.choices(PAIRS, k=dice.choice([1, 1, 2, 60])))
+    numbers = dice.randrange(1024), dice.randrange(MOST), dice.randrange(17)
+    return "write %s %d %d 85 %d -1 %s" % (dice.choice(PEERS), *numbers, values)
 
 
 def with_length(rest):
@@ -41,9 +54,12 @@ def with_length(rest):
 
 def answer(dice):
     number = "%02x" % dice.randrange(256)
-    return dice.choice(["30" + number + "0c0c0000000519553e444290999a3f", "20" + number + "0f", "50" + number + "0c91029120",
-        "50" + number + "0f9102", "60" + number + "09", "71" + number + "04", "70" + number + "04", "38" + number + "00010c",
-        "30" + number + "0c" + dice.randbytes(dice.randrange(20)).hex(), "4000" + number])
+    part = "0c" + dice.randbytes(dice.randrange(20)).hex()
+    front, rest = dice.choice([
+        *[("30", "0c0c0000000519553e444290999a3f"), ("20", "0f"), ("50", "0c91029120"), ("50", "0f9102"), ("60", "09")],
+        *[("71", "04"), ("70", "04"), ("38", "00010c"), ("30", part), ("4000", "")],
+    ])
+    return front + number + rest
 
 
 def damaged(dice, text):
@@ -63,10 +79,9 @@ def data_line(dice):
 
 
 def ask_line(dice):
-    apdu = dice.choice(["0005010c0c000000051955", "0005010c0c023fffff194c", "0000010c0c004000011957", "1008", "10080a03e81a04d2",
-        "0005090f0c0040000119553e4441a000003f4910", "0005090f0c0040000119553e003f4908", "0005010e", "08050100010c"])
-    datagram = with_length(dice.choice(["0104", "0100", "0120ffff00ff", "010c00050107"]) + apdu)
-    return "ask %s %s" % (dice.choice(PEERS[:10]), damaged(dice, datagram) if dice.random() < 0.4 else datagram)
+    datagram = with_length(dice.choice(["0104", "0100", "0120ffff00ff", "010c00050107"]) + dice.choice(APDUS))
+    peer = dice.choice([it for it in PEERS if it not in ROUTED])
+    return "ask %s %s" % (peer, damaged(dice, datagram) if dice.random() < 0.4 else datagram)
 
 
 def pool(dice):

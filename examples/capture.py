@@ -3,8 +3,8 @@
 
 Usage: examples/capture.py CAPTURE.pcap < LINES
 
-A line has the time in seconds, who sends and to whom (ADDRESS:PORT), and the octets; lines that begin with # are skipped.
-examples/tools.pcap is made so of examples/tools.hex.
+A line has the time in seconds, who sends and to whom (ADDRESS:PORT), and the octets; lines that begin with # are
+skipped. examples/tools.pcap is made so of examples/tools.hex.
 """
 import socket
 import struct

@@ -1,6 +1,6 @@
 #!/bin/sh
-# The demonstration: a small device on this machine is found, read, commanded and released. Each command is shown, then what it prints, then
-# its status. Usage: examples/demo.sh PROGRAM PORT, with a UDP port that is free.
+# The demonstration: a small device on this machine is found, read, commanded and released. Each command is shown, then
+# what it prints, then its status. Usage: examples/demo.sh PROGRAM PORT, with a UDP port that is free.
 set -eu
 [ $# = 2 ] || { echo 'usage: demo.sh PROGRAM PORT, as: demo.sh bactool 47808' >&2; exit 2; }
 program=$1

@@ -20,7 +20,8 @@ sort -t "$(printf '\t')" -k 2,2 "$new.table" | awk -F '\t' '
         last = name = $2
         gsub(/["\\]/, "\\\\&", name)
         up = up "bacnet_up{point=\"" name "\"} " ($4 == "-") "\n"
-        if ($4 == "-" && $3 ~ /^-?[0-9]+(\.[0-9]+)?(e[-+]?[0-9]+)?$/) values = values "bacnet_value{point=\"" name "\"} " $3 "\n"
+        if ($4 == "-" && $3 ~ /^-?[0-9]+(\.[0-9]+)?(e[-+]?[0-9]+)?$/)
+            values = values "bacnet_value{point=\"" name "\"} " $3 "\n"
     }
     END {
         if (twice) exit 2

@@ -21,7 +21,8 @@ to_real() {
         @ARGV == 1 && $ARGV[0] =~ /\A[-+]?([0-9]+\.?[0-9]*|\.[0-9]+)([eE][-+]?[0-9]+)?\z/
             or do { print STDERR "no number: \x27@ARGV\x27\n"; exit 1 };
         my $real = unpack "f>", pack "f>", $ARGV[0];
-        $real - $real == 0 && ($real != 0 || $ARGV[0] !~ /\A[^eE]*[1-9]/) or do { print STDERR "past the Reals: \x27@ARGV\x27\n"; exit 1 };
+        $real - $real == 0 && ($real != 0 || $ARGV[0] !~ /\A[^eE]*[1-9]/)
+            or do { print STDERR "past the Reals: \x27@ARGV\x27\n"; exit 1 };
         print unpack("H*", pack "f>", $ARGV[0]), "\n";
     ' -- "$@"
 }

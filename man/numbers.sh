@@ -1,6 +1,6 @@
 #!/bin/sh
-# Makes man/bactool-numbers.7 and docs/NUMBERS.md from man/numbers.txt. Usage: man/numbers.sh [FOLDER], where FOLDER gets the two
-# files instead, for a comparison.
+# Makes man/bactool-numbers.7 and docs/NUMBERS.md from man/numbers.txt. Usage: man/numbers.sh [FOLDER], where FOLDER
+# gets the two files instead, for a comparison.
 set -eu
 cd "$(dirname "$0")"
 page=${1:-.}/bactool-numbers.7
@@ -33,14 +33,16 @@ awk -F ' [|] ' '
             tag = ".Bl -column"
             for (i = 1; i <= columns; i++) {
                 widest = ""
-                for (row = 0; row <= rows_count - 1; row++) if (length(rows[row, i]) > length(widest)) widest = rows[row, i]
+                for (row = 0; row < rows_count; row++)
+                    if (length(rows[row, i]) > length(widest)) widest = rows[row, i]
                 gsub(/./, "0", widest)
                 if (i < columns) tag = tag " " widest
             }
             print tag " Ds"
             for (row = 0; row < rows_count; row++) {
                 tag = ".It"
-                for (i = 1; i <= columns; i++) tag = tag (i == 1 ? "" : " Ta") (row == 0 ? " Sy " : " ") plain(rows[row, i])
+                for (i = 1; i <= columns; i++)
+                    tag = tag (i == 1 ? "" : " Ta") (row == 0 ? " Sy " : " ") plain(rows[row, i])
                 print tag
             }
         } else {
@@ -86,9 +88,9 @@ awk -F ' [|] ' '
     }
     BEGIN {
         print "<!-- Made from man/numbers.txt by man/numbers.sh: change it there. -->\n# Numbers\n"
-        folded("The tools take and print the numbers that stand in the datagrams. These are the ones that one meets, from the enumerations of " \
-            "ANSI/ASHRAE 135 (clauses 12, 18, 20.2 and 21). Not all are here, and vendors have numbers of their own. `man 7 bactool-numbers` " \
-            "shows the same.")
+        folded("The tools take and print the numbers that stand in the datagrams. These are the ones that one meets, " \
+            "from the enumerations of ANSI/ASHRAE 135 (clauses 12, 18, 20.2 and 21). Not all are here, and vendors " \
+            "have numbers of their own. `man 7 bactool-numbers` shows the same.")
     }
     /^#/ || /^$/ { next }
     /^= / { print (begun++ ? "\n" : "") "## " substr($1, 3) "\n"; head = 1; next }

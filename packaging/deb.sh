@@ -60,7 +60,8 @@ Package: bactool
 Version: $version
 Architecture: $architecture
 Maintainer: $maintainer
-Installed-Size: $(find "$root/usr" -printf '%y %s\n' | awk '{ size += $1 == "f" ? int(($2 + 1023) / 1024) : 1 } END { print size }')
+Installed-Size: $(find "$root/usr" -printf '%y %s\n' |
+    awk '{ size += $1 == "f" ? int(($2 + 1023) / 1024) : 1 } END { print size }')
 Depends: libc6${libc:+ (>= $libc)}
 Section: net
 Priority: optional

@@ -146,7 +146,8 @@ if [ -s "$room/foreign" ]; then
     if [ "${FORCE:-0}" = 1 ]; then
         sed 's/^/replaced: /' "$room/foreign"
     else
-        echo "make install did not put these there, or not as they are now. Nothing was installed; FORCE=1 replaces them:" >&2
+        echo "make install did not put these there, or not as they are now." \
+            "Nothing was installed; FORCE=1 replaces them:" >&2
         sed 's/^/  /' "$room/foreign" >&2
         exit 1
     fi

@@ -1,7 +1,8 @@
 #!/bin/sh
-# Has the toolchain's own runner (rt try, which proves nothing) refuse a request for memory of the program, over each script of examples/:
-# each run has to end with status 4 and print nothing. Each number takes a build of its own, half a minute or more; tests/memory.sh refuses
-# every request, below the C library. Usage: tests/allocation.sh [NUMBER..], the requests to refuse, each in a try of its own; else the 40th.
+# Has the toolchain's own runner (rt try, which proves nothing) refuse a request for memory of the program, over each
+# script of examples/: each run has to end with status 4 and print nothing. Each number takes a build of its own, half a
+# minute or more; tests/memory.sh refuses every request, below the C library. Usage: tests/allocation.sh [NUMBER..], the
+# requests to refuse, each in a try of its own; else the 40th.
 set -eu
 top=$(realpath "$(dirname "$0")/..")
 room=$(mktemp -d)

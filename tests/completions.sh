@@ -1,5 +1,5 @@
 #!/usr/bin/env bash
-# Asks bash, zsh and fish what each line completes to, and compares. A shell that is not installed is left out, and said.
+# Asks bash, zsh and fish what each line completes to, and compares. It says which of them is not installed.
 set -euo pipefail
 cd "$(dirname "$0")/.."
 tools='bacdev bacrp bactrace bacwi bacwp'
@@ -7,7 +7,8 @@ tags='0 1 10 11 12 2 3 4 5 6 7 8 9'
 failed=0
 
 by_bash() {
-    bash -c 'source completions/bactool.bash; COMP_LINE=$1; COMP_POINT=${#1}; _bactool; printf "%s\n" "${COMPREPLY[@]}"' bash "$1"
+    bash -c 'source completions/bactool.bash; COMP_LINE=$1; COMP_POINT=${#1}; _bactool
+        printf "%s\n" "${COMPREPLY[@]}"' bash "$1"
 }
 
 by_zsh() {

@@ -1,20 +1,23 @@
 #!/usr/bin/env python3
-"""Compares the documents with the tree and with one another. Usage: tests/documents.py; it ends with 1 where they differ, and says in what.
+"""Compares the documents with the tree and with one another. Usage: tests/documents.py; it ends with 1 where they
+differ, and says in what.
 
-- docs/CODE.md: each crate of crates.txt has a row and a heading, and stands in the drawing below the crates that it rests on. The
-  tables below a heading name each file of src/ (column Code), specs/ (Definitions) and proofs/ (Proofs), and none that isn't there; lists
-  of modules (lib.rt, Lib.antt) and the answers to single functions are left out. `Beside the crates` names each other folder and file at
-  the top, and each file of docs/, tests/ and bench/.
-- Each file of src/ begins with a line `//!` that says what it has. What the head of a library shows stands in its examples.
-- docs/PROOFS.md: each name in backquotes stands in the code or is a file of it, and each law is a function; the headline's parts are the
-  README's sentence.
+- docs/CODE.md: each crate of crates.txt has a row and a heading, and stands in the drawing below the crates that it
+  rests on. The tables below a heading name each file of src/ (column Code), specs/ (Definitions) and proofs/ (Proofs),
+  and none that isn't there; lists of modules (lib.rt, Lib.antt) and the answers to single functions are left out.
+  `Beside the crates` names each other folder and file at the top, and each file of docs/, tests/ and bench/.
+- Each file of src/ begins with a line `//!` that says what it has. What the head of a library shows stands in its
+  examples.
+- docs/PROOFS.md: each name in backquotes stands in the code or is a file of it, and each law is a function; the
+  headline's parts are the README's sentence.
 - Functions that have no contract: docs/PROOFS.md names those of the code, and it and README.md count them rightly.
 - README.md: what it shows of a script and of the demonstration is what examples/ has.
 - docs/PROTOCOL.md: the texts of faults are those of the code.
-- docs/GUIDE.md: the table that says which script does what has the scripts of examples/, but for what the demonstration needs.
+- docs/GUIDE.md: the table that says which script does what has the scripts of examples/, but for what the demonstration
+  needs.
 - Links within the repository lead somewhere.
-- Lines have at most 120 columns, in the documents but for tables and what is printed; and in src/, specs/ and proofs/ but for
-  attributes, which `rt fmt` lays out, and words that are longer.
+- Lines have at most 120 columns, in the documents but for tables and what is printed; in scripts; and in src/, specs/
+  and proofs/ but for attributes, which `rt fmt` lays out, and words that are longer.
 """
 import glob
 import os
@@ -24,7 +27,8 @@ import sys
 TOP = os.path.dirname(os.path.dirname(os.path.abspath(__file__)))
 COLUMNS = {"Code": ("src", ".rt"), "Definitions": ("specs", ".antt"), "Proofs": ("proofs", ".antt")}
 WHOLE = ["docs/", "tests/", "bench/"]  # folders whose row names each file
-WELL_KNOWN = {"README.md", "CONTRIBUTING.md", "SECURITY.md", "CHANGELOG.md", "LICENSE", ".gitignore", ".git", "crates", "out"}
+PAGES = {"README.md", "CONTRIBUTING.md", "SECURITY.md", "CHANGELOG.md"}
+WELL_KNOWN = PAGES | {"LICENSE", ".gitignore", ".git", "crates", "out"}
 WIDTH = 120
 DIFFERENCES = []
 
@@ -65,13 +69,14 @@ def names(text):
 
 
 def files(folder, ending):
-    """The files below a crate's folder, without their ending. Folders of proofs/ hold the answers to single functions; what lies in Inner
-    belongs to the topic of its name."""
+    """The files below a crate's folder, without their ending. Folders of proofs/ hold the answers to single functions;
+    what lies in Inner belongs to the topic of its name."""
     found = set()
     for place, folders, there in os.walk(folder):
         inside = os.path.relpath(place, folder)
         inside = "" if inside == "Inner" else inside
-        found |= {os.path.normpath(os.path.join(inside, name[: -len(ending)])) for name in there if name.endswith(ending)}
+        stems = (name[: -len(ending)] for name in there if name.endswith(ending))
+        found |= {os.path.normpath(os.path.join(inside, stem)) for stem in stems}
         if folder.endswith("proofs"):
             folders.clear()
     return found - {"lib", "Lib", "Inner"}
@@ -93,7 +98,8 @@ def map_of_crates(parts):
         for column, (folder, ending) in COLUMNS.items():
             said = [name for row in rows(parts[crate]) for name in names(row.get(column, ""))]
             compare(f"{crate}/{folder}", set(said), files(f"crates/{crate}/{folder}", ending))
-            DIFFERENCES.extend(f"{crate}/{folder}: {name} stands twice" for name in sorted(set(said)) if said.count(name) > 1)
+            twice = sorted(name for name in set(said) if said.count(name) > 1)
+            DIFFERENCES.extend(f"{crate}/{folder}: {name} stands twice" for name in twice)
 
 
 def map_beside_the_crates(section):
@@ -166,7 +172,8 @@ def functions_without_a_contract(readme, section):
                     if " for " not in owner:
                         none.add((crate, f"{of_type[1]}::{name}" if of_type else name))
     said = {(names(row["Crate"])[0], names(row["Function"])[0]) for row in rows(section)}
-    DIFFERENCES.extend(f"docs/PROOFS.md: {crate}: {name} has a contract, or is missing there" for crate, name in sorted(said ^ none))
+    for crate, name in sorted(said ^ none):
+        DIFFERENCES.append(f"docs/PROOFS.md: {crate}: {name} has a contract, or is missing there")
     counts = f"{bare} of the {every} functions"
     if counts not in section:
         DIFFERENCES.append(f"docs/PROOFS.md: {counts} have no clause of their own")
@@ -179,22 +186,27 @@ def texts_of_faults(section):
     for file in glob.glob("crates/*/src/*.rt"):
         texts |= {text.replace("{0}", "N") for text in re.findall(r'#\[error\("(.*?)"\)\]', text_of(file))}
     told = set(names(section[section.index("A fault is") :].split(". ")[0])) - {"bactool: "}
-    DIFFERENCES.extend(f"docs/PROTOCOL.md: the fault {text} is told in one place alone" for text in sorted(told ^ (texts - {"N"})))
+    for text in sorted(told ^ (texts - {"N"})):
+        DIFFERENCES.append(f"docs/PROTOCOL.md: the fault {text} is told in one place alone")
 
 
 def scripts_of_the_guide(section):
     said = {names(row["Script"])[0] for row in rows(section)}
     there = {os.path.basename(file) for file in glob.glob("examples/*.sh")} - {"demo.sh", "free-port.sh"}
-    DIFFERENCES.extend(f"docs/GUIDE.md: the table of scripts and examples/ differ in {name}" for name in sorted(said ^ there))
+    for name in sorted(said ^ there):
+        DIFFERENCES.append(f"docs/GUIDE.md: the table of scripts and examples/ differ in {name}")
 
 
-def wide_lines_of_sources():
-    for folder, ending in COLUMNS.values():
-        for file in sorted(glob.glob(f"crates/*/{folder}/**/*{ending}", recursive=True)):
-            for number, line in enumerate(text_of(file).splitlines(), 1):
-                can_be_broken = " " in line[:WIDTH].strip().removeprefix("use ")
-                if len(line) > WIDTH and can_be_broken and not line.lstrip().startswith("#["):
-                    DIFFERENCES.append(f"{file}:{number}: past {WIDTH} columns")
+def wide_lines():
+    places = [f"crates/*/{folder}/**/*{ending}" for folder, ending in COLUMNS.values()]
+    places += ["Makefile", "*.mk", "*.py", "crates/*/oracle/*.py"]
+    folders = ["bench", "examples", "man", "packaging", "tests"]
+    places += [f"{folder}/**/*{ending}" for folder in folders for ending in (".py", ".sh", ".c")]
+    for file in sorted(file for place in places for file in glob.glob(place, recursive=True)):
+        for number, line in enumerate(text_of(file).splitlines(), 1):
+            can_be_broken = " " in line[:WIDTH].strip().removeprefix("use ")
+            if len(line) > WIDTH and can_be_broken and not line.lstrip().startswith("#["):
+                DIFFERENCES.append(f"{file}:{number}: past {WIDTH} columns")
 
 
 def links_and_lines():
@@ -227,7 +239,7 @@ def main():
     texts_of_faults(sections(text_of("docs/PROTOCOL.md"))["Statuses and faults"])
     scripts_of_the_guide(sections(text_of("docs/GUIDE.md"))["Which script does what"])
     links_and_lines()
-    wide_lines_of_sources()
+    wide_lines()
     print("\n".join(DIFFERENCES) or "the documents agree with the tree")
     return 1 if DIFFERENCES else 0
 

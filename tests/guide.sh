@@ -1,10 +1,11 @@
 #!/usr/bin/env bash
-# Runs every command of docs/GUIDE.md in one shell, against the demonstration device, and compares what comes out with what
-# the guide shows. Usage: tests/guide.sh, once the program is built; BACTOOL names another program.
+# Runs every command of docs/GUIDE.md in one shell, against the demonstration device, and compares what comes out with
+# what the guide shows. Usage: tests/guide.sh, once the program is built; BACTOOL names another program.
 #
-# A block that begins with ```console has commands behind `$ `, whose further lines begin with `> `; all other lines are what
-# they print. A block that begins with ```console and a program's name is left out where that program is not installed. Where
-# port 47808 or 48000 is taken, another one is put in its place all over the guide. What the guide leaves running is ended.
+# A block that begins with ```console has commands behind `$ `, whose further lines begin with `> `; all other lines are
+# what they print. A block that begins with ```console and a program's name is left out where that program is not
+# installed. Where port 47808 or 48000 is taken, another one is put in its place all over the guide. What the guide
+# leaves running is ended.
 set -euo pipefail
 export LC_ALL=C
 cd "$(dirname "$0")/.."
@@ -35,12 +36,17 @@ awk -v script="$room/script" -v shown="$room/shown" '
     function close_command() {
         if (command == "") return
         pause = command ~ /&$/ ? "sleep 0.5\n" : ""
-        printf "(exit $status_before)\n%s\nstatus_before=$?\n%secho \"[%d] %s\"\n", command, pause, ++count, line >script
+        printf "(exit $status_before)\n%s\nstatus_before=$?\n", command >script
+        printf "%secho \"[%d] %s\"\n", pause, ++count, line >script
         printf "%s[%d] %s\n", output, count, line >shown
         command = output = ""
     }
     BEGIN { print "status_before=0" >script }
-    /^```console/ { inside = $2 == "" || system("command -v " $2 " >/dev/null") == 0; if (!inside) print "left out: needs " $2; next }
+    /^```console/ {
+        inside = $2 == "" || system("command -v " $2 " >/dev/null") == 0
+        if (!inside) print "left out: needs " $2
+        next
+    }
     /^```/ { close_command(); inside = 0; next }
     inside && /^\$ / { close_command(); line = NR; command = substr($0, 3); next }
     inside && /^> / { command = command "\n" substr($0, 3); next }
@@ -57,4 +63,5 @@ if ! diff "$room/shown" "$room/came"; then
     echo "docs/GUIDE.md shows otherwise (<); a line [N] L ends command N, which stands in line L" >&2
     exit 1
 fi
-echo "docs/GUIDE.md at port $port: $(tail -n 1 "$room/count"), as shown; $(grep left "$room/count" || echo none left out)"
+left_out=$(grep left "$room/count" || echo none left out)
+echo "docs/GUIDE.md at port $port: $(tail -n 1 "$room/count"), as shown; $left_out"

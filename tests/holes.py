@@ -1,13 +1,14 @@
 #!/usr/bin/env python3
-"""Sees that what no contract can refuse is refused by a test: puts in each wrong body that has a line `hole:`, runs the test which that line names,
-and says so where the test passes.
+"""Sees that what no contract can refuse is refused by a test: puts in each wrong body that has a line `hole:`, runs the
+test which that line names, and says so where the test passes.
 
-Usage: tests/holes.py [--only PATTERN] [--jobs N]. The status is 0 where each of these tests fails, and passes without a body.
+Usage: tests/holes.py [--only PATTERN] [--jobs N]. The status is 0 where each test fails, and passes without a body.
 
-A line `hole:` names a file: of crates/tool_trials/src/tests/, one of whose tests has to fail; of tests/rows/, one of whose rows has to; or
-a script of tests/, which has to. The trials are run by `rt try --test`, those of the file's module alone; the program is one that `rt try` makes, in
-which an index or a sum out of bounds also ends it. Nothing is proved here: tests/wrong_bodies.py does that. Each body takes a build of some 70
-seconds of processor time, so this is no part of the gate.
+A line `hole:` names a file: of crates/tool_trials/src/tests/, one of whose tests has to fail; of tests/rows/, one of
+whose rows has to; or a script of tests/, which has to. The trials are run by `rt try --test`, those of the file's
+module alone; the program is one that `rt try` makes, in which an index or a sum out of bounds also ends it. Nothing is
+proved here: tests/wrong_bodies.py does that. Each body takes a build of some 70 seconds of processor time, so this is
+no part of the gate.
 """
 import argparse
 import collections
@@ -35,7 +36,7 @@ class NotTried(Exception):
 
 
 class Hole:
-    """A wrong body of a crate, with the file of the test that has to fail. Without a body it is the code as it stands."""
+    """A wrong body of a crate, with the file of the test that has to fail. Without a body it is the code as it is."""
 
     def __init__(self, file, test=None):
         self.file, self.pairs, self.test = file, [], test
@@ -71,19 +72,22 @@ def replace_in(file, old, new):
 def copy_sources(room):
     shutil.copy(f"{ROOT}/crates.txt", room)
     shutil.copy(f"{ROOT}/HANDLES", room)
-    for part in glob.glob(f"{ROOT}/crates/*/src") + glob.glob(f"{ROOT}/crates/*/specs") + glob.glob(f"{ROOT}/crates/*/proofs"):
-        shutil.copytree(part, room + part[len(ROOT) :])
+    for part in ("src", "specs", "proofs"):
+        for folder in glob.glob(f"{ROOT}/crates/*/{part}"):
+            shutil.copytree(folder, room + folder[len(ROOT) :])
 
 
 def leave_one_module(room, test):
-    """Of the trials only the module of this file, those that it names and so on; and of the crates below only those that these name."""
+    """Of the trials only the module of this file, those that it names and so on; and of the crates below only those
+    that these name."""
     trials = f"{room}/{TRIALS}"
     modules = set(re.findall(r"(?m)^mod (\w+);", text_of(f"{trials}.rt")))
     files = lambda it: [f"{trials}/{it}.rt", *glob.glob(f"{trials}/{it}/**/*.rt", recursive=True)]
     kept, rest = set(), {os.path.relpath(test, TRIALS).split(".")[0].split("/")[0]}
     while rest:
         kept |= rest
-        rest = {it for place in rest for file in files(place) for it in re.findall(r"tests::(\w+)", text_of(file))} & modules - kept
+        texts = [text_of(file) for place in rest for file in files(place)]
+        rest = {it for text in texts for it in re.findall(r"tests::(\w+)", text)} & modules - kept
     for other in modules - kept:
         os.remove(f"{trials}/{other}.rt")
         shutil.rmtree(f"{trials}/{other}", ignore_errors=True)
@@ -109,7 +113,8 @@ def of_trials(room, test):
 
 
 def run(command, folder):
-    return subprocess.run(command, cwd=folder, stdin=subprocess.DEVNULL, capture_output=True, text=True, errors="replace", check=False)
+    how = {"stdin": subprocess.DEVNULL, "capture_output": True, "text": True, "errors": "replace"}
+    return subprocess.run(command, cwd=folder, check=False, **how)
 
 
 def free_port():
@@ -119,11 +124,12 @@ def free_port():
 
 
 def built(room):
-    """The program as `rt try` makes it: it plays a device until it is copied, and then hears the one datagram that ends it."""
+    """The program as `rt try` makes it: a device that is copied while it plays, and ends by the datagram it hears."""
     port, program = free_port(), f"{room}/bactool"
     words = ["rt", "try", "--seconds", str(MOST), "--", "bacdev", "1", "--port", str(port), "--count", "1"]
     with open(f"{room}/said", "w+", encoding="utf-8", errors="replace") as said:
-        device = subprocess.Popen(words, cwd=f"{room}/crates/bactool", stdin=subprocess.DEVNULL, stdout=said, stderr=subprocess.STDOUT)
+        how = {"stdin": subprocess.DEVNULL, "stdout": said, "stderr": subprocess.STDOUT}
+        device = subprocess.Popen(words, cwd=f"{room}/crates/bactool", **how)
         while device.poll() is None:
             found = [it for it in map(program_of, os.listdir("/proc")) if it and it[1] == str(port)]
             if found and not os.path.exists(program):

@@ -83,7 +83,8 @@ echo other >"$room/opt/other/file"
 echo "$(cksum <"$room/opt/other/file" | tr ' ' ':') /opt/other/file" >>"$room$PREFIX/share/bactool/installed"
 echo "$(cksum <"$room/opt/other/file" | tr ' ' ':') $PREFIX/../other/file" >>"$room$PREFIX/share/bactool/installed"
 cp -a "$room$PREFIX" "$room/opt/second"
-expect 0 'left there, since it is not below /opt/second: /opt/other/file' env PREFIX=/opt/second packaging/install.sh --remove
+expect 0 'left there, since it is not below /opt/second: /opt/other/file' \
+    env PREFIX=/opt/second packaging/install.sh --remove
 [ "$(files)" = $((put + 1)) ]
 expect 0 'files and links' packaging/install.sh "$program"
 expect 1 '' grep ' /' "$room$PREFIX/share/bactool/installed"

@@ -1,8 +1,8 @@
 #!/usr/bin/env python3
 """Runs the tools and nmap against bacdev through a relay that keeps every datagram, and has tshark read them all.
 
-Usage: tests/interop.sh, which installs what is missing. It prints the tables, and ends with 1 where something
-is not as it is to be: a tool or nmap that prints something else, a datagram that tshark finds malformed or reads as something
+Usage: tests/interop.sh, which installs what is missing. It prints the tables, and ends with 1 where something is not as
+it is to be: a tool or nmap that prints something else, a datagram that tshark finds malformed or reads as something
 else than it is.
 """
 import os
@@ -32,7 +32,7 @@ READS = [
     ("3 3 84", "0", "binary-input,3 polarity"),
     ("13 1 74", "3", "multi-state-input,1 number-of-states"),
     ("1 1 104", "00000000", "analog-output,1 relinquish-default"),
-    ("1 1 87", "{null,null,null,null,null,null,null,41a00000,null,null,null,null,null,null,null,null}", "analog-output,1 priority-array"),
+    ("1 1 87", "{" + "null," * 7 + "41a00000" + ",null" * 8 + "}", "analog-output,1 priority-array"),
     ("1 1 87 8", "41a00000", "analog-output,1 priority-array[8]"),
     ("8 1234 75", "8:1234", "device,1234 object-identifier"),
     ("8 1234 76", "{8:1234,0:5,0:35,0:36,1:1,2:2,3:3,4:4,5:5,13:1,14:1,19:1}", "device,1234 object-list"),
@@ -86,13 +86,21 @@ OTHERS = [
     ("810a000c010408050100010c", "a request in parts", "810a00090100710104", "Abort"),
     ("810a000a01040005010e", "another service", "810a00090100600109", "Reject"),
     ("810a001101040000080c0c00000024194d", "a reply past 50 octets", "810a00090100710804", "Abort"),
-    ("810a0015010c0005010700050" "10c0c000000051955", "a station behind a router", "810a001c012000050107ff30010c0c0000000519553e444290999a3f", "Complex-ACK"),
+    (
+        *("810a0015010c000501070005010c0c000000051955", "a station behind a router"),
+        *("810a001c012000050107ff30010c0c0000000519553e444290999a3f", "Complex-ACK"),
+    ),
     ("810b000c0120ffff00ff1008", "Who-Is to all", "810a001501001000c4020004d22205c49103220104", "Unconfirmed-REQ"),
 ]
 
 NMAP = [
-    ("Vendor ID", "BACnet Stack at SourceForge (260)"), ("Vendor Name", "Property tools"), ("Object-identifier", "1234"),
-    ("Firmware", "1"), ("Application Software", "1"), ("Object Name", "Small device"), ("Model Name", "bacdev"),
+    ("Vendor ID", "BACnet Stack at SourceForge (260)"),
+    ("Vendor Name", "Property tools"),
+    ("Object-identifier", "1234"),
+    ("Firmware", "1"),
+    ("Application Software", "1"),
+    ("Object Name", "Small device"),
+    ("Model Name", "bacdev"),
     ("Description", "Small BACnet/IP device"),
 ]
 
@@ -126,7 +134,7 @@ class Recorded:
         self.relay, self.mac, self.rows, self.by_hand = relay, "127.0.0.1:%d" % relay.port, [], []
 
     def run(self, tool, words, wanted, asked, answered):
-        """Runs a tool; `asked` and `answered` are what tshark must find in its datagram and in the reply (None: no reply)."""
+        """Runs a tool; tshark must find `asked` in its datagram and `answered` in the reply (None: no reply)."""
         before = len(self.relay.lines)
         words = words.split() + ["--mac", self.mac] + (["--apdu-timeout", "300"] if tool == "bacwi" else [])
         printed = output_of([PROGRAM, tool] + words, (0, 1)).rstrip("\n").replace(self.mac, "PEER")
@@ -154,15 +162,18 @@ def ask_everything(recorded):
     recorded.run("bacwi", "", "1234 PEER 1476 3 260", ["Unconfirmed-REQ who-Is"], i_am)
     recorded.run("bacwi", "1000 2000", "1234 PEER 1476 3 260", ["Unconfirmed-REQ who-Is 1000 2000"], i_am)
     recorded.run("bacwi", "2000 3000", "", ["Unconfirmed-REQ who-Is 2000 3000"], None)
-    recorded.run("bacwp", "1234 1 1 85 8 -1 4 41a00000", "ok", ["Confirmed-REQ writeProperty[1] analog-output,1 present-value", "Present Value (real): 20"], ["Simple-ACK writeProperty[1]"])
+    read, write, done = "readProperty[1]", "writeProperty[1]", "Simple-ACK writeProperty[1]"
+    valve = f"Confirmed-REQ {write} analog-output,1 present-value"
+    recorded.run("bacwp", "1234 1 1 85 8 -1 4 41a00000", "ok", [valve, "Present Value (real): 20"], [done])
     for words, wanted, name in READS:
         name, index = re.fullmatch(r"(.*?)(\[\d+\])?", name).groups()
-        recorded.run("bacrp", "1234 " + words, wanted, ["Confirmed-REQ readProperty[1] " + name], ["Complex-ACK readProperty[1] " + name])
+        recorded.run("bacrp", "1234 " + words, wanted, [f"Confirmed-REQ {read} {name}"], [f"Complex-ACK {read} {name}"])
     for words, wanted, error_class, code in REFUSED:
-        recorded.run("bacrp", "1234 " + words, wanted, ["Confirmed-REQ readProperty[1]"], ["Error readProperty[1]", "Error Class: %s" % error_class, "Error Code: %s" % code])
+        reply = [f"Error {read}", f"Error Class: {error_class}", f"Error Code: {code}"]
+        recorded.run("bacrp", "1234 " + words, wanted, [f"Confirmed-REQ {read}"], reply)
     for words, wanted, value in WRITES:
-        reply = ["Simple-ACK writeProperty[1]"] if wanted == "ok" else ["Error writeProperty[1]", "Error Code: invalid-data-type"]
-        recorded.run("bacwp", "1234 1 1 85 8 -1 " + words, wanted, ["Confirmed-REQ writeProperty[1] analog-output,1 present-value", value], reply)
+        reply = [done] if wanted == "ok" else [f"Error {write}", "Error Code: invalid-data-type"]
+        recorded.run("bacwp", "1234 1 1 85 8 -1 " + words, wanted, [valve, value], reply)
     for octets, _, wanted, name in OTHERS:
         recorded.send(octets, wanted, [""], [name])
 
@@ -172,9 +183,11 @@ def read_by_tshark(lines):
     with tempfile.TemporaryDirectory() as room:
         path = room + "/all.pcap"
         subprocess.run([TOP + "/examples/capture.py", path], input="\n".join(lines) + "\n", text=True, check=True)
-        brief = output_of(["tshark", "-r", path, "-T", "fields", "-E", "separator=/t", "-e", "_ws.col.Protocol", "-e", "_ws.col.Info"])
+        fields = ["tshark", "-r", path, "-T", "fields"]
+        brief = output_of([*fields, "-E", "separator=/t", "-e", "_ws.col.Protocol", "-e", "_ws.col.Info"])
         whole = output_of(["tshark", "-r", path, "-V"])
-        bad = output_of(["tshark", "-r", path, "-Y", "_ws.malformed or _ws.expert.severity >= 0x600000 or not bacapp", "-T", "fields", "-e", "frame.number"])
+        is_bad = "_ws.malformed or _ws.expert.severity >= 0x600000 or not bacapp"
+        bad = output_of([*fields, "-Y", is_bad, "-e", "frame.number"])
     texts = re.split(r"(?m)^Frame \d+: ", whole)[1:]
     briefs = [re.sub(r"\s+", " ", re.sub(r"\[\s+", "[", line.split("\t")[1])).strip() for line in brief.splitlines()]
     return briefs, texts, bad.split()
@@ -230,7 +243,7 @@ def main():
 
 
 def show(lines, briefs, texts, of_nmap, written_here):
-    print("%d datagrams, %d of them of the tools or the device; none of these malformed.\n" % (len(lines), len(written_here)))
+    print(f"{len(lines)} datagrams, {len(written_here)} of them of the tools or the device; none of these malformed.\n")
     print("| What tshark calls it | From the tools | From the device |\n|---|---|---|")
     counts = {}
     for at in written_here:
@@ -242,7 +255,8 @@ def show(lines, briefs, texts, of_nmap, written_here):
     for at in range(of_nmap, len(lines) - 1):
         if lines[at].split()[2] == DEVICE and lines[at + 1].split()[1] == DEVICE:
             error = " ".join(re.findall(r"Error C(?:lass|ode): (\S+ \(\d+\))", texts[at + 1]))
-            print("| %s | %s |" % (briefs[at].split("] ")[-1], re.sub(r"readProperty\[\d+\] ?", "", briefs[at + 1]) + error))
+            answer = re.sub(r"readProperty\[\d+\] ?", "", briefs[at + 1]) + error
+            print("| %s | %s |" % (briefs[at].split("] ")[-1], answer))
     print("\n| nmap shows | |\n|---|---|")
     for name, value in NMAP:
         print("| %s | %s |" % (name, value))

@@ -1,6 +1,6 @@
 #!/usr/bin/env bash
-# Shows the device and the tools to foreign programs: nmap asks the device, and tshark reads every datagram that either side
-# writes. Installs both by apt-get where they are missing; nmap needs root for UDP. Prints the tables.
+# Shows the device and the tools to foreign programs: nmap asks the device, and tshark reads every datagram that either
+# side writes. Installs both by apt-get where they are missing; nmap needs root for UDP. Prints the tables.
 # Usage: tests/interop.sh, once the program is built; BACTOOL names another program.
 set -euo pipefail
 cd "$(dirname "$0")/.."

@@ -1,6 +1,7 @@
 #!/bin/sh
-# Refuses each request for memory that the program makes for its words, one in each run: every such run has to end with `out of memory`, status 4,
-# and a run in which none is refused as it is to. Usage: tests/memory.sh PROGRAM; it needs cc, and says so where there is none.
+# Refuses each request for memory that the program makes for its words, one in each run: every such run has to end with
+# `out of memory`, status 4, and a run in which none is refused as it is to. Usage: tests/memory.sh PROGRAM; it needs
+# cc, and says so where there is none.
 set -eu
 program=$(realpath "$1")
 if ! command -v cc >/dev/null; then
@@ -18,7 +19,8 @@ refuse() {
     number=1
     while :; do
         status=0
-        REFUSED=$number LD_PRELOAD=$room/refuse.so "$program" "$@" </dev/null >"$room/output" 2>"$room/error" 3>"$room/refused" || status=$?
+        REFUSED=$number LD_PRELOAD=$room/refuse.so "$program" "$@" \
+            </dev/null >"$room/output" 2>"$room/error" 3>"$room/refused" || status=$?
         [ -s "$room/refused" ] || break
         if [ "$status" != 4 ] || [ -s "$room/output" ] || [ "$(cat "$room/error")" != 'bactool: out of memory' ]; then
             echo "request $number refused, status $status: $*"

@@ -1,6 +1,6 @@
 #!/usr/bin/env bash
-# Asks Wireshark, which has the standard's numbers from another hand, what it calls each number of man/numbers.txt, and compares the names.
-# Where tshark is not installed, it says so and compares nothing.
+# Asks Wireshark, which has the standard's numbers from another hand, what it calls each number of man/numbers.txt, and
+# compares the names. Where tshark is not installed, it says so and compares nothing.
 set -euo pipefail
 cd "$(dirname "$0")/.."
 if ! command -v tshark >/dev/null || ! command -v text2pcap >/dev/null; then
@@ -12,15 +12,19 @@ trap 'rm -r "$room"' EXIT
 
 # Number and name of each row of a section.
 ours() {
-    awk -F ' [|] ' -v title="= $1" '/^= / { inside = $1 == title; next } inside && /^[0-9]/ { print $1 "\t" $2 }' man/numbers.txt
+    awk -F ' [|] ' -v title="= $1" '
+        /^= / { inside = $1 == title; next }
+        inside && /^[0-9]/ { print $1 "\t" $2 }
+    ' man/numbers.txt
 }
 # The same of a field of Wireshark, which spells some in a way of its own.
 field() {
     awk -F '\t' -v name="bacapp.$1" '$1 == "V" && $2 == name { print $3 "\t" tolower($4) }' "$room/values" |
-        sed 's/acked-transition$/&s/; s/event-time-stamp$/&s/; s/datelist/date-list/; s/daylights/daylight/; s/bacnet-\(ip-subnet\)/\1/; s/ - /-/g'
+        sed 's/acked-transition$/&s/; s/event-time-stamp$/&s/; s/datelist/date-list/; s/daylights/daylight/
+            s/bacnet-\(ip-subnet\)/\1/; s/ - /-/g'
 }
-# The units have no field of their own: a read of property 117 that is answered by each number is shown to Wireshark, whose names are put
-# into the standard's words.
+# The units have no field of their own: a read of property 117 that is answered by each number is shown to Wireshark,
+# whose names are put into the standard's words.
 units() {
     for number in $(seq 0 254); do
         printf '0000 81 0a 00 14 01 00 30 01 0c 0c 00 00 00 05 19 75 3e 91 %02x 3f\n' "$number"
@@ -37,7 +41,7 @@ compare() {
     "${@:2}" | sort >"$room/theirs"
     count=$(wc -l <"$room/ours")
     if [ "$count" = 0 ] || comm -23 "$room/ours" "$room/theirs" | grep .; then
-        echo "tests/numbers.sh: of the $count rows of '$1' in man/numbers.txt, Wireshark names those above otherwise" >&2
+        echo "tests/numbers.sh: Wireshark names those above otherwise, of the $count rows of '$1'" >&2
         exit 1
     fi
     total=$((total + count))

@@ -1,6 +1,7 @@
 #!/usr/bin/env bash
-# Installs a Debian package in a root that has nothing but Debian's smallest set, runs the demonstration there, finds the manual pages,
-# completions and documents in their places, and takes the package away again. Needs root, debootstrap and a mirror of Debian.
+# Installs a Debian package in a root that has nothing but Debian's smallest set, runs the demonstration there, finds
+# the manual pages, completions and documents in their places, and takes the package away again. Needs root, debootstrap
+# and a mirror of Debian.
 # Usage: tests/package.sh PACKAGE.deb [ROOT], where ROOT keeps the system for the next time.
 set -euo pipefail
 package=$(realpath "$1")
@@ -30,12 +31,14 @@ for tool in bactool bacrp bacwp bacwi bacdev bactrace; do
     done
 done
 doc=/usr/share/doc/bactool
-for file in /usr/share/man/man7/bactool-numbers.7.gz $doc/README.md $doc/docs/GUIDE.md $doc/docs/NUMBERS.md $doc/examples/poll.sh; do
+for file in /usr/share/man/man7/bactool-numbers.7.gz $doc/README.md $doc/docs/GUIDE.md $doc/docs/NUMBERS.md \
+    $doc/examples/poll.sh; do
     grep -qx "$file" "$root/tmp/demo/files" || { echo "not there: $file"; exit 1; }
 done
 # From 4290999a to 72.3, as the page says.
 line=$(gzip -dc "$root/usr/share/man/man1/bacrp.1.gz" | sed -n 's|^\$ \(\. /.*/reals\.sh\)$|\1|p')
-[ "$(chroot "$root" sh -c "$line"'; from_real 4290999a')" = 72.3 ] || { echo "not as the page of bacrp says: $line"; exit 1; }
+[ "$(chroot "$root" sh -c "$line"'; from_real 4290999a')" = 72.3 ] ||
+    { echo "not as the page of bacrp says: $line"; exit 1; }
 chroot "$root" bacdev --help | head -n 1
 chroot "$root" dpkg -P bactool
 [ -z "$(find "$root/usr" -name '*bactool*')" ] || { echo "left behind"; exit 1; }

@@ -1,7 +1,7 @@
 #!/usr/bin/env bash
-# Compares the manual pages with the program that they are of: words, options, ranges and defaults with each tool's help, faults with the
-# code's texts, and with help and documents what has to be said twice: statuses, version, the warnings, how a fault is reported. Then mandoc
-# reads them, where it is installed. Usage: tests/pages.sh PROGRAM
+# Compares the manual pages with the program that they are of: words, options, ranges and defaults with each tool's
+# help, faults with the code's texts, and with help and documents what has to be said twice: statuses, version, the
+# warnings, how a fault is reported. Then mandoc reads them, where it is installed. Usage: tests/pages.sh PROGRAM
 set -euo pipefail
 program=$(realpath "$1")
 cd "$(dirname "$0")/.."
@@ -50,7 +50,8 @@ of_page() {
     ' "man/$1.1"
 }
 
-# Of such lines the names, each with its ranges and its default: `1 (most urgent) to 16` is `1 to 16`, as is `1, the most urgent, to 16`.
+# Of such lines the names, each with its ranges and its default: `1 (most urgent) to 16` is `1 to 16`, as is `1, the
+# most urgent, to 16`.
 numbers() {
     sed -E 's/([0-9])( \([a-z ]*\)|, [a-z ]*,) to /\1 to /g' | awk -F '\t' '{
         found = $1
@@ -73,8 +74,10 @@ named() {
 
 # Those among them that man/numbers.txt has.
 known() {
-    awk -F ' [|] ' -v title="= $1" '/^= / { inside = $1 == title } inside && /^[0-9]/ { gsub(/-/, " ", $2); print $1 " " $2 }' man/numbers.txt |
-        grep -Fx -f "$2" || true
+    awk -F ' [|] ' -v title="= $1" '
+        /^= / { inside = $1 == title }
+        inside && /^[0-9]/ { gsub(/-/, " ", $2); print $1 " " $2 }
+    ' man/numbers.txt | grep -Fx -f "$2" || true
 }
 
 for tool in bacrp bacwp bacwi bacdev; do
@@ -96,11 +99,12 @@ done
 "$program" bacwp --help | sed -n 's/^ *\([0-9][0-9]*\)  \([A-Z][A-Za-z ]*[a-z]\)  .*/\1 \2/p' >"$room/tags of help"
 sed -n 's/^\.It \([0-9][0-9]*\)  \([A-Z].*\)/\1 \2/p' man/bacwp.1 >"$room/tags of man bacwp"
 same tags 'tags of help' 'tags of man bacwp'
-awk -F ' [|] ' '/^= / { inside = /Types of a value/ } inside && /^[0-9]/ { print $1 " " $2 }' man/numbers.txt >"$room/tags of the numbers"
+awk -F ' [|] ' '/^= / { inside = /Types of a value/ } inside && /^[0-9]/ { print $1 " " $2 }' man/numbers.txt \
+    >"$room/tags of the numbers"
 same tags 'tags of help' 'tags of the numbers'
 
-# The statuses of bactool.1 are those of its help, and each tool's page refers to them. What help says of a tool's statuses, its page says
-# too.
+# The statuses of bactool.1 are those of its help, and each tool's page refers to them. What help says of a tool's
+# statuses, its page says too.
 statuses() {
     sed -n '/Status/,$p' | grep -oE '(^|: |; |Status )[0-9][ :]' | tr -dc '0-9\n' | sort -u
 }
@@ -119,19 +123,23 @@ for tool in $tools; do
 done
 
 # What each status means, docs/PROTOCOL.md says too.
-exit_status bactool | sed -n '/^\.Bl/,/^\.El/p' | awk '/^\.It/ { printf "%s%s", end, $2; end = "\n"; next } /^[^.]/ { printf " %s", $0 } END { print "" }' \
-    >"$room/meanings in man bactool"
+exit_status bactool | sed -n '/^\.Bl/,/^\.El/p' | awk '
+    /^\.It/ { printf "%s%s", end, $2; end = "\n"; next }
+    /^[^.]/ { printf " %s", $0 }
+    END { print "" }
+' >"$room/meanings in man bactool"
 sed -n '/^## Statuses and faults/,$s/^| \([0-9]\) | \(.*\) |$/\1 \2/p' docs/PROTOCOL.md >"$room/meanings in PROTOCOL.md"
 same 'meanings of statuses' 'meanings in man bactool' 'meanings in PROTOCOL.md'
 
-# says TEXT COMMAND..: what a command prints has the text, however its lines break; marks of pages and documents are left out.
+# says TEXT COMMAND..: what a command prints has the text, however its lines break, and without marks of pages.
 says() {
-    "${@:2}" | sed 's/^\.[A-Z][a-z] //; s/ :$/:/; s/\*\*//g; s/^- //' | tr -s ' \n' ' ' | grep -qiF -- "$1" || wrong "'${*:2}' does not say: $1"
+    "${@:2}" | sed 's/^\.[A-Z][a-z] //; s/ :$/:/; s/\*\*//g; s/^- //' | tr -s ' \n' ' ' | grep -qiF -- "$1" ||
+        wrong "'${*:2}' does not say: $1"
 }
 # What a fixed port may bring, in help and page.
 for tool in bacrp bacwp bacwi; do
-    "$program" $tool --help | sed -n '/^ *--port/,/^$/p' | tr -s ' \n' ' ' | sed 's/.*; at a fixed/at a fixed/; s/ \(-h\|--help\).*//; s/ *$//' \
-        >"$room/warning of $tool"
+    "$program" $tool --help | sed -n '/^ *--port/,/^$/p' | tr -s ' \n' ' ' |
+        sed 's/.*; at a fixed/at a fixed/; s/ \(-h\|--help\).*//; s/ *$//' >"$room/warning of $tool"
     [ -s "$room/warning of $tool" ] || wrong "help of $tool says nothing of a fixed port"
     says "$(cat "$room/warning of $tool")" cat man/$tool.1
 done
@@ -146,12 +154,15 @@ report=$(awk '/^\.Sh/ { inside = /BUGS/; next } inside' man/bactool.1 | tr '\n' 
 says "${report% }" cat SECURITY.md
 
 # The lines of a script: help and page have the same first words.
-"$program" bactrace --help | sed -n '/^Lines of a script/,/^A line/s/^  \([a-z]*\) [A-Z].*/\1/p' | sort >"$room/lines in help"
-sed -n '/^\.Sh DESCRIPTION/,/^\.Sh EXIT/s/^\.It Li \([a-z]*\) Ar.*/\1/p' man/bactrace.1 | sort >"$room/lines in man bactrace"
+"$program" bactrace --help | sed -n '/^Lines of a script/,/^A line/s/^  \([a-z]*\) [A-Z].*/\1/p' |
+    sort >"$room/lines in help"
+sed -n '/^\.Sh DESCRIPTION/,/^\.Sh EXIT/s/^\.It Li \([a-z]*\) Ar.*/\1/p' man/bactrace.1 |
+    sort >"$room/lines in man bactrace"
 same 'lines of a script' 'lines in help' 'lines in man bactrace'
 
 # Each text of a fault in the code is in the page.
-grep -rhoE '#\[error\("[a-z][^"]*"' crates/*/src | sed 's/.*"\([^"]*\)"/\1/; s/{0}/N/' | sort -u >"$room/faults of the code"
+grep -rhoE '#\[error\("[a-z][^"]*"' crates/*/src | sed 's/.*"\([^"]*\)"/\1/; s/{0}/N/' |
+    sort -u >"$room/faults of the code"
 awk '/^\.Sh/ { inside = /DIAGNOSTICS/ } /^\.Pp/ { inside = 0 } inside && /^\.It/ {
     sub(/^\.It Li /, ""); gsub(/Ar n( Ns( Li \\&)?)?/, "N"); gsub(/ N:/, " N:"); count = split($0, text, / , (Li )?/)
     for (i = 1; i <= count; i++) print text[i] }' man/bactool.1 | sed 's/N Ns-th//; s/^Li //; s/N :/N:/; s/ *$//' |

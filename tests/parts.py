@@ -171,7 +171,8 @@ def run(rows, clock, ends_at_failure):
 
 def test(clock):
     print("Here: the tests of both trials, some wrong bodies of each crate, the examples, rows and guide.")
-    print("Left to make gate: proofs from nothing, all other wrong bodies, and a refused request for memory.", flush=True)
+    print("Left to make gate: proofs from nothing, all other wrong bodies, and a refused request for memory.")
+    sys.stdout.flush()
     trials = Part("trials", ["./build.py", "--tests"], r"(\d+) tests passed")
     passed, lost = 0, {}
     is_kept = all(os.path.isdir(f"{it}/out/incremental") for it in glob.glob("crates/*") if not it.endswith("_trials"))

@@ -1,8 +1,10 @@
 #!/usr/bin/env python3
-"""Sees that each row of a table of docs/PROTOCOL.md is read back from outside. Usage: tests/pins.py; it ends with 1 where one is not, and says which.
+"""Sees that each row of a table of docs/PROTOCOL.md is read back from outside. Usage: tests/pins.py; it ends with 1
+where one is not, and says which.
 
-tests/pins.txt says for each row which worked row or example would fail were it wrong in a definition and in the code at once. Here it is seen that
-each row of a table is named there, once; that what is named stands in the document; and that the text which is named for it stands in its file.
+tests/pins.txt says for each row which worked row or example would fail were it wrong in a definition and in the code at
+once. Here it is seen that each row of a table is named there, once; that what is named stands in the document; and that
+the text which is named for it stands in its file.
 """
 import os
 import re
@@ -69,7 +71,8 @@ def main():
             count += 1
             if (heading, row) not in named:
                 WRONG.append(f"{heading}: nothing in tests/pins.txt reads this row back: {row[:100]}")
-    print("\n".join(WRONG) or f"{count} rows of docs/PROTOCOL.md are read back, and {len(found) - count} other texts of it")
+    well = f"{count} rows of docs/PROTOCOL.md are read back, and {len(found) - count} other texts of it"
+    print("\n".join(WRONG) or well)
     return 1 if WRONG else 0
 
 

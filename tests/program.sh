@@ -9,7 +9,7 @@ trap 'rm -r "$room"' EXIT
 failures=0
 count=0
 
-# expect STATUS OUTPUT ERROR COMMAND..: OUTPUT and ERROR are patterns of `case` that the whole of what was written has to fit.
+# expect STATUS OUTPUT ERROR COMMAND..: OUTPUT and ERROR are patterns of `case` that all of what was written has to fit.
 expect() {
     wanted=$1 output=$2 error=$3
     shift 3
@@ -116,7 +116,8 @@ for _ in 1 2 3 4 5 6 7 8 9 10; do
     [ "$("$(dirname "$0")/../examples/free-port.sh")" = "$port" ] || break
     sleep 0.1
 done
-for words in 'bacdev 1234' 'bacwi --mac 127.0.0.1' 'bacrp 1234 0 5 85 --mac 127.0.0.1' 'bacwp 1234 1 1 85 8 -1 0 x --mac 127.0.0.1'; do
+for words in 'bacdev 1234' 'bacwi --mac 127.0.0.1' 'bacrp 1234 0 5 85 --mac 127.0.0.1' \
+    'bacwp 1234 1 1 85 8 -1 0 x --mac 127.0.0.1'; do
     expect 3 '' "bactool: bind failed$line" tool $words --port "$port"
 done
 # It is reached at each address of this machine.

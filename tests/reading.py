@@ -1,9 +1,9 @@
 #!/usr/bin/env python3
-"""What has to be read to believe a promise: docs/reading/, made from the sources. tests/sources.py says what needs what.
+"""What has to be read to believe a promise: docs/reading/, made from the sources by what tests/sources.py tells.
 
-Usage: tests/reading.py            compares docs/reading/, and the sizes that README.md tells, with the tree; says which definitions
-                                   lie in the wrong room, and which names a file brings in that aren't there, or that it doesn't say; ends
-                                   with 1 where there are any
+Usage: tests/reading.py            compares docs/reading/, and the sizes that README.md tells, with the tree; says which
+                                   definitions lie in the wrong room, and which names a file brings in that aren't
+                                   there, or that it doesn't say; ends with 1 where there are any
        tests/reading.py --write    writes docs/reading/ anew (make reading)
 """
 import collections
@@ -12,8 +12,8 @@ import os
 import re
 import sys
 
-from sources import (CLOSE, CRATES, DEFINITIONS, OPEN, PROBLEMS, SOURCES, TOKEN, closed, defined, match_bracket, public_calls, read_tree,
-                     text_of, uses_in)
+from sources import CLOSE, CRATES, DEFINITIONS, OPEN, PROBLEMS, SOURCES, TOKEN
+from sources import closed, defined, match_bracket, public_calls, read_tree, text_of, uses_in
 
 TOP = os.path.dirname(os.path.dirname(os.path.abspath(__file__)))
 FOLDER = "docs/reading"
@@ -27,7 +27,11 @@ PAGES = [
     ("device", "The device's reply to a datagram", ["bac_device::Device::answer"]),
     ("texts", "Words as values and bodies, and values as text", ["bac_text::*", "bac_outcomes::*"]),
     ("script", "What a script prints and answers", ["bac_script::trace"]),
-    ("calls", "A read, a write and a search over a link", ["bac_links::run_read", "bac_links::run_write", "bac_links::run_whois"]),
+    (
+        "calls",
+        "A read, a write and a search over a link",
+        ["bac_links::run_read", "bac_links::run_write", "bac_links::run_whois"],
+    ),
     ("serving", "A device that serves", ["bac_links::serve"]),
     ("command", "The words of a command line", ["bac_words::parse_words", "bac_words::words_of"]),
     ("program", "From the words to the status", ["bac_tools::run_words", "bactool::run"]),
@@ -49,12 +53,13 @@ def size(items):
 
 
 def in_reading_order(items):
-    """The files, each before those that it rests on, and the items of each from its top. Of files that rest on one another, as of a type
-    and its definitions, comes first the one that is needed first from the calls down."""
+    """The files, each before those that it rests on, and the items of each from its top. Of files that rest on one
+    another, as of a type and its definitions, comes first the one that is needed first from the calls down."""
     of = {}
     for item in items:
         of.setdefault(item.file, []).append(item)
-    below = {file: {need.file for item in there for need in item.needs.items if need in items} - {file} for file, there in of.items()}
+    needed = lambda there: {need.file for item in there for need in item.needs.items if need in items}
+    below = {file: needed(there) - {file} for file, there in of.items()}
     reached = {file: closed_over(below, file) for file in of}
     rest = list(of)
     while rest:
@@ -147,7 +152,7 @@ def pages():
         texts[f"{FOLDER}/{page}.md"], items = page_of(title, calls, told, page)
         sizes[page] = size(items)
         files = len({item.file for item in items})
-        shown = ", ".join(f"the public calls of `{name[: -len('::*')]}`" if name.endswith("*") else f"`{name}`" for name in names)
+        shown = ", ".join(re.sub("`(.*)::[*]`", r"the public calls of `\1`", f"`{name}`") for name in names)
         index += f"| [{title}]({page}.md) | {shown} | {len(items)} | {sizes[page]} | {files} |\n"
     texts[f"{FOLDER}/README.md"] = index
     return texts, sizes
@@ -161,8 +166,9 @@ def compare(texts, sizes):
             wrong.append(f"{path} is not written")
         elif text_of(path) != text:
             now, then = text.splitlines(), text_of(path).splitlines()
-            lines = [line for line in now if line not in then] + [line for line in then if line not in now] + ["its order"]
-            wrong.append(f"{path} differs from the tree: {lines[0].strip()[:100]}")
+            new, gone = [line for line in now if line not in then], [line for line in then if line not in now]
+            first = [*new, *gone, "its order"][0]
+            wrong.append(f"{path} differs from the tree: {first.strip()[:100]}")
     for lines, page in re.findall(SIZE, text_of("README.md")):
         if lines != f"{sizes[page]:,}":
             wrong.append(f"README.md: {page} has {sizes[page]:,} lines, not {lines}")
@@ -176,7 +182,8 @@ def write(texts, sizes):
     for path, text in texts.items():
         with open(path, "w", encoding="utf-8") as file:
             file.write(text)
-    readme = re.sub(SIZE, lambda found: f"[{sizes[found[2]]:,} lines](docs/reading/{found[2]}.md)", text_of("README.md"))
+    told = lambda found: f"[{sizes[found[2]]:,} lines](docs/reading/{found[2]}.md)"
+    readme = re.sub(SIZE, told, text_of("README.md"))
     with open("README.md", "w", encoding="utf-8") as file:
         file.write(readme)
 
@@ -208,15 +215,16 @@ def rooms():
 
 
 def unused_or_gone():
-    for path in sorted(glob.glob("crates/*/src/**/*.rt", recursive=True) + glob.glob("crates/*/specs/**/*.antt", recursive=True)
-                       + glob.glob("crates/*/proofs/**/*.antt", recursive=True)):
+    kinds = ("src/**/*.rt", "specs/**/*.antt", "proofs/**/*.antt")
+    for path in sorted(path for kind in kinds for path in glob.glob(f"crates/*/{kind}", recursive=True)):
         crate = path.split("/")[1]
         names = list(unused_in_source(crate, path) if path.endswith(".rt") else unused_in_antt(path))
         if names:
             yield f"{path} brings in what it doesn't say: {', '.join(names)}"
         for module, brought, _, _ in uses_in(text_of(path), ghost=path.endswith(".rt")):
             if module in DEFINITIONS:
-                yield from (f"{path} brings in {name}, which {module} hasn't" for name, _ in brought or () if not defined(module, name))
+                gone = (name for name, _ in brought or () if not defined(module, name))
+                yield from (f"{path} brings in {name}, which {module} hasn't" for name in gone)
 
 
 def is_said(name, tokens):

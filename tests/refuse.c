@@ -1,5 +1,5 @@
-/* Loaded in front of the C library, it refuses one request for memory of a program: that with the number REFUSED, from 1. It says on the
-   descriptor 3, where that is open, when it has done so. */
+/* Loaded in front of the C library, it refuses one request for memory of a program: that with the number REFUSED, from
+   1. It says on the descriptor 3, where that is open, when it has done so. */
 #define _GNU_SOURCE
 #include <dlfcn.h>
 #include <errno.h>

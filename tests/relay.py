@@ -8,8 +8,8 @@ DEVICE = "127.0.0.1:47808"  # what the device is called in the lines that are ke
 
 
 class Relay:
-    """`lines` has each datagram as examples/capture.py reads them. Clients have the ports from 50000 on there, in the order of
-    their first datagrams, so that no port of theirs is one that a dissector knows for something else.
+    """`lines` has each datagram as examples/capture.py reads them. Clients have the ports from 50000 on there, in the
+    order of their first datagrams, so that no port of theirs is one that a dissector knows for something else.
     """
 
     def __init__(self, device_port):

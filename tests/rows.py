@@ -1,23 +1,27 @@
 #!/usr/bin/env python3
-"""Runs the scripts and the command lines of tests/rows/ by the built program, and compares what it prints and how it ends.
+"""Runs the scripts and command lines of tests/rows/ by the built program, and compares output, errors and status.
 
-Usage: tests/rows.py PROGRAM [FILE..]: all that there is, or the rows of these files alone. Each script is run twice: whole, and with one octet
-at each read, which needs cc.
+Usage: tests/rows.py PROGRAM [FILE..]: all that there is, or the rows of these files alone. Each script is run twice:
+whole, and with one octet at each read, which needs cc.
 
 Rows are parted by blank lines. The mark at the front of a line says what the rest of it is:
 
     #   a remark
     <   a line of a script for bactrace
     |   the last line of a script: with several of them the row is several scripts
-    $   a command line, cut at each space, where '' is an empty word: with several of them the row is several command lines
-    N   the least and the greatest value of the number N of these command lines: the row holds of both, and one past either is refused
-    X   what stands for each X of the other lines and, behind ` = `, for each Y: with several of them the row is several rows
+    $   a command line, cut at each space, where '' is an empty word: with several the row is several command lines
+    N   the least and the greatest value of the number N of these command lines: the row holds of both, and one past
+        either is refused
+    X   what stands for each X of the other lines and, behind ` = `, for each Y: with several it is several rows
     >   a line of standard output
-    ~   what stands somewhere in standard output, which is the same text for all command lines of the row and ends with a line feed
-    !   the status, where it is not 0, and standard error behind `bactool: `; or what it begins with, if it ends with two full stops
+    ~   what stands somewhere in standard output, which is the same text for all command lines of the row and ends with
+        a line feed
+    !   the status, where it is not 0, and standard error behind `bactool: `; or what it begins with, if it ends with
+        two full stops
 
-In a line, P, Q, M, V and A as whole words stand for the texts below, {93*x} for 93 times x, [0100..] for the datagram whose link header has
-these octets behind it, and \\n, \\r, \\t and \\xff for octets. A backslash at the end of a line of a script says that no line feed follows.
+In a line, P, Q, M, V and A as whole words stand for the texts below, {93*x} for 93 times x, [0100..] for the datagram
+whose link header has these octets behind it, and \\n, \\r, \\t and \\xff for octets. A backslash at the end of a line
+of a script says that no line feed follows.
 """
 import glob
 import os
@@ -40,7 +44,8 @@ LETTERS = {
 READ, SENT, DONE = "read P 0 5 85\n", "send 0 P M\n", "done 0 value 4290999a\n"
 PLACES = 64
 
-# What is run, and what is to come. An `error` may end with two full stops, as a row does; where there are `parts`, `output` is not looked at.
+# What is run, and what is to come. An `error` may end with two full stops, as a row does; where there are `parts`,
+# `output` is not looked at.
 Case = namedtuple("Case", "place words script status output error parts", defaults=[()])
 
 
@@ -80,18 +85,21 @@ def filled(row):
     fills = [line.partition(" = ")[::2] for line in row.pop("X", [])]
     for left, right in fills:
         fill = {"X": left, "Y": right}
-        yield {mark: [re.sub("[XY]", lambda found: fill[found[0]], line) for line in lines] for mark, lines in row.items()}
+        filled_in = lambda line: re.sub("[XY]", lambda found: fill[found[0]], line)
+        yield {mark: [filled_in(line) for line in lines] for mark, lines in row.items()}
     if not fills:
         yield row
 
 
 def with_numbers(line, row):
-    """The line with its number at both ends, where the row holds, and one past them, with the fault. clap sees a number below 0 marked."""
+    """The line with its number at both ends, where the row holds, and one past them, with the fault. clap sees a number
+    below 0 marked."""
     if "N" not in row:
         return [(line, None)]
     least, most = map(int, row["N"][0].split())
-    past = [(number, f"error: invalid value '{'~' * (number < 0)}{number}' for '..") for number in (least - 1, most + 1)]
-    return [(line.replace("N", str(number)), fault) for number, fault in [(least, None), (most, None), *past]]
+    fault = lambda number: f"error: invalid value '{'~' * (number < 0)}{number}' for '.."
+    of_number = {least: None, most: None, least - 1: fault(least - 1), most + 1: fault(most + 1)}
+    return [(line.replace("N", str(number)), fault) for number, fault in of_number.items()]
 
 
 def row_cases(path):
@@ -101,7 +109,8 @@ def row_cases(path):
         if error and not error.startswith("error:"):
             error = f"bactool: {error}\n"
         parts = [spelled(part) for part in row.get("~", [])]
-        case = Case(place, ["bactrace"], text_of(row.get("<", [])), int(status), text_of(row.get(">", [])), error, parts)
+        script, output = text_of(row.get("<", [])), text_of(row.get(">", []))
+        case = Case(place, ["bactrace"], script, int(status), output, error, parts)
         if "$" not in row:
             for last in row.get("|", ["\\"]):
                 yield case._replace(script=case.script + text_of([last]))
@@ -124,15 +133,15 @@ def answer(number):
 
 
 def answers_under_each_number():
-    """The answer under each number but the request's is dropped, and leaves the request open. A second one is dropped too."""
+    """The answer under each number but the request's is dropped, and leaves it open. A second one is dropped too."""
     for number in range(256):
         ends = DONE + "drop\n" if number == 1 else "drop\n" + DONE
         yield generated(f"answer under {number}", READ + answer(number) + answer(1), SENT + ends)
 
 
 def full_tables():
-    """As many requests as there are places, two more, and one whose body is too long. Once one is answered there is room again, under the
-    next number. The table is full before the tickets are spent."""
+    """As many requests as there are places, two more, and one whose body is too long. Once one is answered there is
+    room again, under the next number. The table is full before the tickets are spent."""
     last = 2**64 - 1 - PLACES
     for first, number, next_one in [(0, 1, sent(PLACES, PLACES + 1)), (last, 1, "spent\n"), (last, 3, "spent\n")]:
         sends = "".join(sent(first + place, place + 1) for place in range(PLACES))
@@ -142,7 +151,7 @@ def full_tables():
 
 
 def open_number():
-    """The request with number 1 stays open while 256 others are answered, and its number is left out. Then it is answered."""
+    """The request with number 1 stays open, and its number is left out, while 256 others are answered. It is last."""
     script, output = READ, SENT
     for ticket in range(1, 257):
         number = {255: 0, 256: 2}.get(ticket, ticket + 1)
@@ -160,8 +169,10 @@ def changed(datagram, place):
 
 def damaged_answers():
     """An answer is dropped at each cut, and with each octet of a length changed in each way; then it is taken whole."""
-    write, wrote = "write P 1 1 85 16 -1 4 41a00000\n", "send 0 P 810a001a01040005010f0c0040000119553e4441a000003f4910\n"
-    routed, sent_on = "read P/5/07 0 5 85\n", "send 0 P/5/07 810a0016012400050107ff0005010c0c000000051955\n"
+    write = "write P 1 1 85 16 -1 4 41a00000\n"
+    wrote = "send 0 P 810a001a01040005010f0c0040000119553e4441a000003f4910\n"
+    routed = "read P/5/07 0 5 85\n"
+    sent_on = "send 0 P/5/07 810a0016012400050107ff0005010c0c000000051955\n"
     for asked, sends, datagram, end, lengths in [
         (write, wrote, "810a0009010020010f", "ok", [2, 3]),
         (write, wrote, "810a000d010050010f91029109", "error 2 9", [2, 3]),
@@ -176,9 +187,11 @@ def damaged_answers():
 
 
 def errors_under_other_tags():
-    """An error in which the tag of the class or of the code, at places 9 and 11, is another one. Each answers a request of its own."""
+    """An error in which the tag of the class or of the code, at places 9 and 11, is another one. Each answers a request
+    of its own."""
     script, output = "", ""
-    for ticket, other in enumerate(other for place in (9, 11) for other in changed("810a000d010050010c91029120", place)):
+    error = "810a000d010050010c91029120"
+    for ticket, other in enumerate([*changed(error, 9), *changed(error, 11)]):
         number = (ticket + 1) % 256
         script += READ + f"data P {other[:14]}{number:02x}{other[16:]}\n"
         output += sent(ticket, number) + f"done {ticket} bad-error\n"
@@ -199,7 +212,8 @@ def run(program, case, library):
         ended = subprocess.run([program, *words], input=script, capture_output=True, env=settings, timeout=60)
     except subprocess.TimeoutExpired:
         return case._replace(status="none in a minute", output="", error="")
-    return case._replace(status=ended.returncode, output=ended.stdout.decode("latin-1"), error=ended.stderr.decode("latin-1"))
+    output, error = ended.stdout.decode("latin-1"), ended.stderr.decode("latin-1")
+    return case._replace(status=ended.returncode, output=output, error=error)
 
 
 def is_right(case, ending):
@@ -222,9 +236,11 @@ def tell(case, ending, how):
 
 
 def main(program, files):
-    rows = [case for path in files or sorted(glob.glob(os.path.relpath(HERE) + "/rows/*.rows")) for case in row_cases(path)]
-    more = [*answers_under_each_number(), *damaged_answers(), errors_under_other_tags(), *full_tables(), open_number(), retries()]
-    cases = rows if files else [*rows, *more]
+    paths = files or sorted(glob.glob(os.path.relpath(HERE) + "/rows/*.rows"))
+    rows = [case for path in paths for case in row_cases(path)]
+    made = [*answers_under_each_number(), *damaged_answers(), *full_tables()]
+    made += [errors_under_other_tags(), open_number(), retries()]
+    cases = rows if files else rows + made
     scripts = [case for case in cases if case.words == ["bactrace"]]
     wrong, texts = set(), {}
     with tempfile.TemporaryDirectory() as room, ThreadPoolExecutor() as pool:
@@ -240,7 +256,8 @@ def main(program, files):
             if not is_right(case, ending) or not is_same:
                 wrong.add((case.place, case.script, *case.words))
                 tell(case, ending, how)
-    print(f"tests/rows.py: {len(scripts)} scripts and {len(cases) - len(scripts)} command lines, {len(wrong)} not as they are to be")
+    told = f"{len(scripts)} scripts and {len(cases) - len(scripts)} command lines"
+    print(f"tests/rows.py: {told}, {len(wrong)} not as they are to be")
     return 1 if wrong or not rows else 0
 
 

@@ -105,8 +105,8 @@ for range in 20 :20 20:x ~ '' '1:2
     expect 3 "BACNET UNKNOWN - no range: $(echo "$range" | paste -sd ';')" check -c "$range" 0.41a00000 real 0 5 85
 done
 expect 3 'BACNET UNKNOWN - no such option, or its range is missing: -x' check -x 0.41a00000 real 0 5 85
-expect 3 'BACNET UNKNOWN - usage: check_bacnet.sh [-w LOW:HIGH] [-c LOW:HIGH] ADDRESS real|plain TYPE INSTANCE PROPERTY [INDEX]' \
-    check 0.41a00000 0 5 85
+words='[-w LOW:HIGH] [-c LOW:HIGH] ADDRESS real|plain TYPE INSTANCE PROPERTY [INDEX]'
+expect 3 "BACNET UNKNOWN - usage: check_bacnet.sh $words" check 0.41a00000 0 5 85
 
 # Prometheus: the file is replaced as a whole, or left.
 prometheus() {
@@ -116,14 +116,14 @@ prometheus() {
 up='# HELP bacnet_up Whether the point has a value.;# TYPE bacnet_up gauge'
 value='# HELP bacnet_value The value of the point.;# TYPE bacnet_value gauge'
 expect 0 '' prometheus 'b 0.4290999a real 0 5 85\na 0.-1 plain 0 5 85'
-expect 0 "$up;bacnet_up{point=\"a\"} 1;bacnet_up{point=\"b\"} 1;$value;bacnet_value{point=\"a\"} -1;bacnet_value{point=\"b\"} 72.3" \
-    cat bacnet.prom
+ups='bacnet_up{point="a"} 1;bacnet_up{point="b"} 1'
+expect 0 "$up;$ups;$value;bacnet_value{point=\"a\"} -1;bacnet_value{point=\"b\"} 72.3" cat bacnet.prom
 expect 2 'prometheus.sh: two points have the name a' prometheus 'a 0.1 plain 0 5 85\na 0.1 plain 0 6 85'
 expect 2 'poll.sh: no point in lists/points' prometheus ''
 expect 0 '1' grep -c 'value.*72.3' bacnet.prom
 expect 1 '' prometheus 'a 0.7fc00000 real 0 5 85\n"b\\ 0.true plain 0 5 85\nc 0.7f7fffff real 0 5 85'
-expect 0 "$up;bacnet_up{point=\"\\\"b\\\\\"} 1;bacnet_up{point=\"a\"} 0;bacnet_up{point=\"c\"} 1;$value;bacnet_value{point=\"c\"} 3.402823e+38" \
-    cat bacnet.prom
+ups='bacnet_up{point="\"b\\"} 1;bacnet_up{point="a"} 0;bacnet_up{point="c"} 1'
+expect 0 "$up;$ups;$value;bacnet_value{point=\"c\"} 3.402823e+38" cat bacnet.prom
 expect 2 'usage: prometheus.sh LIST FILE' script prometheus.sh lists/points
 expect 0 'bacnet.prom' find . -name 'bacnet.prom*' -printf '%f\n'
 

@@ -1,10 +1,11 @@
-"""What the names in the sources stand for: which definitions, types, traits and constants each of them, and each call, needs.
+"""What the names in the sources stand for: which definitions, types, traits and constants each, and each call, needs.
 
-A call needs the names of its signature and of its clauses. A definition of specs/ needs the names of its signature, its cases, and the
-parameters of the module round it; a record its fields, a constructor its whole type. A type of src/ needs the types of its fields, the
-invariants in it, and its `impl Model`; a trait the clauses of its methods and its ghost members. A name is looked up as the language does:
-what is bound round it (variables, fields, parameters), the file's own names, what the file's `use` lines bring in, through `pub use` to
-where it is defined. A name of std or of a ported crate ends the search. A name that is found nowhere is a problem, not a guess.
+A call needs the names of its signature and of its clauses. A definition of specs/ needs the names of its signature, its
+cases, and the parameters of the module round it; a record its fields, a constructor its whole type. A type of src/
+needs the types of its fields, the invariants in it, and its `impl Model`; a trait the clauses of its methods and its
+ghost members. A name is looked up as the language does: what is bound round it (variables, fields, parameters), the
+file's own names, what the file's `use` lines bring in, through `pub use` to where it is defined. A name of std or of a
+ported crate ends the search. A name that is found nowhere is a problem, not a guess.
 
 Lines are counted without comments, blank lines and attributes.
 """
@@ -21,7 +22,7 @@ def text_of(path):
 
 
 class Item:
-    """A definition, type, trait, constant or call. Each of its finders tells names that it needs, once they are asked for."""
+    """A definition, type, trait, constant or call. Each of its finders tells names that it needs, when it is asked."""
 
     def __init__(self, file, name, kind, place, lines, comment, find, public=False, clauses=0):
         self.file, self.name, self.kind, self.place, self.lines, self.comment = file, name, kind, place, lines, comment
@@ -96,7 +97,8 @@ class Walk:
 
     def __init__(self, needs, names, bound):
         self.needs, self.names = needs, names
-        self.frames = [[set(bound), set(), False]]  # for each bracket: what it binds, what its present part binds, a pattern or not
+        # for each bracket: what it binds, what its present part binds, a pattern or not
+        self.frames = [[set(bound), set(), False]]
 
     def is_bound(self, name):
         return any(name in always or name in now for always, now, _ in self.frames)
@@ -190,12 +192,14 @@ class Walk:
 
 
 def uses_in(text, ghost):
-    """(module, names, alias, is public) of each use line: names are (name, what it is called here), or none for a module."""
+    """(module, names, alias, is public) of each use line: names are (name, its name here); a module has none."""
     start = r"ghost use" if ghost else r"(?:unfoldable )?(?:pub )?use"
-    for use in re.finditer(rf"^ *({start}) (?:Rattle\.)?([^\s{{;]+?)(?:\.\{{(.*?)\}})?(?: as ([\w◌]+))?;?$", text, re.M | re.S):
+    line = rf"^ *({start}) (?:Rattle\.)?([^\s{{;]+?)(?:\.\{{(.*?)\}})?(?: as ([\w◌]+))?;?$"
+    for use in re.finditer(line, text, re.M | re.S):
         names = None
         if use[3] is not None:
-            names = [tuple((one.split(" as ") * 2)[:2]) for one in (" ".join(part.split()) for part in use[3].split(",")) if one]
+            brought = (" ".join(part.split()) for part in use[3].split(","))
+            names = [tuple((one.split(" as ") * 2)[:2]) for one in brought if one]
         yield use[2].replace("«", "").replace("»", ""), names, use[4], "pub " in use[1]
 
 
@@ -223,9 +227,8 @@ class Specs:
         self.text = text_of(path)
         self.items, self.constructors, self.names = {}, {}, Names()
         add_uses(self.names, self.text, ghost=False)
-        self.passes_on = {
-            here: (module, name) for module, names, _, public in uses_in(self.text, False) if public for name, here in names or ()
-        }
+        passed_on = ((module, names or ()) for module, names, _, public in uses_in(self.text, False) if public)
+        self.passes_on = {here: (module, name) for module, names in passed_on for name, here in names}
         self.spans = {}  # of each definition: its lines, as they stand
         self.read()
 
@@ -257,7 +260,8 @@ class Specs:
                 block["lines"].append((number, line))
             elif depth == base and self.begins(said, name):
                 name = HEAD.match(said)[4]
-                block = {"lines": [(number, line)], "modules": [text for _, text in modules], "comment": comment, "base": base}
+                block = {"lines": [(number, line)], "comment": comment, "base": base}
+                block["modules"] = [text for _, text in modules]
                 self.define(name, block)
                 comment = []
             elif depth == base and name:
@@ -366,10 +370,10 @@ ITEM = re.compile(
     r"(?P<kind>(?:unsafe |const )*fn|struct|enum|trait|impl|const|static|type|use|mod))\b ?(?P<name>\w*)"
 )
 NUMBERS = set("u8 u16 u32 u64 u128 usize i8 i16 i32 i64 i128 isize bool char str f32 f64".split())
-PLAIN = NUMBERS | set("""Self self mut dyn impl for where as const ref static fn unsafe pub crate ghost type struct enum trait in if else
-    match let return loop while move true false _""".split())
-STD = set("""Option Some None Result Ok Err Vec String Box Drop Copy Clone Debug Default Iterator IntoIterator FnOnce FnMut Fn From Into
-    Sized PartialEq Eq PartialOrd Ord Send Sync AsRef ToOwned TryFrom TryInto HostRuntime""".split())
+PLAIN = NUMBERS | set("""Self self mut dyn impl for where as const ref static fn unsafe pub crate ghost type struct enum
+    trait in if else match let return loop while move true false _""".split())
+STD = set("""Option Some None Result Ok Err Vec String Box Drop Copy Clone Debug Default Iterator IntoIterator FnOnce
+    FnMut Fn From Into Sized PartialEq Eq PartialOrd Ord Send Sync AsRef ToOwned TryFrom TryInto HostRuntime""".split())
 
 
 BRACED = ("struct", "enum", "trait", "impl", "mod")
@@ -396,7 +400,8 @@ class Source:
 
     def __init__(self, crate, path):
         self.crate, self.path, self.text = crate, path, text_of(path)
-        self.module = [part for part in path.split("/src/")[1][: -len(".rt")].split("/") if part not in ("lib", "main", "mod")]
+        parts = path.split("/src/")[1][: -len(".rt")].split("/")
+        self.module = [part for part in parts if part not in ("lib", "main", "mod")]
         code = blank(self.text, r"//[^\n]*")
         code = blank(code, r'(?:b|c)?"(?:\\.|[^"\\])*"')
         code = blank(code, r"b?'(?:\\[^'\n]*|[^'\\\n])'")
@@ -545,14 +550,16 @@ class Source:
             if depth == 0:
                 break
         inner = re.sub(r"<.*>", "", text[start + 1 : place])
-        return {part.split(":")[0].split()[-1] for part in inner.split(",") if part.strip() and "'" not in part.split(":")[0]}
+        heads = (part.split(":")[0] for part in inner.split(",") if part.strip())
+        return {head.split()[-1] for head in heads if "'" not in head}
 
     def ghosts(self, start, end):
         """(name, text) of the ghost parts between two places that are clauses, members or invariants."""
         for found in re.finditer(r"\bghost (?!use\b)(\w+)\s*[:=]\s*", self.code[start:end]):
             at = start + found.end()
             if at < end and self.code[at] == "{":
-                yield found[1], self.masked(at + 1, match_bracket(self.code, at)), start + found.start(), match_bracket(self.code, at) + 1
+                stop = match_bracket(self.code, at)
+                yield found[1], self.masked(at + 1, stop), start + found.start(), stop + 1
 
     def masked(self, start, end):
         return blank(blank(self.text[start:end], r"//[^\n]*"), r"#\[[^\]]*\]")
@@ -594,7 +601,8 @@ class Source:
         bound = self.generics(head) | {"Self", name}
         names = self.ghost_uses(start, end)
         ghosts = list(self.ghosts(start, end))
-        inside = bound | {ghost for ghost, *_ in ghosts} if kind == "trait" else bound | set(re.findall(r"(\w+)\s*:(?!:)", code))
+        mine = {ghost for ghost, *_ in ghosts} if kind == "trait" else set(re.findall(r"(\w+)\s*:(?!:)", code))
+        inside = bound | mine
 
         def find(needs):
             for _, text, *_ in ghosts:
@@ -642,7 +650,8 @@ class Source:
                 names, ghosts = self.ghost_uses(start, end), list(self.ghosts(start, end))
                 item.lines += sum(self.lines_in(first, last) for _, _, first, last in ghosts)
                 for _, text, *_ in ghosts:
-                    item.finders.append(lambda needs, text=text, names=names, bound=bound: self.clause(needs, text, names, bound))
+                    of = (text, names, bound)
+                    item.finders.append(lambda needs, of=of: self.clause(needs, *of))
 
     def methods(self):
         """(owner, item) of each method and ghost member of the impl blocks; those of a trait are public."""
@@ -650,7 +659,8 @@ class Source:
             names = self.ghost_uses(body, end)
             for kind, name, public, start, stop in self.inside(body, end - 1):
                 if kind == "fn":
-                    yield owner, self.function(f"{owner[-1]}::{name}", public or bool(trait), start, stop, names, bound, head)
+                    whole, seen = f"{owner[-1]}::{name}", public or bool(trait)
+                    yield owner, self.function(whole, seen, start, stop, names, bound, head)
                 elif kind == "ghost":
                     for _, text, *_ in self.ghosts(start, stop):
                         find = lambda needs, text=text, names=names, bound=bound: self.clause(needs, text, names, bound)
@@ -693,7 +703,7 @@ def read_tree():
 
 
 def public_calls(crate):
-    """The public functions of a crate, and the methods and members of its public types, by name. Of a program all are."""
+    """The public functions of a crate, and the methods and members of its public types, by name; of a program all."""
     calls, types = {}, set()
     top = SOURCES.get((crate, ()))
     if top is None:

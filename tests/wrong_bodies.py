@@ -10,10 +10,12 @@ them, and some of its own:
     new: TEXT       what stands there in the wrong body
     body: TEXT      instead of these two: the whole wrong body of the function that `in:` names. What it calls by that
                     name is the right function
-    twin: TEXT      what stands there in a right body of the same shape, which must be proved: so the wrong one is not refused for its shape
+    twin: TEXT      what stands there in a right body of the same shape, which must be proved: so the wrong one is not
+                    refused for its shape
     by: FUNCTION    the function that refuses an edit of a constant or a type
     answer: TEXT    only an answer refuses this body, and TEXT says why it is kept all the same
-    hole: TEXT      no contract can refuse this body: TEXT says why, and names the file of the test that does. It must be proved
+    hole: TEXT      no contract can refuse this body: TEXT says why, and names the file of the test that does. It must
+                    be proved
 
 Many bodies of a crate stand together in one copy of it, over the proofs that its last check or build kept. A body
 stands beside its function, as one more function with the same contract and answers, under a name of its own: so callers
@@ -25,13 +27,15 @@ for its callees, and so must one with a twin. Rounds are about as large as one a
 constant or a type may stand in must-fail alone: it has a round of its own, in which the function that refuses it is
 proved anew, with those that it calls. A body is refused by a
 
-    clause  of the function, or its type's invariant; false: there are values at which it does not hold; open: no proof is found; limit: none in time
+    clause  of the function, or its type's invariant; false: there are values at which it does not hold; open: no proof
+            is found; limit: none in time
     safety  a callee's `requires`, an index, a sum, a cast
     step    only a loop's invariant that is not kept, or an answer in a proof file that no longer proves its goal
     name    only an answer that names what the edit took away: a right body may be refused so as well, and a twin tells
 
-or it is PROVED, which is a hole in the contract. The status is 0 where each body is refused by a clause or for safety (or by an answer alone, where
-its twin is proved or a line says why), and each twin and each known hole is proved. Bodies that no longer fit the code are all named before any check.
+or it is PROVED, which is a hole in the contract. The status is 0 where each body is refused by a clause or for safety
+(or by an answer alone, where its twin is proved or a line says why), and each twin and each known hole is proved.
+Bodies that no longer fit the code are all named before any check.
 """
 import argparse
 import collections
@@ -94,7 +98,8 @@ def functions_of(crate, path, text):
         if not head:
             continue
         indent, name = head.groups()
-        last = first if line.endswith("}") else next((at for at in range(first, len(lines)) if lines[at] == indent + "}"), first)
+        ends = (at for at in range(first, len(lines)) if lines[at] == indent + "}")
+        last = first if line.endswith("}") else next(ends, first)
         body = next((at for at in range(first, last + 1) if re.match(rf"{indent}(\S.*)?{{(.*}})?$", lines[at])), last)
         start = next((at for at in range(first, 0, -1) if re.search(r"^ *$|^(?! *//).*[{};]$", lines[at - 1])), 0)
         place, shown = f"{module}(fn::)?", name
@@ -111,8 +116,10 @@ def functions_of(crate, path, text):
         found.append(Function(first, body, last, start, symbols, shown, key, None if cycle else beside))
         cycle = None
     # Functions that call one another have one proof, and a check may tell of one by the name of another.
-    all_of = {key: re.compile("|".join(it.symbols for it in found if it.key == key)) for key in {it.key for it in found}}
-    return [it._replace(symbols=all_of[it.key]) for it in found]
+    all_of = collections.defaultdict(list)
+    for it in found:
+        all_of[it.key].append(it.symbols)
+    return [it._replace(symbols=re.compile("|".join(all_of[it.key]))) for it in found]
 
 
 def body_of(crate, path, name):
@@ -124,7 +131,7 @@ def body_of(crate, path, name):
 
 
 class Pair(collections.namedtuple("Pair", "path within old new")):
-    """What an edit replaces in a file, and by what: where a function is named, the first behind its head, else the only one."""
+    """What an edit replaces in a file, and by what: the first behind the head of the named function, else the only."""
 
     def places(self, text):
         head = re.search(rf"\bfn {self.within}\b", text) if self.within else None
@@ -155,8 +162,8 @@ class Edit:
             if word == "twin" if is_twin else word in ("new", "body"):
                 old = said["old"] if "old" in said else body_of(crate, said["file"], said.get("in"))
                 self.pairs.append(Pair(said["file"], said.get("in"), old, said[word]))
-        self.has_twin, self.twin, self.hole, self.answer = "twin" in said, None, said.get("hole", ""), said.get("answer", "")
-        self.copy, self.calls_right, self.by = None, "body" in said, said.get("by", "")
+        self.has_twin, self.calls_right, self.twin, self.copy = "twin" in said, "body" in said, None, None
+        self.hole, self.answer, self.by = (said.get(word, "") for word in ("hole", "answer", "by"))
         self.is_unfit = self.unfit()
         self.shown = "the crate" if self.is_wide else ", ".join(dict.fromkeys(it.shown for _, it in self.functions))
 
@@ -202,7 +209,7 @@ class Edit:
         return texts
 
     def stand_beside(self, number):
-        """Puts this edit into a copy of its function, under a name with this number, where it touches one that may stand twice."""
+        """Puts this edit into a copy of its function, named by this number, where it touches one that may be twice."""
         if self.is_unfit or self.is_wide or len(self.functions) > 1 or not self.functions[0][1].beside:
             return
         path, of = self.functions[0]
@@ -217,10 +224,11 @@ class Edit:
         self.copy = Copy(path, of.beside.line, ["", *lines], own, owner, name, symbols)
 
     def touches(self, symbol):
-        return self.is_wide or any(it.match(symbol) for it in ([self.copy.symbols] if self.copy else [it.symbols for _, it in self.functions]))
+        mine = [self.copy.symbols] if self.copy else [it.symbols for _, it in self.functions]
+        return self.is_wide or any(it.match(symbol) for it in mine)
 
     def judge(self, rows):
-        """Says by what the functions of this edit are refused. Where it is for a callee alone, the edit stays without a kind."""
+        """Says by what the functions of this edit are refused. Where for a callee alone, it stays without a kind."""
         mine = [row for symbol, row in rows.items() if self.touches(symbol)]
         found = [it for row in mine for it in row["found"]]
         self.why, self.tries = sorted({told for _, told in found}), self.tries + 1
@@ -245,11 +253,14 @@ class Edit:
 
 def kind_of(goal):
     # In a group of functions that call one another a goal begins with the function's name.
-    return "step" if re.match(r"(\w+-)?loop", goal) else "clause" if re.match(r"(\w+-)?(returns|invariant_of)", goal) else "safety"
+    if re.match(r"(\w+-)?loop", goal):
+        return "step"
+    return "clause" if re.match(r"(\w+-)?(returns|invariant_of)", goal) else "safety"
 
 
 def rows_of(said, crate):
-    """What the check says of each function: its verdict, by what it is refused, whether a callee is not proved, and whether one was not tried."""
+    """What the check says of each function: its verdict, by what it is refused, whether a callee is not proved, and
+    whether one was not tried."""
     rows, found, answers = {}, [], []
     for line in said.split("\n"):
         note, answer, verdict = NOTE.match(line), ANSWER.match(line), VERDICT.match(line)
@@ -262,7 +273,8 @@ def rows_of(said, crate):
             # Where there are many goals, some stand here alone.
             named = re.search(r"did not prove ((?:`\S+`(?:, )?)+)", verdict[3])
             told = {it.split(" ")[0] for _, it in found}
-            found += [(kind_of(it), f"{it} open") for it in re.findall(r"`(\S+?)`", named[1] if named else "") if it not in told]
+            goals = re.findall(r"`(\S+?)`", named[1] if named else "")
+            found += [(kind_of(it), f"{it} open") for it in goals if it not in told]
             calls, waits = bool(re.search("it (calls|passes)", verdict[3])), ": a call of `" in verdict[3]
             rows[verdict[1]] = {"verdict": verdict[2] + verdict[3], "found": found, "calls": calls, "waits": waits}
             found = []
@@ -291,7 +303,7 @@ def link(source, to):
 
 
 class Round:
-    """A check of bodies of a crate together, in a copy of the crate and of those below it, with what checks kept of them."""
+    """A check of bodies of a crate together, in a copy of it and of those below, with what checks kept of them."""
 
     running = set()
 
@@ -320,8 +332,9 @@ class Round:
         """Gives each copy of a function the answers of that function, which name their own place."""
         for place, _, _ in list(os.walk(proofs)):
             parts = os.path.relpath(place, proofs).split("/")
-            for it in self.edits:
-                if it.copy and not it.calls_right and parts[-1] == it.copy.own and it.functions[0][1].symbols.match("::".join([self.crate, *parts])):
+            copied = [it for it in self.edits if it.copy and not it.calls_right and parts[-1] == it.copy.own]
+            for it in copied:
+                if it.functions[0][1].symbols.match("::".join([self.crate, *parts])):
                     mine = [*parts[:-2], *(it.copy.owner or parts[-2:-1]), it.copy.name]
                     shutil.copytree(place, "/".join([proofs, *mine]))
                     for file in glob.glob("/".join([proofs, *mine, "*.antt"])):
@@ -376,7 +389,7 @@ def joined(round, edit):
 
 
 def rounds_of(edits, are_alone):
-    """The edits in rounds, each with its texts. No two of a round touch one function, and the rounds are about as large as one another."""
+    """The edits in rounds of about one size, each with its texts. No two of a round touch one function."""
     alone = [(edit.applied({}), [edit]) for edit in edits if edit.is_wide]
     edits = [edit for edit in edits if not edit.is_wide]
     of_key = collections.Counter(key for it in edits if not it.copy for key in it.keys)
@@ -385,7 +398,8 @@ def rounds_of(edits, are_alone):
     for edit in sorted(edits, key=lambda edit: -busy(edit)):
         # what has to be proved is not tried beside a callee that is refused in its own place
         is_lost = lambda group: bool(edit.hole) and any(not it.copy and not it.hole for it in group)
-        smallest = [] if are_alone else sorted(range(len(rounds)), key=lambda at: (is_lost(rounds[at][2]), len(rounds[at][2])))
+        fitness = lambda at: (is_lost(rounds[at][2]), len(rounds[at][2]))
+        smallest = [] if are_alone else sorted(range(len(rounds)), key=fitness)
         at, more = next(((at, more) for at in smallest for more in [joined(rounds[at], edit)] if more), (None, None))
         if more:
             rounds[at] = more
@@ -410,7 +424,7 @@ def sample_of(edits):
 
 
 def clauses_of(crate):
-    """The named clauses of the public functions of a crate, each with the function's file and own name. A law, whose body is empty, has none."""
+    """The named clauses of a crate's public functions, each with the function's file and own name. A law has none."""
     found = {}
     for file in sorted(glob.glob(f"{ROOT}/crates/{crate}/src/**/*.rt", recursive=True)):
         path, text = os.path.relpath(file, f"{ROOT}/crates/{crate}"), text_of(file)
@@ -424,10 +438,12 @@ def clauses_of(crate):
 
 
 def opened_by(rows, clauses):
-    """Those of these clauses that a check left open. A goal that names no clause is the whole return, with each of them."""
-    told = [(re.sub(r"_again_\d+", "", symbol), goal) for symbol, row in rows.items() for kind, goal in row["found"] if kind == "clause"]
+    """Those of these clauses that a check left open. A goal that names no clause is the whole return: each of them."""
+    open_in = [(symbol, goal) for symbol, row in rows.items() for kind, goal in row["found"] if kind == "clause"]
+    told = [(re.sub(r"_again_\d+", "", symbol), goal) for symbol, goal in open_in]
     is_of = lambda goal, clause: (re.search(r"-clause-(\w+)", goal) or [None, clause])[1] == clause
-    return {it for it, symbols in clauses.items() if any(symbols.match(symbol) and is_of(goal, it[2]) for symbol, goal in told)}
+    is_open = lambda clause, symbols: any(symbols.match(symbol) and is_of(goal, clause) for symbol, goal in told)
+    return {it for it, symbols in clauses.items() if is_open(it[2], symbols)}
 
 
 def judge_round(said, round):
@@ -435,16 +451,18 @@ def judge_round(said, round):
     rows, group = rows_of(said, round.crate), round.edits
     for it in group if rows else []:
         it.judge(rows)
-    # Where the check does not take a text as a program, no function of the round is tried, and the others are tried again.
+    # Where the check takes a text for no program, no function of the round is tried: the others are tried again.
     errors = [] if rows else [(it[1], int(it[2]) - 1, it[0]) for it in REFUSED.finditer(said)]
-    hit = [it for it in group for path, first, last in round.at(it) if any(path == file and first <= at <= last for file, at, _ in errors)]
+    is_hit = lambda path, first, last: any(path == file and first <= at <= last for file, at, _ in errors)
+    hit = [it for it in group for place in round.at(it) if is_hit(*place)]
     for it in [] if rows else hit or group:
         if it.copy and not it.calls_right:
             it.copy = None
         else:
             it.kind, it.why = "bad", [f"no contract was tried: {errors[0][2] if errors else said[-300:]}"]
-    untouched = {symbol: row for symbol, row in rows.items() if row["found"] and not any(it.touches(symbol) for it in group)}
-    return [f"{symbol}: no edit touches it, and it is refused: {row['found']}" for symbol, row in untouched.items()]
+    refused = {symbol: row["found"] for symbol, row in rows.items() if row["found"]}
+    untouched = [symbol for symbol in refused if not any(it.touches(symbol) for it in group)]
+    return [f"{symbol}: no edit touches it, and it is refused: {refused[symbol]}" for symbol in untouched]
 
 
 def counted(edits):
@@ -455,7 +473,8 @@ def counted(edits):
     told = [f"{kinds[it]} {it}" for it in KINDS if kinds[it]]
     by = ", ".join(f"{strengths[it]} {it}" for it in STRENGTHS if strengths[it])
     told = [f"{it} ({by})" if it.endswith("clause") else it for it in told]
-    return f"{len(bodies)} wrong bodies: {', '.join(told)}; {sum(it.kind == 'PROVED' for it in twins)} of {len(twins)} twins proved"
+    proved = sum(it.kind == "PROVED" for it in twins)
+    return f"{len(bodies)} wrong bodies: {', '.join(told)}; {proved} of {len(twins)} twins proved"
 
 
 class Bodies:
@@ -475,14 +494,15 @@ class Bodies:
         self.strange += judge_round(said, round)
         for it in round.edits:
             it.took = sum(took for symbol, took in round.took.items() if it.touches(symbol))
-        self.bare = {it: symbols for it, symbols in self.bare.items() if it not in opened_by(rows_of(said, self.crate), self.bare)}
+        opened = opened_by(rows_of(said, self.crate), self.bare)
+        self.bare = {it: symbols for it, symbols in self.bare.items() if it not in opened}
         self.seconds, self.open = self.seconds + seconds, self.open - 1
         if self.options.said:
             with open(f"{self.options.said}/{self.crate}-{round.number}", "w", encoding="utf-8") as it:
                 it.write(said)
 
     def further(self):
-        """Once all rounds are back, those that try again what has no kind yet; or where nothing is left, tells of the crate."""
+        """Once all rounds are back, those that try again what has no kind; if nothing is left, tells of the crate."""
         if self.open:
             return []
         self.left = [it for it in self.left if not it.kind]
@@ -496,8 +516,10 @@ class Bodies:
     def tell(self):
         lines = [f"{self.crate}: {counted(self.edits)}; {self.count} rounds, {self.seconds:.0f} processor seconds"]
         if self.options.clauses:
-            lines.append(f"    {len(self.bare)} of {len(clauses_of(self.crate))} clauses of public functions are left open by no body")
-            lines += [f"    no body leaves open {path}: {name}: {clause or 'its clause'}" for path, name, clause in self.bare]
+            count = f"{len(self.bare)} of {len(clauses_of(self.crate))}"
+            lines.append(f"    {count} clauses of public functions are left open by no body")
+            bare = ((path, name, clause or "its clause") for path, name, clause in self.bare)
+            lines += [f"    no body leaves open {path}: {name}: {clause}" for path, name, clause in bare]
         for it in self.edits:
             if it.is_well() and (self.options.goals or it.kind in ("step", "name")):
                 told = it.answer or ("it is outside a function" if it.is_wide else "its twin is proved")
@@ -521,9 +543,10 @@ def try_all(crates, jobs):
                 for it in concurrent.futures.wait(waiting, return_when=concurrent.futures.FIRST_COMPLETED).done:
                     round, (said, seconds) = waiting.pop(it), it.result()
                     round.bodies.judge(round, said, seconds)
-                    done, passed = sum(bool(edit.kind) for crate in crates for edit in crate.edits), int(time.monotonic() - began)
+                    done = sum(bool(edit.kind) for crate in crates for edit in crate.edits)
+                    passed = "{}:{:02}".format(*divmod(int(time.monotonic() - began), 60))
                     told = f"{round.crate} round {round.number} of {round.bodies.count}: {counted(round.edits)}"
-                    print(f"{done:3} of {whole}, {passed // 60}:{passed % 60:02}: {told}; {seconds:.0f} processor seconds", flush=True)
+                    print(f"{done:3} of {whole}, {passed}: {told}; {seconds:.0f} processor seconds", flush=True)
                     begin(round.bodies.further())
         except BaseException:
             pool.shutdown(wait=False, cancel_futures=True)
@@ -559,18 +582,20 @@ def usual_jobs():
 
 def main():
     parser = argparse.ArgumentParser(description=__doc__, formatter_class=argparse.RawDescriptionHelpFormatter)
-    parser.add_argument("--list", action="store_true", help="try nothing: name the bodies that don't fit the code, and print the rounds")
-    parser.add_argument("--goals", action="store_true", help="print each refusal, and the seconds that it took")
-    parser.add_argument("--clauses", action="store_true", help="print the clauses of public functions that no body leaves open")
-    parser.add_argument("--alone", action="store_true", help="give each body its own check")
-    parser.add_argument("--no-twins", action="store_true", help="leave the twins out")
-    parser.add_argument("--sample", action="store_true", help=f"take {SAMPLE} of each crate that one check holds, those of must-fail first, without twins")
-    parser.add_argument("--only", default="", metavar="PATTERN", help="take the bodies whose CRATE/NAME the pattern is found in")
-    parser.add_argument("--jobs", type=int, default=usual_jobs(), metavar="N", help="the checks at a time (%(default)s here)")
-    parser.add_argument("--said", metavar="FOLDER", help="keep there what each check says")
-    parser.add_argument("crates", nargs="*", help="take these crates alone")
+    flag, word = functools.partial(parser.add_argument, action="store_true"), parser.add_argument
+    flag("--list", help="try nothing: name the bodies that don't fit the code, and print the rounds")
+    flag("--goals", help="print each refusal, and the seconds that it took")
+    flag("--clauses", help="print the clauses of public functions that no body leaves open")
+    flag("--alone", help="give each body its own check")
+    flag("--no-twins", help="leave the twins out")
+    flag("--sample", help=f"take {SAMPLE} of each crate that one check holds, those of must-fail first, without twins")
+    word("--only", default="", metavar="PATTERN", help="take the bodies whose CRATE/NAME the pattern is found in")
+    word("--jobs", type=int, default=usual_jobs(), metavar="N", help="the checks at a time (%(default)s here)")
+    word("--said", metavar="FOLDER", help="keep there what each check says")
+    word("crates", nargs="*", help="take these crates alone")
     options = parser.parse_args()
-    tried = {crate: edits_of(crate, options) for crate in crates_below() if not options.crates or crate in options.crates}
+    crates = [it for it in crates_below() if not options.crates or it in options.crates]
+    tried = {crate: edits_of(crate, options) for crate in crates}
     edits = [it for group in tried.values() for it in group]
     unfit = dict.fromkeys(f"{os.path.relpath(it.file, ROOT)}: {it.is_unfit}" for it in edits if it.is_unfit)
     unfit.update(dict.fromkeys(f"{os.path.relpath(it, ROOT)}: no edit of a crate of crates.txt" for it in strays()))
@@ -582,16 +607,18 @@ def main():
     if options.list or unfit or not edits:
         print(f"{len(edits)} bodies, of which {len(unfit)} don't fit the code")
         return 1 if unfit or not edits else 0
-    unkept = [crate for crate, group in tried.items() if group and not os.path.isdir(f"{ROOT}/crates/{crate}/out/incremental")]
+    is_kept = lambda crate: os.path.isdir(f"{ROOT}/crates/{crate}/out/incremental")
+    unkept = ", ".join(crate for crate, group in tried.items() if group and not is_kept(crate))
     if unkept:
-        print(f"no kept proofs of {', '.join(unkept)}: run `make program` first, or each check proves them from nothing")
+        print(f"no kept proofs of {unkept}: run `make program` first, or each check proves them from nothing")
         return 2
     if options.said:
         os.makedirs(options.said, exist_ok=True)
     crates = [Bodies(crate, group, options) for crate, group in tried.items() if group]
     try_all(crates, options.jobs)
     failed = [line for it in crates for line in it.strange]
-    failed += [f"{it.name}: {it.kind}: {'; '.join(it.why)}{' (a known hole)' * bool(it.hole)}" for it in edits if not it.is_well()]
+    bad = ((it, " (a known hole)" * bool(it.hole)) for it in edits if not it.is_well())
+    failed += [f"{it.name}: {it.kind}: {'; '.join(it.why)}{known}" for it, known in bad]
     print("".join(f"FAILED {it}\n" for it in failed), end="")
     print(f"{counted(edits)}; {sum(it.seconds for it in crates):.0f} processor seconds; {len(failed)} failed")
     return 1 if failed else 0

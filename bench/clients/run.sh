@@ -1,7 +1,7 @@
 #!/bin/sh
 # Times the calls of a client with 2, 8, 16 and 64 open requests. The client is proved and built in a folder outside the
-# repository, with what the repository's own checks have kept, then run many times, and the least of the runs is printed:
-# nanoseconds a call, with the machine's load before and after.
+# repository, with what the repository's own checks have kept, then run many times, and the least of the runs is
+# printed: nanoseconds a call, with the machine's load before and after.
 # Usage: bench/clients/run.sh [FOLDER [RUNS]], which keeps its work in FOLDER.
 set -eu
 top=$(cd "$(dirname "$0")/../.." && pwd)
@@ -9,8 +9,12 @@ room=${1:-$(mktemp -d)}
 runs=${2:-9}
 
 mkdir -p "$room/crates/bench_clients/src"
-printf 'bac_wire: arrayvec byteorder\nbac_pdu: bac_wire arrayvec byteorder\nbac_tsm: bac_wire bac_pdu arrayvec\n' > "$room/crates.txt"
-printf 'bench_clients: bac_pdu bac_tsm\n' >> "$room/crates.txt"
+cat >"$room/crates.txt" <<'CRATES'
+bac_wire: arrayvec byteorder
+bac_pdu: bac_wire arrayvec byteorder
+bac_tsm: bac_wire bac_pdu arrayvec
+bench_clients: bac_pdu bac_tsm
+CRATES
 for crate in bac_wire bac_pdu bac_tsm; do
     mkdir -p "$room/crates/$crate"
     for part in src specs proofs; do
@@ -39,7 +43,8 @@ awk -F '; ' '
         print "|---|---|---|---|---|"
         for (i = 1; i <= count; i++) {
             call = calls[i]
-            printf "| %s | %s | %s | %s | %s |\n", call, least[call, 2], least[call, 8], least[call, 16], least[call, 64]
+            printf "| %s | %s | %s", call, least[call, 2], least[call, 8]
+            printf " | %s | %s |\n", least[call, 16], least[call, 64]
         }
     }' "$room/times"
 echo "Load before: $before; after: $(uptime | sed 's/.*load average: //')"

@@ -90,7 +90,8 @@ def region(octets):
 
 
 def tally(parts):
-    """How many parts there are; their tags, with the sums of numbers, counts and octets; their values and regions, with their octets."""
+    """How many parts there are; their tags, with the sums of numbers, counts and octets; their values and regions, with
+    their octets."""
     sums = [0] * 9
     for part in parts:
         found, size, end = tag(part), value(part), region(part)
