@@ -4,8 +4,9 @@
 # Usage: tests/interop.sh, once the program is built; BACTOOL names another program.
 set -euo pipefail
 cd "$(dirname "$0")/.."
-for program in nmap tshark; do
-    command -v $program >/dev/null ||
-        DEBIAN_FRONTEND=noninteractive apt-get install -y --no-install-recommends $program </dev/null
-done
+export DEBIAN_FRONTEND=noninteractive
+command -v nmap >/dev/null && command -v tshark >/dev/null || {
+    apt-get update -q
+    apt-get install -qy --no-install-recommends nmap tshark </dev/null
+}
 exec python3 tests/interop.py
