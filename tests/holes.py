@@ -25,7 +25,8 @@ import tempfile
 import threading
 import time
 
-ROOT = os.path.dirname(os.path.dirname(os.path.abspath(__file__)))
+from edits import ROOT, Edit
+
 TRIALS = "crates/tool_trials/src/tests"
 MOST = 1800  # seconds that a build may take, on a machine with much else to do
 USES = collections.defaultdict(threading.Lock)  # of each test: its ports are the same in each run
@@ -38,22 +39,13 @@ class NotTried(Exception):
 class Hole:
     """A wrong body of a crate, with the file of the test that has to fail. Without a body it is the code as it is."""
 
-    def __init__(self, file, test=None):
-        self.file, self.pairs, self.test = file, [], test
-        said = {}
-        for line in text_of(file).split("\n") if file else []:
-            word, _, text = line.partition(":")
-            said[word] = text[1:]
-            if word == "new":
-                self.pairs.append((os.path.dirname(os.path.dirname(file)) + "/" + said["file"], said["old"], text[1:]))
-        if file:
-            names = [it.strip("`,.") for it in said.get("hole", "").split()]
-            self.test = next((it for it in names if "/" in it and os.path.isfile(f"{ROOT}/{it}")), None)
-        self.name = f"{file.split('/')[-3]}/{os.path.basename(file)[: -len('.edit')]}" if file else "without a body"
+    def __init__(self, edit, test):
+        self.edit, self.test, self.name = edit, test, edit.name if edit else "without a body"
 
     def put_in(self, room):
-        for path, old, new in self.pairs:
-            replace_in(room + path[len(ROOT) :], old, new)
+        texts = self.edit.applied({}) if self.edit else {}
+        for path, text in texts.items():
+            write(f"{room}/crates/{self.edit.crate}/{path}", text)
 
 
 def text_of(file):
@@ -61,12 +53,16 @@ def text_of(file):
         return it.read()
 
 
+def write(file, text):
+    with open(file, "w", encoding="utf-8") as it:
+        it.write(text)
+
+
 def replace_in(file, old, new):
     text = text_of(file)
     if text.count(old) != 1:
         raise NotTried(f"{file}: {old!r} stands {text.count(old)} times")
-    with open(file, "w", encoding="utf-8") as it:
-        it.write(text.replace(old, new))
+    write(file, text.replace(old, new))
 
 
 def copy_sources(room):
@@ -177,7 +173,7 @@ def tried(hole):
             failed = (of_trials if hole.test.startswith(TRIALS) else of_program)(room, hole.test)
         except NotTried as why:
             return False, f"{hole.name}: {hole.test}: not tried: {why}"
-    return bool(failed) == bool(hole.file), f"{hole.name}: {hole.test}: {failed[0][:160] if failed else 'it passes'}"
+    return bool(failed) == bool(hole.edit), f"{hole.name}: {hole.test}: {failed[0][:160] if failed else 'it passes'}"
 
 
 def main():
@@ -185,11 +181,12 @@ def main():
     parser.add_argument("--only", default="", metavar="PATTERN", help="take those whose name the pattern is found in")
     parser.add_argument("--jobs", type=int, default=1, metavar="N", help="the builds at a time")
     options = parser.parse_args()
-    holes = [Hole(it) for it in sorted(glob.glob(f"{ROOT}/crates/*/wrong/*.edit")) if "\nhole: " in text_of(it)]
-    unnamed = [it.name for it in holes if not it.test]
-    if unnamed:
-        sys.exit(f"no test is named by {', '.join(unnamed)}")
-    holes += [Hole(None, test) for test in sorted({it.test for it in holes})]
+    files = [it for it in sorted(glob.glob(f"{ROOT}/crates/*/wrong/*.edit")) if "\nhole: " in text_of(it)]
+    edits = [Edit(it.split("/")[-3], it) for it in files]
+    unfit = [f"{it.name}: {it.is_unfit}" for it in edits if it.is_unfit]
+    if unfit:
+        sys.exit("\n".join(unfit))
+    holes = [Hole(it, it.test) for it in edits] + [Hole(None, test) for test in sorted({it.test for it in edits})]
     holes = [it for it in holes if re.search(options.only, it.name)]
     wrong = 0
     with concurrent.futures.ThreadPoolExecutor(options.jobs) as pool:

@@ -1,31 +1,15 @@
 #!/usr/bin/env python3
 """Tries wrong bodies of functions, many in one check, and says of each by what the prover refuses it.
 
-A wrong body is a file NAME.edit in crates/CRATE/must-fail or crates/CRATE/wrong, with lines as `rt must-fail` reads
-them, and some of its own:
-
-    file: src/FILE.rt
-    in: FUNCTION    where a line of that file stands in other functions too: the one that is meant
-    old: TEXT       stands once in that file, or behind the head of that function, in the body of a function
-    new: TEXT       what stands there in the wrong body
-    body: TEXT      instead of these two: the whole wrong body of the function that `in:` names. What it calls by that
-                    name is the right function
-    twin: TEXT      what stands there in a right body of the same shape, which must be proved: so the wrong one is not
-                    refused for its shape
-    by: FUNCTION    the function that refuses an edit of a constant or a type
-    answer: TEXT    only an answer refuses this body, and TEXT says why it is kept all the same
-    hole: TEXT      no contract can refuse this body: TEXT says why, and names the file of the test that does. It must
-                    be proved
-
-Many bodies of a crate stand together in one copy of it, over the proofs that its last check or build kept. A body
-stands beside its function, as one more function with the same contract and answers, under a name of its own: so callers
-and other bodies see the right one. Bodies of methods with a trait's contract, and of functions that call one another,
-stand in the function's place, those of one function in different rounds: a caller is proved from the contracts of what
-it calls, which no edit changes. What is refused for nothing but a callee, or was not tried since a callee was not, is
-tried again, and so is what doesn't compile beside its function. A function that no edit touches must stay proved, but
-for its callees, and so must one with a twin. Rounds are about as large as one another and go side by side. An edit of a
-constant or a type may stand in must-fail alone: it has a round of its own, in which the function that refuses it is
-proved anew, with those that it calls. A body is refused by a
+tests/edits.py says what a wrong body is. Many bodies of a crate stand together in one copy of it, over the proofs that
+its last check or build kept. A body stands beside its function, as one more function with the same contract and
+answers, under a name of its own: so callers and other bodies see the right one. Bodies of methods with a trait's
+contract, and of functions that call one another, stand in the function's place, those of one function in different
+rounds: a caller is proved from the contracts of what it calls, which no edit changes. What is refused for nothing but a
+callee, or was not tried since a callee was not, is tried again, and so is what doesn't compile beside its function. A
+function that no edit touches must stay proved, but for its callees, and so must one with a twin. Rounds are about as
+large as one another and go side by side. An edit of a constant or a type may stand in must-fail alone: it has a round
+of its own, in which the function that refuses it is proved anew, with those that it calls. A body is refused by a
 
     clause  of the function, or its type's invariant; false: there are values at which it does not hold; open: no proof
             is found; limit: none in time
@@ -52,17 +36,14 @@ import sys
 import tempfile
 import time
 
-ROOT = os.path.dirname(os.path.dirname(os.path.abspath(__file__)))
+from edits import ROOT, Edit, functions_of, text_of
+
 KINDS = ["clause", "safety", "step", "name", "PROVED", "bad"]
 STRENGTHS = ["false", "open", "limit"]
 # What a check takes of the machine's memory, in MB.
 CHECK_MEMORY = 3000
 SAMPLE = 8
 LARGEST = 80  # bodies of a round
-# The layout is rt fmt's: a function ends at the first line that is its indent and a bracket.
-HEAD = re.compile(r"( *)(?:pub(?:\([^)]*\))? )?(?:const |unsafe )*fn (\w+)")
-IMPL = re.compile(r"impl(?:<.*?>)? (?:(\w+)(<.*>)? for )?(?:\w+::)*(\w+)")
-CYCLE = re.compile(r" *#\[cycle\((\w+)\)\]")
 # What a check prints of a goal, of an answer, of a function, once as it goes and once at its end, and of a text that it
 # does not take as a program.
 NOTE = re.compile(r"note: src/\S+ .*not proved.*?\(`(\S+)`\)(.*)")
@@ -71,157 +52,14 @@ CHECKED = re.compile(r"checked (\S+), \d+ of \d+")
 VERDICT = re.compile(r"fn (\S+): (proved|not proved|no proof|could not tell)(.*)")
 REFUSED = re.compile(r"(?m)^(?:\./)?(src/\S+?):(\d+):\d+: error.*")
 NAMES = re.compile(r"has no field|is not in scope|has no `|was not admitted")
-# The lines of a function, from 0 on, where its body and its attributes begin, the names that a check has for it, its
-# own, what it is proved with, and where it may stand twice, if it may.
-Function = collections.namedtuple("Function", "first body last start symbols shown key beside")
-# The line behind which a copy of a function may stand, the head of an `impl` that it needs or "", and what the names of
-# a check have in front of its own.
-Beside = collections.namedtuple("Beside", "line head place")
-# A copy: its file, the line that it stands behind, its lines, the function's own name, the type that it is a method of
-# where the function is a trait's, its name, and its names in a check.
-Copy = collections.namedtuple("Copy", "path behind lines own owner name symbols")
 
 
-@functools.cache
-def text_of(file):
-    with open(file, encoding="utf-8") as it:
-        return it.read()
-
-
-@functools.cache
-def functions_of(crate, path, text):
-    module = "".join(f"{part}::" for part in path[len("src/") : -len(".rt")].split("/") if part not in ("lib", "main"))
-    lines, found, owner, block, cycle = text.split("\n"), [], None, "", None
-    for first, line in enumerate(lines):
-        owner, block = (IMPL.match(line), line) if re.match(r"\S", line) else (owner, block)
-        cycle, head = CYCLE.match(line) or cycle, HEAD.match(line)
-        if not head:
-            continue
-        indent, name = head.groups()
-        ends = (at for at in range(first, len(lines)) if lines[at] == indent + "}")
-        last = first if line.endswith("}") else next(ends, first)
-        body = next((at for at in range(first, last + 1) if re.match(rf"{indent}(\S.*)?{{(.*}})?$", lines[at])), last)
-        start = next((at for at in range(first, 0, -1) if re.search(r"^ *$|^(?! *//).*[{};]$", lines[at - 1])), 0)
-        place, shown = f"{module}(fn::)?", name
-        if owner:
-            trait, given, kind = owner.groups()
-            words = "".join(it[0].upper() + it[1:] for it in re.findall(r"(?<!')\b\w+", given or ""))
-            place, shown = rf"(\w+::)*(fn::)?{kind}{trait or ''}({words})?::", f"{kind}::{name}"
-        whole = rf"(\w+::)*\+{cycle[1]}|" if cycle else ""
-        symbols, key = rf"{crate}::({whole}{place}{name}(::.+)?)$", (path, cycle[1] if cycle else first)
-        beside = Beside(last, "", place) if owner and not owner[1] or not indent else None
-        if owner and owner[1] and block.endswith("{") and any(re.match(" *ensures", it) for it in lines[first:body]):
-            head = block.replace(f"{owner[1]}{owner[2] or ''} for ", "", 1)
-            beside = Beside(lines.index("}", last), head, rf"(\w+::)*(fn::)?{owner[3]}::")
-        found.append(Function(first, body, last, start, symbols, shown, key, None if cycle else beside))
-        cycle = None
-    # Functions that call one another have one proof, and a check may tell of one by the name of another.
-    all_of = collections.defaultdict(list)
-    for it in found:
-        all_of[it.key].append(it.symbols)
-    return [it._replace(symbols=re.compile("|".join(all_of[it.key]))) for it in found]
-
-
-def body_of(crate, path, name):
-    """What stands between the brackets of this function, or "" where it isn't there."""
-    file = f"{ROOT}/crates/{crate}/{path}"
-    text = text_of(file) if os.path.isfile(file) else ""
-    found = [it for it in functions_of(crate, path, text) if it.shown.split("::")[-1] == name]
-    return "\n".join(text.split("\n")[found[0].body + 1 : found[0].last]) if found else ""
-
-
-class Pair(collections.namedtuple("Pair", "path within old new")):
-    """What an edit replaces in a file, and by what: the first behind the head of the named function, else the only."""
-
-    def places(self, text):
-        head = re.search(rf"\bfn {self.within}\b", text) if self.within else None
-        if self.within:
-            at = text.find(self.old, head.end()) if head else -1
-            return [at] if at >= 0 else []
-        return [it.start() for it in re.finditer(re.escape(self.old), text)]
-
-    def applied(self, text):
-        """This text with the pair in it, or None where what it replaces doesn't stand there once."""
-        places = self.places(text)
-        return text[: places[0]] + self.new + text[places[0] + len(self.old) :] if len(places) == 1 else None
-
-
-class Edit:
-    """A wrong body, or the right one that is its twin."""
+class Body(Edit):
+    """A wrong body, or its twin, and what came of it."""
 
     def __init__(self, crate, file, is_twin=False):
-        self.crate, self.file, self.is_twin, self.is_wide = crate, file, is_twin, False
-        self.name = f"{crate}/{os.path.basename(file)[: -len('.edit')]}{' (twin)' * is_twin}"
-        self.pairs, self.functions, self.keys, self.kind, self.why, said = [], [], set(), "", [], {}
-        self.tries, self.took = 0, 0.0
-        for line in text_of(file).split("\n"):
-            word, _, text = line.partition(":")
-            said[word] = text[1:] if text.startswith(" ") else text
-            if word == "file":
-                said.pop("in", None)
-            if word == "twin" if is_twin else word in ("new", "body"):
-                old = said["old"] if "old" in said else body_of(crate, said["file"], said.get("in"))
-                self.pairs.append(Pair(said["file"], said.get("in"), old, said[word]))
-        self.has_twin, self.calls_right, self.twin, self.copy = "twin" in said, "body" in said, None, None
-        self.hole, self.answer, self.by = (said.get(word, "") for word in ("hole", "answer", "by"))
-        self.is_unfit = self.unfit()
-        self.shown = "the crate" if self.is_wide else ", ".join(dict.fromkeys(it.shown for _, it in self.functions))
-
-    def unfit(self):
-        """Why this edit can't be tried on the code as it stands, or "". Notes the functions that it touches."""
-        texts = {}
-        for pair in self.pairs:
-            path, _, old, new = pair
-            if not os.path.isfile(f"{ROOT}/crates/{self.crate}/{path}"):
-                return f"{path} is not there"
-            text = texts.get(path) or text_of(f"{ROOT}/crates/{self.crate}/{path}")
-            places = pair.places(text) if old else []
-            if len(places) != 1:
-                return f"old text stands {len(places)} times in {path}"
-            line = text[: places[0] + len(old)].count("\n")
-            within = [it for it in functions_of(self.crate, path, text) if it.first <= line <= it.last]
-            if pair.within and [it.shown.split("::")[-1] for it in within[-1:]] != [pair.within]:
-                return f"old text doesn't stand in {pair.within} of {path}"
-            if old == new or "ghost " in old + new or (within and line < within[-1].body):
-                return f"it changes nothing, or a contract, in {path}"
-            if within and within[-1].first not in [it.first for other, it in self.functions if other == path]:
-                self.functions.append((path, within[-1]))
-                self.keys.add(within[-1].key)
-            self.is_wide = self.is_wide or not within
-            texts[path] = pair.applied(text)
-        if self.is_wide and not self.file.split("/")[-2] == "must-fail":
-            return "it is outside a function, and only must-fail may hold such an edit"
-        if self.is_wide and not self.by:
-            return "it is outside a function, and no line `by:` names one that refuses it"
-        if self.hole and not any(os.path.isfile(f"{ROOT}/{it.strip('`,.')}") for it in self.hole.split()):
-            return "its `hole:` names no file of the test that refuses it"
-        if self.calls_right and not all(it.beside for _, it in self.functions):
-            return "it calls a function beside which it may not stand"
-        return "" if self.pairs else "it has no `new:`"
-
-    def applied(self, texts):
-        """These texts with the edit in them, or None where another edit stands in the way."""
-        for it in self.pairs:
-            text = it.applied(texts.get(it.path) or text_of(f"{ROOT}/crates/{self.crate}/{it.path}"))
-            if text is None:
-                return None
-            texts = {**texts, it.path: text}
-        return texts
-
-    def stand_beside(self, number):
-        """Puts this edit into a copy of its function, named by this number, where it touches one that may be twice."""
-        if self.is_unfit or self.is_wide or len(self.functions) > 1 or not self.functions[0][1].beside:
-            return
-        path, of = self.functions[0]
-        own = of.shown.split("::")[-1]
-        fewer = sum(it.old.count("\n") for it in self.pairs)  # what stands in a body is one line
-        name, lines = f"{own}_again_{number}", self.applied({})[path].split("\n")[of.start : of.last + 1 - fewer]
-        head = of.first - of.start
-        lines[head] = re.sub(rf"\bfn {own}\b", f"fn {name}", lines[head], count=1)
-        lines = [of.beside.head, *lines, "}"] if of.beside.head else lines
-        symbols = re.compile(rf"{self.crate}::{of.beside.place}{name}(::.+)?$")
-        owner = of.shown.split("::")[:-1] if of.beside.head else []
-        self.copy = Copy(path, of.beside.line, ["", *lines], own, owner, name, symbols)
+        super().__init__(crate, file, is_twin)
+        self.twin, self.kind, self.why, self.tries, self.took = None, "", [], 0, 0.0
 
     def touches(self, symbol):
         mine = [self.copy.symbols] if self.copy else [it.symbols for _, it in self.functions]
@@ -558,11 +396,11 @@ def try_all(crates, jobs):
 
 def edits_of(crate, options):
     files = (it for part in ("must-fail", "wrong") for it in sorted(glob.glob(f"{ROOT}/crates/{crate}/{part}/*.edit")))
-    edits = [it for it in (Edit(crate, file) for file in files) if re.search(options.only, it.name)]
+    edits = [it for it in (Body(crate, file) for file in files) if re.search(options.only, it.name)]
     if options.sample and edits and not any(it.is_unfit for it in edits):
         return sample_of(beside([it for it in edits if not it.is_wide]))
     for it in [] if options.no_twins else edits:
-        it.twin = Edit(crate, it.file, is_twin=True) if it.has_twin else None
+        it.twin = Body(crate, it.file, is_twin=True) if it.has_twin else None
     edits += [it.twin for it in edits if it.twin]
     beside([it for it in edits if it.calls_right or not options.alone])
     return edits
