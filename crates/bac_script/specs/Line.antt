@@ -9,6 +9,7 @@ use Rattle.bac_device.specs.Turns.{Arrival}
 use Rattle.bac_script.specs.declared.line.LineFault.{LineFault}
 use Rattle.bac_script.specs.declared.line.LineFault.TheVariants.{Bad, TooLong}
 use Rattle.bac_text.specs.Limits.{longest_line}
+use Rattle.bac_wire.specs.Identifier.{Identifier}
 use Rattle.bac_wire.specs.Steps.{◌>>=◌}
 use Rattle.bac_text.specs.Words.{words_of, number_up_to, octets_of, next_as, at_end}
 use Rattle.bac_text.specs.Parameters.{priority_from, write_index_of}
@@ -37,33 +38,36 @@ abbrev pub index_in : List (List ℕ) → Option (Option ℕ × List (List ℕ))
 index_in [] = Some (None, [])
 index_in (word ∷ others) = option_map (λ n. (Some n, others)) (number_up_to (2 ^ 32 - 1) word)
 
--- A ReadProperty request (service 12): PEER, KIND, INSTANCE, PROPERTY and, where there is one, INDEX.
+-- The property of an object: KIND, INSTANCE and PROPERTY.
+abbrev pub property_in : List (List ℕ) → Option ((Identifier × ℕ) × List (List ℕ))
+property_in words = do
+  kind ← next_as (number_up_to 1023) words
+  instance ← next_as (number_up_to 4194303) kind.1
+  property ← next_as (number_up_to 4194303) instance.1
+  Some ((record { kind = kind.0; instance = instance.0 }, property.0), property.1)
+
+-- A ReadProperty request (service 12): PEER, a property of an object and, where there is one, INDEX.
 abbrev pub reading_of : List (List ℕ) → Option Event
 reading_of words = do
   peer ← next_as peer_of words
-  kind ← next_as (number_up_to 1023) peer.1
-  instance ← next_as (number_up_to 4194303) kind.1
-  property ← next_as (number_up_to 4194303) instance.1
-  index ← index_in property.1
-  at_end index.1 (Ask peer.0 12 (read_octets
-      (record { object = record { kind = kind.0; instance = instance.0 }; property = property.0; index = index.0 })))
+  named ← property_in peer.1
+  index ← index_in named.1
+  at_end index.1
+      (Ask peer.0 12 (read_octets (record { object = named.0.0; property = named.0.1; index = index.0 })))
 
 -- The PRIORITY that a word says, 0 to 16.
 abbrev pub priority_of : List ℕ → Option (Option ℕ)
 priority_of word = option_map priority_from (number_up_to 16 word)
 
--- A WriteProperty request (service 15), however long its body is: PEER, KIND, INSTANCE, PROPERTY, PRIORITY, INDEX, and
+-- A WriteProperty request (service 15), however long its body is: PEER, a property of an object, PRIORITY, INDEX, and
 -- tags and values.
 abbrev pub writing_of : List (List ℕ) → Option Event
 writing_of words = do
   peer ← next_as peer_of words
-  kind ← next_as (number_up_to 1023) peer.1
-  instance ← next_as (number_up_to 4194303) kind.1
-  property ← next_as (number_up_to 4194303) instance.1
-  priority ← next_as priority_of property.1
+  named ← property_in peer.1
+  priority ← next_as priority_of named.1
   index ← next_as write_index_of priority.1
-  option_map (Ask peer.0 15) (result_ok
-      (whole_body_of (record { kind = kind.0; instance = instance.0 }) property.0 index.0 priority.0 index.1))
+  option_map (Ask peer.0 15) (result_ok (whole_body_of named.0.0 named.0.1 index.0 priority.0 index.1))
 
 -- A datagram that comes from a peer: PEER and HEX.
 abbrev pub arrival_of : List (List ℕ) → Option Arrival

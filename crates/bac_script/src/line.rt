@@ -6,11 +6,13 @@ ghost use Rattle.bac_pdu.specs.Property.{IsPriority};
 ghost use Rattle.bac_text.specs.Words.{octets_of, next_as};
 ghost use Rattle.bac_text.specs.Address.{plain_peer_of, peer_of};
 ghost use Rattle.bac_text.specs.Parameters.{write_index_of};
-ghost use Rattle.bac_script.specs.Line.{Happens, settings_of, index_in, reading_of, priority_of, writing_of};
+ghost use Rattle.bac_script.specs.Line.{Happens, settings_of, property_in, index_in, reading_of, priority_of};
+ghost use Rattle.bac_script.specs.Line.{writing_of};
 ghost use Rattle.bac_script.specs.Line.{arrival_of, tick_of, said_by, text_of_line, said};
 ghost use Rattle.bac_script.specs.Inner.Line.{IsLeft};
 ghost use Rattle.bac_script.specs.Script.{is_nothing};
 ghost use Rattle.bac_script.specs.Inner.LineSeen.{arrival_seen, line_seen};
+ghost use Rattle.bac_wire.specs.Identifier.{identifier};
 ghost use Rattle.bac_wire.specs.Steps.{result_seen};
 
 use crate::long_write::LongWrite;
@@ -177,16 +179,14 @@ fn read_reading<'a>(mut words: Words<'_>, room: &'a mut LineRoom) -> Option<Line
     ensures { option_map line_seen result ≡ option_map Happens (reading_of words.entry) }
 {
     room.peer = next_peer(&mut words)?;
-    let kind = words.next_number(1_023)?;
-    let instance = words.next_number(4_194_303)?;
-    let property = words.next_number(4_194_303)?;
+    let (object, property) = next_property(&mut words)?;
     let index = next_index(&mut words)?;
+    ended(words)?;
     let request = ReadRequest {
-        object: ObjectId::new(kind as u16, instance as u32)?,
-        property: property as u32,
+        object,
+        property,
         index,
     };
-    ended(words)?;
     let body = room.body.body_of_read(&request);
     Some(Line::Request(&room.peer, READ_PROPERTY, body))
 }
@@ -196,12 +196,9 @@ fn read_writing<'a>(mut words: Words<'a>, room: &'a mut LineRoom) -> Option<Line
 {
     let LineRoom { peer, body, .. } = room;
     *peer = next_peer(&mut words)?;
-    let kind = words.next_number(1_023)?;
-    let instance = words.next_number(4_194_303)?;
-    let property = words.next_number(4_194_303)? as u32;
+    let (object, property) = next_property(&mut words)?;
     let priority = next_priority(&mut words)?;
     let index = next_write_index(&mut words)?;
-    let object = ObjectId::new(kind as u16, instance as u32)?;
     let pairs = words.again();
     match body.body_of_write(object, property, index, priority, &mut words) {
         Ok(body) => Some(Line::Request(peer, WRITE_PROPERTY, body)),
@@ -245,6 +242,18 @@ fn ended(mut words: Words<'_>) -> Option<()>
         Some(_) => None,
         None => Some(()),
     }
+}
+
+// The property of an object that the next three words name.
+fn next_property(words: &mut Words<'_>) -> Option<(ObjectId, u32)>
+    ensures { MatchOption result (property_in words.old ≡ None)
+        (λ named. property_in words.old ≡ Some ((identifier named.0, named.1), words.new)) }
+{
+    let kind = words.next_number(1_023)?;
+    let instance = words.next_number(4_194_303)?;
+    let property = words.next_number(4_194_303)?;
+    let object = ObjectId::new(kind as u16, instance as u32)?;
+    Some((object, property as u32))
 }
 
 // The number of an element, where a word is left.
