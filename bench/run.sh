@@ -4,6 +4,7 @@
 set -eu
 top=$(cd "$(dirname "$0")/.." && pwd)
 room=${1:-$(mktemp -d)}
+mkdir -p "$room"
 cat >"$room/crates.txt" <<'CRATES'
 bac_wire: arrayvec byteorder
 bac_pdu: bac_wire arrayvec byteorder
