@@ -149,7 +149,9 @@ class Edit:
             return "it is outside a function, and no line `by:` names one that refuses it"
         if self.hole and not self.test:
             return "its `hole:` names no file of the test that refuses it"
-        if self.calls_right and (self.hole or not all(it.beside for _, it in self.functions)):
+        if self.calls_right and self.hole:
+            return "its test has it in its function's place, where it can't call the right one"
+        if self.calls_right and not all(it.beside for _, it in self.functions):
             return "it calls a function beside which it may not stand"
         return "" if self.pairs else "it has no `new:`"
 
