@@ -7,11 +7,12 @@ differ, and says in what.
   and none that isn't there; lists of modules (lib.rt, Lib.antt) and the answers to single functions are left out.
   `Beside the crates` names each other folder and file at the top, and each file of docs/, tests/ and bench/.
 - Each file of src/ begins with a line `//!` that says what it has. What the head of a library shows stands in its
-  examples.
+  examples; the calls that it shows stand in bac_uses.
 - docs/PROOFS.md: each name in backquotes stands in the code or is a file of it, and each law is a function; the
   headline's parts are the README's sentence.
 - Functions that have no contract: docs/PROOFS.md names those of the code, and it and README.md count them rightly.
-- README.md: what it shows of a script and of the demonstration is what examples/ has.
+- README.md: what it shows of a script is what examples/ has, and the rule that it shows stands so in specs/. It has at
+  most 120 lines and 1,500 words.
 - docs/PROTOCOL.md: the texts of faults are those of the code.
 - docs/GUIDE.md: the table that says which script does what has the scripts of examples/, but for what the demonstration
   needs.
@@ -123,6 +124,10 @@ def heads_of_sources():
             there = " ".join(text_of(examples).split()) if os.path.isfile(examples) else ""
             if not clauses or not all(" ".join(one.split()) in there for one in clauses):
                 DIFFERENCES.append(f"{file}: what it shows is not in {examples}")
+        for shown in re.findall(r"^//! ```rust\n(.*?)^//! ```$", text_of(file), re.M | re.S):
+            calls = " ".join(re.sub(r"^//!", "", shown, flags=re.M).split())
+            if not any(calls in " ".join(text_of(use).split()) for use in glob.glob("crates/bac_uses/src/*.rt")):
+                DIFFERENCES.append(f"{file}: the calls that it shows are not in bac_uses")
 
 
 def names_of_proofs(text):
@@ -140,14 +145,24 @@ def names_of_proofs(text):
             DIFFERENCES.append(f"docs/PROOFS.md: no {name} stands in the code")
 
 
+def all_in_order(block, lines):
+    """Whether the lines hold those of the block, one after another, however they are set in."""
+    rest = iter(lines.splitlines())
+    return all(line.strip() in rest for line in block.splitlines())
+
+
 def what_stands_twice(readme, proofs):
     headline = " ".join(row["Part"] for row in rows(proofs["The headline, part by part"]))
     if headline not in " ".join(readme.split()):
         DIFFERENCES.append("README.md: the headline is not that of docs/PROOFS.md, part by part")
     shown = re.findall(r"```\n(.*?)```", readme, re.S)
-    for begin, file in [("send 0 ", "examples/first.out"), ("# The present value", "examples/demo.out")]:
-        if not [block for block in shown if block.startswith(begin) and block in text_of(file)]:
+    for begin, file in [("send 0 ", "examples/first.out"), ("due i zero", "crates/bac_tsm/specs/Lookahead.antt")]:
+        lines = re.sub(r"(?m)^ *(?:--|abbrev).*\n|^ +|^\n", "", text_of(file))
+        if not [block for block in shown if block.startswith(begin) and all_in_order(block, lines)]:
             DIFFERENCES.append(f"README.md: it does not show what is in {file}")
+    for counted, most in (readme.splitlines(), 120), (readme.split(), 1500):
+        if len(counted) > most:
+            DIFFERENCES.append(f"README.md: {len(counted)} lines or words, where {most} are to do")
 
 
 def functions_without_a_contract(readme, section):
@@ -155,7 +170,7 @@ def functions_without_a_contract(readme, section):
     every, bare, none = 0, 0, set()
     for file in glob.glob("crates/*/src/**/*.rt", recursive=True):
         crate = file.split("/")[1]
-        if crate.endswith("_trials"):
+        if crate.endswith("_trials") or crate == "bac_uses":
             continue
         owner = ""
         for part in re.split(r"(?=\bfn \w+)|(?=^impl\b)|(?=^\}$)", re.sub(r"//.*", "", text_of(file)), flags=re.M):

@@ -175,7 +175,8 @@ def test(clock):
     sys.stdout.flush()
     trials = Part("trials", ["./build.py", "--tests"], r"(\d+) tests passed")
     passed, lost = 0, {}
-    is_kept = all(os.path.isdir(f"{it}/out/incremental") for it in glob.glob("crates/*") if not it.endswith("_trials"))
+    others = ("_trials", "/bac_uses")  # the program doesn't rest on them
+    is_kept = all(os.path.isdir(f"{it}/out/incremental") for it in glob.glob("crates/*") if not it.endswith(others))
     first = [] if is_kept else [[[build(["./build.py"])]]]
     for rows in (*first, beside([trials], [bodies("wrong bodies", "--sample")]), [[examples()]]):
         more, also = run(rows, clock, False)

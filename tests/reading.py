@@ -17,7 +17,7 @@ from sources import closed, defined, match_bracket, public_calls, read_tree, tex
 
 TOP = os.path.dirname(os.path.dirname(os.path.abspath(__file__)))
 FOLDER = "docs/reading"
-TRIALS = {"bac_trials", "tool_trials"}  # their clauses are tests' own
+TRIALS = {"bac_trials", "tool_trials", "bac_uses"}  # no crate rests on their clauses
 
 # A page: its file, its title, and the calls whose lists it has. `*` stands for each public call of the crate.
 PAGES = [

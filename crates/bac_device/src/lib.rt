@@ -16,6 +16,19 @@
 //!     ∷ makes (write_at 8 valve null) ∷ has (of 85 valve) twenty
 //!     ∷ makes (write_at 16 valve null) ∷ has (of 85 valve) zero_real ∷ []) }
 //! ```
+//!
+//! Calls, of `bac_uses` (`src/device.rt`), where it is proved that none of them can fail:
+//!
+//! ```rust
+//! let mut device = Device::new(DeviceInfo::new(1234, "Heating").unwrap());
+//! let valve = Point {
+//!     id: ObjectId::new(1, 1).unwrap(),
+//!     name: "Valve",
+//!     start: 0,
+//!     extra: 98,
+//! };
+//! device.add(&valve).unwrap();
+//! ```
 #![tactic(auto)]
 
 mod demonstration;

@@ -7,6 +7,16 @@
 //! link foretells.
 //!
 //! Whole runs over links in memory, with what they send and print, are tests of `tool_trials` (`src/tests/links`).
+//!
+//! A call, of `bac_uses` (`src/links.rt`), where it is proved that with a status below 3 the writer took the line of
+//! how the read ended, and that this is the status of that end:
+//!
+//! ```rust
+//! match UdpLink::bind(rt, alloc, anywhere) {
+//!     Ok(mut link) => status(&run_read(call, &mut link, writer)),
+//!     Err(_) => 3,
+//! }
+//! ```
 #![tactic(auto)]
 
 mod call;

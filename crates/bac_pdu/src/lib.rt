@@ -13,6 +13,21 @@
 //! ensures datagram { wrapped None true (0x00 ∷ 0x05 ∷ 0x01 ∷ 0x0c ∷ read_octets present_value) ≡
 //!     0x81 ∷ 0x0a ∷ 0x00 ∷ 0x11 ∷ 0x01 ∷ 0x04 ∷ 0x00 ∷ 0x05 ∷ 0x01 ∷ 0x0c ∷ read_octets present_value }
 //! ```
+//!
+//! Calls, of `bac_uses` (`src/pdu.rt`), where it is proved which datagram comes of them:
+//!
+//! ```rust
+//! write_read(&mut body, &request)?;
+//! let apdu = Apdu::Confirmed {
+//!     part: None,
+//!     code: 5,
+//!     id: 1,
+//!     service: READ_PROPERTY,
+//!     body: body.as_slice(),
+//! };
+//! write_apdu(&mut octets, &apdu)?;
+//! wrap(to, true, octets.as_slice(), &mut frame)?;
+//! ```
 #![tactic(auto)]
 
 mod apdu;

@@ -17,6 +17,17 @@
 //! ensures retries { told usual 0 (read ∷ Tick 2999 ∷ Tick 3000 ∷ Tick 6000 ∷ Tick 9000 ∷ Tick 12000 ∷ []) ≡
 //!     (0, sent 0 1) ∷ (2, sent 0 1) ∷ (3, sent 0 1) ∷ (4, sent 0 1) ∷ (5, TimedOut 0) ∷ [] }
 //! ```
+//!
+//! Calls, of `bac_uses` (`src/client.rt`), where it is proved that each read is to be sent again exactly where what was
+//! heard is no answer to it:
+//!
+//! ```rust
+//! let mut client = Client::new(config, 0);
+//! let _value = client.submit(device, READ_PROPERTY, &VALUE);
+//! let _name = client.submit(device, READ_PROPERTY, &NAME);
+//! let _ended = client.datagram(from, heard);
+//! client.tick(3000)
+//! ```
 #![tactic(auto)]
 
 mod answer;

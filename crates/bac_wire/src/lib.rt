@@ -13,6 +13,14 @@
 //! // 72.3, by the four octets of its single precision.
 //! ensures real { IsWritten (real (0x42 ∷ 0x90 ∷ 0x99 ∷ 0x9a ∷ [])) (0x44 ∷ 0x42 ∷ 0x90 ∷ 0x99 ∷ 0x9a ∷ []) }
 //! ```
+//!
+//! A call, of `bac_uses` (`src/wire.rt`), where it is proved that what was written can be read back:
+//!
+//! ```rust
+//! frame.clear();
+//! write_value(frame, value)?;
+//! let (_again, count) = read_value(frame.as_slice()).unwrap();
+//! ```
 #![tactic(auto)]
 
 mod examples;

@@ -44,7 +44,8 @@ Status 1: timeout, segmented, bad-error, bad-ack, or
   error CLASS CODE  1 31 unknown object, 2 32 unknown property, 2 42 no such element, 2 50 no array
   reject REASON     4 to 7 the device could not read the request, 9 unknown service
   abort REASON      1, 4 and 11 the value is too long: read it element by element
-An answer from another address than that of --mac is not taken, so it is a timeout.";
+An answer from another address than that of --mac is not taken, so it is a timeout; but one that says
+that it is forwarded from there is taken from anyone: see SECURITY.md.";
 
 pub(crate) const WRITE_LINES: &str = "Tags, and how the value is written:
    0  Null          any word, also a number; it relinquishes the priority
@@ -75,7 +76,8 @@ Prints one line. Status 0: ok. Status 1: timeout, segmented, bad-error, bad-ack,
   abort REASON      the device gave up
 After any status but 0, and after Ctrl-C, the write may have been made: read the property back. Only
 status 2 says that nothing was sent. An answer from another address than that of --mac is not taken,
-so it is a timeout.";
+so it is a timeout; but one that says that it is forwarded from there is taken from anyone: see
+SECURITY.md.";
 
 pub(crate) const SEARCH_LINES: &str = "Examples:
   bactool bacwi --mac 192.0.2.7

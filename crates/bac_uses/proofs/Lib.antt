@@ -1,0 +1,4 @@
+mod Deliveries
+mod Lines
+mod Stands
+mod WrittenAlone

@@ -1,0 +1,16 @@
+-- A device with one valve.
+use Rattle.std.specs.Prelude.{codes}
+use Rattle.bac_device.specs.Demo.{row}
+use Rattle.bac_device.specs.Info.{Info}
+use Rattle.bac_device.specs.Kind.{kind}
+use Rattle.bac_device.specs.Point.{Description, described}
+use Rattle.bac_device.specs.declared.kind.Family.TheVariants.{Analog}
+use Rattle.bac_device.specs.declared.kind.Role.TheVariants.{Output}
+
+-- What the device is known by.
+abbrev pub heating : Info
+heating = record { instance = 1234; name = codes "Heating" }
+
+-- Its valve: analog output 1, at 0 where nobody commands it, in percent (98).
+abbrev pub valve : Description
+valve = described (kind Analog Output) (row 1 1 (codes "Valve") 0 98)

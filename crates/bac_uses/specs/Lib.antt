@@ -1,0 +1,2 @@
+pub mod Heating
+pub mod TwoReads

@@ -1,0 +1,26 @@
+-- Two reads of analog input 5, and what a tick says of each once a datagram was heard.
+use Rattle.std.specs.Prelude.{ℕ, ◌+◌, List, [], ◌∷◌}
+use Rattle.std.specs.Option.{option_map_or}
+use Rattle.bac_pdu.specs.Peer.{Station}
+use Rattle.bac_tsm.specs.Answers.{outcome_of}
+use Rattle.bac_tsm.specs.Client.{client_rules}
+use Rattle.bac_tsm.specs.Events.{Request, Rules, request_of}
+use Rattle.bac_tsm.specs.declared.due.Entry.{Entry}
+use Rattle.bac_tsm.specs.declared.due.Entry.TheVariants.{Resend}
+
+-- A timeout of three seconds, and three retries.
+abbrev pub usual : Rules
+usual = client_rules 3000 3
+
+-- The body that asks for this property.
+abbrev pub asking : ℕ → List ℕ
+asking property = 0x0c ∷ 0 ∷ 0 ∷ 0 ∷ 5 ∷ 0x19 ∷ property ∷ []
+
+-- The request for it under this ticket, whose number is one more.
+abbrev pub read_of : Station → ℕ → ℕ → Request
+read_of device ticket property = request_of usual ticket device 12 (asking property) (ticket + 1)
+
+-- It is to be sent again, unless this datagram from there is an answer to it.
+abbrev pub again_unless : Station → List ℕ → Request → List Entry
+again_unless from heard request =
+    option_map_or (λ _. []) (outcome_of request from heard) (Resend request.ticket ∷ [])

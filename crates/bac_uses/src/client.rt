@@ -1,0 +1,32 @@
+//! Two reads of one device, open at once.
+
+ghost use Rattle.std.specs.Prelude.{◌≡◌, ◌++◌};
+ghost use Rattle.bac_pdu.specs.Peer.{station};
+ghost use Rattle.bac_uses.specs.TwoReads.{read_of, again_unless};
+
+use bac_pdu::{Peer, READ_PROPERTY};
+use bac_tsm::{Client, Config, Due};
+
+/// The body that asks for the present value (85) of analog input 5.
+const VALUE: [u8; 7] = [0x0c, 0x00, 0x00, 0x00, 0x05, 0x19, 85];
+
+/// The body that asks for its name (77).
+const NAME: [u8; 7] = [0x0c, 0x00, 0x00, 0x00, 0x05, 0x19, 77];
+
+/// Asks a device for both, hands the client one datagram, whatever it is and whoever sent it, and then the time, three
+/// seconds later. What is to be sent at once, and again, is what `Client::to_send` lends.
+pub fn two_reads(device: Peer, from: Peer, heard: &[u8]) -> Due
+    // Each read is to be sent again exactly where the datagram is no answer to it, and none has ended without one.
+    ensures { result ≡ again_unless (station from) heard.now (read_of (station device) 0 85)
+        ++ again_unless (station from) heard.now (read_of (station device) 1 77) }
+{
+    let config = Config {
+        timeout: 3000,
+        retries: 3,
+    };
+    let mut client = Client::new(config, 0);
+    let _value = client.submit(device, READ_PROPERTY, &VALUE);
+    let _name = client.submit(device, READ_PROPERTY, &NAME);
+    let _ended = client.datagram(from, heard);
+    client.tick(3000)
+}

@@ -1,0 +1,44 @@
+//! A device with one valve, and what comes of a datagram.
+
+ghost use Rattle.std.specs.Prelude.{◌≡◌, [], ◌∷◌, Some};
+ghost use Rattle.std.specs.Option.{option_map};
+ghost use Rattle.bac_pdu.specs.Peer.{station};
+ghost use Rattle.bac_device.specs.Device.{present_after, device_after};
+ghost use Rattle.bac_device.specs.Reply.{reply_to, writes_after};
+ghost use Rattle.bac_uses.specs.Heating.{heating, valve};
+
+use bac_device::{Device, DeviceInfo, Point};
+use bac_pdu::Peer;
+use bac_wire::{Frame, ObjectId};
+
+/// A device with one valve. None of these calls can fail, so no caller has to ask.
+#[tactic(auto, unfolding(bac_device::specs::Device::add_point, bac_device::specs::Point::description_of, bac_device::specs::Kind::kind_of))]
+fn one_valve() -> Device
+    ensures { result ≡ device_after heating (valve ∷ []) [] }
+{
+    let mut device = Device::new(DeviceInfo::new(1234, "Heating").unwrap());
+    let valve = Point {
+        id: ObjectId::new(1, 1).unwrap(),
+        name: "Valve",
+        start: 0,
+        extra: 98,
+    };
+    device.add(&valve).unwrap();
+    device
+}
+
+/// Has the device answer a datagram, whatever it is and whoever sent it: whom the reply in the frame is for, if there
+/// is one, and where the valve stands then.
+pub fn answered(from: Peer, datagram: &[u8], frame: &mut Frame) -> (Option<Peer>, u32)
+    // The reply is that of the definition.
+    ensures reply { option_map (λ peer. (station peer, frame.new)) result.0
+        ≡ reply_to heating (valve ∷ []) [] (station from) datagram.now }
+    // The valve stands where the write of this datagram puts it, if the device accepts one, and else at 0.
+    ensures valve { Some result.1 ≡ present_after (valve ∷ [])
+        (writes_after heating (valve ∷ []) [] (station from) datagram.now) valve.object }
+{
+    let mut device = one_valve();
+    let to = device.answer(from, datagram, frame);
+    let valve = device.present(ObjectId::new(1, 1).unwrap()).unwrap();
+    (to, valve)
+}

@@ -1,0 +1,18 @@
+//! A value, written and read back.
+
+ghost use Rattle.std.specs.Prelude.{◌≡◌, IfOk, length};
+ghost use Rattle.bac_wire.specs.Datum.{datum, IsSound};
+
+use bac_wire::{Frame, Full, Value, read_value, write_value};
+
+/// Makes a value the whole of a frame, and reads it back: how many octets spell it. It is `Full` only where the value
+/// is too long; that there is a value to read back needs no check.
+pub fn written_alone(frame: &mut Frame, value: &Value<'_>) -> Result<usize, Full>
+    requires { IsSound (datum value.now) }
+    ensures { IfOk result (λ count. count ≡ length frame.new) }
+{
+    frame.clear();
+    write_value(frame, value)?;
+    let (_again, count) = read_value(frame.as_slice()).unwrap();
+    Ok(count)
+}
