@@ -109,13 +109,26 @@ expect 2 '' "error: *Usage: bacrp --mac <mac>*$line" "$room/bacrp" 1234 0 5 85
 expect 1 '' '' "$room/bacwi" $silent
 expect 0 "*Usage: bacwi *$line" '' "$room/bacwi" --help
 
+# Waits, for a second at most, until a socket has the port.
+until_taken() {
+    for _ in 1 2 3 4 5 6 7 8 9 10; do
+        [ "$("$(dirname "$0")/../examples/free-port.sh")" = "$port" ] || break
+        sleep 0.1
+    done
+}
+
+# A socket takes the place of no standard stream that is closed.
+"$program" bacdev 1234 --port "$port" --count 1 <&- >&- 2>&- &
+device=$!
+until_taken
+expect 0 '' '' find "/proc/$device/fd" -name '[0-2]'
+expect 0 "1234 *$line" '' tool bacwi --mac "127.0.0.1:$port" --apdu-timeout 500
+expect 0 '' '' wait $device
+
 # A port that is taken, and a device that takes three datagrams, answers them and ends.
 "$program" bacdev 1234 --port "$port" --count 3 &
 device=$!
-for _ in 1 2 3 4 5 6 7 8 9 10; do
-    [ "$("$(dirname "$0")/../examples/free-port.sh")" = "$port" ] || break
-    sleep 0.1
-done
+until_taken
 for words in 'bacdev 1234' 'bacwi --mac 127.0.0.1' 'bacrp 1234 0 5 85 --mac 127.0.0.1' \
     'bacwp 1234 1 1 85 8 -1 0 x --mac 127.0.0.1'; do
     expect 3 '' "bactool: bind failed$line" tool $words --port "$port"
