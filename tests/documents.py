@@ -214,7 +214,7 @@ def scripts_of_the_guide(section):
 
 def wide_lines():
     places = [f"crates/*/{folder}/**/*{ending}" for folder, ending in COLUMNS.values()]
-    places += ["Makefile", "*.mk", "*.py", "crates/*/oracle/*.py"]
+    places += ["Makefile", "*.mk", "*.py", "crates/*/oracle/*.py", "site/bacsite"]
     folders = ["bench", "examples", "man", "packaging", "tests"]
     places += [f"{folder}/**/*{ending}" for folder in folders for ending in (".py", ".sh", ".c")]
     for file in sorted(file for place in places for file in glob.glob(place, recursive=True)):

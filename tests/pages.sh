@@ -169,9 +169,9 @@ awk '/^\.Sh/ { inside = /DIAGNOSTICS/ } /^\.Pp/ { inside = 0 } inside && /^\.It/
     sort -u >"$room/faults of man bactool"
 same faults 'faults of the code' 'faults of man bactool'
 
-# The page of numbers, and the document, are as made.
+# The page of numbers, the document, and the tables of bacsite are as made.
 man/numbers.sh "$room"
-for made in man/bactool-numbers.7 docs/NUMBERS.md; do
+for made in man/bactool-numbers.7 docs/NUMBERS.md site/bacsite; do
     diff "$room/${made#*/}" "$made" >&2 || wrong "$made is not as man/numbers.sh makes it"
 done
 
