@@ -24,6 +24,7 @@ import glob
 import os
 import re
 import sys
+import textwrap
 
 TOP = os.path.dirname(os.path.dirname(os.path.abspath(__file__)))
 COLUMNS = {"Code": ("src", ".rt"), "Definitions": ("specs", ".antt"), "Proofs": ("proofs", ".antt")}
@@ -145,10 +146,10 @@ def names_of_proofs(text):
             DIFFERENCES.append(f"docs/PROOFS.md: no {name} stands in the code")
 
 
-def all_in_order(block, lines):
-    """Whether the lines hold those of the block, one after another, however they are set in."""
-    rest = iter(lines.splitlines())
-    return all(line.strip() in rest for line in block.splitlines())
+def equations(file, *names):
+    """The equations of these definitions as they stand in the file, without its margin."""
+    found = [re.search(rf"^ *abbrev pub {it} :.*\n((?:(?! *--).+\n)+)", text_of(file), re.M)[1] for it in names]
+    return textwrap.dedent("".join(found))
 
 
 def what_stands_twice(readme, proofs):
@@ -156,9 +157,10 @@ def what_stands_twice(readme, proofs):
     if headline not in " ".join(readme.split()):
         DIFFERENCES.append("README.md: the headline is not that of docs/PROOFS.md, part by part")
     shown = re.findall(r"```\n(.*?)```", readme, re.S)
-    for begin, file in [("send 0 ", "examples/first.out"), ("due i zero", "crates/bac_tsm/specs/Lookahead.antt")]:
-        lines = re.sub(r"(?m)^ *(?:--|abbrev).*\n|^ +|^\n", "", text_of(file))
-        if not [block for block in shown if block.startswith(begin) and all_in_order(block, lines)]:
+    lookahead = "crates/bac_tsm/specs/Lookahead.antt"
+    rule = equations(lookahead, "due", "end", "sends_within", "sends")
+    for text, file in [(text_of("examples/first.out"), "examples/first.out"), (rule, lookahead)]:
+        if text not in shown:
             DIFFERENCES.append(f"README.md: it does not show what is in {file}")
     for counted, most in (readme.splitlines(), 120), (readme.split(), 1500):
         if len(counted) > most:
