@@ -8,6 +8,8 @@
 # 0 OK: within both ranges. 1 WARNING: outside of that behind -w. 2 CRITICAL: outside of that behind -c, no answer, or a
 # Real that is NaN or infinite, as of a sensor that has failed. 3 UNKNOWN: the words are wrong, the device refuses, or
 # what it has is no number.
+# A decimal point and no warnings, whatever the locale is.
+export LC_ALL=C
 . "$(dirname "$0")/reals.sh"
 
 # end STATUS NAME TEXT

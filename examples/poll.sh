@@ -9,6 +9,8 @@
 #
 # AT_ONCE controllers, 32 by default, are asked at the same time, and the points of each one after another. Once a
 # controller hasn't answered, its other points are `not asked`. So a dead one costs a second: 500 ms, twice.
+# A decimal point and no warnings, whatever the locale is.
+export LC_ALL=C
 set -euf
 here=$(dirname "$0")
 . "$here/reals.sh"

@@ -6,6 +6,8 @@
 # it. Of each point it has `bacnet_up`, 1 where the point has its value and else 0, and `bacnet_value` where that value
 # is a number. The status is that of poll.sh: 0 where each point has its value, 1 where one has not. Where it is 2, the
 # old FILE stays: the words are wrong, the list can't be read, or two of its points have one name.
+# A decimal point and no warnings, whatever the locale is.
+export LC_ALL=C
 set -eu
 [ $# = 2 ] || { echo 'usage: prometheus.sh LIST FILE' >&2; exit 2; }
 new=$2.$$

@@ -5,6 +5,8 @@
 #
 # Usage: properties.sh ADDRESS TYPE INSTANCE [LAST]. The status is 0; 1 where the device doesn't answer or has no such
 # object, which is said on standard error; and that of bacrp where it can't ask.
+# A decimal point and no warnings, whatever the locale is.
+export LC_ALL=C
 set -eu
 case $# in
     3 | 4) ;;

@@ -1,6 +1,8 @@
 #!/bin/sh
 # Tries the scripts of examples/ on lists, answers and words that the guide does not show. In place of bacrp stands a
-# script that prints what its `--mac` names, so that no device is needed. Usage: tests/scripts.sh
+# script that prints what its `--mac` names, so that no device is needed. Each call is made in three locales: C, one
+# that isn't installed, and one with a decimal comma, which is left out where localedef can't make it.
+# Usage: tests/scripts.sh
 set -eu
 examples=$(realpath "$(dirname "$0")/../examples")
 room=$(mktemp -d)
@@ -22,20 +24,28 @@ END
 chmod +x bin/bacrp
 PATH=$room/bin:$PATH
 calls=0
+locales='C none.UTF-8'
+if localedef -i de_DE -f UTF-8 "$room/comma.UTF-8" 2>/dev/null &&
+    [ "$(LOCPATH=$room LC_ALL=comma.UTF-8 locale decimal_point)" = , ]; then
+    locales="$locales comma.UTF-8"
+    export LOCPATH="$room"
+fi
 
 # expect STATUS OUTPUT COMMAND..: the status, and all that is written to standard output and standard error. The time, a
 # tab and a line feed stand there as T, a space and a semicolon.
 expect() {
     wanted="$1 $2"
     shift 2
-    calls=$((calls + 1))
-    status=0
-    "$@" </dev/null >told 2>&1 || status=$?
-    came="$status $(sed 's/^[0-9]*-[0-9]*-[0-9]*T[0-9:]*Z/T/' told | tr '\t' ' ' | paste -sd ';')"
-    if [ "$came" != "$wanted" ]; then
-        printf 'tests/scripts.sh: %s\n  came: %s\nwanted: %s\n' "$*" "$came" "$wanted" >&2
-        exit 1
-    fi
+    for locale in $locales; do
+        calls=$((calls + 1))
+        status=0
+        (export LC_ALL="$locale"; "$@") </dev/null >told 2>&1 || status=$?
+        came="$status $(sed 's/^[0-9]*-[0-9]*-[0-9]*T[0-9:]*Z/T/' told | tr '\t' ' ' | paste -sd ';')"
+        if [ "$came" != "$wanted" ]; then
+            printf 'tests/scripts.sh, locale %s: %s\n  came: %s\nwanted: %s\n' "$locale" "$*" "$came" "$wanted" >&2
+            exit 1
+        fi
+    done
 }
 script() {
     name=$1
@@ -75,6 +85,16 @@ expect 2 'usage: poll.sh LIST [AT_ONCE]' script poll.sh
 expect 2 'usage: poll.sh LIST [AT_ONCE]' script poll.sh a b c
 expect 2 'poll.sh: cannot read lists/none' script poll.sh lists/none
 
+# The functions, in a shell whose locale they leave as it is.
+functions() {
+    . "$examples/reals.sh"
+    "$@"
+    [ "$LC_ALL" = "$locale" ]
+}
+expect 0 72.3 functions from_real 4290999a
+expect 0 41a40000 functions to_real 20.5
+expect 0 '1 null;2 20.5' functions reals '{null,41a40000}'
+
 cp "$examples/watch.sh" "$examples/reals.sh" .
 expect 0 'T 72.3' sh watch.sh 0.4290999a
 expect 1 'outdoor temperature: no number: NaN' sh watch.sh 0.7fc00000
@@ -92,6 +112,8 @@ expect 1 'BACNET WARNING - 20 | value=20;20.1:;10:30' check -w 20.1: -c 10:30 0.
 expect 1 'BACNET WARNING - 20 | value=20;~:19.9;10:30' check -w ~:19.9 -c 10:30 0.41a00000 real 0 5 85
 expect 2 'BACNET CRITICAL - 20 | value=20;20:20;~:-5' check -w 20:20 -c ~:-5 0.41a00000 real 0 5 85
 expect 2 'BACNET CRITICAL - 20 | value=20;~:;21:' check -c 21: 0.41a00000 real 0 5 85
+expect 2 'BACNET CRITICAL - 72.3 | value=72.3;~:;~:50' check -c ~:50 0.4290999a real 0 5 85
+expect 2 'BACNET CRITICAL - 72.3 | value=72.3;~:;72.35:' check -c 72.35: 0.4290999a real 0 5 85
 expect 0 'BACNET OK - -3 | value=-3;-3.5:0;~:' check -w -3.5:0 0.-3 plain 0 5 85
 expect 2 'BACNET CRITICAL - 41000000 | value=41000000;~:;0:1' check -c 0:1 0.41000000 plain 0 5 85
 expect 2 'BACNET CRITICAL - timeout' check 1.timeout real 0 5 85
@@ -135,4 +157,4 @@ expect 2 'bactool: bad mac' script properties.sh 2.bactool:_bad_mac 0 5
 expect 2 'usage: properties.sh ADDRESS TYPE INSTANCE [LAST]' script properties.sh 0.1 0
 expect 2 'usage: demo.sh PROGRAM PORT, as: demo.sh bactool 47808' script demo.sh
 
-echo "tests/scripts.sh: $calls calls, as they are to be"
+echo "tests/scripts.sh: $calls calls in the locales $locales, as they are to be"
