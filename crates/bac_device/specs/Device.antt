@@ -86,27 +86,42 @@ device_object info = record { kind = 8; instance = info.instance }
 abbrev pub is_device : Info → Identifier → Bool
 is_device info object = (object.kind == 8) && ((object.instance == info.instance) || (object.instance == 4194303))
 
--- The texts that each device of this kind has: vendor-name, model-name, firmware-revision, application-software-version
--- and description.
+-- The texts that each device of this kind has, by the number of the property.
 unfoldable pub device_text : ℕ → Option (List ℕ)
-device_text number = lookup (nat_eq number)
-    ((121, codes "Property tools") ∷ (70, codes "bacdev") ∷ (44, codes "1") ∷ (12, codes "1")
-    ∷ (28, codes "Small BACnet/IP device") ∷ [])
+device_text number = lookup (nat_eq number) (
+    (121, codes "Property tools") -- vendor-name
+    ∷ (70, codes "bacdev") -- model-name
+    ∷ (44, codes "1") -- firmware-revision
+    ∷ (12, codes "1") -- application-software-version
+    ∷ (28, codes "Small BACnet/IP device") -- description
+    ∷ [])
 
--- The numbers that each device of this kind has: object-type, system-status (operational), vendor-identifier,
--- protocol-version, protocol-revision, max-apdu-length-accepted, segmentation-supported (none), apdu-timeout,
--- number-of-apdu-retries and database-revision.
+-- The numbers that each device of this kind has, by the number of the property.
 unfoldable pub device_number : ℕ → Option Datum
-device_number number = lookup (nat_eq number)
-    ((79, enumerated 8) ∷ (112, enumerated 0) ∷ (120, unsigned 260) ∷ (98, unsigned 1) ∷ (139, unsigned 4)
-    ∷ (62, unsigned 1476) ∷ (107, enumerated 3) ∷ (11, unsigned 3000) ∷ (73, unsigned 3) ∷ (155, unsigned 1) ∷ [])
+device_number number = lookup (nat_eq number) (
+    (79, enumerated 8) -- object-type: device
+    ∷ (112, enumerated 0) -- system-status: operational
+    ∷ (120, unsigned 260) -- vendor-identifier
+    ∷ (98, unsigned 1) -- protocol-version
+    ∷ (139, unsigned 4) -- protocol-revision
+    ∷ (62, unsigned 1476) -- max-apdu-length-accepted
+    ∷ (107, enumerated 3) -- segmentation-supported: none
+    ∷ (11, unsigned 3000) -- apdu-timeout
+    ∷ (73, unsigned 3) -- number-of-apdu-retries
+    ∷ (155, unsigned 1) -- database-revision
+    ∷ [])
 
--- The property of the device of this number: object-identifier, object-list, object-name, device-address-binding, or
--- one that each device of this kind has.
+-- The properties that follow from what the device keeps, by their numbers.
+abbrev pub kept_property : DeviceState → ℕ → Option Property
+kept_property device number = lookup (nat_eq number) (
+    (75, single (values.object (device_object device.info))) -- object-identifier
+    ∷ (76, array (values.object (device_object device.info) ∷ point_objects device.standings)) -- object-list
+    ∷ (77, single (char_string 0 device.info.name)) -- object-name
+    ∷ (30, empty_list) -- device-address-binding
+    ∷ [])
+
+-- The property of the device of this number: one that it keeps, or one that each device of this kind has.
 unfoldable pub device_property : DeviceState → ℕ → Option Property
 device_property device number =
-    if number == 75 then Some (single (values.object (device_object device.info)))
-    else if number == 76 then Some (array (values.object (device_object device.info) ∷ point_objects device.standings))
-    else if number == 77 then Some (single (char_string 0 device.info.name))
-    else if number == 30 then Some empty_list
-    else option_map single (option_or (option_map (char_string 0) (device_text number)) (device_number number))
+    option_or (kept_property device number)
+    (option_map single (option_or (option_map (char_string 0) (device_text number)) (device_number number)))
