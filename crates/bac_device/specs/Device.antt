@@ -11,6 +11,7 @@ use Rattle.bac_wire.specs.Datum.{Datum, unsigned, enumerated, char_string}
 use Rattle.bac_device.specs.declared.device.AddFault.{AddFault}
 use Rattle.bac_device.specs.declared.device.AddFault.TheVariants.{TooMany, Twice, NameTwice, BadPoint}
 use Rattle.bac_device.specs.Info.{Info}
+use Rattle.bac_device.specs.Limits.{device_room, no_instance, greatest_apdu, no_segmentation, own_vendor}
 use Rattle.bac_device.specs.Point.{Given, Description, description_of, same_object}
 use Rattle.bac_device.specs.Places.{Write, Standing, standing_after, present, place_at}
 use Rattle.bac_device.specs.Property.{Property, single, array, empty_list, point_objects}
@@ -67,11 +68,11 @@ has_name device name =
 abbrev pub with_point : DeviceState → Description → DeviceState
 with_point device point = record device { standings = device.standings ++ standing_after [] point ∷ [] }
 
--- The device with this point, or the first refusal that applies: there are 32 points; a point is this object; the point
--- or the device has this name; no point can be as this one is given.
+-- The device with this point, or the first fault that applies: there is no room left; a point is this object; a point or
+-- the device has this name; no point can be as this one is given.
 unfoldable pub add_point : DeviceState → Given → Result DeviceState AddFault
 add_point device point =
-    if length device.standings == 32 then Err TooMany
+    if length device.standings == device_room then Err TooMany
     else if has_object device point.object then Err Twice
     else if has_name device point.name then Err NameTwice
     else ok_or (option_map (with_point device) (description_of point)) BadPoint
@@ -84,7 +85,7 @@ device_object info = record { kind = 8; instance = info.instance }
 
 -- Whether the object is the device: its own, or the instance that stands for every device.
 abbrev pub is_device : Info → Identifier → Bool
-is_device info object = (object.kind == 8) && ((object.instance == info.instance) || (object.instance == 4194303))
+is_device info object = (object.kind == 8) && ((object.instance == info.instance) || (object.instance == no_instance))
 
 -- The texts that each device of this kind has, by the number of the property.
 unfoldable pub device_text : ℕ → Option (List ℕ)
@@ -101,11 +102,11 @@ unfoldable pub device_number : ℕ → Option Datum
 device_number number = lookup (nat_eq number) (
     (79, enumerated 8) -- object-type: device
     ∷ (112, enumerated 0) -- system-status: operational
-    ∷ (120, unsigned 260) -- vendor-identifier
+    ∷ (120, unsigned own_vendor) -- vendor-identifier
     ∷ (98, unsigned 1) -- protocol-version
     ∷ (139, unsigned 4) -- protocol-revision
-    ∷ (62, unsigned 1476) -- max-apdu-length-accepted
-    ∷ (107, enumerated 3) -- segmentation-supported: none
+    ∷ (62, unsigned greatest_apdu) -- max-apdu-length-accepted
+    ∷ (107, enumerated no_segmentation) -- segmentation-supported
     ∷ (11, unsigned 3000) -- apdu-timeout
     ∷ (73, unsigned 3) -- number-of-apdu-retries
     ∷ (155, unsigned 1) -- database-revision

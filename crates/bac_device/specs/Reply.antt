@@ -22,6 +22,7 @@ use Rattle.bac_device.specs.declared.failure.Failure.{Failure}
 use Rattle.bac_device.specs.declared.failure.Failure.TheVariants.{UnknownObject, UnknownProperty, NotAnArray}
 use Rattle.bac_device.specs.declared.failure.Failure.TheVariants.{WriteDenied}
 use Rattle.bac_device.specs.Info.{Info}
+use Rattle.bac_device.specs.Limits.{greatest_apdu, no_segmentation, own_vendor}
 use Rattle.bac_device.specs.Steps.{◌>>=◌}
 use Rattle.bac_device.specs.Kind.{is_commandable}
 use Rattle.bac_device.specs.Point.{Description}
@@ -141,9 +142,14 @@ fitting code id full = if nat_le (length (laid_out full)) (announced_size code) 
 
 -- ---- Who-Is (clause 16.10)
 
--- What the device says of itself: its identifier, 1476 octets, no segmentation, and the vendor.
+-- What the device says of itself: its identifier, the greatest APDU that it takes, no segmentation, and its vendor.
 abbrev pub own_introduction : Info → Introduction
-own_introduction info = record { device = device_object info; max_apdu = 1476; segmentation = 3; vendor = 260 }
+own_introduction info = record {
+  device = device_object info;
+  max_apdu = greatest_apdu;
+  segmentation = no_segmentation;
+  vendor = own_vendor;
+}
 
 -- The I-Am of the device.
 abbrev pub i_am : Info → Message
