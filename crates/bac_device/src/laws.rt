@@ -4,6 +4,7 @@
 ghost use Rattle.std.specs.Prelude.{IsTrue, ◌≡◌, ◌↔◌, ℕ, List, Option};
 ghost use Rattle.std.specs.Option.{ForSome};
 ghost use Rattle.bac_pdu.specs.Peer.{Station};
+ghost use Rattle.bac_device.specs.Limits.{device_room, longest_name};
 ghost use Rattle.bac_device.specs.Info.{Info};
 ghost use Rattle.bac_device.specs.Point.{Description};
 ghost use Rattle.bac_device.specs.Places.{Write};
@@ -12,7 +13,8 @@ ghost use Rattle.bac_device.specs.Reply.{reply_of};
 ghost use Rattle.bac_device.specs.Size.{ReplyFits, RepliesFit};
 ghost use Rattle.bac_device.specs.Turns.{Arrival, AnswersInTurn, AreDefined, replies_to};
 
-use crate::device::AddFault;
+use crate::device::{AddFault, POINTS};
+use crate::point::NAME_OCTETS;
 
 /// Over any list of datagrams the replies of a device that answers each in turn are those of the definition, and its
 /// places are those after the accepted writes.
@@ -42,6 +44,12 @@ pub fn replies_fit()
         → ForSome (reply_of device from datagram) (ReplyFits from datagram) }
     ensures in_turn { (info : Info) (points : List Description) (writes : List Write) (arrivals : List Arrival)
         → RepliesFit arrivals (replies_to info points writes arrivals) }
+{}
+
+/// The limits that the code names are those of the definitions.
+pub fn limits()
+    ensures points { POINTS ≡ device_room }
+    ensures name { NAME_OCTETS ≡ longest_name }
 {}
 
 /// Faults are equal that are the same of the four.

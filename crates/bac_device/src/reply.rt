@@ -20,8 +20,8 @@ ghost use Rattle.bac_device.specs.Reply.{answered_object, read_property, accepte
 ghost use Rattle.bac_device.specs.Reply.{ack as ack_message};
 ghost use Rattle.bac_device.specs.Reply.{urgency as urgency_of, read_reply, write_reply, write_in_body, full_reply};
 ghost use Rattle.bac_device.specs.Reply.{write_in_request, fitting, refused as refused_message, who_is_reply};
-ghost use Rattle.bac_device.specs.Reply.{i_am as i_am_message, reply_apdu, write_apdu as write_in_apdu, reply_of};
-ghost use Rattle.bac_device.specs.Reply.{write_of_datagram, with_write, reply_to, writes_after};
+ghost use Rattle.bac_device.specs.Reply.{i_am as i_am_message, reply_apdu, write_in_apdu, reply_of};
+ghost use Rattle.bac_device.specs.Reply.{write_in_datagram, with_write, reply_to, writes_after};
 
 use crate::device::Device;
 use crate::failure::Failure;
@@ -221,7 +221,7 @@ impl Device {
 
     /// Appends the reply to the octets of an APDU to an empty frame; an accepted write is made. None where there is no
     /// reply.
-    #[tactic(auto, unfolding(crate::specs::Reply::reply_apdu, crate::specs::Reply::write_apdu))]
+    #[tactic(auto, unfolding(crate::specs::Reply::reply_apdu, crate::specs::Reply::write_in_apdu))]
     fn reply(&mut self, broadcast: bool, apdu: &[u8], frame: &mut Frame) -> Option<()>
         requires { frame.old ≡ [] }
         ensures reply { option_map (λ _. frame.new) result ≡ reply_apdu self.old broadcast apdu.now }
@@ -258,7 +258,7 @@ impl Device {
     pub fn answer(&mut self, from: Peer, datagram: &[u8], frame: &mut Frame) -> Option<Peer>
         ensures standing { option_map (λ peer. (station peer, frame.new)) result
             ≡ reply_of self.old (station from) datagram.now }
-        ensures written { self.new ≡ with_write self.old (write_of_datagram self.old (station from) datagram.now) }
+        ensures written { self.new ≡ with_write self.old (write_in_datagram self.old (station from) datagram.now) }
         ensures reply { (writes : List Write) → Holds self.old writes
             → option_map (λ peer. (station peer, frame.new)) result
             ≡ reply_to self.old.info (points_of self.old) writes (station from) datagram.now }
@@ -273,14 +273,14 @@ impl Device {
     }
 
     /// The same, where the frame is empty at first.
-    #[tactic(auto, unfolding(crate::specs::Reply::reply_of, crate::specs::Reply::write_of_datagram))]
+    #[tactic(auto, unfolding(crate::specs::Reply::reply_of, crate::specs::Reply::write_in_datagram))]
     fn answer_into(&mut self, from: Peer, datagram: &[u8], frame: &mut Frame) -> Option<Peer>
         requires { frame.old ≡ [] }
         ensures reply { option_map (λ peer. (station peer, frame.new)) result
             ≡ reply_of self.old (station from) datagram.now }
         ensures silent { IfNone result (frame.new ≡ []) }
-        ensures after { self.new ≡ with_write self.old (write_of_datagram self.old (station from) datagram.now) }
-        ensures urgent { IfSome (write_of_datagram self.old (station from) datagram.now) IsUrgent }
+        ensures after { self.new ≡ with_write self.old (write_in_datagram self.old (station from) datagram.now) }
+        ensures urgent { IfSome (write_in_datagram self.old (station from) datagram.now) IsUrgent }
     {
         let carried = open_datagram(from, datagram)?;
         self.reply(carried.broadcast, carried.apdu, frame)?;

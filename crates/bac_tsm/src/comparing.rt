@@ -1,11 +1,19 @@
-//! `==` of what a client answers compares what it says.
+//! The limits that the code names, and `==` of what a client answers, which compares what it says.
 
 ghost use Rattle.std.specs.Prelude.{◌≡◌, ◌↔◌, IsTrue};
 ghost use Rattle.bac_tsm.specs.Client.{outcome_seen, end_seen};
+ghost use Rattle.bac_tsm.specs.Limits.{longest_body, table_size};
 
 use crate::client::SubmitFault;
 use crate::due::Entry;
+use crate::limits::{LONGEST_BODY, PLACES};
 use crate::outcome::{Ended, Outcome};
+
+/// The limits that the code names are those of the definitions.
+pub fn constants_are_limits()
+    ensures places { PLACES ≡ table_size }
+    ensures body { LONGEST_BODY ≡ longest_body }
+{}
 
 /// Faults are equal that are the same of the three.
 pub fn same_fault(fault: SubmitFault, other: SubmitFault) -> bool
