@@ -16,7 +16,7 @@ differ, and says in what.
 - docs/PROTOCOL.md: the texts of faults are those of the code.
 - docs/GUIDE.md: the table that says which script does what has the scripts of examples/, but for what the demonstration
   needs.
-- Links within the repository lead somewhere.
+- Links lead to what a package has: a document, or a file of examples/.
 - Lines have at most 120 columns, in the documents but for tables and what is printed; in scripts; and in src/, specs/
   and proofs/ but for attributes, which `rt fmt` lays out, and words that are longer.
 """
@@ -229,6 +229,7 @@ def wide_lines():
 def links_and_lines():
     anchors = {}
     documents = glob.glob("*.md") + glob.glob("docs/**/*.md", recursive=True)
+    there = {"LICENSE", *documents, *glob.glob("examples/*")}
     for file in documents:
         heads = re.findall(r"^#+ (.*)$", text_of(file), re.M)
         anchors[file] = {re.sub(r"[^\w\- ]", "", head.lower()).replace(" ", "-") for head in heads}
@@ -237,7 +238,7 @@ def links_and_lines():
         for link in re.findall(r"\]\(([^)\s]+)\)", text):
             path, _, anchor = link.partition("#")
             target = os.path.normpath(os.path.join(os.path.dirname(file), path)) if path else file
-            if "://" not in link and (not os.path.exists(target) or anchor and anchor not in anchors.get(target, ())):
+            if "://" not in link and (target not in there or anchor and anchor not in anchors.get(target, ())):
                 DIFFERENCES.append(f"{file}: {link} leads nowhere")
         wide = [line for line in text.splitlines() if len(line) > WIDTH and not line.startswith("|")]
         DIFFERENCES.extend(f"{file}: past {WIDTH} columns: {line[:60]}.." for line in wide)
