@@ -86,6 +86,8 @@ pub fn wrapped_round()
 /// Octets are one thing of each kind at most.
 pub fn one_record()
     ensures delivery { (from : Station) → IsSingle (Carries from) }
+    ensures taken { (to : Option NetworkAddress) (expect : Bool)
+        → IsSingle (λ datagram apdu. Takes to expect apdu datagram) }
     ensures apdu { IsSingle IsLaidOut }
     ensures read { IsSingle IsReadBody }
     ensures write { IsSingle IsWriteBody }
