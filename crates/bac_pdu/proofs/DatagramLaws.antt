@@ -290,7 +290,7 @@ heeded_takes : (sender : Station) (to_all : Bool) (header : NetworkHeader) (apdu
     → heeded_as sender to_all header apdu ≡ Some d → IsHeeded header × (delivered_as sender to_all header apdu ≡ d)
 heeded_takes sender to_all header apdu d e =
     let heeded = cond_some (is_for_all header.destination && is_answerable header.source)
-        (delivered_as sender to_all header apdu) d e in
+    (delivered_as sender to_all header apdu) d e in
     let each = both (is_for_all header.destination) (is_answerable header.source) heeded.0 in (
       record { destined = (destined header.destination).0 each.0; answerable = (answerable header.source).0 each.1 },
       heeded.1,

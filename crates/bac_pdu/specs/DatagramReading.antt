@@ -89,9 +89,9 @@ carried from datagram = do
   link ← link_at from datagram
   header ← header_at link.1
   if is_for_all header.0.destination && is_answerable header.0.source
-    then Some (record {
-      peer = record link.0.0 { route = header.0.source };
-      broadcast = link.0.1 || is_some header.0.destination;
-      apdu = header.1;
-    })
-    else None
+      then Some (record {
+        peer = record link.0.0 { route = header.0.source };
+        broadcast = link.0.1 || is_some header.0.destination;
+        apdu = header.1;
+      })
+      else None

@@ -30,7 +30,7 @@ reference_at body = do
   object ← unless_missing body (object_at 0 body)
   property ← unless_missing object.1 (number_at 1 object.1)
   let index = optional_at 2 property.1 in
-    Ok (record { object = object.0; property = property.0; index = index.0 }, index.1)
+      Ok (record { object = object.0; property = property.0; index = index.0 }, index.1)
 
 -- The result, where no octet is left.
 abbrev pub whole_of : {A : Type 0} → A → List ℕ → Option A
@@ -55,8 +55,8 @@ write_of body = do
   let last = optional_at 4 value.1 in do
     priority ← ok_or (whole_of last.0 last.1) TooMany
     if is_priority priority
-      then Ok (record { reference = r.0; value = value.0; priority = priority })
-      else Err OutOfRange
+        then Ok (record { reference = r.0; value = value.0; priority = priority })
+        else Err OutOfRange
 
 -- What the body of a ReadProperty-ACK says. Where a request would be rejected for its body, it says nothing.
 unfoldable pub ack_of : List ℕ → Option Answer
