@@ -1,7 +1,7 @@
 //! The open requests.
 
-ghost use Rattle.std.specs.Prelude.{◌≡◌, None, replicate, ◌<◌, ◌≤◌, ◌++◌, [], ◌∷◌, ℕ, true, not, length, map, nat_eq};
-ghost use Rattle.std.specs.Prelude.{position, get_or, remove, set};
+ghost use Rattle.std.specs.Prelude.{◌≡◌, Some, None, replicate, ◌<◌, ◌≤◌, ◌++◌, [], ◌∷◌, ℕ, true, not, length, map, nat_eq};
+ghost use Rattle.std.specs.Prelude.{position, get_or, slice_get, remove, set};
 ghost use Rattle.std.specs.List.{All, AllPairs, filter, find, flat_map, list_any};
 ghost use Rattle.std.specs.Option.{option_copied, option_to_list};
 ghost use Rattle.bac_tsm.specs.Limits.{longest_body, table_size};
@@ -205,7 +205,7 @@ impl Table {
         requires past { All (λ w. w.base ≤ clock) self.old }
         ensures { IsPassed (client_rules config.timeout config.retries) clock self.old result self.new }
     {
-        let slot = self.sends[0];
+        let slot = first_sent(&self.sends);
         let entry = held(&self.slots, slot).due_entry(config);
         match entry {
             Entry::Resend(_) => {
@@ -234,6 +234,14 @@ impl Table {
         self.tickets.remove(rank);
         take_out(&mut self.sends, slot, rank);
     }
+}
+
+// The slot that was sent longest ago.
+fn first_sent(sends: &ArrayVec<u8, PLACES>) -> u8
+    requires { 0 < length sends.now.items }
+    ensures { Some result ≡ slice_get sends.now.items 0 }
+{
+    sends[0]
 }
 
 // The request at this slot.
