@@ -68,8 +68,8 @@ has_name device name =
 abbrev pub with_point : DeviceState → Description → DeviceState
 with_point device point = record device { standings = device.standings ++ standing_after [] point ∷ [] }
 
--- The device with this point, or the first fault that applies: there is no room left; a point is this object; a point or
--- the device has this name; no point can be as this one is given.
+-- The device with this point, or the first fault that applies: there is no room left; a point is this object; a point
+-- or the device has this name; no point can be as this one is given.
 unfoldable pub add_point : DeviceState → Given → Result DeviceState AddFault
 add_point device point =
     if length device.standings == device_room then Err TooMany

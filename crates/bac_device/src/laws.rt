@@ -11,16 +11,16 @@ ghost use Rattle.bac_device.specs.Places.{Write};
 ghost use Rattle.bac_device.specs.Device.{DeviceState, points_of, device_after, Holds};
 ghost use Rattle.bac_device.specs.Reply.{reply_of};
 ghost use Rattle.bac_device.specs.Size.{ReplyFits, RepliesFit};
-ghost use Rattle.bac_device.specs.Turns.{Arrival, AnswersInTurn, AreDefined, replies_to};
+ghost use Rattle.bac_device.specs.Turns.{Arrival, RepliesInTurn, AreDefined, replies_to};
 
 use crate::device::{AddFault, POINTS};
 use crate::point::{NAME_OCTETS, Point};
 
-/// Over any list of datagrams the replies of a device that answers each in turn are those of the definition, and its
+/// Over any list of datagrams the replies of a device that replies to each in turn are those of the definition, and its
 /// places are those after the accepted writes.
-pub fn answers_in_turn()
+pub fn replies_in_turn()
     ensures { (device : DeviceState) (arrivals : List Arrival) (replies : List (Option (Station × List ℕ)))
-        (after : DeviceState) (writes : List Write) → AnswersInTurn device arrivals replies after → Holds device writes
+        (after : DeviceState) (writes : List Write) → RepliesInTurn device arrivals replies after → Holds device writes
         → AreDefined device writes arrivals replies after }
 {}
 
