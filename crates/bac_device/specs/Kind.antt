@@ -14,7 +14,7 @@ use Rattle.bac_device.specs.declared.kind.Role.{Role}
 use Rattle.bac_device.specs.declared.kind.Role.TheVariants as roles
 use Rattle.bac_device.specs.declared.kind.Kind.{Kind}
 
--- What a type of point is.
+-- The kind of this family and role.
 abbrev pub kind : Family → Role → Kind
 kind family role = record { family = family; role = role }
 

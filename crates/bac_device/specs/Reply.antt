@@ -1,4 +1,4 @@
--- What the device answers to a datagram, and which write it accepts (clauses 5.4, 15.5, 15.9 and 16.10).
+-- What the device replies to a datagram, and which write it accepts (clauses 5.4, 15.5, 15.9 and 16.10).
 use Rattle.std.specs.Prelude.{ℕ, ◌==◌, nat_le, Bool, true, false, not, ◌&&◌, ◌||◌, if◌then◌else◌, List, ◌++◌, length}
 use Rattle.std.specs.Prelude.{map, Option, Some, None, is_some, is_none, Result, Ok, Err}
 use Rattle.std.specs.Option.{option_and_then, option_map, option_to_list, ok_or}
@@ -93,17 +93,17 @@ unless_failed id service made (Ok x) = made x
 unless_failed id service made (Err failure) = error id service (error_octets (error_class failure) (error_code failure))
 
 -- The object that a reply names: the device under its own instance, and any other as it was asked for.
-abbrev pub answered_object : Info → Identifier → Identifier
-answered_object info object = if is_device info object then device_object info else object
+abbrev pub replied_object : Info → Identifier → Identifier
+replied_object info object = if is_device info object then device_object info else object
 
 -- What is acknowledged: the object, the property and the index that were asked for, and the values.
-abbrev pub answer_to : DeviceState → Reference → Property → Answer
-answer_to device r property =
-    record { reference = record r { object = answered_object device.info r.object }; value = region_octets property }
+abbrev pub acknowledged : DeviceState → Reference → Property → Answer
+acknowledged device r property =
+    record { reference = record r { object = replied_object device.info r.object }; value = region_octets property }
 
 -- The ReadProperty-ACK with these values.
 abbrev pub ack : DeviceState → ℕ → Reference → Property → Message
-ack device id r property = complex_ack None id 12 (ack_octets (answer_to device r property))
+ack device id r property = complex_ack None id 12 (ack_octets (acknowledged device r property))
 
 -- The reply to a ReadProperty with this body.
 unfoldable pub read_reply : DeviceState → ℕ → List ℕ → Message
@@ -162,7 +162,8 @@ who_is_reply info body =
 
 -- ---- the reply to an APDU, and to a datagram
 
--- The reply to an APDU: a Who-Is (8) is answered, and a confirmed request that was not sent to all.
+-- The reply to an APDU: there is one to a Who-Is (8) that asks for the device, and to a confirmed request that was not
+-- sent to all.
 abbrev pub reply_message : DeviceState → Bool → Message → Option Message
 reply_message device broadcast (confirmed part code id service body) =
     if broadcast then None else Some (fitting code id (full_reply device part id service body))

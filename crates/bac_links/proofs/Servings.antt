@@ -8,7 +8,7 @@ use Rattle.std.proofs.lemmas.Bool.{le-leb, lt-leb}
 use Rattle.bac_pdu.specs.Peer.{Station}
 use Rattle.bac_device.specs.Places.{Write}
 use Rattle.bac_device.specs.Device.{DeviceState, Holds}
-use Rattle.bac_device.specs.Turns.{Arrival as Came, AnswersInTurn, AreDefined}
+use Rattle.bac_device.specs.Turns.{Arrival as Came, RepliesInTurn, AreDefined}
 use Rattle.bac_device.proofs.StateLaws.{in_turn}
 use Rattle.bac_links.specs.Limits.{most_turns, serve_wait}
 use Rattle.bac_links.specs.Foretold.{Foretold, Heard, Silence, Arrival, Failure, Sending, after_wait, waited}
@@ -37,7 +37,7 @@ pub record ServesOver (t : Foretold) (gained : List Entry) (arrivals : List Came
 pub record ServeGoes (before device : DeviceState) (seen link : Account) (count came replied n : ℕ) : Type 0 where
   pub arrivals : List Came
   pub replies : List (Option (Station × List ℕ))
-  pub in_turn : AnswersInTurn before arrivals replies device
+  pub in_turn : RepliesInTurn before arrivals replies device
   pub came_is : came ≡ length arrivals
   pub replied_is : replied ≡ reply_count replies
   pub so_far : Over seen link (λ gained t. ServesOver t gained arrivals replies count n)
@@ -45,22 +45,22 @@ pub record ServeGoes (before device : DeviceState) (seen link : Account) (count 
 -- ---- datagrams one after another
 
 turns-append : (before middle after : DeviceState) (xs ys : List Came) (rs ss : List (Option (Station × List ℕ))) →
-    AnswersInTurn before xs rs middle → AnswersInTurn middle ys ss after
-    → AnswersInTurn before (xs ++ ys) (rs ++ ss) after
+    RepliesInTurn before xs rs middle → RepliesInTurn middle ys ss after
+    → RepliesInTurn before (xs ++ ys) (rs ++ ss) after
 turns-append before middle after [] ys [] ss first second =
-    subst (λ (d : DeviceState). AnswersInTurn d ys ss after) first second
+    subst (λ (d : DeviceState). RepliesInTurn d ys ss after) first second
 turns-append before middle after (x ∷ xs) ys (r ∷ rs) ss (next, one, rest) second =
     (next, one, turns-append next middle after xs ys rs ss rest second)
 turns-append before middle after _ ys _ ss first second = absurd first
 
 same_length : (before after : DeviceState) (xs : List Came) (rs : List (Option (Station × List ℕ)))
-    → AnswersInTurn before xs rs after → length xs ≡ length rs
+    → RepliesInTurn before xs rs after → length xs ≡ length rs
 same_length before after [] [] turns = refl
 same_length before after (x ∷ xs) (r ∷ rs) (next, one, rest) = ap suc (same_length next after xs rs rest)
 same_length before after _ _ turns = absurd turns
 
 defined : (before after : DeviceState) (xs : List Came) (rs : List (Option (Station × List ℕ)))
-    → AnswersInTurn before xs rs after → (writes : List Write) → Holds before writes
+    → RepliesInTurn before xs rs after → (writes : List Write) → Holds before writes
     → AreDefined before writes xs rs after
 defined before after xs rs turns writes holds = in_turn before xs rs after writes turns holds
 
@@ -265,7 +265,7 @@ module _ (before device : DeviceState) (seen mid : Account) (count came replied 
     goes.arrivals,
     goes.replies,
     defined before after goes.arrivals goes.replies
-        (subst (AnswersInTurn before goes.arrivals goes.replies) (sym one.0) goes.in_turn),
+        (subst (RepliesInTurn before goes.arrivals goes.replies) (sym one.0) goes.in_turn),
     (
       tt,
       over_on seen mid left _ _ goes.so_far (Waited serve_wait Failure ∷ []) one.1 (λ now. (now, tt))

@@ -27,7 +27,7 @@ abbrev pub outcome_of_event : Rules → Request → Option Event → Option Outc
 outcome_of_event rules request (Some (Data peer bytes)) = rules.outcome_of request peer bytes
 outcome_of_event rules request _ = None
 
--- The number of the last of these requests, 0 if there is none.
+-- The invoke id of the last of these requests, 0 if there is none.
 abbrev pub last_number : List Accepted → ℕ
 last_number requests = fold (λ last a. a.request.number) 0 requests
 

@@ -4,7 +4,7 @@ use Rattle.std.specs.Option.{option_to_list}
 use Rattle.std.specs.List.{flat_map}
 use Rattle.bac_pdu.specs.Peer.{Station}
 use Rattle.bac_device.specs.Device.{DeviceState}
-use Rattle.bac_device.specs.Turns.{AnswersInTurn}
+use Rattle.bac_device.specs.Turns.{RepliesInTurn}
 use Rattle.bac_links.specs.Limits.{serve_wait}
 use Rattle.bac_links.specs.Foretold.{Heard, Failure}
 use Rattle.bac_links.specs.History.{Waited, Unposted, Account, GainsAll, Gains}
@@ -32,11 +32,11 @@ reply_count replies = length (flat_map option_to_list replies)
 -- One wait, and the answer to what it brought.
 abbrev pub ServesOne : DeviceState → DeviceState → Account → Account → Result Brought ToolFault → Type 0
 ServesOne before after seen left (Ok brings) =
-    (heard : Heard) × (replies : List (Option (Station × List ℕ))) × AnswersInTurn before (came_by heard) replies after
+    (heard : Heard) × (replies : List (Option (Station × List ℕ))) × RepliesInTurn before (came_by heard) replies after
     × (heard ≢ Failure) × (came_in brings ≡ length (came_by heard)) × (replied_in brings ≡ reply_count replies)
     × GainsAll (serve_entries (heard ∷ []) replies) seen left
 ServesOne before after seen left (Err SendFailed) =
-    (heard : Heard) × (reply : Station × List ℕ) × AnswersInTurn before (came_by heard) (Some reply ∷ []) after
+    (heard : Heard) × (reply : Station × List ℕ) × RepliesInTurn before (came_by heard) (Some reply ∷ []) after
     × (heard ≢ Failure) × GainsAll (Waited serve_wait heard ∷ Unposted reply.0 reply.1 ∷ []) seen left
 ServesOne before after seen left (Err ReceiveFailed) = (after ≡ before) × Gains (Waited serve_wait Failure) seen left
 ServesOne before after seen left (Err TurnsSpent) = ⊥
