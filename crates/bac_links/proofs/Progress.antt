@@ -1,27 +1,33 @@
--- A call whose turns are prompt ends in time.
-use Rattle.std.proofs.Common.{◌≡◌, ℕ, zero, suc, ◌+◌, ◌*◌, ◌<◌, ◌≤◌, max, List, [], ◌∷◌, ◌++◌, length, Option, Some}
-use Rattle.std.proofs.Common.{None, Result, Ok, Err, false, subst, arith, ap, sym, ◌∙◌, inl, inr}
-use Rattle.std.proofs.lemmas.List.{take_all, take-append-le}
-use Rattle.std.proofs.lemmas.Bool.{cases_lt}
+-- A call whose times follow promptly ends in time.
+use Rattle.std.proofs.Common.{◌≡◌, ℕ, suc, ◌+◌, ◌*◌, ◌<◌, ◌≤◌, max, List, [], ◌∷◌, ◌++◌, length, Option, Some}
+use Rattle.std.proofs.Common.{None, Result, Ok, Err, subst, arith, ap, sym, ◌∙◌, inl, inr, All, nat_lt}
+use Rattle.std.proofs.Common.{refl}
+use Rattle.std.proofs.lemmas.List.{take_all, take-append-le, append_cancel_left}
+use Rattle.std.proofs.lemmas.List.Elements.{All-nil, All-cons}
+use Rattle.std.proofs.lemmas.Bool.{cases_Bool, cases_lt}
+use Rattle.std.specs.List.{last_or}
 use Rattle.bac_tsm.specs.Positions.{greatest_tick}
 use Rattle.bac_tsm.specs.Events.{Outcome, Event, Tick}
-use Rattle.bac_tsm.specs.Lookahead.{clock}
+use Rattle.bac_tsm.specs.Lookahead.{End, clock}
 use Rattle.bac_tsm.proofs.Progress.{clock_rises, open_soon, never_due}
 use Rattle.bac_text.specs.declared.checked.Checked.{Checked}
-use Rattle.bac_links.specs.Foretold.{Foretold, after_wait, waited}
-use Rattle.bac_links.specs.Call.{rules_for, asked, events_of, entries_of, entries_to, has_ended, EndsIn}
-use Rattle.bac_links.specs.Call.{FailsToSend, Tells}
-use Rattle.bac_links.specs.History.{Entry, Posted, Unposted, foretold_after, Account, Over}
-use Rattle.bac_links.proofs.Courses.{was_due, wait_at}
-use Rattle.bac_links.proofs.Histories.{foretold_after-append, over_map}
-use Rattle.bac_links.proofs.CallTurns.{left_so}
+use Rattle.bac_links.specs.Limits.{most_turns}
+use Rattle.bac_links.specs.Foretold.{Silence, Arrival, Failure}
+use Rattle.bac_links.specs.History.{Entry, Waited, Timed, Posted, Unposted, Account}
+use Rattle.bac_links.specs.Asking.{Move, Asks, ForTime, Follows, times_in, turn_after}
+use Rattle.bac_links.specs.Handed.{handed_of}
+use Rattle.bac_links.specs.Call.{rules_for, asked, end_in, events_of, Comes, or_ended, move_behind, move}
+use Rattle.bac_links.specs.Call.{Calls, Tells}
 use Rattle.bac_links.specs.Inner.CallSteps.{wait_of}
-use Rattle.bac_links.specs.Progress.{IsPrompt}
+use Rattle.bac_links.specs.Progress.{ArePrompt}
 use Rattle.bac_links.specs.declared.ending.Purpose.{Purpose}
 use Rattle.bac_links.specs.declared.ending.Exit.{Exit}
 use Rattle.bac_links.specs.declared.fault.ToolFault.{ToolFault}
 use Rattle.bac_links.specs.declared.fault.ToolFault.TheVariants.{SendFailed, ReceiveFailed, TurnsSpent, WriteFailed}
 use Rattle.bac_text.specs.declared.jobs.Call.{Call}
+use Rattle.bac_links.proofs.CallTurns.{handed_push}
+
+-- ---- the clock over some events
 
 all_by : (events : List Event) (j : ℕ) → length events ≤ j → clock events j ≡ greatest_tick events
 all_by events j le = ap greatest_tick (take_all j events le)
@@ -52,158 +58,145 @@ greatest_tick-append (Tick now ∷ first) next =
     greatest_tick-append first next in omega arith
 greatest_tick-append (_ ∷ first) next = greatest_tick-append first next
 
--- ---- what takes no longer than this
+-- ---- the time is asked for while the request is open
 
-module _ (longest : ℕ) where
-  prompt_first : (xs ys : List Entry) (t : Foretold) → IsPrompt longest (xs ++ ys) t → IsPrompt longest xs t
-  prompt_first [] ys t p = tt
-  prompt_first (x ∷ xs) ys t p = (p.0, prompt_first xs ys (foretold_after (x ∷ []) t) p.1)
+some_last : {A : Type 0} (x : A) (xs : List A) → last_or (Some x) xs ≡ None → ⊥
+some_last x [] e = cc
+some_last x (y ∷ xs) e = some_last y xs e
 
-  prompt_then : (xs ys : List Entry) (t : Foretold) → IsPrompt longest (xs ++ ys) t
-      → IsPrompt longest ys (foretold_after xs t)
-  prompt_then [] ys t p = p
-  prompt_then (x ∷ xs) ys t p =
-      subst (IsPrompt longest ys) (sym (foretold_after-append (x ∷ []) xs t))
-      (prompt_then xs ys (foretold_after (x ∷ []) t) p.1)
+still_open : (x : Option End) (other : Move Comes) → or_ended x other ≡ Asks ForTime → x ≡ None
+still_open None other e = refl
+still_open (Some x) other e = cc
 
-  prompt_both : (xs ys : List Entry) (t : Foretold) → IsPrompt longest xs t → IsPrompt longest ys (foretold_after xs t)
-      → IsPrompt longest (xs ++ ys) t
-  prompt_both [] ys t p q = q
-  prompt_both (x ∷ xs) ys t p q = (
-    p.0,
-    prompt_both xs ys (foretold_after (x ∷ []) t) p.1
-        (subst (IsPrompt longest ys) (foretold_after-append (x ∷ []) xs t) q),
-  )
+module _ (purpose : Purpose) (call : Call) where
+  open_behind : (gained : List Entry) (o : Option Entry) → (o ≡ None → ⊥)
+      → move_behind purpose call gained o ≡ Asks ForTime → end_in purpose call (events_of purpose call gained) ≡ None
+  open_behind gained None some e = absurd (some refl)
+  open_behind gained (Some (Timed time)) some e = still_open _ _ e
+  open_behind gained (Some (Waited wait Silence)) some e = still_open _ _ e
+  open_behind gained (Some (Waited wait (Arrival from octets))) some e = still_open _ _ e
+  open_behind gained (Some (Waited wait Failure)) some e = cc
+  open_behind gained (Some (Unposted to octets)) some e = cc
+  open_behind gained (Some (Posted to octets)) some e = absurd (turns _ e)
+    where
+      turns : (n : ℕ) → turn_after {X = Option Outcome} (wait_of call) n ≡ Asks ForTime → ⊥
+      turns n e = elim (cases_Bool (nat_lt n most_turns)) [
+        | inl y ↦ let bad = rw y at e in cc
+        | inr k ↦ let bad = rw k at e in cc
+      ]
 
-module _ (purpose : Purpose) (call : Call) (t : Foretold) (longest : ℕ) where
-  abbrev time_after : ℕ → ℕ
-  time_after n = (waited (wait_of call) n t).time []
+  -- ---- one entry after another
 
-  -- None of the first n turns takes longer.
-  abbrev IsSteady : ℕ → Type 0
-  IsSteady n = (k : ℕ) → k < n → time_after (suc k) ≤ time_after k + longest
+  module _ (longest first : ℕ) where
+    abbrev events : List Entry → List Event
+    events before = events_of purpose call (Timed first ∷ before)
 
-  fewer : (n : ℕ) → IsSteady (suc n) → IsSteady n
-  fewer n steady = λ k less. steady k (omega arith)
+    -- Of these events none moves the clock by more than so much; and this time was told.
+    record IsSteadyOver (all : List Event) (now : ℕ) : Type 0 where
+      steady : (j : ℕ) → 1 < j → clock all (suc j) ≤ clock all j + longest
+      reached : now ≤ greatest_tick all
 
-  greatest_next : (n : ℕ)
-      → greatest_tick (events_of purpose call t (suc n))
-      ≡ max (greatest_tick (events_of purpose call t n)) (time_after (suc n))
-  greatest_next n =
-      greatest_tick-append (events_of purpose call t n) _
-      ∙ ap (max (greatest_tick (events_of purpose call t n))) (grind arith)
+    abbrev IsSteady : List Entry → ℕ → Type 0
+    IsSteady before = IsSteadyOver (events before)
 
-  reached : (n : ℕ) → time_after n ≤ greatest_tick (events_of purpose call t n)
-  reached zero = omega arith
-  reached (suc n) = omega (arith, greatest_next n)
+    events_push : (before : List Entry) (x : Entry) → events before ++ handed_of x ≡ events (before ++ x ∷ [])
+    events_push before x = ap (λ later. events [] ++ later) (sym (handed_push before x))
 
-  steady : (n : ℕ) → IsSteady n → (j : ℕ) → 1 < j
-      → clock (events_of purpose call t n) (suc j) ≤ clock (events_of purpose call t n) j + longest
-  steady zero turns j lt =
-      let here = all_by (events_of purpose call t 0) j (omega arith) in
-      let next = all_by (events_of purpose call t 0) (suc j) (omega arith) in
-      omega (arith, here, next)
-  steady (suc n) turns j lt =
-      let last = turns n (omega arith) in
-      steady_more longest (events_of purpose call t n) _ (steady n (fewer n turns))
-      (omega (arith, reached n, greatest_next n, last)) j lt
+    further : (before : List Entry) (x : Entry) (now next : ℕ) → IsSteady before now
+        → greatest_tick (handed_of x) ≤ greatest_tick (events before) + longest →
+        next ≤ max (greatest_tick (events before)) (greatest_tick (handed_of x)) → IsSteady (before ++ x ∷ []) next
+    further before x now next is small big =
+        let both = greatest_tick-append (events before) (handed_of x) in
+        subst (λ (all : List Event). IsSteadyOver all next) (events_push before x) (record {
+          steady = steady_more longest (events before) (handed_of x) is.steady (omega (arith, both, small));
+          reached = omega (arith, both, big);
+        })
 
-  -- While the request is open no more time has passed than this.
-  open_in_time : (n : ℕ) → IsSteady n → has_ended purpose call t n ≡ false
-      → time_after n ≤ t.time [] + call.retries * (call.timeout + longest) + call.timeout
-  open_in_time n turns still =
-      let all = events_of purpose call t n in
-      let soon : clock all (length all) ≤ clock all 2 + call.retries * (call.timeout + longest) + call.timeout =
-      open_soon (rules_for call) all 1 longest call.retries (length all) (steady n turns)
-      (never_due (rules_for call) all (asked purpose call) (grind (arith, still))) in
-      omega (arith, reached n, all_by all (length all) (omega arith), soon)
+    abbrev bound : ℕ
+    bound = first + suc call.retries * (call.timeout + longest)
 
-  -- What was gained leaves a time within the bound, where nothing took longer.
-  abbrev pub InTime : List Entry → Type 0
-  InTime gained = IsPrompt longest gained t
-      → (foretold_after gained t).time [] ≤ t.time [] + suc call.retries * (call.timeout + longest)
+    -- While the request is open no more time has passed than this.
+    open_in_time : (before : List Entry) (now : ℕ) → IsSteady before now
+        → end_in purpose call (events before) ≡ None
+        → now ≤ first + call.retries * (call.timeout + longest) + call.timeout
+    open_in_time before now is still =
+        let all = events before in
+        let soon : clock all (length all) ≤ clock all 2 + call.retries * (call.timeout + longest) + call.timeout =
+        open_soon (rules_for call) all 1 longest call.retries (length all) is.steady
+        (never_due (rules_for call) all (asked purpose call) (grind (arith, still))) in
+        omega (arith, is.reached, all_by all (length all) (omega arith), soon)
 
-  time_so : (n : ℕ) → (foretold_after (entries_of purpose call t n) t).time [] ≡ time_after n
-  time_so n = ap (λ (l : Foretold). l.time []) (left_so purpose call t n).1
+    bounded : (before rest : List Entry) (now : ℕ) → IsSteady before now
+        → Follows (move purpose call) (Timed first ∷ before) rest → ArePrompt longest now (times_in rest)
+        → All (λ time. time ≤ bound) (times_in rest)
+    bounded before [] now is follows prompt = All-nil (λ time. time ≤ bound)
+    bounded before (Timed time ∷ rest) now is follows prompt =
+        let still = open_behind (Timed first ∷ before) (last_or (Some (Timed first)) before)
+        (some_last (Timed first) before) follows.0 in
+        let soon = open_in_time before now is still in
+        All-cons (λ time. time ≤ bound) time (times_in rest) (omega (arith, soon, prompt.0))
+        (bounded (before ++ Timed time ∷ []) rest time
+        (further before (Timed time) now time is (omega (arith, is.reached, prompt.0)) (omega arith)) follows.1 prompt.1)
+    bounded before (Waited wait Silence ∷ rest) now is follows prompt =
+        bounded (before ++ Waited wait Silence ∷ []) rest now
+        (further before (Waited wait Silence) now now is (omega arith) (omega (arith, is.reached))) follows.1 prompt
+    bounded before (Waited wait Failure ∷ rest) now is follows prompt =
+        bounded (before ++ Waited wait Failure ∷ []) rest now
+        (further before (Waited wait Failure) now now is (omega arith) (omega (arith, is.reached))) follows.1 prompt
+    bounded before (Waited wait (Arrival from octets) ∷ rest) now is follows prompt =
+        bounded (before ++ Waited wait (Arrival from octets) ∷ []) rest now
+        (further before (Waited wait (Arrival from octets)) now now is (omega arith) (omega (arith, is.reached)))
+        follows.1 prompt
+    bounded before (Posted to octets ∷ rest) now is follows prompt =
+        bounded (before ++ Posted to octets ∷ []) rest now
+        (further before (Posted to octets) now now is (omega arith) (omega (arith, is.reached))) follows.1 prompt
+    bounded before (Unposted to octets ∷ rest) now is follows prompt =
+        bounded (before ++ Unposted to octets ∷ []) rest now
+        (further before (Unposted to octets) now now is (omega arith) (omega (arith, is.reached))) follows.1 prompt
 
-  -- A further wait.
-  wait_so : (n : ℕ) (rest : List Entry) → IsPrompt longest (entries_of purpose call t n ++ wait_at call t n ∷ rest) t
-      → time_after (suc n) ≤ time_after n + longest
-  wait_so n rest prompt =
-      subst (λ (l : Foretold). l.time (wait_of call ∷ []) ≤ l.time [] + longest) (left_so purpose call t n).1
-      (prompt_then longest (entries_of purpose call t n) (wait_at call t n ∷ rest) t prompt).0
+  in_time : (longest first : ℕ) (gained : List Entry) (later : List ℕ) → Follows (move purpose call) [] gained
+      → times_in gained ≡ first ∷ later → ArePrompt longest first later
+      → All (λ time. time ≤ first + suc call.retries * (call.timeout + longest)) later
+  in_time longest first [] later follows e prompt = cc
+  in_time longest first (Timed time ∷ more) later follows e prompt =
+      let is : time ≡ first = cc in
+      let times : times_in more ≡ later = cc in
+      subst (λ (k : ℕ). All (λ time. time ≤ k + suc call.retries * (call.timeout + longest)) later) is
+      (subst (All (λ t. t ≤ time + suc call.retries * (call.timeout + longest))) times
+      (bounded longest time [] more time (begun longest time) follows.1
+      (subst (λ (k : ℕ). ArePrompt longest k (times_in more)) (sym is)
+      (subst (ArePrompt longest first) (sym times) prompt))))
+    where
+      begun : (longest time : ℕ) → IsSteady longest time [] time
+      begun longest time = record {
+        steady = λ j lt.
+            let here = all_by (events longest time []) j (omega arith) in
+            let next = all_by (events longest time []) (suc j) (omega arith) in
+            omega (arith, here, next);
+        reached = omega arith;
+      }
+  in_time longest first (Waited wait heard ∷ more) later follows e prompt = let asks = follows.0 in cc
+  in_time longest first (Posted to octets ∷ more) later follows e prompt = let asks = follows.0 in cc
+  in_time longest first (Unposted to octets ∷ more) later follows e prompt = let asks = follows.0 in cc
 
-  turns_so : (n : ℕ) → IsPrompt longest (entries_of purpose call t n) t → IsSteady n
-  turns_so zero prompt = λ k less. absurd (omega arith)
-  turns_so (suc n) prompt = λ k less. elim (cases_lt k n) [
-    | inl before ↦ turns_so n (prompt_first longest (entries_of purpose call t n) _ t prompt) k before
-    | inr last ↦ let same : n ≡ k = omega arith in
-        subst (λ (k : ℕ). time_after (suc k) ≤ time_after k + longest) same (wait_so n _ prompt)
-  ]
+-- What a call comes to.
+calls_in : {W : Type 0} (contents : W → Option (List ℕ)) (purpose : Purpose) (call : Call)
+    (before after : Checked W) (seen left : Account) (result : Result Exit ToolFault)
+    → Tells purpose call contents before after seen left result
+    → (comes : Comes) × Calls purpose call seen left comes
+calls_in contents purpose call before after seen left (Ok exit) tells = (_, tells.3)
+calls_in contents purpose call before after seen left (Err WriteFailed) tells = (_, tells.2)
+calls_in contents purpose call before after seen left (Err SendFailed) tells = (_, tells)
+calls_in contents purpose call before after seen left (Err ReceiveFailed) tells = (_, tells)
+calls_in contents purpose call before after seen left (Err TurnsSpent) tells = (_, tells)
 
-  open_so : (n : ℕ) → has_ended purpose call t n ≡ false → InTime (entries_of purpose call t n)
-  open_so n still prompt = let h = open_in_time n (turns_so n prompt) still in omega (arith, h, time_so n)
-
-  waited_so : (n : ℕ) → has_ended purpose call t n ≡ false
-      → InTime (entries_of purpose call t n ++ wait_at call t n ∷ [])
-  waited_so n still prompt =
-      let h = open_in_time n (turns_so n (prompt_first longest (entries_of purpose call t n) _ t prompt)) still in
-      let last = wait_so n [] prompt in
-      let time = ap (λ (l : Foretold). l.time [])
-      (foretold_after-append (entries_of purpose call t n) (wait_at call t n ∷ []) t
-      ∙ ap (after_wait (wait_of call)) (left_so purpose call t n).1) in
-      omega (arith, h, last, time)
-
-  ended_so : (n : ℕ) → has_ended purpose call t n ≡ false → InTime (entries_of purpose call t (suc n))
-  ended_so n still prompt =
-      let h = open_in_time n (turns_so n (prompt_first longest (entries_of purpose call t n) _ t prompt)) still in
-      let last = wait_so n _ prompt in
-      omega (arith, h, last, time_so (suc n))
-
-  in_time : (xs ys : List Entry) → xs ≡ ys → InTime ys → InTime xs
-  in_time xs ys e = subst InTime (sym e)
-
-  at_end : (gained : List Entry) (ending : Option Outcome) (n : ℕ) → EndsIn purpose call t gained ending n
-      → InTime gained
-  at_end gained (Some outcome) n ends =
-      in_time _ _ ends.stops.0
-      (waited_so n
-      (was_due (wait_of call) t (has_ended purpose call t) n
-      (entries_to purpose call t (Some outcome)) gained ends.stops))
-  at_end gained None n ends =
-      in_time _ _ ends.stops.0
-      (ended_so n
-      (was_due (wait_of call) t (has_ended purpose call t) n (entries_to purpose call t None) gained ends.stops))
-
-  at_loss : (gained : List Entry) (n : ℕ) → FailsToSend purpose call t gained n → InTime gained
-  at_loss gained n fails = in_time _ _ fails.7 (λ prompt.
-      let lost = Unposted fails.4 fails.5 in
-      let due = Posted fails.4 fails.5 in
-      let before = prompt_first longest fails.3 (lost ∷ []) t prompt in
-      let all = subst (λ (xs : List Entry). IsPrompt longest xs t) (sym fails.6)
-      (prompt_both longest fails.3 (due ∷ []) t before (omega arith, tt)) in
-      let h = open_so n fails.2.unended all in
-      let posted = ap (λ (l : Foretold). l.time [])
-      (ap (λ (xs : List Entry). foretold_after xs t) fails.6 ∙ foretold_after-append fails.3 (due ∷ []) t) in
-      let unposted = ap (λ (l : Foretold). l.time []) (foretold_after-append fails.3 (lost ∷ []) t) in
-      omega (arith, h, posted, unposted))
-
-pub left_in_time : {W : Type 0} (contents : W → Option (List ℕ)) (purpose : Purpose) (call : Call)
-    (before after : Checked W)
-    (seen left : Account) (result : Result Exit ToolFault) (longest : ℕ) →
-    Tells purpose call contents before after seen left result
-    → Over seen left (λ gained t. InTime purpose call t longest gained)
-left_in_time contents purpose call before after seen left (Ok exit) longest tells =
-    over_map seen left _ _ tells.3 (λ gained t h. at_end purpose call t longest gained tells.0 h.0 h.1)
-left_in_time contents purpose call before after seen left (Err SendFailed) longest tells =
-    over_map seen left _ _ tells (λ gained t h. at_loss purpose call t longest gained h.0 h.1)
-left_in_time contents purpose call before after seen left (Err ReceiveFailed) longest tells =
-    over_map seen left _ _ tells
-    (λ gained t h.
-    in_time purpose call t longest _ _ h.2.0 (waited_so purpose call t longest h.0 h.2.2))
-left_in_time contents purpose call before after seen left (Err TurnsSpent) longest tells =
-    over_map seen left _ _ tells
-    (λ gained t h.
-    in_time purpose call t longest _ _ h.2.0 (open_so purpose call t longest h.0 h.2.2.unended))
-left_in_time contents purpose call before after seen left (Err WriteFailed) longest tells =
-    over_map seen left _ _ tells.2 (λ gained t h. at_end purpose call t longest gained tells.0 h.0 h.1)
+pub told_in_time : {W : Type 0} (contents : W → Option (List ℕ)) (purpose : Purpose) (call : Call)
+    (before after : Checked W) (seen left : Account) (result : Result Exit ToolFault) (gained : List Entry)
+    (longest first : ℕ) (later : List ℕ) → Tells purpose call contents before after seen left result
+    → left.history ≡ seen.history ++ gained → times_in gained ≡ first ∷ later → ArePrompt longest first later
+    → All (λ time. time ≤ first + suc call.retries * (call.timeout + longest)) later
+told_in_time contents purpose call before after seen left result gained longest first later tells gains times prompt =
+    let it = calls_in contents purpose call before after seen left result tells in
+    let is : it.1.gained ≡ gained =
+    append_cancel_left seen.history _ _ (ap (λ (s : Account). s.history) (sym it.1.gains.0) ∙ gains) in
+    in_time purpose call longest first gained later (subst (Follows (move purpose call) []) is it.1.follows) times prompt

@@ -6,7 +6,6 @@ use Rattle.std.specs.Result.{result_map_both, result_ok}
 use Rattle.clap.specs.Kinds.{IsAmong}
 use Rattle.clap.specs.Values.{kind_of}
 use Rattle.clap.specs.Words.{Text, fault_of}
-use Rattle.bac_device.proofs.StateLaws.{after_holds}
 use Rattle.bac_device.specs.Demo.{demo_points}
 use Rattle.bac_device.specs.Device.{device_after}
 use Rattle.bac_text.specs.Checked.{Took, fresh, octets_of}
@@ -94,15 +93,14 @@ module _ {V W : Type 0} (contents : V → Option (List ℕ)) (contents' : W → 
   tools (WhoIs search) a b =
       let both = searches_alike contents contents' search (fresh writer) wrote (fresh writer') wrote' seen left seen'
       left' answer answer' gained gained' a b gains gains' same in
-      let took = both.2 whole in
-      (both.0, took.1.passed ∙ sym took.2.passed, both.1)
+      let took = both.1.1 whole in
+      (both.0, took.1.passed ∙ sym took.2.passed, both.1.0)
   tools (Device serve) a b =
       let both = servings_alike serve.count (device_after serve.info demo_points []) a.0.device b.0.device seen left
-      seen' left' a.0.served b.0.served [] gained gained'
-      a.0.serves b.0.serves (after_holds serve.info demo_points []) gains gains' same in (
+      seen' left' a.0.served b.0.served gained gained' a.0.serves b.0.serves gains gains' same in (
         both.0,
         ap (λ (w : Checked V). octets_of w) a.1 ∙ sym (ap (λ (w : Checked W). octets_of w) b.1),
-        a.0.answers ∙ ap as_exit both.1 ∙ sym b.0.answers,
+        a.0.answers ∙ ap as_exit both.1.0 ∙ sym b.0.answers,
       )
   tools Trace a b = absurd a
 
