@@ -2,11 +2,11 @@
 use Rattle.std.proofs.Common.{◌≡◌, ℕ, ◌+◌, ◌<◌, ◌≤◌, List, [], ◌∷◌, ◌++◌, append_assoc, Option, Some, Result, Err}
 use Rattle.std.proofs.Common.{refl, sym, ap, ◌∙◌, subst, arith}
 use Rattle.std.proofs.lemmas.Bool.{lt-ltb, le-ltb}
-use Rattle.std.proofs.lemmas.List.{append-nil}
+use Rattle.std.proofs.lemmas.List.{append_cancel_left, append-nil}
 use Rattle.std.specs.List.{last_or}
-use Rattle.bac_links.specs.History.{Entry, Waited, Timed, Posted, Unposted}
+use Rattle.bac_links.specs.History.{Entry, Waited, Timed, Posted, Unposted, Account}
 use Rattle.bac_links.specs.Answered.{answer_of, answers_of, GoOnAlike}
-use Rattle.bac_links.specs.Asking.{Move, Asks, Ends, ForDatagram, question_of, Follows, waits_in, times_in}
+use Rattle.bac_links.specs.Asking.{Move, Asks, Ends, ForDatagram, question_of, Follows, Plays, waits_in, times_in}
 use Rattle.bac_links.specs.Asking.{turn_after}
 use Rattle.bac_links.specs.Limits.{most_turns}
 use Rattle.bac_links.specs.declared.fault.ToolFault.{ToolFault}
@@ -82,41 +82,60 @@ module _ {R : Type 0} (move : List Entry → Move R) where
   same_so_far before (x ∷ first) [] rest other_rest p q e = cc
 
   -- And so they go on.
-  module _ {A : Type 0} (IsCutOff : A → Type 0) (Alike : A → A → Type 0) (first rest other_rest : List Entry)
-      (r s : A) (cut : rest ≡ [] → (x : Entry) → move first ≡ Asks (question_of x) → IsCutOff r)
-      (other_cut : other_rest ≡ [] → (x : Entry) → move first ≡ Asks (question_of x) → IsCutOff s)
-      (ends : rest ≡ [] → other_rest ≡ [] → Alike r s) where
+  module _ {A : Type 0} (IsCutOff : A → Type 0) (EndAlike PrintAlike : A → A → Type 0)
+      (first rest other_rest : List Entry) (r s : A)
+      (cut : rest ≡ [] → (x : Entry) → move first ≡ Asks (question_of x) → IsCutOff r × PrintAlike r s)
+      (other_cut : other_rest ≡ [] → (x : Entry) → move first ≡ Asks (question_of x) → IsCutOff s × PrintAlike r s)
+      (ends : rest ≡ [] → other_rest ≡ [] → EndAlike r s × PrintAlike r s) where
     go_on : (xs ys : List Entry) → rest ≡ xs → other_rest ≡ ys → Follows move first xs → Follows move first ys
-        → GoOnAlike IsCutOff Alike r s xs ys
+        → GoOnAlike IsCutOff EndAlike PrintAlike r s xs ys
     go_on [] [] e f p q = ends e f
     go_on (x ∷ xs) (y ∷ ys) e f p q = asks_one (move first) x y p.0 q.0
     go_on [] (y ∷ ys) e f p q = cut e y q.0
     go_on (x ∷ xs) [] e f p q = other_cut f x p.0
 
-    pub so_far : (other : List Entry) → Follows move [] (first ++ rest) → Follows move [] (other ++ other_rest)
-        → answers_of first ≡ answers_of other → (first ≡ other) × GoOnAlike IsCutOff Alike r s rest other_rest
-    so_far other p q same =
-        let one = same_so_far [] first other rest other_rest p q same in (
-          one,
-          go_on rest other_rest refl refl (follows_behind [] first rest p)
-              (subst (λ (b : List Entry). Follows move b other_rest) (sym one) (follows_behind [] other other_rest q)),
-        )
+    pub so_far : (other : List Entry) → first ≡ other → Follows move [] (first ++ rest)
+        → Follows move [] (other ++ other_rest) → GoOnAlike IsCutOff EndAlike PrintAlike r s rest other_rest
+    so_far other one p q =
+        go_on rest other_rest refl refl (follows_behind [] first rest p)
+        (subst (λ (b : List Entry). Follows move b other_rest) (sym one) (follows_behind [] other other_rest q))
 
--- Where neither is cut off.
-module _ {R : Type 0} (move : List Entry → Move R) where
-  over : (first rest : List Entry) (r : R) → move (first ++ rest) ≡ Ends r → rest ≡ []
-      → move first ≡ Ends r
-  over first rest r e none = ap move (sym (ap (λ (xs : List Entry). first ++ xs) none ∙ append-nil first)) ∙ e
+-- What was gained, by a history as it stands.
+pub played : {R : Type 0} (move : List Entry → Move R) (seen left : Account) (result : R) (gained : List Entry)
+    → (plays : Plays move seen left result) → left.history ≡ seen.history ++ gained → plays.gained ≡ gained
+played move seen left result gained plays gains =
+    append_cancel_left seen.history _ _ (ap (λ (s : Account). s.history) (sym plays.gains.0) ∙ gains)
 
-  pub alike : (first rest other other_rest : List Entry) (r s : R) → Follows move [] (first ++ rest)
-      → Follows move [] (other ++ other_rest) → move (first ++ rest) ≡ Ends r → move (other ++ other_rest) ≡ Ends s
-      → answers_of first ≡ answers_of other
-      → (first ≡ other) × GoOnAlike (λ r. ⊥) (λ (r s : R). r ≡ s) r s rest other_rest
-  alike first rest other other_rest r s p q e f same =
+-- Two that play to their ends: they stop together.
+module _ {R A : Type 0} (move : List Entry → Move R) (EndAlike PrintAlike : A → A → Type 0)
+    (seen left other_seen other_left : Account) (first rest other other_rest : List Entry) (c d : R) (r s : A)
+    (plays : Plays move seen left c) (others : Plays move other_seen other_left d)
+    (ends : c ≡ d → plays.gained ≡ first ++ rest → others.gained ≡ other ++ other_rest → rest ≡ [] → other_rest ≡ []
+    → first ≡ other → EndAlike r s × PrintAlike r s) where
+  pub to_the_end : left.history ≡ seen.history ++ (first ++ rest)
+      → other_left.history ≡ other_seen.history ++ (other ++ other_rest) → answers_of first ≡ answers_of other
+      → (first ≡ other) × GoOnAlike (λ r. ⊥) EndAlike PrintAlike r s rest other_rest
+  to_the_end gains other_gains same =
+      let here = played move seen left c (first ++ rest) plays gains in
+      let there = played move other_seen other_left d (other ++ other_rest) others other_gains in
+      let p = subst (Follows move []) here plays.follows in
+      let q = subst (Follows move []) there others.follows in
       let one = same_so_far move [] first other rest other_rest p q same in
-      let f' = ap (λ (b : List Entry). move (b ++ other_rest)) one ∙ f in
-      so_far move (λ r. ⊥) (λ (r s : R). r ≡ s) first rest other_rest r s
-      (λ none x asks. let ends = over first rest r e none in let both = sym ends ∙ asks in cc)
-      (λ none x asks. let ends = over first other_rest s f' none in let both = sym ends ∙ asks in cc)
-      (λ none none'. let both = sym (over first rest r e none) ∙ over first other_rest s f' none' in cc)
-      other p q same
+      let over : rest ≡ [] → move first ≡ Ends c = λ none.
+      ap move (sym (append-nil first) ∙ sym (ap (λ (xs : List Entry). first ++ xs) none) ∙ sym here) ∙ plays.over in
+      let other_over : other_rest ≡ [] → move first ≡ Ends d = λ none.
+      ap move (one ∙ sym (append-nil other) ∙ sym (ap (λ (xs : List Entry). other ++ xs) none) ∙ sym there)
+      ∙ others.over in (
+        one,
+        so_far move (λ r. ⊥) EndAlike PrintAlike first rest other_rest r s
+            (λ none x asks. absurd (never c x (over none) asks))
+            (λ none x asks. absurd (never d x (other_over none) asks))
+            (λ none other_none. ends (both (over none) (other_over other_none)) here there none other_none one)
+            other one p q,
+      )
+    where
+      never : (e : R) (x : Entry) → move first ≡ Ends e → move first ≡ Asks (question_of x) → ⊥
+      never e x over asks = let no = sym over ∙ asks in cc
+
+      both : move first ≡ Ends c → move first ≡ Ends d → c ≡ d
+      both over other_over = let same = sym over ∙ other_over in cc

@@ -233,11 +233,13 @@ module _ (purpose : Purpose) (call : Call) (seen left : Account) (time : ℕ) (m
       GainsAll (Timed time ∷ (more ++ Unposted to octets ∷ [])) seen left
       → Calls purpose call seen left (Err SendFailed)
   loses to octets one gains = record {
-    gained = Timed time ∷ (more ++ Unposted to octets ∷ []);
-    gains = gains;
+    plays = record {
+      gained = Timed time ∷ (more ++ Unposted to octets ∷ []);
+      gains = gains;
+      follows = follows_sent (Unposted to octets) to octets one refl;
+      over = behind purpose call (Timed time ∷ more) (Unposted to octets);
+    };
     request = accepted_so purpose call time more client carried (more ++ Unposted to octets ∷ []);
-    follows = follows_sent (Unposted to octets) to octets one refl;
-    over = behind purpose call (Timed time ∷ more) (Unposted to octets);
   }
 
 -- ---- a turn
@@ -259,11 +261,8 @@ module _ (purpose : Purpose) (call : Call) (seen mid next : Account) (client : C
 
   comes : (r : Comes) → move purpose call (Timed far.time ∷ waited) ≡ Ends r → Calls purpose call seen next r
   comes r over = record {
-    gained = Timed far.time ∷ waited;
-    gains = gains_waited;
+    plays = record { gained = Timed far.time ∷ waited; gains = gains_waited; follows = follows_waited; over = over };
     request = accepted_so purpose call far.time far.more client far.carried waited;
-    follows = follows_waited;
-    over = over;
   }
 
   behind_waited : heard ≢ Failure → (e : Option End)
@@ -352,18 +351,20 @@ module _ (purpose : Purpose) (call : Call) (seen mid next : Account) (client : C
       pub timed_out : endings ticked.notes ≡ timeouts true → GainsAll (Timed now ∷ posts ticked.notes) next last
           → Calls purpose call seen last (Ok None)
       timed_out one ticks = record {
-        gained = Timed far.time ∷ timed;
-        gains = subst (λ (xs : List Entry). GainsAll (Timed far.time ∷ xs) seen last)
-            (ap (λ (xs : List Entry). timed ++ xs) (unsent_at_end (rules_of middle) middle.state now alone one)
-            ∙ append-nil timed)
-            (gains_timed (posts ticked.notes) ticks);
+        plays = record {
+          gained = Timed far.time ∷ timed;
+          gains = subst (λ (xs : List Entry). GainsAll (Timed far.time ∷ xs) seen last)
+              (ap (λ (xs : List Entry). timed ++ xs) (unsent_at_end (rules_of middle) middle.state now alone one)
+              ∙ append-nil timed)
+              (gains_timed (posts ticked.notes) ticks);
+          follows = follows_timed;
+          over = behind purpose call (Timed far.time ∷ waited) (Timed now)
+              ∙ ap (λ (e : Option End). or_ended e
+              (or_sent (sent_last purpose call (events_of purpose call (Timed far.time ∷ timed)))
+              (turn_after (wait_of call) (waits_in timed))))
+              (ends_so purpose call far.time waited middle hears (Timed now) (Tick now) tt refl None one);
+        };
         request = accepted_so purpose call far.time waited middle hears timed;
-        follows = follows_timed;
-        over = behind purpose call (Timed far.time ∷ waited) (Timed now)
-            ∙ ap (λ (e : Option End). or_ended e
-            (or_sent (sent_last purpose call (events_of purpose call (Timed far.time ∷ timed)))
-            (turn_after (wait_of call) (waits_in timed))))
-            (ends_so purpose call far.time waited middle hears (Timed now) (Tick now) tt refl None one);
       }
 
       -- The request could not be sent again.
@@ -419,22 +420,24 @@ module _ (purpose : Purpose) (call : Call) (seen left : Account) (time : ℕ)
 pub spent : (purpose : Purpose) (call : Call) (seen left : Account) (client : Client) (n : ℕ) → n ≡ most_turns
     → Underway purpose call seen left client n → Calls purpose call seen left (Err TurnsSpent)
 spent purpose call seen left client n all far = record {
-  gained = Timed far.time ∷ far.more;
-  gains = far.gains;
+  plays = record {
+    gained = Timed far.time ∷ far.more;
+    gains = far.gains;
+    follows = far.follows;
+    over = far.next ∙ turns_over (wait_of call) n (omega (arith, all));
+  };
   request = accepted_so purpose call far.time far.more client far.carried far.more;
-  follows = far.follows;
-  over = far.next ∙ turns_over (wait_of call) n (omega (arith, all));
 }
 
 module _ {W : Type 0} (purpose : Purpose) (call : Call) (contents : W → Option (List ℕ)) (before after : Checked W)
     (seen left : Account) where
   -- A call that fails so tells it.
-  pub fails_so : (fault : ToolFault) → fault ≢ WriteFailed → Calls purpose call seen left (Err fault)
+  pub fails_so : (fault : ToolFault) → fault ≢ WriteFailed → after ≡ before → Calls purpose call seen left (Err fault)
       → Tells purpose call contents before after seen left (Err fault)
-  fails_so WriteFailed other failed = absurd (other refl)
-  fails_so SendFailed other failed = failed
-  fails_so ReceiveFailed other failed = failed
-  fails_so TurnsSpent other failed = failed
+  fails_so WriteFailed other unprinted failed = absurd (other refl)
+  fails_so SendFailed other unprinted failed = (unprinted, failed)
+  fails_so ReceiveFailed other unprinted failed = (unprinted, failed)
+  fails_so TurnsSpent other unprinted failed = (unprinted, failed)
 
   -- What is shown of an end is what the call tells.
   pub shown_so : (ending : Option Outcome) (result : Result Exit ToolFault)

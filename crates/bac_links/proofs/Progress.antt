@@ -1,30 +1,27 @@
--- A call whose times follow promptly ends in time.
+-- A call whose waits are prompt ends in time.
 use Rattle.std.proofs.Common.{◌≡◌, ℕ, suc, ◌+◌, ◌*◌, ◌<◌, ◌≤◌, max, List, [], ◌∷◌, ◌++◌, length, Option, Some}
-use Rattle.std.proofs.Common.{None, Result, Ok, Err, subst, arith, ap, sym, ◌∙◌, inl, inr, All, nat_lt}
-use Rattle.std.proofs.Common.{refl}
-use Rattle.std.proofs.lemmas.List.{take_all, take-append-le, append_cancel_left}
-use Rattle.std.proofs.lemmas.List.Elements.{All-nil, All-cons}
-use Rattle.std.proofs.lemmas.Bool.{cases_Bool, cases_lt}
+use Rattle.std.proofs.Common.{None, Result, subst, arith, ap, sym, ◌∙◌, inl, inr, refl}
+use Rattle.std.proofs.lemmas.List.{take_all, take-append-le, append-nil}
+use Rattle.std.proofs.lemmas.Bool.{cases_lt}
 use Rattle.std.specs.List.{last_or}
+use Rattle.bac_pdu.specs.Peer.{Station}
 use Rattle.bac_tsm.specs.Positions.{greatest_tick}
-use Rattle.bac_tsm.specs.Events.{Outcome, Event, Tick}
+use Rattle.bac_tsm.specs.Events.{Event, Tick}
 use Rattle.bac_tsm.specs.Lookahead.{End, clock}
 use Rattle.bac_tsm.proofs.Progress.{clock_rises, open_soon, never_due}
 use Rattle.bac_text.specs.declared.checked.Checked.{Checked}
-use Rattle.bac_links.specs.Limits.{most_turns}
-use Rattle.bac_links.specs.Foretold.{Silence, Arrival, Failure}
+use Rattle.bac_links.specs.Foretold.{Heard, Silence, Arrival, Failure}
 use Rattle.bac_links.specs.History.{Entry, Waited, Timed, Posted, Unposted, Account}
-use Rattle.bac_links.specs.Asking.{Move, Asks, ForTime, Follows, times_in, turn_after}
+use Rattle.bac_links.specs.Asking.{Move, Asks, Question, ForDatagram, ForTime, question_of, Follows, waits_in}
 use Rattle.bac_links.specs.Handed.{handed_of}
-use Rattle.bac_links.specs.Call.{rules_for, asked, end_in, events_of, Comes, or_ended, move_behind, move}
-use Rattle.bac_links.specs.Call.{Calls, Tells}
-use Rattle.bac_links.specs.Inner.CallSteps.{wait_of}
-use Rattle.bac_links.specs.Progress.{ArePrompt}
+use Rattle.bac_links.specs.Call.{rules_for, asked, end_in, events_of, Comes, or_ended, move_behind, move, Tells}
+use Rattle.bac_links.specs.Progress.{AreTold, ArePrompt}
 use Rattle.bac_links.specs.declared.ending.Purpose.{Purpose}
 use Rattle.bac_links.specs.declared.ending.Exit.{Exit}
 use Rattle.bac_links.specs.declared.fault.ToolFault.{ToolFault}
-use Rattle.bac_links.specs.declared.fault.ToolFault.TheVariants.{SendFailed, ReceiveFailed, TurnsSpent, WriteFailed}
 use Rattle.bac_text.specs.declared.jobs.Call.{Call}
+use Rattle.bac_links.proofs.Alike.{went}
+use Rattle.bac_links.proofs.Asking.{last_push, played}
 use Rattle.bac_links.proofs.CallTurns.{handed_push}
 
 -- ---- the clock over some events
@@ -58,67 +55,70 @@ greatest_tick-append (Tick now ∷ first) next =
     greatest_tick-append first next in omega arith
 greatest_tick-append (_ ∷ first) next = greatest_tick-append first next
 
--- ---- the time is asked for while the request is open
+-- ---- a send and a wait are asked for while the request is open
 
-some_last : {A : Type 0} (x : A) (xs : List A) → last_or (Some x) xs ≡ None → ⊥
-some_last x [] e = cc
-some_last x (y ∷ xs) e = some_last y xs e
+open_still : (x : Option End) (other : Move Comes) (question : Question) → or_ended x other ≡ Asks question → x ≡ None
+open_still None other question e = refl
+open_still (Some x) other question e = cc
 
-still_open : (x : Option End) (other : Move Comes) → or_ended x other ≡ Asks ForTime → x ≡ None
-still_open None other e = refl
-still_open (Some x) other e = cc
+-- Behind these entries the time was told since the last wait.
+abbrev IsTimely : Entry → Type 0
+IsTimely (Timed time) = Unit {0}
+IsTimely (Posted to octets) = Unit {0}
+IsTimely _ = ⊥
 
 module _ (purpose : Purpose) (call : Call) where
-  open_behind : (gained : List Entry) (o : Option Entry) → (o ≡ None → ⊥)
-      → move_behind purpose call gained o ≡ Asks ForTime → end_in purpose call (events_of purpose call gained) ≡ None
-  open_behind gained None some e = absurd (some refl)
-  open_behind gained (Some (Timed time)) some e = still_open _ _ e
-  open_behind gained (Some (Waited wait Silence)) some e = still_open _ _ e
-  open_behind gained (Some (Waited wait (Arrival from octets))) some e = still_open _ _ e
-  open_behind gained (Some (Waited wait Failure)) some e = cc
-  open_behind gained (Some (Unposted to octets)) some e = cc
-  open_behind gained (Some (Posted to octets)) some e = absurd (turns _ e)
-    where
-      turns : (n : ℕ) → turn_after {X = Option Outcome} (wait_of call) n ≡ Asks ForTime → ⊥
-      turns n e = elim (cases_Bool (nat_lt n most_turns)) [
-        | inl y ↦ let bad = rw y at e in cc
-        | inr k ↦ let bad = rw k at e in cc
-      ]
+  abbrev IsOpen : List Entry → Type 0
+  IsOpen gained = end_in purpose call (events_of purpose call gained) ≡ None
+
+  for_time : (x : Option End) (question : Question) → or_ended x (Asks ForTime) ≡ Asks question → question ≡ ForTime
+  for_time None question e = cc
+  for_time (Some x) question e = cc
+
+  -- What is asked but the time is asked once the time was told, of a call whose request is open.
+  ready : (gained : List Entry) (last : Entry) (question : Question) → (question ≡ ForTime → ⊥)
+      → ((to : Station) (octets : List ℕ) → last ≡ Posted to octets → IsOpen gained)
+      → move_behind purpose call gained (Some last) ≡ Asks question → IsTimely last × IsOpen gained
+  ready gained (Timed time) question other sent e = (tt, open_still _ _ question e)
+  ready gained (Posted to octets) question other sent e = (tt, sent to octets refl)
+  ready gained (Unposted to octets) question other sent e = cc
+  ready gained (Waited wait Failure) question other sent e = cc
+  ready gained (Waited wait Silence) question other sent e = absurd (other (for_time _ question e))
+  ready gained (Waited wait (Arrival from octets)) question other sent e = absurd (other (for_time _ question e))
 
   -- ---- one entry after another
 
-  module _ (longest first : ℕ) where
+  module _ (time_behind : ℕ → ℕ) (longest first : ℕ) where
     abbrev events : List Entry → List Event
     events before = events_of purpose call (Timed first ∷ before)
 
-    -- Of these events none moves the clock by more than so much; and this time was told.
-    record IsSteadyOver (all : List Event) (now : ℕ) : Type 0 where
-      steady : (j : ℕ) → 1 < j → clock all (suc j) ≤ clock all j + longest
-      reached : now ≤ greatest_tick all
-
-    abbrev IsSteady : List Entry → ℕ → Type 0
-    IsSteady before = IsSteadyOver (events before)
-
-    events_push : (before : List Entry) (x : Entry) → events before ++ handed_of x ≡ events (before ++ x ∷ [])
-    events_push before x = ap (λ later. events [] ++ later) (sym (handed_push before x))
-
-    further : (before : List Entry) (x : Entry) (now next : ℕ) → IsSteady before now
-        → greatest_tick (handed_of x) ≤ greatest_tick (events before) + longest →
-        next ≤ max (greatest_tick (events before)) (greatest_tick (handed_of x)) → IsSteady (before ++ x ∷ []) next
-    further before x now next is small big =
-        let both = greatest_tick-append (events before) (handed_of x) in
-        subst (λ (all : List Event). IsSteadyOver all next) (events_push before x) (record {
-          steady = steady_more longest (events before) (handed_of x) is.steady (omega (arith, both, small));
-          reached = omega (arith, both, big);
-        })
+    abbrev open_bound : ℕ
+    open_bound = first + call.retries * (call.timeout + longest) + call.timeout
 
     abbrev bound : ℕ
     bound = first + suc call.retries * (call.timeout + longest)
 
+    -- Of these events none moves the clock by more than so much; and this time was told.
+    record IsSteady (all : List Event) (now : ℕ) : Type 0 where
+      steady : (j : ℕ) → 1 < j → clock all (suc j) ≤ clock all j + longest
+      reached : now ≤ greatest_tick all
+
+    events_push : (before : List Entry) (x : Entry) → events before ++ handed_of x ≡ events (before ++ x ∷ [])
+    events_push before x = ap (λ later. events [] ++ later) (sym (handed_push before x))
+
+    further : (before : List Entry) (x : Entry) (now next : ℕ) → IsSteady (events before) now
+        → greatest_tick (handed_of x) ≤ now + longest → next ≤ max now (greatest_tick (handed_of x))
+        → IsSteady (events (before ++ x ∷ [])) next
+    further before x now next is small big =
+        let both = greatest_tick-append (events before) (handed_of x) in
+        subst (λ (all : List Event). IsSteady all next) (events_push before x) (record {
+          steady = steady_more longest (events before) (handed_of x) is.steady (omega (arith, both, small, is.reached));
+          reached = omega (arith, both, big, is.reached);
+        })
+
     -- While the request is open no more time has passed than this.
-    open_in_time : (before : List Entry) (now : ℕ) → IsSteady before now
-        → end_in purpose call (events before) ≡ None
-        → now ≤ first + call.retries * (call.timeout + longest) + call.timeout
+    open_in_time : (before : List Entry) (now : ℕ) → IsSteady (events before) now → IsOpen (Timed first ∷ before)
+        → now ≤ open_bound
     open_in_time before now is still =
         let all = events before in
         let soon : clock all (length all) ≤ clock all 2 + call.retries * (call.timeout + longest) + call.timeout =
@@ -126,77 +126,132 @@ module _ (purpose : Purpose) (call : Call) where
         (never_due (rules_for call) all (asked purpose call) (grind (arith, still))) in
         omega (arith, is.reached, all_by all (length all) (omega arith), soon)
 
-    bounded : (before rest : List Entry) (now : ℕ) → IsSteady before now
-        → Follows (move purpose call) (Timed first ∷ before) rest → ArePrompt longest now (times_in rest)
-        → All (λ time. time ≤ bound) (times_in rest)
-    bounded before [] now is follows prompt = All-nil (λ time. time ≤ bound)
-    bounded before (Timed time ∷ rest) now is follows prompt =
-        let still = open_behind (Timed first ∷ before) (last_or (Some (Timed first)) before)
-        (some_last (Timed first) before) follows.0 in
-        let soon = open_in_time before now is still in
-        All-cons (λ time. time ≤ bound) time (times_in rest) (omega (arith, soon, prompt.0))
-        (bounded (before ++ Timed time ∷ []) rest time
-        (further before (Timed time) now time is (omega (arith, is.reached, prompt.0)) (omega arith)) follows.1 prompt.1)
-    bounded before (Waited wait Silence ∷ rest) now is follows prompt =
-        bounded (before ++ Waited wait Silence ∷ []) rest now
-        (further before (Waited wait Silence) now now is (omega arith) (omega (arith, is.reached))) follows.1 prompt
-    bounded before (Waited wait Failure ∷ rest) now is follows prompt =
-        bounded (before ++ Waited wait Failure ∷ []) rest now
-        (further before (Waited wait Failure) now now is (omega arith) (omega (arith, is.reached))) follows.1 prompt
-    bounded before (Waited wait (Arrival from octets) ∷ rest) now is follows prompt =
-        bounded (before ++ Waited wait (Arrival from octets) ∷ []) rest now
-        (further before (Waited wait (Arrival from octets)) now now is (omega arith) (omega (arith, is.reached)))
-        follows.1 prompt
-    bounded before (Posted to octets ∷ rest) now is follows prompt =
-        bounded (before ++ Posted to octets ∷ []) rest now
-        (further before (Posted to octets) now now is (omega arith) (omega (arith, is.reached))) follows.1 prompt
-    bounded before (Unposted to octets ∷ rest) now is follows prompt =
-        bounded (before ++ Unposted to octets ∷ []) rest now
-        (further before (Unposted to octets) now now is (omega arith) (omega (arith, is.reached))) follows.1 prompt
+    -- What holds of the clock behind these entries, the last of which is this one, and n waits; `now` was told last.
+    record IsAt (before : List Entry) (last : Entry) (n now : ℕ) : Type 0 where
+      came_last : last_or (Some (Timed first)) before ≡ Some last
+      steady : IsSteady (events before) now
+      near : time_behind n ≤ now + longest
+      within : time_behind n ≤ bound
+      told : IsTimely last → time_behind n ≤ now
+      sent : (to : Station) (octets : List ℕ) → last ≡ Posted to octets → IsOpen (Timed first ∷ before)
 
-  in_time : (longest first : ℕ) (gained : List Entry) (later : List ℕ) → Follows (move purpose call) [] gained
-      → times_in gained ≡ first ∷ later → ArePrompt longest first later
-      → All (λ time. time ≤ first + suc call.retries * (call.timeout + longest)) later
-  in_time longest first [] later follows e prompt = cc
-  in_time longest first (Timed time ∷ more) later follows e prompt =
-      let is : time ≡ first = cc in
-      let times : times_in more ≡ later = cc in
-      subst (λ (k : ℕ). All (λ time. time ≤ k + suc call.retries * (call.timeout + longest)) later) is
-      (subst (All (λ t. t ≤ time + suc call.retries * (call.timeout + longest))) times
-      (bounded longest time [] more time (begun longest time) follows.1
-      (subst (λ (k : ℕ). ArePrompt longest k (times_in more)) (sym is)
-      (subst (ArePrompt longest first) (sym times) prompt))))
-    where
-      begun : (longest time : ℕ) → IsSteady longest time [] time
-      begun longest time = record {
+    abbrev Goes : List Entry → List Entry → Type 0
+    Goes before rest = Follows (move purpose call) (Timed first ∷ before) rest
+
+    -- Behind a send nothing else has changed.
+    at_send : (before : List Entry) (last x : Entry) (n now : ℕ) → IsAt before last n now → handed_of x ≡ []
+        → (question_of x ≡ ForTime → ⊥) → move purpose call (Timed first ∷ before) ≡ Asks (question_of x)
+        → IsAt (before ++ x ∷ []) x n now
+    at_send before last x n now is none other asks =
+        let asked = ready (Timed first ∷ before) last (question_of x) other is.sent
+        (ap (move_behind purpose call (Timed first ∷ before)) (sym is.came_last) ∙ asks) in
+        let same : events before ≡ events (before ++ x ∷ []) =
+        sym (append-nil (events before)) ∙ ap (λ (es : List Event). events before ++ es) (sym none)
+        ∙ events_push before x in
+        record {
+          came_last = last_push (Some (Timed first)) before x;
+          steady = subst (λ (all : List Event). IsSteady all now) same is.steady;
+          near = is.near;
+          within = is.within;
+          told = λ timely. is.told asked.0;
+          sent = λ to octets e. subst (λ (all : List Event). end_in purpose call all ≡ None) same asked.1;
+        }
+
+    at_wait : (before : List Entry) (last : Entry) (wait : ℕ) (heard : Heard) (n now : ℕ) → IsAt before last n now
+        → move purpose call (Timed first ∷ before) ≡ Asks (ForDatagram wait)
+        → time_behind (suc n) ≤ time_behind n + longest
+        → IsAt (before ++ Waited wait heard ∷ []) (Waited wait heard) (suc n) now
+    at_wait before last wait heard n now is asks prompt =
+        let asked = ready (Timed first ∷ before) last (ForDatagram wait) (λ e. cc) is.sent
+        (ap (move_behind purpose call (Timed first ∷ before)) (sym is.came_last) ∙ asks) in
+        let soon = open_in_time before now is.steady asked.1 in
+        let told = is.told asked.0 in
+        record {
+          came_last = last_push (Some (Timed first)) before (Waited wait heard);
+          steady = further before (Waited wait heard) now now is.steady (small heard) (omega arith);
+          near = omega (arith, told, prompt);
+          within = omega (arith, told, prompt, soon);
+          told = λ timely. absurd timely;
+          sent = λ to octets e. cc;
+        }
+      where
+        small : (heard : Heard) → greatest_tick (handed_of (Waited wait heard)) ≤ now + longest
+        small Silence = omega arith
+        small Failure = omega arith
+        small (Arrival from octets) = omega arith
+
+    at_time : (before : List Entry) (last : Entry) (n now : ℕ) → IsAt before last n now
+        → IsAt (before ++ Timed (time_behind n) ∷ []) (Timed (time_behind n)) n (time_behind n)
+    at_time before last n now is = record {
+      came_last = last_push (Some (Timed first)) before (Timed (time_behind n));
+      steady = further before (Timed (time_behind n)) now (time_behind n) is.steady (omega (arith, is.near)) (omega arith);
+      near = omega arith;
+      within = is.within;
+      told = λ timely. omega arith;
+      sent = λ to octets e. cc;
+    }
+
+    in_bound : (before : List Entry) (last : Entry) (n now : ℕ) (rest : List Entry) → IsAt before last n now
+        → Goes before rest → AreTold time_behind n rest
+        → ((k : ℕ) → k < n + waits_in rest → time_behind (suc k) ≤ time_behind k + longest)
+        → time_behind (n + waits_in rest) ≤ bound
+    in_bound before last n now [] is goes told prompt =
+        subst (λ (k : ℕ). time_behind k ≤ bound) (omega arith) is.within
+    in_bound before last n now (Waited wait heard ∷ rest) is goes told prompt =
+        let more : suc n + waits_in rest ≡ n + suc (waits_in rest) = omega arith in
+        subst (λ (k : ℕ). time_behind k ≤ bound) more
+        (in_bound (before ++ Waited wait heard ∷ []) (Waited wait heard) (suc n) now rest
+        (at_wait before last wait heard n now is goes.0 (prompt n (omega arith))) goes.1 told
+        (λ k less. prompt k (omega (arith, less, more))))
+    in_bound before last n now (Timed time ∷ rest) is goes told prompt =
+        in_bound (before ++ Timed time ∷ []) (Timed time) n time rest
+        (subst (λ (t : ℕ). IsAt (before ++ Timed t ∷ []) (Timed t) n t) (sym told.0) (at_time before last n now is))
+        goes.1 told.1 prompt
+    in_bound before last n now (Posted to octets ∷ rest) is goes told prompt =
+        in_bound (before ++ Posted to octets ∷ []) (Posted to octets) n now rest
+        (at_send before last (Posted to octets) n now is refl (λ e. cc) goes.0) goes.1 told prompt
+    in_bound before last n now (Unposted to octets ∷ rest) is goes told prompt =
+        in_bound (before ++ Unposted to octets ∷ []) (Unposted to octets) n now rest
+        (at_send before last (Unposted to octets) n now is refl (λ e. cc) goes.0) goes.1 told prompt
+
+    begun : first ≡ time_behind 0 → IsAt [] (Timed first) 0 first
+    begun e = record {
+      came_last = refl;
+      steady = record {
         steady = λ j lt.
-            let here = all_by (events longest time []) j (omega arith) in
-            let next = all_by (events longest time []) (suc j) (omega arith) in
+            let here = all_by (events []) j (omega arith) in
+            let next = all_by (events []) (suc j) (omega arith) in
             omega (arith, here, next);
         reached = omega arith;
-      }
-  in_time longest first (Waited wait heard ∷ more) later follows e prompt = let asks = follows.0 in cc
-  in_time longest first (Posted to octets ∷ more) later follows e prompt = let asks = follows.0 in cc
-  in_time longest first (Unposted to octets ∷ more) later follows e prompt = let asks = follows.0 in cc
+      };
+      near = omega (arith, e);
+      within = omega (arith, e);
+      told = λ timely. omega (arith, e);
+      sent = λ to octets e. cc;
+    }
 
--- What a call comes to.
-calls_in : {W : Type 0} (contents : W → Option (List ℕ)) (purpose : Purpose) (call : Call)
-    (before after : Checked W) (seen left : Account) (result : Result Exit ToolFault)
-    → Tells purpose call contents before after seen left result
-    → (comes : Comes) × Calls purpose call seen left comes
-calls_in contents purpose call before after seen left (Ok exit) tells = (_, tells.3)
-calls_in contents purpose call before after seen left (Err WriteFailed) tells = (_, tells.2)
-calls_in contents purpose call before after seen left (Err SendFailed) tells = (_, tells)
-calls_in contents purpose call before after seen left (Err ReceiveFailed) tells = (_, tells)
-calls_in contents purpose call before after seen left (Err TurnsSpent) tells = (_, tells)
+  in_time : (time_behind : ℕ → ℕ) (longest : ℕ) (gained : List Entry) → Follows (move purpose call) [] gained
+      → AreTold time_behind 0 gained → ArePrompt time_behind longest (waits_in gained)
+      → time_behind (waits_in gained) ≤ time_behind 0 + suc call.retries * (call.timeout + longest)
+  in_time time_behind longest [] follows told prompt = omega arith
+  in_time time_behind longest (Timed time ∷ more) follows told prompt =
+      let all : 0 + waits_in more ≡ waits_in more = omega arith in
+      subst (λ (t : ℕ). time_behind (waits_in more) ≤ t + suc call.retries * (call.timeout + longest)) told.0
+      (subst (λ (n : ℕ). time_behind n ≤ time + suc call.retries * (call.timeout + longest)) all
+      (in_bound time_behind longest time [] (Timed time) 0 time more (begun time_behind longest time told.0) follows.1
+      told.1 (λ n less. prompt n (omega (arith, less, all)))))
+  in_time time_behind longest (Waited wait heard ∷ more) follows told prompt = let asks = follows.0 in cc
+  in_time time_behind longest (Posted to octets ∷ more) follows told prompt = let asks = follows.0 in cc
+  in_time time_behind longest (Unposted to octets ∷ more) follows told prompt = let asks = follows.0 in cc
 
 pub told_in_time : {W : Type 0} (contents : W → Option (List ℕ)) (purpose : Purpose) (call : Call)
     (before after : Checked W) (seen left : Account) (result : Result Exit ToolFault) (gained : List Entry)
-    (longest first : ℕ) (later : List ℕ) → Tells purpose call contents before after seen left result
-    → left.history ≡ seen.history ++ gained → times_in gained ≡ first ∷ later → ArePrompt longest first later
-    → All (λ time. time ≤ first + suc call.retries * (call.timeout + longest)) later
-told_in_time contents purpose call before after seen left result gained longest first later tells gains times prompt =
-    let it = calls_in contents purpose call before after seen left result tells in
-    let is : it.1.gained ≡ gained =
-    append_cancel_left seen.history _ _ (ap (λ (s : Account). s.history) (sym it.1.gains.0) ∙ gains) in
-    in_time purpose call longest first gained later (subst (Follows (move purpose call) []) is it.1.follows) times prompt
+    (time_behind : ℕ → ℕ) (longest : ℕ) → Tells purpose call contents before after seen left result
+    → left.history ≡ seen.history ++ gained → AreTold time_behind 0 gained
+    → ArePrompt time_behind longest (waits_in gained)
+    → time_behind (waits_in gained) ≤ time_behind 0 + suc call.retries * (call.timeout + longest)
+told_in_time contents purpose call before after seen left result gained time_behind longest tells gains =
+    let it = went purpose call contents before after seen left result tells in
+    in_time purpose call time_behind longest gained
+    (subst (Follows (move purpose call) []) (played (move purpose call) seen left it.comes gained it.plays gains)
+    it.plays.follows)

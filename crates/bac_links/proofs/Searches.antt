@@ -13,7 +13,7 @@ use Rattle.bac_links.specs.Limits.{most_turns}
 use Rattle.bac_pdu.specs.Peer.{station}
 use Rattle.bac_links.specs.Foretold.{Heard, Silence, Arrival, Failure}
 use Rattle.bac_links.specs.History.{Entry, Waited, Timed, Posted, Unposted, Account, Gains, GainsAll}
-use Rattle.bac_links.specs.Asking.{Asks, ForTime, Follows, waits_in, times_in, turn_after}
+use Rattle.bac_links.specs.Asking.{Asks, Ends, ForTime, Follows, waits_in, times_in, turn_after}
 use Rattle.bac_links.specs.Search.{Found, found_by, found_line, greatest_of, passed_in, who_is_to, found_of_entry}
 use Rattle.bac_links.specs.Search.{found_in, behind_time, search_behind, search_move, Searched}
 use Rattle.bac_links.specs.declared.ending.Exit.{Exit}
@@ -166,36 +166,36 @@ module _ {W : Type 0} (search : Search) (contents : W → Option (List ℕ)) (be
 
     pub ended : (exit : Exit) → exit ≡ (if any || some then Good else Bad)
         → search.timeout ≤ max greatest now - first → Searched search contents before after seen last (Ok exit)
-    ended exit exit_is over = (
-      found_in search all,
-      exit_is ∙ ap (λ (b : Bool). if b then Good else Bad) any_next,
-      printed_next,
-      record {
+    ended exit exit_is over = record {
+      plays = record {
         gained = all;
         gains = gains_timed;
         follows = follows_timed;
-        over = next_timed ∙ rw (le-leb search.timeout (passed_in (times_in all)) (rw (← passed) over)) refl;
-      },
-    )
+        over = next_timed ∙ rw (le-leb search.timeout (passed_in (times_in all)) (rw (← passed) over)) refl
+            ∙ ap (λ (e : Exit). Ends (Ok e)) (sym (exit_is ∙ ap (λ (b : Bool). if b then Good else Bad) any_next));
+      };
+      printed = printed_next;
+    }
 
   -- A wait that fails.
   pub fails : (fault : ToolFault) (wait : ℕ) → wait ≡ search_wait search
       → Listens search.who wait contents middle after mid left (Err fault) →
       Searched search contents before after seen left (Err fault)
   fails ReceiveFailed wait same listens =
-      let gains = rw same at listens.0 in (
-        record {
+      let gains = rw same at listens.0 in
+      record {
+        plays = record {
           gained = searched search first (waited Failure gains);
           gains = gains_waited Failure gains;
           follows = follows_waited Failure gains;
           over = behind search (searched search first goes.more) (Waited (search_wait search) Failure);
-        },
-        subst (Took contents before after)
+        };
+        printed = subst (Took contents before after)
             (append-nil (found_lines (found_in search goes.more))
             ∙ ap found_lines (sym (found-push search goes.more (Waited (search_wait search) Failure)
             ∙ append-nil (found_in search goes.more))))
-            (Took-more goes.printed listens.1),
-      )
+            (Took-more goes.printed listens.1);
+      }
   fails WriteFailed wait same listens =
       let gains = rw same at listens.1 in
       record {
@@ -234,26 +234,26 @@ pub unbegun : {W : Type 0} (search : Search) (contents : W → Option (List ℕ)
     (seen mid link : Account) (first : ℕ) → Gains (Timed first) seen mid →
     Gains (Unposted (station search.to) (who_is_to search)) mid link
     → Searched search contents before before seen link (Err SendFailed)
-unbegun search contents before seen mid link first asks sends = (
-  record {
+unbegun search contents before seen mid link first asks sends = record {
+  plays = record {
     gained = Timed first ∷ Unposted (station search.to) (who_is_to search) ∷ [];
     gains = gains_both (Timed first ∷ []) _ seen mid link asks sends;
     follows = (refl, (refl, tt));
     over = refl;
-  },
-  Took-none before,
-)
+  };
+  printed = Took-none before;
+}
 
 pub spent : {W : Type 0} (search : Search) (contents : W → Option (List ℕ)) (before after : Checked W)
     (seen link : Account) (first greatest : ℕ) (any : Bool) (n : ℕ) → n ≡ most_turns →
     SearchGoes search contents before after seen link first greatest any n
     → Searched search contents before after seen link (Err TurnsSpent)
-spent search contents before after seen link first greatest any n all goes = (
-  record {
+spent search contents before after seen link first greatest any n all goes = record {
+  plays = record {
     gained = searched search first goes.more;
     gains = goes.gains;
     follows = goes.follows;
     over = goes.next ∙ turns_over (search_wait search) n (omega (arith, all));
-  },
-  goes.printed,
-)
+  };
+  printed = goes.printed;
+}

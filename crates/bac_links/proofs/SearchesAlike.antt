@@ -1,132 +1,176 @@
--- Two searches that are answered alike ask alike, and end alike.
-use Rattle.std.proofs.Common.{◌≡◌, ◌≢◌, ◌⊎◌, ℕ, List, [], ◌∷◌, ◌++◌, length, Option, Result, Ok, Err, nat_lt, refl, sym}
-use Rattle.std.proofs.Common.{ap, ◌∙◌, subst, if◌then◌else◌, flat_map, inl, inr}
+-- Two searches that are answered alike ask alike, end alike, and print one text.
+use Rattle.std.proofs.Common.{◌≡◌, ◌⊎◌, ℕ, List, [], ◌∷◌, ◌++◌, append_assoc, Option, Result, Ok, Err, refl, sym}
+use Rattle.std.proofs.Common.{ap, ◌∙◌, subst, flat_map, inl, inr}
 use Rattle.std.proofs.lemmas.List.{append_cancel_left, append-nil}
+use Rattle.std.proofs.lemmas.List.Concat.{flat_map-append}
 use Rattle.bac_text.specs.declared.checked.Checked.{Checked}
-use Rattle.bac_text.specs.Checked.{Took}
-use Rattle.bac_links.specs.History.{Entry, Waited, Account, GainsAll}
-use Rattle.bac_links.specs.Answered.{answers_of, AskAlike}
+use Rattle.bac_text.specs.Checked.{TakesFront}
+use Rattle.bac_links.specs.History.{Entry, Waited, Account}
+use Rattle.bac_links.specs.Answered.{AskAlike, Printed, OneText}
 use Rattle.bac_links.specs.Asking.{Asks, Ends, ForTime, question_of, Follows}
-use Rattle.bac_links.specs.Search.{Found, found_by, found_line, found_in, search_move, Searched}
+use Rattle.bac_links.specs.Search.{found_by, found_line, found_of_entry, found_in, search_move, IsWhole, IsCutOff}
+use Rattle.bac_links.specs.Search.{Searched}
 use Rattle.bac_links.specs.declared.ending.Exit.{Exit}
-use Rattle.bac_links.specs.declared.ending.Exit.TheVariants.{Good, Bad}
 use Rattle.bac_links.specs.declared.fault.ToolFault.{ToolFault}
 use Rattle.bac_links.specs.declared.fault.ToolFault.TheVariants.{SendFailed, ReceiveFailed, TurnsSpent, WriteFailed}
 use Rattle.bac_text.specs.declared.jobs.Search.{Search}
-use Rattle.bac_links.proofs.Asking.{same_so_far, so_far}
+use Rattle.bac_links.proofs.Asking.{played, same_so_far, so_far}
 use Rattle.bac_links.proofs.Searches.{behind_wait}
 
-abbrev result_of : Result (List Found) ToolFault → Result Exit ToolFault
-result_of (Ok found) = Ok (if nat_lt 0 (length found) then Good else Bad)
-result_of (Err fault) = Err fault
-
 module _ (search : Search) where
-  abbrev text_of : List Entry → Result (List Found) ToolFault → List ℕ
-  text_of gained (Ok found) = flat_map found_line found
-  text_of gained (Err fault) = flat_map found_line (found_in search gained)
+  abbrev lines_in : List Entry → List ℕ
+  lines_in gained = flat_map found_line (found_in search gained)
+
+  lines-append : (xs ys : List Entry) → lines_in (xs ++ ys) ≡ lines_in xs ++ lines_in ys
+  lines-append xs ys =
+      ap (flat_map found_line) (flat_map-append (found_of_entry search) xs ys)
+      ∙ flat_map-append found_line (found_in search xs) (found_in search ys)
 
   module _ {W : Type 0} (contents : W → Option (List ℕ)) (before after : Checked W) where
-    -- After these entries it is over, and all was printed; or it was cut off behind a wait.
-    abbrev Stops : Result Exit ToolFault → List Entry → Type 0
-    Stops result gained =
-        ((comes : Result (List Found) ToolFault) × (search_move search gained ≡ Ends comes)
-        × (result ≡ result_of comes) × Took contents before after (text_of gained comes))
-        ⊎ ((result ≡ Err WriteFailed) × (search_move search gained ≡ Asks ForTime))
+    extended : (xs ys : List ℕ) → TakesFront contents before after xs → TakesFront contents before after (xs ++ ys)
+    extended xs ys (taken, rest, e, took) =
+        (taken, rest ++ ys, ap (λ (zs : List ℕ). zs ++ ys) e ∙ append_assoc taken rest ys, took)
 
-    abbrev Went : Account → Account → Result Exit ToolFault → Type 0
-    Went seen left result = (gained : List Entry) × GainsAll gained seen left
-        × Follows (search_move search) [] gained × Stops result gained
+    -- After these entries it is over, or it was cut off behind a wait; and their lines were printed.
+    record Stops (result : Result Exit ToolFault) (gained : List Entry) : Type 0 where
+      follows : Follows (search_move search) [] gained
+      over : (search_move search gained ≡ Ends result)
+          ⊎ ((result ≡ Err WriteFailed) × (search_move search gained ≡ Asks ForTime))
+      printed : Printed contents before after (lines_in gained) result
 
-    went : (seen left : Account) (result : Result Exit ToolFault)
-        → Searched search contents before after seen left result → Went seen left result
-    went seen left (Ok exit) tells =
-        (tells.3.gained, tells.3.gains, tells.3.follows, inl (Ok tells.0, tells.3.over, ap Ok tells.1, tells.2))
-    went seen left (Err WriteFailed) cut = (
-      cut.earlier ++ Waited cut.wait cut.heard ∷ [],
-      cut.gains,
-      cut.follows,
-      inr (
-        refl,
-        behind_wait search cut.earlier cut.wait cut.heard (λ e.
-            let none = ap (found_by search.who) (sym e) ∙ cut.finds in
-            cc),
-      ),
-    )
-    went seen left (Err SendFailed) tells =
-        (tells.0.gained, tells.0.gains, tells.0.follows, inl (Err SendFailed, tells.0.over, refl, tells.1))
-    went seen left (Err ReceiveFailed) tells =
-        (tells.0.gained, tells.0.gains, tells.0.follows, inl (Err ReceiveFailed, tells.0.over, refl, tells.1))
-    went seen left (Err TurnsSpent) tells =
-        (tells.0.gained, tells.0.gains, tells.0.follows, inl (Err TurnsSpent, tells.0.over, refl, tells.1))
+    module _ (seen left : Account) where
+      whole : (result : Result Exit ToolFault) (it : IsWhole search contents before after seen left result)
+          → Printed contents before after (lines_in it.plays.gained) result → Stops result it.plays.gained
+      whole result it printed = record { follows = it.plays.follows; over = inl it.plays.over; printed = printed }
 
-    ours : (seen left : Account) (result : Result Exit ToolFault) (gained : List Entry) → Went seen left result
-        → left.history ≡ seen.history ++ gained → Follows (search_move search) [] gained × Stops result gained
-    ours seen left result gained it gains =
-        let is : it.0 ≡ gained =
-        append_cancel_left seen.history _ _ (ap (λ (s : Account). s.history) (sym it.1.0) ∙ gains) in
-        subst (λ (xs : List Entry). Follows (search_move search) [] xs × Stops result xs) is (it.2, it.3)
+      cut : (it : IsCutOff search contents before after seen left)
+          → Stops (Err WriteFailed) (it.earlier ++ Waited it.wait it.heard ∷ [])
+      cut it = record {
+        follows = it.follows;
+        over = inr (
+          refl,
+          behind_wait search it.earlier it.wait it.heard (λ e.
+              let none = ap (found_by search.who) (sym e) ∙ it.finds in
+              cc),
+        );
+        printed = (
+          flat_map found_line (found_in search it.earlier) ++ it.taken,
+          it.rest,
+          lines-append it.earlier (Waited it.wait it.heard ∷ [])
+              ∙ ap (λ (xs : List ℕ). lines_in it.earlier ++ xs)
+              (ap (flat_map found_line) (append-nil (found_by search.who it.heard) ∙ it.finds)
+              ∙ append-nil (found_line it.last) ∙ it.line)
+              ∙ sym (append_assoc (lines_in it.earlier) it.taken it.rest),
+          it.printed,
+        );
+      }
 
-    cut_off : (result : Result Exit ToolFault) (gained : List Entry) (x : Entry) → Stops result gained
-        → search_move search gained ≡ Asks (question_of x) → result ≡ Err WriteFailed
-    cut_off result gained x (inl over) asks = let both = sym over.1 ∙ asks in cc
-    cut_off result gained x (inr cut) asks = cut.0
+      stops : (result : Result Exit ToolFault) (gained : List Entry)
+          → Searched search contents before after seen left result → left.history ≡ seen.history ++ gained
+          → Stops result gained
+      stops (Ok exit) gained it gains =
+          subst (Stops (Ok exit)) (played (search_move search) seen left _ gained it.plays gains)
+          (whole (Ok exit) it it.printed)
+      stops (Err SendFailed) gained it gains =
+          subst (Stops (Err SendFailed)) (played (search_move search) seen left _ gained it.plays gains)
+          (whole (Err SendFailed) it it.printed)
+      stops (Err ReceiveFailed) gained it gains =
+          subst (Stops (Err ReceiveFailed)) (played (search_move search) seen left _ gained it.plays gains)
+          (whole (Err ReceiveFailed) it it.printed)
+      stops (Err TurnsSpent) gained it gains =
+          subst (Stops (Err TurnsSpent)) (played (search_move search) seen left _ gained it.plays gains)
+          (whole (Err TurnsSpent) it it.printed)
+      stops (Err WriteFailed) gained it gains =
+          subst (Stops (Err WriteFailed))
+          (append_cancel_left seen.history _ _ (ap (λ (s : Account). s.history) (sym it.gains.0) ∙ gains)) (cut it)
 
 -- Two searches that are answered alike.
 module _ {V W : Type 0} (contents : V → Option (List ℕ)) (contents' : W → Option (List ℕ)) (search : Search)
     (before after : Checked V) (before' after' : Checked W) where
-  -- The results are alike, and where the writers went along the lines.
-  abbrev pub EndAlike : Result Exit ToolFault → Result Exit ToolFault → Type 0
-  EndAlike result result' = (result ≡ result') × (result ≢ Err WriteFailed → (text : List ℕ)
-      × Took contents before after text × Took contents' before' after' text)
+  abbrev PrintAlike : Result Exit ToolFault → Result Exit ToolFault → Type 0
+  PrintAlike = OneText contents before after contents' before' after'
 
-  ends : (result result' : Result Exit ToolFault) (gained : List Entry)
-      → Stops search contents before after result gained → Stops search contents' before' after' result' gained
-      → EndAlike result result'
-  ends result result' gained (inl a) (inl b) =
-      let both : Ends a.0 ≡ Ends b.0 = sym a.1 ∙ b.1 in
-      let same : a.0 ≡ b.0 = cc in (
-        a.2 ∙ ap result_of same ∙ sym b.2,
-        λ written. (
-          text_of search gained a.0,
-          a.3,
-          subst (λ (c : Result (List Found) ToolFault). Took contents' before' after' (text_of search gained c))
-              (sym same) b.3,
-        ),
-      )
-  ends result result' gained (inl a) (inr b) = let both = sym a.1 ∙ b.1 in cc
-  ends result result' gained (inr a) (inl b) = let both = sym b.1 ∙ a.1 in cc
-  ends result result' gained (inr a) (inr b) = (a.0 ∙ sym b.0, λ written. absurd (written a.0))
+  module _ (result result' : Result Exit ToolFault) (first rest first' rest' : List Entry)
+      (a : Stops search contents before after result (first ++ rest))
+      (b : Stops search contents' before' after' result' (first' ++ rest')) (one : first ≡ first') where
+    here : rest ≡ [] → Stops search contents before after result first
+    here none =
+        subst (Stops search contents before after result)
+        (ap (λ (xs : List Entry). first ++ xs) none ∙ append-nil first) a
+
+    there : rest' ≡ [] → Stops search contents' before' after' result' first
+    there none =
+        subst (Stops search contents' before' after' result')
+        (ap (λ (xs : List Entry). first' ++ xs) none ∙ append-nil first' ∙ sym one) b
+
+    cut_here : rest ≡ [] → (x : Entry) → search_move search first ≡ Asks (question_of x)
+        → (result ≡ Err WriteFailed) × PrintAlike result result'
+    cut_here none x asks = go (here none).over
+      where
+        go : (search_move search first ≡ Ends result)
+            ⊎ ((result ≡ Err WriteFailed) × (search_move search first ≡ Asks ForTime))
+            → (result ≡ Err WriteFailed) × PrintAlike result result'
+        go (inl over) = absurd (let both = sym over ∙ asks in cc)
+        go (inr cut) = (
+          cut.0,
+          (
+            lines_in search (first' ++ rest'),
+            subst (λ (r : Result Exit ToolFault). Printed contents before after (lines_in search (first' ++ rest')) r)
+                (sym cut.0)
+                (subst (TakesFront contents before after)
+                (sym (lines-append search first rest')
+                ∙ ap (λ (xs : List Entry). lines_in search (xs ++ rest')) one)
+                (extended search contents before after (lines_in search first) (lines_in search rest')
+                (subst (λ (r : Result Exit ToolFault). Printed contents before after (lines_in search first) r) cut.0
+                (here none).printed))),
+            b.printed,
+          ),
+        )
+
+    cut_there : rest' ≡ [] → (x : Entry) → search_move search first ≡ Asks (question_of x)
+        → (result' ≡ Err WriteFailed) × PrintAlike result result'
+    cut_there none x asks = go (there none).over
+      where
+        go : (search_move search first ≡ Ends result')
+            ⊎ ((result' ≡ Err WriteFailed) × (search_move search first ≡ Asks ForTime))
+            → (result' ≡ Err WriteFailed) × PrintAlike result result'
+        go (inl over) = absurd (let both = sym over ∙ asks in cc)
+        go (inr cut) = (
+          cut.0,
+          (
+            lines_in search (first ++ rest),
+            a.printed,
+            subst (λ (r : Result Exit ToolFault). Printed contents' before' after' (lines_in search (first ++ rest)) r)
+                (sym cut.0)
+                (subst (TakesFront contents' before' after') (sym (lines-append search first rest))
+                (extended search contents' before' after' (lines_in search first) (lines_in search rest)
+                (subst (λ (r : Result Exit ToolFault). Printed contents' before' after' (lines_in search first) r) cut.0
+                (there none).printed))),
+          ),
+        )
+
+    ends : rest ≡ [] → rest' ≡ [] → (result ≡ result') × PrintAlike result result'
+    ends none none' =
+        (go (here none).over (there none').over, (lines_in search first, (here none).printed, (there none').printed))
+      where
+        go : (search_move search first ≡ Ends result)
+            ⊎ ((result ≡ Err WriteFailed) × (search_move search first ≡ Asks ForTime))
+            → (search_move search first ≡ Ends result')
+            ⊎ ((result' ≡ Err WriteFailed) × (search_move search first ≡ Asks ForTime)) → result ≡ result'
+        go (inl p) (inl q) = let both = sym p ∙ q in cc
+        go (inl p) (inr q) = let both = sym p ∙ q.1 in cc
+        go (inr p) (inl q) = let both = sym p.1 ∙ q in cc
+        go (inr p) (inr q) = p.0 ∙ sym q.0
 
   pub searches_so_far : AskAlike (Searched search contents before after) (Searched search contents' before' after')
-      (λ result. result ≡ Err WriteFailed) EndAlike
+      (λ result. result ≡ Err WriteFailed) (λ result other. result ≡ other) PrintAlike
   searches_so_far seen left seen' left' result result' first rest first' rest' tells tells' gains gains' same =
-      let a = ours search contents before after seen left result (first ++ rest)
-      (went search contents before after seen left result tells) gains in
-      let b = ours search contents' before' after' seen' left' result' (first' ++ rest')
-      (went search contents' before' after' seen' left' result' tells') gains' in
-      let one = same_so_far (search_move search) [] first first' rest rest' a.0 b.0 same in
-      let here : rest ≡ [] → Stops search contents before after result first = λ none.
-      subst (Stops search contents before after result)
-      (ap (λ (xs : List Entry). first ++ xs) none ∙ append-nil first) a.1 in
-      let there : rest' ≡ [] → Stops search contents' before' after' result' first = λ none.
-      subst (Stops search contents' before' after' result')
-      (ap (λ (xs : List Entry). first' ++ xs) none ∙ append-nil first' ∙ sym one) b.1 in
-      so_far (search_move search) (λ r. r ≡ Err WriteFailed) EndAlike first rest rest' result result'
-      (λ none x asks. cut_off search contents before after result first x (here none) asks)
-      (λ none x asks. cut_off search contents' before' after' result' first x (there none) asks)
-      (λ none none'. ends result result' first (here none) (there none')) first' a.0 b.0 same
-
-module _ {V W : Type 0} (contents : V → Option (List ℕ)) (contents' : W → Option (List ℕ)) (search : Search) where
-  pub searches_alike : (before after : Checked V) (before' after' : Checked W) (seen left seen' left' : Account)
-      (result result' : Result Exit ToolFault) (gained gained' : List Entry) →
-      Searched search contents before after seen left result
-      → Searched search contents' before' after' seen' left' result' →
-      left.history ≡ seen.history ++ gained → left'.history ≡ seen'.history ++ gained'
-      → answers_of gained ≡ answers_of gained' →
-      (gained ≡ gained') × EndAlike contents contents' search before after before' after' result result'
-  searches_alike before after before' after' seen left seen' left' result result' gained gained' tells tells' gains
-      gains' same =
-      searches_so_far contents contents' search before after before' after' seen left seen' left' result result' gained
-      [] gained' [] tells tells'
-      (gains ∙ ap (λ (xs : List Entry). seen.history ++ xs) (sym (append-nil gained)))
-      (gains' ∙ ap (λ (xs : List Entry). seen'.history ++ xs) (sym (append-nil gained'))) same
+      let a = stops search contents before after seen left result (first ++ rest) tells gains in
+      let b = stops search contents' before' after' seen' left' result' (first' ++ rest') tells' gains' in
+      let one = same_so_far (search_move search) [] first first' rest rest' a.follows b.follows same in (
+        one,
+        so_far (search_move search) (λ r. r ≡ Err WriteFailed) (λ r s. r ≡ s) PrintAlike first rest rest' result result'
+            (cut_here result result' first rest first' rest' a b one)
+            (cut_there result result' first rest first' rest' a b one)
+            (ends result result' first rest first' rest' a b one) first' one a.follows b.follows,
+      )

@@ -130,12 +130,13 @@ module _ (before device : DeviceState) (seen mid : Account) (count came replied 
   -- How it ends.
   served : (result : Result ℕ ToolFault) → serve_move count before goes.gained ≡ Ends result
       → Serves count before device seen mid result
-  served result over = (
-    record { gained = goes.gained; gains = goes.gains; follows = goes.follows; over = over },
-    goes.device_is,
-    λ writes holds. in_turn before (arrivals_in goes.gained) (replies_of before (arrivals_in goes.gained)) device writes
-        goes.in_turn holds,
-  )
+  served result over = record {
+    plays = record { gained = goes.gained; gains = goes.gains; follows = goes.follows; over = over };
+    device = goes.device_is;
+    defined = λ writes holds.
+        in_turn before (arrivals_in goes.gained) (replies_of before (arrivals_in goes.gained)) device writes
+        goes.in_turn holds;
+  }
 
   pub serve_done : came ≡ count → Serves count before device seen mid (Ok replied)
   serve_done all =
@@ -234,12 +235,12 @@ module _ (before device : DeviceState) (seen mid : Account) (count came replied 
       fails_with : (result : Result ℕ ToolFault) → GainsAll gained seen left
           → Follows (serve_move count before) [] gained → serve_move count before gained ≡ Ends result
           → Serves count before after seen left result
-      fails_with result gains follows over = (
-        record { gained = gained; gains = gains; follows = follows; over = over },
-        device_is,
-        λ writes holds. in_turn before (arrivals_in gained) (replies_of before (arrivals_in gained)) after writes
-            turns_are holds,
-      )
+      fails_with result gains follows over = record {
+        plays = record { gained = gained; gains = gains; follows = follows; over = over };
+        device = device_is;
+        defined = λ writes holds.
+            in_turn before (arrivals_in gained) (replies_of before (arrivals_in gained)) after writes turns_are holds;
+      }
 
     module _ (received : heard ≢ Failure) where
       follows_sent : (x : Entry) (reply : Station × List ℕ) → replies_of device (came_by heard) ≡ Some reply ∷ []

@@ -12,6 +12,7 @@ pub data Question : Type 0 where
   ForTime : Question
   ToSend : (to : Station) (octets : List ℕ) → Question
 
+-- What was asked in an entry.
 abbrev pub question_of : Entry → Question
 question_of (Waited wait heard) = ForDatagram wait
 question_of (Timed time) = ForTime
@@ -36,12 +37,13 @@ pub record Plays {R : Type 0} (move : List Entry → Move R) (seen left : Accoun
   pub follows : Follows move [] gained
   pub over : move gained ≡ Ends result
 
--- How many waits there were, and which times were told, one after another.
+-- How many waits there were.
 abbrev pub waits_in : List Entry → ℕ
 waits_in [] = zero
 waits_in (Waited wait heard ∷ later) = suc (waits_in later)
 waits_in (_ ∷ later) = waits_in later
 
+-- Which times were told, one after another.
 abbrev pub times_in : List Entry → List ℕ
 times_in [] = []
 times_in (Timed time ∷ later) = time ∷ times_in later

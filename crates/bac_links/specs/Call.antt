@@ -9,9 +9,9 @@ use Rattle.bac_tsm.specs.Lookahead.{Accepted, End, accepted, end, send_notes}
 use Rattle.bac_tsm.specs.Client.{client_rules}
 use Rattle.bac_links.specs.Limits.{turn_wait}
 use Rattle.bac_links.specs.Foretold.{Failure}
-use Rattle.bac_links.specs.History.{Entry, Waited, Timed, Posted, Unposted, Account, GainsAll}
+use Rattle.bac_links.specs.History.{Entry, Waited, Timed, Posted, Unposted, Account}
 use Rattle.bac_links.specs.Handed.{handed}
-use Rattle.bac_links.specs.Asking.{Move, Asks, Ends, ForTime, question_of, Follows, waits_in, turn_after}
+use Rattle.bac_links.specs.Asking.{Move, Asks, Ends, ForTime, question_of, Plays, waits_in, turn_after}
 use Rattle.bac_links.specs.declared.ending.Purpose.{Purpose}
 use Rattle.bac_links.specs.declared.ending.Purpose.TheVariants.{Reading, Writing}
 use Rattle.bac_text.specs.declared.jobs.Call.{Call}
@@ -94,20 +94,17 @@ module _ (purpose : Purpose) (call : Call) where
   abbrev pub move : List Entry → Move Comes
   move gained = move_behind gained (last_or None gained)
 
-  -- The history of the link gained what a call asks, one thing after another, until it comes to this.
+  -- The history of the link gained what a call asks, until it comes to this; and its request was accepted.
   pub record Calls (seen left : Account) (comes : Comes) : Type 0 where
-    pub gained : List Entry
-    pub gains : GainsAll gained seen left
-    pub request : IsAccepted (events_of gained)
-    pub follows : Follows move [] gained
-    pub over : move gained ≡ Ends comes
+    pub plays : Plays move seen left comes
+    pub request : IsAccepted (events_of plays.gained)
 
   module _ {W : Type 0} (contents : W → Option (List ℕ)) (before after : Checked W) (seen left : Account) where
     -- What a call prints, answers, and asks of its link: the line of how the request ended, or a front of it where the
-    -- writer failed.
+    -- writer failed; after any other fault nothing.
     abbrev pub Tells : Result Exit ToolFault → Type 0
     Tells (Ok exit) = (ending : Option Outcome) × (exit ≡ exit_of purpose ending)
         × Took contents before after (ending_line purpose ending) × Calls seen left (Ok ending)
     Tells (Err WriteFailed) = (ending : Option Outcome) × TakesFront contents before after (ending_line purpose ending)
         × Calls seen left (Ok ending)
-    Tells (Err fault) = Calls seen left (Err fault)
+    Tells (Err fault) = (after ≡ before) × Calls seen left (Err fault)

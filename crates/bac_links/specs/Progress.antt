@@ -1,7 +1,16 @@
 -- How long a call takes at most.
-use Rattle.std.specs.Prelude.{ℕ, ◌+◌, ◌≤◌, List, [], ◌∷◌, ⊤}
+use Rattle.std.specs.Prelude.{◌≡◌, ℕ, ◌+◌, ◌<◌, ◌≤◌, suc, List, [], ◌∷◌, ⊤}
+use Rattle.bac_links.specs.History.{Entry, Waited, Timed}
 
--- Each of these times is at most so much greater than the one before it, the first than `now`.
-abbrev pub ArePrompt : (longest now : ℕ) → List ℕ → Type 0
-ArePrompt longest now [] = ⊤
-ArePrompt longest now (time ∷ later) = (time ≤ now + longest) × ArePrompt longest time later
+-- A clock shows `time_behind n` once n waits are over.
+module _ (time_behind : ℕ → ℕ) where
+  -- The times that were told among these entries, behind so many waits, are those of the clock.
+  abbrev pub AreTold : (waits : ℕ) → List Entry → Type 0
+  AreTold n [] = ⊤
+  AreTold n (Waited wait heard ∷ later) = AreTold (suc n) later
+  AreTold n (Timed time ∷ later) = (time ≡ time_behind n) × AreTold n later
+  AreTold n (_ ∷ later) = AreTold n later
+
+  -- By the clock none of so many waits, with what is done before it, takes longer.
+  abbrev pub ArePrompt : (longest waits : ℕ) → Type 0
+  ArePrompt longest waits = (n : ℕ) → n < waits → time_behind (suc n) ≤ time_behind n + longest

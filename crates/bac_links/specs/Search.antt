@@ -80,14 +80,16 @@ module _ (search : Search) where
   found_in = flat_map found_of_entry
 
   -- Behind a time and so many waits: behind none the Who-Is is due; else the search is over once the timeout has passed.
-  abbrev pub behind_time : List Entry → (waits : ℕ) → Move (Result (List Found) ToolFault)
+  -- It is good to have found a device.
+  abbrev pub behind_time : List Entry → (waits : ℕ) → Move (Result Exit ToolFault)
   behind_time gained zero = Asks (ToSend (station search.to) who_is_to)
   behind_time gained (suc n) =
-      if nat_le search.timeout (passed_in (times_in gained)) then Ends (Ok (found_in gained))
+      if nat_le search.timeout (passed_in (times_in gained))
+      then Ends (Ok (if nat_lt 0 (length (found_in gained)) then Good else Bad))
       else turn_after (turn_wait search.timeout) (suc n)
 
   -- The next move of a search, behind what came last: the time comes first, and after each wait.
-  abbrev pub search_behind : List Entry → Option Entry → Move (Result (List Found) ToolFault)
+  abbrev pub search_behind : List Entry → Option Entry → Move (Result Exit ToolFault)
   search_behind gained None = Asks ForTime
   search_behind gained (Some (Timed time)) = behind_time gained (waits_in gained)
   search_behind gained (Some (Posted to octets)) = turn_after (turn_wait search.timeout) (waits_in gained)
@@ -95,10 +97,15 @@ module _ (search : Search) where
   search_behind gained (Some (Waited wait Failure)) = Ends (Err ReceiveFailed)
   search_behind gained (Some (Waited wait heard)) = Asks ForTime
 
-  abbrev pub search_move : List Entry → Move (Result (List Found) ToolFault)
+  abbrev pub search_move : List Entry → Move (Result Exit ToolFault)
   search_move gained = search_behind gained (last_or None gained)
 
   module _ {W : Type 0} (contents : W → Option (List ℕ)) (before after : Checked W) (seen left : Account) where
+    -- A search that comes to its end, or meets a fault of its link: the lines of the devices that were found.
+    pub record IsWhole (result : Result Exit ToolFault) : Type 0 where
+      pub plays : Plays search_move seen left result
+      pub printed : Took contents before after (flat_map found_line (found_in plays.gained))
+
     -- A search that was cut off: the line of the device that the last wait found could not be written whole.
     pub record IsCutOff : Type 0 where
       pub earlier : List Entry
@@ -114,12 +121,7 @@ module _ (search : Search) where
       pub printed : Took contents before after (flat_map found_line (found_in earlier) ++ taken)
 
     -- What a search prints, answers, and asks of its link: the lines of the devices that were found, each whole before
-    -- the next wait; of the last one a front, where the writer failed. It is good to have found a device.
+    -- the next wait; of the last one a front, where the writer failed.
     abbrev pub Searched : Result Exit ToolFault → Type 0
-    Searched (Ok exit) =
-        (found : List Found) × (exit ≡ (if nat_lt 0 (length found) then Good else Bad))
-        × Took contents before after (flat_map found_line found) × Plays search_move seen left (Ok found)
     Searched (Err WriteFailed) = IsCutOff
-    Searched (Err fault) =
-        (plays : Plays search_move seen left (Err fault))
-        × Took contents before after (flat_map found_line (found_in plays.gained))
+    Searched result = IsWhole result

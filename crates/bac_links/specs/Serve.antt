@@ -69,12 +69,11 @@ module _ (count : ℕ) (device : DeviceState) where
   serve_move gained = serve_behind gained (last_or None gained)
 
 -- What a device that serves over a link answers and sends, and what is left of both, however the server ends and
--- whatever the link is. For any writes that leave the points as they stand in the device, these replies are those of
--- the definition; afterwards its info and its points are as before, and the points stand as the writes that it accepted
--- leave them.
-abbrev pub Serves : ℕ → DeviceState → DeviceState → Account → Account → Result ℕ ToolFault → Type 0
-Serves count before after seen left result =
-    (plays : Plays (serve_move count before) seen left result)
-    × (after ≡ device_behind before (arrivals_in plays.gained))
-    × ((writes : List Write) → Holds before writes → AreDefined before writes (arrivals_in plays.gained)
-    (replies_of before (arrivals_in plays.gained)) after)
+-- whatever the link is. For any writes that leave the points as they stand in the device, its replies are those of the
+-- definition; and afterwards the points stand as the writes that it accepted leave them.
+pub record Serves (count : ℕ) (before after : DeviceState) (seen left : Account) (result : Result ℕ ToolFault) : Type 0
+  where
+    pub plays : Plays (serve_move count before) seen left result
+    pub device : after ≡ device_behind before (arrivals_in plays.gained)
+    pub defined : (writes : List Write) → Holds before writes
+        → AreDefined before writes (arrivals_in plays.gained) (replies_of before (arrivals_in plays.gained)) after

@@ -176,7 +176,6 @@ fn run<L: Link, W: Write>(
     ensures link_fault { L.has_failed link.new ≡ is_link_fault result }
     ensures write_fault { has_failed writer.new ≡ is_write_fault result }
     ensures told { Tells purpose call.now W.contents writer.old writer.new (L.seen link.old) (L.seen link.new) result }
-    ensures unprinted { IfErr result (λ fault. fault ≢ ToolFault.WriteFailed → writer.new ≡ writer.old) }
 {
     let mut client = begin(purpose, call, link)?;
     let wait_ms = turn_wait(call.timeout);
@@ -209,7 +208,6 @@ pub fn run_read<L: Link, W: Write>(
     ensures link_fault { L.has_failed link.new ≡ is_link_fault result }
     ensures write_fault { has_failed writer.new ≡ is_write_fault result }
     ensures told { Tells Reading call.now W.contents writer.old writer.new (L.seen link.old) (L.seen link.new) result }
-    ensures unprinted { IfErr result (λ fault. fault ≢ ToolFault.WriteFailed → writer.new ≡ writer.old) }
 {
     run(Purpose::Reading, call, link, writer)
 }
@@ -231,7 +229,6 @@ pub fn run_write<L: Link, W: Write>(
     ensures link_fault { L.has_failed link.new ≡ is_link_fault result }
     ensures write_fault { has_failed writer.new ≡ is_write_fault result }
     ensures told { Tells Writing call.now W.contents writer.old writer.new (L.seen link.old) (L.seen link.new) result }
-    ensures unprinted { IfErr result (λ fault. fault ≢ ToolFault.WriteFailed → writer.new ≡ writer.old) }
 {
     run(Purpose::Writing, call, link, writer)
 }

@@ -1,4 +1,4 @@
-use Rattle.std.proofs.Common.{arith, add-one}
+use Rattle.std.proofs.Common.{arith, add-one, refl}
 use Rattle.std.proofs.lemmas.Result.{err_from_is_err_and}
 use Rattle.bac_links.specs.Inner.Ending.{ending_seen}
 use Rattle.bac_links.proofs.CallTurns.{fails_so, shown_so, spent}
@@ -7,13 +7,14 @@ use Rattle.bac_links.proofs.call.run.Goals as goal
 pub returns-in_err-client-clause-told : goal.returns-in_err-client-clause-told
 returns-in_err-client-clause-told g c =
     let p = err_from_is_err_and c.from_residual.result c.from_residual.ensures.1 in
-    rw (p.1, p.2, c.in_err-client.ensures.err.0) c.in_err-client.ensures.err.1
+    rw (p.1, p.2, c.in_err-client.ensures.err.0) (refl, c.in_err-client.ensures.err.1)
 
 pub returns-in_err-ending-clause-told : goal.returns-in_err-ending-clause-told
 returns-in_err-ending-clause-told g c =
     let p = err_from_is_err_and c.from_residual-in_err-ending.result c.from_residual-in_err-ending.ensures.1 in
     rw (p.1, p.2)
     (fails_so c.args.purpose c.args.call.now _ _ _ _ _ _ c.in_err-ending.ensures.err.0
+    c.loop-turn.invariant.unwritten
     (c.in_err-ending.ensures.err.1 c.args.purpose c.args.call.now _ _ c.turn_wait-wait_ms.ensures
     (rw c.most_turns-turn-end.ensures at c.loop-turn-test.true) c.loop-turn.invariant.so_far))
 
@@ -37,5 +38,7 @@ loop-turn-preserved g c = record {
 }
 
 pub returns-clause-told : goal.returns-clause-told
-returns-clause-told g c =
-    spent c.args.purpose c.args.call.now _ _ _ c.loop-turn._turn (omega arith) c.loop-turn.invariant.so_far
+returns-clause-told g c = (
+  c.loop-turn.invariant.unwritten,
+  spent c.args.purpose c.args.call.now _ _ _ c.loop-turn._turn (omega arith) c.loop-turn.invariant.so_far,
+)
