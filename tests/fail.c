@@ -1,8 +1,8 @@
 /* Loaded in front of the C library, it has one call of a program to the system fail: that with the number FAILED, from
-   1, among the calls that open a socket, send, receive, read and write. It says on the descriptor 3, where that is
-   open, which call it was. Where SHORT is set, a send that fails sends all, and says that it sent an octet less. Where
-   EACH is set, each call is said, and of a wait that is set its microseconds. Where ONE_OCTET is set, a read gives at
-   most one octet. */
+   1, among the calls that open a socket, send, receive, read and write. It fails by the error with the number ERRNO,
+   else by EIO, and says on the descriptor 3, where that is open, which call it was. Where SHORT is set, a send that
+   fails sends all, and says that it sent an octet less. Where EACH is set, each call is said, and of a wait that is set
+   its microseconds. Where ONE_OCTET is set, a read gives at most one octet. */
 #define _GNU_SOURCE
 #include <dlfcn.h>
 #include <errno.h>
@@ -23,22 +23,23 @@ static void say(const char *name)
     (void)!next(3, name, strlen(name));
 }
 
+static long setting(const char *name)
+{
+    const char *number = getenv(name);
+    return number ? atol(number) : 0;
+}
+
 static int fails(const char *name)
 {
-    static long failed = -1;
-    if (failed < 0) {
-        const char *number = getenv("FAILED");
-        failed = number ? atol(number) : 0;
-    }
     calls++;
     if (getenv("EACH")) {
         say(name);
         say(" ");
     }
-    if (calls != failed)
+    if (calls != setting("FAILED"))
         return 0;
     say(name);
-    errno = EIO;
+    errno = setting("ERRNO") ? setting("ERRNO") : EIO;
     return 1;
 }
 
