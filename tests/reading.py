@@ -34,7 +34,7 @@ PAGES = [
     ),
     ("serving", "A device that serves", ["bac_links::serve"]),
     ("command", "The words of a command line", ["bac_words::parse_words", "bac_words::words_of"]),
-    ("program", "From the words to the status", ["bac_tools::run_words", "bactool::run"]),
+    ("program", "From the words to the status", ["bac_tools::run_words", "bac_tools::run_program"]),
 ]
 
 SIZE = r"\[([\d,]+) lines\]\(docs/reading/(\w+)\.md\)"  # as README.md tells it
