@@ -1,27 +1,27 @@
 -- Two runs of the program with the same words are alike.
-use Rattle.std.proofs.Common.{◌≡◌, ◌≢◌, ◌++◌, ℕ, inl, inr, List, [], Option, Some, None, Result, Ok, Err, IfOk, IfErr}
+use Rattle.std.proofs.Common.{◌≡◌, ◌≢◌, ◌++◌, ℕ, inl, inr, List, [], Option, Some, None, Result, Ok, Err}
 use Rattle.std.proofs.Common.{Bool, false, refl, sym, ap, ◌∙◌, subst}
 use Rattle.std.specs.Prelude.{◌⊎◌, IsErrAnd, option_and_then}
+use Rattle.std.proofs.lemmas.List.{append-nil}
 use Rattle.std.specs.Result.{result_map_both, result_ok}
 use Rattle.clap.specs.Kinds.{IsAmong}
 use Rattle.clap.specs.Values.{kind_of}
 use Rattle.clap.specs.Words.{Text, fault_of}
-use Rattle.bac_device.proofs.StateLaws.{after_holds}
 use Rattle.bac_device.specs.Demo.{demo_points}
 use Rattle.bac_device.specs.Device.{device_after}
 use Rattle.bac_text.specs.Checked.{Took, fresh, octets_of}
 use Rattle.bac_text.specs.declared.checked.Checked.{Checked}
-use Rattle.bac_links.proofs.Alike.{calls_alike}
-use Rattle.bac_links.proofs.SearchesAlike.{searches_alike}
-use Rattle.bac_links.proofs.ServingsAlike.{servings_alike}
-use Rattle.bac_links.specs.Answered.{answers_of}
+use Rattle.bac_links.proofs.Alike.{calls_so_far}
+use Rattle.bac_links.proofs.SearchesAlike.{searches_so_far}
+use Rattle.bac_links.proofs.ServingsAlike.{servings_so_far}
+use Rattle.bac_links.specs.Answered.{answers_of, OneText, Printed}
 use Rattle.bac_links.specs.Fault.{is_write_fault}
 use Rattle.bac_links.specs.History.{Account, Entry}
 use Rattle.bac_links.specs.declared.ending.Exit.{Exit}
 use Rattle.bac_links.specs.declared.ending.Exit.TheVariants.{Good}
 use Rattle.bac_links.specs.declared.ending.Purpose.TheVariants.{Reading, Writing}
 use Rattle.bac_links.specs.declared.fault.ToolFault.{ToolFault}
-use Rattle.bac_links.specs.declared.fault.ToolFault.TheVariants.{WriteFailed}
+use Rattle.bac_links.specs.declared.fault.ToolFault.TheVariants.{SendFailed, ReceiveFailed, TurnsSpent, WriteFailed}
 use Rattle.bac_links.specs.declared.link.LinkFault.{LinkFault}
 use Rattle.bac_script.proofs.Functions.{traces_alike}
 use Rattle.bac_words.proofs.OneAnswer.{one_answer}
@@ -54,29 +54,24 @@ module _ {V W : Type 0} (contents : V → Option (List ℕ)) (contents' : W → 
   abbrev Same : Type 0
   Same = (gained ≡ gained') × (octets_of wrote ≡ octets_of wrote') × (answer ≡ answer')
 
-  abbrev Prints : Result Exit ToolFault → Result Exit ToolFault → Type 0
-  Prints r r' = IfOk r
-      (λ _. (text : List ℕ) × Took contents (fresh writer) wrote text
-      × IfOk r' (λ _. Took contents' (fresh writer') wrote' text))
+  none_left : (before after : Account) (more : List Entry) → after.history ≡ before.history ++ more
+      → after.history ≡ before.history ++ (more ++ [])
+  none_left before after more gains = gains ∙ ap (λ (xs : List Entry). before.history ++ xs) (sym (append-nil more))
 
-  calls : (gained ≡ gained')
-      × (answer ≢ Err WriteFailed → answer' ≢ Err WriteFailed → (answer ≡ answer') × Prints answer answer') →
-      IfErr answer (λ fault. fault ≢ WriteFailed → wrote ≡ fresh writer)
-      → IfErr answer' (λ fault. fault ≢ WriteFailed → wrote' ≡ fresh writer') → Same
-  calls both unprinted unprinted' =
-      let ends = both.1 whole whole' in
-      (both.0, printed answer answer' whole whole' ends.0 ends.1 unprinted unprinted', ends.0)
-    where
-      printed : (r r' : Result Exit ToolFault) → r ≢ Err WriteFailed → r' ≢ Err WriteFailed → r ≡ r' → Prints r r' →
-          IfErr r (λ fault. fault ≢ WriteFailed → wrote ≡ fresh writer)
-          → IfErr r' (λ fault. fault ≢ WriteFailed → wrote' ≡ fresh writer') →
-          octets_of wrote ≡ octets_of wrote'
-      printed (Ok exit) (Ok other) all all' e took none none' = took.1.passed ∙ sym took.2.passed
-      printed (Err f) (Err g) all all' e took none none' =
-          ap (λ (w : Checked V). octets_of w) (none (λ is. all (ap Err is)))
-          ∙ sym (ap (λ (w : Checked W). octets_of w) (none' (λ is. all' (ap Err is))))
-      printed (Ok exit) (Err g) all all' e took none none' = cc
-      printed (Err f) (Ok other) all all' e took none none' = cc
+  took : {X : Type 0} (shown : X → Option (List ℕ)) (before after : Checked X) (text : List ℕ)
+      (r : Result Exit ToolFault) → r ≢ Err WriteFailed → Printed shown before after text r
+      → Took shown before after text
+  took shown before after text (Ok exit) unfailed printed = printed
+  took shown before after text (Err SendFailed) unfailed printed = printed
+  took shown before after text (Err ReceiveFailed) unfailed printed = printed
+  took shown before after text (Err TurnsSpent) unfailed printed = printed
+  took shown before after text (Err WriteFailed) unfailed printed = absurd (unfailed refl)
+
+  one_text : OneText contents (fresh writer) wrote contents' (fresh writer') wrote' answer answer'
+      → octets_of wrote ≡ octets_of wrote'
+  one_text (text, printed, other) =
+      (took contents (fresh writer) wrote text answer whole printed).passed
+      ∙ sym (took contents' (fresh writer') wrote' text answer' whole' other).passed
 
   abbrev as_exit : Result ℕ ToolFault → Result Exit ToolFault
   as_exit served = result_map_both (λ replied. Good) (λ fault. fault) served
@@ -84,25 +79,27 @@ module _ {V W : Type 0} (contents : V → Option (List ℕ)) (contents' : W → 
   tools : (job : Job) → ToolRuns contents (fresh writer) wrote seen left answer job
       → ToolRuns contents' (fresh writer') wrote' seen' left' answer' job → Same
   tools (Read call) a b =
-      calls (calls_alike contents contents' Reading call (fresh writer) wrote (fresh writer') wrote' seen left seen'
-      left' answer answer' gained gained'
-      a.0 b.0 gains gains' same) a.1 b.1
+      let both = calls_so_far Reading call contents contents' (fresh writer) wrote (fresh writer') wrote' seen left seen'
+      left' answer answer' gained [] gained' [] a b (none_left seen left gained gains) (none_left seen' left' gained' gains')
+      same in
+      (both.0, one_text both.1.1, both.1.0 whole whole')
   tools (Write call) a b =
-      calls (calls_alike contents contents' Writing call (fresh writer) wrote (fresh writer') wrote' seen left seen'
-      left' answer answer' gained gained'
-      a.0 b.0 gains gains' same) a.1 b.1
+      let both = calls_so_far Writing call contents contents' (fresh writer) wrote (fresh writer') wrote' seen left seen'
+      left' answer answer' gained [] gained' [] a b (none_left seen left gained gains) (none_left seen' left' gained' gains')
+      same in
+      (both.0, one_text both.1.1, both.1.0 whole whole')
   tools (WhoIs search) a b =
-      let both = searches_alike contents contents' search (fresh writer) wrote (fresh writer') wrote' seen left seen'
-      left' answer answer' gained gained' a b gains gains' same in
-      let took = both.2 whole in
-      (both.0, took.1.passed ∙ sym took.2.passed, both.1)
+      let both = searches_so_far contents contents' search (fresh writer) wrote (fresh writer') wrote' seen left seen'
+      left' answer answer' gained [] gained' [] a b (none_left seen left gained gains) (none_left seen' left' gained' gains')
+      same in
+      (both.0, one_text both.1.1, both.1.0)
   tools (Device serve) a b =
-      let both = servings_alike serve.count (device_after serve.info demo_points []) a.0.device b.0.device seen left
-      seen' left' a.0.served b.0.served [] gained gained'
-      a.0.serves b.0.serves (after_holds serve.info demo_points []) gains gains' same in (
+      let both = servings_so_far serve.count (device_after serve.info demo_points []) a.0.device b.0.device seen left
+      seen' left' a.0.served b.0.served gained [] gained' [] a.0.serves b.0.serves (none_left seen left gained gains)
+      (none_left seen' left' gained' gains') same in (
         both.0,
         ap (λ (w : Checked V). octets_of w) a.1 ∙ sym (ap (λ (w : Checked W). octets_of w) b.1),
-        a.0.answers ∙ ap as_exit both.1 ∙ sym b.0.answers,
+        a.0.answers ∙ ap as_exit both.1.0.0 ∙ sym b.0.answers,
       )
   tools Trace a b = absurd a
 
