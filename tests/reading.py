@@ -40,7 +40,7 @@ PAGES = [
     ("serving", "A device that serves", ["bac_links::serve", "bac_links::laws::a_server_keeps_its_points"]),
     ("links", "Links, and the laws of the tools over them", ["bac_links::*"]),
     ("command", "The words of a command line", ["bac_words::parse_words", "bac_words::*", "clap_laws::*"]),
-    ("program", "From the words to the status", ["bac_tools::run_words", "bactool::run", "bac_text::Checked::read"]
+    ("program", "From the words to the status", ["bac_tools::run_words", "bac_tools::run_program", "bac_text::Checked::read"]
     + ["bac_text::Checked::write", "bac_text::Checked::flush", "bac_tools::*", "bactool::*"]),
 ]
 

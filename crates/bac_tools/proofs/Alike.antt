@@ -231,8 +231,8 @@ module _ {N L R W M K S V : Type 0} {gives : N → Binding → Result L LinkFaul
       let gained = none_gained out.seen o one.ran.socket one.gained given gains
       ∙ sym (none_gained out'.seen o' other.ran.socket other.gained given' gains') in
       let printed = ap (λ (w : Checked W). octets_of w) r.1 ∙ sym (ap (λ (w : Checked V). octets_of w) s.1) in
-      let report = ap (λ (x : Ran L). x.report) r.2 in
-      let report' = ap (λ (x : Ran K). x.report) s.2 in
+      let report = ap (λ (x : Ran N L). x.report) r.2 in
+      let report' = ap (λ (x : Ran M K). x.report) s.2 in
       elim p [
         | inl refused ↦
             (gained, printed, inr (refused, taken (Err g) f (had_memory one.ran.report f one.memory report) refused q))
@@ -247,7 +247,7 @@ module _ {N L R W M K S V : Type 0} {gives : N → Binding → Result L LinkFaul
       ]
   compared (Err f) (Ok k) o o' p q given given' r s gains gains' e = elim p [
     | inl refused ↦
-        let report = ap (λ (x : Ran L). x.report) r.2 in
+        let report = ap (λ (x : Ran N L). x.report) r.2 in
         absurd (taken (Ok k) f (had_memory one.ran.report f one.memory report) refused q)
     | inr answers ↦ elim q [
       | inl refused ↦ absurd refused
@@ -256,7 +256,7 @@ module _ {N L R W M K S V : Type 0} {gives : N → Binding → Result L LinkFaul
   ]
   compared (Ok j) (Err g) o o' p q given given' r s gains gains' e = elim q [
     | inl refused ↦
-        let report = ap (λ (x : Ran K). x.report) s.2 in
+        let report = ap (λ (x : Ran M K). x.report) s.2 in
         absurd (taken (Ok j) g (had_memory other.ran.report g other.memory report) refused p)
     | inr answers' ↦ elim p [
       | inl refused ↦ absurd refused

@@ -35,7 +35,7 @@ pub record Run {N L R W : Type 0} (gives : N → Binding → Result L LinkFault 
   pub reader' : Checked R
   pub writer : W
   pub writer' : Checked W
-  pub ran : Ran L
+  pub ran : Ran N L
   pub program : Program gives out network (fresh reader) reader' (fresh writer) writer' ran words
   pub memory : ran.report.fault ≢ Some (faults.Usage Memory)
   pub written : has_failed writer' ≡ false
