@@ -2,7 +2,7 @@
 use Rattle.std.proofs.Common.{◌≡◌, ℕ, ◌/◌, ◌%◌, ◌<◌, ◌≤◌, Bool, true, false, eqb, ltb, List, [], ◌∷◌, ◌++◌, length}
 use Rattle.std.proofs.Common.{take, drop, Option, Some, None, refl, sym, ap, ◌∙◌, append_assoc, arith, slice_index_or}
 use Rattle.std.proofs.Common.{◌+◌, cond, ◌||◌, ◌&&◌, subst, inl, inr}
-use Rattle.std.proofs.lemmas.Bool.{eqb-true, ltb-false, le-ltb, eq-eqb}
+use Rattle.std.proofs.lemmas.Bool.{and_parts, eqb-true, ltb-false, le-ltb, eq-eqb}
 use Rattle.std.proofs.lemmas.List.{take_at, drop_at, take-append-drop, length-append, length-take-le, nil_from_length}
 use Rattle.std.proofs.lemmas.Option.{none-some, some_pair_parts, cond_some}
 use Rattle.std.specs.Prelude.{IfSome, ◌↔◌, is_some, OnOk, Result, Ok, Err}
@@ -277,10 +277,6 @@ heeded_as sender to_all header apdu =
     cond (is_for_all header.destination && is_answerable header.source) (Some (delivered_as sender to_all header apdu))
     None
 
-both : (a b : Bool) → (a && b) ≡ true → (a ≡ true) × (b ≡ true)
-both true b e = (refl, e)
-both false b e = (e, grind (arith, common_steps))
-
 -- a header that is not ignored
 record IsHeeded (header : NetworkHeader) : Type 0 where
   pub destined : IfSome header.destination (λ to. to.network ≡ 65535)
@@ -291,7 +287,7 @@ heeded_takes : (sender : Station) (to_all : Bool) (header : NetworkHeader) (apdu
 heeded_takes sender to_all header apdu d e =
     let heeded = cond_some (is_for_all header.destination && is_answerable header.source)
     (delivered_as sender to_all header apdu) d e in
-    let each = both (is_for_all header.destination) (is_answerable header.source) heeded.0 in (
+    let each = and_parts (is_for_all header.destination) (is_answerable header.source) heeded.0 in (
       record { destined = (destined header.destination).0 each.0; answerable = (answerable header.source).0 each.1 },
       heeded.1,
     )
