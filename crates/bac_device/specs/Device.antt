@@ -1,6 +1,6 @@
 -- The device: what it keeps, its own properties, and what can be added to it (clause 12.11).
 use Rattle.std.specs.Prelude.{ℕ, ◌==◌, ◌&&◌, ◌||◌, Bool, nat_eq, if◌then◌else◌, List, [], ◌∷◌, ◌++◌}
-use Rattle.std.specs.Prelude.{length, map, find, codes, Option, Some, Result, Err, ◌≡◌}
+use Rattle.std.specs.Prelude.{length, map, find, codes, Option, Result, Err, ◌≡◌}
 use Rattle.std.specs.List.{list_any}
 use Rattle.std.specs.Map.{lookup}
 use Rattle.std.specs.Option.{option_map, option_and_then, option_or, ok_or}
@@ -90,35 +90,35 @@ is_device info object = (object.kind == 8) && ((object.instance == info.instance
 -- The texts that each device of this kind has, by the number of the property.
 unfoldable pub device_text : ℕ → Option (List ℕ)
 device_text number = lookup (nat_eq number) (
-    (121, codes "Property tools") -- vendor-name
-    ∷ (70, codes "bacdev") -- model-name
-    ∷ (44, codes "1") -- firmware-revision
-    ∷ (12, codes "1") -- application-software-version
-    ∷ (28, codes "Small BACnet/IP device") -- description
+    (121, codes "Property tools")  -- vendor-name
+    ∷ (70, codes "bacdev")  -- model-name
+    ∷ (44, codes "1")  -- firmware-revision
+    ∷ (12, codes "1")  -- application-software-version
+    ∷ (28, codes "Small BACnet/IP device")  -- description
     ∷ [])
 
 -- The numbers that each device of this kind has, by the number of the property.
 unfoldable pub device_number : ℕ → Option Datum
 device_number number = lookup (nat_eq number) (
-    (79, enumerated 8) -- object-type: device
-    ∷ (112, enumerated 0) -- system-status: operational
-    ∷ (120, unsigned own_vendor) -- vendor-identifier
-    ∷ (98, unsigned 1) -- protocol-version
-    ∷ (139, unsigned 4) -- protocol-revision
-    ∷ (62, unsigned greatest_apdu) -- max-apdu-length-accepted
-    ∷ (107, enumerated no_segmentation) -- segmentation-supported
-    ∷ (11, unsigned 3000) -- apdu-timeout
-    ∷ (73, unsigned 3) -- number-of-apdu-retries
-    ∷ (155, unsigned 1) -- database-revision
+    (79, enumerated 8)  -- object-type: device
+    ∷ (112, enumerated 0)  -- system-status: operational
+    ∷ (120, unsigned own_vendor)  -- vendor-identifier
+    ∷ (98, unsigned 1)  -- protocol-version
+    ∷ (139, unsigned 4)  -- protocol-revision
+    ∷ (62, unsigned greatest_apdu)  -- max-apdu-length-accepted
+    ∷ (107, enumerated no_segmentation)  -- segmentation-supported
+    ∷ (11, unsigned 3000)  -- apdu-timeout
+    ∷ (73, unsigned 3)  -- number-of-apdu-retries
+    ∷ (155, unsigned 1)  -- database-revision
     ∷ [])
 
 -- The properties that follow from what the device keeps, by their numbers.
 abbrev pub kept_property : DeviceState → ℕ → Option Property
 kept_property device number = lookup (nat_eq number) (
-    (75, single (values.object (device_object device.info))) -- object-identifier
-    ∷ (76, array (values.object (device_object device.info) ∷ point_objects device.standings)) -- object-list
-    ∷ (77, single (char_string 0 device.info.name)) -- object-name
-    ∷ (30, empty_list) -- device-address-binding
+    (75, single (values.object (device_object device.info)))  -- object-identifier
+    ∷ (76, array (values.object (device_object device.info) ∷ point_objects device.standings))  -- object-list
+    ∷ (77, single (char_string 0 device.info.name))  -- object-name
+    ∷ (30, empty_list)  -- device-address-binding
     ∷ [])
 
 -- The property of the device of this number: one that it keeps, or one that each device of this kind has.

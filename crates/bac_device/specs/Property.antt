@@ -71,13 +71,13 @@ kind_property standing number =
 -- The properties that every point has, by their numbers.
 abbrev pub common_value : Standing → ℕ → Option Datum
 common_value standing number = lookup (nat_eq number) (
-    (75, object standing.point.object) -- object-identifier
-    ∷ (77, char_string 0 standing.point.name) -- object-name
-    ∷ (79, enumerated standing.point.object.kind) -- object-type
-    ∷ (85, value_of standing.point.kind.family (present standing)) -- present-value
-    ∷ (36, enumerated 0) -- event-state: normal
-    ∷ (81, boolean false) -- out-of-service
-    ∷ (111, bit_string 4 (0 ∷ [])) -- status-flags: four, none set
+    (75, object standing.point.object)  -- object-identifier
+    ∷ (77, char_string 0 standing.point.name)  -- object-name
+    ∷ (79, enumerated standing.point.object.kind)  -- object-type
+    ∷ (85, value_of standing.point.kind.family (present standing))  -- present-value
+    ∷ (36, enumerated 0)  -- event-state: normal
+    ∷ (81, boolean false)  -- out-of-service
+    ∷ (111, bit_string 4 (0 ∷ []))  -- status-flags: four, none set
     ∷ [])
 
 -- The property of a point of this number: one that every point has, or one of its type.

@@ -76,9 +76,9 @@ unfoldable pub accepted_write : DeviceState → Order → Result Write Failure
 accepted_write device o = do
   property ← property_of device o.reference.object o.reference.property
   if is_some o.reference.index && not property.is_array then Err NotAnArray
-    else do
-      standing ← ok_or (commanded_point device o.reference) WriteDenied
-      ordered_write standing o
+      else do
+        standing ← ok_or (commanded_point device o.reference) WriteDenied
+        ordered_write standing o
 
 -- ---- the replies to confirmed requests
 

@@ -1,9 +1,9 @@
 -- The table of open requests, and their slots in the order of their last sends, through each edit.
-use Rattle.std.proofs.Common.{◌≡◌, ℕ, suc, ◌+◌, ◌<◌, ◌≤◌, List, [], ◌∷◌, ◌++◌, length, map, take, drop, set, get_or}
-use Rattle.std.proofs.Common.{replicate, Option, Some, None, All, refl, ap, sym, subst, ◌∙◌, inl, inr, arith}
+use Rattle.std.proofs.Common.{◌≡◌, ℕ, suc, ◌+◌, ◌<◌, ◌≤◌, List, [], ◌∷◌, ◌++◌, length, map, take, set, get_or}
+use Rattle.std.proofs.Common.{replicate, Option, Some, None, All, refl, ap, sym, subst, ◌∙◌, arith}
 use Rattle.std.specs.Prelude.{remove}
 use Rattle.std.proofs.lemmas.Bool.{cases_eq}
-use Rattle.std.proofs.lemmas.List.{length-append, length-replicate, get_or-replicate, length-map, length-set}
+use Rattle.std.proofs.lemmas.List.{length-append, get_or-replicate, length-map, length-set}
 use Rattle.std.proofs.lemmas.List.{length-take, map-append, take_at, take-append-drop, append_assoc, get_or-set_same}
 use Rattle.std.proofs.lemmas.List.{get_or-set_other, get_or-map}
 use Rattle.std.proofs.lemmas.Simd.{map-map}

@@ -1,16 +1,16 @@
 //! The laws of the client: what its machine does is what the look-ahead says.
 
 ghost use Rattle.std.specs.Prelude.{◌≡◌, ◌≢◌, ◌↔◌, ℕ, suc, ◌+◌, ◌<◌, ◌≤◌, List, ◌∷◌, ◌++◌, length, Some, IsSomeAnd};
-ghost use Rattle.std.specs.Prelude.{◌%◌, filter, map, take, true, nat_eq};
-ghost use Rattle.std.specs.List.{AllPairs, list_any};
+ghost use Rattle.std.specs.Prelude.{take, true};
+ghost use Rattle.std.specs.List.{AllPairs};
 ghost use Rattle.bac_pdu.specs.Peer.{Station};
 ghost use Rattle.bac_tsm.specs.Answers.{same_station, outcome_of};
 ghost use Rattle.bac_tsm.specs.AnswersInWords.{IsAnsweredBy};
 ghost use Rattle.bac_tsm.specs.Client.{client_rules};
 ghost use Rattle.bac_tsm.specs.Events.{Event, Outcome, Request, Rules};
-ghost use Rattle.bac_tsm.specs.Lookahead.{Accepted, accepted, due, end, is_open_at, open_at, output, sends};
+ghost use Rattle.bac_tsm.specs.Lookahead.{Accepted, accepted, due, end, open_among, open_at, output, sends};
 ghost use Rattle.bac_tsm.specs.Progress.{TimeoutsPass, last_of};
-ghost use Rattle.bac_tsm.specs.Laws.{AnswersByNumber, MachineIsLookahead, NumbersComeBackLate, steps_through};
+ghost use Rattle.bac_tsm.specs.Laws.{AnswersByNumber, MachineIsLookahead, NumbersComeBackLate, PassedAreHeld};
 
 /// The machine tells, at each position, the notes that the look-ahead gives there, and keeps what it says is open: for
 /// any rules by which at most 255 requests may be open, and those that one datagram answers have the same invoke id.
@@ -76,9 +76,7 @@ pub fn numbers_come_back_late()
 pub fn passed_numbers_are_held()
     ensures { (rules : Rules) (first_ticket : ℕ) (events : List Event) (n : ℕ) → rules.most_open ≤ 255 →
         (before since : List Accepted) (a : Accepted) → accepted rules first_ticket events n ≡ before ++ a ∷ since →
-        (step : ℕ) → 1 ≤ step → step ≤ steps_through a.request.number since →
-        list_any (nat_eq ((a.request.number + step) % 256)) (map (λ b. b.request.number)
-        (a ∷ (filter (is_open_at rules events a.position) before ++ since))) ≡ true }
+        PassedAreHeld a (open_among rules events a.position before) since }
 {}
 
 /// No request waits for ever: as often as the timeout passed, by ticks, it has been due, and once that is more often
