@@ -26,7 +26,8 @@ import re
 import sys
 import textwrap
 
-TOP = os.path.dirname(os.path.dirname(os.path.abspath(__file__)))
+from tree import TOP, all_crates, sections, tables, text_of
+
 COLUMNS = {"Code": ("src", ".rt"), "Definitions": ("specs", ".antt"), "Proofs": ("proofs", ".antt")}
 WHOLE = ["docs/", "tests/", "bench/"]  # folders whose row names each file
 PAGES = {"README.md", "CONTRIBUTING.md", "SECURITY.md", "CHANGELOG.md"}
@@ -35,35 +36,15 @@ WIDTH = 120
 DIFFERENCES = []
 
 
-def text_of(file):
-    with open(file, encoding="utf-8") as it:
-        return it.read()
-
-
 def compare(what, said, there):
     """Both are sets of names; `what` says of what."""
     DIFFERENCES.extend(f"{what}: {name} is not in docs/CODE.md" for name in sorted(there - said))
     DIFFERENCES.extend(f"{what}: docs/CODE.md names {name}, which is not there" for name in sorted(said - there))
 
 
-def sections(text):
-    """The text below each heading, by the heading's words."""
-    parts = re.split(r"^#+ (.*)$", text, flags=re.M)
-    return dict(zip(parts[1::2], parts[2::2]))
-
-
 def rows(section):
     """The rows of the tables of a section, each as a dictionary from the head of a column to the cell."""
-    head = None
-    for line in section.splitlines():
-        if not line.startswith("|"):
-            head = None
-            continue
-        cells = [cell.strip() for cell in re.split(r"(?<!\\)\|", line)[1:-1]]
-        if head is None:
-            head = cells
-        elif not set(line) <= set("|-"):
-            yield dict(zip(head, cells))
+    return [dict(zip(head, cells)) for head, cells in tables(section)]
 
 
 def names(text):
@@ -85,18 +66,18 @@ def files(folder, ending):
 
 
 def map_of_crates(parts):
-    below = dict(line.split(":") for line in text_of("crates.txt").splitlines() if line.strip())
-    crates = set(below)
-    compare("the table of crates", {names(row["Crate"])[0] for row in rows(parts["The crates"])}, crates)
-    compare("the headings", {name for name in parts if re.fullmatch(r"[a-z_]+", name)}, crates)
+    below = all_crates()
+    every = set(below)
+    compare("the table of crates", {names(row["Crate"])[0] for row in rows(parts["The crates"])}, every)
+    compare("the headings", {name for name in parts if re.fullmatch(r"[a-z_]+", name)}, every)
     drawn = re.search(r"```\n(.*?)```", parts["The crates"], re.S)[1].splitlines()
     line_of = {name: number for number, line in enumerate(drawn) for name in line.split()}
-    compare("the drawing", set(line_of), crates)
-    for crate in sorted(crates & set(line_of)):
-        for lower in sorted(set(below[crate].split()) & set(line_of)):
+    compare("the drawing", set(line_of), every)
+    for crate in sorted(every & set(line_of)):
+        for lower in sorted(set(below[crate]) & set(line_of)):
             if line_of[lower] >= line_of[crate]:
                 DIFFERENCES.append(f"the drawing: {crate} rests on {lower}, which is not on a line above it")
-    for crate in sorted(crates & set(parts)):
+    for crate in sorted(every & set(parts)):
         for column, (folder, ending) in COLUMNS.items():
             said = [name for row in rows(parts[crate]) for name in names(row.get(column, ""))]
             compare(f"{crate}/{folder}", set(said), files(f"crates/{crate}/{folder}", ending))

@@ -17,7 +17,7 @@ import glob
 import itertools
 import re
 
-from tree import crates, text_of
+from tree import all_crates, text_of
 
 PROBLEMS = []
 
@@ -525,7 +525,7 @@ CRATES, OUTSIDE = {}, {"std", "core"}
 
 
 def read_tree():
-    CRATES.update(crates())
+    CRATES.update(all_crates())
     OUTSIDE.update(name for below in CRATES.values() for name in below if name not in CRATES)
     for crate in CRATES:
         for path in sorted(glob.glob(f"crates/{crate}/specs/**/*.antt", recursive=True)):
