@@ -26,6 +26,7 @@ import threading
 import time
 
 from edits import ROOT, Edit
+from tree import text_of
 
 TRIALS = re.compile(r"(crates/(?:bac|tool)_trials)/src/tests/")
 MOST = 1800  # seconds that a build may take, on a machine with much else to do
@@ -46,11 +47,6 @@ class Hole:
         texts = self.edit.applied({}) if self.edit else {}
         for path, text in texts.items():
             write(f"{room}/crates/{self.edit.crate}/{path}", text)
-
-
-def text_of(file):
-    with open(file, encoding="utf-8") as it:
-        return it.read()
 
 
 def write(file, text):

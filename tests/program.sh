@@ -5,28 +5,11 @@ set -eu
 program=$(realpath "$1")
 cd "$(dirname "$0")/.."
 port=$(examples/free-port.sh)
-failures=0
-count=0
-
-# expect STATUS TEXT COMMAND..: how the command ends, and a pattern of `case` that all that it writes has to fit.
-expect() {
-    wanted=$1 text=$2
-    shift 2
-    count=$((count + 1))
-    status=0
-    told=$("$@" 2>&1) || status=$?
-    # shellcheck disable=SC2254  # a pattern
-    case $status:$told in
-        $wanted:$text) ;;
-        *)
-            failures=$((failures + 1))
-            echo "not as it is to be: $*: status $status: $told"
-            ;;
-    esac
-}
+. tests/expect.sh
 
 "$program" bacdev 1234 --port "$port" --count 3 &
 device=$!
+trap 'kill $device 2>/dev/null || true' EXIT
 for _ in 1 2 3 4 5 6 7 8 9 10; do
     [ "$(examples/free-port.sh)" = "$port" ] || break
     sleep 0.1
@@ -42,7 +25,7 @@ done
 expect 0 4290999a "$program" bacrp 1234 0 5 85 --mac "127.0.0.1:$port"
 status=0
 wait $device || status=$?
+trap - EXIT
 expect 0 0 echo $status
 
-echo "tests/program.sh: $count calls, $failures not as they are to be"
-[ $failures = 0 ]
+echo "tests/program.sh: $count calls as they are to be"
