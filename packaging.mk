@@ -9,8 +9,7 @@
 #     bash, zsh and fish, make install in a folder of its own, the documents against the tree, that something reads each
 #     row of the rules back, what make says at first, and the scripts by shellcheck. What mandoc, tshark, shellcheck
 #     and a shell would look at is left out where it is not installed. Up to a minute
-# make guide: runs every command of docs/GUIDE.md and the scripts of examples/, and compares what comes out; make
-#     examples runs it too. It needs perl. Half a minute
+# make guide: runs every command of docs/GUIDE.md, and compares what comes out; make examples runs it too. Half a minute
 # make deb: a Debian package in crates/bactool/out, of the same octets each time; needs dpkg-deb and binutils. A second
 
 PREFIX ?= /usr/local
@@ -41,7 +40,6 @@ lint: program
 examples: guide
 
 guide: program
-	@tests/scripts.sh
 	@BACTOOL=$(PROGRAM) tests/guide.sh
 
 deb: program

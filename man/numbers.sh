@@ -1,10 +1,11 @@
 #!/bin/sh
-# Makes man/bactool-numbers.7 and docs/NUMBERS.md from man/numbers.txt. Usage: man/numbers.sh [FOLDER], where FOLDER
-# gets the two files instead, for a comparison.
+# Makes man/bactool-numbers.7, docs/NUMBERS.md and the tables of site/bacsite from man/numbers.txt. Usage:
+# man/numbers.sh [FOLDER], where FOLDER gets the three files instead, for a comparison.
 set -eu
 cd "$(dirname "$0")"
 page=${1:-.}/bactool-numbers.7
 document=${1:-../docs}/NUMBERS.md
+program=${1:-../site}/bacsite
 
 awk -F ' [|] ' '
     # What `man` would read otherwise than as it stands.
@@ -99,3 +100,45 @@ awk -F ' [|] ' '
     { printf "|"; for (i = 1; i <= NF; i++) printf " %s |", $i; print "" }
     head { for (i = 1; i <= NF; i++) printf "|---"; print "|"; head = 0 }
 ' numbers.txt >"$document"
+
+# The tables of bacsite: the name of one, and its rows NUMBER:NAME or NUMBER:NAME:TAG.
+tables=$(awk -F ' [|] ' '
+    # Prints words as lines of at most 120 columns.
+    function add(word) {
+        if (length(line " " word) > 120) { print line; line = "" }
+        line = line == "" ? word : line " " word
+    }
+    # The tag of the value where others look like it; p, as the present value; -, none or parts; ?, not known.
+    function tag(told) {
+        if (told ~ /present value|by the object type/) return ":p"
+        return told ~ /^[0-9]/ ? (told ~ /^[23459] / ? ":" (told + 0) : "") : told == "-" ? ":-" : ":?"
+    }
+    BEGIN { split("Object types,object-type,Properties,property-list,Units,units", titles, ",") }
+    /^= / {
+        name = ""
+        for (i = 1; i < 6; i += 2) if ($1 == "= " titles[i]) add(name = titles[i + 1])
+        means = $1 == "= What numbers of a value mean"
+        next
+    }
+    name != "" && /^[0-9]/ { add($1 ":" $2 (name == "units" ? "" : tag($3))) }
+    means && NF == 2 && $1 != "Property" {
+        count = split($1, properties, ", ")
+        for (i = 1; i <= count; i++) {
+            add(properties[i])
+            last = split($2, words, ", ")
+            for (j = 1; j <= last; j++) {
+                word = words[j] ~ /^[0-9]/ ? words[j] : (j - 1) " " words[j]
+                sub(/ /, ":", word)
+                gsub(/ /, "-", word)
+                add(word)
+            }
+        }
+    }
+    END { print line }
+' numbers.txt)
+made=$(TABLES=$tables awk '
+    /^"""$/ { inside = 0 }
+    !inside
+    /^NUMBERS = """$/ { print ENVIRON["TABLES"]; inside = 1 }
+' ../site/bacsite)
+printf '%s\n' "$made" >"$program"

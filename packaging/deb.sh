@@ -63,15 +63,17 @@ Maintainer: $maintainer
 Installed-Size: $(find "$root/usr" -printf '%y %s\n' |
     awk '{ size += $1 == "f" ? int(($2 + 1023) / 1024) : 1 } END { print size }')
 Depends: libc6${libc:+ (>= $libc)}
+Recommends: python3 (>= 3.8)
 Section: net
 Priority: optional
 Description: BACnet/IP tools whose behaviour is proved
  Reads and writes properties of BACnet/IP controllers (bacrp, bacwp), finds
  devices (bacwi), plays a small device (bacdev), and runs scripts of requests
  and datagrams with no network (bactrace). The protocol is ANSI/ASHRAE 135.
+ bacsite beside them, which needs Python, surveys and monitors a whole site.
  .
- What the program does is proved, by contracts: README.md says what is not.
- The guide and scripts for monitoring are in /usr/share/doc/bactool.
+ What bactool does is proved, by contracts; bacsite is not. README.md in
+ /usr/share/doc/bactool says more, and docs/GUIDE.md there shows the use.
  .
 $(fold -s -w 78 <<<"$report" | sed 's/^/ /; s/ *$//')
 CONTROL

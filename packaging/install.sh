@@ -1,7 +1,7 @@
 #!/bin/sh
-# Puts the built program, links of the tools' names, manual pages, completions, documents and examples below PREFIX, or
-# takes them away again. Usage: packaging/install.sh PROGRAM, or packaging/install.sh --remove. From the environment:
-# PREFIX (/usr/local), DESTDIR, which stands in front of all paths, and ZSH_COMPLETIONS
+# Puts the built program, links of the tools' names, bacsite, manual pages, completions, documents and examples below
+# PREFIX, or takes them away again. Usage: packaging/install.sh PROGRAM, or packaging/install.sh --remove. From the
+# environment: PREFIX (/usr/local), DESTDIR, which stands in front of all paths, and ZSH_COMPLETIONS
 # (PREFIX/share/zsh/site-functions), which has to lie below PREFIX.
 #
 # PREFIX/share/bactool/installed lists what was put, by its path behind PREFIX, with a sum of each. A file that is there
@@ -110,12 +110,15 @@ lay_out() {
     esac
     version=$(packaging/version.sh "$program")
     put "$program" 755 bin/bactool
+    put site/bacsite 755 bin/bacsite
     for page in man/*.[17]; do
         put "$page" 644 "share/man/man${page##*.}/${page##*/}"
     done
-    put completions/bactool.bash 644 $bash/bactool
-    put completions/_bactool 644 "$zsh/_bactool"
-    put completions/bactool.fish 644 $fish/bactool.fish
+    for name in bactool bacsite; do
+        put completions/$name.bash 644 $bash/$name
+        put completions/_$name 644 "$zsh/_$name"
+        put completions/$name.fish 644 $fish/$name.fish
+    done
     for tool in $tools; do
         link bactool "bin/$tool"
         link bactool "$bash/$tool"

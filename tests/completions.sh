@@ -8,8 +8,8 @@ tags='0 1 10 11 12 2 3 4 5 6 7 8 9'
 failed=0
 
 by_bash() {
-    bash -c 'source completions/bactool.bash; COMP_LINE=$1; COMP_POINT=${#1}; _bactool
-        printf "%s\n" "${COMPREPLY[@]}"' bash "$1"
+    bash -c 'source "completions/$2.bash"; COMP_LINE=$1; COMP_POINT=${#1}; "_$2"
+        printf "%s\n" "${COMPREPLY[@]}"' bash "$1" "$([[ $1 == bacsite* ]] && echo bacsite || echo bactool)"
 }
 
 by_zsh() {
@@ -17,7 +17,7 @@ by_zsh() {
 }
 
 by_fish() {
-    fish --no-config -c "source completions/bactool.fish; complete -C '$1'" | cut -f1
+    fish --no-config -c "source completions/bactool.fish; source completions/bacsite.fish; complete -C '$1'" | cut -f1
 }
 
 # Each line below: a line that is being typed, and what may follow, in order.
@@ -29,6 +29,12 @@ check() {
         failed=1
     fi
 }
+
+# What stands in the help of bacsite, or of one of its commands, behind the start of a line.
+of_help() {
+    COLUMNS=200 site/bacsite "${@:2}" --help | sed -nE "s/^$1( .*)?\$/\2/p" | LC_ALL=C sort | paste -sd' '
+}
+commands=$(of_help '()    ([a-z]+)')
 
 for shell in bash zsh fish; do
     if ! command -v $shell >/dev/null; then
@@ -49,6 +55,13 @@ for shell in bash zsh fish; do
     check $shell 'bacwp 1234 1 1 85 8 -1 4 ' ''
     check $shell 'bacwp 1234 1 1 85 8 ' ''
     check $shell 'bacrp 1234 0 5 85 --mac ' ''
+    check $shell 'bacsite ' "$commands"
+    for command in $commands; do
+        check $shell "bacsite $command x --" "$(of_help '  (-[a-z], )?(--[a-z-]+)' "$command")"
+    done
+    check $shell 'bacsite p' 'poll prometheus properties'
+    check $shell 'bacsite --' '--help'
+    check $shell 'bacsite read --apdu-timeout ' ''
     [ $failed -ne 0 ] || echo "$shell: as it is to be"
 done
 exit $failed

@@ -14,8 +14,6 @@ differ, and says in what.
 - README.md: what it shows of a script is what examples/ has, and the rule that it shows stands so in specs/. It has at
   most 120 lines and 1,500 words.
 - docs/PROTOCOL.md: the texts of faults are those of the code.
-- docs/GUIDE.md: the table that says which script does what has the scripts of examples/, but for what the demonstration
-  needs.
 - Links lead to what a package has: a document, or a file of examples/.
 - Lines have at most 120 columns, in the documents but for tables and what is printed; in scripts; and in src/, specs/
   and proofs/ but for attributes, which `rt fmt` lays out, and words that are longer.
@@ -188,16 +186,9 @@ def texts_of_faults(section):
         DIFFERENCES.append(f"docs/PROTOCOL.md: the fault {text} is told in one place alone")
 
 
-def scripts_of_the_guide(section):
-    said = {names(row["Script"])[0] for row in rows(section)}
-    there = {os.path.basename(file) for file in glob.glob("examples/*.sh")} - {"demo.sh", "free-port.sh"}
-    for name in sorted(said ^ there):
-        DIFFERENCES.append(f"docs/GUIDE.md: the table of scripts and examples/ differ in {name}")
-
-
 def wide_lines():
     places = [f"crates/*/{folder}/**/*{ending}" for folder, ending in COLUMNS.values()]
-    places += ["Makefile", "*.mk", "*.py", "crates/*/oracle/*.py"]
+    places += ["Makefile", "*.mk", "*.py", "crates/*/oracle/*.py", "site/bacsite"]
     folders = ["bench", "examples", "man", "packaging", "tests"]
     places += [f"{folder}/**/*{ending}" for folder in folders for ending in (".py", ".sh", ".c")]
     for file in sorted(file for place in places for file in glob.glob(place, recursive=True)):
@@ -236,7 +227,6 @@ def main():
     what_stands_twice(text_of("README.md"), proofs)
     functions_without_a_contract(text_of("README.md"), proofs["Functions without a clause"])
     texts_of_faults(sections(text_of("docs/PROTOCOL.md"))["Statuses and faults"])
-    scripts_of_the_guide(sections(text_of("docs/GUIDE.md"))["Which script does what"])
     links_and_lines()
     wide_lines()
     print("\n".join(DIFFERENCES) or "the documents agree with the tree")

@@ -16,6 +16,7 @@ mkdir "$room/bin" "$room/work"
 for name in bactool bacrp bacwp bacwi bacdev bactrace; do
     ln -s "$bactool" "$room/bin/$name"
 done
+cp site/bacsite "$room/bin"
 cp -r examples "$room/work"
 
 port=$(examples/free-port.sh)
@@ -23,7 +24,7 @@ second=$(examples/free-port.sh 48000)
 sed -E "/^\`\`\`console/,/^\`\`\`\$/ {
     s/127\.0\.0\.1:48000\b|--port 48000\b/&@/g
     s/48000@/$second/g
-    s/(--mac[ =]127\.0\.0\.[0-9]|watch\.sh 127\.0\.0\.1)([^.:0-9]|\$)/\1:$port\2/g
+    s/([ @]127\.0\.0\.[0-9])([^.:0-9]|\$)/\1:$port\2/g
     s/\b(bacdev [0-9]+) &/\1 --port $port \&/g
     s/(127\.0\.0\.1):47808\b/\1:$port/g
 }" docs/GUIDE.md >"$room/guide"

@@ -21,15 +21,22 @@ files() {
 expect 1 '*make install put nothing*' packaging/install.sh --remove
 expect 0 '*files and links*' packaging/install.sh "$program"
 same "$program" "$bin/bacrp"
-same completions/_bactool "$room$PREFIX/share/zsh/site-functions/_bactool"
+expect 1 '' test -L "$bin/bacsite"
+same site/bacsite "$bin/bacsite"
+for name in bactool bacsite; do
+    same completions/_$name "$room$PREFIX/share/zsh/site-functions/_$name"
+done
 expect 0 "*.Os bactool $(packaging/version.sh "$program")*" cat "$room$PREFIX/share/man/man7/bactool-numbers.7"
 doc=$room$PREFIX/share/doc/bactool
 same docs/GUIDE.md "$doc/docs/GUIDE.md"
-same examples/reals.sh "$doc/examples/reals.sh"
+same examples/capture.py "$doc/examples/capture.py"
 expect 0 "*ExecStart=$PREFIX/bin/bacdev*" cat "$doc/examples/bacdev.service"
-expect 0 "*$PREFIX/share/doc/bactool/examples*" cat "$room$PREFIX/share/man/man1/bactool.1"
-grep -o ']([^)#]*' README.md | sed 's/^](//' | grep -v '^[a-z]*:' | while read -r link; do
-    expect 0 '' test -e "$doc/$link"
+expect 0 "*$PREFIX/share/doc/bactool/examples*" cat "$room$PREFIX/share/man/man1/bacdev.1"
+# Each link of a document leads somewhere there.
+find "$doc" -name '*.md' | while read -r document; do
+    grep -o ']([^)#]*' "$document" | sed 's/^](//' | grep -v '^[a-z]*:' | grep . | while read -r link; do
+        expect 0 '' test -e "$(dirname "$document")/$link"
+    done
 done
 put=$(files)
 

@@ -1,7 +1,7 @@
 #!/usr/bin/env bash
-# Installs a Debian package in a root that has nothing but Debian's smallest set, runs the demonstration there, finds
-# the manual pages, completions and documents in their places, and takes the package away again. Needs root, debootstrap
-# and a mirror of Debian.
+# Installs a Debian package in a root that has nothing but Debian's smallest set, runs the demonstration there, and
+# bacsite without Python and with it, finds the manual pages, completions and documents in their places, and takes the
+# package away again. Needs root, debootstrap and a mirror of Debian.
 # Usage: tests/package.sh PACKAGE.deb [ROOT], where ROOT keeps the system for the next time.
 set -euo pipefail
 package=$(realpath "$1")
@@ -25,20 +25,25 @@ sed "s/$port/47808/" "$root/tmp/demo/out" | diff - examples/demo.out
 echo "the demonstration: as it is to be"
 
 chroot "$root" dpkg -L bactool >"$root/tmp/demo/files"
-for tool in bactool bacrp bacwp bacwi bacdev bactrace; do
+for tool in bactool bacrp bacwp bacwi bacdev bactrace bacsite; do
     for file in /usr/bin/$tool /usr/share/man/man1/$tool.1.gz /usr/share/bash-completion/completions/$tool; do
         grep -qx "$file" "$root/tmp/demo/files" || { echo "not there: $file"; exit 1; }
     done
 done
 doc=/usr/share/doc/bactool
 for file in /usr/share/man/man7/bactool-numbers.7.gz $doc/README.md $doc/docs/GUIDE.md $doc/docs/NUMBERS.md \
-    $doc/examples/poll.sh; do
+    $doc/examples/bacdev.service; do
     grep -qx "$file" "$root/tmp/demo/files" || { echo "not there: $file"; exit 1; }
 done
-# From 4290999a to 72.3, as the page says.
-line=$(gzip -dc "$root/usr/share/man/man1/bacrp.1.gz" | sed -n 's|^\$ \(\. /.*/reals\.sh\)$|\1|p')
-[ "$(chroot "$root" sh -c "$line"'; from_real 4290999a')" = 72.3 ] ||
-    { echo "not as the page of bacrp says: $line"; exit 1; }
+# So far Python was not needed. With it bacsite reads a point.
+read_point() {
+    chroot "$root" sh -c "bacdev 1234 --port $port --count 1 & sleep 1; exec bacsite read 127.0.0.1:$port 0 5 85"
+}
+if ! chroot "$root" sh -c 'command -v python3' >/dev/null; then
+    [ "$(read_point 2>&1)" = "/usr/bin/env: 'python3': No such file or directory" ] || { echo 'not refused'; exit 1; }
+    chroot "$root" sh -c 'apt-get -q update && apt-get -qy --no-install-recommends install python3' >/dev/null
+fi
+[ "$(read_point)" = 72.3 ] || { echo 'bacsite reads another value'; exit 1; }
 chroot "$root" bacdev --help | head -n 1
 chroot "$root" dpkg -P bactool
 [ -z "$(find "$root/usr" -name '*bactool*')" ] || { echo "left behind"; exit 1; }

@@ -1,5 +1,5 @@
 #!/usr/bin/env bash
-# Compares the manual pages with the program that they are of: words, options, ranges and defaults with each tool's
+# Compares the manual pages with the programs that they are of: words, options, ranges and defaults with each tool's
 # help, faults with the code's texts, and with help and documents what has to be said twice: statuses, version, the
 # warnings, how a fault is reported. Then mandoc reads them, where it is installed. Usage: tests/pages.sh PROGRAM
 set -euo pipefail
@@ -95,6 +95,32 @@ for word in object-type property; do
     done
 done
 
+# Of bacsite: the options of each command, and what is told of each in numbers. Help of its check ends with 3.
+site() {
+    COLUMNS=200 site/bacsite "$@" --help || [ $? = 3 ]
+}
+for command in $(site | sed -nE 's/^    ([a-z]+)( .*)?$/\1/p'); do
+    site "$command" | sed -nE "s/^  (--?[a-z-]+)( .*)?\$/$command \1/p"
+    site "$command" | sed -nE 's/^  (--[a-z-]+) [A-Z]+ +(.*[0-9].*)$/\1\t\2/p' >>"$room/told"
+done | sort >"$room/options in help of bacsite"
+sed -n '/^The options:/,/^\.El/p' man/bacsite.1 | awk '
+    /^\.(It|El)/ { if (name != "") print name "\t" text; name = text = "" }
+    /^\.It Fl Fl/ { name = "--" $4; next }
+    { text = text " " $0 }
+' >"$room/told in man"
+shared=$(cut -f 1 "$room/told in man" | grep -v last | paste -sd' ')
+sed -n '/^\.Sh SYNOPSIS/,/^\.Sh DESC/p' man/bacsite.1 | awk -v shared="$shared" '
+    function has(option) { print command " " option }
+    /^\.Cm/ { command = $2 }
+    /^\.Op Ar option/ { for (i = split(shared, options, " "); i > 0; i--) has(options[i]) }
+    /^\.Op Fl/ { has($3 == "Fl" ? "--" $4 : "-" $3) }
+' | sort >"$room/options in man bacsite"
+same 'options of bacsite' 'options in help of bacsite' 'options in man bacsite'
+sed -E 's/[;:] ([0-9]+)( where it is not given)?$/ [default: \1]/' "$room/told" | numbers |
+    sort -u >"$room/numbers in help of bacsite"
+numbers <"$room/told in man" | grep ';' >"$room/numbers in man bacsite"
+same 'numbers of bacsite' 'numbers in help of bacsite' 'numbers in man bacsite'
+
 # Each tag of bacwp with the first number that help and page tell of it.
 "$program" bacwp --help | sed -n 's/^ *\([0-9][0-9]*\)  \([A-Z][A-Za-z ]*[a-z]\)  .*/\1 \2/p' >"$room/tags of help"
 sed -n 's/^\.It \([0-9][0-9]*\)  \([A-Z].*\)/\1 \2/p' man/bacwp.1 >"$room/tags of man bacwp"
@@ -170,9 +196,9 @@ awk '/^\.Sh/ { inside = /DIAGNOSTICS/ } /^\.Pp/ { inside = 0 } inside && /^\.It/
     sort -u >"$room/faults of man bactool"
 same faults 'faults of the code' 'faults of man bactool'
 
-# The page of numbers, and the document, are as made.
+# The page of numbers, the document, and the tables of bacsite are as made.
 man/numbers.sh "$room"
-for made in man/bactool-numbers.7 docs/NUMBERS.md; do
+for made in man/bactool-numbers.7 docs/NUMBERS.md site/bacsite; do
     diff "$room/${made#*/}" "$made" >&2 || wrong "$made is not as man/numbers.sh makes it"
 done
 

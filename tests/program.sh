@@ -7,13 +7,27 @@ cd "$(dirname "$0")/.."
 port=$(examples/free-port.sh)
 . tests/expect.sh
 
-"$program" bacdev 1234 --port "$port" --count 3 &
+# Waits, for a second at most, until a socket has the port.
+until_taken() {
+    for _ in 1 2 3 4 5 6 7 8 9 10; do
+        [ "$(examples/free-port.sh)" = "$port" ] || break
+        sleep 0.1
+    done
+}
+
+# A socket takes the place of no standard stream that is closed.
+"$program" bacdev 1234 --port "$port" --count 1 <&- >&- 2>&- &
 device=$!
 trap 'kill $device 2>/dev/null || true' EXIT
-for _ in 1 2 3 4 5 6 7 8 9 10; do
-    [ "$(examples/free-port.sh)" = "$port" ] || break
-    sleep 0.1
-done
+until_taken
+expect 0 '' find "/proc/$device/fd" -name '[0-2]'
+expect 0 "1234 127.0.0.*:$port 1476 3 260" "$program" bacwi --mac "127.0.0.1:$port" --apdu-timeout 500
+wait $device
+
+# A port that is taken, and a device that takes three datagrams, answers them and ends.
+"$program" bacdev 1234 --port "$port" --count 3 &
+device=$!
+until_taken
 for words in 'bacdev 1234' 'bacwi --mac 127.0.0.1' 'bacrp 1234 0 5 85 --mac 127.0.0.1' \
     'bacwp 1234 1 1 85 8 -1 0 x --mac 127.0.0.1'; do
     # shellcheck disable=SC2086  # several words

@@ -78,7 +78,9 @@ impl<R: Net + Clock + Clone + Drop> UdpLink<R> {
         ensures at { IfOk result (λ link. link.at ≡ at) }
         ensures begun { IfOk result (λ link. (link.time ≡ 0) × (link.wait_ms ≡ 0) × (link.history.entries ≡ [])) }
     {
-        let socket = UdpSocket::bind(rt, address_of(at)).map_err(|_| LinkFault)?;
+        // Its duplicate has a descriptor past those of the standard streams, also where one of these is closed.
+        let bound = UdpSocket::bind(rt, address_of(at)).map_err(|_| LinkFault)?;
+        let socket = bound.try_clone().map_err(|_| LinkFault)?;
         let made = Instant::now(rt).map_err(|_| LinkFault)?;
         Ok(UdpLink {
             rt: rt.clone().map_err(|_| LinkFault)?,

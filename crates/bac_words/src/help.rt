@@ -44,6 +44,8 @@ Status 1: timeout, segmented, bad-error, bad-ack, or
   error CLASS CODE  1 31 unknown object, 2 32 unknown property, 2 42 no such element, 2 50 no array
   reject REASON     4 to 7 the device could not read the request, 9 unknown service
   abort REASON      1, 4 and 11 the value is too long: read it element by element
+Status 2: a word is refused, and nothing was sent. The message shows which one, but for
+  bad mac           --mac is a name, as localhost; or has a route, as 192.0.2.1/5/07, or a port past 65535
 An answer from another address than that of --mac is not taken, so it is a timeout; but one that says
 that it is forwarded from there is taken from anyone: see SECURITY.md.";
 
@@ -74,6 +76,12 @@ Prints one line. Status 0: ok. Status 1: timeout, segmented, bad-error, bad-ack,
                     2 40 not writable, 2 42 no such element, 2 50 no array
   reject REASON     4 to 7 the device could not read the request, 9 unknown service
   abort REASON      the device gave up
+Status 2: a word is refused, and nothing was sent. The message shows which one, but for
+  bad mac           --mac is a name, as localhost; or has a route, as 192.0.2.1/5/07, or a port past 65535
+  bad index         the word behind the priority is neither -1 nor a number, as all
+  bad value N       the N-th tag is past 12, or its value is missing or not spelled as above, as 4 20.0;
+                    or the index was forgotten, so that the tag was taken for it
+  body too long     object, property and values have more than 476 octets together
 After any status but 0, and after Ctrl-C, the write may have been made: read the property back. Only
 status 2 says that nothing was sent. An answer from another address than that of --mac is not taken,
 so it is a timeout; but one that says that it is forwarded from there is taken from anyone: see
@@ -87,7 +95,9 @@ pub(crate) const SEARCH_LINES: &str = "Examples:
 
 Prints a line for each answer: INSTANCE ADDRESS:PORT, the octets of an APDU that it takes, its
 segmentation (3 is none) and its vendor, as 1234 192.0.2.7:47808 1476 3 260.
-Status 0: at least one. Status 1: none.";
+Status 0: at least one. Status 1: none.
+Status 2: a word is refused, and nothing was sent. The message shows which one, but for
+  bad mac           --mac is a name, as localhost; or has a route, as 192.0.2.1/5/07, or a port past 65535";
 
 pub(crate) const SERVE_LINES: &str = "Example:
   bactool bacdev 1234
@@ -171,8 +181,8 @@ a device that answers by broadcast is heard only at the port
 that it broadcasts to; at a fixed port a late answer to an
 earlier search is heard too";
 
-pub(crate) const SERVE_PORT: &str = "UDP port to listen at, 0 to 65535, as 47809; 0 is any free one
-[default: 47808]";
+pub(crate) const SERVE_PORT: &str = "UDP port to listen at, 0 to 65535, as 47809; 0 is any free one,
+which is told nowhere: see man bacdev [default: 47808]";
 
 pub(crate) const COUNT: &str = "Datagrams after which it ends, 1 to 65535, as 10
 [default: 65535]";
