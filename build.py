@@ -24,6 +24,8 @@ import subprocess
 import sys
 import time
 
+from tests.tree import all_crates
+
 PROGRAM = "bactool"
 TRIALS = ["bac_trials", "tool_trials"]
 ROOMS = "out/build"
@@ -36,12 +38,10 @@ that the next build proves only what has changed."""
 
 def needed(tops):
     """The crates that these rest on, and themselves: each with those of the repository that it rests on."""
-    with open("crates.txt", encoding="utf-8") as lines:
-        below = dict(line.split(":") for line in lines if line.strip())
-    found, more = {}, list(tops)
+    below, found, more = all_crates(), {}, list(tops)
     while more:
         crate = more.pop()
-        found[crate] = {name for name in below[crate].split() if name in below}
+        found[crate] = {name for name in below[crate] if name in below}
         more += found[crate] - found.keys()
     return found
 

@@ -1,7 +1,7 @@
 # What measures and tries the built program from outside, none of it in the gate. docs/SPEED.md has what was measured.
 #
 # make bench: what the program costs. Over 127.0.0.1: bacdev beside a bare echo server, bacrp beside a bare client,
-#     memory; then a script of a million lines, and replies and values in memory, whose benchmarks are proved first
+#     memory; then a script of a million lines, and replies, values and the client's calls in memory, proved first
 #     (some minutes, kept in ROOM for the next time). ROUNDS=15 ROOM=~/.cache/bactool-bench
 # make bench-loopback: its first part alone
 # make soak: random datagrams against bacdev, a random script through bactrace. DATAGRAMS=1000000 LINES=10000000, which

@@ -7,8 +7,8 @@
 #     It builds nothing. A second
 # make lint: the manual pages by mandoc and against the help, the numbers against Wireshark's names, the completions in
 #     bash, zsh and fish, make install in a folder of its own, the documents against the tree, that something reads each
-#     row of the rules back, and what make says at first. What mandoc, tshark and a shell would look at is left out
-#     where it is not installed. Up to a minute
+#     row of the rules back, what make says at first, and the scripts by shellcheck. What mandoc, tshark, shellcheck
+#     and a shell would look at is left out where it is not installed. Up to a minute
 # make guide: runs every command of docs/GUIDE.md, and compares what comes out; make examples runs it too. Half a minute
 # make deb: a Debian package in crates/bactool/out, of the same octets each time; needs dpkg-deb and binutils. A second
 
@@ -31,6 +31,11 @@ lint: program
 	@tests/completions.sh
 	@tests/install.sh $(PROGRAM)
 	@tests/targets.sh
+	@if command -v shellcheck >/dev/null; then \
+	    shellcheck -x -P SCRIPTDIR $$(grep -l '^#!' */*.sh) && echo "shellcheck finds no fault with the scripts"; \
+	else \
+	    echo "shellcheck is not installed, left out"; \
+	fi
 
 examples: guide
 

@@ -17,6 +17,9 @@ import time
 from collections import Counter
 
 TOP = os.path.dirname(os.path.dirname(os.path.abspath(__file__)))
+sys.path.insert(0, TOP + "/crates/bac_trials/oracle")
+from count import region, tag
+
 PROGRAM = os.environ.get("BACTOOL", TOP + "/crates/bactool/out/bactool")
 INSTANCE = 1234
 AT_MOST = 65535  # datagrams that one bacdev answers
@@ -180,40 +183,17 @@ def opened(datagram):
     return route, to_all, lost, head[at:]
 
 
-def tag_at(octets, at):
-    """Number, class bit, length (-1 opens, -2 closes) and where the contents begin; None where there is no tag."""
-    if at >= len(octets):
-        return None
-    number, context, length = octets[at] >> 4, octets[at] & 8, octets[at] & 7
-    at += 1
-    if number == 15:
-        if at >= len(octets) or octets[at] == 255:
-            return None
-        number, at = octets[at], at + 1
-    if length > 5:
-        return (number, context, 5 - length, at) if context else None
-    if length == 5:
-        if at >= len(octets):
-            return None
-        size = {254: 2, 255: 4}.get(octets[at], 0)
-        if at + 1 + size > len(octets):
-            return None
-        length = int.from_bytes(octets[at + 1 : at + 1 + size], "big") if size else octets[at]
-        at += 1 + size
-    return number, context, length, at
-
-
 def limits(body):
     """The limits of a Who-Is, all instances where it has none; None where the body can't be read."""
     if not body:
         return 0, 4194303
     found, at = [], 0
     for wanted in (0, 1):
-        tag = tag_at(body, at)
-        if not tag or tag[0] != wanted or not tag[1] or not 1 <= tag[2] <= 4 or tag[3] + tag[2] > len(body):
+        number, kind, count, size = tag(body[at:]) or (None,) * 4
+        if (number, kind) != (wanted, "context") or not 1 <= count <= 4 or at + size + count > len(body):
             return None
-        at = tag[3] + tag[2]
-        found.append(int.from_bytes(body[tag[3] : at], "big"))
+        at += size + count
+        found.append(int.from_bytes(body[at - count : at], "big"))
     return found if at == len(body) else None
 
 
@@ -232,34 +212,16 @@ def expected(datagram):
     return route, (octets[2], ANNOUNCED[octets[1] & 15])
 
 
-def is_region(octets, at=0):
-    """Whether these are whole items."""
-    open_tags = []
-    while at < len(octets):
-        tag = tag_at(octets, at)
-        if not tag:
-            return False
-        number, context, length, at = tag
-        if length == -1:
-            open_tags.append(number)
-        elif length == -2:
-            if not open_tags or open_tags.pop() != number:
-                return False
-        elif context or number != 1:
-            at += length
-    return at == len(octets) and not open_tags
-
-
 def is_ack(body):
     """Whether this is an object, a property, perhaps an index, and a value in its brackets."""
     at = 0
     for wanted in (0, 1, 2):
-        tag = tag_at(body, at)
-        if tag and tag[1] and tag[0] == wanted and tag[2] > 0:
-            at = tag[3] + tag[2]
+        number, kind, count, size = tag(body[at:]) or (None,) * 4
+        if (number, kind) == (wanted, "context") and count > 0:
+            at += size + count
         elif wanted < 2:
             return False
-    return body[at : at + 1] == b"\x3e" and body[-1:] == b"\x3f" and is_region(body[at + 1 : -1])
+    return body[at : at + 1] == b"\x3e" and region(body[at + 1 :]) == len(body) - at - 2
 
 
 def kind_of(reply, route, wanted):

@@ -1,5 +1,6 @@
 #!/usr/bin/env bash
 # Asks bash, zsh and fish what each line completes to, and compares. It says which of them is not installed.
+# shellcheck disable=SC2317  # by_SHELL is called by its name
 set -euo pipefail
 cd "$(dirname "$0")/.."
 tools='bacdev bacrp bactrace bacwi bacwp'

@@ -14,7 +14,7 @@ differ, and says in what.
 - README.md: what it shows of a script is what examples/ has, and the rule that it shows stands so in specs/. It has at
   most 120 lines and 1,500 words.
 - docs/PROTOCOL.md: the texts of faults are those of the code.
-- Links within the repository lead somewhere.
+- Links lead to what a package has: a document, or a file of examples/.
 - Lines have at most 120 columns, in the documents but for tables and what is printed; in scripts; and in src/, specs/
   and proofs/ but for attributes, which `rt fmt` lays out, and words that are longer.
 """
@@ -22,8 +22,10 @@ import glob
 import os
 import re
 import sys
+import textwrap
 
-TOP = os.path.dirname(os.path.dirname(os.path.abspath(__file__)))
+from tree import TOP, all_crates, sections, tables, text_of
+
 COLUMNS = {"Code": ("src", ".rt"), "Definitions": ("specs", ".antt"), "Proofs": ("proofs", ".antt")}
 WHOLE = ["docs/", "tests/", "bench/"]  # folders whose row names each file
 PAGES = {"README.md", "CONTRIBUTING.md", "SECURITY.md", "CHANGELOG.md"}
@@ -32,35 +34,15 @@ WIDTH = 120
 DIFFERENCES = []
 
 
-def text_of(file):
-    with open(file, encoding="utf-8") as it:
-        return it.read()
-
-
 def compare(what, said, there):
     """Both are sets of names; `what` says of what."""
     DIFFERENCES.extend(f"{what}: {name} is not in docs/CODE.md" for name in sorted(there - said))
     DIFFERENCES.extend(f"{what}: docs/CODE.md names {name}, which is not there" for name in sorted(said - there))
 
 
-def sections(text):
-    """The text below each heading, by the heading's words."""
-    parts = re.split(r"^#+ (.*)$", text, flags=re.M)
-    return dict(zip(parts[1::2], parts[2::2]))
-
-
 def rows(section):
     """The rows of the tables of a section, each as a dictionary from the head of a column to the cell."""
-    head = None
-    for line in section.splitlines():
-        if not line.startswith("|"):
-            head = None
-            continue
-        cells = [cell.strip() for cell in re.split(r"(?<!\\)\|", line)[1:-1]]
-        if head is None:
-            head = cells
-        elif not set(line) <= set("|-"):
-            yield dict(zip(head, cells))
+    return [dict(zip(head, cells)) for head, cells in tables(section)]
 
 
 def names(text):
@@ -82,18 +64,18 @@ def files(folder, ending):
 
 
 def map_of_crates(parts):
-    below = dict(line.split(":") for line in text_of("crates.txt").splitlines() if line.strip())
-    crates = set(below)
-    compare("the table of crates", {names(row["Crate"])[0] for row in rows(parts["The crates"])}, crates)
-    compare("the headings", {name for name in parts if re.fullmatch(r"[a-z_]+", name)}, crates)
+    below = all_crates()
+    every = set(below)
+    compare("the table of crates", {names(row["Crate"])[0] for row in rows(parts["The crates"])}, every)
+    compare("the headings", {name for name in parts if re.fullmatch(r"[a-z_]+", name)}, every)
     drawn = re.search(r"```\n(.*?)```", parts["The crates"], re.S)[1].splitlines()
     line_of = {name: number for number, line in enumerate(drawn) for name in line.split()}
-    compare("the drawing", set(line_of), crates)
-    for crate in sorted(crates & set(line_of)):
-        for lower in sorted(set(below[crate].split()) & set(line_of)):
+    compare("the drawing", set(line_of), every)
+    for crate in sorted(every & set(line_of)):
+        for lower in sorted(set(below[crate]) & set(line_of)):
             if line_of[lower] >= line_of[crate]:
                 DIFFERENCES.append(f"the drawing: {crate} rests on {lower}, which is not on a line above it")
-    for crate in sorted(crates & set(parts)):
+    for crate in sorted(every & set(parts)):
         for column, (folder, ending) in COLUMNS.items():
             said = [name for row in rows(parts[crate]) for name in names(row.get(column, ""))]
             compare(f"{crate}/{folder}", set(said), files(f"crates/{crate}/{folder}", ending))
@@ -143,10 +125,10 @@ def names_of_proofs(text):
             DIFFERENCES.append(f"docs/PROOFS.md: no {name} stands in the code")
 
 
-def all_in_order(block, lines):
-    """Whether the lines hold those of the block, one after another, however they are set in."""
-    rest = iter(lines.splitlines())
-    return all(line.strip() in rest for line in block.splitlines())
+def equations(file, *names):
+    """The equations of these definitions as they stand in the file, without its margin."""
+    found = [re.search(rf"^ *abbrev pub {it} :.*\n((?:(?! *--).+\n)+)", text_of(file), re.M)[1] for it in names]
+    return textwrap.dedent("".join(found))
 
 
 def what_stands_twice(readme, proofs):
@@ -154,9 +136,10 @@ def what_stands_twice(readme, proofs):
     if headline not in " ".join(readme.split()):
         DIFFERENCES.append("README.md: the headline is not that of docs/PROOFS.md, part by part")
     shown = re.findall(r"```\n(.*?)```", readme, re.S)
-    for begin, file in [("send 0 ", "examples/first.out"), ("due i zero", "crates/bac_tsm/specs/Lookahead.antt")]:
-        lines = re.sub(r"(?m)^ *(?:--|abbrev).*\n|^ +|^\n", "", text_of(file))
-        if not [block for block in shown if block.startswith(begin) and all_in_order(block, lines)]:
+    lookahead = "crates/bac_tsm/specs/Lookahead.antt"
+    rule = equations(lookahead, "due", "end", "sends_within", "sends")
+    for text, file in [(text_of("examples/first.out"), "examples/first.out"), (rule, lookahead)]:
+        if text not in shown:
             DIFFERENCES.append(f"README.md: it does not show what is in {file}")
     for counted, most in (readme.splitlines(), 120), (readme.split(), 1500):
         if len(counted) > most:
@@ -218,6 +201,7 @@ def wide_lines():
 def links_and_lines():
     anchors = {}
     documents = glob.glob("*.md") + glob.glob("docs/**/*.md", recursive=True)
+    there = {"LICENSE", *documents, *glob.glob("examples/*")}
     for file in documents:
         heads = re.findall(r"^#+ (.*)$", text_of(file), re.M)
         anchors[file] = {re.sub(r"[^\w\- ]", "", head.lower()).replace(" ", "-") for head in heads}
@@ -226,7 +210,7 @@ def links_and_lines():
         for link in re.findall(r"\]\(([^)\s]+)\)", text):
             path, _, anchor = link.partition("#")
             target = os.path.normpath(os.path.join(os.path.dirname(file), path)) if path else file
-            if "://" not in link and (not os.path.exists(target) or anchor and anchor not in anchors.get(target, ())):
+            if "://" not in link and (target not in there or anchor and anchor not in anchors.get(target, ())):
                 DIFFERENCES.append(f"{file}: {link} leads nowhere")
         wide = [line for line in text.splitlines() if len(line) > WIDTH and not line.startswith("|")]
         DIFFERENCES.extend(f"{file}: past {WIDTH} columns: {line[:60]}.." for line in wide)

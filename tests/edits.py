@@ -19,7 +19,10 @@ import functools
 import os
 import re
 
-ROOT = os.path.dirname(os.path.dirname(os.path.abspath(__file__)))
+import tree
+from tree import TOP as ROOT
+
+text_of = functools.cache(tree.text_of)
 # The layout is rt fmt's: a function ends at the first line that is its indent and a bracket.
 HEAD = re.compile(r"( *)(?:pub(?:\([^)]*\))? )?(?:const |unsafe )*fn (\w+)")
 IMPL = re.compile(r"impl(?:<.*?>)? (?:(\w+)(<.*>)? for )?(?:\w+::)*(\w+)")
@@ -33,12 +36,6 @@ Beside = collections.namedtuple("Beside", "line head place")
 # A copy: its file, the line that it stands behind, its lines, the function's own name, the type that it is a method of
 # where the function is a trait's, its name, and its names in a check.
 Copy = collections.namedtuple("Copy", "path behind lines own owner name symbols")
-
-
-@functools.cache
-def text_of(file):
-    with open(file, encoding="utf-8") as it:
-        return it.read()
 
 
 @functools.cache

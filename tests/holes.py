@@ -4,8 +4,8 @@ test which that line names, and says so where the test passes.
 
 Usage: tests/holes.py [--only PATTERN] [--jobs N]. The status is 0 where each test fails, and passes without a body.
 
-A line `hole:` names a file: of crates/tool_trials/src/tests/, one of whose tests has to fail; of tests/rows/, one of
-whose rows has to; or a script of tests/, which has to. The trials are run by `rt try --test`, those of the file's
+A line `hole:` names a file: of the src/tests/ of bac_trials or tool_trials, one of whose tests has to fail; of
+tests/rows/, one of whose rows has to; or a script of tests/, which has to. The trials are run by `rt try --test`, those of the file's
 module alone; the program is one that `rt try` makes, in which an index or a sum out of bounds also ends it. Nothing is
 proved here: tests/wrong_bodies.py does that. Each body takes a build of some 70 seconds of processor time, so this is
 no part of the gate.
@@ -26,8 +26,9 @@ import threading
 import time
 
 from edits import ROOT, Edit
+from tree import text_of
 
-TRIALS = "crates/tool_trials/src/tests"
+TRIALS = re.compile(r"(crates/(?:bac|tool)_trials)/src/tests/")
 MOST = 1800  # seconds that a build may take, on a machine with much else to do
 USES = collections.defaultdict(threading.Lock)  # of each test: its ports are the same in each run
 
@@ -46,11 +47,6 @@ class Hole:
         texts = self.edit.applied({}) if self.edit else {}
         for path, text in texts.items():
             write(f"{room}/crates/{self.edit.crate}/{path}", text)
-
-
-def text_of(file):
-    with open(file, encoding="utf-8") as it:
-        return it.read()
 
 
 def write(file, text):
@@ -76,29 +72,31 @@ def copy_sources(room):
 def leave_one_module(room, test):
     """Of the trials only the module of this file, those that it names and so on; and of the crates below only those
     that these name."""
-    trials = f"{room}/{TRIALS}"
+    crate, place = TRIALS.match(test)[1], test[TRIALS.match(test).end() : -len(".rt")]
+    trials = f"{room}/{crate}/src/tests"
     modules = set(re.findall(r"(?m)^mod (\w+);", text_of(f"{trials}.rt")))
     files = lambda it: [f"{trials}/{it}.rt", *glob.glob(f"{trials}/{it}/**/*.rt", recursive=True)]
-    kept, rest = set(), {os.path.relpath(test, TRIALS).split(".")[0].split("/")[0]}
+    kept, rest = set(), {place.split("/")[0]}
     while rest:
         kept |= rest
-        texts = [text_of(file) for place in rest for file in files(place)]
+        texts = [text_of(file) for it in rest for file in files(it)]
         rest = {it for text in texts for it in re.findall(r"tests::(\w+)", text)} & modules - kept
     for other in modules - kept:
         os.remove(f"{trials}/{other}.rt")
         shutil.rmtree(f"{trials}/{other}", ignore_errors=True)
         replace_in(f"{trials}.rt", f"mod {other};\n", "")
     said = "".join(text_of(file) for file in [f"{trials}.rt", *(file for it in kept for file in files(it))])
-    line = re.search(r"(?m)^tool_trials:.*", text_of(f"{room}/crates.txt"))[0]
+    name = os.path.basename(crate)
+    line = re.search(rf"(?m)^{name}:.*", text_of(f"{room}/crates.txt"))[0]
     below = [it for it in line.split()[1:] if re.search(rf"\b{it}\b", said)]
-    replace_in(f"{room}/crates.txt", line, f"tool_trials: {' '.join(below)}")
-    return "tests::" + os.path.relpath(test, TRIALS)[: -len(".rt")].replace("/", "::")
+    replace_in(f"{room}/crates.txt", line, f"{name}: {' '.join(below)}")
+    return crate, "tests::" + place.replace("/", "::")
 
 
 def of_trials(room, test):
     """The tests of the file that fail."""
-    module = leave_one_module(room, test)
-    said = run(["rt", "try", "--test", "--seconds", "200"], f"{room}/crates/tool_trials")
+    crate, module = leave_one_module(room, test)
+    said = run(["rt", "try", "--test", "--seconds", "200"], f"{room}/{crate}")
     if said.returncode in (4, 6):
         return ["a test stops, or does not end"]
     told = re.findall(r"(?m)^test (\S+) \.\.\. (\w+)", said.stdout)
@@ -170,7 +168,7 @@ def tried(hole):
         try:
             copy_sources(room)
             hole.put_in(room)
-            failed = (of_trials if hole.test.startswith(TRIALS) else of_program)(room, hole.test)
+            failed = (of_trials if TRIALS.match(hole.test) else of_program)(room, hole.test)
         except NotTried as why:
             return False, f"{hole.name}: {hole.test}: not tried: {why}"
     return bool(failed) == bool(hole.edit), f"{hole.name}: {hole.test}: {failed[0][:160] if failed else 'it passes'}"

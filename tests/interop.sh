@@ -5,8 +5,8 @@
 set -euo pipefail
 cd "$(dirname "$0")/.."
 export DEBIAN_FRONTEND=noninteractive
-command -v nmap >/dev/null && command -v tshark >/dev/null || {
+if ! command -v nmap >/dev/null || ! command -v tshark >/dev/null; then
     apt-get update -q
     apt-get install -qy --no-install-recommends nmap tshark </dev/null
-}
+fi
 exec python3 tests/interop.py

@@ -10,7 +10,7 @@ if ! command -v cc >/dev/null; then
 fi
 room=$(mktemp -d)
 trap 'rm -r "$room"' EXIT
-cc -O1 -shared -fPIC -o "$room/refuse.so" "$(dirname "$0")/refuse.c"
+cc -O1 -shared -fPIC -o "$room/fail.so" "$(dirname "$0")/fail.c"
 
 # refuse STATUS WORDS..: refuses the first request, then the second, and so on, until none is left to refuse.
 refuse() {
@@ -19,7 +19,7 @@ refuse() {
     number=1
     while :; do
         status=0
-        REFUSED=$number LD_PRELOAD=$room/refuse.so "$program" "$@" \
+        REFUSED=$number LD_PRELOAD=$room/fail.so "$program" "$@" \
             </dev/null >"$room/output" 2>"$room/error" 3>"$room/refused" || status=$?
         [ -s "$room/refused" ] || break
         if [ "$status" != 4 ] || [ -s "$room/output" ] || [ "$(cat "$room/error")" != 'bactool: out of memory' ]; then

@@ -174,6 +174,7 @@ doubt='After any status but 0, and after Ctrl-C, the write may have been made: r
 says "$doubt" "$program" bacwp --help
 says "$doubt" cat man/bacwp.1
 for document in SECURITY.md docs/GUIDE.md; do
+    # shellcheck disable=SC2016  # the document's own quotes
     says 'After any status but 0 of `bacwp`, and after Ctrl-C, the write may have been made: read the p' cat $document
 done
 report=$(awk '/^\.Sh/ { inside = /BUGS/; next } inside' man/bactool.1 | tr '\n' ' ')

@@ -7,34 +7,19 @@ once. Here it is seen that each row of a table is named there, once; that what i
 the text which is named for it stands in its file.
 """
 import os
-import re
 import sys
 
-TOP = os.path.dirname(os.path.dirname(os.path.abspath(__file__)))
+from tree import TOP, sections, tables, text_of
+
 WRONG = []
-
-
-def text_of(file):
-    with open(f"{TOP}/{file}", encoding="utf-8") as it:
-        return it.read()
 
 
 def on_one_line(text):
     return " ".join(text.split())
 
 
-def sections():
-    """The text below each heading of the document, by the heading's words."""
-    parts = re.split(r"^#+ (.*)$", text_of("docs/PROTOCOL.md"), flags=re.M)
-    return dict(zip(parts[1::2], parts[2::2]))
-
-
 def rows(section):
-    """The rows of the tables of a section, without their heads."""
-    lines = section.splitlines()
-    for line, above in zip(lines, ["", *lines]):
-        if line.startswith("|") and above.startswith("|") and not set(line) <= set("|-"):
-            yield " | ".join(cell.strip() for cell in re.split(r"(?<!\\)\|", line)[1:-1])
+    return [" | ".join(cells) for _, cells in tables(section)]
 
 
 def pins():
@@ -51,7 +36,7 @@ def pins():
 
 
 def main():
-    parts, found = sections(), pins()
+    parts, found = sections(text_of("docs/PROTOCOL.md")), pins()
     named = {}
     for heading, key, places in found:
         section = parts.get(heading, "")

@@ -2,142 +2,135 @@
 """What has to be read to believe a promise: docs/reading/, made from the sources by what tests/sources.py tells.
 
 Usage: tests/reading.py            compares docs/reading/, and the sizes that README.md tells, with the tree; says which
-                                   definitions lie in the wrong room, and which names a file brings in that aren't
-                                   there, or that it doesn't say; ends with 1 where there are any
+                                   public calls stand on no page, which definitions lie in the wrong room, and which
+                                   names a file brings in that aren't there, or that it doesn't say; ends with 1 where
+                                   there are any
        tests/reading.py --write    writes docs/reading/ anew (make reading)
 """
 import collections
 import glob
 import os
 import re
+import shutil
 import sys
+import textwrap
 
 from sources import CLOSE, CRATES, DEFINITIONS, OPEN, PROBLEMS, SOURCES, TOKEN
-from sources import closed, defined, match_bracket, public_calls, read_tree, text_of, uses_in
+from sources import closed, defined, match_bracket, public_calls, read_tree, uses_in
+from tree import TOP, text_of
 
-TOP = os.path.dirname(os.path.dirname(os.path.abspath(__file__)))
 FOLDER = "docs/reading"
+WRAP = {"break_long_words": False, "break_on_hyphens": False}
 TRIALS = {"bac_trials", "tool_trials", "bac_uses"}  # no crate rests on their clauses
 
-# A page: its file, its title, and the calls whose lists it has. `*` stands for each public call of the crate.
+# A page: its file, its title, and the calls whose lists it has. `*` stands for each public call of the crate that no
+# page before has.
 PAGES = [
     ("octets", "Octets: tags, values and regions", ["bac_wire::*"]),
     ("datagrams", "Datagrams, APDUs and service bodies", ["bac_pdu::*"]),
     ("client", "The client over a list of events", ["bac_tsm::run"]),
-    ("device", "The device's reply to a datagram", ["bac_device::Device::answer"]),
+    ("device", "The device: its reply to a datagram, and its points", ["bac_device::Device::answer", "bac_device::*"]),
     ("texts", "Words as values and bodies, and values as text", ["bac_text::*", "bac_outcomes::*"]),
-    ("script", "What a script prints and answers", ["bac_script::trace"]),
-    (
-        "calls",
-        "A read, a write and a search over a link",
-        ["bac_links::run_read", "bac_links::run_write", "bac_links::run_whois"],
-    ),
-    ("serving", "A device that serves", ["bac_links::serve"]),
-    ("command", "The words of a command line", ["bac_words::parse_words", "bac_words::words_of"]),
-    ("program", "From the words to the status", ["bac_tools::run_words", "bactool::run"]),
+    ("script", "What a script prints and answers", ["bac_script::trace", "bac_script::*"]),
+    ("calls", "A read, a write and a search over a link", ["bac_links::run_read", "bac_links::run_write"]
+    + ["bac_links::run_whois"]),
+    ("progress", "No request waits for ever", ["bac_tsm::no_request_waits_for_ever"]
+    + ["bac_links::laws::a_call_ends_in_time"]),
+    ("machine", "The client call by call, and its laws", ["bac_tsm::*"]),
+    ("serving", "A device that serves", ["bac_links::serve", "bac_links::laws::a_server_keeps_its_points"]),
+    ("links", "Links, and the laws of the tools over them", ["bac_links::*"]),
+    ("command", "The words of a command line", ["bac_words::parse_words", "bac_words::*", "clap_laws::*"]),
+    ("program", "From the words to the status", ["bac_tools::run_words", "bac_tools::run_program", "bac_text::Checked::read"]
+    + ["bac_text::Checked::write", "bac_text::Checked::flush", "bac_tools::*", "bactool::*"]),
 ]
+
+# What a page shows at its head: a file of specs/, and the definitions of it.
+RULE = {"client": ("bac_tsm.specs.Lookahead", ["due", "end", "sends_within", "sends"])}
 
 SIZE = r"\[([\d,]+) lines\]\(docs/reading/(\w+)\.md\)"  # as README.md tells it
 
 
-def calls_of(name):
-    crate, _, call = name.partition("::")
-    calls, _ = public_calls(crate)
-    if call == "*":
-        return {f"{crate}::{one}": item for one, item in calls.items() if item.kind == "call" and item.clauses}
-    return {name: calls[call]}
+def called(crate):
+    """The public calls of a crate that have a clause, by their names."""
+    return {f"{crate}::{name}": item for name, item in public_calls(crate)[0].items() if item.clauses}
 
 
 def size(items):
     return sum(item.lines for item in items)
 
 
-def in_reading_order(items):
-    """The files, each before those that it rests on, and the items of each from its top. Of files that rest on one
-    another, as of a type and its definitions, comes first the one that is needed first from the calls down."""
-    of = {}
+def by_file(items):
+    """The files, in the order in which they are first met, and the items of each from its top."""
+    of = collections.defaultdict(list)
     for item in items:
-        of.setdefault(item.file, []).append(item)
-    needed = lambda there: {need.file for item in there for need in item.needs.items if need in items}
-    below = {file: needed(there) - {file} for file, there in of.items()}
-    reached = {file: closed_over(below, file) for file in of}
-    rest = list(of)
-    while rest:
-        free = (file for file in rest if all(other in reached[file] for other in rest if file in reached[other]))
-        file = next(free)
-        rest.remove(file)
-        yield file, sorted(of[file], key=lambda item: item.place)
-
-
-def closed_over(below, first):
-    found, rest = set(), [first]
-    while rest:
-        for one in below[rest.pop()]:
-            if one not in found:
-                found.add(one)
-                rest.append(one)
-    return found
-
-
-def outside_of(items):
-    """By library and module, the names that the items say of it."""
-    by = collections.defaultdict(set)
-    for item in items:
-        for module, name in item.needs.outside:
-            by[module].add(name)
-    return by
-
-
-def first_sentence(comment):
-    return re.split(r"(?<=[.:;])\s+(?=[A-Z`])", " ".join(comment), maxsplit=1)[0].rstrip(":;")
+        of[item.file].append(item)
+    return ((file, sorted(there, key=lambda item: item.place)) for file, there in of.items())
 
 
 def columns(text, width=120):
     """Lines of at most so many columns, set in as the first one is."""
     start = " " * (len(text) - len(text.lstrip()))
-    lines = [start + text.split()[0]]
-    for word in text.split()[1:]:
-        if len(lines[-1]) + 1 + len(word) > width:
-            lines.append(f"{start}  {word}")
-        else:
-            lines[-1] += " " + word
-    return "\n".join(lines)
+    return "\n".join(textwrap.wrap(text.strip(), width, initial_indent=start, subsequent_indent=f"{start}  ", **WRAP))
 
 
-def page_of(title, calls, told, page):
-    items = closed(calls.values())
-    lines = [f"# {title}", "", "| Call | Definitions | Lines |", "|---|---|---|"]
+def listed(items, told, page):
+    """The lines of a list: each file, and what is read of it."""
+    for file, there in by_file(items):
+        elsewhere = collections.defaultdict(list)
+        for item in there:
+            elsewhere[told.setdefault(item, page)].append(item)
+        mine = elsewhere.pop(page, [])
+        head = f": {file.head}" if mine else ""
+        yield columns(f"- **{file.path[len('crates/'):]}** ({size(there)}){head}")
+        for item in mine:
+            yield columns(f"  - `{item.name}` ({item.lines}){': ' if item.comment else ''}{item.comment}")
+        for other, named in elsewhere.items():
+            yield columns(f"  - on the page [{other}]({other}.md): {', '.join(f'`{item.name}`' for item in named)}")
+
+
+def page_of(page, title, calls, told):
+    items, kept = closed(calls.values()), closed(calls.values(), kept=True)
+    lines = [f"# {title}", "", "How to read this page is said on [the first one](README.md).", ""]
+    module, names = RULE.get(page, (None, []))
+    rule = [DEFINITIONS[module].items[name] for name in names]
+    if rule:
+        cases = [line for item in rule for part in item.file.parts(item.block)[1:] for line in part.splitlines()]
+        lines += [f"The rule, of `{rule[0].file.path}`:", "", "```", textwrap.dedent("\n".join(cases)), "```", ""]
+    lines += ["| Call | Definitions | Lines |", "|---|---|---|"]
     for name, call in calls.items():
         alone = closed([call])
         lines.append(f"| `{name}` | {len(alone)} | {size(alone)} |")
     if len(calls) > 1:
         lines.append(f"| together | {len(items)} | {size(items)} |")
-    lines += ["", "How to read this page is said on [the first one](README.md).", ""]
-    for file, there in in_reading_order(items):
-        lines.append(f"- **{file.path[len('crates/'):]}** ({size(there)})")
-        elsewhere = collections.defaultdict(list)
-        for item in there:
-            if told.setdefault(item, page) != page:
-                elsewhere[told[item]].append(f"`{item.name}`")
-                continue
-            comment = first_sentence(item.comment)
-            lines.append(columns(f"  - `{item.name}` ({item.lines}){': ' if comment else ''}{comment}"))
-        for other, names in elsewhere.items():
-            lines.append(columns(f"  - on the page [{other}]({other}.md): {', '.join(names)}"))
-    lines += ["", "What the libraries add:", ""]
-    for module, names in sorted(outside_of(items).items()):
-        lines.append(columns(f"- {module}: {', '.join(f'`{name}`' for name in sorted(names))}"))
+    in_turn = dict.fromkeys([*rule, *(item for call in calls.values() for item in closed([call]))])
+    lines += ["", *listed(in_turn, told, page), "", "What the libraries add:", ""]
+    outside = collections.defaultdict(set)
+    for item in items:
+        for module, name in item.needs.outside:
+            outside[module].add(f"`{name}`")
+    lines += [columns(f"- {module}: {', '.join(sorted(names))}") for module, names in sorted(outside.items())]
+    if len(kept) > len(items):
+        lines += ["", "What types keep to themselves, which no promise needs:", ""]
+        lines += listed([item for item in kept if item not in items], told, page)
     return "\n".join(lines) + "\n", items
 
 
 INDEX = """# What to read to believe a promise
 
-A page has what the clauses of its calls rest on, down to the names of std and of the ported crates: the definitions of
-`specs/`, and the types, traits and constants of `src/`, each with its lines and what its comment says. A file stands
-before those that it rests on, so the reading goes from the clauses down; in a file it goes from the top. A definition
-is told on the first page that needs it; later pages name it there. Lines are counted without comments, blank lines and
-attributes; those of a call are its signature and its clauses. A type has its fields, its invariants and what its `impl
-Model` shows of it. `make reading` writes these pages, and `make lint` compares them.
+A clause says what a call does, and definitions say what the words of the clause mean. A page has all that the clauses
+of its calls rest on, down to the names of std and of the ported crates: the definitions of `specs/`, and the types,
+traits and constants of `src/`. Whoever has read a page knows what is promised; code and proofs need not be read.
+
+**How to read a page.** It names its calls first: begin with their clauses, in the files that it lists. Then go down the
+list with these files open. Call by call it has what a clause names, then what that rests on, and so on; so a file
+stands where it is first needed, and in a file the reading goes from its top. Whoever takes a definition by its comment
+leaves out what that one alone rests on. What an earlier page tells is only named here, with that page. `UdpLink: seen`
+is what a clause calls `⟦<UdpLink as Link>⟧.seen`. What types keep to themselves, at the end of a page, says how the
+fields of a type fit one another; no promise needs it.
+
+**The numbers** are lines, without comments, blank lines and attributes; those of a call are its signature and its
+clauses. A type has its fields, what they keep to, and what its `impl Model` shows of it. `make reading` writes these
+pages, and `make lint` compares them.
 
 | Page | Calls | Definitions | Lines | Files |
 |---|---|---|---|---|
@@ -147,45 +140,45 @@ Model` shows of it. `make reading` writes these pages, and `make lint` compares 
 def pages():
     """The text of each page by its path, and the lines of each page by its name."""
     told, texts, sizes, index = {}, {}, {}, INDEX
+    rest = {name: call for crate in CRATES if crate not in TRIALS for name, call in called(crate).items()}
+    every = dict(rest)
     for page, title, names in PAGES:
-        calls = {name: call for one in names for name, call in calls_of(one).items()}
-        texts[f"{FOLDER}/{page}.md"], items = page_of(title, calls, told, page)
+        calls = {}
+        for name in names:
+            found = [one for one in rest if one.startswith(name[:-1])] if name.endswith("*") else [name]
+            PROBLEMS.extend(f"the page {page} is to have {one}, which is no public call" for one in {*found} - {*every})
+            calls.update({one: every[one] for one in found if one in every})
+            rest = {one: call for one, call in rest.items() if one not in found}
+        texts[f"{FOLDER}/{page}.md"], items = page_of(page, title, calls, told)
         sizes[page] = size(items)
         files = len({item.file for item in items})
         shown = ", ".join(re.sub("`(.*)::[*]`", r"the public calls of `\1`", f"`{name}`") for name in names)
         index += f"| [{title}]({page}.md) | {shown} | {len(items)} | {sizes[page]} | {files} |\n"
+    PROBLEMS.extend(f"{name} stands on no page of {FOLDER}" for name in rest)
     texts[f"{FOLDER}/README.md"] = index
     return texts, sizes
 
 
 def compare(texts, sizes):
-    there = {path for path in glob.glob(f"{FOLDER}/*")}
+    there = set(glob.glob(f"{FOLDER}/*"))
     wrong = [f"{path} is not made by this script" for path in sorted(there - set(texts))]
     for path, text in texts.items():
-        if path not in there:
-            wrong.append(f"{path} is not written")
-        elif text_of(path) != text:
-            now, then = text.splitlines(), text_of(path).splitlines()
+        now, then = text.splitlines(), text_of(path).splitlines() if path in there else []
+        if now != then:
             new, gone = [line for line in now if line not in then], [line for line in then if line not in now]
-            first = [*new, *gone, "its order"][0]
-            wrong.append(f"{path} differs from the tree: {first.strip()[:100]}")
-    for lines, page in re.findall(SIZE, text_of("README.md")):
-        if lines != f"{sizes[page]:,}":
-            wrong.append(f"README.md: {page} has {sizes[page]:,} lines, not {lines}")
-    return wrong
+            wrong.append(f"{path} differs from the tree: {[*new, *gone, 'its order'][0].strip()[:100]}")
+    told = re.findall(SIZE, text_of("README.md"))
+    return wrong + [f"README.md: {page} has {sizes[page]:,} lines, not {lines}" for lines, page in told
+                    if lines != f"{sizes[page]:,}"]
 
 
 def write(texts, sizes):
-    os.makedirs(FOLDER, exist_ok=True)
-    for path in set(glob.glob(f"{FOLDER}/*")) - set(texts):
-        os.remove(path)
-    for path, text in texts.items():
+    shutil.rmtree(FOLDER, ignore_errors=True)
+    os.makedirs(FOLDER)
+    told = lambda found: f"[{sizes[found[2]]:,} lines](docs/reading/{found[2]}.md)"
+    for path, text in [*texts.items(), ("README.md", re.sub(SIZE, told, text_of("README.md")))]:
         with open(path, "w", encoding="utf-8") as file:
             file.write(text)
-    told = lambda found: f"[{sizes[found[2]]:,} lines](docs/reading/{found[2]}.md)"
-    readme = re.sub(SIZE, told, text_of("README.md"))
-    with open("README.md", "w", encoding="utf-8") as file:
-        file.write(readme)
 
 
 # ---- definitions in the wrong room, and names that are brought in and aren't there, or aren't said ----
@@ -201,9 +194,8 @@ def rooms():
         public += [*calls.values(), *types]
         for (of, _), source in SOURCES.items():
             if of == crate:
-                private += source.items.values()
-                private += [item for _, item in source.methods()]
-    needed, by_private = closed(public), closed(private)
+                private += [*source.items.values(), *(item for _, item in source.methods)]
+    needed, by_private = closed(public, kept=True), closed(private, kept=True)
     for specs in DEFINITIONS.values():
         for item in specs.items.values() if specs.crate not in TRIALS else ():
             is_inner = "/specs/Inner/" in specs.path

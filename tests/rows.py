@@ -9,7 +9,8 @@ Rows are parted by blank lines. The mark at the front of a line says what the re
     #   a remark
     <   a line of a script for bactrace
     |   the last line of a script: with several of them the row is several scripts
-    $   a command line, cut at each space, where '' is an empty word: with several the row is several command lines
+    $   a command line, cut at each space, where '' is an empty word: with several the row is several command lines. Its
+        first word is the name by which the program is called
     N   the least and the greatest value of the number N of these command lines: the row holds of both, and one past
         either is refused
     X   what stands for each X of the other lines and, behind ` = `, for each Y: with several it is several rows
@@ -18,10 +19,11 @@ Rows are parted by blank lines. The mark at the front of a line says what the re
         a line feed
     !   the status, where it is not 0, and standard error behind `bactool: `; or what it begins with, if it ends with
         two full stops
+    @   a redirection, as a shell has it: with several the row is run with each alone
 
-In a line, P, Q, M, V and A as whole words stand for the texts below, {93*x} for 93 times x, [0100..] for the datagram
-whose link header has these octets behind it, and \\n, \\r, \\t and \\xff for octets. A backslash at the end of a line
-of a script says that no line feed follows.
+In a line, P, Q, M, V and A as whole words stand for the texts below, S for options by which a tool asks where nobody
+answers, {93*x} for 93 times x, [0100..] for the datagram whose link header has these octets behind it, and \\n, \\r,
+\\t and \\xff for octets. A backslash at the end of a line of a script says that no line feed follows.
 """
 import glob
 import os
@@ -41,17 +43,19 @@ LETTERS = {
     "V": "810a0017010030010c0c0000000519553e444290999a3f",
     "A": "810a001501001000c4020004d22205c49103220104",
 }
+LETTERS["S"] = "--mac 127.0.0.1:%s --apdu-timeout 20" % subprocess.getoutput(HERE + "/../examples/free-port.sh")
 READ, SENT, DONE = "read P 0 5 85\n", "send 0 P M\n", "done 0 value 4290999a\n"
 PLACES = 64
+SCRIPT = ["bactool", "bactrace"]
 
 # What is run, and what is to come. An `error` may end with two full stops, as a row does; where there are `parts`,
 # `output` is not looked at.
-Case = namedtuple("Case", "place words script status output error parts", defaults=[()])
+Case = namedtuple("Case", "place words script status output error parts redirection", defaults=[(), ""])
 
 
 def spelled(text):
     text = re.sub(r"\{(\d+)\*(.*?)\}", lambda found: found[2] * int(found[1]), text)
-    text = re.sub(r"\b[PQMVA]\b", lambda found: LETTERS[found[0]], text)
+    text = re.sub(r"\b[PQMVAS]\b", lambda found: LETTERS[found[0]], text)
     text = re.sub(r"\[(01[0-9a-f]+)\]", lambda found: "810a%04x%s" % (4 + len(found[1]) // 2, found[1]), text)
     return text.encode("ascii").decode("unicode_escape")
 
@@ -61,8 +65,7 @@ def text_of(lines):
 
 
 def words_of(line):
-    """The words behind the program's name."""
-    return ["" if word == "''" else word for word in spelled(line).split(" ")][1:]
+    return ["" if word == "''" else word for word in spelled(line).split(" ")]
 
 
 def blocks(path):
@@ -73,7 +76,7 @@ def blocks(path):
         place = "%s:%d" % (path, text.count("\n", 0, block.start()) + 1)
         row = {}
         for line in block[0].splitlines():
-            if not re.match(r"[#<|$NX>~!]( |$)", line):
+            if not re.match(r"[#<|$NX>~!@]( |$)", line):
                 sys.exit(f"{place}: no mark before {line!a}")
             row.setdefault(line[0], []).append(line[2:])
         if row.keys() != {"#"}:
@@ -104,24 +107,24 @@ def with_numbers(line, row):
 
 def row_cases(path):
     for place, row in ((place, row) for place, block in blocks(path) for row in filled(block)):
-        [end] = row.get("!", ["0 "])
-        status, error = end.split(" ", 1)
-        if error and not error.startswith("error:"):
-            error = f"bactool: {error}\n"
+        [end] = row.get("!", ["0"])
+        status, _, error = end.partition(" ")
+        error = f"bactool: {error}\n" if error and not error.startswith("error:") else spelled(error)
         parts = [spelled(part) for part in row.get("~", [])]
         script, output = text_of(row.get("<", [])), text_of(row.get(">", []))
-        case = Case(place, ["bactrace"], script, int(status), output, error, parts)
-        if "$" not in row:
-            for last in row.get("|", ["\\"]):
-                yield case._replace(script=case.script + text_of([last]))
-        for line in row.get("$", []):
-            for words, fault in with_numbers(line, row):
-                wanted = case._replace(status=2, output="", error=fault, parts=[]) if fault else case
-                yield wanted._replace(words=words_of(words))
+        for redirection in row.get("@", [""]):
+            case = Case(place, SCRIPT, script, int(status), output, error, parts, redirection)
+            if "$" not in row:
+                for last in row.get("|", ["\\"]):
+                    yield case._replace(script=case.script + text_of([last]))
+            for line in row.get("$", []):
+                for words, fault in with_numbers(line, row):
+                    wanted = case._replace(status=2, output="", error=fault, parts=[]) if fault else case
+                    yield wanted._replace(words=words_of(words))
 
 
 def generated(name, script, output):
-    return Case("tests/rows.py, " + name, ["bactrace"], spelled(script), 0, spelled(output), "")
+    return Case("tests/rows.py, " + name, SCRIPT, spelled(script), 0, spelled(output), "")
 
 
 def sent(ticket, number):
@@ -204,12 +207,16 @@ def retries():
     return generated("retries", "client 1 255 0\n" + READ + ticks, SENT * 256 + "timeout 0\n")
 
 
-def run(program, case, library):
+def run(room, case, library):
     """The case with what the program prints, and how it ends. With the library each of its reads gives one octet."""
     settings = dict(os.environ, LD_PRELOAD=library, ONE_OCTET="1") if library else None
-    words, script = [word.encode("latin-1") for word in case.words], case.script.encode("latin-1")
+    name, *words = [word.encode("latin-1") for word in case.words]
+    command = [os.path.join(room.encode(), name), *words]
+    if case.redirection:
+        command = ["sh", "-c", f'exec "$0" "$@" {case.redirection}', *command]
     try:
-        ended = subprocess.run([program, *words], input=script, capture_output=True, env=settings, timeout=60)
+        script = case.script.encode("latin-1")
+        ended = subprocess.run(command, input=script, capture_output=True, env=settings, timeout=60)
     except subprocess.TimeoutExpired:
         return case._replace(status="none in a minute", output="", error="")
     output, error = ended.stdout.decode("latin-1"), ended.stderr.decode("latin-1")
@@ -230,7 +237,8 @@ def tell(case, ending, how):
     same = len(os.path.commonprefix([case.output, ending.output]))
     start = case.output.rfind("\n", 0, same) + 1
     wanted, came = case.parts or case.output[start:start + 300], ending.output[start:start + 300]
-    print(f"{case.place}: not as it is to be{how}: {' '.join(case.words)[:300]} < {case.script[:300]!a}")
+    called = " ".join([*case.words, case.redirection])
+    print(f"{case.place}: not as it is to be{how}: {called[:300]} < {case.script[:300]!a}")
     print(f"    wanted: status {case.status}, error {case.error!a}, output from {start} on {wanted!a}")
     print(f"    came:   status {ending.status}, error {ending.error[:300]!a}, output from {start} on {came!a}")
 
@@ -241,9 +249,11 @@ def main(program, files):
     made = [*answers_under_each_number(), *damaged_answers(), *full_tables()]
     made += [errors_under_other_tags(), open_number(), retries()]
     cases = rows if files else rows + made
-    scripts = [case for case in cases if case.words == ["bactrace"]]
+    scripts = [case for case in cases if case.words == SCRIPT and not case.redirection]
     wrong, texts = set(), {}
     with tempfile.TemporaryDirectory() as room, ThreadPoolExecutor() as pool:
+        for name in {case.words[0] for case in cases}:
+            os.symlink(program, os.path.join(room, name))
         runs = [(case, None, "") for case in cases]
         if shutil.which("cc"):
             library = os.path.join(room, "fail.so")
@@ -251,7 +261,7 @@ def main(program, files):
             runs += [(case, library, ", one octet at a read") for case in scripts]
         else:
             print("tests/rows.py: one octet at a read is left out, since it needs cc")
-        for (case, _, how), ending in zip(runs, pool.map(lambda each: run(program, each[0], each[1]), runs)):
+        for (case, _, how), ending in zip(runs, pool.map(lambda each: run(room, each[0], each[1]), runs)):
             is_same = not case.parts or texts.setdefault(case.place, ending.output) == ending.output
             if not is_right(case, ending) or not is_same:
                 wrong.add((case.place, case.script, *case.words))

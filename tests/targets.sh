@@ -25,6 +25,7 @@ without_kit make --no-print-directory || wrong "make alone ended with $?"
 cp "$room/told" "$room/listed"
 without_kit make --no-print-directory help
 cmp -s "$room/listed" "$room/told" || wrong 'make is not make help'
+# shellcheck disable=SC2013  # words
 for target in $(sed -n 's/^\.PHONY: //p' Makefile packaging.mk measuring.mk); do
     case $target in
         documents | kit | trial*) continue ;; # parts of others
@@ -33,6 +34,7 @@ for target in $(sed -n 's/^\.PHONY: //p' Makefile packaging.mk measuring.mk); do
 done
 
 for command in 'make -s try' 'make -s check' 'make -s test' ./build.py; do
+    # shellcheck disable=SC2086  # several words
     if without_kit $command; then wrong "$command ended with 0, without rt"; fi
     [ "$(grep -vc '^make: \*\*\*' "$room/told")" = 1 ] || wrong "$command, without rt: $(cat "$room/told")"
     grep -q 'needs rt.*README.md' "$room/told" || wrong "$command, without rt: $(cat "$room/told")"

@@ -37,6 +37,7 @@ import tempfile
 import time
 
 from edits import ROOT, Edit, functions_of, text_of
+from tree import all_crates
 
 KINDS = ["clause", "safety", "step", "name", "PROVED", "bad"]
 STRENGTHS = ["false", "open", "limit"]
@@ -127,8 +128,8 @@ def rows_of(said, crate):
 def crates_below():
     """Each crate of the repository with those that it stands on, itself among them."""
     below = {}
-    for name, parts in re.findall(r"(?m)^(\w+)[^:\n]*:(.*)", text_of(f"{ROOT}/crates.txt")):
-        below[name] = {name}.union(*(below.get(it, set()) for it in parts.split()))
+    for name, parts in all_crates().items():
+        below[name] = {name}.union(*(below.get(it, set()) for it in parts))
     return below
 
 

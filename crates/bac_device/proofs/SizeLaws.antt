@@ -122,15 +122,15 @@ reply_fits device from datagram =
     (short request) all e in
     (laid_out t.0, t.2, t.1)
 
--- ---- an answer
+-- ---- the code's reply
 
--- what holds of each reply holds of an answer that is that of the definition
-pub of_answer : (P : Station × List ℕ → Type 0) (result : Option Peer) (frame : List ℕ)
+-- what holds of each reply of the definition holds of the code's, which is that one
+pub of_reply : (P : Station × List ℕ → Type 0) (result : Option Peer) (frame : List ℕ)
     (defined : Option (Station × List ℕ))
     → option_map (λ peer. (station peer, frame)) result ≡ defined → ForSome defined P
     → IfSome result (λ peer. P (station peer, frame))
-of_answer P None frame defined e f = tt
-of_answer P (Some peer) frame defined e f = f (station peer, frame) (sym e)
+of_reply P None frame defined e f = tt
+of_reply P (Some peer) frame defined e f = f (station peer, frame) (sym e)
 
 -- The replies to any datagrams fit, one after the other.
 pub replies_fit : (info : Info) (points : List Description) (writes : List Write) (xs : List Arrival)

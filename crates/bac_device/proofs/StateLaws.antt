@@ -14,7 +14,7 @@ use Rattle.bac_device.specs.Inner.Places.{IsUrgent}
 use Rattle.bac_device.specs.Device.{DeviceState, points_of, device_after, Holds, with_point, standing_at, point_at}
 use Rattle.bac_device.specs.Device.{present_after, place_after}
 use Rattle.bac_device.specs.Reply.{with_write, reply_to, writes_after}
-use Rattle.bac_device.specs.Turns.{Arrival, Answers, AnswersInTurn, AreDefined}
+use Rattle.bac_device.specs.Turns.{Arrival, Replies, RepliesInTurn, AreDefined}
 use Rattle.bac_device.proofs.PlaceLaws.{map_same, place_none, put_after}
 
 find_map : {A B : Type 0} (f : A → B) (test : B → Bool) (xs : List A)
@@ -113,24 +113,24 @@ pub after_holds : (info : Info) (points : List Description) (writes : List Write
 after_holds info points writes =
     ap (λ (p : List Description). device_after info p writes) (sym (points_after info points writes))
 
--- a reply and a device that are those of the definition answer a datagram
+-- a call whose reply and device are those of the definition
 pub answers : (device : DeviceState) (arrival : Arrival) (reply : Option (Station × List ℕ)) (after : DeviceState)
     → ((writes : List Write) → Holds device writes
     → reply ≡ reply_to device.info (points_of device) writes arrival.from arrival.datagram)
     → ((writes : List Write) → Holds device writes
     → after ≡ device_after device.info (points_of device)
     (writes_after device.info (points_of device) writes arrival.from arrival.datagram))
-    → Answers device arrival reply after
+    → Replies device arrival reply after
 answers device arrival reply after replied written =
     λ writes holds. record {
       replied = ap (λ (r : Option (Station × List ℕ)). r ∷ []) (replied writes holds);
       written = written writes holds;
     }
 
--- a device that answers datagrams in turn
+-- a device that replies to datagrams in turn
 pub in_turn : (device : DeviceState) (arrivals : List Arrival) (replies : List (Option (Station × List ℕ)))
     (after : DeviceState) (writes : List Write)
-    → AnswersInTurn device arrivals replies after → Holds device writes
+    → RepliesInTurn device arrivals replies after → Holds device writes
     → AreDefined device writes arrivals replies after
 in_turn device [] [] after writes turns holds = record { replied = refl; written = turns ∙ holds }
 in_turn device [] (reply ∷ replies) after writes turns holds = absurd turns

@@ -1,6 +1,6 @@
 -- The device: what it keeps, its own properties, and what can be added to it (clause 12.11).
 use Rattle.std.specs.Prelude.{ℕ, ◌==◌, ◌&&◌, ◌||◌, Bool, nat_eq, if◌then◌else◌, List, [], ◌∷◌, ◌++◌}
-use Rattle.std.specs.Prelude.{length, map, find, codes, Option, Some, Result, Err, ◌≡◌}
+use Rattle.std.specs.Prelude.{length, map, find, codes, Option, Result, Err, ◌≡◌}
 use Rattle.std.specs.List.{list_any}
 use Rattle.std.specs.Map.{lookup}
 use Rattle.std.specs.Option.{option_map, option_and_then, option_or, ok_or}
@@ -11,6 +11,7 @@ use Rattle.bac_wire.specs.Datum.{Datum, unsigned, enumerated, char_string}
 use Rattle.bac_device.specs.declared.device.AddFault.{AddFault}
 use Rattle.bac_device.specs.declared.device.AddFault.TheVariants.{TooMany, Twice, NameTwice, BadPoint}
 use Rattle.bac_device.specs.Info.{Info}
+use Rattle.bac_device.specs.Limits.{device_room, no_instance, greatest_apdu, no_segmentation, own_vendor}
 use Rattle.bac_device.specs.Point.{Given, Description, description_of, same_object}
 use Rattle.bac_device.specs.Places.{Write, Standing, standing_after, present, place_at}
 use Rattle.bac_device.specs.Property.{Property, single, array, empty_list, point_objects}
@@ -67,11 +68,11 @@ has_name device name =
 abbrev pub with_point : DeviceState → Description → DeviceState
 with_point device point = record device { standings = device.standings ++ standing_after [] point ∷ [] }
 
--- The device with this point, or the first refusal that applies: there are 32 points; a point is this object; the point
+-- The device with this point, or the first fault that applies: there is no room left; a point is this object; a point
 -- or the device has this name; no point can be as this one is given.
 unfoldable pub add_point : DeviceState → Given → Result DeviceState AddFault
 add_point device point =
-    if length device.standings == 32 then Err TooMany
+    if length device.standings == device_room then Err TooMany
     else if has_object device point.object then Err Twice
     else if has_name device point.name then Err NameTwice
     else ok_or (option_map (with_point device) (description_of point)) BadPoint
@@ -84,29 +85,44 @@ device_object info = record { kind = 8; instance = info.instance }
 
 -- Whether the object is the device: its own, or the instance that stands for every device.
 abbrev pub is_device : Info → Identifier → Bool
-is_device info object = (object.kind == 8) && ((object.instance == info.instance) || (object.instance == 4194303))
+is_device info object = (object.kind == 8) && ((object.instance == info.instance) || (object.instance == no_instance))
 
--- The texts that each device of this kind has: vendor-name, model-name, firmware-revision, application-software-version
--- and description.
+-- The texts that each device of this kind has, by the number of the property.
 unfoldable pub device_text : ℕ → Option (List ℕ)
-device_text number = lookup (nat_eq number)
-    ((121, codes "Property tools") ∷ (70, codes "bacdev") ∷ (44, codes "1") ∷ (12, codes "1")
-    ∷ (28, codes "Small BACnet/IP device") ∷ [])
+device_text number = lookup (nat_eq number) (
+    (121, codes "Property tools")  -- vendor-name
+    ∷ (70, codes "bacdev")  -- model-name
+    ∷ (44, codes "1")  -- firmware-revision
+    ∷ (12, codes "1")  -- application-software-version
+    ∷ (28, codes "Small BACnet/IP device")  -- description
+    ∷ [])
 
--- The numbers that each device of this kind has: object-type, system-status (operational), vendor-identifier,
--- protocol-version, protocol-revision, max-apdu-length-accepted, segmentation-supported (none), apdu-timeout,
--- number-of-apdu-retries and database-revision.
+-- The numbers that each device of this kind has, by the number of the property.
 unfoldable pub device_number : ℕ → Option Datum
-device_number number = lookup (nat_eq number)
-    ((79, enumerated 8) ∷ (112, enumerated 0) ∷ (120, unsigned 260) ∷ (98, unsigned 1) ∷ (139, unsigned 4)
-    ∷ (62, unsigned 1476) ∷ (107, enumerated 3) ∷ (11, unsigned 3000) ∷ (73, unsigned 3) ∷ (155, unsigned 1) ∷ [])
+device_number number = lookup (nat_eq number) (
+    (79, enumerated 8)  -- object-type: device
+    ∷ (112, enumerated 0)  -- system-status: operational
+    ∷ (120, unsigned own_vendor)  -- vendor-identifier
+    ∷ (98, unsigned 1)  -- protocol-version
+    ∷ (139, unsigned 4)  -- protocol-revision
+    ∷ (62, unsigned greatest_apdu)  -- max-apdu-length-accepted
+    ∷ (107, enumerated no_segmentation)  -- segmentation-supported
+    ∷ (11, unsigned 3000)  -- apdu-timeout
+    ∷ (73, unsigned 3)  -- number-of-apdu-retries
+    ∷ (155, unsigned 1)  -- database-revision
+    ∷ [])
 
--- The property of the device of this number: object-identifier, object-list, object-name, device-address-binding, or
--- one that each device of this kind has.
+-- The properties that follow from what the device keeps, by their numbers.
+abbrev pub kept_property : DeviceState → ℕ → Option Property
+kept_property device number = lookup (nat_eq number) (
+    (75, single (values.object (device_object device.info)))  -- object-identifier
+    ∷ (76, array (values.object (device_object device.info) ∷ point_objects device.standings))  -- object-list
+    ∷ (77, single (char_string 0 device.info.name))  -- object-name
+    ∷ (30, empty_list)  -- device-address-binding
+    ∷ [])
+
+-- The property of the device of this number: one that it keeps, or one that each device of this kind has.
 unfoldable pub device_property : DeviceState → ℕ → Option Property
 device_property device number =
-    if number == 75 then Some (single (values.object (device_object device.info)))
-    else if number == 76 then Some (array (values.object (device_object device.info) ∷ point_objects device.standings))
-    else if number == 77 then Some (single (char_string 0 device.info.name))
-    else if number == 30 then Some empty_list
-    else option_map single (option_or (option_map (char_string 0) (device_text number)) (device_number number))
+    option_or (kept_property device number)
+    (option_map single (option_or (option_map (char_string 0) (device_text number)) (device_number number)))

@@ -9,13 +9,12 @@ abbrev pub error_class : Failure → ℕ
 error_class UnknownObject = 1
 error_class _ = 2
 
--- The number of the error code: unknown-object, unknown-property, property-is-not-an-array, invalid-array-index,
--- write-access-denied, invalid-data-type and value-out-of-range.
+-- The number of the error code.
 abbrev pub error_code : Failure → ℕ
-error_code UnknownObject = 31
-error_code UnknownProperty = 32
-error_code NotAnArray = 50
-error_code InvalidIndex = 42
-error_code WriteDenied = 40
-error_code WrongType = 9
-error_code OutOfRange = 37
+error_code UnknownObject = 31  -- unknown-object
+error_code UnknownProperty = 32  -- unknown-property
+error_code NotAnArray = 50  -- property-is-not-an-array
+error_code InvalidIndex = 42  -- invalid-array-index
+error_code WriteDenied = 40  -- write-access-denied
+error_code WrongType = 9  -- invalid-data-type
+error_code OutOfRange = 37  -- value-out-of-range

@@ -1,13 +1,14 @@
 -- What a device is known by.
 use Rattle.std.specs.Prelude.{ℕ, ◌<◌, ◌≤◌, List, length}
+use Rattle.bac_device.specs.Limits.{longest_name, no_instance}
 
 -- The instance of the device's object, and its name.
 pub record Info : Type 0 where
   pub instance : ℕ
   pub name : List ℕ
 
--- What a device can be known by: an instance below 4,194,303, and a name of one to 64 octets.
+-- What a device can be known by: an instance that an object can have, and a name of one to 64 octets.
 pub record IsInfo (info : Info) : Type 0 where
-  pub numbered : info.instance < 4194303
+  pub numbered : info.instance < no_instance
   pub named : 1 ≤ length info.name
-  pub short : length info.name ≤ 64
+  pub short : length info.name ≤ longest_name

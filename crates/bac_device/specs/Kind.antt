@@ -14,16 +14,23 @@ use Rattle.bac_device.specs.declared.kind.Role.{Role}
 use Rattle.bac_device.specs.declared.kind.Role.TheVariants as roles
 use Rattle.bac_device.specs.declared.kind.Kind.{Kind}
 
--- What a type of point is.
+-- The kind of this family and role.
 abbrev pub kind : Family → Role → Kind
 kind family role = record { family = family; role = role }
 
 -- The kind of each object type that a point can have (clause 21, BACnetObjectType).
 unfoldable pub kind_of : ℕ → Option Kind
-kind_of number = lookup (nat_eq number)
-    ((0, kind Analog roles.Input) ∷ (1, kind Analog roles.Output) ∷ (2, kind Analog roles.Value)
-    ∷ (3, kind Binary roles.Input) ∷ (4, kind Binary roles.Output) ∷ (5, kind Binary roles.Value)
-    ∷ (13, kind MultiState roles.Input) ∷ (14, kind MultiState roles.Output) ∷ (19, kind MultiState roles.Value) ∷ [])
+kind_of number = lookup (nat_eq number) (
+    (0, kind Analog roles.Input)
+    ∷ (1, kind Analog roles.Output)
+    ∷ (2, kind Analog roles.Value)
+    ∷ (3, kind Binary roles.Input)
+    ∷ (4, kind Binary roles.Output)
+    ∷ (5, kind Binary roles.Value)
+    ∷ (13, kind MultiState roles.Input)
+    ∷ (14, kind MultiState roles.Output)
+    ∷ (19, kind MultiState roles.Value)
+    ∷ [])
 
 -- Whether points of this role can be written, and have a priority array (clause 19.2).
 abbrev pub is_commandable : Role → Bool

@@ -1,4 +1,5 @@
 pub mod Steps
+pub mod Limits
 pub mod Info
 pub mod Kind
 pub mod Point

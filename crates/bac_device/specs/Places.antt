@@ -2,7 +2,7 @@
 use Rattle.std.specs.Prelude.{◌≡◌, ℕ, ◌-◌, ◌==◌, ◌&&◌, ◌||◌, not, Bool, false, if◌then◌else◌, is_some, List, [], ◌∷◌}
 use Rattle.std.specs.Prelude.{map, filter, find, slice_get, slice_set, unwrap_or, Option, Some, None, Result, Ok, Err}
 use Rattle.std.specs.List.{last_or, AllByRecursion}
-use Rattle.std.specs.Option.{option_and_then, ok_or}
+use Rattle.std.specs.Option.{option_and_then, option_flatten, ok_or}
 use Rattle.bac_wire.specs.Identifier.{Identifier}
 use Rattle.bac_device.specs.declared.failure.Failure.{Failure}
 use Rattle.bac_device.specs.declared.failure.Failure.TheVariants.{WrongType, OutOfRange}
@@ -44,7 +44,7 @@ standing_after writes point = record { point = point; places = map (place writes
 
 -- The number of the present value: the first place that is not NULL, else the value that the point started with.
 abbrev pub present : Standing → ℕ
-present standing = unwrap_or (option_and_then (λ place. place) (find is_some standing.places)) standing.point.start
+present standing = unwrap_or (option_flatten (find is_some standing.places)) standing.point.start
 
 -- ---- what is asked of a point, and one write
 

@@ -5,6 +5,7 @@ use Rattle.bac_wire.specs.Steps.{◌>>=◌}
 use Rattle.bac_device.specs.declared.kind.Kind.{Kind}
 use Rattle.bac_device.specs.declared.point.Point.{Point}
 use Rattle.bac_device.specs.Kind.{kind_of, allows, allows_extra}
+use Rattle.bac_device.specs.Limits.{longest_name, no_instance}
 
 -- What is given of a point that is to be added.
 pub record Given : Type 0 where
@@ -30,10 +31,11 @@ abbrev pub same_object : Identifier → Identifier → Bool
 same_object a b = (a.kind == b.kind) && (a.instance == b.instance)
 
 -- Whether a point of this kind can be as it is given: its name has one to 64 octets, its instance is one that an object
--- can have, which 4,194,303 is not (clause 12), and its kind allows `extra` and `start`.
+-- can have, and its kind allows `extra` and `start`.
 abbrev pub is_described : Kind → Given → Bool
 is_described kind point =
-    nat_lt 0 (length point.name) && nat_le (length point.name) 64 && nat_lt point.object.instance 4194303
+    nat_lt 0 (length point.name) && nat_le (length point.name) longest_name
+    && nat_lt point.object.instance no_instance
     && allows_extra kind.family kind.role point.extra && allows kind.family point.extra point.start
 
 -- The point of this kind that is given.
@@ -41,8 +43,7 @@ abbrev pub described : Kind → Given → Description
 described kind point =
     record { kind = kind; object = point.object; name = point.name; start = point.start; extra = point.extra }
 
--- The point that is described, where its type is known, its name has one to 64 octets, its instance is less than
--- 4194303, and `start` and `extra` are such as its type allows.
+-- The point that is given, where its object type is one of a point, and a point of that kind can be so.
 unfoldable pub description_of : Given → Option Description
 description_of point = do
   kind ← kind_of point.object.kind

@@ -1,8 +1,9 @@
 -- The values of a property, and the properties of a point (clause 12).
-use Rattle.std.specs.Prelude.{ℕ, ◌-◌, ◌==◌, ◌&&◌, Bool, true, false, not, if◌then◌else◌, List, [], ◌∷◌, length, map}
-use Rattle.std.specs.Prelude.{slice_get, Option, Some, None, Result, Ok, Err}
+use Rattle.std.specs.Prelude.{ℕ, nat_eq, ◌-◌, ◌==◌, ◌&&◌, Bool, true, false, not, if◌then◌else◌, List, [], ◌∷◌, length}
+use Rattle.std.specs.Prelude.{map, slice_get, Option, Some, None, Result, Ok, Err}
 use Rattle.std.specs.List.{flat_map}
-use Rattle.std.specs.Option.{option_map, ok_or}
+use Rattle.std.specs.Option.{option_map, option_or, ok_or}
+use Rattle.std.specs.Map.{lookup}
 use Rattle.bac_wire.specs.Datum.{Datum, boolean, unsigned, enumerated, char_string, bit_string, object, plain}
 use Rattle.bac_device.specs.declared.kind.Family.{Family}
 use Rattle.bac_device.specs.declared.kind.Family.TheVariants.{Analog, Binary, MultiState}
@@ -67,15 +68,19 @@ kind_property standing number =
     then Some (single (value_of standing.point.kind.family standing.point.start))
     else option_map single (extra_value standing.point.kind.family standing.point.kind.role standing.point.extra number)
 
--- The properties of every point: object-identifier, object-name, object-type, present-value, event-state (normal),
--- out-of-service, status-flags (four, none set); and those of its type.
+-- The properties that every point has, by their numbers.
+abbrev pub common_value : Standing → ℕ → Option Datum
+common_value standing number = lookup (nat_eq number) (
+    (75, object standing.point.object)  -- object-identifier
+    ∷ (77, char_string 0 standing.point.name)  -- object-name
+    ∷ (79, enumerated standing.point.object.kind)  -- object-type
+    ∷ (85, value_of standing.point.kind.family (present standing))  -- present-value
+    ∷ (36, enumerated 0)  -- event-state: normal
+    ∷ (81, boolean false)  -- out-of-service
+    ∷ (111, bit_string 4 (0 ∷ []))  -- status-flags: four, none set
+    ∷ [])
+
+-- The property of a point of this number: one that every point has, or one of its type.
 unfoldable pub point_property : Standing → ℕ → Option Property
 point_property standing number =
-    if number == 75 then Some (single (object standing.point.object))
-    else if number == 77 then Some (single (char_string 0 standing.point.name))
-    else if number == 79 then Some (single (enumerated standing.point.object.kind))
-    else if number == 85 then Some (single (value_of standing.point.kind.family (present standing)))
-    else if number == 36 then Some (single (enumerated 0))
-    else if number == 81 then Some (single (boolean false))
-    else if number == 111 then Some (single (bit_string 4 (0 ∷ [])))
-    else kind_property standing number
+    option_or (option_map single (common_value standing number)) (kind_property standing number)

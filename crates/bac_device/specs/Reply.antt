@@ -1,4 +1,4 @@
--- What the device answers to a datagram, and which write it accepts (clauses 5.4, 15.5, 15.9 and 16.10).
+-- What the device replies to a datagram, and which write it accepts (clauses 5.4, 15.5, 15.9 and 16.10).
 use Rattle.std.specs.Prelude.{ℕ, ◌==◌, nat_le, Bool, true, false, not, ◌&&◌, ◌||◌, if◌then◌else◌, List, ◌++◌, length}
 use Rattle.std.specs.Prelude.{map, Option, Some, None, is_some, is_none, Result, Ok, Err}
 use Rattle.std.specs.Option.{option_and_then, option_map, option_to_list, ok_or}
@@ -22,6 +22,7 @@ use Rattle.bac_device.specs.declared.failure.Failure.{Failure}
 use Rattle.bac_device.specs.declared.failure.Failure.TheVariants.{UnknownObject, UnknownProperty, NotAnArray}
 use Rattle.bac_device.specs.declared.failure.Failure.TheVariants.{WriteDenied}
 use Rattle.bac_device.specs.Info.{Info}
+use Rattle.bac_device.specs.Limits.{greatest_apdu, no_segmentation, own_vendor}
 use Rattle.bac_device.specs.Steps.{◌>>=◌}
 use Rattle.bac_device.specs.Kind.{is_commandable}
 use Rattle.bac_device.specs.Point.{Description}
@@ -36,12 +37,15 @@ use Rattle.bac_device.specs.Device.{DeviceState, device_after, device_object, is
 unfoldable pub property_of : DeviceState → Identifier → ℕ → Result Property Failure
 property_of device object number =
     if is_device device.info object then ok_or (device_property device number) UnknownProperty
-    else ok_or (standing_at device object) UnknownObject
-    >>= (λ standing. ok_or (point_property standing number) UnknownProperty)
+    else do
+      standing ← ok_or (standing_at device object) UnknownObject
+      ok_or (point_property standing number) UnknownProperty
 
 -- What is asked for: a property, or an element of it; or why it can't be read.
 unfoldable pub read_property : DeviceState → Reference → Result Property Failure
-read_property device r = property_of device r.object r.property >>= (λ property. element property r.index)
+read_property device r = do
+  property ← property_of device r.object r.property
+  element property r.index
 
 -- ---- WriteProperty (clause 15.9)
 
@@ -61,18 +65,20 @@ urgency (Some priority) = if priority == 6 then Err WriteDenied else Ok priority
 -- The write that an order asks of a point, or the first failure that applies: priority 6, a value of another type, a
 -- value out of range.
 unfoldable pub ordered_write : Standing → Order → Result Write Failure
-ordered_write standing o =
-    urgency o.priority >>= (λ priority.
-    written_value standing.point o.value >>= (λ value.
-    Ok (record { object = o.reference.object; priority = priority; value = value })))
+ordered_write standing o = do
+  priority ← urgency o.priority
+  value ← written_value standing.point o.value
+  Ok (record { object = o.reference.object; priority = priority; value = value })
 
 -- The write that is ordered, or the first failure that applies: an unknown object, an unknown property, an index at
 -- what is no array, a property that can't be written, and then those of the point.
 unfoldable pub accepted_write : DeviceState → Order → Result Write Failure
-accepted_write device o =
-    property_of device o.reference.object o.reference.property >>= (λ property.
-    if is_some o.reference.index && not property.is_array then Err NotAnArray
-    else ok_or (commanded_point device o.reference) WriteDenied >>= (λ standing. ordered_write standing o))
+accepted_write device o = do
+  property ← property_of device o.reference.object o.reference.property
+  if is_some o.reference.index && not property.is_array then Err NotAnArray
+      else do
+        standing ← ok_or (commanded_point device o.reference) WriteDenied
+        ordered_write standing o
 
 -- ---- the replies to confirmed requests
 
@@ -87,17 +93,17 @@ unless_failed id service made (Ok x) = made x
 unless_failed id service made (Err failure) = error id service (error_octets (error_class failure) (error_code failure))
 
 -- The object that a reply names: the device under its own instance, and any other as it was asked for.
-abbrev pub answered_object : Info → Identifier → Identifier
-answered_object info object = if is_device info object then device_object info else object
+abbrev pub replied_object : Info → Identifier → Identifier
+replied_object info object = if is_device info object then device_object info else object
 
 -- What is acknowledged: the object, the property and the index that were asked for, and the values.
-abbrev pub answer_to : DeviceState → Reference → Property → Answer
-answer_to device r property =
-    record { reference = record r { object = answered_object device.info r.object }; value = region_octets property }
+abbrev pub acknowledged : DeviceState → Reference → Property → Answer
+acknowledged device r property =
+    record { reference = record r { object = replied_object device.info r.object }; value = region_octets property }
 
 -- The ReadProperty-ACK with these values.
 abbrev pub ack : DeviceState → ℕ → Reference → Property → Message
-ack device id r property = complex_ack None id 12 (ack_octets (answer_to device r property))
+ack device id r property = complex_ack None id 12 (ack_octets (acknowledged device r property))
 
 -- The reply to a ReadProperty with this body.
 unfoldable pub read_reply : DeviceState → ℕ → List ℕ → Message
@@ -136,13 +142,18 @@ fitting code id full = if nat_le (length (laid_out full)) (announced_size code) 
 
 -- ---- Who-Is (clause 16.10)
 
--- What the device says of itself: its identifier, 1476 octets, no segmentation, and the vendor.
-abbrev pub introduction_of : Info → Introduction
-introduction_of info = record { device = device_object info; max_apdu = 1476; segmentation = 3; vendor = 260 }
+-- What the device says of itself: its identifier, the greatest APDU that it takes, no segmentation, and its vendor.
+abbrev pub own_introduction : Info → Introduction
+own_introduction info = record {
+  device = device_object info;
+  max_apdu = greatest_apdu;
+  segmentation = no_segmentation;
+  vendor = own_vendor;
+}
 
 -- The I-Am of the device.
 abbrev pub i_am : Info → Message
-i_am info = unconfirmed 0 (i_am_octets (introduction_of info))
+i_am info = unconfirmed 0 (i_am_octets (own_introduction info))
 
 -- The I-Am, where the body of a Who-Is asks for the device.
 unfoldable pub who_is_reply : Info → List ℕ → Option Message
@@ -151,7 +162,8 @@ who_is_reply info body =
 
 -- ---- the reply to an APDU, and to a datagram
 
--- The reply to an APDU: a Who-Is (8) is answered, and a confirmed request that was not sent to all.
+-- The reply to an APDU: there is one to a Who-Is (8) that asks for the device, and to a confirmed request that was not
+-- sent to all.
 abbrev pub reply_message : DeviceState → Bool → Message → Option Message
 reply_message device broadcast (confirmed part code id service body) =
     if broadcast then None else Some (fitting code id (full_reply device part id service body))
@@ -159,10 +171,10 @@ reply_message device broadcast (unconfirmed service body) = if service == 8 then
 reply_message device broadcast _ = None
 
 -- The write that an APDU orders and the device accepts.
-abbrev pub write_message : DeviceState → Bool → Message → Option Write
-write_message device broadcast (confirmed part code id service body) =
+abbrev pub write_in_message : DeviceState → Bool → Message → Option Write
+write_in_message device broadcast (confirmed part code id service body) =
     if broadcast then None else write_in_request device part service body
-write_message device broadcast _ = None
+write_in_message device broadcast _ = None
 
 -- The octets of the reply to the octets of an APDU.
 unfoldable pub reply_apdu : DeviceState → Bool → List ℕ → Option (List ℕ)
@@ -170,8 +182,8 @@ reply_apdu device broadcast apdu =
     option_and_then (λ message. option_map laid_out (reply_message device broadcast message)) (apdu_of apdu)
 
 -- The write that the octets of an APDU order and the device accepts.
-unfoldable pub write_apdu : DeviceState → Bool → List ℕ → Option Write
-write_apdu device broadcast apdu = option_and_then (write_message device broadcast) (apdu_of apdu)
+unfoldable pub write_in_apdu : DeviceState → Bool → List ℕ → Option Write
+write_in_apdu device broadcast apdu = option_and_then (write_in_message device broadcast) (apdu_of apdu)
 
 -- The reply to what a datagram carries, as a unicast to its peer.
 abbrev pub reply_delivery : DeviceState → Delivery → Option (Station × List ℕ)
@@ -184,9 +196,9 @@ unfoldable pub reply_of : DeviceState → Station → List ℕ → Option (Stati
 reply_of device from datagram = option_and_then (reply_delivery device) (carried from datagram)
 
 -- The write in a datagram from there that the device, as it stands, accepts.
-unfoldable pub write_of_datagram : DeviceState → Station → List ℕ → Option Write
-write_of_datagram device from datagram =
-    option_and_then (λ delivery. write_apdu device delivery.broadcast delivery.apdu) (carried from datagram)
+unfoldable pub write_in_datagram : DeviceState → Station → List ℕ → Option Write
+write_in_datagram device from datagram =
+    option_and_then (λ delivery. write_in_apdu device delivery.broadcast delivery.apdu) (carried from datagram)
 
 -- The device once the write is made, if there is one.
 abbrev pub with_write : DeviceState → Option Write → DeviceState
@@ -202,4 +214,4 @@ reply_to info points writes from datagram = reply_of (device_after info points w
 -- These writes, and the one in a datagram from there that a device with these points then accepts, if there is one.
 abbrev pub writes_after : Info → List Description → List Write → Station → List ℕ → List Write
 writes_after info points writes from datagram =
-    writes ++ option_to_list (write_of_datagram (device_after info points writes) from datagram)
+    writes ++ option_to_list (write_in_datagram (device_after info points writes) from datagram)

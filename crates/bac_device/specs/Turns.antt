@@ -25,7 +25,7 @@ replies_to info points writes (arrival ∷ arrivals) =
     reply_to info points writes arrival.from arrival.datagram
     ∷ replies_to info points (writes_after info points writes arrival.from arrival.datagram) arrivals
 
--- ---- what a server that answers each in turn sees
+-- ---- what a server that replies to each in turn sees
 
 -- The replies are those of the definition, and the points stand as the accepted writes leave them.
 pub record AreDefined (device : DeviceState) (writes : List Write) (arrivals : List Arrival)
@@ -34,15 +34,15 @@ pub record AreDefined (device : DeviceState) (writes : List Write) (arrivals : L
   pub written : after
       ≡ device_after device.info (points_of device) (all_writes device.info (points_of device) writes arrivals)
 
--- A call answers this datagram with this reply, and leaves this device: for any writes that the device holds, both are
--- those of the definition.
-abbrev pub Answers : DeviceState → Arrival → Option (Station × List ℕ) → DeviceState → Type 0
-Answers device arrival reply after = (writes : List Write) → Holds device writes
+-- A call replies so to this datagram, and leaves this device: for any writes that the device holds, both are those of
+-- the definition.
+abbrev pub Replies : DeviceState → Arrival → Option (Station × List ℕ) → DeviceState → Type 0
+Replies device arrival reply after = (writes : List Write) → Holds device writes
     → AreDefined device writes (arrival ∷ []) (reply ∷ []) after
 
 -- Such calls for these datagrams, one after the other.
-abbrev pub AnswersInTurn : DeviceState → List Arrival → List (Option (Station × List ℕ)) → DeviceState → Type 0
-AnswersInTurn device [] [] after = after ≡ device
-AnswersInTurn device (arrival ∷ arrivals) (reply ∷ replies) after = (next : DeviceState)
-    × Answers device arrival reply next × AnswersInTurn next arrivals replies after
-AnswersInTurn device _ _ after = ⊥
+abbrev pub RepliesInTurn : DeviceState → List Arrival → List (Option (Station × List ℕ)) → DeviceState → Type 0
+RepliesInTurn device [] [] after = after ≡ device
+RepliesInTurn device (arrival ∷ arrivals) (reply ∷ replies) after = (next : DeviceState)
+    × Replies device arrival reply next × RepliesInTurn next arrivals replies after
+RepliesInTurn device _ _ after = ⊥

@@ -1,6 +1,7 @@
 //! The demonstration device.
 
 ghost use Rattle.std.specs.Prelude.{◌≡◌, ◌<◌, ◌+◌, ◌^◌, length, [], IsSome};
+ghost use Rattle.bac_device.specs.Limits.{device_room};
 ghost use Rattle.bac_device.specs.Point.{description_of};
 ghost use Rattle.bac_device.specs.Device.{device_after};
 ghost use Rattle.bac_device.specs.Demo.{row, demo_points};
@@ -54,7 +55,7 @@ fn append_row(device: &mut Device, kind: u16, instance: u32, name: &str, start: 
     requires kind { kind < 1024 }
     requires instance { instance < 2 ^ 22 }
     requires point { IsSome (description_of (row kind instance name.now start extra)) }
-    requires room { length device.old.standings < 32 }
+    requires room { length device.old.standings < device_room }
     ensures after { device.new ≡ with_row device.old (row kind instance name.now start extra) }
     ensures longer { length device.new.standings ≡ length device.old.standings + 1 }
 {

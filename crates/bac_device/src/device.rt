@@ -7,6 +7,7 @@ ghost use Rattle.std.specs.Option.{option_map, option_and_then, option_copied};
 ghost use Rattle.std.specs.Str.{bytes_eq};
 ghost use Rattle.bac_wire.specs.Datum.{datum, IsSound};
 ghost use Rattle.bac_wire.specs.Identifier.{identifier};
+ghost use Rattle.bac_device.specs.Limits.{device_room};
 ghost use Rattle.bac_device.specs.Kind.{value_of};
 ghost use Rattle.bac_device.specs.Point.{given, same_object};
 ghost use Rattle.bac_device.specs.Places.{Write, NoneTo, present, place_at, put as put_write};
@@ -110,7 +111,7 @@ impl Device {
 
     /// Adds this point, for which there has to be room.
     pub(crate) fn append(&mut self, point: StandingPoint)
-        requires { length self.old.standings < 32 }
+        requires { length self.old.standings < device_room }
         ensures { self.new ≡ record { info = self.old.info; standings = self.old.standings ++ point ∷ [] } }
     {
         self.points.push(point);

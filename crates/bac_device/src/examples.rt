@@ -17,7 +17,7 @@ fn examples_of_reads()
     // Units (degrees Fahrenheit), and the number of states.
     ensures extra { Exchanges (has (of 117 outdoor) (enumerated 64) ∷ has (of 74 season) (unsigned 4) ∷ []) }
 
-    // The device answers under its own instance where it is asked as any device.
+    // The device replies under its own instance where it is asked as any device.
     ensures device { Exchanges
         ((read (of 75 any_device), is (of 75 own) (0xc4 ∷ 0x02 ∷ 0x00 ∷ 0x04 ∷ 0xd2 ∷ [])) ∷ []) }
 

@@ -4,7 +4,7 @@ ghost use Rattle.std.specs.Prelude.{◌≡◌};
 ghost use Rattle.bac_device.specs.Failure.{error_class, error_code};
 
 /// Why a property is not read or written (clause 18).
-#[derive(Clone, Copy, Debug, PartialEq, Eq)]
+#[derive(Clone, Copy)]
 pub(crate) enum Failure {
     UnknownObject,
     UnknownProperty,

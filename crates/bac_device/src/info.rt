@@ -21,13 +21,14 @@ pub struct DeviceInfo {
 
 impl Model for DeviceInfo {
     ghost use Rattle.std.specs.Prelude.{◌<◌};
+    ghost use Rattle.bac_device.specs.Limits.{no_instance};
     ghost use Rattle.bac_device.specs.Info.{Info};
 
     ghost Value = { Info };
 
     ghost view = { λ i. record { instance = i.instance; name = i.name.bytes } };
 
-    ghost invariant = { λ i. i.instance < 4194303 };
+    ghost invariant = { λ i. i.instance < no_instance };
 }
 
 impl DeviceInfo {

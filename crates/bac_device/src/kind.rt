@@ -10,7 +10,7 @@ ghost use Rattle.bac_device.specs.Kind.{allows_extra as has_extra};
 use bac_wire::{Value, value_and_rest};
 
 /// What the present value of a point is: a Real, one of two states, or one of several.
-#[derive(Clone, Copy, Debug, PartialEq, Eq)]
+#[derive(Clone, Copy)]
 pub(crate) enum Family {
     Analog,
     Binary,
@@ -18,7 +18,7 @@ pub(crate) enum Family {
 }
 
 /// What a point stands for: something measured, something driven, or a value that the device keeps.
-#[derive(Clone, Copy, Debug, PartialEq, Eq)]
+#[derive(Clone, Copy)]
 pub(crate) enum Role {
     Input,
     Output,
@@ -26,7 +26,7 @@ pub(crate) enum Role {
 }
 
 /// The type of a point (clause 12).
-#[derive(Clone, Copy, Debug, PartialEq, Eq)]
+#[derive(Clone, Copy)]
 pub(crate) struct Kind {
     pub(crate) family: Family,
     pub(crate) role: Role,

@@ -1,24 +1,26 @@
-//! What holds of the definitions that the contracts cite. Each function has an empty body, and its clause is the law;
-//! those at the end are `==` of a type, and say what it compares.
+//! What holds of the definitions that the contracts cite, and of the public types. Each function has an empty body, and
+//! its clause is the law.
 
 ghost use Rattle.std.specs.Prelude.{IsTrue, ◌≡◌, ◌↔◌, ℕ, List, Option};
 ghost use Rattle.std.specs.Option.{ForSome};
 ghost use Rattle.bac_pdu.specs.Peer.{Station};
+ghost use Rattle.bac_device.specs.Limits.{device_room, longest_name};
 ghost use Rattle.bac_device.specs.Info.{Info};
 ghost use Rattle.bac_device.specs.Point.{Description};
 ghost use Rattle.bac_device.specs.Places.{Write};
 ghost use Rattle.bac_device.specs.Device.{DeviceState, points_of, device_after, Holds};
 ghost use Rattle.bac_device.specs.Reply.{reply_of};
 ghost use Rattle.bac_device.specs.Size.{ReplyFits, RepliesFit};
-ghost use Rattle.bac_device.specs.Turns.{Arrival, AnswersInTurn, AreDefined, replies_to};
+ghost use Rattle.bac_device.specs.Turns.{Arrival, RepliesInTurn, AreDefined, replies_to};
 
-use crate::device::AddFault;
+use crate::device::{AddFault, POINTS};
+use crate::point::{NAME_OCTETS, Point};
 
-/// Over any list of datagrams the replies of a device that answers each in turn are those of the definition, and its
+/// Over any list of datagrams the replies of a device that replies to each in turn are those of the definition, and its
 /// places are those after the accepted writes.
-pub fn answers_in_turn()
+pub fn replies_in_turn()
     ensures { (device : DeviceState) (arrivals : List Arrival) (replies : List (Option (Station × List ℕ)))
-        (after : DeviceState) (writes : List Write) → AnswersInTurn device arrivals replies after → Holds device writes
+        (after : DeviceState) (writes : List Write) → RepliesInTurn device arrivals replies after → Holds device writes
         → AreDefined device writes arrivals replies after }
 {}
 
@@ -44,9 +46,21 @@ pub fn replies_fit()
         → RepliesFit arrivals (replies_to info points writes arrivals) }
 {}
 
-/// Faults are equal that are the same of the four.
-pub fn same_fault(fault: &AddFault, other: &AddFault) -> bool
-    ensures { IsTrue result ↔ (fault.now ≡ other.now) }
-{
-    fault == other
-}
+/// The limits that the code names are those of the definitions.
+pub fn limits()
+    ensures points { POINTS ≡ device_room }
+    ensures name { NAME_OCTETS ≡ longest_name }
+{}
+
+/// A clone is what it was cloned from, and takes no memory.
+pub fn clones<'a>()
+    ensures fault { ((x y : AddFault) → ⟦<AddFault as Clone>⟧.is_clone x y → y ≡ x)
+        × ((x : AddFault) → ⟦<AddFault as Clone>⟧.is_infallible x) }
+    ensures point { ((x y : Point) → ⟦<Point<'a> as Clone>⟧.is_clone x y → y ≡ x)
+        × ((x : Point) → ⟦<Point<'a> as Clone>⟧.is_infallible x) }
+{}
+
+/// Faults are equal by `==` that are the same of the four.
+pub fn same_fault()
+    ensures { (x y : AddFault) → IsTrue (⟦<AddFault as PartialEq>⟧.eq x y) ↔ (x ≡ y) }
+{}

@@ -3,7 +3,7 @@
 //!
 //! [`DeviceInfo::new`] says what the device is known by, [`Device::new`] makes it, and [`Device::add`] gives it points,
 //! each a [`Point`]; [`demo`] has eleven of them. [`Device::answer`] makes the reply to a datagram, where there is one,
-//! and keeps the write that it accepts. [`Device::present`] and [`Device::place`] say what a point has.
+//! and makes the write that it accepts. [`Device::present`] and [`Device::place`] say what a point has.
 //! `specs/Reply.antt` says which reply comes: a function of the writes that were accepted before.
 //!
 //! Of `examples_of_writes` in `src/examples.rt`, which is proved: what is written to the demonstration device, and read

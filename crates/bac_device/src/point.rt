@@ -31,7 +31,7 @@ pub const NAME_OCTETS: usize = 64;
 const PRIORITIES: usize = 16;
 
 /// A point that a device shall have: an object of type 0 to 5, 13, 14 or 19 (clause 12).
-#[derive(Clone, Copy, Debug)]
+#[derive(Clone, Copy)]
 pub struct Point<'a> {
     /// Its type and its instance; the instance is less than 4194303.
     pub id: ObjectId,

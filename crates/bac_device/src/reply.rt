@@ -16,12 +16,12 @@ ghost use Rattle.bac_device.specs.Inner.Property.{property_seen, IsSoundProperty
 ghost use Rattle.bac_device.specs.Failure.{error_class, error_code};
 ghost use Rattle.bac_device.specs.Device.{Holds, points_of, device_after};
 ghost use Rattle.bac_device.specs.Size.{ReplyFits};
-ghost use Rattle.bac_device.specs.Reply.{answered_object, read_property, accepted_write, ordered_write};
+ghost use Rattle.bac_device.specs.Reply.{replied_object, read_property, accepted_write, ordered_write};
 ghost use Rattle.bac_device.specs.Reply.{ack as ack_message};
 ghost use Rattle.bac_device.specs.Reply.{urgency as urgency_of, read_reply, write_reply, write_in_body, full_reply};
 ghost use Rattle.bac_device.specs.Reply.{write_in_request, fitting, refused as refused_message, who_is_reply};
-ghost use Rattle.bac_device.specs.Reply.{i_am as i_am_message, reply_apdu, write_apdu as write_in_apdu, reply_of};
-ghost use Rattle.bac_device.specs.Reply.{write_of_datagram, with_write, reply_to, writes_after};
+ghost use Rattle.bac_device.specs.Reply.{i_am as i_am_message, reply_apdu, write_in_apdu, reply_of};
+ghost use Rattle.bac_device.specs.Reply.{write_in_datagram, with_write, reply_to, writes_after};
 
 use crate::device::Device;
 use crate::failure::Failure;
@@ -48,8 +48,8 @@ const MINIMUM_TIMES: u8 = 6;
 
 impl Device {
     /// The object that a reply names: the device under its own instance.
-    fn answered_object(&self, object: ObjectId) -> ObjectId
-        ensures { identifier result ≡ answered_object self.now.info (identifier object) }
+    fn replied_object(&self, object: ObjectId) -> ObjectId
+        ensures { identifier result ≡ replied_object self.now.info (identifier object) }
     {
         let info = self.info();
         if info.is_object(object) {
@@ -105,8 +105,8 @@ impl Device {
             (frame_room < length
             (laid_out (ack_message self.now id (reference request.now) (property_seen property.now)))) }
     {
-        let answered = ReadRequest {
-            object: self.answered_object(request.object),
+        let replied = ReadRequest {
+            object: self.replied_object(request.object),
             property: request.property,
             index: request.index,
         };
@@ -120,7 +120,7 @@ impl Device {
                 body: &[],
             },
         )?;
-        begin_ack(frame, &answered)?;
+        begin_ack(frame, &replied)?;
         append_region(frame, property)?;
         end_ack(frame)
     }
@@ -221,7 +221,7 @@ impl Device {
 
     /// Appends the reply to the octets of an APDU to an empty frame; an accepted write is made. None where there is no
     /// reply.
-    #[tactic(auto, unfolding(crate::specs::Reply::reply_apdu, crate::specs::Reply::write_apdu))]
+    #[tactic(auto, unfolding(crate::specs::Reply::reply_apdu, crate::specs::Reply::write_in_apdu))]
     fn reply(&mut self, broadcast: bool, apdu: &[u8], frame: &mut Frame) -> Option<()>
         requires { frame.old ≡ [] }
         ensures reply { option_map (λ _. frame.new) result ≡ reply_apdu self.old broadcast apdu.now }
@@ -250,15 +250,16 @@ impl Device {
     }
 
     /// Answers a datagram that came from this peer: makes the frame the reply's datagram, and says whom it is for.
-    /// None, with an empty frame, where the device is silent.
+    /// None, with an empty frame, where the device is silent. A write that the datagram orders is made where the device
+    /// accepts it.
     ///
-    /// Who-Is is answered where the device is asked for; a confirmed request where it was sent to this device alone. A
-    /// reply that has more octets than the requester announced becomes an Abort. An I-Am has fifteen octets.
+    /// There is a reply to a Who-Is that asks for the device, and to a confirmed request that was not sent to all. An
+    /// APDU of more octets than the requester announced becomes an Abort. That of an I-Am has fifteen octets.
     #[tactic(auto, using(crate::proofs::StateLaws::write_held))]
     pub fn answer(&mut self, from: Peer, datagram: &[u8], frame: &mut Frame) -> Option<Peer>
         ensures standing { option_map (λ peer. (station peer, frame.new)) result
             ≡ reply_of self.old (station from) datagram.now }
-        ensures written { self.new ≡ with_write self.old (write_of_datagram self.old (station from) datagram.now) }
+        ensures written { self.new ≡ with_write self.old (write_in_datagram self.old (station from) datagram.now) }
         ensures reply { (writes : List Write) → Holds self.old writes
             → option_map (λ peer. (station peer, frame.new)) result
             ≡ reply_to self.old.info (points_of self.old) writes (station from) datagram.now }
@@ -273,14 +274,14 @@ impl Device {
     }
 
     /// The same, where the frame is empty at first.
-    #[tactic(auto, unfolding(crate::specs::Reply::reply_of, crate::specs::Reply::write_of_datagram))]
+    #[tactic(auto, unfolding(crate::specs::Reply::reply_of, crate::specs::Reply::write_in_datagram))]
     fn answer_into(&mut self, from: Peer, datagram: &[u8], frame: &mut Frame) -> Option<Peer>
         requires { frame.old ≡ [] }
         ensures reply { option_map (λ peer. (station peer, frame.new)) result
             ≡ reply_of self.old (station from) datagram.now }
         ensures silent { IfNone result (frame.new ≡ []) }
-        ensures after { self.new ≡ with_write self.old (write_of_datagram self.old (station from) datagram.now) }
-        ensures urgent { IfSome (write_of_datagram self.old (station from) datagram.now) IsUrgent }
+        ensures after { self.new ≡ with_write self.old (write_in_datagram self.old (station from) datagram.now) }
+        ensures urgent { IfSome (write_in_datagram self.old (station from) datagram.now) IsUrgent }
     {
         let carried = open_datagram(from, datagram)?;
         self.reply(carried.broadcast, carried.apdu, frame)?;

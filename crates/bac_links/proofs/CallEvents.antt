@@ -254,13 +254,6 @@ module _ (purpose : Purpose) (call : Call) (time : ℕ) (later : List Event)
   told_last : TellsPlaced (rules_for call) after (asked purpose call) (length before)
   told_last = told purpose call time (later ++ event ∷ []) short quiet_after (length before) (omega (arith, longer))
 
-  -- An end stands.
-  pub stands : (x : End) → end_in purpose call before ≡ Some x → end_in purpose call after ≡ Some x
-  stands x e =
-      ended_there x.position (asked purpose call).request (end_in purpose call after) x.outcome
-      (same_ends x.position (end_within purpose call time later short quiet x e)
-      ∙ told_there (asked purpose call).request (end_in purpose call before) x e)
-
   -- An end that comes with the event is placed there.
   end_is_last : end_in purpose call before ≡ None → (x : End) → end_in purpose call after ≡ Some x
       → x.position ≡ length before

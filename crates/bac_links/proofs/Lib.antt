@@ -1,4 +1,3 @@
-mod Courses
 mod Histories
 mod CallEvents
 mod CallTurns
@@ -6,6 +5,7 @@ mod Searches
 mod Servings
 mod Progress
 mod Unheard
+mod Asking
 pub mod Alike
 pub mod SearchesAlike
 pub mod ServingsAlike

@@ -1,27 +1,30 @@
--- A call whose turns are prompt ends in time.
-use Rattle.std.proofs.Common.{◌≡◌, ℕ, zero, suc, ◌+◌, ◌*◌, ◌<◌, ◌≤◌, max, List, [], ◌∷◌, ◌++◌, length, Option, Some}
-use Rattle.std.proofs.Common.{None, Result, Ok, Err, false, subst, arith, ap, sym, ◌∙◌, inl, inr}
-use Rattle.std.proofs.lemmas.List.{take_all, take-append-le}
+-- A call whose waits are prompt ends in time.
+use Rattle.std.proofs.Common.{◌≡◌, ℕ, suc, ◌+◌, ◌*◌, ◌<◌, ◌≤◌, max, List, [], ◌∷◌, ◌++◌, length, Option, Some}
+use Rattle.std.proofs.Common.{None, Result, subst, arith, ap, sym, ◌∙◌, inl, inr, refl}
+use Rattle.std.proofs.lemmas.List.{take_all, take-append-le, append-nil}
 use Rattle.std.proofs.lemmas.Bool.{cases_lt}
+use Rattle.std.specs.List.{last_or}
+use Rattle.bac_pdu.specs.Peer.{Station}
 use Rattle.bac_tsm.specs.Positions.{greatest_tick}
-use Rattle.bac_tsm.specs.Events.{Outcome, Event, Tick}
-use Rattle.bac_tsm.specs.Lookahead.{clock}
+use Rattle.bac_tsm.specs.Events.{Event, Tick}
+use Rattle.bac_tsm.specs.Lookahead.{End, clock}
 use Rattle.bac_tsm.proofs.Progress.{clock_rises, open_soon, never_due}
 use Rattle.bac_text.specs.declared.checked.Checked.{Checked}
-use Rattle.bac_links.specs.Foretold.{Foretold, after_wait, waited}
-use Rattle.bac_links.specs.Call.{rules_for, asked, events_of, entries_of, entries_to, has_ended, EndsIn}
-use Rattle.bac_links.specs.Call.{FailsToSend, Tells}
-use Rattle.bac_links.specs.History.{Entry, Posted, Unposted, foretold_after, Account, Over}
-use Rattle.bac_links.proofs.Courses.{was_due, wait_at}
-use Rattle.bac_links.proofs.Histories.{foretold_after-append, over_map}
-use Rattle.bac_links.proofs.CallTurns.{left_so}
-use Rattle.bac_links.specs.Inner.CallSteps.{wait_of}
-use Rattle.bac_links.specs.Progress.{IsPrompt}
+use Rattle.bac_links.specs.Foretold.{Heard, Silence, Arrival, Failure}
+use Rattle.bac_links.specs.History.{Entry, Waited, Timed, Posted, Unposted, Account}
+use Rattle.bac_links.specs.Asking.{Move, Asks, Question, ForDatagram, ForTime, question_of, Follows, waits_in}
+use Rattle.bac_links.specs.Handed.{handed_of}
+use Rattle.bac_links.specs.Call.{rules_for, asked, end_in, events_of, Comes, or_ended, move_behind, move, Tells}
+use Rattle.bac_links.specs.Progress.{AreTold, ArePrompt}
 use Rattle.bac_links.specs.declared.ending.Purpose.{Purpose}
 use Rattle.bac_links.specs.declared.ending.Exit.{Exit}
 use Rattle.bac_links.specs.declared.fault.ToolFault.{ToolFault}
-use Rattle.bac_links.specs.declared.fault.ToolFault.TheVariants.{SendFailed, ReceiveFailed, TurnsSpent, WriteFailed}
 use Rattle.bac_text.specs.declared.jobs.Call.{Call}
+use Rattle.bac_links.proofs.Alike.{went}
+use Rattle.bac_links.proofs.Asking.{last_push, played}
+use Rattle.bac_links.proofs.CallTurns.{handed_push}
+
+-- ---- the clock over some events
 
 all_by : (events : List Event) (j : ℕ) → length events ≤ j → clock events j ≡ greatest_tick events
 all_by events j le = ap greatest_tick (take_all j events le)
@@ -52,158 +55,203 @@ greatest_tick-append (Tick now ∷ first) next =
     greatest_tick-append first next in omega arith
 greatest_tick-append (_ ∷ first) next = greatest_tick-append first next
 
--- ---- what takes no longer than this
+-- ---- a send and a wait are asked for while the request is open
 
-module _ (longest : ℕ) where
-  prompt_first : (xs ys : List Entry) (t : Foretold) → IsPrompt longest (xs ++ ys) t → IsPrompt longest xs t
-  prompt_first [] ys t p = tt
-  prompt_first (x ∷ xs) ys t p = (p.0, prompt_first xs ys (foretold_after (x ∷ []) t) p.1)
+open_still : (x : Option End) (other : Move Comes) (question : Question) → or_ended x other ≡ Asks question → x ≡ None
+open_still None other question e = refl
+open_still (Some x) other question e = cc
 
-  prompt_then : (xs ys : List Entry) (t : Foretold) → IsPrompt longest (xs ++ ys) t
-      → IsPrompt longest ys (foretold_after xs t)
-  prompt_then [] ys t p = p
-  prompt_then (x ∷ xs) ys t p =
-      subst (IsPrompt longest ys) (sym (foretold_after-append (x ∷ []) xs t))
-      (prompt_then xs ys (foretold_after (x ∷ []) t) p.1)
+-- Behind these entries the time was told since the last wait.
+abbrev IsTimely : Entry → Type 0
+IsTimely (Timed time) = Unit {0}
+IsTimely (Posted to octets) = Unit {0}
+IsTimely _ = ⊥
 
-  prompt_both : (xs ys : List Entry) (t : Foretold) → IsPrompt longest xs t → IsPrompt longest ys (foretold_after xs t)
-      → IsPrompt longest (xs ++ ys) t
-  prompt_both [] ys t p q = q
-  prompt_both (x ∷ xs) ys t p q = (
-    p.0,
-    prompt_both xs ys (foretold_after (x ∷ []) t) p.1
-        (subst (IsPrompt longest ys) (foretold_after-append (x ∷ []) xs t) q),
-  )
+module _ (purpose : Purpose) (call : Call) where
+  abbrev IsOpen : List Entry → Type 0
+  IsOpen gained = end_in purpose call (events_of purpose call gained) ≡ None
 
-module _ (purpose : Purpose) (call : Call) (t : Foretold) (longest : ℕ) where
-  abbrev time_after : ℕ → ℕ
-  time_after n = (waited (wait_of call) n t).time []
+  for_time : (x : Option End) (question : Question) → or_ended x (Asks ForTime) ≡ Asks question → question ≡ ForTime
+  for_time None question e = cc
+  for_time (Some x) question e = cc
 
-  -- None of the first n turns takes longer.
-  abbrev IsSteady : ℕ → Type 0
-  IsSteady n = (k : ℕ) → k < n → time_after (suc k) ≤ time_after k + longest
+  -- What is asked but the time is asked once the time was told, of a call whose request is open.
+  ready : (gained : List Entry) (last : Entry) (question : Question) → (question ≡ ForTime → ⊥)
+      → ((to : Station) (octets : List ℕ) → last ≡ Posted to octets → IsOpen gained)
+      → move_behind purpose call gained (Some last) ≡ Asks question → IsTimely last × IsOpen gained
+  ready gained (Timed time) question other sent e = (tt, open_still _ _ question e)
+  ready gained (Posted to octets) question other sent e = (tt, sent to octets refl)
+  ready gained (Unposted to octets) question other sent e = cc
+  ready gained (Waited wait Failure) question other sent e = cc
+  ready gained (Waited wait Silence) question other sent e = absurd (other (for_time _ question e))
+  ready gained (Waited wait (Arrival from octets)) question other sent e = absurd (other (for_time _ question e))
 
-  fewer : (n : ℕ) → IsSteady (suc n) → IsSteady n
-  fewer n steady = λ k less. steady k (omega arith)
+  -- ---- one entry after another
 
-  greatest_next : (n : ℕ)
-      → greatest_tick (events_of purpose call t (suc n))
-      ≡ max (greatest_tick (events_of purpose call t n)) (time_after (suc n))
-  greatest_next n =
-      greatest_tick-append (events_of purpose call t n) _
-      ∙ ap (max (greatest_tick (events_of purpose call t n))) (grind arith)
+  module _ (time_behind : ℕ → ℕ) (longest first : ℕ) where
+    abbrev events : List Entry → List Event
+    events before = events_of purpose call (Timed first ∷ before)
 
-  reached : (n : ℕ) → time_after n ≤ greatest_tick (events_of purpose call t n)
-  reached zero = omega arith
-  reached (suc n) = omega (arith, greatest_next n)
+    abbrev open_bound : ℕ
+    open_bound = first + call.retries * (call.timeout + longest) + call.timeout
 
-  steady : (n : ℕ) → IsSteady n → (j : ℕ) → 1 < j
-      → clock (events_of purpose call t n) (suc j) ≤ clock (events_of purpose call t n) j + longest
-  steady zero turns j lt =
-      let here = all_by (events_of purpose call t 0) j (omega arith) in
-      let next = all_by (events_of purpose call t 0) (suc j) (omega arith) in
-      omega (arith, here, next)
-  steady (suc n) turns j lt =
-      let last = turns n (omega arith) in
-      steady_more longest (events_of purpose call t n) _ (steady n (fewer n turns))
-      (omega (arith, reached n, greatest_next n, last)) j lt
+    abbrev bound : ℕ
+    bound = first + suc call.retries * (call.timeout + longest)
 
-  -- While the request is open no more time has passed than this.
-  open_in_time : (n : ℕ) → IsSteady n → has_ended purpose call t n ≡ false
-      → time_after n ≤ t.time [] + call.retries * (call.timeout + longest) + call.timeout
-  open_in_time n turns still =
-      let all = events_of purpose call t n in
-      let soon : clock all (length all) ≤ clock all 2 + call.retries * (call.timeout + longest) + call.timeout =
-      open_soon (rules_for call) all 1 longest call.retries (length all) (steady n turns)
-      (never_due (rules_for call) all (asked purpose call) (grind (arith, still))) in
-      omega (arith, reached n, all_by all (length all) (omega arith), soon)
+    -- Of these events none moves the clock by more than so much; and this time was told.
+    record IsSteady (all : List Event) (now : ℕ) : Type 0 where
+      steady : (j : ℕ) → 1 < j → clock all (suc j) ≤ clock all j + longest
+      reached : now ≤ greatest_tick all
 
-  -- What was gained leaves a time within the bound, where nothing took longer.
-  abbrev pub InTime : List Entry → Type 0
-  InTime gained = IsPrompt longest gained t
-      → (foretold_after gained t).time [] ≤ t.time [] + suc call.retries * (call.timeout + longest)
+    events_push : (before : List Entry) (x : Entry) → events before ++ handed_of x ≡ events (before ++ x ∷ [])
+    events_push before x = ap (λ later. events [] ++ later) (sym (handed_push before x))
 
-  time_so : (n : ℕ) → (foretold_after (entries_of purpose call t n) t).time [] ≡ time_after n
-  time_so n = ap (λ (l : Foretold). l.time []) (left_so purpose call t n).1
+    further : (before : List Entry) (x : Entry) (now next : ℕ) → IsSteady (events before) now
+        → greatest_tick (handed_of x) ≤ now + longest → next ≤ max now (greatest_tick (handed_of x))
+        → IsSteady (events (before ++ x ∷ [])) next
+    further before x now next is small big =
+        let both = greatest_tick-append (events before) (handed_of x) in
+        subst (λ (all : List Event). IsSteady all next) (events_push before x) (record {
+          steady = steady_more longest (events before) (handed_of x) is.steady (omega (arith, both, small, is.reached));
+          reached = omega (arith, both, big, is.reached);
+        })
 
-  -- A further wait.
-  wait_so : (n : ℕ) (rest : List Entry) → IsPrompt longest (entries_of purpose call t n ++ wait_at call t n ∷ rest) t
-      → time_after (suc n) ≤ time_after n + longest
-  wait_so n rest prompt =
-      subst (λ (l : Foretold). l.time (wait_of call ∷ []) ≤ l.time [] + longest) (left_so purpose call t n).1
-      (prompt_then longest (entries_of purpose call t n) (wait_at call t n ∷ rest) t prompt).0
+    -- While the request is open no more time has passed than this.
+    open_in_time : (before : List Entry) (now : ℕ) → IsSteady (events before) now → IsOpen (Timed first ∷ before)
+        → now ≤ open_bound
+    open_in_time before now is still =
+        let all = events before in
+        let soon : clock all (length all) ≤ clock all 2 + call.retries * (call.timeout + longest) + call.timeout =
+        open_soon (rules_for call) all 1 longest call.retries (length all) is.steady
+        (never_due (rules_for call) all (asked purpose call) (grind (arith, still))) in
+        omega (arith, is.reached, all_by all (length all) (omega arith), soon)
 
-  turns_so : (n : ℕ) → IsPrompt longest (entries_of purpose call t n) t → IsSteady n
-  turns_so zero prompt = λ k less. absurd (omega arith)
-  turns_so (suc n) prompt = λ k less. elim (cases_lt k n) [
-    | inl before ↦ turns_so n (prompt_first longest (entries_of purpose call t n) _ t prompt) k before
-    | inr last ↦ let same : n ≡ k = omega arith in
-        subst (λ (k : ℕ). time_after (suc k) ≤ time_after k + longest) same (wait_so n _ prompt)
-  ]
+    -- What holds of the clock behind these entries, the last of which is this one, and n waits; `now` was told last.
+    record IsAt (before : List Entry) (last : Entry) (n now : ℕ) : Type 0 where
+      came_last : last_or (Some (Timed first)) before ≡ Some last
+      steady : IsSteady (events before) now
+      near : time_behind n ≤ now + longest
+      within : time_behind n ≤ bound
+      told : IsTimely last → time_behind n ≤ now
+      sent : (to : Station) (octets : List ℕ) → last ≡ Posted to octets → IsOpen (Timed first ∷ before)
 
-  open_so : (n : ℕ) → has_ended purpose call t n ≡ false → InTime (entries_of purpose call t n)
-  open_so n still prompt = let h = open_in_time n (turns_so n prompt) still in omega (arith, h, time_so n)
+    abbrev Goes : List Entry → List Entry → Type 0
+    Goes before rest = Follows (move purpose call) (Timed first ∷ before) rest
 
-  waited_so : (n : ℕ) → has_ended purpose call t n ≡ false
-      → InTime (entries_of purpose call t n ++ wait_at call t n ∷ [])
-  waited_so n still prompt =
-      let h = open_in_time n (turns_so n (prompt_first longest (entries_of purpose call t n) _ t prompt)) still in
-      let last = wait_so n [] prompt in
-      let time = ap (λ (l : Foretold). l.time [])
-      (foretold_after-append (entries_of purpose call t n) (wait_at call t n ∷ []) t
-      ∙ ap (after_wait (wait_of call)) (left_so purpose call t n).1) in
-      omega (arith, h, last, time)
+    -- Behind a send nothing else has changed.
+    at_send : (before : List Entry) (last x : Entry) (n now : ℕ) → IsAt before last n now → handed_of x ≡ []
+        → (question_of x ≡ ForTime → ⊥) → move purpose call (Timed first ∷ before) ≡ Asks (question_of x)
+        → IsAt (before ++ x ∷ []) x n now
+    at_send before last x n now is none other asks =
+        let asked = ready (Timed first ∷ before) last (question_of x) other is.sent
+        (ap (move_behind purpose call (Timed first ∷ before)) (sym is.came_last) ∙ asks) in
+        let same : events before ≡ events (before ++ x ∷ []) =
+        sym (append-nil (events before)) ∙ ap (λ (es : List Event). events before ++ es) (sym none)
+        ∙ events_push before x in
+        record {
+          came_last = last_push (Some (Timed first)) before x;
+          steady = subst (λ (all : List Event). IsSteady all now) same is.steady;
+          near = is.near;
+          within = is.within;
+          told = λ timely. is.told asked.0;
+          sent = λ to octets e. subst (λ (all : List Event). end_in purpose call all ≡ None) same asked.1;
+        }
 
-  ended_so : (n : ℕ) → has_ended purpose call t n ≡ false → InTime (entries_of purpose call t (suc n))
-  ended_so n still prompt =
-      let h = open_in_time n (turns_so n (prompt_first longest (entries_of purpose call t n) _ t prompt)) still in
-      let last = wait_so n _ prompt in
-      omega (arith, h, last, time_so (suc n))
+    at_wait : (before : List Entry) (last : Entry) (wait : ℕ) (heard : Heard) (n now : ℕ) → IsAt before last n now
+        → move purpose call (Timed first ∷ before) ≡ Asks (ForDatagram wait)
+        → time_behind (suc n) ≤ time_behind n + longest
+        → IsAt (before ++ Waited wait heard ∷ []) (Waited wait heard) (suc n) now
+    at_wait before last wait heard n now is asks prompt =
+        let asked = ready (Timed first ∷ before) last (ForDatagram wait) (λ e. cc) is.sent
+        (ap (move_behind purpose call (Timed first ∷ before)) (sym is.came_last) ∙ asks) in
+        let soon = open_in_time before now is.steady asked.1 in
+        let told = is.told asked.0 in
+        record {
+          came_last = last_push (Some (Timed first)) before (Waited wait heard);
+          steady = further before (Waited wait heard) now now is.steady (small heard) (omega arith);
+          near = omega (arith, told, prompt);
+          within = omega (arith, told, prompt, soon);
+          told = λ timely. absurd timely;
+          sent = λ to octets e. cc;
+        }
+      where
+        small : (heard : Heard) → greatest_tick (handed_of (Waited wait heard)) ≤ now + longest
+        small Silence = omega arith
+        small Failure = omega arith
+        small (Arrival from octets) = omega arith
 
-  in_time : (xs ys : List Entry) → xs ≡ ys → InTime ys → InTime xs
-  in_time xs ys e = subst InTime (sym e)
+    at_time : (before : List Entry) (last : Entry) (n now : ℕ) → IsAt before last n now
+        → IsAt (before ++ Timed (time_behind n) ∷ []) (Timed (time_behind n)) n (time_behind n)
+    at_time before last n now is = record {
+      came_last = last_push (Some (Timed first)) before (Timed (time_behind n));
+      steady = further before (Timed (time_behind n)) now (time_behind n) is.steady (omega (arith, is.near)) (omega arith);
+      near = omega arith;
+      within = is.within;
+      told = λ timely. omega arith;
+      sent = λ to octets e. cc;
+    }
 
-  at_end : (gained : List Entry) (ending : Option Outcome) (n : ℕ) → EndsIn purpose call t gained ending n
-      → InTime gained
-  at_end gained (Some outcome) n ends =
-      in_time _ _ ends.stops.0
-      (waited_so n
-      (was_due (wait_of call) t (has_ended purpose call t) n
-      (entries_to purpose call t (Some outcome)) gained ends.stops))
-  at_end gained None n ends =
-      in_time _ _ ends.stops.0
-      (ended_so n
-      (was_due (wait_of call) t (has_ended purpose call t) n (entries_to purpose call t None) gained ends.stops))
+    in_bound : (before : List Entry) (last : Entry) (n now : ℕ) (rest : List Entry) → IsAt before last n now
+        → Goes before rest → AreTold time_behind n rest
+        → ((k : ℕ) → k < n + waits_in rest → time_behind (suc k) ≤ time_behind k + longest)
+        → time_behind (n + waits_in rest) ≤ bound
+    in_bound before last n now [] is goes told prompt =
+        subst (λ (k : ℕ). time_behind k ≤ bound) (omega arith) is.within
+    in_bound before last n now (Waited wait heard ∷ rest) is goes told prompt =
+        let more : suc n + waits_in rest ≡ n + suc (waits_in rest) = omega arith in
+        subst (λ (k : ℕ). time_behind k ≤ bound) more
+        (in_bound (before ++ Waited wait heard ∷ []) (Waited wait heard) (suc n) now rest
+        (at_wait before last wait heard n now is goes.0 (prompt n (omega arith))) goes.1 told
+        (λ k less. prompt k (omega (arith, less, more))))
+    in_bound before last n now (Timed time ∷ rest) is goes told prompt =
+        in_bound (before ++ Timed time ∷ []) (Timed time) n time rest
+        (subst (λ (t : ℕ). IsAt (before ++ Timed t ∷ []) (Timed t) n t) (sym told.0) (at_time before last n now is))
+        goes.1 told.1 prompt
+    in_bound before last n now (Posted to octets ∷ rest) is goes told prompt =
+        in_bound (before ++ Posted to octets ∷ []) (Posted to octets) n now rest
+        (at_send before last (Posted to octets) n now is refl (λ e. cc) goes.0) goes.1 told prompt
+    in_bound before last n now (Unposted to octets ∷ rest) is goes told prompt =
+        in_bound (before ++ Unposted to octets ∷ []) (Unposted to octets) n now rest
+        (at_send before last (Unposted to octets) n now is refl (λ e. cc) goes.0) goes.1 told prompt
 
-  at_loss : (gained : List Entry) (n : ℕ) → FailsToSend purpose call t gained n → InTime gained
-  at_loss gained n fails = in_time _ _ fails.7 (λ prompt.
-      let lost = Unposted fails.4 fails.5 in
-      let due = Posted fails.4 fails.5 in
-      let before = prompt_first longest fails.3 (lost ∷ []) t prompt in
-      let all = subst (λ (xs : List Entry). IsPrompt longest xs t) (sym fails.6)
-      (prompt_both longest fails.3 (due ∷ []) t before (omega arith, tt)) in
-      let h = open_so n fails.2.unended all in
-      let posted = ap (λ (l : Foretold). l.time [])
-      (ap (λ (xs : List Entry). foretold_after xs t) fails.6 ∙ foretold_after-append fails.3 (due ∷ []) t) in
-      let unposted = ap (λ (l : Foretold). l.time []) (foretold_after-append fails.3 (lost ∷ []) t) in
-      omega (arith, h, posted, unposted))
+    begun : first ≡ time_behind 0 → IsAt [] (Timed first) 0 first
+    begun e = record {
+      came_last = refl;
+      steady = record {
+        steady = λ j lt.
+            let here = all_by (events []) j (omega arith) in
+            let next = all_by (events []) (suc j) (omega arith) in
+            omega (arith, here, next);
+        reached = omega arith;
+      };
+      near = omega (arith, e);
+      within = omega (arith, e);
+      told = λ timely. omega (arith, e);
+      sent = λ to octets e. cc;
+    }
 
-pub left_in_time : {W : Type 0} (contents : W → Option (List ℕ)) (purpose : Purpose) (call : Call)
-    (before after : Checked W)
-    (seen left : Account) (result : Result Exit ToolFault) (longest : ℕ) →
-    Tells purpose call contents before after seen left result
-    → Over seen left (λ gained t. InTime purpose call t longest gained)
-left_in_time contents purpose call before after seen left (Ok exit) longest tells =
-    over_map seen left _ _ tells.3 (λ gained t h. at_end purpose call t longest gained tells.0 h.0 h.1)
-left_in_time contents purpose call before after seen left (Err SendFailed) longest tells =
-    over_map seen left _ _ tells (λ gained t h. at_loss purpose call t longest gained h.0 h.1)
-left_in_time contents purpose call before after seen left (Err ReceiveFailed) longest tells =
-    over_map seen left _ _ tells
-    (λ gained t h.
-    in_time purpose call t longest _ _ h.2.0 (waited_so purpose call t longest h.0 h.2.2))
-left_in_time contents purpose call before after seen left (Err TurnsSpent) longest tells =
-    over_map seen left _ _ tells
-    (λ gained t h.
-    in_time purpose call t longest _ _ h.2.0 (open_so purpose call t longest h.0 h.2.2.unended))
-left_in_time contents purpose call before after seen left (Err WriteFailed) longest tells =
-    over_map seen left _ _ tells.2 (λ gained t h. at_end purpose call t longest gained tells.0 h.0 h.1)
+  in_time : (time_behind : ℕ → ℕ) (longest : ℕ) (gained : List Entry) → Follows (move purpose call) [] gained
+      → AreTold time_behind 0 gained → ArePrompt time_behind longest (waits_in gained)
+      → time_behind (waits_in gained) ≤ time_behind 0 + suc call.retries * (call.timeout + longest)
+  in_time time_behind longest [] follows told prompt = omega arith
+  in_time time_behind longest (Timed time ∷ more) follows told prompt =
+      let all : 0 + waits_in more ≡ waits_in more = omega arith in
+      subst (λ (t : ℕ). time_behind (waits_in more) ≤ t + suc call.retries * (call.timeout + longest)) told.0
+      (subst (λ (n : ℕ). time_behind n ≤ time + suc call.retries * (call.timeout + longest)) all
+      (in_bound time_behind longest time [] (Timed time) 0 time more (begun time_behind longest time told.0) follows.1
+      told.1 (λ n less. prompt n (omega (arith, less, all)))))
+  in_time time_behind longest (Waited wait heard ∷ more) follows told prompt = let asks = follows.0 in cc
+  in_time time_behind longest (Posted to octets ∷ more) follows told prompt = let asks = follows.0 in cc
+  in_time time_behind longest (Unposted to octets ∷ more) follows told prompt = let asks = follows.0 in cc
+
+pub told_in_time : {W : Type 0} (contents : W → Option (List ℕ)) (purpose : Purpose) (call : Call)
+    (before after : Checked W) (seen left : Account) (result : Result Exit ToolFault) (gained : List Entry)
+    (time_behind : ℕ → ℕ) (longest : ℕ) → Tells purpose call contents before after seen left result
+    → left.history ≡ seen.history ++ gained → AreTold time_behind 0 gained
+    → ArePrompt time_behind longest (waits_in gained)
+    → time_behind (waits_in gained) ≤ time_behind 0 + suc call.retries * (call.timeout + longest)
+told_in_time contents purpose call before after seen left result gained time_behind longest tells gains =
+    let it = went purpose call contents before after seen left result tells in
+    in_time purpose call time_behind longest gained
+    (subst (Follows (move purpose call) []) (played (move purpose call) seen left it.comes gained it.plays gains)
+    it.plays.follows)

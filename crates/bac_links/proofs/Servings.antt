@@ -1,282 +1,305 @@
 -- A device that serves, wait by wait.
-use Rattle.std.proofs.Common.{◌≡◌, ◌≢◌, ℕ, suc, ◌+◌, ◌<◌, ◌≤◌, List, [], ◌∷◌, ◌++◌, length, length-append, Option, Some}
-use Rattle.std.proofs.Common.{None, Ok, Err, map, refl, sym, ap, ◌∙◌, arith, append_assoc, subst}
-use Rattle.std.specs.Option.{option_to_list}
+use Rattle.std.proofs.Common.{◌≡◌, ◌≢◌, ℕ, suc, ◌+◌, ◌<◌, List, [], ◌∷◌, ◌++◌, length, length-append, Option, Some}
+use Rattle.std.proofs.Common.{None, Result, Ok, Err, refl, sym, ap, ◌∙◌, arith, append_assoc, subst}
+use Rattle.std.specs.List.{last_or}
 use Rattle.std.proofs.lemmas.List.{append-nil}
 use Rattle.std.proofs.lemmas.List.Concat.{flat_map-append}
 use Rattle.std.proofs.lemmas.Bool.{le-leb, lt-leb}
 use Rattle.bac_pdu.specs.Peer.{Station}
-use Rattle.bac_device.specs.Places.{Write}
-use Rattle.bac_device.specs.Device.{DeviceState, Holds}
-use Rattle.bac_device.specs.Turns.{Arrival as Came, AnswersInTurn, AreDefined}
+use Rattle.bac_device.specs.Device.{DeviceState}
+use Rattle.bac_device.specs.Turns.{Arrival as Came, RepliesInTurn}
+use Rattle.bac_device.specs.Reply.{reply_of}
 use Rattle.bac_device.proofs.StateLaws.{in_turn}
 use Rattle.bac_links.specs.Limits.{most_turns, serve_wait}
-use Rattle.bac_links.specs.Foretold.{Foretold, Heard, Silence, Arrival, Failure, Sending, after_wait, waited}
-use Rattle.bac_links.specs.History.{Entry, Waited, Posted, Unposted, foretold_after, Foretells, Account, Over}
-use Rattle.bac_links.specs.Serve.{came_by, heards, arrivals_in, serve_entries, all_came, Serves}
-use Rattle.bac_links.specs.Courses.{heard_in, first_below, stops_at, GoesOn}
-use Rattle.bac_links.proofs.Courses.{none_yet, one_more, ends_now, fails_now, having_nothing, having_sent}
-use Rattle.bac_links.proofs.Courses.{having_sent-both}
-use Rattle.bac_links.proofs.Histories.{Timely, foretold_after-append, over_none, over_map, over_on}
-use Rattle.bac_links.specs.Inner.ServeSteps.{came_in, replied_in, reply_count, ServesOne}
+use Rattle.bac_links.specs.Foretold.{Heard, Silence, Arrival, Failure}
+use Rattle.bac_links.specs.History.{Entry, Waited, Posted, Unposted, Account, GainsAll}
+use Rattle.bac_links.specs.Asking.{Asks, Ends, ToSend, question_of, Follows, waits_in, turn_after}
+use Rattle.bac_links.specs.Serve.{came_by, came_of_entry, arrivals_in, device_next, device_behind, replies_of}
+use Rattle.bac_links.specs.Serve.{reply_count, or_reply, serve_next, serve_behind, serve_move, Serves}
+use Rattle.bac_links.specs.Inner.ServeSteps.{came_in, replied_in, sends_of, LeavesDevice, ServesOne}
 use Rattle.bac_links.specs.declared.serving.Brought.{Brought}
 use Rattle.bac_links.specs.declared.fault.ToolFault.{ToolFault}
 use Rattle.bac_links.specs.declared.fault.ToolFault.TheVariants.{SendFailed, ReceiveFailed, TurnsSpent}
+use Rattle.bac_links.proofs.Asking.{last_push, follows_push, waits_push, turn_begins, turns_over}
+use Rattle.bac_links.proofs.Histories.{gains_both, gains_none}
 
--- A server after n waits, over what the link told: none of them failed, and before each fewer datagrams had come than
--- were asked for.
-pub record ServesOver (t : Foretold) (gained : List Entry) (arrivals : List Came)
-    (replies : List (Option (Station × List ℕ))) (count n : ℕ) : Type 0 where
-  pub passed : first_below (stops_at serve_wait t (all_came count t)) n ≡ None
-  pub came : arrivals ≡ arrivals_in (heards t n)
-  pub history : gained ≡ serve_entries (heards t n) replies
-  pub sent : List Sending
-  pub left : foretold_after gained t ≡ having_sent sent (waited serve_wait n t)
+abbrev Reply : Type 0
+Reply = Option (Station × List ℕ)
 
--- A server after n waits.
-pub record ServeGoes (before device : DeviceState) (seen link : Account) (count came replied n : ℕ) : Type 0 where
-  pub arrivals : List Came
-  pub replies : List (Option (Station × List ℕ))
-  pub in_turn : AnswersInTurn before arrivals replies device
-  pub came_is : came ≡ length arrivals
-  pub replied_is : replied ≡ reply_count replies
-  pub so_far : Over seen link (λ gained t. ServesOver t gained arrivals replies count n)
+abbrev AtMostOne : List Reply → Type 0
+AtMostOne [] = Unit {0}
+AtMostOne (r ∷ []) = Unit {0}
+AtMostOne (r ∷ s ∷ rs) = ⊥
+
+one_at_most : (device : DeviceState) (heard : Heard) → AtMostOne (replies_of device (came_by heard))
+one_at_most device (Arrival from octets) = tt
+one_at_most device Silence = tt
+one_at_most device Failure = tt
 
 -- ---- datagrams one after another
 
-turns-append : (before middle after : DeviceState) (xs ys : List Came) (rs ss : List (Option (Station × List ℕ))) →
-    AnswersInTurn before xs rs middle → AnswersInTurn middle ys ss after
-    → AnswersInTurn before (xs ++ ys) (rs ++ ss) after
+turns-append : (before middle after : DeviceState) (xs ys : List Came) (rs ss : List Reply) →
+    RepliesInTurn before xs rs middle → RepliesInTurn middle ys ss after
+    → RepliesInTurn before (xs ++ ys) (rs ++ ss) after
 turns-append before middle after [] ys [] ss first second =
-    subst (λ (d : DeviceState). AnswersInTurn d ys ss after) first second
+    subst (λ (d : DeviceState). RepliesInTurn d ys ss after) first second
 turns-append before middle after (x ∷ xs) ys (r ∷ rs) ss (next, one, rest) second =
     (next, one, turns-append next middle after xs ys rs ss rest second)
 turns-append before middle after _ ys _ ss first second = absurd first
 
-same_length : (before after : DeviceState) (xs : List Came) (rs : List (Option (Station × List ℕ)))
-    → AnswersInTurn before xs rs after → length xs ≡ length rs
-same_length before after [] [] turns = refl
-same_length before after (x ∷ xs) (r ∷ rs) (next, one, rest) = ap suc (same_length next after xs rs rest)
-same_length before after _ _ turns = absurd turns
+behind-append : (device : DeviceState) (xs ys : List Came)
+    → device_behind device (xs ++ ys) ≡ device_behind (device_behind device xs) ys
+behind-append device [] ys = refl
+behind-append device (x ∷ xs) ys = behind-append (device_next device x) xs ys
 
-defined : (before after : DeviceState) (xs : List Came) (rs : List (Option (Station × List ℕ)))
-    → AnswersInTurn before xs rs after → (writes : List Write) → Holds before writes
-    → AreDefined before writes xs rs after
-defined before after xs rs turns writes holds = in_turn before xs rs after writes turns holds
+replies-append : (device : DeviceState) (xs ys : List Came)
+    → replies_of device (xs ++ ys) ≡ replies_of device xs ++ replies_of (device_behind device xs) ys
+replies-append device [] ys = refl
+replies-append device (x ∷ xs) ys =
+    ap (λ (rs : List Reply). reply_of device x.from x.datagram ∷ rs) (replies-append (device_next device x) xs ys)
 
--- The send of a reply, where there is one.
-abbrev reply_entries : Option (Station × List ℕ) → List Entry
-reply_entries reply = map (λ (sent : Station × List ℕ). Posted sent.0 sent.1) (option_to_list reply)
+arrivals-push : (gained : List Entry) (x : Entry) → arrivals_in (gained ++ x ∷ []) ≡ arrivals_in gained ++ came_of_entry x
+arrivals-push gained x =
+    flat_map-append came_of_entry gained (x ∷ [])
+    ∙ ap (λ (cs : List Came). arrivals_in gained ++ cs) (append-nil (came_of_entry x))
 
-entries-append : (xs ys : List Heard) (rs ss : List (Option (Station × List ℕ))) → length (arrivals_in xs) ≡ length rs →
-    serve_entries (xs ++ ys) (rs ++ ss) ≡ serve_entries xs rs ++ serve_entries ys ss
-entries-append [] ys [] ss e = refl
-entries-append (Arrival from octets ∷ xs) ys (r ∷ rs) ss e =
-    ap (λ (zs : List Entry). Waited serve_wait (Arrival from octets) ∷ (reply_entries r ++ zs))
-    (entries-append xs ys rs ss (omega (arith, e)))
-    ∙ ap (λ (zs : List Entry). Waited serve_wait (Arrival from octets) ∷ zs)
-    (sym (append_assoc (reply_entries r) (serve_entries xs rs) (serve_entries ys ss)))
-entries-append (Silence ∷ xs) ys rs ss e =
-    ap (λ (zs : List Entry). Waited serve_wait Silence ∷ zs) (entries-append xs ys rs ss e)
-entries-append (Failure ∷ xs) ys rs ss e =
-    ap (λ (zs : List Entry). Waited serve_wait Failure ∷ zs) (entries-append xs ys rs ss e)
-entries-append _ ys _ ss e = absurd (omega (arith, e))
-
-pub arrivals-push : (xs : List Heard) (heard : Heard) → arrivals_in xs ++ came_by heard ≡ arrivals_in (xs ++ heard ∷ [])
-arrivals-push xs heard = simp (flat_map-append, append-nil)
-
-count-append : (rs ss : List (Option (Station × List ℕ))) → reply_count (rs ++ ss) ≡ reply_count rs + reply_count ss
+count-append : (rs ss : List Reply) → reply_count (rs ++ ss) ≡ reply_count rs + reply_count ss
 count-append rs ss = simp (flat_map-append, length-append)
 
--- ---- a wait
+-- ---- the next move
 
-one_came : (heard : Heard) → length (came_by heard) ≡ 1 → (last : Came) × (came_by heard ≡ last ∷ [])
-one_came (Arrival from octets) e = (_, refl)
-one_came _ e = absurd (omega (arith, e))
+module _ (count : ℕ) (before : DeviceState) where
+  behind : (gained : List Entry) (x : Entry)
+      → serve_move count before (gained ++ x ∷ []) ≡ serve_behind count before (gained ++ x ∷ []) (Some x)
+  behind gained x = ap (serve_behind count before (gained ++ x ∷ [])) (last_push None gained x)
 
--- Of what was foretold, a wait and its reply leave what comes after the wait.
-one_left : (heard : Heard) (replies : List (Option (Station × List ℕ))) (sent : List Sending) (t : Foretold)
-    → length (came_by heard) ≡ length replies →
-    (all : List Sending)
-    × (foretold_after (serve_entries (heard ∷ []) replies) (having_sent sent t)
-    ≡ having_sent all (after_wait serve_wait t))
-one_left (Arrival from octets) (None ∷ replies) sent t e = (sent, refl)
-one_left (Arrival from octets) (Some reply ∷ replies) sent t e = (_, having_sent-both (after_wait serve_wait t) sent _)
-one_left Silence replies sent t e = (sent, refl)
-one_left Failure replies sent t e = (sent, refl)
-one_left _ _ sent t e = absurd (omega (arith, e))
+  -- The replies after one wait more.
+  replies-push : (gained : List Entry) (device : DeviceState) → device ≡ device_behind before (arrivals_in gained)
+      → (x : Entry) → replies_of before (arrivals_in (gained ++ x ∷ []))
+      ≡ replies_of before (arrivals_in gained) ++ replies_of device (came_of_entry x)
+  replies-push gained device is x =
+      ap (replies_of before) (arrivals-push gained x)
+      ∙ replies-append before (arrivals_in gained) (came_of_entry x)
+      ∙ ap (λ (d : DeviceState). replies_of before (arrivals_in gained) ++ replies_of d (came_of_entry x)) (sym is)
 
-one_heard : (heard : Heard) (replies : List (Option (Station × List ℕ))) (t : Foretold)
-    → length (came_by heard) ≡ length replies →
-    Foretells (serve_entries (heard ∷ []) replies) t → t.heard [] serve_wait ≡ heard
-one_heard (Arrival from octets) (reply ∷ replies) t e f = f.0
-one_heard Silence replies t e f = f.0
-one_heard Failure replies t e f = f.0
-one_heard _ _ t e f = absurd (omega (arith, e))
+  behind_wait : (gained : List Entry) (device : DeviceState) → device ≡ device_behind before (arrivals_in gained)
+      → (heard : Heard) → heard ≢ Failure → (rs : List Reply) → replies_of device (came_by heard) ≡ rs →
+      serve_move count before (gained ++ Waited serve_wait heard ∷ [])
+      ≡ or_reply (last_or None rs) (serve_next count before (gained ++ Waited serve_wait heard ∷ []))
+  behind_wait gained device is Failure received rs e = absurd (received refl)
+  behind_wait gained device is Silence received rs e =
+      behind gained (Waited serve_wait Silence)
+      ∙ ap (λ (rs : List Reply). or_reply (last_or None rs)
+      (serve_next count before (gained ++ Waited serve_wait Silence ∷ []))) e
+  behind_wait gained device is (Arrival from octets) received rs e =
+      let x = Waited serve_wait (Arrival from octets) in
+      let next = serve_next count before (gained ++ x ∷ []) in
+      behind gained x
+      ∙ ap (λ (rs : List Reply). or_reply (last_or None rs) next) (replies-push gained device is x)
+      ∙ ap (λ (o : Option Reply). or_reply o next)
+      (last_push None (replies_of before (arrivals_in gained)) (reply_of device from octets))
+      ∙ ap (λ (rs : List Reply). or_reply (last_or None rs) next) e
 
-one_timely : (heard : Heard) (replies : List (Option (Station × List ℕ))) (now : ℕ)
-    → Timely (serve_entries (heard ∷ []) replies) now
-one_timely (Arrival from octets) [] now = (now, tt)
-one_timely (Arrival from octets) (None ∷ replies) now = (now, tt)
-one_timely (Arrival from octets) (Some reply ∷ replies) now = (now, tt)
-one_timely Silence replies now = (now, tt)
-one_timely Failure replies now = (now, tt)
+-- A server after n waits.
+pub record ServeGoes (before device : DeviceState) (seen link : Account) (count came replied n : ℕ) : Type 0 where
+  pub gained : List Entry
+  pub gains : GainsAll gained seen link
+  pub follows : Follows (serve_move count before) [] gained
+  pub next : serve_move count before gained ≡ serve_next count before gained
+  pub turns : waits_in gained ≡ n
+  pub device_is : device ≡ device_behind before (arrivals_in gained)
+  pub in_turn : RepliesInTurn before (arrivals_in gained) (replies_of before (arrivals_in gained)) device
+  pub came_is : came ≡ length (arrivals_in gained)
+  pub replied_is : replied ≡ reply_count (replies_of before (arrivals_in gained))
 
 pub serves_none : (device : DeviceState) (seen : Account) (count : ℕ) → ServeGoes device device seen seen count 0 0 0
 serves_none device seen count = record {
-  arrivals = [];
-  replies = [];
+  gained = [];
+  gains = gains_none seen;
+  follows = tt;
+  next = refl;
+  turns = refl;
+  device_is = refl;
   in_turn = refl;
   came_is = refl;
   replied_is = refl;
-  so_far = over_none seen _ (λ t. record {
-    passed = none_yet (stops_at serve_wait t (all_came count t));
-    came = refl;
-    history = refl;
-    sent = [];
-    left = having_nothing t;
-  });
 }
 
 module _ (before device : DeviceState) (seen mid : Account) (count came replied n : ℕ)
     (goes : ServeGoes before device seen mid count came replied n) where
-  -- Over what was foretold.
-  module _ (gained : List Entry) (t : Foretold) (far : ServesOver t gained goes.arrivals goes.replies count n) where
-    came_is : length (arrivals_in (heards t n)) ≡ came
-    came_is = sym (goes.came_is ∙ ap length far.came)
+  -- How it ends.
+  served : (result : Result ℕ ToolFault) → serve_move count before goes.gained ≡ Ends result
+      → Serves count before device seen mid result
+  served result over = record {
+    plays = record { gained = goes.gained; gains = goes.gains; follows = goes.follows; over = over };
+    device = goes.device_is;
+    defined = λ writes holds.
+        in_turn before (arrivals_in goes.gained) (replies_of before (arrivals_in goes.gained)) device writes
+        goes.in_turn holds;
+  }
 
-    waits_on : came < count → GoesOn serve_wait t (all_came count t) n
-    waits_on fewer =
-        record {
-          passed = far.passed;
-          unended = lt-leb count (length (arrivals_in (heards t n))) (omega (arith, fewer, came_is));
-        }
+  pub serve_done : came ≡ count → Serves count before device seen mid (Ok replied)
+  serve_done all =
+      served (Ok replied)
+      (goes.next
+      ∙ rw (le-leb count (length (arrivals_in goes.gained)) (omega (arith, all, goes.came_is)), ← goes.replied_is) refl)
 
-    hears_so : (heard : Heard) → (foretold_after gained t).heard [] serve_wait ≡ heard → heard_in serve_wait t n ≡ heard
-    hears_so heard f = sym (ap (λ (l : Foretold). l.heard [] serve_wait) far.left) ∙ f
-
-    came_next : (heard : Heard) → heard_in serve_wait t n ≡ heard
-        → goes.arrivals ++ came_by heard ≡ arrivals_in (heards t (suc n))
-    came_next heard e =
-        ap (λ (xs : List Came). xs ++ came_by heard) far.came
-        ∙ ap (λ (h : Heard). arrivals_in (heards t n) ++ came_by h) (sym e)
-        ∙ arrivals-push (heards t n) (heard_in serve_wait t n)
-
-    entries_next : (answers : List (Option (Station × List ℕ)))
-        → serve_entries (heards t (suc n)) (goes.replies ++ answers)
-        ≡ serve_entries (heards t n) goes.replies ++ serve_entries (heard_in serve_wait t n ∷ []) answers
-    entries_next answers =
-        entries-append (heards t n) (heard_in serve_wait t n ∷ []) goes.replies answers
-        (came_is ∙ goes.came_is ∙ same_length before device goes.arrivals goes.replies goes.in_turn)
-
-    -- What was gained, and what the wait brings behind it.
-    behind : (more : Heard → List Entry) (heard : Heard) → heard_in serve_wait t n ≡ heard →
-        gained ++ more heard ≡ serve_entries (heards t n) goes.replies ++ more (heard_in serve_wait t n)
-    behind more heard e =
-        ap (λ (xs : List Entry). xs ++ more heard) far.history
-        ∙ ap (λ (h : Heard). serve_entries (heards t n) goes.replies ++ more h) (sym e)
-
-  pub serve_done : came ≡ count → n ≤ most_turns → Serves count before device seen mid (Ok replied)
-  serve_done all within = (
-    goes.arrivals,
-    goes.replies,
-    defined before device goes.arrivals goes.replies goes.in_turn,
-    (
-      (sym goes.came_is ∙ all, goes.replied_is),
-      over_map seen mid _ _ goes.so_far (λ gained t far.
-          let enough = le-leb count (length (arrivals_in (heards t n))) (omega (arith, all, came_is gained t far)) in
-          let entries = λ (n : ℕ). serve_entries (heards t n) goes.replies in (
-            n,
-            far.came,
-            ends_now serve_wait t
-                (all_came count t) n entries gained far.passed enough within far.history,
-          )),
-    ),
-  )
+  turn_so : came < count → serve_move count before goes.gained ≡ turn_after serve_wait n
+  turn_so fewer =
+      goes.next
+      ∙ rw (lt-leb count (length (arrivals_in goes.gained)) (omega (arith, fewer, goes.came_is)), goes.turns) refl
 
   pub serve_spent : n ≡ most_turns → came < count → Serves count before device seen mid (Err TurnsSpent)
-  serve_spent all fewer = (
-    goes.arrivals,
-    goes.replies,
-    defined before device goes.arrivals goes.replies goes.in_turn,
-    (
-      tt,
-      over_map seen mid _ _ goes.so_far (λ gained t far.
-          (n, far.came, (far.history, all, waits_on gained t far fewer))),
-    ),
-  )
+  serve_spent all fewer =
+      served (Err TurnsSpent) (turn_so fewer ∙ turns_over serve_wait n (omega (arith, all)))
 
-  pub serve_on : (after : DeviceState) (left : Account) → came < count → (brings : Brought)
+  -- One wait more.
+  module _ (after : DeviceState) (left : Account) (within : n < most_turns) (fewer : came < count) (heard : Heard) where
+    abbrev waited : List Entry
+    waited = goes.gained ++ Waited serve_wait heard ∷ []
+
+    follows_waited : Follows (serve_move count before) [] waited
+    follows_waited =
+        follows_push (serve_move count before) [] goes.gained (Waited serve_wait heard) goes.follows
+        (turn_so fewer ∙ turn_begins serve_wait n within)
+
+    gains_waited : (rest : List Entry) → GainsAll (Waited serve_wait heard ∷ rest) mid left
+        → GainsAll (waited ++ rest) seen left
+    gains_waited rest more =
+        subst (λ (xs : List Entry). GainsAll xs seen left)
+        (sym (append_assoc goes.gained (Waited serve_wait heard ∷ []) rest))
+        (gains_both goes.gained (Waited serve_wait heard ∷ rest) seen mid left goes.gains more)
+
+    gains_one : GainsAll (Waited serve_wait heard ∷ []) mid left → GainsAll waited seen left
+    gains_one more = gains_both goes.gained (Waited serve_wait heard ∷ []) seen mid left goes.gains more
+
+    -- What holds of these entries behind the wait, where they are no further waits.
+    record IsBehind (gained : List Entry) : Type 0 where
+      brought : arrivals_in gained ≡ arrivals_in goes.gained ++ came_by heard
+      waits : waits_in gained ≡ suc n
+
+    behind_waited : IsBehind waited
+    behind_waited = record {
+      brought = arrivals-push goes.gained (Waited serve_wait heard);
+      waits = let one = waits_push goes.gained (Waited serve_wait heard) in omega (arith, one, goes.turns);
+    }
+
+    behind_sent : (x : Entry) → came_of_entry x ≡ [] → waits_in (x ∷ []) ≡ 0 → IsBehind (waited ++ x ∷ [])
+    behind_sent x none still = record {
+      brought = arrivals-push waited x ∙ ap (λ (cs : List Came). arrivals_in waited ++ cs) none
+          ∙ append-nil (arrivals_in waited) ∙ behind_waited.brought;
+      waits = let one = waits_push waited x in let two = behind_waited.waits in omega (arith, one, two, still);
+    }
+
+    module _ (leaves : LeavesDevice device heard after) (gained : List Entry) (is : IsBehind gained) where
+      replies_are : replies_of before (arrivals_in gained)
+          ≡ replies_of before (arrivals_in goes.gained) ++ replies_of device (came_by heard)
+      replies_are =
+          ap (replies_of before) is.brought ∙ replies-append before (arrivals_in goes.gained) (came_by heard)
+          ∙ ap (λ (d : DeviceState). replies_of before (arrivals_in goes.gained) ++ replies_of d (came_by heard))
+          (sym goes.device_is)
+
+      device_is : after ≡ device_behind before (arrivals_in gained)
+      device_is =
+          leaves.0 ∙ ap (λ (d : DeviceState). device_behind d (came_by heard)) goes.device_is
+          ∙ sym (behind-append before (arrivals_in goes.gained) (came_by heard))
+          ∙ ap (device_behind before) (sym is.brought)
+
+      turns_are : RepliesInTurn before (arrivals_in gained) (replies_of before (arrivals_in gained)) after
+      turns_are =
+          subst (λ (cs : List Came). RepliesInTurn before cs (replies_of before (arrivals_in gained)) after)
+          (sym is.brought)
+          (subst (λ (rs : List Reply). RepliesInTurn before (arrivals_in goes.gained ++ came_by heard) rs after)
+          (sym replies_are)
+          (turns-append before device after (arrivals_in goes.gained) (came_by heard)
+          (replies_of before (arrivals_in goes.gained)) (replies_of device (came_by heard)) goes.in_turn leaves.1))
+
+      on_with : (brings : Brought) → came_in brings ≡ length (came_by heard)
+          → replied_in brings ≡ reply_count (replies_of device (came_by heard)) → GainsAll gained seen left
+          → Follows (serve_move count before) [] gained
+          → serve_move count before gained ≡ serve_next count before gained
+          → ServeGoes before after seen left count (came + came_in brings) (replied + replied_in brings) (suc n)
+      on_with brings came_so replied_so gains follows next = record {
+        gained = gained;
+        gains = gains;
+        follows = follows;
+        next = next;
+        turns = is.waits;
+        device_is = device_is;
+        in_turn = turns_are;
+        came_is = rw (is.brought, goes.came_is, came_so) (sym (length-append (arrivals_in goes.gained) (came_by heard)));
+        replied_is = rw (replies_are, goes.replied_is, replied_so)
+            (sym (count-append (replies_of before (arrivals_in goes.gained)) (replies_of device (came_by heard))));
+      }
+
+      fails_with : (result : Result ℕ ToolFault) → GainsAll gained seen left
+          → Follows (serve_move count before) [] gained → serve_move count before gained ≡ Ends result
+          → Serves count before after seen left result
+      fails_with result gains follows over = record {
+        plays = record { gained = gained; gains = gains; follows = follows; over = over };
+        device = device_is;
+        defined = λ writes holds.
+            in_turn before (arrivals_in gained) (replies_of before (arrivals_in gained)) after writes turns_are holds;
+      }
+
+    module _ (received : heard ≢ Failure) where
+      follows_sent : (x : Entry) (reply : Station × List ℕ) → replies_of device (came_by heard) ≡ Some reply ∷ []
+          → ToSend reply.0 reply.1 ≡ question_of x → Follows (serve_move count before) [] (waited ++ x ∷ [])
+      follows_sent x reply e asks =
+          follows_push (serve_move count before) [] waited x follows_waited
+          (behind_wait count before goes.gained device goes.device_is heard received (Some reply ∷ []) e
+          ∙ ap (λ q. Asks q) asks)
+
+      next_silent : (rs : List Reply) → replies_of device (came_by heard) ≡ rs → AtMostOne rs → sends_of rs ≡ []
+          → serve_move count before waited ≡ serve_next count before waited
+      next_silent [] e few none =
+          behind_wait count before goes.gained device goes.device_is heard received [] e
+      next_silent (None ∷ []) e few none =
+          behind_wait count before goes.gained device goes.device_is heard received (None ∷ []) e
+      next_silent (Some reply ∷ []) e few none = cc
+      next_silent (r ∷ s ∷ rs) e few none = absurd few
+
+  pub serve_on : (after : DeviceState) (left : Account) → n < most_turns → came < count → (brings : Brought)
       → ServesOne device after mid left (Ok brings) →
       ServeGoes before after seen left count (came + came_in brings) (replied + replied_in brings) (suc n)
-  serve_on after left fewer brings one =
-      let as_many = same_length device after (came_by one.0) one.1 one.2 in
-      record {
-        arrivals = goes.arrivals ++ came_by one.0;
-        replies = goes.replies ++ one.1;
-        in_turn = turns-append before device after goes.arrivals (came_by one.0) goes.replies one.1 goes.in_turn one.2;
-        came_is = rw (goes.came_is, one.4) (sym (length-append goes.arrivals (came_by one.0)));
-        replied_is = rw (goes.replied_is, one.5) (sym (count-append goes.replies one.1));
-        so_far = over_on seen mid left _ _ goes.so_far (serve_entries (one.0 ∷ []) one.1) one.6 (one_timely one.0 one.1)
-            (λ gained t far f.
-            let e = hears_so gained t far one.0 (one_heard one.0 one.1 _ as_many f) in
-            let next = one_left one.0 one.1 far.sent (waited serve_wait n t) as_many in
-            record {
-              passed = one_more serve_wait t (all_came count t) n (waits_on gained t far fewer)
-                  (subst (λ (h : Heard). h ≢ Failure) (sym e) one.3);
-              came = came_next gained t far one.0 e;
-              history = behind gained t far (λ h. serve_entries (h ∷ []) one.1) one.0 e
-                  ∙ sym (entries_next gained t far one.1);
-              sent = next.0;
-              left =
-                  foretold_after-append gained (serve_entries (one.0 ∷ []) one.1) t
-                  ∙ ap (foretold_after (serve_entries (one.0 ∷ []) one.1)) far.left
-                  ∙ next.1;
-            });
-      }
+  serve_on after left within fewer brings (heard, leaves, received, came_so, replied_so, gains) =
+      go (replies_of device (came_by heard)) refl (one_at_most device heard) gains
+    where
+      silent : (rs : List Reply) → replies_of device (came_by heard) ≡ rs → AtMostOne rs → sends_of rs ≡ []
+          → GainsAll (Waited serve_wait heard ∷ []) mid left →
+          ServeGoes before after seen left count (came + came_in brings) (replied + replied_in brings) (suc n)
+      silent rs e few none more =
+          on_with after left within fewer heard leaves (waited after left within fewer heard)
+          (behind_waited after left within fewer heard) brings came_so replied_so
+          (gains_one after left within fewer heard more) (follows_waited after left within fewer heard)
+          (next_silent after left within fewer heard received rs e few none)
+
+      go : (rs : List Reply) → replies_of device (came_by heard) ≡ rs → AtMostOne rs
+          → GainsAll (Waited serve_wait heard ∷ sends_of rs) mid left →
+          ServeGoes before after seen left count (came + came_in brings) (replied + replied_in brings) (suc n)
+      go [] e few more = silent [] e few refl more
+      go (None ∷ []) e few more = silent (None ∷ []) e few refl more
+      go (Some reply ∷ []) e few more =
+          let x = Posted reply.0 reply.1 in
+          on_with after left within fewer heard leaves (waited after left within fewer heard ++ x ∷ [])
+          (behind_sent after left within fewer heard x refl refl) brings came_so replied_so
+          (gains_waited after left within fewer heard (x ∷ []) more)
+          (follows_sent after left within fewer heard received x reply e refl)
+          (behind count before (waited after left within fewer heard) x)
+      go (r ∷ s ∷ rs) e few more = absurd few
 
   pub serve_fails : (after : DeviceState) (left : Account) → n < most_turns → came < count → (fault : ToolFault)
       → ServesOne device after mid left (Err fault) → Serves count before after seen left (Err fault)
-  serve_fails after left within fewer SendFailed one = (
-    goes.arrivals ++ came_by one.0,
-    goes.replies ++ Some one.1 ∷ [],
-    defined before after (goes.arrivals ++ came_by one.0) (goes.replies ++ Some one.1 ∷ [])
-        (turns-append before device after goes.arrivals (came_by one.0) goes.replies (Some one.1 ∷ []) goes.in_turn
-        one.2),
-    over_on seen mid left _ _ goes.so_far (Waited serve_wait one.0 ∷ Unposted one.1.0 one.1.1 ∷ []) one.4
-        (λ now. (now, tt)) (λ gained t far f.
-        let e = hears_so gained t far one.0 f.0 in
-        let last = one_came one.0 (same_length device after (came_by one.0) (Some one.1 ∷ []) one.2) in (
-          n,
-          (
-            within,
-            waits_on gained t far fewer,
-            last.0,
-            ap came_by e ∙ last.1,
-            came_next gained t far one.0 e,
-            goes.replies,
-            one.1,
-            refl,
-            behind gained t far (λ h. Waited serve_wait h ∷ Unposted one.1.0 one.1.1 ∷ []) one.0 e,
-          ),
-        )),
-  )
-  serve_fails after left within fewer ReceiveFailed one = (
-    goes.arrivals,
-    goes.replies,
-    defined before after goes.arrivals goes.replies
-        (subst (AnswersInTurn before goes.arrivals goes.replies) (sym one.0) goes.in_turn),
-    (
-      tt,
-      over_on seen mid left _ _ goes.so_far (Waited serve_wait Failure ∷ []) one.1 (λ now. (now, tt))
-          (λ gained t far f.
-          let e = hears_so gained t far Failure f.0 in
-          let entries = λ (n : ℕ). serve_entries (heards t n) goes.replies in (
-            n,
-            far.came,
-            fails_now serve_wait t (all_came count t) n entries _ (waits_on gained t far fewer) e within
-                (behind gained t far (λ h. Waited serve_wait h ∷ []) Failure e),
-          )),
-    ),
-  )
+  serve_fails after left within fewer SendFailed (heard, reply, leaves, received, e, gains) =
+      let x = Unposted reply.0 reply.1 in
+      fails_with after left within fewer heard leaves (waited after left within fewer heard ++ x ∷ [])
+      (behind_sent after left within fewer heard x refl refl) (Err SendFailed)
+      (gains_waited after left within fewer heard (x ∷ []) gains)
+      (follows_sent after left within fewer heard received x reply e refl)
+      (behind count before (waited after left within fewer heard) x)
+  serve_fails after left within fewer ReceiveFailed (same, gains) =
+      fails_with after left within fewer Failure (same, same) (waited after left within fewer Failure)
+      (behind_waited after left within fewer Failure) (Err ReceiveFailed)
+      (gains_one after left within fewer Failure gains) (follows_waited after left within fewer Failure)
+      (behind count before goes.gained (Waited serve_wait Failure))
   serve_fails after left within fewer _ one = absurd one

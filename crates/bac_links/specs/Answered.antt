@@ -1,7 +1,12 @@
 -- What a link answered to what it was asked, and that who is answered alike asks alike.
-use Rattle.std.specs.Prelude.{◌≡◌, ℕ, List, ◌++◌, map}
+use Rattle.std.specs.Prelude.{◌≡◌, ℕ, List, [], ◌∷◌, ◌++◌, map, Option, Result, Err}
+use Rattle.bac_text.specs.declared.checked.Checked.{Checked}
+use Rattle.bac_text.specs.Checked.{Took, TakesFront}
 use Rattle.bac_links.specs.Foretold.{Heard}
 use Rattle.bac_links.specs.History.{Entry, Waited, Timed, Posted, Unposted, Account}
+use Rattle.bac_links.specs.Asking.{question_of}
+use Rattle.bac_links.specs.declared.fault.ToolFault.{ToolFault}
+use Rattle.bac_links.specs.declared.fault.ToolFault.TheVariants.{WriteFailed}
 
 -- What a link answered: what a wait brought, the time, that a datagram was sent, or that it could not be.
 pub data Answer : Type 0 where
@@ -10,6 +15,7 @@ pub data Answer : Type 0 where
   Sends : Answer
   Loses : Answer
 
+-- The answer in an entry, and those among entries.
 abbrev pub answer_of : Entry → Answer
 answer_of (Waited wait heard) = Brings heard
 answer_of (Timed time) = Shows time
@@ -19,10 +25,38 @@ answer_of (Unposted to octets) = Loses
 abbrev pub answers_of : List Entry → List Answer
 answers_of = map answer_of
 
-module _ {A : Type 0} (Runs Others : Account → Account → A → Type 0) (Alike : A → A → Type 0) where
-  -- Two runs, over any two links, that were answered alike asked alike, and their results are alike in this sense.
+-- Two runs, of which these entries are left, go on alike: both ask the same next; or both are over, and ended alike and
+-- printed alike; or one was cut off, and they printed alike.
+abbrev pub GoOnAlike : {A : Type 0} → (IsCutOff : A → Type 0) → (EndAlike PrintAlike : A → A → Type 0)
+    → (result other : A) → (rest other_rest : List Entry) → Type 0
+GoOnAlike IsCutOff EndAlike PrintAlike result other [] [] = EndAlike result other × PrintAlike result other
+GoOnAlike IsCutOff EndAlike PrintAlike result other (entry ∷ later) (other_entry ∷ other_later) =
+    question_of entry ≡ question_of other_entry
+GoOnAlike IsCutOff EndAlike PrintAlike result other [] other_rest = IsCutOff result × PrintAlike result other
+GoOnAlike IsCutOff EndAlike PrintAlike result other rest [] = IsCutOff other × PrintAlike result other
+
+module _ {A : Type 0} (Runs Others : Account → Account → A → Type 0) (IsCutOff : A → Type 0)
+    (EndAlike PrintAlike : A → A → Type 0) where
+  -- Two runs, over any two links: as far as they were answered alike they asked alike, and so they go on.
   abbrev pub AskAlike : Type 0
-  AskAlike = (seen left other_seen other_left : Account) (result other : A) (gained other_gained : List Entry)
-      → Runs seen left result → Others other_seen other_left other
-      → left.history ≡ seen.history ++ gained → other_left.history ≡ other_seen.history ++ other_gained
-      → answers_of gained ≡ answers_of other_gained → (gained ≡ other_gained) × Alike result other
+  AskAlike = (seen left other_seen other_left : Account) (result other : A)
+      (first rest other_first other_rest : List Entry) → Runs seen left result → Others other_seen other_left other
+      → left.history ≡ seen.history ++ (first ++ rest)
+      → other_left.history ≡ other_seen.history ++ (other_first ++ other_rest)
+      → answers_of first ≡ answers_of other_first
+      → (first ≡ other_first) × GoOnAlike IsCutOff EndAlike PrintAlike result other rest other_rest
+
+-- ---- what was printed
+
+-- With this result a writer took the text; where it failed, a front of it.
+abbrev pub Printed : {W A : Type 0} → (W → Option (List ℕ)) → Checked W → Checked W → List ℕ → Result A ToolFault → Type 0
+Printed contents before after text (Err WriteFailed) = TakesFront contents before after text
+Printed contents before after text result = Took contents before after text
+
+module _ {V W A : Type 0} (contents : V → Option (List ℕ)) (before after : Checked V)
+    (other_contents : W → Option (List ℕ)) (other_before other_after : Checked W) where
+  -- Two runs with these results printed one text, each to its writer. So where one writer failed, it took a front of
+  -- what the other took.
+  abbrev pub OneText : (result other : Result A ToolFault) → Type 0
+  OneText result other = (text : List ℕ) × Printed contents before after text result
+      × Printed other_contents other_before other_after text other

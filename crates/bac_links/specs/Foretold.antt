@@ -1,5 +1,5 @@
 -- What a link foretells: what each wait will hear and what the time will be then, by the waits; and what it sent.
-use Rattle.std.specs.Prelude.{ℕ, zero, suc, List, ◌∷◌, Option, Result, Some, None, Ok, Err}
+use Rattle.std.specs.Prelude.{ℕ, List, ◌∷◌, Option, Result, Some, None, Ok, Err}
 use Rattle.bac_pdu.specs.declared.peer.Peer.{Peer}
 use Rattle.bac_pdu.specs.Peer.{Station, station}
 use Rattle.bac_links.specs.declared.link.LinkFault.{LinkFault}
@@ -25,11 +25,6 @@ pub record Foretold : Type 0 where
 -- What a link foretells once it waited this long.
 abbrev pub after_wait : ℕ → Foretold → Foretold
 after_wait wait t = record t { heard = λ waits. t.heard (wait ∷ waits); time = λ waits. t.time (wait ∷ waits) }
-
--- What a link foretells once it waited n times, each time as long.
-abbrev pub waited : ℕ → ℕ → Foretold → Foretold
-waited wait zero t = t
-waited wait (suc n) t = after_wait wait (waited wait n t)
 
 -- What is heard where `receive` answers this and leaves these octets in its datagram.
 abbrev pub heard_by : Result (Option Peer) LinkFault → List ℕ → Heard

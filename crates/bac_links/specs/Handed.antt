@@ -1,15 +1,20 @@
--- What a client is handed in the course of a call, turn by turn, as the link foretells it.
-use Rattle.std.specs.Prelude.{ℕ, zero, suc, List, [], ◌∷◌, ◌++◌}
+-- What a client is handed of what a link was asked and answered.
+use Rattle.std.specs.Prelude.{List, [], ◌∷◌}
+use Rattle.std.specs.List.{flat_map}
 use Rattle.bac_tsm.specs.Events.{Event, Data, Tick}
-use Rattle.bac_links.specs.Foretold.{Foretold, Heard, Arrival, waited}
-use Rattle.bac_links.specs.Courses.{heard_in}
+use Rattle.bac_links.specs.Foretold.{Heard, Arrival}
+use Rattle.bac_links.specs.History.{Entry, Waited, Timed}
 
 -- What the client is handed of a wait: the datagram that was heard, if there was one.
 abbrev pub data_in : Heard → List Event
 data_in (Arrival from octets) = Data from octets ∷ []
 data_in _ = []
 
--- What the client is handed in the first n turns, each of which waits as long: what its wait hears, and then the time.
-abbrev pub turns : ℕ → Foretold → ℕ → List Event
-turns wait t zero = []
-turns wait t (suc n) = turns wait t n ++ (data_in (heard_in wait t n) ++ Tick ((waited wait (suc n) t).time []) ∷ [])
+abbrev pub handed_of : Entry → List Event
+handed_of (Waited wait heard) = data_in heard
+handed_of (Timed time) = Tick time ∷ []
+handed_of _ = []
+
+-- Each datagram that was heard, and each time that was told.
+abbrev pub handed : List Entry → List Event
+handed = flat_map handed_of

@@ -51,12 +51,3 @@ Gains entry = GainsAll (entry ∷ [])
 abbrev pub posted : {A E : Type 0} → Result A E → Station → List ℕ → Entry
 posted (Ok x) = Posted
 posted (Err e) = Unposted
-
--- What holds of a link before and after some calls, whatever it knew. Its history gained some entries. There is a t
--- that foretells them, and this holds of the entries and each t that does: what the link foretold, where it did, is
--- such a t.
-pub record Over (before after : Account) (P : List Entry → Foretold → Type 0) : Type 0 where
-  pub gained : List Entry
-  pub gains : GainsAll gained before after
-  pub some : (t : Foretold) × Foretells gained t
-  pub holds : (t : Foretold) → Foretells gained t → P gained t

@@ -1,10 +1,10 @@
 pub mod Limits
 pub mod Foretold
 pub mod History
+pub mod Asking
 pub mod Answered
 pub mod Memory
 pub mod Fault
-pub mod Courses
 pub mod Handed
 pub mod Ending
 pub mod Call

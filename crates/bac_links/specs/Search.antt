@@ -1,9 +1,8 @@
--- A search for devices over what its link foretells: what it sends, which devices it finds, what it prints, and when
--- it ends.
-use Rattle.std.specs.Prelude.{◌≡◌, ℕ, zero, suc, ◌-◌, ◌<◌, nat_le, nat_lt, max, ◌==◌, Bool, false, List, [], ◌∷◌, ◌++◌}
-use Rattle.std.specs.Prelude.{length, decimal, if◌then◌else◌, Option, Some, None, Result, Err, IfOk}
+-- A search for devices: what it asks of its link, which devices it finds, what it prints, and when it ends.
+use Rattle.std.specs.Prelude.{◌≡◌, ℕ, zero, suc, ◌-◌, nat_le, nat_lt, max, ◌==◌, false, List, [], ◌∷◌, ◌++◌, length}
+use Rattle.std.specs.Prelude.{decimal, if◌then◌else◌, Option, Some, None, Result, Ok, Err}
 use Rattle.std.specs.Option.{option_to_list}
-use Rattle.std.specs.List.{flat_map}
+use Rattle.std.specs.List.{flat_map, last_or}
 use Rattle.bac_wire.specs.Steps.{◌>>=◌}
 use Rattle.bac_text.specs.declared.checked.Checked.{Checked}
 use Rattle.bac_text.specs.Checked.{Took}
@@ -16,14 +15,14 @@ use Rattle.bac_pdu.specs.DatagramReading.{carried}
 use Rattle.bac_pdu.specs.Discovery.{Introduction, asks, who_is_octets}
 use Rattle.bac_pdu.specs.ValueReading.{introduction_of}
 use Rattle.bac_text.specs.PeerTexts.{peer_text}
-use Rattle.bac_links.specs.Limits.{most_turns, turn_wait}
-use Rattle.bac_links.specs.Foretold.{Foretold, Heard, Arrival, waited}
-use Rattle.bac_links.specs.History.{Entry, Posted, Unposted, Account, Over}
-use Rattle.bac_links.specs.Courses.{heard_in, wait_in, time_in, GoesOn, Stops}
+use Rattle.bac_links.specs.Limits.{turn_wait}
+use Rattle.bac_links.specs.Foretold.{Heard, Arrival, Failure}
+use Rattle.bac_links.specs.History.{Entry, Waited, Timed, Posted, Unposted, Account, GainsAll}
+use Rattle.bac_links.specs.Asking.{Move, Asks, Ends, ForTime, ToSend, Follows, Plays, waits_in, times_in, turn_after}
 use Rattle.bac_links.specs.declared.ending.Exit.{Exit}
 use Rattle.bac_links.specs.declared.ending.Exit.TheVariants.{Good, Bad}
 use Rattle.bac_links.specs.declared.fault.ToolFault.{ToolFault}
-use Rattle.bac_links.specs.declared.fault.ToolFault.TheVariants.{SendFailed, WriteFailed}
+use Rattle.bac_links.specs.declared.fault.ToolFault.TheVariants.{SendFailed, ReceiveFailed, WriteFailed}
 use Rattle.bac_text.specs.declared.jobs.Search.{Search}
 
 -- A device that introduced itself, and where it is.
@@ -58,54 +57,71 @@ found_line found =
     ++ 32 ∷ (decimal found.device.segmentation
     ++ 32 ∷ (decimal found.device.vendor ++ 10 ∷ []))))
 
+-- The greatest of these times, and how much greater it is than the first.
+abbrev pub greatest_of : ℕ → List ℕ → ℕ
+greatest_of greatest [] = greatest
+greatest_of greatest (time ∷ later) = greatest_of (max greatest time) later
+
+abbrev pub passed_in : List ℕ → ℕ
+passed_in [] = 0
+passed_in (first ∷ later) = greatest_of first later - first
+
 module _ (search : Search) where
   -- The Who-Is (8), which is sent once (clause 16.10).
   abbrev pub who_is_to : List ℕ
   who_is_to = wrapped (station search.to).route false (laid_out (unconfirmed 8 (who_is_octets search.who)))
 
-  module _ (t : Foretold) where
-    -- The devices that the first n turns find, in their order.
-    abbrev pub found_after : ℕ → List Found
-    found_after zero = []
-    found_after (suc n) = found_after n ++ found_by search.who (heard_in (turn_wait search.timeout) t n)
+  -- The devices that the waits among these entries find, in their order.
+  abbrev pub found_of_entry : Entry → List Found
+  found_of_entry (Waited wait heard) = found_by search.who heard
+  found_of_entry _ = []
 
-    -- The greatest time at the beginning and after each of the first n turns.
-    abbrev pub greatest_time : ℕ → ℕ
-    greatest_time zero = t.time []
-    greatest_time (suc n) = max (greatest_time n) ((waited (turn_wait search.timeout) (suc n) t).time [])
+  abbrev pub found_in : List Entry → List Found
+  found_in = flat_map found_of_entry
 
-    -- After n turns so much time has gone by since the beginning that the search is over.
-    abbrev pub is_late : ℕ → Bool
-    is_late n = nat_le search.timeout (greatest_time n - t.time [])
+  -- Behind a time and so many waits: behind none the Who-Is is due; else the search is over once the timeout has passed.
+  -- It is good to have found a device.
+  abbrev pub behind_time : List Entry → (waits : ℕ) → Move (Result Exit ToolFault)
+  behind_time gained zero = Asks (ToSend (station search.to) who_is_to)
+  behind_time gained (suc n) =
+      if nat_le search.timeout (passed_in (times_in gained))
+      then Ends (Ok (if nat_lt 0 (length (found_in gained)) then Good else Bad))
+      else turn_after (turn_wait search.timeout) (suc n)
 
-    -- What is asked and answered in n turns: the time first, and then the Who-Is is sent; in each turn a wait, and the
-    -- time.
-    abbrev pub search_entries : ℕ → List Entry
-    search_entries zero = time_in (turn_wait search.timeout) t zero ∷ Posted (station search.to) who_is_to ∷ []
-    search_entries (suc n) =
-        search_entries n ++ wait_in (turn_wait search.timeout) t n ∷ time_in (turn_wait search.timeout) t (suc n) ∷ []
+  -- The next move of a search, behind what came last: the time comes first, and after each wait.
+  abbrev pub search_behind : List Entry → Option Entry → Move (Result Exit ToolFault)
+  search_behind gained None = Asks ForTime
+  search_behind gained (Some (Timed time)) = behind_time gained (waits_in gained)
+  search_behind gained (Some (Posted to octets)) = turn_after (turn_wait search.timeout) (waits_in gained)
+  search_behind gained (Some (Unposted to octets)) = Ends (Err SendFailed)
+  search_behind gained (Some (Waited wait Failure)) = Ends (Err ReceiveFailed)
+  search_behind gained (Some (Waited wait heard)) = Asks ForTime
 
-    -- The line of the last of these devices, which turn n found, could not be written whole.
-    pub record SearchStops (gained : List Entry) (found : List Found) (last : Found) (n : ℕ) : Type 0 where
-      pub within : n < most_turns
-      pub before : GoesOn (turn_wait search.timeout) t is_late n
-      pub finds : found ≡ found_after n
-      pub heard : found_by search.who (heard_in (turn_wait search.timeout) t n) ≡ last ∷ []
-      pub history : gained ≡ search_entries n ++ wait_in (turn_wait search.timeout) t n ∷ []
+  abbrev pub search_move : List Entry → Move (Result Exit ToolFault)
+  search_move gained = search_behind gained (last_or None gained)
 
   module _ {W : Type 0} (contents : W → Option (List ℕ)) (before after : Checked W) (seen left : Account) where
+    -- A search that comes to its end, or meets a fault of its link: the lines of the devices that were found.
+    pub record IsWhole (result : Result Exit ToolFault) : Type 0 where
+      pub plays : Plays search_move seen left result
+      pub printed : Took contents before after (flat_map found_line (found_in plays.gained))
+
+    -- A search that was cut off: the line of the device that the last wait found could not be written whole.
+    pub record IsCutOff : Type 0 where
+      pub earlier : List Entry
+      pub wait : ℕ
+      pub heard : Heard
+      pub gains : GainsAll (earlier ++ Waited wait heard ∷ []) seen left
+      pub follows : Follows search_move [] (earlier ++ Waited wait heard ∷ [])
+      pub last : Found
+      pub finds : found_by search.who heard ≡ last ∷ []
+      pub taken : List ℕ
+      pub rest : List ℕ
+      pub line : found_line last ≡ taken ++ rest
+      pub printed : Took contents before after (flat_map found_line (found_in earlier) ++ taken)
+
     -- What a search prints, answers, and asks of its link: the lines of the devices that were found, each whole before
-    -- the next wait; of the last one a front, where the writer failed; or none, where the Who-Is could not be sent. It
-    -- is good to have found a device.
+    -- the next wait; of the last one a front, where the writer failed.
     abbrev pub Searched : Result Exit ToolFault → Type 0
-    Searched (Err SendFailed) = Took contents before after [] × Over seen left (λ gained t.
-        gained ≡ time_in (turn_wait search.timeout) t zero ∷ Unposted (station search.to) who_is_to ∷ [])
-    Searched (Err WriteFailed) =
-        (found : List Found) × (last : Found) × (taken rest : List ℕ) × (found_line last ≡ taken ++ rest)
-        × Took contents before after (flat_map found_line found ++ taken)
-        × Over seen left (λ gained t. (n : ℕ) × SearchStops t gained found last n)
-    Searched result =
-        (found : List Found) × IfOk result (λ exit. exit ≡ (if nat_lt 0 (length found) then Good else Bad))
-        × Took contents before after (flat_map found_line found)
-        × Over seen left (λ gained t. (n : ℕ) × (found ≡ found_after t n)
-        × Stops (turn_wait search.timeout) t (is_late t) (search_entries t) gained n result)
+    Searched (Err WriteFailed) = IsCutOff
+    Searched result = IsWhole result

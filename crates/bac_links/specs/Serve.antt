@@ -1,67 +1,79 @@
--- A device that answers what its link foretells.
-use Rattle.std.specs.Prelude.{◌≡◌, ℕ, zero, suc, ◌<◌, nat_le, Bool, List, [], ◌∷◌, ◌++◌, map, length, Option, Some}
-use Rattle.std.specs.Prelude.{Result, Err, IfOk}
+-- A device that answers what comes over a link.
+use Rattle.std.specs.Prelude.{◌≡◌, ℕ, nat_le, if◌then◌else◌, List, [], ◌∷◌, length, Option, Some, None, Result, Ok, Err}
 use Rattle.std.specs.Option.{option_to_list}
-use Rattle.std.specs.List.{flat_map}
+use Rattle.std.specs.List.{flat_map, last_or}
 use Rattle.bac_pdu.specs.Peer.{Station}
 use Rattle.bac_device.specs.Places.{Write}
 use Rattle.bac_device.specs.Device.{DeviceState, Holds}
+use Rattle.bac_device.specs.Reply.{reply_of, write_in_datagram, with_write}
 use Rattle.bac_device.specs.Turns.{Arrival as Came, AreDefined}
-use Rattle.bac_links.specs.Limits.{most_turns, serve_wait}
-use Rattle.bac_links.specs.Foretold.{Foretold, Heard, Arrival}
-use Rattle.bac_links.specs.History.{Entry, Waited, Posted, Unposted, Account, Over}
-use Rattle.bac_links.specs.Courses.{heard_in, wait_in, GoesOn, Stops}
+use Rattle.bac_links.specs.Limits.{serve_wait}
+use Rattle.bac_links.specs.Foretold.{Heard, Arrival, Failure}
+use Rattle.bac_links.specs.History.{Entry, Waited, Unposted, Account}
+use Rattle.bac_links.specs.Asking.{Move, Asks, Ends, ToSend, Plays, waits_in, turn_after}
 use Rattle.bac_links.specs.declared.fault.ToolFault.{ToolFault}
-use Rattle.bac_links.specs.declared.fault.ToolFault.TheVariants.{SendFailed}
+use Rattle.bac_links.specs.declared.fault.ToolFault.TheVariants.{SendFailed, ReceiveFailed}
 
 -- The datagram that a wait brings, if it brings one.
 abbrev pub came_by : Heard → List Came
 came_by (Arrival from octets) = record { from = from; datagram = octets } ∷ []
 came_by _ = []
 
--- What the first n waits hear, and the datagrams that they bring.
-abbrev pub heards : Foretold → ℕ → List Heard
-heards t zero = []
-heards t (suc n) = heards t n ++ heard_in serve_wait t n ∷ []
+-- The datagrams that came, in their order.
+abbrev pub came_of_entry : Entry → List Came
+came_of_entry (Waited wait heard) = came_by heard
+came_of_entry _ = []
 
-abbrev pub arrivals_in : List Heard → List Came
-arrivals_in = flat_map came_by
+abbrev pub arrivals_in : List Entry → List Came
+arrivals_in = flat_map came_of_entry
 
--- What is asked and answered in these waits, where each reply, if there is one, is sent before the next wait.
-abbrev pub serve_entries : List Heard → List (Option (Station × List ℕ)) → List Entry
-serve_entries [] replies = []
-serve_entries (Arrival from octets ∷ later) (reply ∷ replies) =
-    Waited serve_wait (Arrival from octets)
-    ∷ (map (λ (sent : Station × List ℕ). Posted sent.0 sent.1) (option_to_list reply) ++ serve_entries later replies)
-serve_entries (heard ∷ later) replies = Waited serve_wait heard ∷ serve_entries later replies
+-- A device once it has taken a datagram, and once it has taken these, one after another.
+abbrev pub device_next : DeviceState → Came → DeviceState
+device_next device came = with_write device (write_in_datagram device came.from came.datagram)
 
--- As many datagrams as were asked for came in n waits.
-abbrev pub all_came : ℕ → Foretold → ℕ → Bool
-all_came count t n = nat_le count (length (arrivals_in (heards t n)))
+abbrev pub device_behind : DeviceState → List Came → DeviceState
+device_behind device [] = device
+device_behind device (came ∷ later) = device_behind (device_next device came) later
 
-module _ (count : ℕ) (arrivals : List Came) (replies : List (Option (Station × List ℕ))) where
-  -- The last reply, to the datagram that wait n brought, could not be sent.
-  abbrev pub ServeUnsent : Foretold → List Entry → ℕ → Type 0
-  ServeUnsent t gained n = (n < most_turns) × GoesOn serve_wait t (all_came count t) n
-      × (last : Came) × (came_by (heard_in serve_wait t n) ≡ last ∷ []) × (arrivals ≡ arrivals_in (heards t (suc n)))
-      × (made : List (Option (Station × List ℕ))) × (lost : Station × List ℕ) × (replies ≡ made ++ Some lost ∷ [])
-      × (gained ≡ serve_entries (heards t n) made ++ wait_in serve_wait t n ∷ Unposted lost.0 lost.1 ∷ [])
+-- Its replies to them, each as it stands then.
+abbrev pub replies_of : DeviceState → List Came → List (Option (Station × List ℕ))
+replies_of device [] = []
+replies_of device (came ∷ later) =
+    reply_of device came.from came.datagram ∷ replies_of (device_next device came) later
 
-  -- What came, what was replied and what was sent, by how the server ends after n waits: where it comes to its end, as
-  -- many datagrams came as were asked for, and its answer is how many of the replies are no silence.
-  abbrev pub ServeEnds : Account → Account → Result ℕ ToolFault → Type 0
-  ServeEnds seen left (Err SendFailed) = Over seen left (λ gained t. (n : ℕ) × ServeUnsent t gained n)
-  ServeEnds seen left result =
-      IfOk result (λ replied. (length arrivals ≡ count) × (replied ≡ length (flat_map option_to_list replies)))
-      × Over seen left (λ gained t. (n : ℕ) × (arrivals ≡ arrivals_in (heards t n))
-      × Stops serve_wait t (all_came count t) (λ n. serve_entries (heards t n) replies) gained n result)
+-- How many of these replies are no silence.
+abbrev pub reply_count : List (Option (Station × List ℕ)) → ℕ
+reply_count replies = length (flat_map option_to_list replies)
 
--- What a device that serves over a link answers and sends, and what is left of both. However the server ends, and
--- whatever the link is, for any writes that leave the points as they stand in the device: these are the device's
--- replies to the datagrams that came. Afterwards its info and its points are as before, and the points stand as the
--- writes that it accepted leave them.
-abbrev pub Serves : ℕ → DeviceState → DeviceState → Account → Account → Result ℕ ToolFault → Type 0
-Serves count before after seen left result =
-    (arrivals : List Came) × (replies : List (Option (Station × List ℕ)))
-    × ((writes : List Write) → Holds before writes → AreDefined before writes arrivals replies after)
-    × ServeEnds count arrivals replies seen left result
+-- Where there is a reply it is sent.
+abbrev pub or_reply : Option (Option (Station × List ℕ)) → Move (Result ℕ ToolFault) → Move (Result ℕ ToolFault)
+or_reply (Some (Some reply)) other = Asks (ToSend reply.0 reply.1)
+or_reply _ other = other
+
+module _ (count : ℕ) (device : DeviceState) where
+  -- Once as many datagrams came as were asked for it is over, with the number of replies; else a turn begins.
+  abbrev pub serve_next : List Entry → Move (Result ℕ ToolFault)
+  serve_next gained =
+      if nat_le count (length (arrivals_in gained)) then Ends (Ok (reply_count (replies_of device (arrivals_in gained))))
+      else turn_after serve_wait (waits_in gained)
+
+  -- The next move of a server, behind what came last: the reply to a datagram is sent before the next wait.
+  abbrev pub serve_behind : List Entry → Option Entry → Move (Result ℕ ToolFault)
+  serve_behind gained (Some (Waited wait Failure)) = Ends (Err ReceiveFailed)
+  serve_behind gained (Some (Waited wait (Arrival from octets))) =
+      or_reply (last_or None (replies_of device (arrivals_in gained))) (serve_next gained)
+  serve_behind gained (Some (Unposted to octets)) = Ends (Err SendFailed)
+  serve_behind gained _ = serve_next gained
+
+  abbrev pub serve_move : List Entry → Move (Result ℕ ToolFault)
+  serve_move gained = serve_behind gained (last_or None gained)
+
+-- What a device that serves over a link answers and sends, and what is left of both, however the server ends and
+-- whatever the link is. For any writes that leave the points as they stand in the device, its replies are those of the
+-- definition; and afterwards the points stand as the writes that it accepted leave them.
+pub record Serves (count : ℕ) (before after : DeviceState) (seen left : Account) (result : Result ℕ ToolFault) : Type 0
+  where
+    pub plays : Plays (serve_move count before) seen left result
+    pub device : after ≡ device_behind before (arrivals_in plays.gained)
+    pub defined : (writes : List Write) → Holds before writes
+        → AreDefined before writes (arrivals_in plays.gained) (replies_of before (arrivals_in plays.gained)) after

@@ -1,5 +1,5 @@
 //! One request to one peer, and its end.
-ghost use Rattle.std.specs.Prelude.{◌≡◌, ◌≢◌, ◌<◌, ℕ, suc, false, [], ◌∷◌, MatchOption, IfOk, IfErr, OnOk};
+ghost use Rattle.std.specs.Prelude.{◌≡◌, ◌≢◌, ◌<◌, ℕ, suc, false, [], ◌∷◌, MatchOption, Ok, Err, IfOk, IfErr, OnOk};
 ghost use Rattle.std.specs.Option.{option_map};
 ghost use Rattle.bac_tsm.specs.Events.{Tick};
 ghost use Rattle.bac_tsm.specs.Machine.{step, sent};
@@ -7,12 +7,12 @@ ghost use Rattle.bac_tsm.specs.Client.{rules_of, keeping, outcome_seen};
 ghost use Rattle.bac_text.specs.Checked.{has_failed};
 ghost use Rattle.bac_links.specs.Limits.{most_turns, turn_wait};
 ghost use Rattle.bac_links.specs.Foretold.{Heard, Failure};
-ghost use Rattle.bac_links.specs.History.{Waited, Timed, Account, Gains, GainsAll, Over};
+ghost use Rattle.bac_links.specs.History.{Waited, Timed, Account, Gains, GainsAll};
 ghost use Rattle.bac_links.specs.Fault.{is_link_fault, is_write_fault};
 ghost use Rattle.bac_links.specs.Inner.Ending.{ending_seen};
-ghost use Rattle.bac_links.specs.Call.{EndsIn, FailsToSend, Tells};
+ghost use Rattle.bac_links.specs.Call.{Calls, Tells};
 ghost use Rattle.bac_links.specs.Inner.CallSteps.{posts, wait_of, endings, GainsLost, heard_step, IsAlone, timeouts};
-ghost use Rattle.bac_links.specs.Inner.CallSteps.{answers, Underway, TurnFails};
+ghost use Rattle.bac_links.specs.Inner.CallSteps.{answers, Underway};
 ghost use Rattle.bac_links.specs.declared.ending.Purpose.{Purpose};
 ghost use Rattle.bac_links.specs.declared.ending.Purpose.TheVariants.{Reading, Writing};
 ghost use Rattle.bac_text.specs.declared.jobs.Call.{Call as Asked};
@@ -120,15 +120,14 @@ fn turn<'d, L: Link>(
     requires { L.has_failed link.old ≡ false }
     ensures fault { L.has_failed link.new ≡ is_link_fault result }
     ensures ok { IfOk result
-        (λ ending. (purpose : Purpose) (call : Asked) (seen : Account) (n : ℕ) → wait_ms ≡ wait_of call →
-        Over seen (L.seen link.old) (λ gained t. Underway purpose call t gained client.old n) →
-        MatchOption ending (Over seen (L.seen link.new) (λ gained t. Underway purpose call t gained client.new (suc n)))
-        (λ end. n < most_turns
-        → Over seen (L.seen link.new) (λ gained t. EndsIn purpose call t gained (ending_seen end) n))) }
+        (λ ending. (purpose : Purpose) (call : Asked) (seen : Account) (n : ℕ) → wait_ms ≡ wait_of call
+        → n < most_turns → Underway purpose call seen (L.seen link.old) client.old n →
+        MatchOption ending (Underway purpose call seen (L.seen link.new) client.new (suc n))
+        (λ end. Calls purpose call seen (L.seen link.new) (Ok (ending_seen end)))) }
     ensures err { IfErr result (λ fault. (fault ≢ ToolFault.WriteFailed)
-        × ((purpose : Purpose) (call : Asked) (seen : Account) (n : ℕ) → wait_ms ≡ wait_of call →
-        Over seen (L.seen link.old) (λ gained t. Underway purpose call t gained client.old n) → n < most_turns →
-        Over seen (L.seen link.new) (λ gained t. TurnFails purpose call t gained fault))) }
+        × ((purpose : Purpose) (call : Asked) (seen : Account) (n : ℕ) → wait_ms ≡ wait_of call
+        → n < most_turns → Underway purpose call seen (L.seen link.old) client.old n →
+        Calls purpose call seen (L.seen link.new) (Err fault))) }
 {
     match hear(client, link, wait_ms, datagram) {
         Ok(Some(outcome)) => Ok(Some(Ending::Answered(outcome))),
@@ -147,9 +146,9 @@ fn begin<L: Link>(purpose: Purpose, call: &Call, link: &mut L) -> Result<Client,
     requires timeout { 0 < call.now.timeout }
     ensures fault { L.has_failed link.new ≡ is_link_fault result }
     ensures ok { IfOk result
-        (λ client. Over (L.seen link.old) (L.seen link.new) (λ gained t. Underway purpose call.now t gained client 0)) }
+        (λ client. Underway purpose call.now (L.seen link.old) (L.seen link.new) client 0) }
     ensures err { IfErr result (λ fault. (fault ≡ ToolFault.SendFailed)
-        × Over (L.seen link.old) (L.seen link.new) (λ gained t. FailsToSend purpose call.now t gained 0)) }
+        × Calls purpose call.now (L.seen link.old) (L.seen link.new) (Err ToolFault.SendFailed)) }
 {
     let config = Config {
         timeout: call.timeout,
@@ -177,7 +176,6 @@ fn run<L: Link, W: Write>(
     ensures link_fault { L.has_failed link.new ≡ is_link_fault result }
     ensures write_fault { has_failed writer.new ≡ is_write_fault result }
     ensures told { Tells purpose call.now W.contents writer.old writer.new (L.seen link.old) (L.seen link.new) result }
-    ensures unprinted { IfErr result (λ fault. fault ≢ ToolFault.WriteFailed → writer.new ≡ writer.old) }
 {
     let mut client = begin(purpose, call, link)?;
     let wait_ms = turn_wait(call.timeout);
@@ -210,7 +208,6 @@ pub fn run_read<L: Link, W: Write>(
     ensures link_fault { L.has_failed link.new ≡ is_link_fault result }
     ensures write_fault { has_failed writer.new ≡ is_write_fault result }
     ensures told { Tells Reading call.now W.contents writer.old writer.new (L.seen link.old) (L.seen link.new) result }
-    ensures unprinted { IfErr result (λ fault. fault ≢ ToolFault.WriteFailed → writer.new ≡ writer.old) }
 {
     run(Purpose::Reading, call, link, writer)
 }
@@ -232,7 +229,6 @@ pub fn run_write<L: Link, W: Write>(
     ensures link_fault { L.has_failed link.new ≡ is_link_fault result }
     ensures write_fault { has_failed writer.new ≡ is_write_fault result }
     ensures told { Tells Writing call.now W.contents writer.old writer.new (L.seen link.old) (L.seen link.new) result }
-    ensures unprinted { IfErr result (λ fault. fault ≢ ToolFault.WriteFailed → writer.new ≡ writer.old) }
 {
     run(Purpose::Writing, call, link, writer)
 }

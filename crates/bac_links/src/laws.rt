@@ -1,18 +1,16 @@
 //! What holds of the definitions that the contracts cite: each such function has an empty body, and its clause is the
 //! law. And that `==` on the public types is that of their values.
 
-ghost use Rattle.std.specs.Prelude.{◌≡◌, ◌≢◌, ◌≤◌, ◌+◌, ◌*◌, ◌↔◌, ℕ, suc, [], IfOk, IsTrue, List, Result, Ok};
-ghost use Rattle.std.specs.Prelude.{Err};
-ghost use Rattle.bac_device.specs.Places.{Write as Change};
-ghost use Rattle.bac_device.specs.Device.{DeviceState, points_of, Holds};
+ghost use Rattle.std.specs.Prelude.{◌≡◌, ◌≢◌, ◌≤◌, ◌+◌, ◌*◌, ◌++◌, ◌↔◌, ℕ, suc, ⊤, IsTrue, List, Result, Ok, Err};
+ghost use Rattle.bac_device.specs.Device.{DeviceState, points_of};
 ghost use Rattle.bac_text.specs.declared.checked.Checked.{Checked};
-ghost use Rattle.bac_text.specs.Checked.{Took};
 ghost use Rattle.bac_text.specs.declared.jobs.Call.{Call};
 ghost use Rattle.bac_text.specs.declared.jobs.Search.{Search};
-ghost use Rattle.bac_links.specs.History.{foretold_after, Account, Over};
-ghost use Rattle.bac_links.specs.Answered.{AskAlike};
+ghost use Rattle.bac_links.specs.History.{Entry, Account};
+ghost use Rattle.bac_links.specs.Answered.{AskAlike, OneText};
+ghost use Rattle.bac_links.specs.Asking.{waits_in};
 ghost use Rattle.bac_links.specs.Call.{Tells};
-ghost use Rattle.bac_links.specs.Progress.{IsPrompt};
+ghost use Rattle.bac_links.specs.Progress.{AreTold, ArePrompt};
 ghost use Rattle.bac_links.specs.Search.{Searched};
 ghost use Rattle.bac_links.specs.Serve.{Serves};
 ghost use Rattle.bac_links.specs.declared.ending.Purpose.{Purpose};
@@ -28,18 +26,19 @@ use std::io::Write;
 /// However a server ends, and whatever its link is, the device has its info and its points as before.
 pub fn a_server_keeps_its_points()
     ensures { (count : ℕ) (before after : DeviceState) (seen left : Account) (result : Result ℕ Fault)
-        (writes : List Change) → Serves count before after seen left result → Holds before writes
+        → Serves count before after seen left result
         → (after.info ≡ before.info) × (points_of after ≡ points_of before) }
 {}
 
-/// No call waits for ever: where none of its turns took longer than so long, by the times that the link gave, it ends
-/// within the timeout and so long, for each time that the request is sent, of its first time (clause 5.4.4).
+/// No call waits for ever. Take any clock whose times are those that the link told, as the link's own: where by it no
+/// turn takes longer than so long, the call ends, its last wait with it, within the timeout and so long, for each time
+/// that the request is sent (clause 5.4.4).
 pub fn a_call_ends_in_time<W: Write>()
     ensures { (purpose : Purpose) (call : Call) (before after : Checked W) (seen left : Account)
-        (result : Result Ended Fault) (longest : ℕ)
-        → Tells purpose call W.contents before after seen left result
-        → Over seen left (λ gained t. IsPrompt longest gained t
-        → (foretold_after gained t).time [] ≤ t.time [] + suc call.retries * (call.timeout + longest)) }
+        (result : Result Ended Fault) (gained : List Entry) (time_behind : ℕ → ℕ) (longest : ℕ)
+        → Tells purpose call W.contents before after seen left result → left.history ≡ seen.history ++ gained
+        → AreTold time_behind 0 gained → ArePrompt time_behind longest (waits_in gained)
+        → time_behind (waits_in gained) ≤ time_behind 0 + suc call.retries * (call.timeout + longest) }
 {}
 
 /// No call ends with an exit over a link, a socket or another, whose history gained nothing.
@@ -48,32 +47,35 @@ pub fn no_call_ends_unheard<W: Write>()
         → Tells purpose call W.contents before after seen seen (Ok exit) → ⊥ }
 {}
 
-/// A call is a function of what it is for and of what its link answers. Two calls for the same, over any two links and
-/// into any two writers, that were answered alike, asked alike; and where neither writer failed, they ended alike and
-/// printed the same.
+/// A call is a function of what it is for and of what its link answers. Take two calls for the same, over any two links
+/// and into any two writers. As far as they were answered alike, they asked alike; then they ask the same next, or both
+/// are over. Where neither writer failed they ended alike, and both printed the same line; where one failed, it took a
+/// front of that line.
 pub fn a_call_is_a_function<V: Write, W: Write>()
     ensures { (purpose : Purpose) (call : Call) (before after : Checked V) (other_before other_after : Checked W)
         → AskAlike (Tells purpose call V.contents before after) (Tells purpose call W.contents other_before other_after)
-        (λ result other. result ≢ Err Fault.WriteFailed → other ≢ Err Fault.WriteFailed → (result ≡ other)
-        × IfOk result (λ _. (text : List ℕ) × Took V.contents before after text
-        × IfOk other (λ _. Took W.contents other_before other_after text))) }
+        (λ result. ⊥)
+        (λ result other. result ≢ Err Fault.WriteFailed → other ≢ Err Fault.WriteFailed → result ≡ other)
+        (OneText V.contents before after W.contents other_before other_after) }
 {}
 
-/// A search is a function of what it is for and of what its link answers, in the same sense as a call.
+/// A search is a function of what it is for and of what its link answers, in the same sense as a call; it stops before
+/// the other only where its writer failed, and then it printed a front of what the other printed.
 pub fn a_search_is_a_function<V: Write, W: Write>()
     ensures { (search : Search) (before after : Checked V) (other_before other_after : Checked W)
         → AskAlike (Searched search V.contents before after) (Searched search W.contents other_before other_after)
-        (λ result other. (result ≡ other) × (result ≢ Err Fault.WriteFailed → (text : List ℕ)
-        × Took V.contents before after text × Took W.contents other_before other_after text)) }
+        (λ result. result ≡ Err Fault.WriteFailed) (λ result other. result ≡ other)
+        (OneText V.contents before after W.contents other_before other_after) }
 {}
 
-/// A server is a function of how many datagrams it is to answer, of the state of its device, and of what its link
-/// answers. Two servers of as many, over any two links and over devices in the same state, that were answered alike,
-/// asked and sent alike and ended alike; and afterwards the devices are in the same state.
+/// A server is a function of how many datagrams it is to answer, of the device before, and of what its link answers.
+/// Take two servers of as many, over any two links and over devices in the same state. As far as they were answered
+/// alike, they asked and sent alike; then they do the same next, or both are over with the same answer, and afterwards
+/// the devices are in the same state.
 pub fn a_server_is_a_function()
-    ensures { (count : ℕ) (before after other_after : DeviceState) (writes : List Change) → Holds before writes
-        → AskAlike (Serves count before after) (Serves count before other_after)
-        (λ result other. (result ≡ other) × (after ≡ other_after)) }
+    ensures { (count : ℕ) (before after other_after : DeviceState)
+        → AskAlike (Serves count before after) (Serves count before other_after) (λ result. ⊥)
+        (λ result other. (result ≡ other) × (after ≡ other_after)) (λ result other. ⊤) }
 {}
 
 /// Exits are equal that are the same of the two.

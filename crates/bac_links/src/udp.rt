@@ -37,6 +37,8 @@ pub enum Refused {
 #[derive(Drop)]
 pub struct UdpLink<R: Clock + Drop> {
     rt: R,
+    // Where the system was asked for it.
+    at: Peer,
     socket: UdpSocket,
     buffer: Vec<u8>,
     made: Instant,
@@ -59,6 +61,7 @@ impl<R: Net + Clock + Clone + Drop> UdpLink<R> {
     pub fn bind(rt: &R, alloc: Global, at: Peer) -> Result<Self, LinkFault>
         ensures sound { IfOk result (λ link. ⟦<UdpLink<R> as Link>⟧.has_failed link ≡ false) }
         ensures refused { IfOk result (λ link. link.refused ≡ Refused.Fails) }
+        ensures at { IfOk result (λ link. link.at ≡ at) }
         ensures begun { IfOk result (λ link. (link.time ≡ 0) × (link.wait_ms ≡ 0) × (link.history.entries ≡ [])) }
     {
         Self::bind_with(rt, alloc, at, Refused::Fails)
@@ -72,6 +75,7 @@ impl<R: Net + Clock + Clone + Drop> UdpLink<R> {
     pub fn bind_with(rt: &R, alloc: Global, at: Peer, refused: Refused) -> Result<Self, LinkFault>
         ensures sound { IfOk result (λ link. ⟦<UdpLink<R> as Link>⟧.has_failed link ≡ false) }
         ensures refused { IfOk result (λ link. link.refused ≡ refused) }
+        ensures at { IfOk result (λ link. link.at ≡ at) }
         ensures begun { IfOk result (λ link. (link.time ≡ 0) × (link.wait_ms ≡ 0) × (link.history.entries ≡ [])) }
     {
         // Its duplicate has a descriptor past those of the standard streams, also where one of these is closed.
@@ -80,6 +84,7 @@ impl<R: Net + Clock + Clone + Drop> UdpLink<R> {
         let made = Instant::now(rt).map_err(|_| LinkFault)?;
         Ok(UdpLink {
             rt: rt.clone().map_err(|_| LinkFault)?,
+            at,
             socket,
             buffer: vec![in alloc; 0; BUFFER_OCTETS].map_err(|_| LinkFault)?,
             made,

@@ -1,12 +1,11 @@
 -- What is read of a header or a datagram is what it carries, and what is written is carried back.
 use Rattle.std.proofs.Common.{◌≡◌, ℕ, ◌/◌, ◌%◌, ◌<◌, ◌≤◌, Bool, true, false, eqb, ltb, List, [], ◌∷◌, ◌++◌, length}
 use Rattle.std.proofs.Common.{take, drop, Option, Some, None, refl, sym, ap, ◌∙◌, append_assoc, arith, slice_index_or}
-use Rattle.std.proofs.Common.{◌+◌, cond, ◌||◌, subst, inl, inr}
-use Rattle.std.proofs.lemmas.Bool.{eqb-true, ltb-false, le-ltb, eq-eqb}
+use Rattle.std.proofs.Common.{◌+◌, cond, ◌||◌, ◌&&◌, subst, inl, inr}
+use Rattle.std.proofs.lemmas.Bool.{and_parts, eqb-true, ltb-false, le-ltb, eq-eqb}
 use Rattle.std.proofs.lemmas.List.{take_at, drop_at, take-append-drop, length-append, length-take-le, nil_from_length}
 use Rattle.std.proofs.lemmas.Option.{none-some, some_pair_parts, cond_some}
 use Rattle.std.specs.Prelude.{IfSome, ◌↔◌, is_some, OnOk, Result, Ok, Err}
-use Rattle.std.specs.Option.{option_map_or}
 use Rattle.byteorder.specs.Endian.{big_number, big_bytes}
 use Rattle.byteorder.specs.Numbers.{big_number-reads_back}
 use Rattle.bac_wire.proofs.Readers.{IsReader, Took, took, took_as, reader_of, found_at, only_if, unless, chosen}
@@ -16,7 +15,8 @@ use Rattle.bac_pdu.specs.Peer.{NetworkAddress, IsRoutable, Station}
 use Rattle.bac_pdu.specs.Header.{NetworkHeader, SpellsAddress, SpellsAnnounced, SpellsHeader}
 use Rattle.bac_pdu.specs.Header.{address_octets, plain_header}
 use Rattle.bac_pdu.specs.DatagramReading.{counted_at, address_at, announced_at, behind_hops, behind_control, header_at}
-use Rattle.bac_pdu.specs.DatagramReading.{forwarded_at, origin_at, link_at, is_routable, carried}
+use Rattle.bac_pdu.specs.DatagramReading.{forwarded_at, origin_at, link_at, is_routable, is_for_all, is_answerable}
+use Rattle.bac_pdu.specs.DatagramReading.{carried}
 use Rattle.std.proofs.lemmas.Grind.{common_steps}
 use Rattle.bac_wire.specs.Front.{IsSingle}
 use Rattle.bac_pdu.specs.Datagram.{Delivery, SpellsOrigin, unicast, broadcast, forwarded, Carries, Takes}
@@ -218,14 +218,6 @@ routable to = (
   λ h. grind (arith, common_steps),
 )
 
--- whether the header names no destination but all networks
-abbrev is_for_all : Option NetworkAddress → Bool
-is_for_all destination = option_map_or (λ to. eqb to.network 65535) destination true
-
--- whether the header names no source but one that a route leads to
-abbrev is_answerable : Option NetworkAddress → Bool
-is_answerable source = option_map_or is_routable source true
-
 destined : (to : Option NetworkAddress) → (is_for_all to ≡ true) ↔ IfSome to (λ t. t.network ≡ 65535)
 destined None = (λ e. tt, λ h. refl)
 destined (Some to) = (eqb-true to.network 65535, eq-eqb to.network 65535)
@@ -274,7 +266,7 @@ origin_again from function front sender to_all rest (forwarded a b c d e f) = re
 abbrev delivered_as : Station → Bool → NetworkHeader → List ℕ → Delivery
 delivered_as sender to_all header apdu =
     record {
-      peer = record { ip = sender.ip; port = sender.port; route = header.source };
+      peer = record sender { route = header.source };
       broadcast = to_all || is_some header.destination;
       apdu = apdu;
     }
@@ -282,8 +274,8 @@ delivered_as sender to_all header apdu =
 -- the delivery, where the header is heeded
 abbrev heeded_as : Station → Bool → NetworkHeader → List ℕ → Option Delivery
 heeded_as sender to_all header apdu =
-    cond (is_for_all header.destination)
-    (cond (is_answerable header.source) (Some (delivered_as sender to_all header apdu)) None) None
+    cond (is_for_all header.destination && is_answerable header.source) (Some (delivered_as sender to_all header apdu))
+    None
 
 -- a header that is not ignored
 record IsHeeded (header : NetworkHeader) : Type 0 where
@@ -293,10 +285,11 @@ record IsHeeded (header : NetworkHeader) : Type 0 where
 heeded_takes : (sender : Station) (to_all : Bool) (header : NetworkHeader) (apdu : List ℕ) (d : Delivery)
     → heeded_as sender to_all header apdu ≡ Some d → IsHeeded header × (delivered_as sender to_all header apdu ≡ d)
 heeded_takes sender to_all header apdu d e =
-    let all = only_if (is_for_all header.destination) e in
-    let source = cond_some (is_answerable header.source) (delivered_as sender to_all header apdu) d all.1 in (
-      record { destined = (destined header.destination).0 all.0; answerable = (answerable header.source).0 source.0 },
-      source.1,
+    let heeded = cond_some (is_for_all header.destination && is_answerable header.source)
+    (delivered_as sender to_all header apdu) d e in
+    let each = and_parts (is_for_all header.destination) (is_answerable header.source) heeded.0 in (
+      record { destined = (destined header.destination).0 each.0; answerable = (answerable header.source).0 each.1 },
+      heeded.1,
     )
 
 heeded_again : (sender : Station) (to_all : Bool) (header : NetworkHeader) (apdu : List ℕ) → IsHeeded header
@@ -470,3 +463,12 @@ taken_carries from expect apdu datagram t =
     ∙ carried_again_at from 10 t.high t.low [] t.header apdu from false
     (record { destination = None; source = None }) counted unicast t.headed
     (record { destined = tt; answerable = tt })
+
+-- a datagram takes one APDU to a station
+pub one_taken : (to : Option NetworkAddress) (expect : Bool) (datagram a b : List ℕ) → Takes to expect a datagram
+    → Takes to expect b datagram → a ≡ b
+one_taken to expect datagram a b s t =
+    let network : NetworkHeader = record { destination = to; source = None } in
+    let same : s.header ++ a ≡ t.header ++ b = ap (λ (w : List ℕ). drop 4 w) (sym s.whole ∙ t.whole) in
+    (some_pair_parts network network a b (sym (header_reader.again s.header network a s.headed) ∙ ap header_at same
+    ∙ header_reader.again t.header network b t.headed)).1

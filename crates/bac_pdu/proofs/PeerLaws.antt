@@ -1,69 +1,73 @@
 -- `==` on peers compares the stations.
 use Rattle.std.proofs.Common.{◌≡◌, ℕ, ◌-◌, true, List, ◌++◌, length, take, drop, Option, Some, None, refl, sym, ap, ◌∙◌}
 use Rattle.std.proofs.Common.{arith}
-use Rattle.std.specs.Prelude.{IfSome, replicate}
+use Rattle.std.specs.Prelude.{◌↔◌, replicate}
 use Rattle.std.specs.Option.{option_map, option_eq}
 use Rattle.std.specs.Cmp.Lexicographic.{bytes_decides}
 use Rattle.std.proofs.lemmas.Bool.{and_parts, eqb-true, eq-eqb, false≢true}
-use Rattle.std.proofs.lemmas.List.{take-append-drop, length-take-le}
+use Rattle.std.proofs.lemmas.List.{take-append-drop, length-take-le, length-drop, length-replicate}
 use Rattle.std.proofs.lemmas.Option.{none-some, same_Some}
 use Rattle.bac_pdu.specs.declared.route.Route.{Route}
 use Rattle.bac_pdu.specs.declared.peer.Peer.{Peer}
 use Rattle.bac_pdu.specs.contracts.route.RoutePartialEq.TheImpl.{eq-value as route_eq}
 use Rattle.bac_pdu.specs.contracts.peer.PeerPartialEq.TheImpl.{eq-value as peer_eq}
 use Rattle.bac_pdu.specs.Peer.{NetworkAddress, network_address, station}
-use Rattle.bac_pdu.specs.Inner.Peer.{IsKept}
+
+-- a route keeps its address in eight octets
+room : (r : Route) → length r.octets ≡ 8
+room r = omega (
+  arith,
+  r.longest,
+  length-drop r.count r.octets,
+  ap length r.unused,
+  length-replicate {A = ℕ} (8 - r.count) 0,
+)
 
 -- the octets of a route are the address, and zeros
-same_octets : (a b : Route) → IsKept a → IsKept b → network_address a ≡ network_address b → (a.count ≡ b.count)
-    × (a.octets ≡ b.octets)
-same_octets a b h k e =
+same_octets : (a b : Route) → network_address a ≡ network_address b → (a.count ≡ b.count) × (a.octets ≡ b.octets)
+same_octets a b e =
     let address : take a.count a.octets ≡ take b.count b.octets = ap (λ (n : NetworkAddress). n.address) e in
     let count : a.count ≡ b.count =
     omega (
       arith,
       ap length address,
-      length-take-le a.count a.octets (omega (arith, h.room, h.longest)),
-      length-take-le b.count b.octets (omega (arith, k.room, k.longest)),
+      length-take-le a.count a.octets (omega (arith, room a, a.longest)),
+      length-take-le b.count b.octets (omega (arith, room b, b.longest)),
     ) in
-    let behind : drop a.count a.octets ≡ drop b.count b.octets = h.unused ∙ ap (λ (n : ℕ). replicate (8 - n) 0) count
-    ∙ sym k.unused in (
+    let behind : drop a.count a.octets ≡ drop b.count b.octets = a.unused ∙ ap (λ (n : ℕ). replicate (8 - n) 0) count
+    ∙ sym b.unused in (
       count,
       sym (take-append-drop a.count a.octets) ∙ ap (λ (l : List ℕ). l ++ drop a.count a.octets) address
           ∙ ap (λ (l : List ℕ). take b.count b.octets ++ l) behind ∙ take-append-drop b.count b.octets,
     )
 
--- equal routes lead to the same station
-pub route_decides : (a b : Route) → IsKept a → IsKept b
-    → (route_eq.it a b ≡ true → network_address a ≡ network_address b)
-    × (network_address a ≡ network_address b → route_eq.it a b ≡ true)
-route_decides a b h k = (
+-- routes are equal just where they lead to the same station
+pub route_decides : (a b : Route) → (route_eq.it a b ≡ true) ↔ (network_address a ≡ network_address b)
+route_decides a b = (
   (λ e.
       let first = and_parts _ _ e in
       let second = and_parts _ _ first.1 in
       let octets = (bytes_decides a.octets b.octets).0 second.1 in
       rw (eqb-true a.network b.network first.0, eqb-true a.count b.count second.0, octets) refl),
   (λ e.
-      let same = same_octets a b h k e in
+      let same = same_octets a b e in
       rw (eq-eqb a.network b.network (ap (λ (n : NetworkAddress). n.network) e), eq-eqb a.count b.count same.0)
       ((bytes_decides a.octets b.octets).1 same.1)),
 )
 
-routes_decide : (a b : Option Route) → IfSome a IsKept → IfSome b IsKept
-    → (option_eq route_eq.it a b ≡ true → option_map network_address a ≡ option_map network_address b)
-    × (option_map network_address a ≡ option_map network_address b → option_eq route_eq.it a b ≡ true)
-routes_decide None None h k = ((λ e. refl), (λ e. refl))
-routes_decide None (Some b) h k = ((λ e. absurd (false≢true e)), (λ e. absurd (none-some (network_address b) e)))
-routes_decide (Some a) None h k = ((λ e. absurd (false≢true e)), (λ e. absurd (none-some (network_address a) (sym e))))
-routes_decide (Some a) (Some b) h k =
-    let decides = route_decides a b h k in
+routes_decide : (a b : Option Route)
+    → (option_eq route_eq.it a b ≡ true) ↔ (option_map network_address a ≡ option_map network_address b)
+routes_decide None None = ((λ e. refl), (λ e. refl))
+routes_decide None (Some b) = ((λ e. absurd (false≢true e)), (λ e. absurd (none-some (network_address b) e)))
+routes_decide (Some a) None = ((λ e. absurd (false≢true e)), (λ e. absurd (none-some (network_address a) (sym e))))
+routes_decide (Some a) (Some b) =
+    let decides = route_decides a b in
     ((λ e. ap Some (decides.0 e)), (λ e. decides.1 (same_Some (network_address a) (network_address b) e)))
 
--- equal peers are the same station
-pub peer_decides : (p q : Peer) → IfSome p.route IsKept → IfSome q.route IsKept
-    → (peer_eq.it p q ≡ true → station p ≡ station q) × (station p ≡ station q → peer_eq.it p q ≡ true)
-peer_decides p q h k =
-    let routes = routes_decide p.route q.route h k in (
+-- peers are equal just where they are the same station
+pub peer_decides : (p q : Peer) → (peer_eq.it p q ≡ true) ↔ (station p ≡ station q)
+peer_decides p q =
+    let routes = routes_decide p.route q.route in (
       (λ e.
           let first = and_parts _ _ e in
           let second = and_parts _ _ first.1 in

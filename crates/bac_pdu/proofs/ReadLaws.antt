@@ -1,24 +1,25 @@
 -- Reading the body of a ReadProperty finds what it asks for, or the first fault that it has; reading its answer finds
 -- the value.
 use Rattle.std.proofs.Common.{◌≡◌, ℕ, List, [], ◌∷◌, ◌++◌, Some, None, Result, Ok, Err, refl, ap, subst, inl, inr}
+use Rattle.std.proofs.Common.{◌∙◌}
 use Rattle.std.specs.Result.{result_ok}
 use Rattle.std.specs.Prelude.{◌↔◌, ◌⊎◌}
 use Rattle.std.proofs.lemmas.Option.{none-some}
 use Rattle.bac_wire.specs.Front.{Begins, SpellsTo}
-use Rattle.bac_wire.specs.ParameterReading.{number_at, object_at, enclosed_at}
-use Rattle.bac_wire.proofs.TagLaws.{bind_some}
+use Rattle.bac_wire.specs.ParameterReading.{number_at, object_at, behind_opening, enclosed_at}
+use Rattle.bac_wire.proofs.RegionReading.{no_octets}
 use Rattle.bac_wire.proofs.ParameterLaws.{no_number, no_object, enclosed_no_number}
 use Rattle.bac_pdu.specs.declared.reject.RejectReason.{RejectReason}
 use Rattle.bac_pdu.specs.declared.reject.RejectReason.TheVariants.{InvalidTag, MissingParameter, OutOfRange, TooMany}
 use Rattle.bac_pdu.specs.Parameter.{Parameter, numbered, value, SpellsParameter}
 use Rattle.bac_pdu.specs.Property.{Reference, Answer, reference_parameters, IsReadBody, IsAckBody}
 use Rattle.bac_pdu.specs.Reject.{LacksReference, ReadFault, IsOutcome}
-use Rattle.bac_pdu.specs.PropertyReading.{optional_at, reference_at, read_of, ack_of}
-use Rattle.bac_pdu.proofs.SequenceLaws.{then_to, split_to, to_front, from_front, whole_ended}
+use Rattle.bac_pdu.specs.PropertyReading.{optional_at, unless_missing, reference_at, read_of, ack_of}
+use Rattle.bac_pdu.proofs.SequenceLaws.{then_to, split_to, to_front, from_front}
 use Rattle.bac_pdu.proofs.ParameterLaws.{object_step, numbered_step, value_step, optional_begins}
 use Rattle.bac_pdu.proofs.ParameterLaws.{optional_read}
 use Rattle.bac_pdu.proofs.RejectLaws.{and_then_ok, and_then_err, step_ok, needs_takes, needs_fails, ended_ok, ended_err}
-use Rattle.bac_pdu.proofs.RejectLaws.{IsJudge, outcome_is}
+use Rattle.bac_pdu.proofs.RejectLaws.{IsJudge, outcome_is, needs_ok}
 
 -- ---- the reference
 
@@ -176,19 +177,28 @@ ok_found : {A : Type 0} (r : Result A RejectReason) (x : A) → result_ok r ≡ 
 ok_found (Ok y) x e = let same : y ≡ x = cc in ap Ok same
 ok_found (Err reason) x e = absurd (none-some x e)
 
+pub no_value : enclosed_at 3 [] ≡ None
+unfolding enclosed_at behind_opening
+no_value = rw no_octets refl
+
+-- a value that was read is not missing
+pub value_there : (octets : List ℕ) (x : List ℕ × List ℕ) → enclosed_at 3 octets ≡ Some x
+    → unless_missing octets (enclosed_at 3 octets) ≡ Ok x
+value_there octets x e = needs_ok octets (enclosed_at 3 octets) x (λ empty. ap (enclosed_at 3) empty ∙ no_value) e
+
 ack_takes : (body : List ℕ) (a : Answer) → ack_of body ≡ Some a → IsAckBody body a
 unfolding ack_of
 ack_takes body answer e =
-    let a = bind_some _ _ _ e in
-    let b = bind_some _ _ _ a.2 in
-    let end = whole_ended _ _ _ b.2 in
-    rw (← end.1) (value_takes body a.0.1 b.0.0 b.0.1 [] a.0.0 [] (ok_found _ _ a.1) b.1 end.0)
+    let a = and_then_ok _ _ _ (ok_found _ _ e) in
+    let b = and_then_ok _ _ _ a.2 in
+    let end = ended_ok _ _ _ b.2 in
+    rw (← end.1) (value_takes body a.0.1 b.0.0 b.0.1 [] a.0.0 [] a.1 (needs_takes _ _ _ b.1) end.0)
 
 ack_again : (body : List ℕ) (a : Answer) → IsAckBody body a → ack_of body ≡ Some a
 unfolding ack_of
 ack_again body a s =
     let t = value_again body a.value [] a.reference [] s in
-    rw (t.2, value_step.again t.0 a.value t.1 t.3, t.4) refl
+    rw (t.2, step_ok value_step no_value _ _ _ t.3, t.4) refl
 
 -- what an answer body is
 pub ack_is : (body : List ℕ) (a : Answer) → (ack_of body ≡ Some a) ↔ IsAckBody body a

@@ -9,21 +9,22 @@ use Rattle.bac_pdu.specs.declared.reject.RejectReason.{RejectReason}
 use Rattle.bac_pdu.specs.declared.reject.RejectReason.TheVariants.{InvalidTag, MissingParameter, OutOfRange, TooMany}
 use Rattle.bac_pdu.specs.declared.reject.RejectReason.TheVariants.{UnknownService}
 use Rattle.bac_pdu.specs.Reject.{IsFirst, IsOutcome}
-use Rattle.bac_pdu.specs.PropertyReading.{and_then, unless_missing, whole_of}
+use Rattle.bac_pdu.specs.PropertyReading.{unless_missing, whole_of}
+use Rattle.bac_pdu.specs.Steps.{◌>>=◌}
 
 -- ---- results
 
 pub and_then_ok : {A B : Type 0} (r : Result A RejectReason) (f : A → Result B RejectReason) (y : B)
-    → and_then r f ≡ Ok y → (x : A) × (r ≡ Ok x) × (f x ≡ Ok y)
+    → (r >>= f) ≡ Ok y → (x : A) × (r ≡ Ok x) × (f x ≡ Ok y)
 and_then_ok (Ok x) f y e = (x, refl, e)
 and_then_ok (Err reason) f y e = absurd cc
 
 pub and_then_err : {A B : Type 0} (r : Result A RejectReason) (f : A → Result B RejectReason) (reason : RejectReason)
-    → and_then r f ≡ Err reason → (r ≡ Err reason) ⊎ ((x : A) × (r ≡ Ok x) × (f x ≡ Err reason))
+    → (r >>= f) ≡ Err reason → (r ≡ Err reason) ⊎ ((x : A) × (r ≡ Ok x) × (f x ≡ Err reason))
 and_then_err (Ok x) f reason e = inr (x, refl, e)
 and_then_err (Err other) f reason e = let same : other ≡ reason = cc in inl (ap Err same)
 
-needs_ok : {A : Type 0} (octets : List ℕ) (found : Option A) (x : A) → (octets ≡ [] → found ≡ None) → found ≡ Some x
+pub needs_ok : {A : Type 0} (octets : List ℕ) (found : Option A) (x : A) → (octets ≡ [] → found ≡ None) → found ≡ Some x
     → unless_missing octets found ≡ Ok x
 needs_ok [] found x none e = absurd (none-some x (sym (none refl) ∙ e))
 needs_ok (o ∷ os) found x none e = rw e refl

@@ -15,21 +15,15 @@ use Rattle.bac_pdu.specs.Parameter.{numbered, value, SpellsParameter}
 use Rattle.bac_pdu.specs.Inner.Parameter.{optional}
 use Rattle.bac_pdu.specs.Property.{Reference, Order, reference_parameters, order_parameters, IsWriteBody, IsPriority}
 use Rattle.bac_pdu.specs.Reject.{WriteFault, IsOutcome}
-use Rattle.bac_pdu.specs.PropertyReading.{or_none, optional_at, and_then, unless_missing, reference_at, write_of}
+use Rattle.bac_pdu.specs.PropertyReading.{or_none, optional_at, unless_missing, reference_at, is_priority}
+use Rattle.bac_pdu.specs.PropertyReading.{write_of}
+use Rattle.bac_pdu.specs.Steps.{◌>>=◌}
 use Rattle.bac_pdu.proofs.SequenceLaws.{to_front, from_front}
 use Rattle.bac_pdu.proofs.ParameterLaws.{value_step, numbered_step, optional_begins, optional_read}
 use Rattle.bac_pdu.proofs.RejectLaws.{and_then_ok, and_then_err, step_ok, needs_takes, needs_fails, ended, ended_ok}
 use Rattle.bac_pdu.proofs.RejectLaws.{ended_err, IsJudge, outcome_is}
 use Rattle.bac_pdu.proofs.ReadLaws.{reference_takes, reference_again, reference_lacks, reference_fails, value_takes}
-use Rattle.bac_pdu.proofs.ReadLaws.{value_again}
-
--- whether there is such a priority, or none is named
-abbrev is_priority : Option ℕ → Bool
-is_priority p = option_map_or (λ n. ltb 0 n && ltb n 17) p true
-
-no_value : enclosed_at 3 [] ≡ None
-unfolding enclosed_at behind_opening
-no_value = rw no_octets refl
+use Rattle.bac_pdu.proofs.ReadLaws.{value_again, no_value}
 
 write_again_at : (body : List ℕ) (o : Order) → SpellsAll SpellsParameter body (order_parameters o)
     → write_of body ≡ cond (is_priority o.priority) (Ok o) (Err OutOfRange)
@@ -56,7 +50,7 @@ abbrev write_end : Reference → List ℕ → Option ℕ → Result Order Reject
 write_end r v p = cond (is_priority p) (Ok (record { reference = r; value = v; priority = p })) (Err OutOfRange)
 
 abbrev write_behind : Reference → List ℕ × List ℕ → Result Order RejectReason
-write_behind r v = and_then (ended (optional_at 4 v.1).0 (optional_at 4 v.1).1) (write_end r v.0)
+write_behind r v = ended (optional_at 4 v.1).0 (optional_at 4 v.1).1 >>= write_end r v.0
 
 in_range : (b : Bool) (o x : Order) → cond b (Ok o) (Err OutOfRange) ≡ Ok x → (b ≡ true) × (o ≡ x)
 in_range true o x e = (refl, cc)
@@ -80,7 +74,7 @@ order_takes body x v rest r p named valued e =
 write_takes : (body : List ℕ) (o : Order) → write_of body ≡ Ok o → IsWriteBody body o
 unfolding write_of
 write_takes body o e =
-    let a = and_then_ok (reference_at body) (λ r. and_then (unless_missing r.1 (enclosed_at 3 r.1)) (write_behind r.0))
+    let a = and_then_ok (reference_at body) (λ r. unless_missing r.1 (enclosed_at 3 r.1) >>= write_behind r.0)
     o e in
     let b = and_then_ok (unless_missing a.0.1 (enclosed_at 3 a.0.1)) (write_behind a.0.0) o a.2 in
     let c = and_then_ok (ended (optional_at 4 b.0.1).0 (optional_at 4 b.0.1).1) (write_end a.0.0 b.0.0) o b.2 in
@@ -106,7 +100,7 @@ write_more body x v rest r named valued left =
 write_fault : (body : List ℕ) (reason : RejectReason) → write_of body ≡ Err reason → WriteFault body reason
 unfolding write_of
 write_fault body reason e =
-    elim (and_then_err (reference_at body) (λ r. and_then (unless_missing r.1 (enclosed_at 3 r.1)) (write_behind r.0))
+    elim (and_then_err (reference_at body) (λ r. unless_missing r.1 (enclosed_at 3 r.1) >>= write_behind r.0)
     reason e) [
       | inl first ↦ elim (reference_fails body reason first)
           [ inl missing ↦ rw missing.0 (inl missing.1) | inr invalid ↦ rw invalid tt ]

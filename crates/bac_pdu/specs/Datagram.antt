@@ -48,7 +48,7 @@ pub record Carries (from : Station) (datagram : List ℕ) (delivery : Delivery) 
   pub headed : SpellsHeader header network
   pub destined : IfSome network.destination (λ to. to.network ≡ 65535)
   pub answerable : IfSome network.source IsRoutable
-  pub peer : delivery.peer ≡ record { ip = sender.ip; port = sender.port; route = network.source }
+  pub peer : delivery.peer ≡ record sender { route = network.source }
   pub broadcast : delivery.broadcast ≡ (to_all || is_some network.destination)
 
 -- ---- the form that is written

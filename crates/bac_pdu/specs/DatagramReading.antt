@@ -75,17 +75,23 @@ abbrev pub is_routable : NetworkAddress → Bool
 is_routable to =
     nat_lt 0 to.network && (nat_lt to.network 65535 && (nat_lt 0 (length to.address) && nat_lt (length to.address) 8))
 
--- What the datagram carries, or nothing where it is ignored: where its header names a destination other than all
--- networks, or a source that no route leads to.
+-- Whether the network header names no destination but all networks.
+abbrev pub is_for_all : Option NetworkAddress → Bool
+is_for_all destination = option_map_or (λ to. to.network == 65535) destination true
+
+-- Whether it names no source but one that a route leads to.
+abbrev pub is_answerable : Option NetworkAddress → Bool
+is_answerable source = option_map_or is_routable source true
+
+-- What the datagram carries, or nothing where it is ignored.
 unfoldable pub carried : Station → List ℕ → Option Delivery
 carried from datagram = do
   link ← link_at from datagram
   header ← header_at link.1
-  if option_map_or (λ to. to.network == 65535) header.0.destination true then
-      (if option_map_or is_routable header.0.source true then
-      Some (record {
-        peer = record { ip = link.0.0.ip; port = link.0.0.port; route = header.0.source };
+  if is_for_all header.0.destination && is_answerable header.0.source
+      then Some (record {
+        peer = record link.0.0 { route = header.0.source };
         broadcast = link.0.1 || is_some header.0.destination;
         apdu = header.1;
       })
-      else None) else None
+      else None

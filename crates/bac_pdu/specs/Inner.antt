@@ -1,5 +1,4 @@
 -- What only private clauses say. No promise of this crate rests on it.
-pub mod Peer
 pub mod Header
 pub mod Datagram
 pub mod Parameter

@@ -1,3 +1,4 @@
+pub mod Steps
 pub mod Bits
 pub mod Peer
 pub mod Header

@@ -51,7 +51,7 @@ const FRONT_OCTETS: usize = 4 + HEADER_OCTETS;
 pub fn open_datagram(from: Peer, datagram: &[u8]) -> Option<Carried<'_>>
     ensures value { option_map delivery result ≡ carried (station from) datagram.now }
 {
-    let (sender, to_all, rest) = origin_and_rest(from, datagram)?;
+    let (sender, to_all, rest) = link_and_rest(from, datagram)?;
     let (header, apdu) = header_and_rest(rest)?;
     if header
         .destination
@@ -76,7 +76,7 @@ pub fn open_datagram(from: Peer, datagram: &[u8]) -> Option<Carried<'_>>
 
 /// Who sent the datagram, whether to all, and the octets behind the link header.
 #[tactic(auto, unfolding(crate::specs::DatagramReading::link_at))]
-fn origin_and_rest(from: Peer, datagram: &[u8]) -> Option<(Peer, bool, &[u8])>
+fn link_and_rest(from: Peer, datagram: &[u8]) -> Option<(Peer, bool, &[u8])>
     ensures { option_map (λ x. ((station x.0, x.1), x.2.now)) result ≡ link_at (station from) datagram.now }
 {
     let [kind, function, high, low, rest @ ..] = datagram else {
@@ -85,11 +85,11 @@ fn origin_and_rest(from: Peer, datagram: &[u8]) -> Option<(Peer, bool, &[u8])>
     if *kind != BACNET_IP || usize::from(BigEndian::read_u16(&[*high, *low])) != datagram.len() {
         return None;
     }
-    sender_and_rest(*function, from, rest)
+    origin_and_rest(*function, from, rest)
 }
 
 /// Who sent a datagram of this function, whether to all, and the octets behind those that say it.
-fn sender_and_rest(function: u8, from: Peer, octets: &[u8]) -> Option<(Peer, bool, &[u8])>
+fn origin_and_rest(function: u8, from: Peer, octets: &[u8]) -> Option<(Peer, bool, &[u8])>
     ensures { option_map (λ x. ((station x.0, x.1), x.2.now)) result ≡ origin_at function (station from) octets.now }
 {
     match function {

@@ -10,6 +10,7 @@ ghost use Rattle.bac_pdu.specs.declared.discovery.WhoIs.TheVariants.{Range};
 ghost use Rattle.bac_pdu.specs.declared.reject.RejectReason.{RejectReason as AnyReason};
 ghost use Rattle.bac_pdu.specs.Peer.{Station, NetworkAddress, IsRoutable, network_address, station};
 ghost use Rattle.bac_wire.specs.Front.{IsSingle};
+ghost use Rattle.bac_wire.specs.Copies.{MakesCopies, EqualsBy};
 ghost use Rattle.bac_pdu.specs.Datagram.{Delivery, Carries, Takes, front_count, wrapped};
 ghost use Rattle.bac_pdu.specs.DatagramReading.{carried};
 ghost use Rattle.bac_pdu.specs.Apdu.{Message, message, IsLaidOut, IsWritable, laid_out};
@@ -28,12 +29,11 @@ ghost use Rattle.bac_pdu.specs.ValueReading.{who_is_of, introduction_of, error_o
 use crate::apdu::{Apdu, Part};
 use crate::datagram::Carried;
 use crate::discovery::{DEVICE, IAm, WhoIs};
-use crate::peer::{Peer, told};
+use crate::peer::Peer;
 use crate::property::{Ack, ReadRequest, WriteRequest};
 use crate::reject::RejectReason;
 use crate::route::{ADDRESS_OCTETS, Route};
 use crate::service::{I_AM, READ_PROPERTY, WHO_IS, WRITE_PROPERTY};
-use std::alloc::AllocError;
 
 /// The function that reads each kind of octets finds what the standard says that they are, and nothing else.
 pub fn in_words()
@@ -86,6 +86,8 @@ pub fn wrapped_round()
 /// Octets are one thing of each kind at most.
 pub fn one_record()
     ensures delivery { (from : Station) → IsSingle (Carries from) }
+    ensures taken { (to : Option NetworkAddress) (expect : Bool)
+        → IsSingle (λ datagram apdu. Takes to expect apdu datagram) }
     ensures apdu { IsSingle IsLaidOut }
     ensures read { IsSingle IsReadBody }
     ensures write { IsSingle IsWriteBody }
@@ -106,116 +108,32 @@ pub fn numbers()
     ensures address { ADDRESS_OCTETS ≡ 7 }
 {}
 
-/// A clone of what a datagram or a Reject says is what it was cloned from, and takes no memory.
-pub fn clones_of_datagrams<'a>(
-    peer: &Peer,
-    route: &Route,
-    carried: &Carried<'a>,
-    part: &Part,
-    apdu: &Apdu<'a>,
-    reason: &RejectReason,
-) -> Result<(Peer, Route, Carried<'a>, Part, Apdu<'a>, RejectReason), AllocError>
-    ensures { result ≡ Ok (peer.now, route.now, carried.now, part.now, apdu.now, reason.now) }
-{
-    Ok((
-        peer.clone()?,
-        route.clone()?,
-        carried.clone()?,
-        part.clone()?,
-        apdu.clone()?,
-        reason.clone()?,
-    ))
-}
+/// A clone is what it was cloned from, and takes no memory.
+pub fn clones()
+    ensures peer { MakesCopies ⟦<Peer as Clone>⟧.is_clone ⟦<Peer as Clone>⟧.is_infallible }
+    ensures route { MakesCopies ⟦<Route as Clone>⟧.is_clone ⟦<Route as Clone>⟧.is_infallible }
+    ensures carried { MakesCopies ⟦<Carried<'static> as Clone>⟧.is_clone ⟦<Carried<'static> as Clone>⟧.is_infallible }
+    ensures part { MakesCopies ⟦<Part as Clone>⟧.is_clone ⟦<Part as Clone>⟧.is_infallible }
+    ensures apdu { MakesCopies ⟦<Apdu<'static> as Clone>⟧.is_clone ⟦<Apdu<'static> as Clone>⟧.is_infallible }
+    ensures who { MakesCopies ⟦<WhoIs as Clone>⟧.is_clone ⟦<WhoIs as Clone>⟧.is_infallible }
+    ensures i_am { MakesCopies ⟦<IAm as Clone>⟧.is_clone ⟦<IAm as Clone>⟧.is_infallible }
+    ensures read { MakesCopies ⟦<ReadRequest as Clone>⟧.is_clone ⟦<ReadRequest as Clone>⟧.is_infallible }
+    ensures ack { MakesCopies ⟦<Ack<'static> as Clone>⟧.is_clone ⟦<Ack<'static> as Clone>⟧.is_infallible }
+    ensures write { MakesCopies ⟦<WriteRequest<'static> as Clone>⟧.is_clone
+        ⟦<WriteRequest<'static> as Clone>⟧.is_infallible }
+    ensures reason { MakesCopies ⟦<RejectReason as Clone>⟧.is_clone ⟦<RejectReason as Clone>⟧.is_infallible }
+{}
 
-/// A clone of what a body says is what it was cloned from, and takes no memory.
-pub fn clones_of_bodies<'a>(
-    limits: &WhoIs,
-    i_am: &IAm,
-    read: &ReadRequest,
-    ack: &Ack<'a>,
-    write: &WriteRequest<'a>,
-) -> Result<(WhoIs, IAm, ReadRequest, Ack<'a>, WriteRequest<'a>), AllocError>
-    ensures { result ≡ Ok (limits.now, i_am.now, read.now, ack.now, write.now) }
-{
-    Ok((
-        limits.clone()?,
-        i_am.clone()?,
-        read.clone()?,
-        ack.clone()?,
-        write.clone()?,
-    ))
-}
-
-/// Routes are equal that have the same network and the same address.
-pub fn same_route(route: &Route, other: &Route) -> bool
-    ensures { IsTrue result ↔ (network_address route.now ≡ network_address other.now) }
-{
-    told(Some(*route));
-    told(Some(*other));
-    route == other
-}
-
-/// Peers are equal that have the same address, the same port and the same route.
-pub fn same_peer(peer: &Peer, other: &Peer) -> bool
-    ensures { IsTrue result ↔ (station peer.now ≡ station other.now) }
-{
-    told(peer.route);
-    told(other.route);
-    peer == other
-}
-
-/// Parts are equal in all three fields.
-pub fn same_part(part: &Part, other: &Part) -> bool
-    ensures { IsTrue result ↔ (part.now ≡ other.now) }
-{
-    part == other
-}
-
-/// APDUs are equal that have the same type and say the same, wherever the octets of the body lie.
-pub fn same_apdu(apdu: &Apdu<'_>, other: &Apdu<'_>) -> bool
-    ensures { IsTrue result ↔ (message apdu.now ≡ message other.now) }
-{
-    apdu == other
-}
-
-/// Who-Is are equal that ask all, or have the same two limits.
-pub fn same_limits(limits: &WhoIs, other: &WhoIs) -> bool
-    ensures { IsTrue result ↔ (limits.now ≡ other.now) }
-{
-    limits == other
-}
-
-/// I-Ams are equal in all four fields.
-pub fn same_introduction(i_am: &IAm, other: &IAm) -> bool
-    ensures { IsTrue result ↔ (introduction i_am.now ≡ introduction other.now) }
-{
-    i_am == other
-}
-
-/// Requests are equal that have the same object, property and index.
-pub fn same_read(read: &ReadRequest, other: &ReadRequest) -> bool
-    ensures { IsTrue result ↔ (reference read.now ≡ reference other.now) }
-{
-    read == other
-}
-
-/// Acknowledgements are equal that have the same object, property and index, and the same octets of the value.
-pub fn same_ack(ack: &Ack<'_>, other: &Ack<'_>) -> bool
-    ensures { IsTrue result ↔ (answer ack.now ≡ answer other.now) }
-{
-    ack == other
-}
-
-/// Writes are equal that have the same object, property and index, the same octets of the value, and the same priority.
-pub fn same_write(write: &WriteRequest<'_>, other: &WriteRequest<'_>) -> bool
-    ensures { IsTrue result ↔ (order write.now ≡ order other.now) }
-{
-    write == other
-}
-
-/// Reasons are equal that have the same number.
-pub fn same_reason(reason: &RejectReason, other: &RejectReason) -> bool
-    ensures { IsTrue result ↔ (reason.now ≡ other.now) }
-{
-    reason == other
-}
+/// What `==` compares: all that each says, wherever the octets that it borrows lie.
+pub fn equals()
+    ensures peer { EqualsBy station ⟦<Peer as PartialEq>⟧.eq }
+    ensures route { EqualsBy network_address ⟦<Route as PartialEq>⟧.eq }
+    ensures part { EqualsBy (λ part. part) ⟦<Part as PartialEq>⟧.eq }
+    ensures apdu { EqualsBy message ⟦<Apdu<'static> as PartialEq>⟧.eq }
+    ensures who { EqualsBy (λ who. who) ⟦<WhoIs as PartialEq>⟧.eq }
+    ensures i_am { EqualsBy introduction ⟦<IAm as PartialEq>⟧.eq }
+    ensures read { EqualsBy reference ⟦<ReadRequest as PartialEq>⟧.eq }
+    ensures ack { EqualsBy answer ⟦<Ack<'static> as PartialEq>⟧.eq }
+    ensures write { EqualsBy order ⟦<WriteRequest<'static> as PartialEq>⟧.eq }
+    ensures reason { EqualsBy (λ reason. reason) ⟦<RejectReason as PartialEq>⟧.eq }
+{}

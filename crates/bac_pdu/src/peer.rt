@@ -1,8 +1,7 @@
 //! Who a datagram is from, or for.
 
-ghost use Rattle.std.specs.Prelude.{◌≡◌, ◌↔◌, IsTrue, IfSome};
+ghost use Rattle.std.specs.Prelude.{◌≡◌, ◌↔◌, IsTrue};
 ghost use Rattle.bac_pdu.specs.Peer.{station};
-ghost use Rattle.bac_pdu.specs.Inner.Peer.{IsKept};
 
 use crate::route::Route;
 
@@ -19,18 +18,10 @@ pub struct Peer {
 
 impl Peer {
     /// Whether both are the same station: address, port and route. `==` says the same.
+    #[tactic(auto, using(crate::proofs::PeerLaws::peer_decides))]
     pub fn is_same(&self, other: &Peer) -> bool
         ensures { IsTrue result ↔ (station self.now ≡ station other.now) }
     {
-        told(self.route);
-        told(other.route);
         self == other
     }
-}
-
-/// Does nothing. Its clause says what the type of a route says, for the caller's proof.
-pub(crate) fn told(route: Option<Route>)
-    ensures { IfSome route IsKept }
-{
-    let _route = route;
 }

@@ -138,7 +138,7 @@ pub fn read_write(body: &[u8]) -> Result<WriteRequest<'_>, RejectReason>
 }
 
 /// The property and the value that the body of a ReadProperty-ACK is. None where the body is not whole.
-#[tactic(auto, unfolding(crate::specs::PropertyReading::ack_of))]
+#[tactic(auto, using(crate::proofs::ReadLaws::value_there), unfolding(crate::specs::PropertyReading::ack_of))]
 pub fn read_ack(body: &[u8]) -> Option<Ack<'_>>
     ensures value { option_map answer result ≡ ack_of body.now }
 {

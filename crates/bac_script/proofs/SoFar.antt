@@ -3,7 +3,7 @@ use Rattle.std.proofs.Common.{◌≡◌, ◌≢◌, ℕ, ◌+◌, ◌<◌, ◌�
 use Rattle.std.proofs.Common.{Option, Some, None, Result, Ok, Err, refl, sym, ◌∙◌, ap, subst, inl, inr, append_assoc}
 use Rattle.std.proofs.Common.{arith}
 use Rattle.std.specs.Prelude.{◌&&◌}
-use Rattle.std.proofs.lemmas.List.{append-nil, length-append, take-append-drop}
+use Rattle.std.proofs.lemmas.List.{append-nil, append_cancel_right, length-append, take-append-drop}
 use Rattle.bac_tsm.specs.Client.{Client}
 use Rattle.bac_device.specs.Device.{DeviceState}
 use Rattle.bac_text.specs.declared.checked.Checked.{Checked}
@@ -15,26 +15,39 @@ use Rattle.bac_script.specs.declared.line.LineFault.TheVariants.{Bad, TooLong}
 use Rattle.bac_script.specs.declared.tracing.TraceEnd.{TraceEnd}
 use Rattle.bac_script.specs.declared.tracing.TraceFault.{TraceFault}
 use Rattle.bac_script.specs.declared.tracing.TraceFault.TheVariants.{BadLine, LineTooLong, ReadFailed, WriteFailed}
-use Rattle.bac_text.specs.Checked.{has_failed, ends_with, reads_of, last_of}
+use Rattle.bac_text.specs.Checked.{has_failed, ends_with, reads_of, last_of, octets_of}
 use Rattle.bac_script.specs.Input.{ReadsNoMore, ReaderStands}
 use Rattle.bac_script.specs.Inner.Input.{HasNotEnded, TakesAndKeeps, ReadForLine, empty_reads, IsLineCut}
 use Rattle.bac_script.specs.Inner.Feeds.{HasNoFeed}
 use Rattle.bac_script.specs.Inner.Limits.{line_room}
 use Rattle.bac_script.specs.Line.{Said, said}
 use Rattle.bac_script.specs.Inner.Running.{Stage, Stands, new_client, device_with, ran}
-use Rattle.bac_script.specs.Script.{lines, is_nothing, fault_at, first_fault, Runs}
-use Rattle.bac_text.specs.Page.{held, writer_of, Writes, Prints}
-use Rattle.bac_script.specs.Tracing.{Traces}
+use Rattle.bac_script.specs.Script.{lines, is_nothing, fault_at, first_fault, text, Runs}
+use Rattle.bac_text.specs.Page.{held as on_page, writer_of, Writes, Wrote, Prints}
+use Rattle.bac_script.specs.Tracing.{Traces, IsToldFirst}
 use Rattle.bac_script.specs.Inner.Tracing.{IsNeeded, RunsOn}
 use Rattle.bac_script.proofs.Pieces.{NextLine, next_ended, next_long, next_last, lines-rest, lines-last, lines-ended}
 use Rattle.bac_script.proofs.Pieces.{said-whole_long}
-use Rattle.bac_script.proofs.Taken.{Takes-more, Takes-front}
+use Rattle.bac_script.proofs.Taken.{Takes-more, Takes-front, further}
 use Rattle.bac_text.proofs.Printed.{◌⨾◌, prints_nothing}
 use Rattle.bac_text.proofs.Known.{Gave-none}
 use Rattle.bac_text.proofs.Shown.{finished, all_written}
 use Rattle.bac_script.proofs.Machine.{first_stage}
 use Rattle.bac_script.proofs.Courses.{Course, behind, behind_both, and_on, course, course_on, whole, runs_text}
 use Rattle.bac_script.proofs.Courses.{fault_is, RunsWhole, runs_as}
+
+-- What was printed on an empty page is out, or still held.
+out_so_far : {W : Type 0} {contents : W → Option (List ℕ)} {page between : Page W} {printed : List ℕ}
+    → Prints contents page between printed → on_page page ≡ [] → has_failed (writer_of between) ≡ false →
+    octets_of (writer_of between) ++ on_page between ≡ octets_of (writer_of page) ++ printed
+unfolding Wrote
+out_so_far {page = page} {between = between} {printed = printed} prints empty good =
+    let w = prints.wrote in
+    ap (λ (zs : List ℕ). zs ++ on_page between) w.took.passed
+    ∙ append_assoc (octets_of (writer_of page)) w.taken (on_page between)
+    ∙ ap (λ (zs : List ℕ). octets_of (writer_of page) ++ zs)
+    (ap (λ (zs : List ℕ). w.taken ++ zs) (sym (w.sound good).1) ∙ sym w.whole
+    ∙ ap (λ (zs : List ℕ). zs ++ printed) empty)
 
 -- The course of each script that begins with these octets: this text, and then the course from this stage on.
 abbrev GoesOn : List ℕ → List ℕ → Stage → Bool → ℕ → Type 0
@@ -52,6 +65,8 @@ pub record SoFar {R W : Type 0} (remaining : R → Option (List ℕ)) (contents 
   pub taken : TakesAndKeeps remaining reader reader' [] held octets
   pub asked : reads_of reader' ≤ reads_of reader + length taken.given
   pub needed : IsNeeded reader reader' taken.given
+  pub empty : on_page page ≡ []
+  pub told : IsToldFirst reader' (writer_of page) (writer_of page') taken.given
   pub sound : has_failed reader' ≡ false
   pub unended : HasNotEnded reader reader'
   pub spared : ReadsNoMore reader reader'
@@ -137,7 +152,7 @@ module _ {R W : Type 0} {remaining : R → Option (List ℕ)} {contents : W → 
     (q : TakesAndKeeps remaining middle reader' held now [])
     (stands : ReaderStands remaining reading middle reader' (drop n now))
     (asked : reads_of reader' + length held ≤ reads_of middle + length now + empty_reads reading)
-    (need : ReadForLine middle reader' held now) (spared : ReadsNoMore middle reader')
+    (need : ReadForLine middle reader' between kept held now) (spared : ReadsNoMore middle reader')
     (handed : Prints contents between kept []) where
   abbrev line : List ℕ
   line = take n now
@@ -179,7 +194,7 @@ module _ {R W : Type 0} {remaining : R → Option (List ℕ)} {contents : W → 
         subst (λ (r : Checked R). IsNeeded reader r taken.given) (sym same.0)
         (subst (IsNeeded reader middle)
         (s.taken.order ∙ ap (λ (zs : List ℕ). s.octets ++ zs) (sym same.1) ∙ sym given_is) s.needed)
-    | inr r ↦ inr (record {
+    | inr both ↦ let r = both.0 in inr (record {
       before = s.octets ++ (held ++ r.before);
       order = given_is ∙ ap (λ (zs : List ℕ). s.octets ++ zs) r.order
           ∙ sym (append_assoc s.octets (held ++ r.before) (last_of reader'));
@@ -197,16 +212,45 @@ module _ {R W : Type 0} {remaining : R → Option (List ℕ)} {contents : W → 
     })
   ]
 
+  -- Where no line is held, the text of the lines so far is all.
+  text_so_far : (more : List ℕ) → HasNoFeed more → length more < line_room → text (s.octets ++ more) Open ≡ s.text
+  text_so_far more none short =
+      sym (runs_text (lines (s.octets ++ more) Open)) ∙ ap (λ (c : Course). c.text) (s.goes_on more Open)
+      ∙ ap (λ (all : List (List ℕ)). (behind s.text (course s.stage is_first count all)).text)
+      (lines-rest more none short) ∙ append-nil s.text
+
+  -- Before the last read it was written.
+  told : IsToldFirst reader' (writer_of page) (writer_of kept) taken.given
+  told = elim need [
+    | inl same ↦ λ before split. further _ handed (s.told before
+        (s.taken.order ∙ ap (λ (zs : List ℕ). s.octets ++ zs) (sym same.1) ∙ sym given_is ∙ split
+        ∙ ap (λ (r : Checked R). before ++ last_of r) same.0))
+    | inr both ↦ λ before split.
+        let r = both.0 in
+        let here : before ≡ s.octets ++ (held ++ r.before) =
+        append_cancel_right before (s.octets ++ (held ++ r.before)) (last_of reader')
+        (sym split ∙ given_is ∙ ap (λ (zs : List ℕ). s.octets ++ zs) r.order
+        ∙ sym (append_assoc s.octets (held ++ r.before) (last_of reader'))) in
+        let said : text before Open ≡ s.text =
+        ap (λ (zs : List ℕ). text zs Open) here ∙ text_so_far (held ++ r.before) r.no_feed r.short in (
+          both.1.later,
+          both.1.out
+              ∙ ap (λ (zs : List ℕ). zs ++ both.1.later) (out_so_far s.printed s.empty both.1.sound
+              ∙ ap (λ (zs : List ℕ). octets_of (writer_of page) ++ zs) (sym said)),
+        )
+  ]
+
   -- The course where these lines are left.
   left : (all : List (List ℕ)) → lines (line ++ rest) reading ≡ all
       → whole (lines ((s.octets ++ line) ++ rest) reading) ≡ behind s.text (course s.stage is_first count all)
   left all are = goes_to s.octets line rest s.text s.stage is_first count reading all s.goes_on are
 
   -- The run stops here.
-  stops : {last : Page W} {printed : List ℕ} (answer : Result TraceEnd TraceFault) → Prints contents page last printed →
+  stops : {last : Page W} {printed more : List ℕ} (answer : Result TraceEnd TraceFault) → Prints contents kept last more
+      → Prints contents page last printed →
       Runs ((s.octets ++ line) ++ rest) reading printed answer
       → RunsOn remaining contents reader reader' page last answer
-  stops {printed = printed} answer prints runs = record {
+  stops {printed = printed} answer then prints runs = record {
     given = taken.given;
     reading = reading;
     printed = printed;
@@ -216,6 +260,7 @@ module _ {R W : Type 0} {remaining : R → Option (List ℕ)} {contents : W → 
       needed = needed;
       spared = omega (arith, s.spared, spared);
     };
+    told = λ before split. further _ then (told before split);
     prints = prints;
     runs = subst (λ (os : List ℕ). Runs os reading printed answer) (sym taken.order) runs;
   }
@@ -225,7 +270,7 @@ module _ {R W : Type 0} {remaining : R → Option (List ℕ)} {contents : W → 
       → RunsOn remaining contents reader reader' page kept answer
   unwritten answer is =
       let later = (course s.stage is_first count (lines (line ++ rest) reading)).text in
-      stops answer (s.printed ⨾ handed)
+      stops answer (prints_nothing kept) (s.printed ⨾ handed)
       (rw is (
         later,
         sym (runs_text (lines ((s.octets ++ line) ++ rest) reading))
@@ -239,7 +284,7 @@ module _ {R W : Type 0} {remaining : R → Option (List ℕ)} {contents : W → 
   unread is cut =
       let c = rw is at cut in
       let h = rw is at stands in
-      stops (Err ReadFailed) (s.printed ⨾ handed)
+      stops (Err ReadFailed) (prints_nothing kept) (s.printed ⨾ handed)
       (runs_as octets_now reading (behind s.text (course s.stage is_first count [])) (Err ReadFailed)
       (left [] (rw (is, h.0, append-nil line) (lines-rest line c.0 c.1))) (rw is refl))
 
@@ -251,7 +296,7 @@ module _ {R W : Type 0} {remaining : R → Option (List ℕ)} {contents : W → 
       let is = at_end reading line cut going (ap length empty) in
       let h = rw is at stands in
       let empty_reads : rest ≡ [] = h.0 in
-      stops (Ok (record { lines = count })) (s.printed ⨾ handed)
+      stops (Ok (record { lines = count })) (prints_nothing kept) (s.printed ⨾ handed)
       (runs_as octets_now reading (behind s.text (course s.stage is_first count [])) (Ok (record { lines = count }))
       (left [] (rw (empty, empty_reads) refl)) (rw is refl))
 
@@ -262,7 +307,7 @@ module _ {R W : Type 0} {remaining : R → Option (List ℕ)} {contents : W → 
   faulty fault going cut some bad =
       let next = NextLine-from remaining reading middle reader' line rest cut stands going some in
       let at = next.same is_first ∙ bad in
-      stops (Err (fault_at (count + 1) (Err fault))) (s.printed ⨾ handed)
+      stops (Err (fault_at (count + 1) (Err fault))) (prints_nothing kept) (s.printed ⨾ handed)
       (fault_runs octets_now reading (s.text ++ []) (count + 1) fault
       (runs_as octets_now reading
       (record { text = s.text ++ []; fault = Some (fault_at (count + 1) (Err fault)); count = count })
@@ -279,7 +324,7 @@ module _ {R W : Type 0} {remaining : R → Option (List ℕ)} {contents : W → 
   to_last {last} one is cut some ok printed =
       let c = rw is at cut in
       let h = rw is at stands in
-      stops (Ok (record { lines = count + 1 })) (s.printed ⨾ handed ⨾ printed ⨾ prints_nothing last)
+      stops (Ok (record { lines = count + 1 })) printed (s.printed ⨾ handed ⨾ printed ⨾ prints_nothing last)
       (runs_as octets_now reading
       (behind s.text (behind (ran s.stage one).text (course_on s.stage is_first count [] one)))
       (Ok (record { lines = count + 1 }))
@@ -303,6 +348,8 @@ module _ {R W : Type 0} {remaining : R → Option (List ℕ)} {contents : W → 
         taken = taken;
         asked = let none = ap empty_reads is in omega (arith, none, reads);
         needed = needed;
+        empty = s.empty;
+        told = λ before split. further _ printed (told before split);
         sound = h.0;
         unended = h.1 ∙ s.unended;
         spared = omega (arith, s.spared, spared);
@@ -311,18 +358,26 @@ module _ {R W : Type 0} {remaining : R → Option (List ℕ)} {contents : W → 
         printed = s.printed ⨾ handed ⨾ printed;
       }
 
+-- Where nothing was given nothing was to be told.
+untold : {out : List ℕ} (before last : List ℕ) → [] ≡ before ++ last
+    → (later : List ℕ) × (out ≡ (out ++ text before Open) ++ later)
+untold {out = out} [] last split = ([], sym (append-nil (out ++ []) ∙ append-nil out))
+untold (octet ∷ before) last split = absurd (cc)
+
 pub SoFar-none : {R W : Type 0} (remaining : R → Option (List ℕ)) (contents : W → Option (List ℕ)) (reader : Checked R)
     (held : List ℕ) (page : Page W)
-    (client : Client) (device : DeviceState) → has_failed reader ≡ false → held ≡ [] → client ≡ new_client 3000 3 0
-    → device ≡ device_with [] →
+    (client : Client) (device : DeviceState) → on_page page ≡ [] → has_failed reader ≡ false → held ≡ []
+    → client ≡ new_client 3000 3 0 → device ≡ device_with [] →
     SoFar remaining contents reader reader held page page 0 true client device
-SoFar-none remaining contents reader held page client device sound none fresh unwritten = record {
+SoFar-none remaining contents reader held page client device empty sound none fresh unwritten = record {
   octets = [];
   text = [];
   stage = first_stage;
   taken = record { given = []; gave = Gave-none reader; order = sym none };
   asked = omega arith;
   needed = inl (refl, refl);
+  empty = empty;
+  told = λ before split. untold before (last_of reader) split;
   sound = sound;
   unended = refl;
   spared = omega arith;
@@ -342,13 +397,26 @@ front_runs octets reading printed written rest (Err (BadLine n)) runs e = (rest,
 front_runs octets reading printed written rest (Err (LineTooLong n)) runs e = (rest, sym runs.0 ∙ e)
 front_runs octets reading printed written rest (Ok end) runs e = (rest, sym runs.0 ∙ e)
 
+-- What was told before the last read is told once the page is finished.
+told_still : {R W : Type 0} {contents : W → Option (List ℕ)} (reader' : Checked R) (first last : Page W)
+    {writer after : Checked W} {given : List ℕ} → writer_of first ≡ writer
+    → IsToldFirst reader' (writer_of first) (writer_of last) given →
+    Writes contents (writer_of last) after (on_page last) [] [] → IsToldFirst reader' writer after given
+told_still {W = W} reader' first last {after = after} {given = given} same so_far gone =
+    subst (λ (w : Checked W). IsToldFirst reader' w after given) same
+    (λ before split. let t = so_far before split in (
+      t.0 ++ gone.taken,
+      gone.took.passed ∙ ap (λ (zs : List ℕ). zs ++ gone.taken) t.1
+          ∙ append_assoc (octets_of (writer_of first) ++ text before Open) t.0 gone.taken,
+    ))
+
 module _ {R W : Type 0} {remaining : R → Option (List ℕ)} {contents : W → Option (List ℕ)} {reader reader' : Checked R}
     {writer after back : Checked W}
     {first last : Page W} {answer : Result TraceEnd TraceFault} where
   -- The page of a run was finished, and all was written.
   pub traces_all : after ≡ back → RunsOn remaining contents reader reader' first last answer → writer_of first ≡ writer
-      → held first ≡ [] →
-      Writes contents (writer_of last) after (held last) [] [] → has_failed after ≡ false
+      → on_page first ≡ [] →
+      Writes contents (writer_of last) after (on_page last) [] [] → has_failed after ≡ false
       → Traces remaining contents reader reader' writer back answer
   traces_all is s same empty gone good =
       subst (λ (w : Checked W). Traces remaining contents reader reader' writer w answer) is
@@ -357,6 +425,7 @@ module _ {R W : Type 0} {remaining : R → Option (List ℕ)} {contents : W → 
         reading = s.reading;
         written = s.printed;
         read = s.read;
+        told = told_still reader' first last same s.told gone;
         took = all_written (finished same empty s.prints gone) good;
         runs = s.runs;
       })
@@ -364,7 +433,7 @@ module _ {R W : Type 0} {remaining : R → Option (List ℕ)} {contents : W → 
   -- The same where the writer has failed.
   pub traces_front : (told : Result TraceEnd TraceFault) → told ≡ Err WriteFailed → after ≡ back
       → RunsOn remaining contents reader reader' first last answer →
-      writer_of first ≡ writer → held first ≡ [] → Writes contents (writer_of last) after (held last) [] []
+      writer_of first ≡ writer → on_page first ≡ [] → Writes contents (writer_of last) after (on_page last) [] []
       → Traces remaining contents reader reader' writer back told
   traces_front told failed is s same empty gone =
       let w = finished same empty s.prints gone in
@@ -374,6 +443,7 @@ module _ {R W : Type 0} {remaining : R → Option (List ℕ)} {contents : W → 
         reading = s.reading;
         written = w.taken;
         read = s.read;
+        told = told_still reader' first last same s.told gone;
         took = w.took;
         runs = subst (λ (a : Result TraceEnd TraceFault). Runs s.given s.reading w.taken a) (sym failed)
             (front_runs s.given s.reading s.printed w.taken w.rest answer s.runs w.whole);

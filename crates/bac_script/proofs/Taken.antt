@@ -6,18 +6,21 @@ use Rattle.std.proofs.Common.{length-append, arith}
 use Rattle.std.specs.Prelude.{◌==◌, position}
 use Rattle.std.proofs.lemmas.Bool.{eqb-false, eqb-true}
 use Rattle.std.proofs.lemmas.Bool.Decides.{nat_tests}
-use Rattle.std.proofs.lemmas.List.{take-append-drop, take_all, take_more, drop_all}
+use Rattle.std.proofs.lemmas.List.{take-append-drop, take_all, take_more, drop_all, append-nil}
+use Rattle.bac_text.specs.declared.page.Page.{Page}
+use Rattle.bac_text.specs.Page.{held as on_page, writer_of, Wrote, Prints}
+use Rattle.bac_text.proofs.Printed.{◌⨾◌}
 use Rattle.std.proofs.lemmas.List.Sums.{fails_before_first}
 use Rattle.std.proofs.lemmas.List.Quantifiers.{position-Some}
 use Rattle.bac_text.specs.declared.checked.Checked.{Checked}
-use Rattle.bac_text.specs.Checked.{reads_of, ends_with, last_of}
+use Rattle.bac_text.specs.Checked.{reads_of, ends_with, last_of, octets_of, has_failed}
 use Rattle.bac_script.specs.Inner.Feeds.{HasNoFeed}
 use Rattle.bac_script.specs.Inner.Limits.{line_room}
 use Rattle.bac_script.specs.declared.input.Reading.{Reading}
 use Rattle.bac_script.specs.declared.input.Reading.TheVariants.{Open, AtEnd, Failed}
 use Rattle.bac_script.specs.Input.{ReaderStands}
 use Rattle.bac_script.specs.Inner.Input.{HasNotEnded}
-use Rattle.bac_script.specs.Inner.Input.{TakesAndKeeps, ReadForLine, IsNext}
+use Rattle.bac_script.specs.Inner.Input.{TakesAndKeeps, ReadForLine, IsNext, IsTurnedIn}
 use Rattle.bac_text.proofs.Known.{Gave-more}
 
 pub Takes-more : {R : Type 0} {remaining : R → Option (List ℕ)} {a b c : Checked R} {held mid kept xs ys : List ℕ}
@@ -37,21 +40,67 @@ pub Takes-front : {R : Type 0} {remaining : R → Option (List ℕ)} {a b : Chec
     TakesAndKeeps remaining a b held (drop n mid) (take n mid)
 Takes-front {mid = mid} n p = record { given = p.given; gave = p.gave; order = p.order ∙ sym (take-append-drop n mid) }
 
+-- What a page held is out, where nothing is left on it and its writer has not failed.
+turned : {W : Type 0} {contents : W → Option (List ℕ)} {page page' : Page W} → Prints contents page page' []
+    → on_page page' ≡ [] → has_failed (writer_of page') ≡ false → IsTurnedIn page page'
+unfolding Wrote
+turned {page = page} {page' = page'} printed empty good =
+    let w = printed.wrote in
+    let h = w.sound good in
+    let all : on_page page ≡ w.taken =
+    sym (append-nil (on_page page)) ∙ w.whole ∙ ap (λ (xs : List ℕ). w.taken ++ xs) (h.1 ∙ empty)
+    ∙ append-nil w.taken in
+    record {
+      sound = h.0;
+      later = [];
+      out = w.took.passed ∙ ap (λ (xs : List ℕ). octets_of (writer_of page) ++ xs) (sym all)
+          ∙ sym (append-nil (octets_of (writer_of page) ++ on_page page));
+    }
+
+-- It stays out.
+pub further : {W : Type 0} {contents : W → Option (List ℕ)} {page page' : Page W} {text : List ℕ} (out : List ℕ)
+    → Prints contents page page' text
+    → ((later : List ℕ) × (octets_of (writer_of page) ≡ out ++ later))
+    → (later : List ℕ) × (octets_of (writer_of page') ≡ out ++ later)
+unfolding Wrote
+further out printed before =
+    let w = printed.wrote in (
+      before.0 ++ w.taken,
+      w.took.passed ∙ ap (λ (xs : List ℕ). xs ++ w.taken) before.1 ∙ append_assoc out before.0 w.taken,
+    )
+
+-- What the page is handed later changes nothing of that.
+pub still_for_line : {R W : Type 0} {contents : W → Option (List ℕ)} {a b : Checked R} {page page' page'' : Page W}
+    {held now : List ℕ} → ReadForLine a b page page' held now → Prints contents page' page'' []
+    → ReadForLine a b page page'' held now
+still_for_line (inl same) then = inl same
+still_for_line (inr r) then =
+    let more = further _ then (r.1.later, r.1.out) in
+    inr (r.0, record { sound = r.1.sound; later = more.0; out = more.1 })
+
 -- One more read, where no line is held, or none, since the reads are spent.
-pub read_for_line : {R : Type 0} {remaining : R → Option (List ℕ)} {a b c : Checked R} {held now later : List ℕ}
-    → TakesAndKeeps remaining a b held now [] →
-    ReadForLine a b held now → reads_of b + length held ≤ reads_of a + length now → HasNoFeed now
+pub read_for_line : {R W : Type 0} {remaining : R → Option (List ℕ)} {contents : W → Option (List ℕ)}
+    {a b c : Checked R} {page page' page'' : Page W} {held now later : List ℕ}
+    → TakesAndKeeps remaining a b held now [] → Prints contents page page' [] → Prints contents page' page'' []
+    → on_page page'' ≡ [] → has_failed (writer_of page'') ≡ false →
+    ReadForLine a b page page' held now → reads_of b + length held ≤ reads_of a + length now → HasNoFeed now
     → length now < line_room →
-    ((c ≡ b) × (later ≡ now)) ⊎ (later ≡ now ++ last_of c) → reads_of c ≤ reads_of b + 1 → ReadForLine a c held later
-read_for_line {a = a} {held = held} {later = later} p before asked none short (inl same) once =
-    subst (λ r. ReadForLine a r held later) (sym same.0) (subst (ReadForLine a _ held) (sym same.1) before)
-read_for_line {c = c} {held = held} p before asked none short (inr more) once = inr (record {
-  before = p.given;
-  order = more ∙ ap (λ zs. zs ++ last_of c) (sym p.order);
-  asked = let size = ap length p.order in omega (arith, asked, once, size, length-append held p.given);
-  no_feed = subst HasNoFeed (sym p.order) none;
-  short = subst (λ (zs : List ℕ). length zs < line_room) (sym p.order) short;
-})
+    ((c ≡ b) × (later ≡ now)) ⊎ (later ≡ now ++ last_of c) → reads_of c ≤ reads_of b + 1
+    → ReadForLine a c page page'' held later
+read_for_line {a = a} {page = page} {page'' = page''} {held = held} {later = later} p first then empty good before asked
+    none short (inl same) once =
+    subst (λ r. ReadForLine a r page page'' held later) (sym same.0)
+    (subst (ReadForLine a _ page page'' held) (sym same.1) (still_for_line before then))
+read_for_line {c = c} {held = held} p first then empty good before asked none short (inr more) once = inr (
+  record {
+    before = p.given;
+    order = more ∙ ap (λ zs. zs ++ last_of c) (sym p.order);
+    asked = let size = ap length p.order in omega (arith, asked, once, size, length-append held p.given);
+    no_feed = subst HasNoFeed (sym p.order) none;
+    short = subst (λ (zs : List ℕ). length zs < line_room) (sym p.order) short;
+  },
+  turned (first ⨾ then) empty good,
+)
 
 -- Where reading is over, the next line is all that is held.
 pub next_at_end : {R : Type 0} {remaining : R → Option (List ℕ)} {a : Checked R} (b : Checked R) {c : Checked R}

@@ -6,9 +6,9 @@ use Rattle.bac_script.specs.declared.input.Reading.TheVariants.{Open}
 use Rattle.bac_script.specs.declared.tracing.TraceEnd.{TraceEnd}
 use Rattle.bac_script.specs.declared.tracing.TraceFault.{TraceFault}
 use Rattle.bac_script.specs.declared.tracing.TraceFault.TheVariants.{BadLine, LineTooLong}
-use Rattle.bac_text.specs.Checked.{reads_of, last_of, Took, Gave}
+use Rattle.bac_text.specs.Checked.{reads_of, last_of, octets_of, Took, Gave}
 use Rattle.bac_script.specs.Input.{ReaderStands, ReadsNoMore}
-use Rattle.bac_script.specs.Script.{lines, first_fault, Runs}
+use Rattle.bac_script.specs.Script.{lines, first_fault, text, Runs}
 
 -- No line with a fault was among the octets that the reader gave before its last read: so that read was needed. It was
 -- asked at most once for each of those octets, and once more.
@@ -26,6 +26,12 @@ pub record HasRead {R : Type 0} (remaining : R → Option (List ℕ)) (reader re
   pub needed : ((reader' ≡ reader) × (given ≡ [])) ⊎ LastIsNeeded reader reader' given
   pub spared : ReadsNoMore reader reader'
 
+-- The text of the lines that were whole before the last read was written: so nobody waits for text while the reader is
+-- asked, and nothing is read once the writer has failed.
+abbrev pub IsToldFirst : {R W : Type 0} → Checked R → Checked W → Checked W → List ℕ → Type 0
+IsToldFirst reader' writer writer' given = (before : List ℕ) → given ≡ before ++ last_of reader' →
+    (later : List ℕ) × (octets_of writer' ≡ (octets_of writer ++ text before Open) ++ later)
+
 -- What was written and answered is that of the script of the octets that the reader gave, and of how reading stopped.
 pub record Traces {R W : Type 0} (remaining : R → Option (List ℕ)) (contents : W → Option (List ℕ))
     (reader reader' : Checked R) (writer writer' : Checked W) (answer : Result TraceEnd TraceFault) : Type 0 where
@@ -33,6 +39,7 @@ pub record Traces {R W : Type 0} (remaining : R → Option (List ℕ)) (contents
   pub reading : Reading
   pub written : List ℕ
   pub read : HasRead remaining reader reader' given reading
+  pub told : IsToldFirst reader' writer writer' given
   pub took : Took contents writer writer' written
   pub runs : Runs given reading written answer
 

@@ -2,7 +2,7 @@
 ghost use Rattle.std.specs.Prelude.{◌≡◌, ◌≢◌, ◌==◌, ◌+◌, ◌<◌, ◌≤◌, ◌⊎◌, ◌++◌, [], length, take, drop, position, true};
 ghost use Rattle.std.specs.Prelude.{false, MatchOption, MatchResult};
 ghost use Rattle.bac_text.specs.Checked.{has_failed, reads_of, last_of};
-ghost use Rattle.bac_text.specs.Page.{held, writer_of, Prints};
+ghost use Rattle.bac_text.specs.Page.{writer_of, Prints};
 ghost use Rattle.bac_script.specs.Inner.Feeds.{HasNoFeed};
 ghost use Rattle.bac_script.specs.Input.{ReaderStands, ReadsNoMore};
 ghost use Rattle.bac_script.specs.Inner.Input.{most_to_come, may_read, empty_reads, TakesAndKeeps, ReadForLine};
@@ -105,7 +105,7 @@ impl Chunk {
     /// # Errors
     ///
     /// `WriteFailed` where the page has failed before a read that would be needed.
-    #[tactic(auto, using(crate::proofs::Taken::read_for_line), unfolding(bac_text::specs::Page::Wrote))]
+    #[tactic(auto, using(crate::proofs::Taken::read_for_line, crate::proofs::Taken::still_for_line), unfolding(bac_text::specs::Page::Wrote))]
     pub(crate) fn next_line<R: Read, W: Write>(
         &mut self,
         reader: &mut Checked<R>,
@@ -122,7 +122,7 @@ impl Chunk {
             (λ next. reads_of reader.new + length self.old ≤ reads_of reader.old + length self.new
             + empty_reads next.reading)
             (λ _. reads_of reader.new + length self.old ≤ reads_of reader.old + length self.new) }
-        ensures needed { ReadForLine reader.old reader.new self.old self.new }
+        ensures needed { ReadForLine reader.old reader.new page.old page.new self.old self.new }
         ensures spared { ReadsNoMore reader.old reader.new }
         ensures room { most_to_come reader.new self.new ≤ most_to_come reader.old self.old }
     {
@@ -135,7 +135,7 @@ impl Chunk {
             if page.failed() {
                 return Err(WriteFailed);
             }
-            let reading = self.read_more(reader, page);
+            let reading = self.read_more(reader);
             if reading != Reading::Open {
                 let length = self.len();
                 return Ok(Next { reading, length });
@@ -162,14 +162,10 @@ impl Chunk {
         }
     }
 
-    // Reads once more behind what is held. The page is empty and its writer has not failed, so that nobody waits for
-    // text that was printed, and nothing is read for a text that can't be written. No clause of `trace` says so: it
-    // stands on these conditions, and on this being the one place that reads.
-    fn read_more<R: Read, W>(&mut self, reader: &mut Checked<R>, _page: &Page<'_, W>) -> Reading
+    // Reads once more behind what is held.
+    fn read_more<R: Read>(&mut self, reader: &mut Checked<R>) -> Reading
         requires reader { has_failed reader.old ≡ false }
         requires short { length self.old < LINE_ROOM }
-        requires turned_in { held _page.now ≡ [] }
-        requires writer { has_failed (writer_of _page.now) ≡ false }
         ensures given { TakesAndKeeps R.remaining reader.old reader.new self.old self.new [] }
         ensures stands { ReaderStands R.remaining result reader.old reader.new [] }
         ensures asked { reads_of reader.new + length self.old ≤ reads_of reader.old + length self.new

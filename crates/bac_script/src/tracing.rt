@@ -1,10 +1,10 @@
 //! A script, run as it is read.
-ghost use Rattle.std.specs.Prelude.{◌≡◌, ◌⊎◌, ◌↔◌, true, false, Err};
+ghost use Rattle.std.specs.Prelude.{◌≡◌, ◌⊎◌, ◌↔◌, true, false, Err, []};
 ghost use Rattle.bac_text.specs.Checked.{has_failed};
 ghost use Rattle.bac_script.specs.Input.{AreSpent};
 ghost use Rattle.bac_script.specs.Inner.Running.{new_client};
 ghost use Rattle.bac_script.specs.Script.{fault_at};
-ghost use Rattle.bac_text.specs.Page.{writer_of};
+ghost use Rattle.bac_text.specs.Page.{held, writer_of};
 ghost use Rattle.bac_script.specs.Tracing.{Traces, trace_status_of};
 ghost use Rattle.bac_script.specs.Inner.Tracing.{RunsOn};
 
@@ -75,6 +75,7 @@ fn run_script<R: Read, W: Write>(
     page: &mut Page<'_, W>,
 ) -> Result<TraceEnd, TraceFault>
     requires reader { has_failed reader.old ≡ false }
+    requires page { held page.old ≡ [] }
     ensures script { RunsOn R.remaining W.contents reader.old reader.new page.old page.new result }
     ensures read_failed { result ≡ Err TraceFault.ReadFailed → (has_failed reader.new ≡ true) ⊎ AreSpent reader.new }
     ensures write_failed { result ≡ Err TraceFault.WriteFailed → has_failed (writer_of page.new) ≡ true }

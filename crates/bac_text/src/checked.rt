@@ -1,9 +1,9 @@
 //! Readers and writers that remember whether they failed.
-ghost use Rattle.std.specs.Prelude.{◌≡◌, ◌+◌, ◌-◌, ◌^◌, ◌++◌, ◌||◌, min, false, is_err};
+ghost use Rattle.std.specs.Prelude.{◌≡◌, ◌+◌, ◌-◌, ◌^◌, ◌++◌, ◌||◌, min, is_err};
 ghost use Rattle.std.specs.Io.{ReadsAtMost, WritesAtMost};
 ghost use Rattle.std.specs.Io.KnownBytes.{ReadConsumes, WriteAppends, Keeps};
 ghost use Rattle.bac_text.specs.Checked.{inner_of, has_failed, has_ended, ends_of, reads_of, octets_of, last_of, gone};
-ghost use Rattle.bac_text.specs.Checked.{HasNotRead, fresh, passes_none, ends_with, TookOrFailed};
+ghost use Rattle.bac_text.specs.Checked.{HasNotRead, fresh, passes_none, ends_with};
 ghost use Rattle.bac_text.specs.Inner.Checked.{having_passed};
 
 use crate::transcript::{Part, Transcript};
@@ -133,28 +133,5 @@ impl<W: Write> Write for Checked<W> {
         ensures reads { self.new ≡ record self.old { inner = self.new.inner } }
     {
         self.inner.flush()
-    }
-}
-
-impl<W: Write> Checked<W> {
-    /// Writes the whole text, or fails after a front of it.
-    #[tactic(auto, using(crate::proofs::Known::Sent_more))]
-    pub(crate) fn put(&mut self, text: &[u8]) -> Result<(), WriteFailed>
-        requires { has_failed self.old ≡ false }
-        ensures text { TookOrFailed W.contents self.old self.new text.now result }
-        ensures failed { has_failed self.new ≡ is_err result }
-        ensures reads { HasNotRead self.old self.new }
-    {
-        let mut rest = text;
-        while !rest.is_empty() {
-            let Ok(taken) = self.write(rest) else {
-                return Err(WriteFailed);
-            };
-            if taken == 0 {
-                return Err(WriteFailed);
-            }
-            rest = &rest[taken..];
-        }
-        Ok(())
     }
 }

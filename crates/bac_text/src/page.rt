@@ -1,7 +1,7 @@
 //! Text on its way to a writer.
-ghost use Rattle.std.specs.Prelude.{◌≡◌, ◌+◌, ◌≤◌, [], ◌++◌, drop, length, decimal, is_err};
+ghost use Rattle.std.specs.Prelude.{◌≡◌, ◌+◌, ◌≤◌, [], ◌++◌, drop, length, decimal, is_err, false};
 ghost use Rattle.hex.specs.Hex.{encode_lower};
-ghost use Rattle.bac_text.specs.Checked.{has_failed};
+ghost use Rattle.bac_text.specs.Checked.{has_failed, HasNotRead, TookOrFailed};
 ghost use Rattle.bac_text.specs.Page.{held, writer_of, Writes, Prints};
 
 use crate::checked::{Checked, WriteFailed};
@@ -47,12 +47,34 @@ pub(crate) fn write_digits(number: u64, room: &mut [u8], end: usize) -> usize
     start
 }
 
+// Writes the whole text, or fails after a front of it. It stands apart from what `Checked` keeps, so that a writer
+// fails by nothing but its own writes.
+#[tactic(auto, using(crate::proofs::Known::Sent_more))]
+fn put<W: Write>(writer: &mut Checked<W>, text: &[u8]) -> Result<(), WriteFailed>
+    requires { has_failed writer.old ≡ false }
+    ensures text { TookOrFailed W.contents writer.old writer.new text.now result }
+    ensures failed { has_failed writer.new ≡ is_err result }
+    ensures reads { HasNotRead writer.old writer.new }
+{
+    let mut rest = text;
+    while !rest.is_empty() {
+        let Ok(taken) = writer.write(rest) else {
+            return Err(WriteFailed);
+        };
+        if taken == 0 {
+            return Err(WriteFailed);
+        }
+        rest = &rest[taken..];
+    }
+    Ok(())
+}
+
 // Writes the whole text, or nothing where the writer has failed before.
 fn write_on<W: Write>(writer: &mut Checked<W>, text: &[u8])
     ensures { Writes W.contents writer.old writer.new [] [] text.now }
 {
     if !writer.failed() {
-        let _ = writer.put(text);
+        let _ = put(writer, text);
     }
 }
 

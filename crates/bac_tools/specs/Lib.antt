@@ -4,4 +4,3 @@ pub mod Outside
 pub mod Runs
 pub mod Program
 pub mod Alike
-pub mod Inner

@@ -1,9 +1,15 @@
 -- From the words to what is asked of the socket, what is printed, and the status.
-use Rattle.std.specs.Prelude.{◌≡◌, ◌⊎◌, List, [], Option, Some, None, option_and_then, IsSomeAnd, Result, Ok, Err}
-use Rattle.std.specs.Prelude.{IsErrAnd}
-use Rattle.std.specs.Result.{result_ok}
+use Rattle.std.specs.Prelude.{◌≡◌, ◌⊎◌, List, Option, Some, None, option_and_then, IsSomeAnd, IfNone}
+use Rattle.std.specs.Prelude.{Result, Ok, Err, IsErrAnd, map}
+use Rattle.std.specs.IoError.{error_kind}
+use Rattle.std.specs.Result.{result_map_both, result_ok}
+use Rattle.std.specs.String.{string_bytes}
+use Rattle.std.specs.Vec.Iter.{into_iter_items}
+use Rattle.std.specs.declared.io.Error.{Error}
+use Rattle.std.specs.declared.io.ErrorKind.{ErrorKind}
+use Rattle.std.specs.declared.string.String.{String}
+use Rattle.std.specs.declared.vec.IntoIter.{IntoIter}
 use Rattle.clap.specs.Words.{Text}
-use Rattle.bac_text.specs.Checked.{octets_of}
 use Rattle.bac_text.specs.declared.checked.Checked.{Checked}
 use Rattle.bac_links.specs.declared.link.LinkFault.{LinkFault}
 use Rattle.bac_words.specs.Called.{words_called}
@@ -13,11 +19,16 @@ use Rattle.bac_words.specs.declared.faults.UsageFault.TheVariants.{Memory}
 use Rattle.bac_words.specs.declared.jobs.Job.{Job}
 use Rattle.bac_tools.specs.Binding.{binding_of}
 use Rattle.bac_tools.specs.Outside.{Outside}
-use Rattle.bac_tools.specs.Report.{report_of}
+use Rattle.bac_tools.specs.Report.{report_of, unread_report}
 use Rattle.bac_tools.specs.Runs.{Runs}
 use Rattle.bac_tools.specs.declared.binding.Binding.{Binding}
 use Rattle.bac_tools.specs.declared.program.Ran.{Ran}
 use Rattle.bac_tools.specs.declared.report.Fault.TheVariants as faults
+use Rattle.bac_tools.specs.declared.report.Report.{Report}
+
+-- The words that the system tells, or why it tells none.
+abbrev pub texts_of : {Z : Type 0} → Result (IntoIter (String Z) Z) Error → Result (List Text) ErrorKind
+texts_of typed = result_map_both (λ words. map string_bytes (into_iter_items words)) error_kind typed
 
 module _ {N L R W : Type 0} (gives : N → Binding → Result L LinkFault → Type 0) (out : Outside L R W) where
   -- What the network gives where a socket is asked for.
@@ -25,39 +36,30 @@ module _ {N L R W : Type 0} (gives : N → Binding → Result L LinkFault → Ty
   IsGiven network None opened = opened ≡ None
   IsGiven network (Some binding) opened = IsSomeAnd opened (gives network binding)
 
-  module _ (network : N) (reader reader' : Checked R) (writer writer' : Checked W) (ran : Ran L) where
-    -- A job is run over the socket that it asks for. Where the words give no job, nothing is read, printed or asked
-    -- for, and the report says why.
+  module _ (network : N) (reader reader' : Checked R) (writer writer' : Checked W) (ran : Ran N L) where
+    -- Nothing is read, printed or asked for, and this is reported.
+    abbrev pub Only : Report → Type 0
+    Only report = (reader' ≡ reader) × (writer' ≡ writer)
+        × (ran ≡ record { report = report; socket = None; unasked = Some network })
+
+    -- A job is run over the socket that it asks for. Where the words give no job, the report says why.
     abbrev pub Ends : Result Job UsageFault → Option (Result L LinkFault) → Type 0
     Ends (Ok job) opened = Runs out reader reader' writer writer' ran.report job opened ran.socket
-    Ends (Err fault) opened = (reader' ≡ reader) × (writer' ≡ writer)
-        × (ran ≡ record { report = report_of (faults.Usage fault); socket = None })
+    Ends (Err fault) opened = Only (report_of (faults.Usage fault))
 
     -- The words are answered by a job, or by what is wrong with them: memory ran out, `clap` asks for help or refuses
-    -- them, or they have a first fault. The program asks for the socket of the job, and ends as this answer says.
+    -- them, or they have a first fault. The program asks for the socket of the job, and ends as this answer says. Where
+    -- it asks for none, the network is handed back.
     pub record Program (words : List Text) : Type 0 where
       pub answer : Result Job UsageFault
       pub answered : IsErrAnd answer (IsRefusal words) ⊎ Answers words answer
       pub opened : Option (Result L LinkFault)
       pub given : IsGiven network (option_and_then binding_of (result_ok answer)) opened
       pub ends : Ends answer opened
+      pub unasked : IfNone opened (ran.unasked ≡ Some network)
 
-  -- A program that was called with these words: its report, and what is left of the socket that it had, its reader and
-  -- its writer, through which nothing had passed.
-  pub record Called (ran : Ran L) (reader' : Checked R) (writer' : Checked W) (typed : List Text) : Type 0 where
-    pub network : N
-    pub reader : Checked R
-    pub writer : Checked W
-    pub unread : octets_of reader ≡ []
-    pub unprinted : octets_of writer ≡ []
-    pub program : Program network reader reader' writer writer' ran (words_called typed)
-
-  -- There was no memory for the words.
-  pub record Lacks (ran : Ran L) (reader' : Checked R) (writer' : Checked W) : Type 0 where
-    pub unread : octets_of reader' ≡ []
-    pub unprinted : octets_of writer' ≡ []
-    pub unasked : ran.socket ≡ None
-    pub reported : ran.report ≡ report_of (faults.Usage Memory)
-
-  abbrev pub IsCalled : Ran L → Checked R → Checked W → List Text → Type 0
-  IsCalled ran reader' writer' typed = Called ran reader' writer' typed ⊎ Lacks ran reader' writer'
+    -- The words that the program was called with are run, but where there is no memory for them. Where the system told
+    -- none, the report says why.
+    abbrev pub IsCalled : Result (List Text) ErrorKind → Type 0
+    IsCalled (Ok typed) = Program (words_called typed) ⊎ Only (report_of (faults.Usage Memory))
+    IsCalled (Err kind) = Only (unread_report kind)

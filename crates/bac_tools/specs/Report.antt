@@ -1,6 +1,8 @@
 -- The status with which the program ends, and the fault that it tells of.
 use Rattle.std.specs.Prelude.{◌≡◌, ◌≤◌, ℕ, ⊤, Option, Some, None, option_map, Result, Err}
 use Rattle.std.specs.Result.{result_err}
+use Rattle.std.specs.declared.io.ErrorKind.{ErrorKind}
+use Rattle.std.specs.declared.io.ErrorKind.TheVariants.{OutOfMemory}
 use Rattle.bac_links.specs.Ending.{status_of}
 use Rattle.bac_links.specs.declared.ending.Exit.{Exit}
 use Rattle.bac_links.specs.declared.fault.ToolFault.{ToolFault}
@@ -8,7 +10,7 @@ use Rattle.bac_script.specs.Tracing.{trace_status_of}
 use Rattle.bac_script.specs.declared.tracing.TraceEnd.{TraceEnd}
 use Rattle.bac_script.specs.declared.tracing.TraceFault.{TraceFault}
 use Rattle.bac_words.specs.Fault.{usage_status_of}
-use Rattle.bac_words.specs.declared.faults.UsageFault.TheVariants.{Help}
+use Rattle.bac_words.specs.declared.faults.UsageFault.TheVariants.{Help, Memory}
 use Rattle.bac_tools.specs.declared.report.Fault.{Fault}
 use Rattle.bac_tools.specs.declared.report.Fault.TheVariants as faults
 use Rattle.bac_tools.specs.declared.report.Report.{Report}
@@ -30,6 +32,11 @@ IsStatusOf (Some fault) status = status ≡ fault_status fault
 -- The report that tells of a fault.
 abbrev pub report_of : Fault → Report
 report_of fault = record { status = fault_status fault; fault = Some fault }
+
+-- The report where the words could not be had: for want of memory, or since they are no texts.
+abbrev pub unread_report : ErrorKind → Report
+unread_report OutOfMemory = report_of (faults.Usage Memory)
+unread_report kind = report_of faults.NoText
 
 -- The fault that is told is help, which was asked for.
 abbrev pub IsHelp : Option Fault → Type 0

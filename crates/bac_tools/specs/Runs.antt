@@ -1,5 +1,5 @@
 -- What a job prints, sends and leaves, and how the program ends: for each job by the definition of its tool.
-use Rattle.std.specs.Prelude.{◌≡◌, ◌≢◌, ◌↔◌, ◌⊎◌, ℕ, true, [], List, Option, Some, Result, Ok, Err, IfErr}
+use Rattle.std.specs.Prelude.{◌≡◌, ◌↔◌, ◌⊎◌, ℕ, true, [], List, Option, Some, Result, Ok, Err}
 use Rattle.std.specs.Result.{result_map_both}
 use Rattle.bac_device.specs.Demo.{demo_points}
 use Rattle.bac_device.specs.Device.{DeviceState, device_after}
@@ -14,7 +14,6 @@ use Rattle.bac_links.specs.declared.ending.Exit.{Exit}
 use Rattle.bac_links.specs.declared.ending.Exit.TheVariants.{Good}
 use Rattle.bac_links.specs.declared.ending.Purpose.TheVariants.{Reading, Writing}
 use Rattle.bac_links.specs.declared.fault.ToolFault.{ToolFault}
-use Rattle.bac_links.specs.declared.fault.ToolFault.TheVariants.{WriteFailed}
 use Rattle.bac_links.specs.declared.link.LinkFault.{LinkFault}
 use Rattle.bac_script.specs.Input.{AreSpent}
 use Rattle.bac_script.specs.Tracing.{Traces}
@@ -40,15 +39,11 @@ pub record DevicePlays (serve : Serve) (seen left : Account) (answer : Result Ex
 
 module _ {W : Type 0} (contents : W → Option (List ℕ)) (writer writer' : Checked W) (seen left : Account)
     (answer : Result Exit ToolFault) where
-  -- Only where the writer is at fault was anything printed of a call that met a fault.
-  abbrev pub Unprinted : Type 0
-  Unprinted = IfErr answer (λ fault. fault ≢ WriteFailed → writer' ≡ writer)
-
   -- A request tells its events, its sends, its end and the line of that, by the look-ahead; a search the devices that
   -- it finds, and their lines; a device its replies, and it prints nothing.
   abbrev pub ToolRuns : Job → Type 0
-  ToolRuns (Read call) = Tells Reading call contents writer writer' seen left answer × Unprinted
-  ToolRuns (Write call) = Tells Writing call contents writer writer' seen left answer × Unprinted
+  ToolRuns (Read call) = Tells Reading call contents writer writer' seen left answer
+  ToolRuns (Write call) = Tells Writing call contents writer writer' seen left answer
   ToolRuns (WhoIs search) = Searched search contents writer writer' seen left answer
   ToolRuns (Device serve) = DevicePlays serve seen left answer × (writer' ≡ writer)
   ToolRuns Trace = ⊥

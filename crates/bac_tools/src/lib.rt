@@ -1,8 +1,10 @@
 //! The tools, from the words that ask for them to the status of the program. Here is every name that a program needs.
 //!
-//! [`words_of`] and [`parse_words`] read the words, and [`run_words`] does all of it: it reads them, asks a [`Network`]
-//! for the one socket that the job wants, runs the job, and answers a [`Report`] with the status and the fault that is
-//! told. [`run_job`] runs a job over a link that one has already; [`binding_for`] says which socket a job asks for.
+//! [`run_program`] does all of it: it takes the words that the program was called with ([`words_of`]), reads them
+//! ([`parse_words`]), asks a [`Network`] for the one socket that the job wants, runs the job, and answers a [`Report`]
+//! with the status and the fault that is told. [`run_words`] does this for words that one has already.
+//!
+//! [`run_job`] runs a job over a link that one has already; [`binding_for`] says which socket a job asks for.
 //! `specs/Program.antt` says what comes of the words. The other names are of the crates below, where each is said and
 //! proved.
 //!
@@ -23,6 +25,6 @@ pub use bac_script::{TraceEnd, TraceFault, show_outcome, show_value, trace, trac
 pub use bac_text::{Call, Checked, Search, read_peer};
 pub use bac_words::{Job, Serve, UsageFault, parse_words, usage_status, words_of};
 pub use binding::{Binding, binding_for};
-pub use program::{Network, Ran, run_words};
+pub use program::{Ended, Network, Ran, run_program, run_words};
 pub use report::{Fault, Report};
 pub use running::run_job;

@@ -1,9 +1,12 @@
 //! The program, from its words to its report.
-ghost use Rattle.std.specs.Prelude.{◌≡◌, false, IfOk, Result};
+ghost use Rattle.std.specs.Prelude.{◌≡◌, false, map, None, Some, Ok, IfOk, IfErr, MatchResult, Result};
+ghost use Rattle.std.specs.IoError.{error_kind};
+ghost use Rattle.std.specs.String.{string_bytes};
+ghost use Rattle.std.specs.declared.io.ErrorKind.TheVariants.{OutOfMemory};
 ghost use Rattle.clap.specs.Walk.{texts};
-ghost use Rattle.bac_text.specs.Checked.{has_failed};
+ghost use Rattle.bac_text.specs.Checked.{fresh, has_failed};
 ghost use Rattle.bac_links.specs.declared.link.LinkFault.{LinkFault as Unbound};
-ghost use Rattle.bac_tools.specs.Program.{Program};
+ghost use Rattle.bac_tools.specs.Program.{IsCalled, Program, texts_of};
 ghost use Rattle.bac_tools.specs.Report.{IsStatusOf};
 ghost use Rattle.bac_tools.specs.declared.binding.Binding.{Binding as Asked};
 
@@ -12,9 +15,10 @@ use crate::report::Report;
 use crate::running::run_job;
 use bac_links::{Link, LinkFault};
 use bac_text::Checked;
-use bac_words::parse_words;
+use bac_words::{UsageFault, parse_words, words_of};
 use std::alloc::Global;
-use std::io::{Read, Write};
+use std::env;
+use std::io::{self, Read, Write};
 
 /// What a job gets its one socket from.
 pub trait Network {
@@ -33,11 +37,27 @@ pub trait Network {
         ensures sound { IfOk result (λ socket. Self.Socket.has_failed socket ≡ false) };
 }
 
-/// How the program ended, and the socket that it had, or why there was none to be had; None where it asked for none.
+/// How words were run: the report, and the socket that they had, or why there was none to be had; None where they asked
+/// for none.
 #[derive(Drop)]
-pub struct Ran<L: Drop> {
+pub struct Ran<N: Drop, L: Drop> {
     pub report: Report,
     pub socket: Option<Result<L, LinkFault>>,
+    /// The network, where no socket was asked for.
+    pub unasked: Option<N>,
+}
+
+impl<N: Drop, L: Drop> Ran<N, L> {
+    // Nothing was done but this to report.
+    fn only(report: Report, network: N) -> Self
+        ensures { result ≡ record { report = report; socket = None; unasked = Some network } }
+    {
+        Ran {
+            report,
+            socket: None,
+            unasked: Some(network),
+        }
+    }
 }
 
 /// Runs what the words ask for, the first of which is the program's name.
@@ -52,7 +72,7 @@ pub fn run_words<N: Network + Drop, R: Read, W: Write>(
     network: N,
     reader: &mut Checked<R>,
     writer: &mut Checked<W>,
-) -> Ran<N::Socket>
+) -> Ran<N, N::Socket>
     requires reader { has_failed reader.old ≡ false }
     requires writer { has_failed writer.old ≡ false }
     ensures runs { Program N.gives
@@ -62,17 +82,83 @@ pub fn run_words<N: Network + Drop, R: Read, W: Write>(
 {
     let job = match parse_words(alloc, words) {
         Ok(job) => job,
-        Err(fault) => {
-            return Ran {
-                report: Report::from(fault),
-                socket: None,
-            };
-        }
+        Err(fault) => return Ran::only(Report::from(fault), network),
     };
-    let mut socket = match binding_for(&job) {
-        Some(binding) => Some(network.bind(binding)),
-        None => None,
+    let (mut socket, unasked) = match binding_for(&job) {
+        Some(binding) => (Some(network.bind(binding)), None),
+        None => (None, Some(network)),
     };
     let report = run_job(job, &mut socket, reader, writer);
-    Ran { report, socket }
+    Ran {
+        report,
+        socket,
+        unasked,
+    }
+}
+
+/// How the program ended, and its reader and its writer afterwards.
+#[derive(Drop)]
+pub struct Ended<N: Drop, L: Drop, R: Drop, W: Drop> {
+    pub ran: Ran<N, L>,
+    pub reader: Checked<R>,
+    pub writer: Checked<W>,
+}
+
+/// Runs the program: the words that it was called with, or why they could not be had.
+///
+/// The network, the reader and the writer are all that it has of the world.
+pub fn run_program<N: Network + Drop, R: Read + Drop, W: Write + Drop>(
+    alloc: Global,
+    typed: io::Result<env::Args>,
+    network: N,
+    reader: R,
+    writer: W,
+) -> Ended<N, N::Socket, R, W>
+    ensures { IsCalled N.gives
+        record { seen = N.Socket.seen; failed = N.Socket.has_failed; remaining = R.remaining; contents = W.contents }
+        network (fresh reader) result.reader (fresh writer) result.writer result.ran (texts_of typed) }
+{
+    let mut reader = Checked::new(reader);
+    let mut writer = Checked::new(writer);
+    let ran = match kept(alloc, typed) {
+        Ok(typed) => run_typed(alloc, &typed, network, &mut reader, &mut writer),
+        Err(error) => Ran::only(Report::from(error), network),
+    };
+    Ended {
+        ran,
+        reader,
+        writer,
+    }
+}
+
+// The words as they were typed, in their order.
+fn kept(alloc: Global, typed: io::Result<env::Args>) -> io::Result<Vec<String>>
+    ensures ok { IfOk result (λ words. texts_of typed ≡ Ok (map string_bytes words.items)) }
+    ensures err { IfErr result (λ error. MatchResult typed (λ words. error_kind error ≡ OutOfMemory) (λ e. error ≡ e)) }
+{
+    let mut words = Vec::new(alloc);
+    for word in typed? {
+        words.push(word)?;
+    }
+    Ok(words)
+}
+
+// Runs what these words ask for, as they were typed.
+fn run_typed<N: Network + Drop, R: Read, W: Write>(
+    alloc: Global,
+    typed: &[String],
+    network: N,
+    reader: &mut Checked<R>,
+    writer: &mut Checked<W>,
+) -> Ran<N, N::Socket>
+    requires reader { has_failed reader.old ≡ false }
+    requires writer { has_failed writer.old ≡ false }
+    ensures { IsCalled N.gives
+        record { seen = N.Socket.seen; failed = N.Socket.has_failed; remaining = R.remaining; contents = W.contents }
+        network reader.old reader.new writer.old writer.new result (Ok (map string_bytes typed.now)) }
+{
+    match words_of(alloc, typed) {
+        Ok(words) => run_words(alloc, &words, network, reader, writer),
+        Err(error) => Ran::only(Report::from(UsageFault::from(error)), network),
+    }
 }

@@ -1,7 +1,6 @@
 //! How the program ends.
 ghost use Rattle.std.specs.Prelude.{◌≡◌};
-ghost use Rattle.bac_tools.specs.Report.{report_of, tool_report, trace_report};
-ghost use Rattle.bac_tools.specs.Inner.Report.{unread_report};
+ghost use Rattle.bac_tools.specs.Report.{report_of, tool_report, trace_report, unread_report};
 ghost use Rattle.bac_tools.specs.declared.report.Fault.TheVariants.{Link, Usage};
 
 use bac_links::{Exit, LinkFault, ToolFault, status};

@@ -126,4 +126,5 @@ def main():
     print("changes", tally(changes(datagrams)))
 
 
-main()
+if __name__ == "__main__":
+    main()

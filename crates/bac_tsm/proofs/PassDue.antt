@@ -4,7 +4,7 @@ use Rattle.std.proofs.Common.{Some, None, true, false, nat_le, nat_lt, All, refl
 use Rattle.std.specs.Prelude.{remove}
 use Rattle.std.specs.List.{slice_get, list_any}
 use Rattle.std.proofs.lemmas.Bool.{cases_Bool, leb-false, false≢true}
-use Rattle.std.proofs.lemmas.Option.{slice_get-get_or, slice_get_within, get_or_from_slice_get}
+use Rattle.std.proofs.lemmas.Option.{slice_get_within, get_or_from_slice_get}
 use Rattle.std.proofs.lemmas.List.{length-map, get_or_default, set_split}
 use Rattle.std.proofs.lemmas.List.Folds.{list_any_at, list_any_none}
 use Rattle.std.proofs.lemmas.Bool.Decides.{nat_tests}
@@ -27,18 +27,14 @@ younger timeout clock early late young le =
     let less = leb-false timeout (clock - early) young in
     grind (arith, nat_tests)
 
--- Where some request is due, some was sent first.
-pub first_sent : {slots : List Waiting} {numbers : List (Option ℕ)} {order tickets sends : List ℕ}
+-- Where some request is due, some was sent.
+pub some_sent : {slots : List Waiting} {numbers : List (Option ℕ)} {order tickets sends : List ℕ}
     → IsTable slots numbers order tickets →
     AreBySend slots (open_slots order tickets) sends → (ws : List Waiting) → waiting_in slots order tickets ≡ ws
-    → (rules : Rules) (clock : ℕ) →
-    list_any (is_due rules clock) ws ≡ true → (items : List ℕ) → items ≡ sends
-    → Some (get_or items 0 0) ≡ slice_get items 0
-first_sent t q [] view rules clock due items are = absurd (false≢true due)
-first_sent t q (w ∷ ws) view rules clock due items are =
-    let some : 0 < length items = let e = ap length are in let f = q.all in let g = as_many t in
-    let h = count t (w ∷ ws) view in omega arith in
-    sym (slice_get-get_or items 0 0 some)
+    → (rules : Rules) (clock : ℕ) → list_any (is_due rules clock) ws ≡ true → 0 < length sends
+some_sent t q [] view rules clock due = absurd (false≢true due)
+some_sent t q (w ∷ ws) view rules clock due =
+    let f = q.all in let g = as_many t in let h = count t (w ∷ ws) view in omega arith
 
 module _ (rules : Rules) (clock : ℕ) (w : Waiting) where
   is_again : (ticket : ℕ) → due_entry rules w ≡ Resend ticket → nat_lt w.count rules.retries ≡ true
@@ -51,12 +47,9 @@ module _ (rules : Rules) (clock : ℕ) (w : Waiting) where
 module _ {slots : List Waiting} {numbers : List (Option ℕ)} {order tickets sends : List ℕ}
     (t : IsTable slots numbers order tickets)
     (q : AreBySend slots (open_slots order tickets) sends) (ws : List Waiting)
-    (view : waiting_in slots order tickets ≡ ws)
-    (items : List ℕ) (are : items ≡ sends) (slot : ℕ) (front : Some slot ≡ slice_get items 0) where
+    (view : waiting_in slots order tickets ≡ ws) (slot : ℕ) (front : Some slot ≡ slice_get sends 0) where
   first : (0 < length sends) × (get_or sends 0 0 ≡ slot)
-  first =
-      let e = sym (front ∙ ap (λ (xs : List ℕ). slice_get xs 0) are) in
-      (slice_get_within sends 0 slot e, get_or_from_slice_get sends 0 slot 0 e)
+  first = (slice_get_within sends 0 slot (sym front), get_or_from_slice_get sends 0 slot 0 (sym front))
 
   some : 0 < times_of_slot slot (open_slots order tickets)
   some =

@@ -1,9 +1,9 @@
 -- The table of open requests, and their slots in the order of their last sends, through each edit.
-use Rattle.std.proofs.Common.{◌≡◌, ℕ, suc, ◌+◌, ◌<◌, ◌≤◌, List, [], ◌∷◌, ◌++◌, length, map, take, drop, set, get_or}
-use Rattle.std.proofs.Common.{replicate, Option, Some, None, All, refl, ap, sym, subst, ◌∙◌, inl, inr, arith}
+use Rattle.std.proofs.Common.{◌≡◌, ℕ, suc, ◌+◌, ◌<◌, ◌≤◌, List, [], ◌∷◌, ◌++◌, length, map, take, set, get_or}
+use Rattle.std.proofs.Common.{replicate, Option, Some, None, All, refl, ap, sym, subst, ◌∙◌, arith}
 use Rattle.std.specs.Prelude.{remove}
 use Rattle.std.proofs.lemmas.Bool.{cases_eq}
-use Rattle.std.proofs.lemmas.List.{length-append, length-replicate, get_or-replicate, length-map, length-set}
+use Rattle.std.proofs.lemmas.List.{length-append, get_or-replicate, length-map, length-set}
 use Rattle.std.proofs.lemmas.List.{length-take, map-append, take_at, take-append-drop, append_assoc, get_or-set_same}
 use Rattle.std.proofs.lemmas.List.{get_or-set_other, get_or-map}
 use Rattle.std.proofs.lemmas.Simd.{map-map}
@@ -37,12 +37,12 @@ all_among : (P : Waiting → Type 0) (slots : List Waiting) (xs ys : List ℕ)
     → ((slot : ℕ) → 0 < times_of_slot slot xs → 0 < times_of_slot slot ys) →
     All P (held_at slots ys) → All P (held_at slots xs)
 all_among P slots xs ys among all = λ k d lt.
-    let read = λ (slot : ℕ). get_or slots slot nothing in
+    let read = λ (slot : ℕ). get_or slots slot _ in
     let within : k < length xs = rw length-map at lt in
-    let there = found_at (get_or xs k 0) ys (among (get_or xs k 0) (times_got itself xs k 0 within)) in
+    let there = found_at _ ys (among _ (times_got _ xs k 0 within)) in
     subst P
-    (get_or-map read ys there.0 0 d there.1.within ∙ ap read there.1.there ∙ sym (get_or-map read xs k 0 d within))
-    (all there.0 d (rw length-map there.1.within))
+    (get_or-map read ys _ 0 d there.1.within ∙ ap read there.1.there ∙ sym (get_or-map read xs k 0 d within))
+    (all _ d (rw length-map there.1.within))
 
 -- A slot is put behind others, with a request that was sent last.
 pub queue-push : (slots : List Waiting) (rest after : List ℕ) (slot : ℕ) (w : Waiting) → slot < length slots →
@@ -52,39 +52,39 @@ pub queue-push : (slots : List Waiting) (rest after : List ℕ) (slot : ℕ) (w 
     AllPairs IsEarlier (held_at slots rest) → All (λ v. v.base ≤ w.base) (held_at slots rest)
     → AreBySend (set slots slot w) after (rest ++ slot ∷ [])
 queue-push slots rest after slot w there long same once by_send late = record {
-  all = let e = length-append rest (slot ∷ []) in omega arith;
-  same = λ p. times-append itself p rest (slot ∷ []) ∙ same p;
+  all = grind (arith, length-append);
+  same = λ p. times-append _ p rest _ ∙ same p;
   by_send =
       subst (AllPairs IsEarlier)
-      (sym (held-push slots slot w rest there
+      (sym (held-push _ slot w rest there
       (let e = same slot in let one = times_one itself slot slot refl in omega arith)))
-      (all_pairs_push IsEarlier (held_at slots rest) w by_send late);
+      (all_pairs_push IsEarlier _ w by_send late);
 }
 
 module _ {slots : List Waiting} {opened sends : List ℕ} (q : AreBySend slots opened sends) where
   -- What holds of the open requests holds of them in this order, and the other way round.
   pub all_sent : (P : Waiting → Type 0) → All P (held_at slots opened) → All P (held_at slots sends)
-  all_sent P = all_among P slots sends opened (λ slot some. let e = q.same slot in omega arith)
+  all_sent P = all_among P slots sends opened (omega arith)
 
   pub all_opened : (P : Waiting → Type 0) → All P (held_at slots sends) → All P (held_at slots opened)
-  all_opened P = all_among P slots opened sends (λ slot some. let e = q.same slot in omega arith)
+  all_opened P = all_among P slots opened sends (omega arith)
 
   module _ (slot : ℕ) (rest : List ℕ) (out : IsTakenOut slot sends rest) where
     times_out : (p : ℕ) → times_of_slot p rest + times_of_slot p (slot ∷ []) ≡ times_of_slot p sends
     times_out p =
-        let e = times-remove itself p sends out.0 0 out.1 in
+        let e = times-remove itself p _ _ 0 out.1 in
         let f = ap (λ (k : ℕ). times_of_slot p (k ∷ [])) out.2 in
         let g = ap (times_of_slot p) out.3 in
         omega arith
 
     length_out : length rest + 1 ≡ length sends
-    length_out = let e = length-remove sends out.0 out.1 in let f = ap length out.3 in omega arith
+    length_out = grind (arith, length-remove)
 
     by_send_out : AllPairs IsEarlier (held_at slots rest)
     by_send_out =
         subst (AllPairs IsEarlier)
-        (sym (ap (held_at slots) out.3 ∙ map-remove (λ p. get_or slots p nothing) sends out.0))
-        (all_pairs_remove IsEarlier (held_at slots sends) out.0 (rw length-map out.1) q.by_send)
+        (sym (ap (held_at slots) out.3 ∙ map-remove _ sends out.0))
+        (all_pairs_remove IsEarlier _ out.0 (rw length-map out.1) q.by_send)
 
     -- A request ends.
     pub queue-remove : (after : List ℕ) → length after + 1 ≡ length opened
@@ -92,7 +92,7 @@ module _ {slots : List Waiting} {opened sends : List ℕ} (q : AreBySend slots o
         → AreBySend slots after rest
     queue-remove after long same = record {
       all = let e = length_out in let f = q.all in omega arith;
-      same = λ p. let e = times_out p in let f = same p in let g = q.same p in omega arith;
+      same = grind (arith, times_out);
       by_send = by_send_out;
     }
 
@@ -101,15 +101,15 @@ module _ {slots : List Waiting} {opened sends : List ℕ} (q : AreBySend slots o
         → All (λ v. v.base ≤ w.base) (held_at slots opened) →
         AreBySend (set slots slot w) opened (rest ++ slot ∷ [])
     queue-again w there once late =
-        queue-push slots rest opened slot w there (length_out ∙ q.all) (λ p. times_out p ∙ q.same p) once by_send_out
-        (all_among (λ v. v.base ≤ w.base) slots rest sends (λ p some. let e = times_out p in omega arith)
+        queue-push _ rest _ slot w there (length_out ∙ q.all) (λ p. times_out p ∙ q.same p) once by_send_out
+        (all_among (λ v. v.base ≤ w.base) _ rest _ (λ p some. let e = times_out p in omega arith)
         (all_sent (λ v. v.base ≤ w.base) late))
 
 -- None are open at first.
 pub empty_queue : (slots : List Waiting) (order tickets sends : List ℕ) → tickets ≡ [] → sends ≡ []
     → AreBySend slots (open_slots order tickets) sends
 empty_queue slots order tickets sends none unsent =
-    rw (none, unsent) (record { all = refl; same = λ slot. refl; by_send = λ i j d less lt. absurd (omega arith) })
+    rw (none, unsent) (record { all = refl; same = λ slot. refl; by_send = omega arith })
 
 -- ---- the table
 
@@ -134,18 +134,9 @@ named_set : (slots : List Waiting) (numbers : List (Option ℕ)) (order : List �
     (0 < times_of_slot slot after) × (number_at changed slot ≡ number)) →
     AreNamed changed (set numbers index entry) after
 named_set slots numbers order changed after index entry a here few same still = record {
-  all_numbers = length-set numbers index entry ∙ a.all_numbers;
-  apart = λ number. grind (arith, few, same number, a.apart number);
-  named = λ number below. elim (cases_eq number index) [
-    | inl e ↦
-        let all = a.all_numbers in
-        subst (λ (n : ℕ). Names changed after n (get_or (set numbers index entry) n None)) (sym e)
-        (rw (get_or-set_same numbers index entry None (omega arith)) here)
-    | inr e ↦
-        rw (get_or-set_other numbers index number entry None e)
-        (names_as slots order changed after number (get_or numbers number None) (same number e)
-        (λ slot. still number slot e) (a.named number below))
-  ];
+  all_numbers = length-set _ _ _ ∙ a.all_numbers;
+  apart = grind arith;
+  named = grind (arith, cases_eq, get_or, set, get_or-set_same, get_or-set_other, names_as);
 }
 
 -- Requests that have the same numbers are counted the same.
@@ -164,10 +155,10 @@ take_removed xs ys i n le lt =
     let count = length-remove front i (omega arith) in
     ap (λ (all : List ℕ). take n (remove all i ++ ys)) (sym (take-append-drop (suc n) xs))
     ∙ rw (
-      remove-append_left front (drop (suc n) xs) i (omega arith),
-      append_assoc (remove front i) (drop (suc n) xs) ys,
+      remove-append_left front _ i (omega arith),
+      append_assoc _ _ ys,
     )
-    (take_at (remove front i) (drop (suc n) xs ++ ys) n (omega arith))
+    (take_at _ _ n (omega arith))
 
 module _ {slots : List Waiting} {numbers : List (Option ℕ)} {order tickets : List ℕ}
     (t : IsTable slots numbers order tickets)
@@ -182,7 +173,7 @@ module _ {slots : List Waiting} {numbers : List (Option ℕ)} {order tickets : L
   changed_by i lt slot is w same = (
     changed_view ∙ ap (λ (vs : List Waiting). set vs i w) view,
     record {
-      all_slots = length-set slots slot w ∙ t.all_slots;
+      all_slots = length-set _ slot w ∙ t.all_slots;
       all_ranks = t.all_ranks;
       within = t.within;
       once = t.once;
@@ -190,8 +181,8 @@ module _ {slots : List Waiting} {numbers : List (Option ℕ)} {order tickets : L
         all_numbers = t.numbered.all_numbers;
         apart = λ number. let e = still number in let f = t.numbered.apart number in omega arith;
         named = λ number below.
-            names_as slots opens (set slots slot w) opens number (get_or numbers number None) (still number)
-            (λ other some has. (some, same_number other ∙ has)) (t.numbered.named number below);
+            names_as _ _ _ _ _ _ (still _)
+            (λ other some has. (some, same_number _ ∙ has)) (t.numbered.named _ below);
       };
       ticketed = map-map ticket_in _ opens ∙ ap (λ (f : ℕ → ℕ). map f opens) (λ j other. (same_request other j).ticket)
           ∙ sym (map-map ticket_in _ opens) ∙ t.ticketed;
@@ -230,54 +221,52 @@ module _ {slots : List Waiting} {numbers : List (Option ℕ)} {order tickets : L
       (unused : times number_in w.request.number ws ≡ 0) (latest : All (λ v. v.request.ticket < w.request.ticket) ws)
     where
       grown : open_slots order (tickets ++ w.request.ticket ∷ []) ≡ opens ++ slot ∷ []
-      grown =
-          ap (λ (n : ℕ). take n order) (length-append tickets (w.request.ticket ∷ []))
-          ∙ (take_at_read order (length tickets) 0 room).1 ∙ ap (λ (q : ℕ). opens ++ q ∷ []) (sym is)
+      grown = grind (arith, length-append, take_at_read)
 
       closed : times_of_slot slot opens ≡ 0
       closed =
           let e = times_split t slot (length tickets + 1) in
           let f = ap (times_of_slot slot)
-          ((take_at_read order (length tickets) 0 room).1 ∙ ap (λ (q : ℕ). opens ++ q ∷ []) (sym is)) in
+          ((take_at_read _ _ 0 room).1 ∙ ap (λ (q : ℕ). opens ++ q ∷ []) (sym is)) in
           let g = times-append itself slot opens (slot ∷ []) in
           let one = times_one itself slot slot refl in
           let once = t.once slot in
           omega arith
 
       there : slot < length slots
-      there = read_listed t (length tickets) slot room (sym is)
+      there = read_listed t _ slot room (sym is)
 
       opened_view : held_at (set slots slot w) (opens ++ slot ∷ []) ≡ held_at slots opens ++ w ∷ []
-      opened_view = held-push slots slot w opens there closed
+      opened_view = held-push _ slot w _ there closed
 
       opened : IsTable (set slots slot w) (set numbers w.request.number (Some slot)) order
           (tickets ++ w.request.ticket ∷ [])
       opened = record {
-        all_slots = length-set slots slot w ∙ t.all_slots;
+        all_slots = length-set _ slot w ∙ t.all_slots;
         all_ranks = t.all_ranks;
         within = t.within;
         once = t.once;
         numbered =
-            subst (AreNamed (set slots slot w) (set numbers w.request.number (Some slot))) (sym grown)
+            subst (AreNamed _ _) (sym grown)
             (named_set slots numbers opens (set slots slot w) (opens ++ slot ∷ []) w.request.number (Some slot)
             t.numbered (
               more slot (let one = times_one itself slot slot refl in omega arith),
-              ap number_in (get_or-set_same slots slot w nothing there),
+              ap number_in (get_or-set_same _ slot w _ there),
             )
-            (let e = held w.request.number in let f = times_one number_in w.request.number w refl in
+            (let e = held w.request.number in let f = times_one number_in _ w refl in
             let g = ap (times number_in w.request.number) view in omega arith)
-            (λ number other. let e = held number in let f = times_other number_in number w (λ q. other (sym q)) in
+            (λ number other. let e = held number in let f = times_other number_in _ w (λ q. other (sym q)) in
             omega arith)
             (λ number q other some has. (
               more q (omega arith),
-              ap number_in (get_or-set_other slots slot q w nothing (elsewhere q some))
+              ap number_in (get_or-set_other slots slot q w _ (elsewhere q some))
                   ∙ has,
             )));
         ticketed =
-            ap (map ticket_in) (ap (held_at (set slots slot w)) grown ∙ opened_view)
+            ap (map ticket_in) (ap (held_at _) grown ∙ opened_view)
             ∙ map-append ticket_in (held_at slots opens) (w ∷ [])
             ∙ ap (λ (ts : List ℕ). ts ++ w.request.ticket ∷ []) t.ticketed;
-        rise = all_pairs_push (λ early late. early < late) tickets w.request.ticket t.rise
+        rise = all_pairs_push (λ early late. early < late) _ _ t.rise
             (λ k d lt. let rank : k < length ws = let e = count t ws view in omega arith in
             let e = ticket_got t ws view k rank nothing d in
             let less = latest k nothing rank in
@@ -323,10 +312,10 @@ module _ {slots : List Waiting} {numbers : List (Option ℕ)} {order tickets : L
   opened_by sends q room items are n is asked body unused latest past index changed after sent has made to too =
       let new = begun asked body in
       let slot = get_or items n 0 in
-      let here : slot ≡ get_or order (length tickets) 0 = rw (are, is) refl in
-      let fits : length tickets < length order = let e = count t ws view in let g = t.all_ranks in omega arith in
+      let here : slot ≡ get_or order (length tickets) 0 = cc in
+      let fits : length tickets < length order = grind (arith, count) in
       rw (has, made, to, too) (
-        ap (held_at (set slots slot new)) (grown slot new here fits unused latest)
+        ap (held_at _) (grown slot new here fits unused latest)
             ∙ opened_view slot new here fits unused latest
             ∙ ap (λ (vs : List Waiting). vs ++ new ∷ []) view,
         opened slot new here fits unused latest,
@@ -341,9 +330,9 @@ module _ {slots : List Waiting} {numbers : List (Option ℕ)} {order tickets : L
 
     shrunk : open_slots (remove order i ++ slot ∷ []) (remove tickets i) ≡ remove opens i
     shrunk =
-        let e = length-remove tickets i within_tickets in
+        let e = length-remove _ i within_tickets in
         let n : length tickets ≡ suc (length (remove tickets i)) = omega arith in
-        take_removed order (slot ∷ []) i (length (remove tickets i)) (let f = within_tickets in omega arith)
+        take_removed _ _ i _ (let f = within_tickets in omega arith)
         (let f = few t in omega arith)
         ∙ ap (λ (k : ℕ). remove (take k order) i) (sym n)
 
@@ -359,13 +348,13 @@ module _ {slots : List Waiting} {numbers : List (Option ℕ)} {order tickets : L
     moved : (q : ℕ) → times_of_slot q (remove order i ++ slot ∷ []) ≡ times_of_slot q order
     moved q =
         let e = times-append itself q (remove order i) (slot ∷ []) in
-        let f = times-remove itself q order i 0 within_order in
+        let f = times-remove itself q _ i 0 within_order in
         let g = ap (λ (k : ℕ). times_of_slot q (k ∷ [])) is in
         omega arith
 
     gone : (q : ℕ) → times_of_slot q (remove opens i) + times_of_slot q (slot ∷ []) ≡ times_of_slot q opens
     gone q =
-        let e = times-remove itself q opens i 0 rank in
+        let e = times-remove itself q _ i 0 rank in
         let f = ap (λ (k : ℕ). times_of_slot q (k ∷ [])) at_rank in
         omega arith
 
@@ -374,7 +363,7 @@ module _ {slots : List Waiting} {numbers : List (Option ℕ)} {order tickets : L
     left n =
         let e = times-remove number_in n (held_at slots opens) i nothing (rw length-map rank) in
         let f = ap (times number_in n) (map-remove (λ q. get_or slots q nothing) opens i) in
-        let g = ap (λ (v : Waiting). times number_in n (v ∷ [])) (held_got slots opens i slot rank at_rank) in
+        let g = ap (λ (v : Waiting). times number_in n (v ∷ [])) (held_got slots _ i slot rank at_rank) in
         omega arith
 
     ended : IsTable slots (set numbers number None) (remove order i ++ slot ∷ []) (remove tickets i)
@@ -382,57 +371,53 @@ module _ {slots : List Waiting} {numbers : List (Option ℕ)} {order tickets : L
       all_slots = t.all_slots;
       all_ranks =
           let e = length-append (remove order i) (slot ∷ []) in
-          let f = length-remove order i within_order in
+          let f = length-remove _ i within_order in
           let g = t.all_ranks in
           omega arith;
       within = λ q le. moved q ∙ t.within q le;
-      once = λ q. let e = moved q in let f = t.once q in omega arith;
+      once = grind (arith, moved);
       numbered =
-          subst (AreNamed slots (set numbers number None)) (sym shrunk)
+          subst (AreNamed _ _) (sym shrunk)
           (named_set slots numbers opens slots (remove opens i) number None t.numbered
-          (let e = left number in let one = times_one number_in number (get_or slots slot nothing) (sym has) in
+          (let e = left number in let one = times_one number_in _ (get_or slots slot _) (sym has) in
           let few = t.numbered.apart number in omega arith)
           (let e = left number in let few = t.numbered.apart number in omega arith)
           (λ n other. let e = left n in
-          let none = times_other number_in n (get_or slots slot nothing) (λ q. other (sym q ∙ sym has)) in
+          let none = times_other number_in n (get_or slots slot _) (λ q. other (sym q ∙ sym has)) in
           omega arith)
           (λ n q other some its. (
-            let e = gone q in
-                let none = times_other itself q slot
-                (λ k. other (sym its ∙ ap (number_at slots) (sym k) ∙ sym has)) in
-                omega arith,
+            grind (arith, gone, times_other),
             its,
           )));
       ticketed =
           ap (λ (xs : List ℕ). map ticket_in (held_at slots xs)) shrunk
-          ∙ ap (map ticket_in) (map-remove (λ q. get_or slots q nothing) opens i)
+          ∙ ap (map ticket_in) (map-remove _ opens i)
           ∙ map-remove ticket_in (held_at slots opens) i
           ∙ ap (λ (ts : List ℕ). remove ts i) t.ticketed;
-      rise = all_pairs_remove (λ early late. early < late) tickets i within_tickets t.rise;
+      rise = all_pairs_remove (λ early late. early < late) _ i within_tickets t.rise;
     }
 
     ended_view : waiting_in slots (remove order i ++ slot ∷ []) (remove tickets i) ≡ remove ws i
     ended_view =
-        ap (held_at slots) shrunk ∙ map-remove (λ q. get_or slots q nothing) opens i
+        ap (held_at slots) shrunk ∙ map-remove _ opens i
         ∙ ap (λ (vs : List Waiting). remove vs i) view
 
     unqueued : (sends left : List ℕ) → AreBySend slots opens sends → IsTakenOut slot sends left →
         AreBySend slots (open_slots (remove order i ++ slot ∷ []) (remove tickets i)) left
     unqueued sends left q out =
-        rw shrunk (queue-remove q slot left out (remove opens i) (let e = length-remove opens i rank in omega arith)
+        rw shrunk (queue-remove q slot left out _ (let e = length-remove _ i rank in omega arith)
         gone)
 
     sent : (sends : List ℕ) → AreBySend slots opens sends → 0 < times_of_slot slot sends
     sent sends q =
-        let some = subst (λ (p : ℕ). 0 < times_of_slot p opens) at_rank (times_got itself opens i 0 rank) in
+        let some = subst (λ (p : ℕ). 0 < times_of_slot p opens) at_rank (times_got _ _ i 0 rank) in
         let e = q.same slot in
         omega arith
 
   -- As the code makes it.
   pub sent_slot : (i : ℕ) → i < length ws → (slot : ℕ) → slot ≡ get_or order i slot → (sends : List ℕ)
       → AreBySend slots opens sends → 0 < times_of_slot slot sends
-  sent_slot i lt slot got sends q =
-      sent i slot (number_at slots slot) lt (same_turn order i slot (rank_within t ws view i lt) got) refl sends q
+  sent_slot i lt slot got sends q = grind (arith, sent, same_turn, rank_within)
 
   pub ended_by : (i : ℕ) → i < length ws → (slot index number : ℕ) (removed after rest : List ℕ) (w : Waiting) →
       slot ≡ get_or order i slot → w ≡ get_or slots slot nothing → number ≡ w.request.number → index ≡ number →
@@ -441,12 +426,12 @@ module _ {slots : List Waiting} {numbers : List (Option ℕ)} {order tickets : L
       (waiting_in slots after rest ≡ remove ws i) × IsTable slots (set numbers index None) after rest
       × AreBySend slots (open_slots after rest) left
   ended_by i lt slot index number removed after rest w got is has same gone to from sends left q out =
-      let first = same_turn order i slot (rank_within t ws view i lt) got in
-      let its : index ≡ number_at slots slot = same ∙ has ∙ ap number_in is in
+      let first = same_turn _ i slot (rank_within t ws view i lt) got in
+      let its : index ≡ number_at _ slot = cc in
       rw (from, to, gone) (
-        ended_view i slot index lt first its,
-        ended i slot index lt first its,
-        unqueued i slot index lt first its sends left q out,
+        ended_view i slot _ lt first its,
+        ended i slot _ lt first its,
+        unqueued i slot _ lt first its _ left q out,
       )
 
 -- The slots below one, each once.
@@ -468,12 +453,12 @@ empty_table slots numbers order tickets none all_slots blank whole within once =
   within = within;
   once = once;
   numbered = record {
-    all_numbers = ap length blank ∙ length-replicate {A = Option ℕ} 256 None;
+    all_numbers = cc;
     apart = λ number. omega arith;
     named = λ number lt.
         rw (ap (λ (xs : List (Option ℕ)). get_or xs number None) blank
-        ∙ get_or-replicate {A = Option ℕ} 256 number None None lt) refl;
+        ∙ get_or-replicate {A = Option ℕ} 256 _ None None lt) refl;
   };
   ticketed = refl;
-  rise = λ i j d less lt. absurd (omega arith);
+  rise = omega arith;
 })

@@ -7,8 +7,8 @@ use Rattle.bac_tsm.specs.declared.client.SubmitFault.{SubmitFault}
 use Rattle.bac_tsm.specs.declared.client.SubmitFault.TheVariants.{TooLong, TableFull, TicketsSpent}
 use Rattle.bac_tsm.specs.Positions.{first_within}
 
--- The first number of the cycle after the last one that is not taken: the invoke id of a new request, which no open
--- request has (clause 20.1.2.6).
+-- The invoke id of a new request: the first one that is not taken, in the cycle of 256 from the one behind the last on.
+-- So no open request has it (clause 20.1.2.6).
 unfoldable pub next_invoke_id : ℕ → List ℕ → ℕ
 next_invoke_id last taken =
     (last + unwrap_or (first_within (λ d. not (list_any (nat_eq ((last + d) % 256)) taken)) 1 256) 0) % 256

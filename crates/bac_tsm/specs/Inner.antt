@@ -1,7 +1,6 @@
 -- What only private clauses say. No promise of this crate rests on it.
 pub mod Answers
 pub mod Client
-pub mod Lookahead
 pub mod Machine
 pub mod Seen
 pub mod Waiting

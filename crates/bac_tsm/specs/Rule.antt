@@ -10,7 +10,7 @@ use Rattle.bac_tsm.specs.Watching.{is_send_of, is_end_of}
 pub record FollowsTheRule (rules : Rules) (first_ticket : ℕ) (events : List Event) : Type 0 where
   -- At each position at most as many requests are open as may be.
   pub few : (n : ℕ) → length (open_at rules first_ticket events n) ≤ rules.most_open
-  -- No two of them have one number.
+  -- No two of them have one invoke id.
   pub apart : (n : ℕ) → AllPairs (λ a b. a.request.number ≢ b.request.number) (open_at rules first_ticket events n)
   -- A request is placed to be sent at most once more than the retries.
   pub few_sends : (a : Accepted) → length (sends rules events a) ≤ 1 + rules.retries
@@ -20,5 +20,5 @@ pub record FollowsTheRule (rules : Rules) (first_ticket : ℕ) (events : List Ev
   -- The note that ends it stands exactly where its end is, with the outcome.
   pub ended_where_placed : (i : ℕ) → All (λ a. filter (is_end_of a.request.ticket) (output rules first_ticket events i)
       ≡ end_notes i a.request (end rules events a)) (accepted rules first_ticket events (length events))
-  -- Between two accepted requests with one number stand at least 256 others, less as many as may be open at once.
+  -- Between two accepted requests with one invoke id stand at least 256 others, less as many as may be open at once.
   pub reuse : NumbersComeBackLate rules.most_open (accepted rules first_ticket events (length events))

@@ -21,13 +21,13 @@ times_of_slot = times (λ slot. slot)
 abbrev pub open_slots : List ℕ → List ℕ → List ℕ
 open_slots order tickets = take (length tickets) order
 
--- The entry of a number: none where no open request has it, else the slot of the one that has it.
+-- The entry of an invoke id: none where no open request has it, else the slot of the one that has it.
 abbrev pub Names : List Waiting → List ℕ → ℕ → Option ℕ → Type 0
 Names slots order number None = times (λ w. w.request.number) number (held_at slots order) ≡ 0
 Names slots order number (Some slot) = (0 < times_of_slot slot order)
     × ((get_or slots slot nothing).request.number ≡ number)
 
--- No two open requests have one number, and each number has an entry that says so.
+-- No two open requests have one invoke id, and each invoke id has an entry that says so.
 pub record AreNamed (slots : List Waiting) (numbers : List (Option ℕ)) (order : List ℕ) : Type 0 where
   pub all_numbers : length numbers ≡ 256
   pub apart : (number : ℕ) → times (λ w. w.request.number) number (held_at slots order) ≤ 1

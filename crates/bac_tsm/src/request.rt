@@ -18,7 +18,7 @@ use bac_pdu::Peer;
 use bac_wire::Frame;
 use std::marker::Model;
 
-/// What a request is opened with: its ticket, whom it goes to, its service and number, and the clock at which it is
+/// What a request is opened with: its ticket, whom it goes to, its service, its invoke id, and the clock at which it is
 /// sent.
 #[derive(Clone, Copy)]
 pub(crate) struct Asked {
@@ -103,7 +103,7 @@ impl OpenRequest {
         self.ticket
     }
 
-    // Its number.
+    // Its invoke id.
     pub(crate) fn number(&self) -> u8
         ensures { result ≡ self.now.request.number }
     {

@@ -1,7 +1,7 @@
 //! The open requests.
 
-ghost use Rattle.std.specs.Prelude.{◌≡◌, None, replicate, ◌<◌, ◌≤◌, ◌++◌, [], ◌∷◌, ℕ, true, not, length, map, nat_eq};
-ghost use Rattle.std.specs.Prelude.{position, get_or, remove, set};
+ghost use Rattle.std.specs.Prelude.{◌≡◌, Some, None, replicate, ◌<◌, ◌≤◌, ◌++◌, [], ◌∷◌, ℕ, true, not, length, map};
+ghost use Rattle.std.specs.Prelude.{nat_eq, position, get_or, slice_get, remove, set};
 ghost use Rattle.std.specs.List.{All, AllPairs, filter, find, flat_map, list_any};
 ghost use Rattle.std.specs.Option.{option_copied, option_to_list};
 ghost use Rattle.bac_tsm.specs.Limits.{longest_body, table_size};
@@ -30,7 +30,7 @@ use std::marker::Model;
 ///
 /// A request stays at its slot until it ends. All slots stand in one order, first those of the open requests, by
 /// ticket, and then the free ones. The tickets stand beside it, so that one is found without a look at the slots, and
-/// the slot of each number in a table. The slots of the open requests stand once more in the order of their last
+/// the slot of each invoke id in a table. The slots of the open requests stand once more in the order of their last
 /// sends, so that a tick looks at those that are due, and at the first that isn't. Each datagram is written in one
 /// frame, and then kept at its slot.
 #[derive(Drop)]
@@ -110,7 +110,7 @@ impl Table {
         held(&self.slots, self.order[rank])
     }
 
-    // The first number of the cycle after the last one that no open request has.
+    // The first invoke id of the cycle after the last one that no open request has.
     #[tactic(auto, using(crate::proofs::TableReads::free_is, crate::proofs::TableReads::taken_on, crate::proofs::TableReads::last_is))]
     pub(crate) fn free_number(&self, last: u8) -> u8
         ensures { result ≡ next_invoke_id last (map (λ w. w.request.number) self.now) }
@@ -124,7 +124,7 @@ impl Table {
         last
     }
 
-    // Some open request has this number.
+    // Some open request has this invoke id.
     fn is_taken(&self, number: u8) -> bool
         ensures { result ≡ list_any (λ w. nat_eq number w.request.number) self.now }
     {
@@ -147,7 +147,7 @@ impl Table {
         put_last(&mut self.sends, slot);
     }
 
-    // Ends the request that the answer is to, and answers its ticket. Only the request with the answer's number is
+    // Ends the request that the answer is to, and answers its ticket. Only the request with the answer's invoke id is
     // looked at.
     pub(crate) fn close(&mut self, answer: &Answer<'_>) -> Option<u64>
         ensures told { option_to_list result
@@ -205,7 +205,7 @@ impl Table {
         requires past { All (λ w. w.base ≤ clock) self.old }
         ensures { IsPassed (client_rules config.timeout config.retries) clock self.old result self.new }
     {
-        let slot = self.sends[0];
+        let slot = first_sent(&self.sends);
         let entry = held(&self.slots, slot).due_entry(config);
         match entry {
             Entry::Resend(_) => {
@@ -234,6 +234,14 @@ impl Table {
         self.tickets.remove(rank);
         take_out(&mut self.sends, slot, rank);
     }
+}
+
+// The slot that was sent longest ago.
+fn first_sent(sends: &ArrayVec<u8, PLACES>) -> u8
+    requires { 0 < length sends.now.items }
+    ensures { Some result ≡ slice_get sends.now.items 0 }
+{
+    sends[0]
 }
 
 // The request at this slot.
@@ -302,7 +310,7 @@ fn rank_of_slot(slots: &[u8], slot: u8) -> Option<usize>
     slots.iter().position(|other| *other == slot)
 }
 
-// A table of numbers of which none is taken.
+// A table of invoke ids of which none is taken.
 fn no_numbers() -> [Option<u8>; 256]
     ensures { result ≡ replicate 256 None }
 {

@@ -1,18 +1,19 @@
 //! The laws of the client: what its machine does is what the look-ahead says.
 
 ghost use Rattle.std.specs.Prelude.{◌≡◌, ◌≢◌, ◌↔◌, ℕ, suc, ◌+◌, ◌<◌, ◌≤◌, List, ◌∷◌, ◌++◌, length, Some, IsSomeAnd};
-ghost use Rattle.std.specs.Prelude.{◌%◌, filter, map, take, true, nat_eq};
-ghost use Rattle.std.specs.List.{AllPairs, list_any};
+ghost use Rattle.std.specs.Prelude.{take, true};
+ghost use Rattle.std.specs.List.{AllPairs};
 ghost use Rattle.bac_pdu.specs.Peer.{Station};
 ghost use Rattle.bac_tsm.specs.Answers.{same_station, outcome_of};
 ghost use Rattle.bac_tsm.specs.AnswersInWords.{IsAnsweredBy};
 ghost use Rattle.bac_tsm.specs.Client.{client_rules};
 ghost use Rattle.bac_tsm.specs.Events.{Event, Outcome, Request, Rules};
-ghost use Rattle.bac_tsm.specs.Lookahead.{Accepted, accepted, due, end, is_open_at, open_at, output, sends};
+ghost use Rattle.bac_tsm.specs.Lookahead.{Accepted, accepted, due, end, open_among, open_at, output, sends};
 ghost use Rattle.bac_tsm.specs.Progress.{TimeoutsPass, last_of};
-ghost use Rattle.bac_tsm.specs.Laws.{AnswersByNumber, MachineIsLookahead, NumbersComeBackLate, steps_through};
+ghost use Rattle.bac_tsm.specs.Laws.{AnswersByNumber, MachineIsLookahead, NumbersComeBackLate, PassedAreHeld};
 
-/// The machine tells, at each position, the notes that the look-ahead gives there, and keeps what it says is open.
+/// The machine tells, at each position, the notes that the look-ahead gives there, and keeps what it says is open: for
+/// any rules by which at most 255 requests may be open, and those that one datagram answers have the same invoke id.
 pub fn run_is_lookahead()
     ensures { (rules : Rules) (first_ticket : ℕ) (events : List Event) →
         AnswersByNumber rules → rules.most_open ≤ 255 → MachineIsLookahead rules first_ticket events }
@@ -24,12 +25,12 @@ pub fn client_is_lookahead()
         MachineIsLookahead (client_rules timeout retries) first_ticket events }
 {}
 
-/// The requests that one datagram answers have the same number.
+/// The requests that one datagram answers have the same invoke id.
 pub fn answers_are_by_number()
     ensures { (timeout retries : ℕ) → AnswersByNumber (client_rules timeout retries) }
 {}
 
-/// An answer is to a request only where it comes from the same station: address, port and route.
+/// The table of answers takes two stations for the same exactly where address, port and route are.
 #[tactic(auto, using(crate::proofs::AnswersInWords::same_station_is, crate::proofs::AnswersInWords::same_station_refl))]
 pub fn stations_are_compared_whole()
     ensures { (a b : Station) → (same_station a b ≡ true) ↔ (a ≡ b) }
@@ -41,8 +42,8 @@ pub fn answers_in_words()
         (outcome_of request from datagram ≡ Some outcome) ↔ IsAnsweredBy request from datagram outcome }
 {}
 
-/// At each position at most as many requests are open as may be, under different numbers; each is sent at
-/// most once more than the retries.
+/// At each position at most as many requests are open as may be, under different invoke ids and in the order of their
+/// tickets; each is sent at most once more than the retries.
 #[tactic(auto, using(crate::proofs::OpenRequests::roomy, crate::proofs::OpenRequests::tickets_rise, crate::proofs::NumberReuse::few_sends))]
 pub fn table_is_bounded()
     ensures few { (rules : Rules) (first_ticket : ℕ) (events : List Event) (n : ℕ) →
@@ -63,21 +64,19 @@ pub fn output_looks_back()
         output rules first_ticket events n ≡ output rules first_ticket others n }
 {}
 
-/// Between two requests with the same number, at least 256 others are accepted, less as many as may be open at once.
+/// Between two requests with the same invoke id, at least 256 others are accepted, less as many as may be open at once.
 #[tactic(auto, using(crate::proofs::NumberReuse::back_late))]
 pub fn numbers_come_back_late()
     ensures { (rules : Rules) (first_ticket : ℕ) (events : List Event) (n : ℕ) →
         rules.most_open ≤ 255 → NumbersComeBackLate rules.most_open (accepted rules first_ticket events n) }
 {}
 
-/// Each number that was passed since a request was accepted, given or skipped, is its own, or that of a request open
+/// Each invoke id that was passed since a request was accepted, given or skipped, is its own, or that of a request open
 /// then or accepted since.
 pub fn passed_numbers_are_held()
     ensures { (rules : Rules) (first_ticket : ℕ) (events : List Event) (n : ℕ) → rules.most_open ≤ 255 →
         (before since : List Accepted) (a : Accepted) → accepted rules first_ticket events n ≡ before ++ a ∷ since →
-        (step : ℕ) → 1 ≤ step → step ≤ steps_through a.request.number since →
-        list_any (nat_eq ((a.request.number + step) % 256)) (map (λ b. b.request.number)
-        (a ∷ (filter (is_open_at rules events a.position) before ++ since))) ≡ true }
+        PassedAreHeld a (open_among rules events a.position before) since }
 {}
 
 /// No request waits for ever: as often as the timeout passed, by ticks, it has been due, and once that is more often

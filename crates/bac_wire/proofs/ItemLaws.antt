@@ -1,9 +1,8 @@
 -- Whole items leave one rest, no item begins another, a region is no deeper than allowed, and what reads items finds
 -- what the relations say.
-use Rattle.std.proofs.Common.{◌≡◌, ℕ, zero, suc, ◌+◌, ◌-◌, ◌<◌, ◌≤◌, ltb, List, [], ◌∷◌, ◌++◌, length, take, drop}
+use Rattle.std.proofs.Common.{◌≡◌, ℕ, zero, suc, ◌+◌, ◌-◌, ◌<◌, ◌≤◌, List, [], ◌∷◌, ◌++◌, length, take, drop}
 use Rattle.std.proofs.Common.{Option, Some, None, refl, sym, ap, subst, ◌∙◌, append_assoc, arith, inl, inr, ◌↔◌}
 use Rattle.std.specs.Option.{option_map}
-use Rattle.std.proofs.lemmas.Bool.{le-ltb, ltb-false}
 use Rattle.std.proofs.lemmas.List.{append_cancel_left, append_cancel_right, append-nil, drop_at, length-take-le}
 use Rattle.std.proofs.lemmas.Option.{none-some, some_pair_parts, same_Some}
 use Rattle.bac_wire.specs.declared.tag.Shape.{Shape}
@@ -17,9 +16,9 @@ use Rattle.bac_wire.specs.Region.{opening_tag, closing_tag, IsSequence, none, mo
 use Rattle.bac_wire.specs.Region.{LeavesRest, IsClosedRegion, FindsRegion, SpellsClosed, Opens, here, past, into}
 use Rattle.bac_wire.specs.Inner.Region.{CountsBehind, LeavesBehind}
 use Rattle.bac_wire.specs.ItemReading.{behind_count, behind_closing, behind_item, behind_items, region_at}
-use Rattle.bac_wire.proofs.Readers.{IsReader, found_at, take_front, unless}
+use Rattle.bac_wire.proofs.Readers.{IsReader, found_at, take_front}
 use Rattle.bac_wire.proofs.TagLaws.{tag_reader, bind_some}
-use Rattle.bac_wire.proofs.RegionReading.{no_octets, closing_read, after_shorter, item_shorter, item_at, ended_none}
+use Rattle.bac_wire.proofs.RegionReading.{no_octets, closing_read, after_shorter, item_shorter, item_at}
 use Rattle.bac_wire.proofs.RegionReading.{one_step, closed_takes, closed_again, item_at_takes, items_take, item_again}
 use Rattle.bac_wire.proofs.RegionReading.{items_again, IsClosedBy}
 
@@ -27,22 +26,20 @@ use Rattle.bac_wire.proofs.RegionReading.{items_again, IsClosedBy}
 
 left_again : (count depth top : ℕ) (octets rest : List ℕ) → depth ≤ top → length octets < count
     → LeavesRest depth octets rest → behind_items count top octets ≡ Some rest
-left_again count depth top octets rest le short l = ap (behind_items count top) l.whole
-    ∙ items_again count depth top l.front rest le (rw l.whole at short) l.region l.ended
+left_again count depth top octets rest le short l = grind (arith, items_again)
 
 -- whole items leave one rest, whatever depth is allowed
 pub one_left : (depth other : ℕ) (octets rest another : List ℕ) → LeavesRest depth octets rest
     → LeavesRest other octets another → rest ≡ another
 one_left depth other octets rest another l m =
-    let count : ℕ = suc (length octets) in
+    let count = suc (length octets) in
     same_Some rest another
     (sym (left_again count depth (depth + other) octets rest (omega arith) (omega arith) l)
     ∙ left_again count other (depth + other) octets another (omega arith) (omega arith) m)
 
 pub region_leaves : (depth number : ℕ) (octets front : List ℕ) (r : IsClosedRegion depth number octets front)
     → LeavesRest depth octets r.behind
-region_leaves depth number octets front r =
-    record { front = front; region = r.region; whole = r.whole; ended = inr (number, r.rest, r.closed) }
+region_leaves depth number octets front r = grind arith
 
 -- an item in front of a rest is read, where as many octets are allowed
 pub item_read : (count depth top : ℕ) (octets item rest : List ℕ) → depth ≤ top → length octets < suc count
@@ -54,7 +51,7 @@ item_read count depth top octets item rest le short i e = ap (item_at (behind_it
 -- no item begins another, whatever depth is allowed to either
 pub one_item : (depth other : ℕ) (a b u v : List ℕ) → IsItem depth a → IsItem other b → a ++ u ≡ b ++ v → a ≡ b
 one_item depth other a b u v i j e =
-    let count : ℕ = length (a ++ u) in
+    let count = length (a ++ u) in
     let first = item_read count depth (depth + other) (a ++ u) a u (omega arith) (omega arith) i refl in
     let same = same_Some u v
     (sym first ∙ item_read count other (depth + other) (a ++ u) b v (omega arith) (omega arith) j e) in
@@ -63,28 +60,21 @@ one_item depth other a b u v i j e =
 -- no item stands where the items have ended, and none begins with a closing tag
 pub item_ended : (depth : ℕ) (octets item rest : List ℕ) → HasEnded octets → IsItem depth item → octets ≡ item ++ rest
     → ⊥
-item_ended depth octets item rest ended i e =
-    none-some rest (sym (ended_none (behind_items (length octets)) depth octets ended)
-    ∙ item_read (length octets) depth depth octets item rest (omega arith) (omega arith) i e)
+item_ended depth octets item rest ended i e = grind arith
 
 pub item_opens : (depth number : ℕ) (item closing u v : List ℕ) → IsItem depth item
     → SpellsTag closing (closing_tag number) → item ++ u ≡ closing ++ v → ⊥
-item_opens depth number item closing u v i s e =
-    item_ended depth (item ++ u) item u (inr (number, v, record { front = closing; spelled = s; whole = e })) i refl
+item_opens depth number item closing u v i s e = grind arith
 
 -- ---- one region, and how deep it is
 
 pub one_region : (depth other number another : ℕ) (octets a b : List ℕ) → IsClosedRegion depth number octets a
     → IsClosedRegion other another octets b → (a ≡ b) × (number ≡ another)
 one_region depth other number another octets a b r s =
-    let same = one_left depth other octets r.behind s.behind (region_leaves depth number octets a r)
-    (region_leaves other another octets b s) in
+    let same = one_left depth other octets r.behind s.behind (region_leaves _ _ _ a r) (region_leaves _ _ _ b s) in
     let tags = some_pair_parts (closing_tag number) (closing_tag another) r.rest s.rest
-    (sym (closing_read number r.behind r.rest r.closed) ∙ ap tag_at same
-    ∙ closing_read another s.behind s.rest s.closed) in (
-      append_cancel_right a b s.behind (ap (λ (w : List ℕ). a ++ w) (sym same) ∙ sym r.whole ∙ s.whole),
-      ap (λ (t : Tag). t.number) tags.0,
-    )
+    (sym (closing_read _ _ _ r.closed) ∙ ap tag_at same ∙ closing_read _ _ _ s.closed) in
+    (grind (arith, append_cancel_right), ap (λ t. t.number) tags.0)
 
 -- items have not ended where an opening tag stands
 no_ended_opening : (octets : List ℕ) (number : ℕ) (after : List ℕ) → tag_at octets ≡ Some (opening_tag number, after)
@@ -92,9 +82,9 @@ no_ended_opening : (octets : List ℕ) (number : ℕ) (after : List ℕ) → tag
 no_ended_opening octets number after e ended = elim ended [
   | inl empty ↦ none-some (opening_tag number, after) (sym (ap tag_at empty ∙ no_octets) ∙ e)
   | inr closed ↦
-      let tags = some_pair_parts (opening_tag number) (closing_tag closed.0) after closed.1
-      (sym e ∙ closing_read closed.0 octets closed.1 closed.2) in
-      let shapes : ◌≡◌ {A = Shape} Opening Closing = ap (λ (t : Tag). t.shape) tags.0 in
+      let tags = some_pair_parts (opening_tag number) (closing_tag closed.0) _ _
+      (sym e ∙ closing_read _ _ _ closed.2) in
+      let shapes : ◌≡◌ {A = Shape} Opening Closing = ap (λ t. t.shape) tags.0 in
       absurd cc
 ]
 
@@ -102,39 +92,34 @@ no_ended_opening octets number after e ended = elim ended [
 inside_of : (count depth number : ℕ) (after next : List ℕ)
     → behind_item (behind_items count) depth (opening_tag number) Opening after ≡ Some next
     → (below : ℕ) × (depth ≡ suc below) × (mid : List ℕ) × LeavesRest below after mid
-inside_of count zero number after next e = absurd (none-some next e)
+inside_of count zero number after next e = cc
 inside_of count (suc depth) number after next e =
-    let a = bind_some (behind_items count depth after) (behind_closing number) next e in
+    let a = bind_some (behind_items count depth after) _ next e in
     (depth, refl, a.0, items_take count depth after a.0 a.1)
 
 opens_within : (depth count : ℕ) (front region tail rest : List ℕ) → Opens count front
     → IsSequence (IsItem depth) region → HasEnded tail → region ++ tail ≡ front ++ rest → count ≤ depth
 opens_within depth count front region tail rest here s ended e = omega arith
 opens_within depth count front region tail rest (past {rest = others} other item i o) none ended e =
-    absurd (item_ended other tail item (others ++ rest) ended i (e ∙ append_assoc item others rest))
+    absurd (item_ended other tail item _ ended i (e ∙ append_assoc item _ rest))
 opens_within depth count front region tail rest (past {rest = others} other item i o) (more {first} {rest = after} j s)
     ended e =
-    let line : first ++ (after ++ tail) ≡ item ++ (others ++ rest) = sym (append_assoc first after tail) ∙ e
-    ∙ append_assoc item others rest in
-    let same = one_item depth other first item (after ++ tail) (others ++ rest) j i line in
+    let line : first ++ (after ++ tail) ≡ item ++ (others ++ rest) = grind (arith, append_assoc) in
+    let same = one_item depth other first item _ _ j i line in
     let next = append_cancel_left first (after ++ tail) (others ++ rest)
-    (line ∙ ap (λ (w : List ℕ). w ++ (others ++ rest)) (sym same)) in
+    (line ∙ ap (λ w. w ++ (others ++ rest)) (sym same)) in
     opens_within depth count others after tail rest o s ended next
 opens_within depth count front region tail rest (into {opening} {rest = others} number t o) none ended e =
-    absurd (no_ended_opening tail number (others ++ rest)
-    (ap tag_at (e ∙ append_assoc opening others rest)
-    ∙ tag_reader.again opening (opening_tag number) (others ++ rest) t) ended)
+    grind arith
 opens_within depth count front region tail rest (into {count = fewer} {opening} {rest = others} number t o)
     (more {first} {rest = after} j s) ended e =
-    let octets : List ℕ = opening ++ (others ++ rest) in
+    let octets = opening ++ (others ++ rest) in
     let line : octets ≡ first ++ (after ++ tail) =
     sym (sym (append_assoc first after tail) ∙ e ∙ append_assoc opening others rest) in
-    let read = item_read (length octets) depth depth octets first (after ++ tail) (omega arith) (omega arith) j line in
-    let inside = inside_of (length octets) depth number (others ++ rest) (after ++ tail)
-    (rw (tag_reader.again opening (opening_tag number) (others ++ rest) t) at read) in
-    let within = opens_within inside.0 fewer others inside.3.front inside.2 rest o inside.3.region inside.3.ended
-    (sym inside.3.whole) in
-    omega (arith, inside.1)
+    let read = item_read (length octets) depth depth octets first _ (omega arith) (omega arith) j line in
+    let inside = inside_of _ depth number _ _ (rw (tag_reader.again _ _ _ t) at read) in
+    let within = opens_within inside.0 fewer others inside.3.front inside.2 rest o inside.3.region inside.3.ended cc in
+    omega arith
 
 pub nesting : (depth count : ℕ) (octets front rest : List ℕ) → IsRegion depth octets → Opens count front
     → octets ≡ front ++ rest → count ≤ depth
@@ -159,32 +144,24 @@ found_by (Some rest) None reads finds = absurd (finds rest (reads.takes rest ref
 found_by read (Some rest) reads finds = reads.again rest finds
 
 pub closing_reads : (number : ℕ) (octets : List ℕ) → Reads (IsClosedBy number octets) (behind_closing number octets)
-closing_reads number octets = record { takes = closed_takes number octets; again = closed_again number octets }
+closing_reads number octets = search (arith, closed_takes, closed_again)
 
 pub count_reads : (count : ℕ) (octets : List ℕ) → Reads (CountsBehind count octets) (behind_count count octets)
-count_reads count octets = record {
-  takes = λ rest e. let here = unless (ltb (length octets) count) e in
-      record {
-        room = ltb-false (length octets) count here.0;
-        rest_is = sym (same_Some (drop count octets) rest here.1);
-      };
-  again = λ rest c. rw (le-ltb (length octets) count c.room, c.rest_is) refl;
-}
+count_reads count octets = grind arith
 
 item_reads : (count depth : ℕ) (octets : List ℕ) → length octets < suc count
     → Reads (LeavesBehind depth octets) (item_at (behind_items count) depth octets)
 item_reads count depth octets short = record {
-  takes = λ rest e. item_at_takes (behind_items count) depth octets rest (items_take count) e;
+  takes = λ rest e. item_at_takes _ _ _ rest (items_take count) e;
   again = λ rest l. item_read count depth depth octets l.front rest (omega arith) short l.item l.whole;
 }
 
 items_read : (count depth : ℕ) (octets : List ℕ) → length octets < count
     → Reads (LeavesRest depth octets) (behind_items count depth octets)
-items_read count depth octets short =
-    record {
-      takes = items_take count depth octets;
-      again = λ rest l. left_again count depth depth octets rest (omega arith) short l;
-    }
+items_read count depth octets short = record {
+  takes = items_take count depth octets;
+  again = λ rest l. left_again count depth depth octets rest (omega arith) short l;
+}
 
 -- the function and the relation say the same
 pub items_is : (depth : ℕ) (octets rest : List ℕ)
@@ -194,11 +171,10 @@ items_is depth octets rest =
     (reads.takes rest, reads.again rest)
 
 pub whole_region : (depth : ℕ) (octets rest : List ℕ) → LeavesRest depth octets rest → rest ≡ [] → IsRegion depth octets
-whole_region depth octets rest l e =
-    subst (IsRegion depth) (sym (l.whole ∙ ap (λ (w : List ℕ). l.front ++ w) e ∙ append-nil l.front)) l.region
+whole_region depth octets rest l e = grind (arith, append-nil)
 
 pub region_whole : (depth : ℕ) (octets : List ℕ) → IsRegion depth octets → LeavesRest depth octets []
-region_whole depth octets r = record { front = octets; region = r; whole = sym (append-nil octets); ended = inl refl }
+region_whole depth octets r = grind (arith, append-nil)
 
 -- a region leaves nothing
 pub whole_is : (depth : ℕ) (octets : List ℕ)
@@ -216,18 +192,16 @@ rest_of depth octets = behind_items (suc (length octets)) depth octets
 
 pub rest_found : (depth : ℕ) (octets : List ℕ) (found : Option (List ℕ)) → rest_of depth octets ≡ found
     → Finds (LeavesRest depth octets) found
-rest_found depth octets found e =
-    subst (Finds (LeavesRest depth octets)) e
-    (finds_by (rest_of depth octets) (items_read (suc (length octets)) depth octets (omega arith)))
+rest_found depth octets found e = grind (arith, finds_by, items_read)
 
 -- no tag, and so no rest
 pub rest_none : (depth : ℕ) (octets : List ℕ) → None ≡ tag_at octets → (octets ≡ [] → ⊥) → rest_of depth octets ≡ None
 unfolding behind_items
 rest_none depth [] e some = absurd (some refl)
-rest_none depth (x ∷ xs) e some = rw (← e) refl
+rest_none depth (x ∷ xs) e some = cc
 
 pub behind_shorter : (depth : ℕ) (octets rest : List ℕ) → LeavesBehind depth octets rest → length rest < length octets
-behind_shorter depth octets rest l = rw l.whole (item_shorter depth l.front rest l.item)
+behind_shorter depth octets rest l = rw l.whole (item_shorter _ _ rest l.item)
 
 -- an item was found, or none
 pub rest_step : (depth : ℕ) (octets : List ℕ) (tag : Tag) (after : List ℕ) (found : Option (List ℕ))
@@ -235,13 +209,13 @@ pub rest_step : (depth : ℕ) (octets : List ℕ) (tag : Tag) (after : List ℕ)
     → (tag.shape ≡ Closing → ⊥) → Finds (LeavesBehind depth octets) found
     → rest_of depth octets ≡ (found >>= rest_of depth)
 rest_step depth octets tag after None e going finds =
-    one_step (length octets) depth octets tag after (sym e) going
+    one_step _ _ _ tag _ (sym e) going
     ∙ rw (found_by _ None (item_reads (length octets) depth octets (omega arith)) finds) refl
 rest_step depth octets tag after (Some next) e going finds =
     let reads = items_read (length octets) depth next (behind_shorter depth octets next finds) in
-    one_step (length octets) depth octets tag after (sym e) going
+    one_step _ _ _ tag _ (sym e) going
     ∙ rw (found_by _ (Some next) (item_reads (length octets) depth octets (omega arith)) finds)
-    (found_by _ _ reads (rest_found depth next (rest_of depth next) refl))
+    (found_by _ _ reads (rest_found depth next _ refl))
 
 -- what the tag leaves, as it is read
 pub item_found : (depth : ℕ) (octets : List ℕ) (tag : Tag) (shape : Shape) (after : List ℕ) (found : Option (List ℕ))
@@ -249,11 +223,10 @@ pub item_found : (depth : ℕ) (octets : List ℕ) (tag : Tag) (shape : Shape) (
     → behind_item (behind_items (length octets)) depth tag shape after ≡ found
     → Finds (LeavesBehind depth octets) found
 item_found depth octets tag shape after found e is f =
-    let here = subst (λ (s : Shape). behind_item (behind_items (length octets)) depth tag s after ≡ found) (sym is) f in
-    let read : item_at (behind_items (length octets)) depth octets ≡ found = rw (← e) here in
+    let here = subst (λ s. behind_item (behind_items (length octets)) depth tag s after ≡ found) (sym is) f in
+    let read : item_at (behind_items (length octets)) depth octets ≡ found = cc in
     subst (Finds (LeavesBehind depth octets)) read
-    (finds_by (item_at (behind_items (length octets)) depth octets)
-    (item_reads (length octets) depth octets (omega arith)))
+    (finds_by _ (item_reads (length octets) depth octets (omega arith)))
 
 -- the items inside of an item were found, or none
 pub opening_found : (depth below : ℕ) (octets : List ℕ) (tag : Tag) (after : List ℕ) (inside found : Option (List ℕ))
@@ -261,9 +234,9 @@ pub opening_found : (depth below : ℕ) (octets : List ℕ) (tag : Tag) (after :
     → found_at tag after ≡ tag_at octets → tag.shape ≡ Opening → Finds (LeavesRest below after) inside
     → (inside >>= behind_closing tag.number) ≡ found → Finds (LeavesBehind depth octets) found
 opening_found depth below octets tag after inside found deeper e is finds f =
-    let within = found_by (behind_items (length octets) below after) inside
+    let within = found_by _ inside
     (items_read (length octets) below after (after_shorter octets tag after (sym e))) finds in
-    item_found depth octets tag Opening after found e is (rw (deeper, within) f)
+    item_found depth octets tag Opening after found e is cc
 
 -- ---- a region
 
@@ -272,7 +245,7 @@ region_again : (number : ℕ) (octets region : List ℕ) (r : IsClosedRegion 32 
     → region_at number octets ≡ found_at region r.rest
 unfolding region_at
 region_again number octets region r =
-    let l : LeavesRest 32 octets r.behind = region_leaves 32 number octets region r in
+    let l = region_leaves 32 number octets region r in
     rw (
       left_again (suc (length octets)) 32 32 octets r.behind (omega arith) (omega arith) l,
       closed_again number r.behind r.rest r.closed,
@@ -283,13 +256,10 @@ region_takes : (number : ℕ) (octets region rest : List ℕ) → region_at numb
     → (r : IsClosedRegion 32 number octets region) × (r.rest ≡ rest)
 unfolding region_at
 region_takes number octets region rest e =
-    let a = bind_some (behind_items (suc (length octets)) 32 octets)
-    (λ closing. behind_closing number closing >>= λ rest.
-    found_at (take (length octets - length closing) octets) rest) (region, rest) e in
-    let b = bind_some (behind_closing number a.0) (λ rest. found_at (take (length octets - length a.0) octets) rest)
-    (region, rest) a.2 in
-    let parts = some_pair_parts (take (length octets - length a.0) octets) region b.0 rest b.2 in
-    let l = items_take (suc (length octets)) 32 octets a.0 a.1 in
+    let a = bind_some (behind_items (suc (length octets)) 32 octets) _ (region, rest) e in
+    let b = bind_some (behind_closing number a.0) _ (region, rest) a.2 in
+    let parts = some_pair_parts _ region b.0 rest b.2 in
+    let l = items_take _ 32 octets a.0 a.1 in
     let same : l.front ≡ region = sym (take_front octets l.front a.0 l.whole).2 ∙ parts.0 in
     let r : IsClosedRegion 32 number octets l.front =
     record {
@@ -299,7 +269,7 @@ region_takes number octets region rest e =
       whole = l.whole;
       closed = closed_takes number a.0 b.0 b.1;
     } in
-    subst (λ (w : List ℕ). (r : IsClosedRegion 32 number octets w) × (r.rest ≡ rest)) same (r, parts.1)
+    subst (λ w. (r : IsClosedRegion 32 number octets w) × (r.rest ≡ rest)) same (r, parts.1)
 
 abbrev closed_line : (number : ℕ) (front region rest : List ℕ) (s : SpellsClosed number front region)
     → IsClosedRegion 32 number (front ++ rest) region
@@ -318,14 +288,14 @@ region_reader number = record {
   takes = λ octets region rest e.
       let t = region_takes number octets region rest e in
       let c = t.0.closed in
-      let line = t.0.whole ∙ ap (λ (w : List ℕ). region ++ w) (c.whole ∙ ap (λ (w : List ℕ). c.front ++ w) t.1)
+      let line = t.0.whole ∙ ap (λ w. region ++ w) (c.whole ∙ ap (λ w. c.front ++ w) t.1)
       ∙ sym (append_assoc region c.front rest) in
       record {
         front = region ++ c.front;
-        spelled = record { closing = c.front; whole = refl; items = t.0.region; closed = c.spelled };
+        spelled = grind arith;
         whole = line;
       };
-  again = λ front region rest s. region_again number (front ++ rest) region (closed_line number front region rest s);
+  again = λ front region rest s. region_again number _ region (closed_line number front region rest s);
 }
 
 -- where no region was found none is read
@@ -342,10 +312,10 @@ no_region number octets finds = none_read number octets (region_at number octets
 pub region_found : (number k : ℕ) (octets front back : List ℕ) → front ≡ take k octets → back ≡ drop k octets
     → FindsRegion 32 number octets (Some k) → region_at number octets ≡ (behind_closing number back >>= found_at front)
 region_found number k octets front back f b finds =
-    let r : IsClosedRegion 32 number octets front = subst (IsClosedRegion 32 number octets) (sym f) finds.found in
-    let same = b ∙ ap (drop k) r.whole
+    let r = subst (IsClosedRegion 32 number octets) (sym f) finds.found in
+    let same : back ≡ r.behind = b ∙ ap (drop k) r.whole
     ∙ drop_at front r.behind k (ap length f ∙ length-take-le k octets finds.within) in
-    region_again number octets front r ∙ sym (rw (same, closed_again number r.behind r.rest r.closed) refl)
+    region_again number octets front r ∙ sym (rw (same, closed_again _ _ _ r.closed) refl)
 
 -- a region is found where a closing tag stands behind whole items, and not where none stands there
 pub region_finds : (depth number : ℕ) (octets rest : List ℕ) (behind : Option (List ℕ)) → LeavesRest depth octets rest
@@ -356,7 +326,7 @@ region_finds depth number octets rest None l h = record {
   found = tt;
   all = λ front r.
       let same = one_left depth depth octets r.behind rest (region_leaves depth number octets front r) l in
-      absurd (h r.rest (subst (λ (w : List ℕ). IsClosedBy number w r.rest) same r.closed));
+      absurd (h r.rest (subst (λ w. IsClosedBy number w r.rest) same r.closed));
 }
 region_finds depth number octets rest (Some after) l h = record {
   within = omega arith;
@@ -364,5 +334,5 @@ region_finds depth number octets rest (Some after) l h = record {
       (record { behind = rest; rest = after; region = l.region; whole = l.whole; closed = h });
   all = λ front r.
       let same = one_left depth depth octets rest r.behind l (region_leaves depth number octets front r) in
-      ap Some (ap (λ (w : List ℕ). length octets - length w) same ∙ (take_front octets front r.behind r.whole).1);
+      ap Some (ap (λ w. length octets - length w) same ∙ (take_front octets front r.behind r.whole).1);
 }

@@ -7,3 +7,4 @@ pub mod ShortestDatum
 pub mod RegionReading
 pub mod ItemLaws
 pub mod ParameterLaws
+pub mod ReadBack

@@ -1,7 +1,7 @@
 -- The shortest spelling of a value is a spelling.
 use Rattle.std.proofs.Common.{◌≡◌, ℕ, ℤ, pos, negsuc, suc, slice_index_or, ◌+◌, ◌-◌, ◌*◌, ◌^◌, ◌%◌, ◌<◌, ◌≤◌, min, zero}
-use Rattle.std.proofs.Common.{Bool, true, false, not, cond, ltb, List, [], ◌∷◌, ◌++◌, length, take, refl, sym, ap}
-use Rattle.std.proofs.Common.{subst, ◌∙◌, arith}
+use Rattle.std.proofs.Common.{Bool, true, false, cond, ltb, List, [], ◌∷◌, ◌++◌, length, take, refl, sym, ap}
+use Rattle.std.proofs.Common.{subst, ◌∙◌, arith, unwrap_or, Option, Some, None}
 use Rattle.std.specs.Prelude.{FitsSigned}
 use Rattle.std.specs.Int.{w64}
 use Rattle.std.proofs.lemmas.Int.{ints}
@@ -23,9 +23,9 @@ count_by_cases n =
     cond (ltb n (256 ^ 1)) 1 (cond (ltb n (256 ^ 2)) 2 (cond (ltb n (256 ^ 3)) 3 (cond (ltb n (256 ^ 4)) 4
     (cond (ltb n (256 ^ 5)) 5 (cond (ltb n (256 ^ 6)) 6 (cond (ltb n (256 ^ 7)) 7 8))))))
 
--- one more, where this one is too few
-abbrev counted : Bool → ℕ → ℕ
-counted enough more = cond (not enough) (1 + more) 0
+-- a count that was found, or eight
+abbrev pub or_eight : Option ℕ → ℕ
+or_eight found = unwrap_or found 8
 
 pub count_is : (n : ℕ) → octet_count n ≡ count_by_cases n
 count_is n =
@@ -33,7 +33,8 @@ count_is n =
     (ltb n (256 ^ 7))
   where
     go : (a b c d e f g : Bool)
-        → 1 + counted a (counted b (counted c (counted d (counted e (counted f (counted g 0))))))
+        → or_eight (cond a (Some 1) (cond b (Some 2) (cond c (Some 3) (cond d (Some 4) (cond e (Some 5)
+        (cond f (Some 6) (cond g (Some 7) None)))))))
         ≡ cond a 1 (cond b 2 (cond c 3 (cond d 4 (cond e 5 (cond f 6 (cond g 7 8))))))
     go true b c d e f g = refl
     go false true c d e f g = refl
@@ -44,8 +45,11 @@ count_is n =
     go false false false false false false true = refl
     go false false false false false false false = refl
 
+cases_low : (n : ℕ) → 1 ≤ count_by_cases n
+cases_low n = grind (arith, common_steps)
+
 pub count_low : (n : ℕ) → 1 ≤ octet_count n
-count_low n = omega arith
+count_low n = subst (λ (k : ℕ). 1 ≤ k) (sym (count_is n)) (cases_low n)
 
 pub cases_high : (n : ℕ) → count_by_cases n ≤ 8
 cases_high n = grind (arith, common_steps)

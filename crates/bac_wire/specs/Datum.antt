@@ -1,7 +1,6 @@
 -- The values behind application tags, and the octets that spell them (ANSI/ASHRAE 135, 20.2.2 to 20.2.14).
-use Rattle.std.specs.Prelude.{FitsSigned, ◌≡◌, ℕ, ℤ, pos, negsuc, ◌+◌, ◌*◌, ◌^◌, ◌<◌, ◌≤◌, Bool, nat_lt, if◌then◌else◌}
-use Rattle.std.specs.Prelude.{List, [], ◌∷◌, ◌++◌, length}
-use Rattle.std.specs.List.{position_or_len}
+use Rattle.std.specs.Prelude.{FitsSigned, ◌≡◌, ℕ, ℤ, pos, negsuc, ◌*◌, ◌^◌, ◌<◌, ◌≤◌, Bool, nat_lt, if◌then◌else◌}
+use Rattle.std.specs.Prelude.{List, [], ◌∷◌, ◌++◌, length, find, unwrap_or}
 use Rattle.std.specs.Int.{w64}
 use Rattle.byteorder.specs.Endian.{big_number, big_bytes, twos_complement, low_bytes}
 use Rattle.bac_wire.specs.declared.tag.Shape.TheVariants.{App}
@@ -100,9 +99,9 @@ pub record Spells (spelling : List ℕ) (value : Datum) : Type 0 where
 
 -- ---- the shortest spelling
 
--- The fewest octets that hold the number, up to eight: one more than the counts, from 1 on, that are too few.
+-- How many octets a number is written in: the first count from 1 to 7 whose octets hold it, else 8.
 abbrev pub octet_count : ℕ → ℕ
-octet_count n = 1 + position_or_len (λ k. nat_lt n (256 ^ k)) (1 ∷ 2 ∷ 3 ∷ 4 ∷ 5 ∷ 6 ∷ 7 ∷ [])
+octet_count n = unwrap_or (find (λ count. nat_lt n (256 ^ count)) (1 ∷ 2 ∷ 3 ∷ 4 ∷ 5 ∷ 6 ∷ 7 ∷ [])) 8
 
 -- The fewest octets that hold the number in two's complement, where the sign takes a bit more.
 abbrev pub signed_count : ℤ → ℕ

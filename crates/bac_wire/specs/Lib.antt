@@ -1,5 +1,6 @@
 pub mod Limits
 pub mod Steps
+pub mod Copies
 pub mod Writing
 pub mod Front
 pub mod Tag

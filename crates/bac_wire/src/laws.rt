@@ -1,5 +1,5 @@
-//! What holds of the definitions that the contracts cite. Each function has an empty body, and its clause is the law;
-//! those at the end are `clone` or `==` of types, and say what a clone is, or what is compared.
+//! What holds of the definitions that the contracts cite, and of the clones and the `==` of the public types. Each
+//! function has an empty body, and its clauses are the laws.
 
 ghost use Rattle.bac_wire.specs.declared.tag.Tag.{Tag as AnyTag};
 ghost use Rattle.std.specs.Prelude.{IsTrue, ◌≡◌, ℕ, ◌+◌, ◌^◌, ◌<◌, ◌≤◌, ◌↔◌, List, [], ◌++◌, length, Some, Ok};
@@ -14,6 +14,7 @@ ghost use Rattle.bac_wire.specs.Region.{IsItem, IsRegion, IsClosedRegion, Leaves
 ghost use Rattle.bac_wire.specs.ItemReading.{behind_items, region_at};
 ghost use Rattle.bac_wire.specs.Parameter.{SpellsContext, SpellsIn, SpellsEnclosed, number_octets, object_octets};
 ghost use Rattle.bac_wire.specs.Parameter.{enclosed_octets};
+ghost use Rattle.bac_wire.specs.Copies.{MakesCopies, EqualsBy};
 ghost use Rattle.bac_wire.specs.ParameterReading.{context_at, number_at, object_at, enclosed_at};
 
 use crate::frame::{FRAME_OCTETS, Full};
@@ -21,7 +22,6 @@ use crate::items::NESTING;
 use crate::object_id::ObjectId;
 use crate::tag::{Shape, Tag};
 use crate::value::Value;
-use std::alloc::AllocError;
 
 /// Tags: no spelling begins another, what `write_tag` appends is the shortest and is read back whatever follows, and
 /// `tag_at` reads from left to right what spells a tag, and nothing else.
@@ -86,55 +86,20 @@ pub fn limits()
 {}
 
 /// A clone is what it was cloned from, and takes no memory.
-pub fn clones<'a>(
-    full: &Full,
-    shape: &Shape,
-    tag: &Tag,
-    object: &ObjectId,
-    value: &Value<'a>,
-) -> Result<(Full, Shape, Tag, ObjectId, Value<'a>), AllocError>
-    ensures { result ≡ Ok (full.now, shape.now, tag.now, object.now, value.now) }
-{
-    Ok((
-        full.clone()?,
-        shape.clone()?,
-        tag.clone()?,
-        object.clone()?,
-        value.clone()?,
-    ))
-}
+pub fn clones()
+    ensures full { MakesCopies ⟦<Full as Clone>⟧.is_clone ⟦<Full as Clone>⟧.is_infallible }
+    ensures shape { MakesCopies ⟦<Shape as Clone>⟧.is_clone ⟦<Shape as Clone>⟧.is_infallible }
+    ensures tag { MakesCopies ⟦<Tag as Clone>⟧.is_clone ⟦<Tag as Clone>⟧.is_infallible }
+    ensures object { MakesCopies ⟦<ObjectId as Clone>⟧.is_clone ⟦<ObjectId as Clone>⟧.is_infallible }
+    ensures value { MakesCopies ⟦<Value<'static> as Clone>⟧.is_clone ⟦<Value<'static> as Clone>⟧.is_infallible }
+{}
 
-/// There is but one `Full`, which is equal to itself.
-pub fn same_full(full: &Full, other: &Full) -> bool
-    ensures { IsTrue result ↔ (full.now ≡ other.now) }
-{
-    full == other
-}
-
-/// Shapes are equal that have the same class, and the same length where they say one.
-pub fn same_shape(shape: &Shape, other: &Shape) -> bool
-    ensures { IsTrue result ↔ (shape.now ≡ other.now) }
-{
-    shape == other
-}
-
-/// Tags are equal that have the same number and the same shape.
-pub fn same_tag(tag: &Tag, other: &Tag) -> bool
-    ensures { IsTrue result ↔ (tag.now ≡ other.now) }
-{
-    tag == other
-}
-
-/// Identifiers are equal that have the same type and the same instance.
-pub fn same_identifier(object: &ObjectId, other: &ObjectId) -> bool
-    ensures { IsTrue result ↔ (identifier object.now ≡ identifier other.now) }
-{
-    object == other
-}
-
-/// Values are equal that have the same kind and the same contents, wherever the octets that they borrow lie.
-pub fn same_value(value: &Value<'_>, other: &Value<'_>) -> bool
-    ensures { IsTrue result ↔ (datum value.now ≡ datum other.now) }
-{
-    value == other
-}
+/// What `==` compares: all that a `Full`, a shape or a tag says, the type and the instance of an identifier, and of
+/// values the kind and the contents, wherever the octets that they borrow lie.
+pub fn equals()
+    ensures full { EqualsBy (λ full. full) ⟦<Full as PartialEq>⟧.eq }
+    ensures shape { EqualsBy (λ shape. shape) ⟦<Shape as PartialEq>⟧.eq }
+    ensures tag { EqualsBy (λ tag. tag) ⟦<Tag as PartialEq>⟧.eq }
+    ensures object { EqualsBy identifier ⟦<ObjectId as PartialEq>⟧.eq }
+    ensures value { EqualsBy datum ⟦<Value<'static> as PartialEq>⟧.eq }
+{}

@@ -1,6 +1,5 @@
 -- One turn of a call, by the steps of the client.
 use Rattle.std.specs.Prelude.{◌≡◌, ℕ, ◌≤◌, Bool, true, false, List, [], ◌∷◌, ◌++◌, length, Option, Some, None}
-use Rattle.std.specs.Prelude.{Result, Err}
 use Rattle.std.specs.List.{All, flat_map}
 use Rattle.bac_pdu.specs.Peer.{Station, station}
 use Rattle.bac_tsm.specs.Events.{Outcome, Data, Event, Ask, Tick, Note, Sent, Refused, Done, Dropped, TimedOut, Rules}
@@ -8,18 +7,14 @@ use Rattle.bac_tsm.specs.Machine.{State, Waiting, Stepped, step}
 use Rattle.bac_tsm.specs.Laws.{state_at}
 use Rattle.bac_tsm.specs.Limits.{longest_body}
 use Rattle.bac_tsm.specs.Client.{Client}
-use Rattle.bac_links.specs.Foretold.{Foretold, Heard, Silence, Arrival, Failure}
-use Rattle.bac_links.specs.History.{Entry, Posted, Unposted, Account, GainsAll}
-use Rattle.bac_links.specs.Handed.{turns}
-use Rattle.bac_links.specs.Courses.{first_below, stops_at, Stops}
+use Rattle.bac_links.specs.Foretold.{Heard, Silence, Arrival, Failure}
+use Rattle.bac_links.specs.History.{Entry, Timed, Posted, Unposted, Account, GainsAll}
+use Rattle.bac_links.specs.Asking.{Follows, waits_in, turn_after}
+use Rattle.bac_links.specs.Handed.{handed}
 use Rattle.bac_links.specs.Limits.{turn_wait}
-use Rattle.bac_links.specs.Call.{service_of, rules_for, post_in, IsAccepted, end_in, events_of, entries_of, has_ended}
-use Rattle.bac_links.specs.Call.{FailsToSend}
+use Rattle.bac_links.specs.Call.{service_of, rules_for, post_in, end_in, move}
 use Rattle.bac_links.specs.declared.ending.Purpose.{Purpose}
-use Rattle.bac_links.specs.declared.ending.Exit.{Exit}
 use Rattle.bac_text.specs.declared.jobs.Call.{Call}
-use Rattle.bac_links.specs.declared.fault.ToolFault.{ToolFault}
-use Rattle.bac_links.specs.declared.fault.ToolFault.TheVariants.{SendFailed, ReceiveFailed}
 
 -- The sends among notes.
 abbrev pub posts : List Note → List Entry
@@ -33,11 +28,6 @@ wait_of call = turn_wait call.timeout
 abbrev pub begun_at : Purpose → Call → ℕ → List Event → List Event
 begun_at purpose call time later =
     Tick time ∷ Ask (station call.to) (service_of purpose) call.body.items ∷ later
-
--- The call stops with this result after n turns, in which the request stayed open.
-abbrev pub StaysOpen : Purpose → Call → Foretold → Result Exit ToolFault → List Entry → Type 0
-StaysOpen purpose call t result gained = (n : ℕ) × IsAccepted purpose call (events_of purpose call t n)
-    × Stops (wait_of call) t (has_ended purpose call t) (entries_of purpose call t) gained n result
 
 -- The end in a note, and the ends among notes.
 abbrev pub ending_in : Note → List (Option Outcome)
@@ -92,15 +82,12 @@ pub record CarriesOn (purpose : Purpose) (call : Call) (time : ℕ) (later : Lis
     state = state_at (rules_for call) 0 (begun_at purpose call time later) (length (begun_at purpose call time later));
   }
 
--- A call after n turns, with its request open.
-pub record Underway (purpose : Purpose) (call : Call) (t : Foretold) (gained : List Entry) (client : Client) (n : ℕ)
-    : Type 0 where
-  pub passed : first_below (stops_at (wait_of call) t (has_ended purpose call t)) n ≡ None
-  pub carried : CarriesOn purpose call (t.time []) (turns (wait_of call) t n) client
-  pub history : gained ≡ entries_of purpose call t n
-
--- A turn failed.
-abbrev pub TurnFails : Purpose → Call → Foretold → List Entry → ToolFault → Type 0
-TurnFails purpose call t gained SendFailed = (n : ℕ) × FailsToSend purpose call t gained n
-TurnFails purpose call t gained ReceiveFailed = StaysOpen purpose call t (Err ReceiveFailed) gained
-TurnFails purpose call t gained _ = ⊥
+-- The history of a link gained what a call asks in n turns, with its request open.
+pub record Underway (purpose : Purpose) (call : Call) (seen left : Account) (client : Client) (n : ℕ) : Type 0 where
+  pub time : ℕ
+  pub more : List Entry
+  pub gains : GainsAll (Timed time ∷ more) seen left
+  pub carried : CarriesOn purpose call time (handed more) client
+  pub follows : Follows (move purpose call) [] (Timed time ∷ more)
+  pub next : move purpose call (Timed time ∷ more) ≡ turn_after (wait_of call) n
+  pub turns : waits_in more ≡ n

@@ -1,14 +1,14 @@
 -- One wait of a server, and the answer to what it brings.
-use Rattle.std.specs.Prelude.{◌≡◌, ◌≢◌, ℕ, List, [], ◌∷◌, length, Option, Some, Result, Ok, Err}
+use Rattle.std.specs.Prelude.{◌≡◌, ◌≢◌, ℕ, List, [], ◌∷◌, map, length, Option, Some, Result, Ok, Err}
 use Rattle.std.specs.Option.{option_to_list}
 use Rattle.std.specs.List.{flat_map}
 use Rattle.bac_pdu.specs.Peer.{Station}
 use Rattle.bac_device.specs.Device.{DeviceState}
-use Rattle.bac_device.specs.Turns.{AnswersInTurn}
+use Rattle.bac_device.specs.Turns.{RepliesInTurn}
 use Rattle.bac_links.specs.Limits.{serve_wait}
 use Rattle.bac_links.specs.Foretold.{Heard, Failure}
-use Rattle.bac_links.specs.History.{Waited, Unposted, Account, GainsAll, Gains}
-use Rattle.bac_links.specs.Serve.{came_by, serve_entries}
+use Rattle.bac_links.specs.History.{Entry, Waited, Posted, Unposted, Account, GainsAll, Gains}
+use Rattle.bac_links.specs.Serve.{came_by, device_behind, replies_of, reply_count}
 use Rattle.bac_links.specs.declared.fault.ToolFault.{ToolFault}
 use Rattle.bac_links.specs.declared.fault.ToolFault.TheVariants.{SendFailed, ReceiveFailed, TurnsSpent, WriteFailed}
 use Rattle.bac_links.specs.declared.serving.Brought.{Brought}
@@ -25,19 +25,26 @@ replied_in Nothing = 0
 replied_in Ignored = 0
 replied_in Answered = 1
 
--- How many of these replies are no silence.
-abbrev pub reply_count : List (Option (Station × List ℕ)) → ℕ
-reply_count replies = length (flat_map option_to_list replies)
+-- A wait that heard this leaves this device, and these replies.
+abbrev pub LeavesDevice : DeviceState → Heard → DeviceState → Type 0
+LeavesDevice before heard after = (after ≡ device_behind before (came_by heard))
+    × RepliesInTurn before (came_by heard) (replies_of before (came_by heard)) after
+
+-- The sends of these replies.
+abbrev pub sends_of : List (Option (Station × List ℕ)) → List Entry
+sends_of replies = map (λ (reply : Station × List ℕ). Posted reply.0 reply.1) (flat_map option_to_list replies)
 
 -- One wait, and the answer to what it brought.
 abbrev pub ServesOne : DeviceState → DeviceState → Account → Account → Result Brought ToolFault → Type 0
 ServesOne before after seen left (Ok brings) =
-    (heard : Heard) × (replies : List (Option (Station × List ℕ))) × AnswersInTurn before (came_by heard) replies after
-    × (heard ≢ Failure) × (came_in brings ≡ length (came_by heard)) × (replied_in brings ≡ reply_count replies)
-    × GainsAll (serve_entries (heard ∷ []) replies) seen left
+    (heard : Heard) × LeavesDevice before heard after
+    × (heard ≢ Failure) × (came_in brings ≡ length (came_by heard))
+    × (replied_in brings ≡ reply_count (replies_of before (came_by heard)))
+    × GainsAll (Waited serve_wait heard ∷ sends_of (replies_of before (came_by heard))) seen left
 ServesOne before after seen left (Err SendFailed) =
-    (heard : Heard) × (reply : Station × List ℕ) × AnswersInTurn before (came_by heard) (Some reply ∷ []) after
-    × (heard ≢ Failure) × GainsAll (Waited serve_wait heard ∷ Unposted reply.0 reply.1 ∷ []) seen left
+    (heard : Heard) × (reply : Station × List ℕ) × LeavesDevice before heard after
+    × (heard ≢ Failure) × (replies_of before (came_by heard) ≡ Some reply ∷ [])
+    × GainsAll (Waited serve_wait heard ∷ Unposted reply.0 reply.1 ∷ []) seen left
 ServesOne before after seen left (Err ReceiveFailed) = (after ≡ before) × Gains (Waited serve_wait Failure) seen left
 ServesOne before after seen left (Err TurnsSpent) = ⊥
 ServesOne before after seen left (Err WriteFailed) = ⊥

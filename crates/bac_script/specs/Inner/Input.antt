@@ -1,11 +1,14 @@
 -- How the lines of a script are cut from what its reader gave.
 use Rattle.std.specs.Prelude.{◌≡◌, ℕ, ◌+◌, ◌-◌, ◌*◌, ◌<◌, ◌≤◌, take, drop, List, [], ◌∷◌, ◌++◌, length, Option, ◌⊎◌}
+use Rattle.std.specs.Prelude.{false}
 use Rattle.bac_text.specs.declared.checked.Checked.{Checked}
 use Rattle.bac_script.specs.declared.input.Reading.{Reading}
 use Rattle.bac_script.specs.declared.input.Reading.TheVariants.{Open, AtEnd, Failed}
 use Rattle.bac_script.specs.Inner.Feeds.{HasNoFeed}
 use Rattle.bac_script.specs.Inner.Limits.{line_room, chunk_room}
-use Rattle.bac_text.specs.Checked.{ends_of, reads_of, last_of, Gave}
+use Rattle.bac_text.specs.Checked.{ends_of, reads_of, last_of, octets_of, has_failed, Gave}
+use Rattle.bac_text.specs.declared.page.Page.{Page}
+use Rattle.bac_text.specs.Page.{held as on_page, writer_of}
 use Rattle.bac_script.specs.Input.{most_reads, ReaderStands}
 
 -- Since then no read gave nothing: the count of such reads is as before.
@@ -36,9 +39,16 @@ pub record LastRead {R : Type 0} (reader reader' : Checked R) (held now : List �
   pub no_feed : HasNoFeed (held ++ before)
   pub short : length (held ++ before) < line_room
 
--- Nothing was read since then, or the last read was made while no whole line was held.
-abbrev pub ReadForLine : {R : Type 0} → Checked R → Checked R → List ℕ → List ℕ → Type 0
-ReadForLine reader reader' held now = ((reader' ≡ reader) × (now ≡ held)) ⊎ LastRead reader reader' held now
+-- The writer had not failed, and then took what the page held.
+pub record IsTurnedIn {W : Type 0} (page page' : Page W) : Type 0 where
+  pub sound : has_failed (writer_of page) ≡ false
+  pub later : List ℕ
+  pub out : octets_of (writer_of page') ≡ (octets_of (writer_of page) ++ on_page page) ++ later
+
+-- Nothing was read since then, or the last read was made while no whole line was held, and the page was turned in.
+abbrev pub ReadForLine : {R W : Type 0} → Checked R → Checked R → Page W → Page W → List ℕ → List ℕ → Type 0
+ReadForLine reader reader' page page' held now =
+    ((reader' ≡ reader) × (now ≡ held)) ⊎ (LastRead reader reader' held now × IsTurnedIn page page')
 
 -- How many reads may have given nothing: none while reading is open, and one once it is over.
 abbrev pub empty_reads : Reading → ℕ

@@ -5,9 +5,9 @@ use Rattle.bac_script.specs.declared.input.Reading.{Reading}
 use Rattle.bac_script.specs.declared.tracing.TraceEnd.{TraceEnd}
 use Rattle.bac_script.specs.declared.tracing.TraceFault.{TraceFault}
 use Rattle.bac_text.specs.declared.page.Page.{Page}
-use Rattle.bac_text.specs.Page.{Prints}
+use Rattle.bac_text.specs.Page.{writer_of, Prints}
 use Rattle.bac_script.specs.Script.{Runs}
-use Rattle.bac_script.specs.Tracing.{LastIsNeeded, HasRead}
+use Rattle.bac_script.specs.Tracing.{LastIsNeeded, HasRead, IsToldFirst}
 
 -- Nothing was read, or the last read was needed.
 abbrev pub IsNeeded : {R : Type 0} → Checked R → Checked R → List ℕ → Type 0
@@ -21,5 +21,6 @@ pub record RunsOn {R W : Type 0} (remaining : R → Option (List ℕ)) (contents
   pub reading : Reading
   pub printed : List ℕ
   pub read : HasRead remaining reader reader' given reading
+  pub told : IsToldFirst reader' (writer_of page) (writer_of page') given
   pub prints : Prints contents page page' printed
   pub runs : Runs given reading printed answer

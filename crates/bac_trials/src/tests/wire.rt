@@ -112,3 +112,15 @@ fn regions_and_nesting(rt: HostRuntime) {
     }
     assert!(&rt; ends_nested(32) == (true, Some(64)) && ends_nested(33) == (false, None));
 }
+
+/// How often each depth is walked. No contract bounds the time of a walk: one that went twice into each bracket would
+/// not be done with these in the time that a test has.
+const WALKS: usize = 1000;
+
+#[test]
+fn a_walk_goes_once_into_each_bracket(rt: HostRuntime) {
+    for depth in 0..33 {
+        let is_walked = (0..WALKS).all(|_| ends_nested(depth) == (true, Some(depth.wrapping_mul(2))));
+        assert!(&rt; is_walked, "{depth}");
+    }
+}

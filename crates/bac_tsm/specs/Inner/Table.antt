@@ -8,7 +8,7 @@ use Rattle.bac_tsm.specs.Machine.{Waiting, is_due, due_entry, kept}
 use Rattle.bac_tsm.specs.Waiting.{nothing}
 use Rattle.bac_tsm.specs.Table.{held_at, open_slots}
 
--- The number of the request at this slot.
+-- The invoke id of the request at this slot.
 abbrev pub number_at : List Waiting → ℕ → ℕ
 number_at slots slot = (get_or slots slot nothing).request.number
 

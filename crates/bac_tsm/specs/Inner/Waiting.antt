@@ -9,7 +9,7 @@ use Rattle.bac_tsm.specs.Answers.{octets_of}
 abbrev pub ticket_in : Waiting → ℕ
 ticket_in w = w.request.ticket
 
--- Its number.
+-- Its invoke id.
 abbrev pub number_in : Waiting → ℕ
 number_in w = w.request.number
 

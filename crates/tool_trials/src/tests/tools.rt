@@ -5,10 +5,11 @@ ghost use Rattle.bac_links.specs.Memory.{foretold_of, foretold_by, scene_of_step
 use super::*;
 use crate::tests::links::quiet;
 use bac_links::{LinkFault, MemoryLink, Refused, Step};
-use bac_text::Checked;
-use bac_tools::{Binding, Network, Report, run_words};
+use bac_tools::{Binding, Network, Report, run_program};
 use std::alloc::Global;
 use std::cell::Cell;
+use std::env;
+use std::io::{self, ErrorKind};
 
 /// Gives links of these steps to whoever asks for this port of every address, and what becomes of a refused reply so.
 /// Counts who asks.
@@ -40,18 +41,28 @@ impl Network for Rehearsal<'_, '_> {
     }
 }
 
-/// Whether the words, over this network and a script, print this text and end with this status and fault.
+/// Whether the program, called with these words over this network and a script, prints this text and ends with this
+/// status and fault.
 fn runs(
-    words: &[&str],
+    typed: io::Result<env::Args>,
     network: Rehearsal<'_, '_>,
     (text, status, fault): (&str, u8, &str),
 ) -> bool {
     let alloc = network.alloc;
     let mut room = [0xff; 96];
-    let mut reader = Checked::new(SCRIPT);
-    let mut writer = Checked::new(room.as_mut_slice());
-    let report = run_words(alloc, words, network, &mut reader, &mut writer).report;
+    let report = run_program(alloc, typed, network, SCRIPT, room.as_mut_slice())
+        .ran
+        .report;
     is_text(&room, text) && report.status == status && is_told(alloc, &report, fault)
+}
+
+/// The words of the line.
+fn words_typed(alloc: Global, line: &str) -> io::Result<env::Args> {
+    let mut typed = Vec::new(alloc);
+    for word in line.split(' ') {
+        typed.push(String::from_str(alloc, word)?)?;
+    }
+    Ok(typed.into_iter())
 }
 
 /// Whether the report has the fault of this text, or none where there is no text.
@@ -62,7 +73,7 @@ fn is_told(alloc: Global, report: &Report, text: &str) -> bool {
     }
 }
 
-const READ: &str = "bactool bacrp 1234 0 5 85 --mac 127.0.0.1";
+const READ: &str = "/usr/bin/bacrp 1234 0 5 85 --mac 127.0.0.1";
 
 const READ_AT_9: &str = "bactool bacrp 1234 0 5 85 --mac 127.0.0.1 --port 9";
 
@@ -123,8 +134,7 @@ fn all_run<'a, H: Abort + AllocGlobal>(rt: &H, steps: &'a [Step<'a>], rows: &[Ro
             at,
             asked,
         };
-        let words: Vec<&str> = line.split(' ').collect(alloc).expect(rt, "memory");
-        assert!(rt; runs(words.as_slice(), network, *end), "{line}");
+        assert!(rt; runs(words_typed(alloc, line), network, *end), "{line}");
         let has_socket = *line != TRACE && *line != READ_NOWHERE;
         assert!(rt; asked.get() == u32::from(has_socket), "{line}");
     }
@@ -143,4 +153,24 @@ fn words_are_run(rt: HostRuntime) {
     all_run(&rt, &[Step::Broken], &broken);
     let spent = [(READ, CLIENT, ("", 3, "turns spent"))];
     all_run(&rt, quiet(&rt).as_slice(), &spent);
+}
+
+#[test]
+fn words_that_could_not_be_had_are_told(rt: HostRuntime) {
+    let alloc = rt.alloc();
+    let rows = [
+        (ErrorKind::OutOfMemory, ("", 4, "out of memory")),
+        (ErrorKind::InvalidData, ("", 2, "words that are not UTF-8")),
+    ];
+    for (kind, end) in rows {
+        let asked = &Cell::new(0);
+        let network = Rehearsal {
+            alloc,
+            steps: &[],
+            at: CLIENT,
+            asked,
+        };
+        assert!(&rt; runs(Err(io::Error::from(kind)), network, end), "{}", end.1);
+        assert!(&rt; asked.get() == 0, "{}", end.1);
+    }
 }

@@ -17,8 +17,8 @@ use Rattle.bac_device.specs.Kind.{one_value}
 use Rattle.bac_device.specs.Places.{place, standing_after, written_value}
 use Rattle.bac_device.specs.Device.{device_text, device_number, device_property}
 use Rattle.bac_device.specs.Reply.{property_of, read_property, ordered_write, accepted_write, read_reply, write_reply}
-use Rattle.bac_device.specs.Reply.{write_in_body, full_reply, write_in_request, reply_apdu, write_apdu, reply_of}
-use Rattle.bac_device.specs.Reply.{write_of_datagram}
+use Rattle.bac_device.specs.Reply.{write_in_body, full_reply, write_in_request, reply_apdu, write_in_apdu, reply_of}
+use Rattle.bac_device.specs.Reply.{write_in_datagram}
 use Rattle.bac_device.proofs.examples.examples_of_reads.Goals as goal
 
 pub returns : goal.returns
@@ -27,5 +27,5 @@ unfolding tag_number_at long_length_at length_at shape_at tag_at contents_of val
     address_at header_at link_at carried parts_at apdu_of reference_at read_of write_of plain_parameter element
     kind_property point_property one_value place standing_after written_value device_text device_number device_property
     property_of read_property ordered_write accepted_write read_reply write_reply write_in_body full_reply
-    write_in_request reply_apdu write_apdu reply_of write_of_datagram
+    write_in_request reply_apdu write_in_apdu reply_of write_in_datagram
 returns c = record { present = refl; extra = refl; device = refl; array = refl; failures = refl; size = refl }

@@ -1,32 +1,31 @@
-use Rattle.std.proofs.Common.{arith, add-one}
+use Rattle.std.proofs.Common.{arith, add-one, refl}
 use Rattle.std.proofs.lemmas.Result.{err_from_is_err_and}
 use Rattle.bac_links.specs.Inner.Ending.{ending_seen}
-use Rattle.bac_links.proofs.CallTurns.{unbegun_so, fails_so, shown_so, spent_so}
+use Rattle.bac_links.proofs.CallTurns.{fails_so, shown_so, spent}
 use Rattle.bac_links.proofs.call.run.Goals as goal
 
 pub returns-in_err-client-clause-told : goal.returns-in_err-client-clause-told
 returns-in_err-client-clause-told g c =
     let p = err_from_is_err_and c.from_residual.result c.from_residual.ensures.1 in
-    rw (p.1, p.2, c.in_err-client.ensures.err.0)
-    (unbegun_so c.args.purpose c.args.call.now _ _ c.in_err-client.ensures.err.1)
+    rw (p.1, p.2, c.in_err-client.ensures.err.0) (refl, c.in_err-client.ensures.err.1)
 
 pub returns-in_err-ending-clause-told : goal.returns-in_err-ending-clause-told
 returns-in_err-ending-clause-told g c =
     let p = err_from_is_err_and c.from_residual-in_err-ending.result c.from_residual-in_err-ending.ensures.1 in
     rw (p.1, p.2)
     (fails_so c.args.purpose c.args.call.now _ _ _ _ _ _ c.in_err-ending.ensures.err.0
+    c.loop-turn.invariant.unwritten
     (c.in_err-ending.ensures.err.1 c.args.purpose c.args.call.now _ _ c.turn_wait-wait_ms.ensures
-    c.loop-turn.invariant.so_far (rw c.most_turns-turn-end.ensures at c.loop-turn-test.true)))
+    (rw c.most_turns-turn-end.ensures at c.loop-turn-test.true) c.loop-turn.invariant.so_far))
 
 pub returns-in-Some-clause-told : goal.returns-in-Some-clause-told
 returns-in-Some-clause-told g c =
     let ended = rw c.in-Some.is at
     (c.in_ok-ending.ensures.ok c.args.purpose c.args.call.now _ _ c.turn_wait-wait_ms.ensures
-    c.loop-turn.invariant.so_far) in
+    (rw c.most_turns-turn-end.ensures at c.loop-turn-test.true) c.loop-turn.invariant.so_far) in
     rw (← c.loop-turn.invariant.unwritten)
     (shown_so c.args.purpose c.args.call.now _ _ _ _ _ (ending_seen c.in-Some.ending) c.show_ending.result
-    c.show_ending.ensures.text c.show_ending.ensures.exit c.show_ending.ensures.fault
-    c.loop-turn._turn (ended (rw c.most_turns-turn-end.ensures at c.loop-turn-test.true)))
+    c.show_ending.ensures.text c.show_ending.ensures.exit c.show_ending.ensures.fault ended)
 
 pub loop-turn-preserved : goal.loop-turn-preserved
 loop-turn-preserved g c = record {
@@ -35,9 +34,11 @@ loop-turn-preserved g c = record {
   so_far =
       rw add-one (rw c.in_default.is at
       (c.in_ok-ending.ensures.ok c.args.purpose c.args.call.now _ _ c.turn_wait-wait_ms.ensures
-      c.loop-turn.invariant.so_far));
+      (rw c.most_turns-turn-end.ensures at c.loop-turn-test.true) c.loop-turn.invariant.so_far));
 }
 
 pub returns-clause-told : goal.returns-clause-told
-returns-clause-told g c =
-    spent_so c.args.purpose c.args.call.now _ _ _ c.loop-turn._turn (omega arith) c.loop-turn.invariant.so_far
+returns-clause-told g c = (
+  c.loop-turn.invariant.unwritten,
+  spent c.args.purpose c.args.call.now _ _ _ c.loop-turn._turn (omega arith) c.loop-turn.invariant.so_far,
+)

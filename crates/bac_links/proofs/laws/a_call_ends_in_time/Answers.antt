@@ -1,5 +1,5 @@
-use Rattle.bac_links.proofs.Progress.{left_in_time}
+use Rattle.bac_links.proofs.Progress.{told_in_time}
 use Rattle.bac_links.proofs.laws.a_call_ends_in_time.Goals as goal
 
 pub returns : goal.returns
-returns g c = left_in_time g.W.Write.contents
+returns g c = told_in_time g.W.Write.contents

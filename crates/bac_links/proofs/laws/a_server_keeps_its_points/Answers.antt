@@ -1,9 +1,42 @@
-use Rattle.std.proofs.Common.{ap, ◌∙◌}
+use Rattle.std.proofs.Common.{◌≡◌, List, [], ◌∷◌, Option, Some, None, map, refl, ap, ◌∙◌, inl, inr}
+use Rattle.std.proofs.lemmas.Bool.{cases_Bool}
+use Rattle.bac_device.specs.Point.{same_object}
+use Rattle.bac_device.specs.Places.{Write, Standing, put}
 use Rattle.bac_device.specs.Device.{DeviceState, points_of}
-use Rattle.bac_device.proofs.StateLaws.{points_after}
+use Rattle.bac_device.specs.Reply.{write_of_datagram, with_write}
+use Rattle.bac_device.specs.Turns.{Arrival}
+use Rattle.bac_links.specs.Serve.{arrivals_in, device_next, device_behind}
 use Rattle.bac_links.proofs.laws.a_server_keeps_its_points.Goals as goal
 
+abbrev Keeps : DeviceState → DeviceState → Type 0
+Keeps before after = (after.info ≡ before.info) × (points_of after ≡ points_of before)
+
+put_point : (write : Write) (standing : Standing) → (put write standing).point ≡ standing.point
+put_point write standing = elim (cases_Bool (same_object standing.point.object write.object)) [
+  | inl y ↦ rw y refl
+  | inr n ↦ rw n refl
+]
+
+put_points : (write : Write) (standings : List Standing)
+    → map (λ (s : Standing). s.point) (map (put write) standings) ≡ map (λ (s : Standing). s.point) standings
+put_points write [] = refl
+put_points write (standing ∷ standings) =
+    let first = put_point write standing in
+    let later = put_points write standings in
+    cc
+
+written : (device : DeviceState) (write : Option Write) → Keeps device (with_write device write)
+written device None = (refl, refl)
+written device (Some write) = (refl, put_points write device.standings)
+
+kept : (device : DeviceState) (arrivals : List Arrival) → Keeps device (device_behind device arrivals)
+kept device [] = (refl, refl)
+kept device (arrival ∷ arrivals) =
+    let first = written device (write_of_datagram device arrival.from arrival.datagram) in
+    let later = kept (device_next device arrival) arrivals in
+    (later.0 ∙ first.0, later.1 ∙ first.1)
+
 pub returns : goal.returns
-returns c = λ count before after seen left result writes served holds.
-    let kept = (served.2 writes holds).written in
-    (ap (λ (d : DeviceState). d.info) kept, ap points_of kept ∙ points_after before.info (points_of before) _)
+returns c = λ count before after seen left result serves.
+    let all = kept before (arrivals_in serves.plays.gained) in
+    (ap (λ (d : DeviceState). d.info) serves.device ∙ all.0, ap points_of serves.device ∙ all.1)

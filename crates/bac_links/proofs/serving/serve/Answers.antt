@@ -6,7 +6,7 @@ use Rattle.bac_links.proofs.serving.serve.Goals as goal
 pub returns-then-count-eq0-clause-told : goal.returns-then-count-eq0-clause-told
 returns-then-count-eq0-clause-told g c =
     serve_done c.args.device.now c.args.device.now _ _ c.args.count 0 0 0 (serves_none c.args.device.now _ c.args.count)
-    (sym c.if-count-eq0.true) (omega arith)
+    (sym c.if-count-eq0.true)
 
 pub loop-turn-init : goal.loop-turn-init
 loop-turn-init g c = record {
@@ -27,11 +27,11 @@ returns-in_err-brought-clause-told g c =
 pub returns-then-came-count-clause-told : goal.returns-then-came-count-clause-told
 returns-then-came-count-clause-told g c =
     let all = c.loop-turn.invariant in
-    let goes = serve_on c.args.device.now _ _ _ c.args.count _ _ _ all.goes _ _ all.fewer _
-    c.in_ok-brought.ensures.told in
+    let goes = serve_on c.args.device.now _ _ _ c.args.count _ _ _ all.goes _ _
+    (rw c.most_turns-turn-end.ensures at c.loop-turn-test.true) all.fewer _ c.in_ok-brought.ensures.told in
     rw c.replied-replied.ensures.value
     (serve_done c.args.device.now _ _ _ c.args.count _ _ _ goes
-    (rw c.came-came.ensures.value at c.if-came-count.true) (omega arith))
+    (rw c.came-came.ensures.value at c.if-came-count.true))
 
 pub loop-turn-preserved : goal.loop-turn-preserved
 loop-turn-preserved g c =
@@ -42,8 +42,8 @@ loop-turn-preserved g c =
       one_a_turn = omega (arith, all.one_a_turn, c.replied-replied.ensures.few);
       goes =
           rw (c.came-came.ensures.value, c.replied-replied.ensures.value, add-one)
-          (serve_on c.args.device.now _ _ _ c.args.count _ _ _ all.goes _ _ all.fewer _
-          c.in_ok-brought.ensures.told);
+          (serve_on c.args.device.now _ _ _ c.args.count _ _ _ all.goes _ _
+          (rw c.most_turns-turn-end.ensures at c.loop-turn-test.true) all.fewer _ c.in_ok-brought.ensures.told);
     }
 
 pub returns-clause-told : goal.returns-clause-told

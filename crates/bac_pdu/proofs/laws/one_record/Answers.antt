@@ -1,6 +1,6 @@
 use Rattle.bac_pdu.specs.Datagram.{Carries}
 use Rattle.bac_pdu.specs.DatagramReading.{carried}
-use Rattle.bac_pdu.proofs.DatagramLaws.{carried_is, single}
+use Rattle.bac_pdu.proofs.DatagramLaws.{carried_is, single, one_taken}
 use Rattle.bac_pdu.specs.Apdu.{IsLaidOut}
 use Rattle.bac_pdu.specs.ApduReading.{apdu_of}
 use Rattle.bac_pdu.proofs.ApduLaws.{apdu_is}
@@ -19,6 +19,7 @@ use Rattle.bac_pdu.proofs.laws.one_record.Goals as goal
 pub returns : goal.returns
 returns c = record {
   delivery = λ from. single (Carries from) (carried from) (λ octets x s. (carried_is from octets x).1 s);
+  taken = one_taken;
   apdu = single IsLaidOut apdu_of (λ octets x s. (apdu_is octets x).1 s);
   read = single IsReadBody (λ body. result_ok (read_of body)) (λ body x s. ap result_ok (read_again body x s));
   write = single IsWriteBody (λ body. result_ok (write_of body)) (λ body x s. ap result_ok (write_again body x s));

@@ -21,8 +21,8 @@ use Rattle.bac_tsm.specs.Lookahead.{next_invoke_id, refusal_of}
 use Rattle.bac_tsm.specs.Answers.{answer_in_datagram, same_station, is_answer_to}
 use Rattle.bac_pdu.specs.ValueReading.{who_is_of, introduction_of}
 use Rattle.bac_device.specs.Reply.{property_of, read_property, ordered_write, accepted_write, read_reply, write_reply}
-use Rattle.bac_device.specs.Reply.{write_in_body, full_reply, write_in_request, who_is_reply, reply_apdu, write_apdu}
-use Rattle.bac_device.specs.Reply.{reply_of, write_of_datagram}
+use Rattle.bac_device.specs.Reply.{write_in_body, full_reply, write_in_request, who_is_reply, reply_apdu}
+use Rattle.bac_device.specs.Reply.{write_in_apdu, reply_of, write_in_datagram}
 use Rattle.bac_device.specs.Inner.Demo.{with_row}
 use Rattle.bac_device.specs.Point.{description_of}
 use Rattle.bac_device.specs.Kind.{kind_of, one_value}
@@ -37,8 +37,8 @@ unfolding encode is_utf8 chars digits decode_pairs encode_with value_under value
     behind_opening enclosed_at behind_closing behind_items region_at plain_parameter wrapped address_at header_at
     link_at carried parts_at apdu_of ack_of reference_at read_of write_of next_invoke_id refusal_of answer_in_datagram
     same_station is_answer_to who_is_of introduction_of property_of read_property ordered_write accepted_write
-    read_reply write_reply write_in_body full_reply write_in_request who_is_reply reply_apdu write_apdu reply_of
-    write_of_datagram with_row description_of kind_of one_value place standing_after place_at written_value add_point
+    read_reply write_reply write_in_body full_reply write_in_request who_is_reply reply_apdu write_in_apdu reply_of
+    write_in_datagram with_row description_of kind_of one_value place standing_after place_at written_value add_point
     device_text device_number device_property element kind_property point_property
 returns c =
     record {

@@ -7,7 +7,7 @@ use Rattle.bac_text.proofs.page.write_digits.Goals as goal
 -- All but the last digit are those of a tenth of the number.
 shorter : (n : ℕ) → 10 ≤ n → n < 2 ^ 64 → length (decimal (n / 10)) + 1 ≡ length (decimal n)
 shorter n large fits =
-    sym (ap length (decimal_step n large fits) ∙ length-append (decimal (n / 10)) ((48 + n % 10) ∷ []))
+    sym (ap length (decimal_step n large fits) ∙ length-append _ _)
 
 pub loop-rest-preserved : goal.loop-rest-preserved
 loop-rest-preserved c =
@@ -21,8 +21,8 @@ loop-rest-preserved c =
           c.loop-rest.invariant.digits
           ∙ ap (λ (xs : List ℕ). xs ++ drop c.loop-rest.start c.loop-rest.room)
           (decimal_step c.loop-rest.rest large fits)
-          ∙ append_assoc (decimal (c.loop-rest.rest / 10)) ((48 + c.loop-rest.rest % 10) ∷ [])
-          (drop c.loop-rest.start c.loop-rest.room)
+          ∙ append_assoc (decimal (c.loop-rest.rest / 10)) _
+          _
           ∙ ap (λ (xs : List ℕ). decimal (c.loop-rest.rest / 10) ++ xs)
           (sym (drop-set c.loop-rest.room (c.loop-rest.start - 1) (48 + c.loop-rest.rest % 10) (omega arith)
           ∙ ap (λ (i : ℕ). (48 + c.loop-rest.rest % 10) ∷ drop i c.loop-rest.room) next));
@@ -39,7 +39,7 @@ returns-clause-digits c =
     let some : 1 ≤ c.loop-rest.start =
     omega (arith, decimal_nonempty c.loop-rest.rest (omega arith), c.loop-rest.invariant.fits) in
     let next : c.loop-rest.start - 1 + 1 ≡ c.loop-rest.start = omega arith in
-    drop-set c.loop-rest.room (c.loop-rest.start - 1) (48 + c.loop-rest.rest) (omega arith)
+    drop-set c.loop-rest.room _ _ (omega arith)
     ∙ ap (λ (i : ℕ). (48 + c.loop-rest.rest) ∷ drop i c.loop-rest.room) next
     ∙ sym (c.loop-rest.invariant.digits
     ∙ ap (λ (xs : List ℕ). xs ++ drop c.loop-rest.start c.loop-rest.room) (decimal_digit c.loop-rest.rest small))
@@ -47,5 +47,5 @@ returns-clause-digits c =
 pub returns-clause-start : goal.returns-clause-start
 returns-clause-start c =
     let small : c.loop-rest.rest < 10 = omega (arith, c.loop-rest-test.false) in
-    let one = ap length (decimal_digit c.loop-rest.rest small) in
+    let one = ap length (decimal_digit _ small) in
     omega (arith, one, c.loop-rest.invariant.place, c.loop-rest.invariant.fits)

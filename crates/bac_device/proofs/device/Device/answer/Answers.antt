@@ -1,9 +1,9 @@
 use Rattle.bac_pdu.specs.Peer.{station}
 use Rattle.bac_device.specs.Size.{ReplyFits}
-use Rattle.bac_device.proofs.SizeLaws.{reply_fits, of_answer}
+use Rattle.bac_device.proofs.SizeLaws.{reply_fits, of_reply}
 use Rattle.bac_device.proofs.device.Device.answer.Goals as goal
 
 pub returns-clause-fits : goal.returns-clause-fits
 returns-clause-fits c =
-    of_answer (ReplyFits (station c.args.from) c.args.datagram.now) _ _ _ c.answer_into.ensures.reply
+    of_reply (ReplyFits (station c.args.from) c.args.datagram.now) _ _ _ c.answer_into.ensures.reply
     (reply_fits _ (station c.args.from) c.args.datagram.now)

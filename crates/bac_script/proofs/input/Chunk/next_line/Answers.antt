@@ -1,4 +1,4 @@
-use Rattle.std.proofs.Common.{◌≡◌, ◌<◌, length, List, ℕ, arith, sym, ◌∙◌, subst}
+use Rattle.std.proofs.Common.{◌≡◌, ◌<◌, length, List, ℕ, arith, sym, ◌∙◌, subst, rules}
 use Rattle.bac_script.specs.Inner.Feeds.{HasNoFeed}
 use Rattle.bac_script.specs.Inner.Limits.{line_room}
 use Rattle.bac_script.specs.declared.input.Reading.TheVariants.{Open}
@@ -15,7 +15,8 @@ loop-length-preserved g c =
       sound = grind arith;
       unended = grind arith;
       asked = grind arith;
-      needed = read_for_line c.loop-length.invariant.given c.loop-length.invariant.needed
+      needed = read_for_line c.loop-length.invariant.given c.loop-length.invariant.printed c.turn_in.ensures.printed
+          c.turn_in.ensures.empty (search rules) c.loop-length.invariant.needed
           c.loop-length.invariant.asked c.in_default.ensures.line.0 c.in_default.ensures.line.1
           (rw c.line_length.ensures.held at c.read_more-reading.ensures.last) c.read_more-reading.ensures.once;
       spared = grind arith;

@@ -12,7 +12,7 @@ invariant-loop-length g l = record {
   sound : has_failed l.reader ≡ false;
   unended : HasNotEnded l.fn.reader l.reader;
   asked : reads_of l.reader + length l.fn.self ≤ reads_of l.fn.reader + length l.self;
-  needed : ReadForLine l.fn.reader l.reader l.fn.self l.self;
+  needed : ReadForLine l.fn.reader l.reader l.fn.page l.page l.fn.self l.self;
   spared : ReadsNoMore l.fn.reader l.reader;
   room : most_to_come l.reader l.self ≤ most_to_come l.fn.reader l.fn.self;
 }

@@ -6,14 +6,14 @@ use Rattle.bac_tsm.proofs.table.Table.is_due.Goals as goal
 
 pub held-requires : goal.held-requires
 held-requires c =
-    front_below c.self.invariant.0 c.self.invariant.1 _ c.self.view_is c.deref.result.now c.deref.ensures.0
-    c.in-Some.slot.now c.in-Some.ensures.value
+    front_below c.self.invariant.0 c.self.invariant.1 _ c.self.view_is _
+    (rw c.deref.ensures.0 at c.in-Some.ensures.value)
 
 pub returns-in-Some-clause-due : goal.returns-in-Some-clause-due
 returns-in-Some-clause-due c =
     c.is_due.ensures
-    ∙ some_due c.self.invariant.0 c.self.invariant.1 _ c.self.view_is c.deref.result.now c.deref.ensures.0
-    c.in-Some.slot.now c.in-Some.ensures.value
+    ∙ some_due c.self.invariant.0 c.self.invariant.1 _ c.self.view_is _
+    (rw c.deref.ensures.0 at c.in-Some.ensures.value)
     (client_rules c.args.config.timeout c.args.config.retries) c.args.clock _ c.held.ensures
 
 pub returns-in-Some-clause-rising : goal.returns-in-Some-clause-rising

@@ -1,5 +1,0 @@
-use Rattle.bac_device.proofs.StateLaws.{in_turn}
-use Rattle.bac_device.proofs.laws.answers_in_turn.Goals as goal
-
-pub returns : goal.returns
-returns c = in_turn

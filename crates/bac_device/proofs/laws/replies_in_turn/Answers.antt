@@ -1,0 +1,5 @@
+use Rattle.bac_device.proofs.StateLaws.{in_turn}
+use Rattle.bac_device.proofs.laws.replies_in_turn.Goals as goal
+
+pub returns : goal.returns
+returns c = in_turn

@@ -1,0 +1,54 @@
+-- How a tool goes on: by all that it was asked and answered, what it asks of its link next, or that it is over.
+use Rattle.std.specs.Prelude.{◌≡◌, ℕ, zero, suc, nat_lt, if◌then◌else◌, List, [], ◌∷◌, ◌++◌, ⊤, Result, Err}
+use Rattle.bac_pdu.specs.Peer.{Station}
+use Rattle.bac_links.specs.Limits.{most_turns}
+use Rattle.bac_links.specs.History.{Entry, Waited, Timed, Posted, Unposted, Account, GainsAll}
+use Rattle.bac_links.specs.declared.fault.ToolFault.{ToolFault}
+use Rattle.bac_links.specs.declared.fault.ToolFault.TheVariants.{TurnsSpent}
+
+-- What is asked of a link: a datagram, in a wait of so long; the time; that a datagram is sent.
+pub data Question : Type 0 where
+  ForDatagram : (wait : ℕ) → Question
+  ForTime : Question
+  ToSend : (to : Station) (octets : List ℕ) → Question
+
+-- What was asked in an entry.
+abbrev pub question_of : Entry → Question
+question_of (Waited wait heard) = ForDatagram wait
+question_of (Timed time) = ForTime
+question_of (Posted to octets) = ToSend to octets
+question_of (Unposted to octets) = ToSend to octets
+
+-- A tool asks this next, or it is over, with this result.
+pub data Move (R : Type 0) : Type 0 where
+  Asks : (question : Question) → Move R
+  Ends : (result : R) → Move R
+
+-- Behind `before`, each of `later` was asked by the move that is due there.
+abbrev pub Follows : {R : Type 0} → (List Entry → Move R) → (before later : List Entry) → Type 0
+Follows move before [] = ⊤
+Follows move before (entry ∷ later) =
+    (move before ≡ Asks (question_of entry)) × Follows move (before ++ entry ∷ []) later
+
+-- The history of a link gained what a tool asks, one thing after another, until it is over with this result.
+pub record Plays {R : Type 0} (move : List Entry → Move R) (seen left : Account) (result : R) : Type 0 where
+  pub gained : List Entry
+  pub gains : GainsAll gained seen left
+  pub follows : Follows move [] gained
+  pub over : move gained ≡ Ends result
+
+-- How many waits there were.
+abbrev pub waits_in : List Entry → ℕ
+waits_in [] = zero
+waits_in (Waited wait heard ∷ later) = suc (waits_in later)
+waits_in (_ ∷ later) = waits_in later
+
+-- Which times were told, one after another.
+abbrev pub times_in : List Entry → List ℕ
+times_in [] = []
+times_in (Timed time ∷ later) = time ∷ times_in later
+times_in (_ ∷ later) = times_in later
+
+-- After n turns there is a further one, which begins with a wait of so long; or all have gone by.
+abbrev pub turn_after : {X : Type 0} → (wait n : ℕ) → Move (Result X ToolFault)
+turn_after wait n = if nat_lt n most_turns then Asks (ForDatagram wait) else Ends (Err TurnsSpent)

@@ -1,8 +1,0 @@
-use Rattle.std.proofs.Common.{sym, ◌∙◌}
-use Rattle.bac_pdu.proofs.PeerLaws.{peer_decides}
-use Rattle.bac_pdu.proofs.peer.Peer.is_same.Goals as goal
-
-pub returns : goal.returns
-returns c =
-    let decides = peer_decides c.args.self.now c.args.other.now c.told.ensures c.told-2.ensures in
-    ((λ e. decides.0 (sym c.eq.ensures ∙ e)), (λ e. c.eq.ensures ∙ decides.1 e))

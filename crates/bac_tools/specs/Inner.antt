@@ -1,2 +1,0 @@
--- What only private clauses say. No promise of this crate rests on it.
-pub mod Report
