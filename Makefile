@@ -54,6 +54,7 @@ examples: program
 	@tests/rows.py $(PROGRAM)
 	@tests/memory.sh $(PROGRAM)
 	@tests/failing.sh $(PROGRAM)
+	@tests/bacsite.py $(PROGRAM)
 
 forget:
 	rm -rf crates/*/out/incremental crates/*/out/rlib
