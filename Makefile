@@ -55,6 +55,7 @@ examples: program
 	@tests/memory.sh $(PROGRAM)
 	@tests/failing.sh $(PROGRAM)
 	@tests/lengths.py $(PROGRAM)
+	@tests/bacsite.py $(PROGRAM)
 
 forget:
 	rm -rf crates/*/out/incremental crates/*/out/rlib
