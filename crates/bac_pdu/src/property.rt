@@ -180,8 +180,8 @@ pub fn write_read(frame: &mut Frame, request: &ReadRequest) -> Result<(), Full>
     whole_or_nothing(frame, start, appended)
 }
 
-/// Appends the body of a ReadProperty-ACK, each number in its fewest octets. The value must be whole items, with at most
-/// 32 opening tags open at once. `Full`, with the frame unchanged, only where there is no room for it.
+/// Appends the body of a ReadProperty-ACK, each number in its fewest octets. The value must be whole items, with at
+/// most 32 opening tags open at once. `Full`, with the frame unchanged, only where there is no room for it.
 pub fn write_ack(frame: &mut Frame, ack: &Ack<'_>) -> Result<(), Full>
     requires { IsRegion deepest ack.now.value.now }
     ensures appended { Appends frame.old (ack_octets (answer ack.now)) frame.new result }

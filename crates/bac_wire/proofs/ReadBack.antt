@@ -1,5 +1,5 @@
--- What `read_value` finds of what `write_value` appended, as an equation: for a crate above, whose way from `IsReadBack`
--- and `FindsFront` to the value and its size this is.
+-- What `read_value` finds of what `write_value` appended, as an equation: for a crate above, which knows it by
+-- `IsReadBack` and `FindsFront`.
 use Rattle.std.proofs.Common.{◌≡◌, ℕ, List, [], ◌++◌, length, Option, Some, None, ap, refl, sym, subst, ◌∙◌, append-nil}
 use Rattle.std.proofs.lemmas.Option.{none-some, same_Some}
 use Rattle.std.specs.Option.{option_map}

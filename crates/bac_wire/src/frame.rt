@@ -7,8 +7,8 @@ ghost use Rattle.bac_wire.specs.Writing.{Appends};
 use arrayvec::ArrayVec;
 use std::marker::Model;
 
-/// The octets that a frame has room for: the greatest APDU that a device can announce, which has 1,476 (ANSI/ASHRAE 135,
-/// 20.1.2.5), with the headers before it, which have 17 at most, and four octets more.
+/// The octets that a frame has room for: the greatest APDU that a device can announce, which has 1,476 (ANSI/ASHRAE
+/// 135, 20.1.2.5), with the headers before it, which have 17 at most, and four octets more.
 pub const FRAME_OCTETS: usize = 1497;
 
 /// The caller's octets don't all fit into the frame. It is as it was.
