@@ -37,11 +37,11 @@ PAGES = [
     ("progress", "No request waits for ever", ["bac_tsm::no_request_waits_for_ever"]
     + ["bac_links::laws::a_call_ends_in_time"]),
     ("machine", "The client call by call, and its laws", ["bac_tsm::*"]),
-    ("serving", "A device that serves", ["bac_links::serve", "bac_links::laws::a_server_keeps_its_points"]),
+    ("serving", "A device that serves", ["bac_links::serve"]),
     ("links", "Links, and the laws of the tools over them", ["bac_links::*"]),
     ("command", "The words of a command line", ["bac_words::parse_words", "bac_words::*", "clap_laws::*"]),
-    ("program", "From the words to the status", ["bac_tools::run_words", "bac_tools::run_program", "bac_text::Checked::read"]
-    + ["bac_text::Checked::write", "bac_text::Checked::flush", "bac_tools::*", "bactool::*"]),
+    ("program", "From the words to the status", ["bac_tools::run_program", "bac_tools::run_words"]
+    + ["bac_text::Checked::read", "bac_text::Checked::write", "bac_text::Checked::flush", "bac_tools::*", "bactool::*"]),
 ]
 
 # What a page shows at its head: a file of specs/, and the definitions of it.
@@ -146,7 +146,8 @@ def pages():
         calls = {}
         for name in names:
             found = [one for one in rest if one.startswith(name[:-1])] if name.endswith("*") else [name]
-            PROBLEMS.extend(f"the page {page} is to have {one}, which is no public call" for one in {*found} - {*every})
+            if not found or not {*found} <= {*every}:
+                PROBLEMS.append(f"the page {page} is to have {name}, which is no public call")
             calls.update({one: every[one] for one in found if one in every})
             rest = {one: call for one, call in rest.items() if one not in found}
         texts[f"{FOLDER}/{page}.md"], items = page_of(page, title, calls, told)
