@@ -37,14 +37,18 @@ for file in /usr/share/man/man7/bactool-numbers.7.gz $doc/README.md $doc/docs/GU
 done
 # So far Python was not needed. With it bacsite reads a point.
 read_point() {
-    chroot "$root" sh -c "bacdev 1234 --port $port --count 1 & sleep 1; exec bacsite read 127.0.0.1:$port 0 5 85"
+    chroot "$root" sh -c "timeout 10 bacdev 1234 --port $port --count 1 >/dev/null 2>&1 &
+        sleep 1; exec bacsite read 127.0.0.1:$port 0 5 85"
 }
 if ! chroot "$root" sh -c 'command -v python3' >/dev/null; then
-    [ "$(read_point 2>&1)" = "/usr/bin/env: 'python3': No such file or directory" ] || { echo 'not refused'; exit 1; }
-    chroot "$root" sh -c 'apt-get -q update && apt-get -qy --no-install-recommends install python3' >/dev/null
+    if told=$(read_point 2>&1) || [[ $told != *python3*"No such file"* ]]; then
+        echo "without Python: $told"
+        exit 1
+    fi
+    chroot "$root" sh -c 'apt-get -q update && apt-get -qy --no-install-recommends install python3' >/dev/null 2>&1
 fi
 [ "$(read_point)" = 72.3 ] || { echo 'bacsite reads another value'; exit 1; }
 chroot "$root" bacdev --help | head -n 1
 chroot "$root" dpkg -P bactool
-[ -z "$(find "$root/usr" -name '*bactool*')" ] || { echo "left behind"; exit 1; }
+[ -z "$(find "$root/usr" -name '*bactool*' -o -name '*bacsite*')" ] || { echo "left behind"; exit 1; }
 echo "installed, run and taken away"
