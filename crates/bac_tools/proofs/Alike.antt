@@ -1,29 +1,34 @@
 -- Two runs of the program with the same words are alike.
-use Rattle.std.proofs.Common.{◌≡◌, ◌≢◌, ◌++◌, ℕ, inl, inr, List, [], Option, Some, None, Result, Ok, Err}
-use Rattle.std.proofs.Common.{Bool, false, refl, sym, ap, ◌∙◌, subst}
-use Rattle.std.specs.Prelude.{◌⊎◌, IsErrAnd, option_and_then}
-use Rattle.std.proofs.lemmas.List.{append-nil}
+use Rattle.std.proofs.Common.{◌≡◌, ◌≢◌, ◌∷◌, ◌++◌, ℕ, inl, inr, List, [], Option, Some, None, Result, Ok, Err}
+use Rattle.std.proofs.Common.{refl, sym, ap, ◌∙◌, subst}
+use Rattle.std.specs.Prelude.{◌⊎◌, IsErrAnd, IsTrue, is_some, option_and_then}
 use Rattle.std.specs.Result.{result_map_both, result_ok}
 use Rattle.clap.specs.Kinds.{IsAmong}
 use Rattle.clap.specs.Values.{kind_of}
 use Rattle.clap.specs.Words.{Text, fault_of}
 use Rattle.bac_device.specs.Demo.{demo_points}
 use Rattle.bac_device.specs.Device.{device_after}
-use Rattle.bac_text.specs.Checked.{Took, fresh, octets_of}
+use Rattle.bac_text.specs.Checked.{fresh, octets_of}
 use Rattle.bac_text.specs.declared.checked.Checked.{Checked}
+use Rattle.bac_text.specs.declared.jobs.Call.{Call}
 use Rattle.bac_links.proofs.Alike.{calls_so_far}
 use Rattle.bac_links.proofs.SearchesAlike.{searches_so_far}
 use Rattle.bac_links.proofs.ServingsAlike.{servings_so_far}
-use Rattle.bac_links.specs.Answered.{answers_of, OneText, Printed}
-use Rattle.bac_links.specs.Fault.{is_write_fault}
+use Rattle.bac_links.specs.Answered.{answers_of, GoOnAlike, OneText, Printed}
+use Rattle.bac_links.specs.Call.{Tells}
 use Rattle.bac_links.specs.History.{Account, Entry}
 use Rattle.bac_links.specs.declared.ending.Exit.{Exit}
 use Rattle.bac_links.specs.declared.ending.Exit.TheVariants.{Good}
+use Rattle.bac_links.specs.declared.ending.Purpose.{Purpose}
 use Rattle.bac_links.specs.declared.ending.Purpose.TheVariants.{Reading, Writing}
 use Rattle.bac_links.specs.declared.fault.ToolFault.{ToolFault}
 use Rattle.bac_links.specs.declared.fault.ToolFault.TheVariants.{SendFailed, ReceiveFailed, TurnsSpent, WriteFailed}
 use Rattle.bac_links.specs.declared.link.LinkFault.{LinkFault}
 use Rattle.bac_script.proofs.Functions.{traces_alike}
+use Rattle.bac_script.specs.Alike.{AreAlike as ScriptsAlike}
+use Rattle.bac_script.specs.declared.tracing.TraceEnd.{TraceEnd}
+use Rattle.bac_script.specs.declared.tracing.TraceFault.{TraceFault}
+use Rattle.bac_script.specs.declared.tracing.TraceFault.TheVariants as stops
 use Rattle.bac_words.proofs.OneAnswer.{one_answer}
 use Rattle.bac_words.specs.Command.{bactool}
 use Rattle.bac_words.specs.Line.{Answers, IsRefusal}
@@ -32,7 +37,8 @@ use Rattle.bac_words.specs.declared.faults.UsageFault.{UsageFault}
 use Rattle.bac_words.specs.declared.faults.UsageFault.TheVariants.{Help, Memory, Words}
 use Rattle.bac_words.specs.declared.jobs.Job.{Job}
 use Rattle.bac_words.specs.declared.jobs.Job.TheVariants.{Read, Write, WhoIs, Device, Trace}
-use Rattle.bac_tools.specs.Alike.{AreAlike, AreGivenAlike, Gained, Run, is_socket}
+use Rattle.bac_tools.specs.Alike.{AreAlike, AreGivenAlike, EndAlike, Gained, IsCutOff, IsPrinted, PrintAlike, Run}
+use Rattle.bac_tools.specs.Alike.{is_socket}
 use Rattle.bac_tools.specs.Binding.{binding_of}
 use Rattle.bac_tools.specs.Outside.{Outside}
 use Rattle.bac_tools.specs.Program.{Ends, IsGiven}
@@ -43,72 +49,133 @@ use Rattle.bac_tools.specs.declared.program.Ran.{Ran}
 use Rattle.bac_tools.specs.declared.report.Fault.TheVariants as faults
 use Rattle.bac_tools.specs.declared.report.Report.{Report}
 
+-- ---- how runs go on
+
+module _ {A B : Type 0} (IsCut : A → Type 0) (Ended Printed' : A → A → Type 0) (IsCut' : B → Type 0)
+    (Ended' Printed'' : B → B → Type 0) (r s : A) (t u : B) (cut : IsCut r → IsCut' t) (other_cut : IsCut s → IsCut' u)
+    (ends : Ended r s → Ended' t u) (prints : Printed' r s → Printed'' t u) where
+  going : (xs ys : List Entry) → GoOnAlike IsCut Ended Printed' r s xs ys → GoOnAlike IsCut' Ended' Printed'' t u xs ys
+  going [] [] both = (ends both.0, prints both.1)
+  going (x ∷ xs) (y ∷ ys) asks = asks
+  going [] (y ∷ ys) both = (cut both.0, prints both.1)
+  going (x ∷ xs) [] both = (other_cut both.0, prints both.1)
+
 -- ---- two tools over their links
 
+failed_cut : (answer : Result Exit ToolFault) → answer ≡ Err WriteFailed → IsCutOff (tool_report answer)
+failed_cut answer failed = subst (λ (r : Result Exit ToolFault). IsCutOff (tool_report r)) (sym failed) tt
+
+is_printed : {X : Type 0} (shown : X → Option (List ℕ)) (writer : X) (wrote : Checked X) (text : List ℕ)
+    (answer : Result Exit ToolFault) → Printed shown (fresh writer) wrote text answer
+    → IsPrinted (octets_of wrote) text (tool_report answer)
+is_printed shown writer wrote text (Ok exit) took = inl took.passed
+is_printed shown writer wrote text (Err SendFailed) took = inl took.passed
+is_printed shown writer wrote text (Err ReceiveFailed) took = inl took.passed
+is_printed shown writer wrote text (Err TurnsSpent) took = inl took.passed
+is_printed shown writer wrote text (Err WriteFailed) (taken, rest, e, took) =
+    inr (tt, (rest, e ∙ ap (λ (xs : List ℕ). xs ++ rest) (sym took.passed)))
+
 module _ {V W : Type 0} (contents : V → Option (List ℕ)) (contents' : W → Option (List ℕ)) (writer : V) (writer' : W)
-    (wrote : Checked V) (wrote' : Checked W)
-    (seen left seen' left' : Account) (answer answer' : Result Exit ToolFault) (gained gained' : List Entry)
-    (gains : left.history ≡ seen.history ++ gained) (gains' : left'.history ≡ seen'.history ++ gained')
-    (same : answers_of gained ≡ answers_of gained')
-    (whole : answer ≢ Err WriteFailed) (whole' : answer' ≢ Err WriteFailed) where
+    (wrote : Checked V) (wrote' : Checked W) (seen left seen' left' : Account) (answer answer' : Result Exit ToolFault)
+    (first rest first' rest' : List Entry) (gains : left.history ≡ seen.history ++ (first ++ rest))
+    (gains' : left'.history ≡ seen'.history ++ (first' ++ rest')) (same : answers_of first ≡ answers_of first')
+    (Refused : Type 0) where
+  abbrev EndSame : Report → Report → Type 0
+  EndSame report report' = (IsCutOff report → ⊥) → (IsCutOff report' → ⊥) → (report ≡ report') ⊎ Refused
+
+  abbrev PrintSame : Report → Report → Type 0
+  PrintSame report report' = (text : List ℕ) × IsPrinted (octets_of wrote) text report
+      × IsPrinted (octets_of wrote') text report'
+
   abbrev Same : Type 0
-  Same = (gained ≡ gained') × (octets_of wrote ≡ octets_of wrote') × (answer ≡ answer')
-
-  none_left : (before after : Account) (more : List Entry) → after.history ≡ before.history ++ more
-      → after.history ≡ before.history ++ (more ++ [])
-  none_left before after more gains = gains ∙ ap (λ (xs : List Entry). before.history ++ xs) (sym (append-nil more))
-
-  took : {X : Type 0} (shown : X → Option (List ℕ)) (before after : Checked X) (text : List ℕ)
-      (r : Result Exit ToolFault) → r ≢ Err WriteFailed → Printed shown before after text r
-      → Took shown before after text
-  took shown before after text (Ok exit) unfailed printed = printed
-  took shown before after text (Err SendFailed) unfailed printed = printed
-  took shown before after text (Err ReceiveFailed) unfailed printed = printed
-  took shown before after text (Err TurnsSpent) unfailed printed = printed
-  took shown before after text (Err WriteFailed) unfailed printed = absurd (unfailed refl)
+  Same = (first ≡ first')
+      × GoOnAlike IsCutOff EndSame PrintSame (tool_report answer) (tool_report answer') rest rest'
 
   one_text : OneText contents (fresh writer) wrote contents' (fresh writer') wrote' answer answer'
-      → octets_of wrote ≡ octets_of wrote'
-  one_text (text, printed, other) =
-      (took contents (fresh writer) wrote text answer whole printed).passed
-      ∙ sym (took contents' (fresh writer') wrote' text answer' whole' other).passed
+      → PrintSame (tool_report answer) (tool_report answer')
+  one_text (text, printed, other) = (
+    text,
+    is_printed contents writer wrote text answer printed,
+    is_printed contents' writer' wrote' text answer' other,
+  )
+
+  calls : (purpose : Purpose) (call : Call) → Tells purpose call contents (fresh writer) wrote seen left answer
+      → Tells purpose call contents' (fresh writer') wrote' seen' left' answer' → Same
+  calls purpose call a b =
+      let both = calls_so_far purpose call contents contents' (fresh writer) wrote (fresh writer') wrote' seen left seen'
+      left' answer answer' first rest first' rest' a b gains gains' same in (
+        both.0,
+        going (λ r. ⊥) (λ r s. r ≢ Err WriteFailed → s ≢ Err WriteFailed → r ≡ s)
+            (OneText contents (fresh writer) wrote contents' (fresh writer') wrote') IsCutOff EndSame PrintSame answer
+            answer' (tool_report answer) (tool_report answer') (λ none. absurd none) (λ none. absurd none)
+            (λ ends uncut uncut'. inl (ap tool_report
+            (ends (λ is. uncut (failed_cut answer is)) (λ is. uncut' (failed_cut answer' is)))))
+            one_text rest rest' both.1,
+      )
 
   abbrev as_exit : Result ℕ ToolFault → Result Exit ToolFault
   as_exit served = result_map_both (λ replied. Good) (λ fault. fault) served
 
   tools : (job : Job) → ToolRuns contents (fresh writer) wrote seen left answer job
       → ToolRuns contents' (fresh writer') wrote' seen' left' answer' job → Same
-  tools (Read call) a b =
-      let both = calls_so_far Reading call contents contents' (fresh writer) wrote (fresh writer') wrote' seen left seen'
-      left' answer answer' gained [] gained' [] a b (none_left seen left gained gains) (none_left seen' left' gained' gains')
-      same in
-      (both.0, one_text both.1.1, both.1.0 whole whole')
-  tools (Write call) a b =
-      let both = calls_so_far Writing call contents contents' (fresh writer) wrote (fresh writer') wrote' seen left seen'
-      left' answer answer' gained [] gained' [] a b (none_left seen left gained gains) (none_left seen' left' gained' gains')
-      same in
-      (both.0, one_text both.1.1, both.1.0 whole whole')
+  tools (Read call) a b = calls Reading call a b
+  tools (Write call) a b = calls Writing call a b
   tools (WhoIs search) a b =
       let both = searches_so_far contents contents' search (fresh writer) wrote (fresh writer') wrote' seen left seen'
-      left' answer answer' gained [] gained' [] a b (none_left seen left gained gains) (none_left seen' left' gained' gains')
-      same in
-      (both.0, one_text both.1.1, both.1.0)
+      left' answer answer' first rest first' rest' a b gains gains' same in (
+        both.0,
+        going (λ r. r ≡ Err WriteFailed) (λ r s. r ≡ s)
+            (OneText contents (fresh writer) wrote contents' (fresh writer') wrote') IsCutOff EndSame PrintSame answer
+            answer' (tool_report answer) (tool_report answer') (failed_cut answer) (failed_cut answer')
+            (λ ends uncut uncut'. inl (ap tool_report ends)) one_text rest rest' both.1,
+      )
   tools (Device serve) a b =
       let both = servings_so_far serve.count (device_after serve.info demo_points []) a.0.device b.0.device seen left
-      seen' left' a.0.served b.0.served gained [] gained' [] a.0.serves b.0.serves (none_left seen left gained gains)
-      (none_left seen' left' gained' gains') same in (
+      seen' left' a.0.served b.0.served first rest first' rest' a.0.serves b.0.serves gains gains' same in (
         both.0,
-        ap (λ (w : Checked V). octets_of w) a.1 ∙ sym (ap (λ (w : Checked W). octets_of w) b.1),
-        a.0.answers ∙ ap as_exit both.1.0.0 ∙ sym b.0.answers,
+        going (λ r. ⊥) (λ r s. (r ≡ s) × (a.0.device ≡ b.0.device)) (λ r s. Unit {0}) IsCutOff EndSame PrintSame
+            a.0.served b.0.served (tool_report answer) (tool_report answer') (λ none. absurd none)
+            (λ none. absurd none)
+            (λ ends uncut uncut'. inl (ap tool_report (a.0.answers ∙ ap as_exit ends.0 ∙ sym b.0.answers)))
+            (λ none. (
+              [],
+              inl (ap (λ (w : Checked V). octets_of w) a.1),
+              inl (ap (λ (w : Checked W). octets_of w) b.1),
+            ))
+            rest rest' both.1,
       )
   tools Trace a b = absurd a
 
--- ---- one run
+-- ---- two scripts
 
--- Where the writer has not failed, the answer is not its fault.
-unfailed : (answer : Result Exit ToolFault) (failed : Bool) → failed ≡ is_write_fault answer → failed ≡ false
-    → answer ≢ Err WriteFailed
-unfailed answer failed is sound e = let fails = ap (λ (r : Result Exit ToolFault). is_write_fault r) e in cc
+cut_or_not : (answer : Result TraceEnd TraceFault)
+    → (answer ≡ Err stops.WriteFailed) ⊎ (answer ≢ Err stops.WriteFailed)
+cut_or_not (Ok end) = inr (λ e. cc)
+cut_or_not (Err stops.WriteFailed) = inl refl
+cut_or_not (Err (stops.BadLine n)) = inr (λ e. cc)
+cut_or_not (Err (stops.LineTooLong n)) = inr (λ e. cc)
+cut_or_not (Err stops.ReadFailed) = inr (λ e. cc)
+
+stopped_cut : (answer : Result TraceEnd TraceFault) → answer ≡ Err stops.WriteFailed → IsCutOff (trace_report answer)
+stopped_cut answer failed = subst (λ (r : Result TraceEnd TraceFault). IsCutOff (trace_report r)) (sym failed) tt
+
+script_text : (written other : List ℕ) (r s : Result TraceEnd TraceFault) → ScriptsAlike written r other s
+    → (text : List ℕ) × IsPrinted written text (trace_report r) × IsPrinted other text (trace_report s)
+script_text written other r s alike = elim (cut_or_not r) [
+  | inl cut ↦ elim (cut_or_not s) [
+    | inl cut' ↦ elim alike.either [
+      | inl front ↦ (other, inr (stopped_cut r cut, front), inl refl)
+      | inr front ↦ (written, inl refl, inr (stopped_cut s cut', front))
+    ]
+    | inr whole' ↦ (other, inr (stopped_cut r cut, alike.front whole'), inl refl)
+  ]
+  | inr whole ↦ elim (cut_or_not s) [
+    | inl cut' ↦ (written, inl refl, inr (stopped_cut s cut', alike.other_front whole))
+    | inr whole' ↦ (written, inl refl, inl (sym (alike.same whole whole').0))
+  ]
+]
+
+-- ---- one run
 
 -- Words that `clap` takes are not refused.
 not_refused : (words : List Text) (fault : UsageFault) → fault ≢ Memory → IsRefusal words fault
@@ -124,25 +191,82 @@ none_gained : {L : Type 0} (seen : L → Account) (opened opened' : Option (Resu
 none_gained seen None opened' gained e gains = gains
 none_gained seen (Some socket) opened' gained e gains = cc
 
-had_memory : (report : Report) (fault : UsageFault) → report.fault ≢ Some (faults.Usage Memory)
-    → report ≡ report_of (faults.Usage fault) → fault ≢ Memory
-had_memory report fault memory reported e =
-    memory (ap (λ (r : Report). r.fault) reported ∙ ap (λ (f : UsageFault). Some (faults.Usage f)) e)
+memory_or_not : (fault : UsageFault) → (fault ≡ Memory) ⊎ (fault ≢ Memory)
+memory_or_not Memory = inl refl
+memory_or_not _ = inr (λ e. cc)
+
+none_both : (xs ys : List Entry) → xs ++ ys ≡ [] → (xs ≡ []) × (ys ≡ [])
+none_both [] ys e = (refl, e)
+none_both (x ∷ xs) ys e = cc
+
+none_answered : (xs : List Entry) → answers_of xs ≡ [] → xs ≡ []
+none_answered [] e = refl
+none_answered (x ∷ xs) e = cc
 
 -- ---- two runs
 
 module _ {N L R W M K S V : Type 0} {gives : N → Binding → Result L LinkFault → Type 0} {out : Outside L R W}
     {gives' : M → Binding → Result K LinkFault → Type 0} {out' : Outside K S V} {words : List Text}
-    (one : Run gives out words) (other : Run gives' out' words) (h : AreGivenAlike one other) where
+    (one : Run gives out words) (other : Run gives' out' words) (first rest first' rest' : List Entry)
+    (h : AreGivenAlike one other first rest first' rest') where
+  abbrev GoesOn : Report → Report → List Entry → List Entry → Type 0
+  GoesOn = GoOnAlike IsCutOff (EndAlike one other) (PrintAlike one other)
+
   abbrev Alike : Type 0
-  Alike = (one.gained ≡ other.gained) × (octets_of one.writer' ≡ octets_of other.writer')
-      × (one.ran.report ≡ other.ran.report)
+  Alike = (first ≡ first') × GoesOn one.ran.report other.ran.report rest rest'
+
+  -- Neither asked anything.
+  none_asked : one.gained ≡ [] → other.gained ≡ [] → EndAlike one other one.ran.report other.ran.report
+      → PrintAlike one other one.ran.report other.ran.report → Alike
+  none_asked e f ends prints =
+      let a = none_both first rest (sym h.gained ∙ e) in
+      let b = none_both first' rest' (sym h.other_gained ∙ f) in (
+        a.0 ∙ sym b.0,
+        subst (λ (xs : List Entry). GoesOn one.ran.report other.ran.report xs rest') (sym a.1)
+            (subst (GoesOn one.ran.report other.ran.report []) (sym b.1) (ends, prints)),
+      )
+
+  -- One was cut off before it asked or printed anything.
+  cut_here : one.gained ≡ [] → IsCutOff one.ran.report → octets_of one.writer' ≡ [] → Alike
+  cut_here e cut unprinted =
+      let a = none_both first rest (sym h.gained ∙ e) in (
+        a.0 ∙ sym (none_answered first' (sym h.answers ∙ ap answers_of a.0)),
+        subst (λ (xs : List Entry). GoesOn one.ran.report other.ran.report xs rest') (sym a.1) (go rest'),
+      )
+    where
+      prints : PrintAlike one other one.ran.report other.ran.report
+      prints =
+          let text = octets_of other.writer' in
+          (text, inr (cut, (text, ap (λ (xs : List ℕ). xs ++ text) (sym unprinted))), inl refl)
+
+      go : (ys : List Entry) → GoesOn one.ran.report other.ran.report [] ys
+      go [] = (λ uncut uncut'. absurd (uncut cut), prints)
+      go (y ∷ ys) = (cut, prints)
+
+  cut_there : other.gained ≡ [] → IsCutOff other.ran.report → octets_of other.writer' ≡ [] → Alike
+  cut_there e cut unprinted =
+      let b = none_both first' rest' (sym h.other_gained ∙ e) in (
+        none_answered first (h.answers ∙ ap answers_of b.0) ∙ sym b.0,
+        subst (GoesOn one.ran.report other.ran.report rest) (sym b.1) (go rest),
+      )
+    where
+      prints : PrintAlike one other one.ran.report other.ran.report
+      prints =
+          let text = octets_of one.writer' in
+          (text, inl refl, inr (cut, (text, ap (λ (xs : List ℕ). xs ++ text) (sym unprinted))))
+
+      go : (xs : List Entry) → GoesOn one.ran.report other.ran.report xs []
+      go [] = (λ uncut uncut'. absurd (uncut' cut), prints)
+      go (x ∷ xs) = (cut, prints)
 
   abbrev Ours : Job → Option (Result L LinkFault) → Option (Result L LinkFault) → Type 0
   Ours = Runs out (fresh one.reader) one.reader' (fresh one.writer) one.writer' one.ran.report
 
   abbrev Theirs : Job → Option (Result K LinkFault) → Option (Result K LinkFault) → Type 0
   Theirs = Runs out' (fresh other.reader) other.reader' (fresh other.writer) other.writer' other.ran.report
+
+  abbrev BothHad : Option (Result L LinkFault) → Option (Result K LinkFault) → Type 0
+  BothHad o o' = IsTrue (is_some o) → IsTrue (is_some o') → is_socket o ≡ is_socket o'
 
   over : (job : Job) (link left : L) (link' left' : K)
       → RunsOver out (fresh one.reader) one.reader' (fresh one.writer) one.writer' one.ran.report job link left →
@@ -152,27 +276,33 @@ module _ {N L R W M K S V : Type 0} {gives : N → Binding → Result L LinkFaul
       → (out'.seen left').history ≡ (out'.seen link').history ++ other.gained → Alike
   over job link left link' left' r s gains gains' =
       let both = tools out.contents out'.contents one.writer other.writer one.writer' other.writer' (out.seen link)
-      (out.seen left) (out'.seen link') (out'.seen left') r.answer s.answer
-      one.gained other.gained gains gains' h.answers (unfailed r.answer _ r.write_fault one.written)
-      (unfailed s.answer _ s.write_fault other.written) job r.tool s.tool in
-      (both.0, both.1, r.reported ∙ ap tool_report both.2 ∙ sym s.reported)
+      (out.seen left) (out'.seen link') (out'.seen left') r.answer s.answer first rest first' rest'
+      (gains ∙ ap (λ (xs : List Entry). (out.seen link).history ++ xs) h.gained)
+      (gains' ∙ ap (λ (xs : List Entry). (out'.seen link').history ++ xs) h.other_gained) h.answers
+      (IsErrAnd one.program.answer (IsRefusal words) × IsErrAnd other.program.answer (IsRefusal words)) job r.tool s.tool
+      in (
+        both.0,
+        subst (λ (x : Report). GoesOn x other.ran.report rest rest') (sym r.reported)
+            (subst (λ (y : Report). GoesOn (tool_report r.answer) y rest rest') (sym s.reported) both.1),
+      )
 
   opened : (job : Job) (o p : Option (Result L LinkFault)) (o' p' : Option (Result K LinkFault)) →
       RunsOpened out (fresh one.reader) one.reader' (fresh one.writer) one.writer' one.ran.report job o p →
       RunsOpened out' (fresh other.reader) other.reader' (fresh other.writer) other.writer' other.ran.report job o' p' →
-      Gained out.seen o p one.gained → Gained out'.seen o' p' other.gained → is_socket o ≡ is_socket o' → Alike
+      Gained out.seen o p one.gained → Gained out'.seen o' p' other.gained → BothHad o o' → Alike
   opened job None p o' p' r s gains gains' e = absurd r
   opened job (Some (Err f)) p None p' r s gains gains' e = absurd s
-  opened job (Some (Err f)) p (Some (Err g)) p' r s gains gains' e = (
-    gains ∙ sym gains',
-    ap (λ (w : Checked W). octets_of w) r.2 ∙ sym (ap (λ (w : Checked V). octets_of w) s.2),
-    r.3 ∙ sym s.3,
-  )
-  opened job (Some (Err f)) p (Some (Ok k)) p' r s gains gains' e = cc
+  opened job (Some (Err f)) p (Some (Err g)) p' r s gains gains' e =
+      none_asked gains gains' (λ uncut uncut'. inl (r.3 ∙ sym s.3)) (
+        [],
+        inl (ap (λ (w : Checked W). octets_of w) r.2),
+        inl (ap (λ (w : Checked V). octets_of w) s.2),
+      )
+  opened job (Some (Err f)) p (Some (Ok k)) p' r s gains gains' e = let both = e refl refl in cc
   opened job (Some (Ok l)) None o' p' r s gains gains' e = absurd r
   opened job (Some (Ok l)) (Some (Err f)) o' p' r s gains gains' e = absurd r
   opened job (Some (Ok l)) (Some (Ok m)) None p' r s gains gains' e = absurd s
-  opened job (Some (Ok l)) (Some (Ok m)) (Some (Err g)) p' r s gains gains' e = cc
+  opened job (Some (Ok l)) (Some (Ok m)) (Some (Err g)) p' r s gains gains' e = let both = e refl refl in cc
   opened job (Some (Ok l)) (Some (Ok m)) (Some (Ok k)) None r s gains gains' e = absurd s
   opened job (Some (Ok l)) (Some (Ok m)) (Some (Ok k)) (Some (Err g)) r s gains gains' e = absurd s
   opened job (Some (Ok l)) (Some (Ok m)) (Some (Ok k)) (Some (Ok n)) r s gains gains' e =
@@ -180,37 +310,37 @@ module _ {N L R W M K S V : Type 0} {gives : N → Binding → Result L LinkFaul
 
   scripts : RunsScript out (fresh one.reader) one.reader' (fresh one.writer) one.writer' one.ran.report →
       RunsScript out' (fresh other.reader) other.reader' (fresh other.writer) other.writer' other.ran.report →
-      (octets_of one.writer' ≡ octets_of other.writer') × (one.ran.report ≡ other.ran.report)
+      EndAlike one other one.ran.report other.ran.report × PrintAlike one other one.ran.report other.ran.report
   scripts r s =
       let both = traces_alike one.reader other.reader one.reader' other.reader' one.writer other.writer one.writer'
       other.writer' r.answer s.answer r.script s.script
       h.octets h.ends in
-      let same = both.same (λ e. let fails = r.write_fault.1 e in let sound = one.written in cc)
-      (λ e. let fails = s.write_fault.1 e in let sound = other.written in cc) in
-      (same.0, r.reported ∙ ap trace_report same.1 ∙ sym s.reported)
+      let text = script_text (octets_of one.writer') (octets_of other.writer') r.answer s.answer both in (
+        λ uncut uncut'.
+            let same = both.same (λ e. uncut (subst IsCutOff (sym r.reported) (stopped_cut r.answer e)))
+            (λ e. uncut' (subst IsCutOff (sym s.reported) (stopped_cut s.answer e))) in
+            inl (r.reported ∙ ap trace_report same.1 ∙ sym s.reported),
+        (
+          text.0,
+          subst (IsPrinted (octets_of one.writer') text.0) (sym r.reported) text.1,
+          subst (IsPrinted (octets_of other.writer') text.0) (sym s.reported) text.2,
+        ),
+      )
 
   jobs : (job : Job) (o p : Option (Result L LinkFault)) (o' p' : Option (Result K LinkFault))
       → IsGiven gives out one.network (binding_of job) o →
       IsGiven gives' out' other.network (binding_of job) o' → Ours job o p → Theirs job o' p'
-      → Gained out.seen o p one.gained →
-      Gained out'.seen o' p' other.gained → is_socket o ≡ is_socket o' → Alike
+      → Gained out.seen o p one.gained → Gained out'.seen o' p' other.gained → BothHad o o' → Alike
   jobs (Read call) o p o' p' given given' r s gains gains' e = opened (Read call) o p o' p' r s gains gains' e
   jobs (Write call) o p o' p' given given' r s gains gains' e = opened (Write call) o p o' p' r s gains gains' e
   jobs (WhoIs search) o p o' p' given given' r s gains gains' e = opened (WhoIs search) o p o' p' r s gains gains' e
   jobs (Device serve) o p o' p' given given' r s gains gains' e = opened (Device serve) o p o' p' r s gains gains' e
   jobs Trace o p o' p' given given' r s gains gains' e =
-      let both = scripts r.0 s.0 in (
-        none_gained out.seen o p one.gained given gains
-            ∙ sym (none_gained out'.seen o' p' other.gained given' gains'),
-        both.0,
-        both.1,
-      )
+      let both = scripts r.0 s.0 in
+      none_asked (none_gained out.seen o p one.gained given gains)
+      (none_gained out'.seen o' p' other.gained given' gains') both.0 both.1
 
-  -- What the answers to the words, and what was opened for them, come to.
-  abbrev Comes : Result Job UsageFault → Result Job UsageFault → Type 0
-  Comes r s = (one.gained ≡ other.gained) × (octets_of one.writer' ≡ octets_of other.writer')
-      × ((one.ran.report ≡ other.ran.report) ⊎ (IsErrAnd r (IsRefusal words) × IsErrAnd s (IsRefusal words)))
-
+  -- The words of each were refused by `clap`, or answered; and neither lacked memory.
   taken : (r : Result Job UsageFault) (fault : UsageFault) → fault ≢ Memory → IsRefusal words fault
       → IsErrAnd r (IsRefusal words) ⊎ Answers words r → IsErrAnd r (IsRefusal words)
   taken r fault memory refusal answered = elim answered [
@@ -218,69 +348,113 @@ module _ {N L R W M K S V : Type 0} {gives : N → Binding → Result L LinkFaul
     | inr answers ↦ absurd (not_refused words fault memory refusal answers.taken)
   ]
 
-  compared : (r s : Result Job UsageFault) (o : Option (Result L LinkFault)) (o' : Option (Result K LinkFault))
-      → IsErrAnd r (IsRefusal words) ⊎ Answers words r → IsErrAnd s (IsRefusal words) ⊎ Answers words s
-      → IsGiven gives out one.network (option_and_then binding_of (result_ok r)) o
-      → IsGiven gives' out' other.network (option_and_then binding_of (result_ok s)) o'
-      → Ends gives out one.network (fresh one.reader) one.reader' (fresh one.writer) one.writer' one.ran r o
-      → Ends gives' out' other.network (fresh other.reader) other.reader' (fresh other.writer) other.writer' other.ran s
-      o'
-      → Gained out.seen o one.ran.socket one.gained → Gained out'.seen o' other.ran.socket other.gained
-      → is_socket o ≡ is_socket o' → Comes r s
-  compared (Err f) (Err g) o o' p q given given' r s gains gains' e =
-      let gained = none_gained out.seen o one.ran.socket one.gained given gains
-      ∙ sym (none_gained out'.seen o' other.ran.socket other.gained given' gains') in
-      let printed = ap (λ (w : Checked W). octets_of w) r.1 ∙ sym (ap (λ (w : Checked V). octets_of w) s.1) in
-      let report = ap (λ (x : Ran N L). x.report) r.2 in
-      let report' = ap (λ (x : Ran M K). x.report) s.2 in
-      elim p [
-        | inl refused ↦
-            (gained, printed, inr (refused, taken (Err g) f (had_memory one.ran.report f one.memory report) refused q))
-        | inr answers ↦ elim q [
-          | inl refused ↦ absurd
-              (not_refused words g (had_memory other.ran.report g other.memory report') refused answers.taken)
-          | inr answers' ↦
-              let result = one_answer words (Err f) (Err g) answers answers' in
-              let fault : f ≡ g = cc in
-              (gained, printed, inl (report ∙ ap (λ (f : UsageFault). report_of (faults.Usage f)) fault ∙ sym report'))
+  abbrev Refused : Type 0
+  Refused = IsErrAnd one.program.answer (IsRefusal words) × IsErrAnd other.program.answer (IsRefusal words)
+
+  module _ (o : Option (Result L LinkFault)) (o' : Option (Result K LinkFault))
+      (gains : Gained out.seen o one.ran.socket one.gained)
+      (gains' : Gained out'.seen o' other.ran.socket other.gained) (e : BothHad o o') where
+    abbrev OursEnds : Result Job UsageFault → Type 0
+    OursEnds r = Ends gives out one.network (fresh one.reader) one.reader' (fresh one.writer) one.writer' one.ran r o
+
+    abbrev TheirsEnds : Result Job UsageFault → Type 0
+    TheirsEnds s =
+        Ends gives' out' other.network (fresh other.reader) other.reader' (fresh other.writer) other.writer' other.ran s o'
+
+    report_here : (fault : UsageFault) → OursEnds (Err fault) → one.ran.report ≡ report_of (faults.Usage fault)
+    report_here fault r = ap (λ (x : Ran N L). x.report) r.2
+
+    report_there : (fault : UsageFault) → TheirsEnds (Err fault) → other.ran.report ≡ report_of (faults.Usage fault)
+    report_there fault s = ap (λ (x : Ran M K). x.report) s.2
+
+    lacks_here : (fault : UsageFault) → fault ≡ Memory → OursEnds (Err fault)
+        → IsGiven gives out one.network None o → Alike
+    lacks_here fault is r given =
+        cut_here (none_gained out.seen o one.ran.socket one.gained given gains)
+        (subst IsCutOff (sym (report_here fault r ∙ ap (λ (f : UsageFault). report_of (faults.Usage f)) is)) tt)
+        (ap (λ (w : Checked W). octets_of w) r.1)
+
+    lacks_there : (fault : UsageFault) → fault ≡ Memory → TheirsEnds (Err fault)
+        → IsGiven gives' out' other.network None o' → Alike
+    lacks_there fault is s given =
+        cut_there (none_gained out'.seen o' other.ran.socket other.gained given gains')
+        (subst IsCutOff (sym (report_there fault s ∙ ap (λ (f : UsageFault). report_of (faults.Usage f)) is)) tt)
+        (ap (λ (w : Checked V). octets_of w) s.1)
+
+    both_refused : (f g : UsageFault) → OursEnds (Err f) → TheirsEnds (Err g) → IsGiven gives out one.network None o
+        → IsGiven gives' out' other.network None o' → (one.ran.report ≡ other.ran.report) ⊎ Refused → Alike
+    both_refused f g r s given given' told =
+        none_asked (none_gained out.seen o one.ran.socket one.gained given gains)
+        (none_gained out'.seen o' other.ran.socket other.gained given' gains') (λ uncut uncut'. told) (
+          [],
+          inl (ap (λ (w : Checked W). octets_of w) r.1),
+          inl (ap (λ (w : Checked V). octets_of w) s.1),
+        )
+
+    compared : (r s : Result Job UsageFault) → one.program.answer ≡ r → other.program.answer ≡ s
+        → IsErrAnd r (IsRefusal words) ⊎ Answers words r → IsErrAnd s (IsRefusal words) ⊎ Answers words s
+        → IsGiven gives out one.network (option_and_then binding_of (result_ok r)) o
+        → IsGiven gives' out' other.network (option_and_then binding_of (result_ok s)) o'
+        → OursEnds r → TheirsEnds s → Alike
+    compared (Err f) (Err g) is is' p q given given' r s = elim (memory_or_not f) [
+      | inl lacks ↦ lacks_here f lacks r given
+      | inr memory ↦ elim (memory_or_not g) [
+        | inl lacks ↦ lacks_there g lacks s given'
+        | inr memory' ↦ elim p [
+          | inl refused ↦ both_refused f g r s given given' (inr (
+            subst (λ (x : Result Job UsageFault). IsErrAnd x (IsRefusal words)) (sym is) refused,
+            subst (λ (x : Result Job UsageFault). IsErrAnd x (IsRefusal words)) (sym is')
+                (taken (Err g) f memory refused q),
+          ))
+          | inr answers ↦ elim q [
+            | inl refused ↦ absurd (not_refused words g memory' refused answers.taken)
+            | inr answers' ↦
+                let result = one_answer words (Err f) (Err g) answers answers' in
+                let fault : f ≡ g = cc in
+                both_refused f g r s given given'
+                (inl (report_here f r ∙ ap (λ (f : UsageFault). report_of (faults.Usage f)) fault
+                ∙ sym (report_there g s)))
+          ]
         ]
       ]
-  compared (Err f) (Ok k) o o' p q given given' r s gains gains' e = elim p [
-    | inl refused ↦
-        let report = ap (λ (x : Ran N L). x.report) r.2 in
-        absurd (taken (Ok k) f (had_memory one.ran.report f one.memory report) refused q)
-    | inr answers ↦ elim q [
-      | inl refused ↦ absurd refused
-      | inr answers' ↦ let result = one_answer words (Err f) (Ok k) answers answers' in cc
     ]
-  ]
-  compared (Ok j) (Err g) o o' p q given given' r s gains gains' e = elim q [
-    | inl refused ↦
-        let report = ap (λ (x : Ran M K). x.report) s.2 in
-        absurd (taken (Ok j) g (had_memory other.ran.report g other.memory report) refused p)
-    | inr answers' ↦ elim p [
-      | inl refused ↦ absurd refused
-      | inr answers ↦ let result = one_answer words (Ok j) (Err g) answers answers' in cc
+    compared (Err f) (Ok k) is is' p q given given' r s = elim (memory_or_not f) [
+      | inl lacks ↦ lacks_here f lacks r given
+      | inr memory ↦ elim p [
+        | inl refused ↦ absurd (taken (Ok k) f memory refused q)
+        | inr answers ↦ elim q [
+          | inl refused ↦ absurd refused
+          | inr answers' ↦ let result = one_answer words (Err f) (Ok k) answers answers' in cc
+        ]
+      ]
     ]
-  ]
-  compared (Ok j) (Ok k) o o' p q given given' r s gains gains' e = elim p [
-    | inl refused ↦ absurd refused
-    | inr answers ↦ elim q [
-      | inl refused ↦ absurd refused
-      | inr answers' ↦
-          let result = one_answer words (Ok j) (Ok k) answers answers' in
-          let job : k ≡ j = cc in
-          let same = jobs j o one.ran.socket o' other.ran.socket given
-          (subst (λ (j : Job). IsGiven gives' out' other.network (binding_of j) o') job given') r
-          (subst (λ (j : Job). Theirs j o' other.ran.socket) job s) gains gains' e in
-          (same.0, same.1, inl same.2)
+    compared (Ok j) (Err g) is is' p q given given' r s = elim (memory_or_not g) [
+      | inl lacks ↦ lacks_there g lacks s given'
+      | inr memory ↦ elim q [
+        | inl refused ↦ absurd (taken (Ok j) g memory refused p)
+        | inr answers' ↦ elim p [
+          | inl refused ↦ absurd refused
+          | inr answers ↦ let result = one_answer words (Ok j) (Err g) answers answers' in cc
+        ]
+      ]
     ]
-  ]
+    compared (Ok j) (Ok k) is is' p q given given' r s = elim p [
+      | inl refused ↦ absurd refused
+      | inr answers ↦ elim q [
+        | inl refused ↦ absurd refused
+        | inr answers' ↦
+            let result = one_answer words (Ok j) (Ok k) answers answers' in
+            let job : k ≡ j = cc in
+            jobs j o one.ran.socket o' other.ran.socket given
+            (subst (λ (j : Job). IsGiven gives' out' other.network (binding_of j) o') job given') r
+            (subst (λ (j : Job). Theirs j o' other.ran.socket) job s) gains gains' e
+      ]
+    ]
 
-  pub runs_alike : AreAlike one other
+  pub runs_alike : AreAlike one other first rest first' rest'
   runs_alike =
       let p = one.program in
       let q = other.program in
-      let alike = compared p.answer q.answer p.opened q.opened p.answered q.answered p.given q.given p.ends q.ends
-      one.gains other.gains h.socket in
-      record { asked = alike.0; printed = alike.1; told = alike.2 }
+      let alike = compared p.opened q.opened one.gains other.gains h.socket p.answer q.answer refl refl p.answered
+      q.answered p.given q.given p.ends q.ends in
+      record { asked = alike.0; goes_on = alike.1 }

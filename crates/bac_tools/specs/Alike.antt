@@ -1,20 +1,25 @@
 -- That two runs of the program with the same words are alike.
-use Rattle.std.specs.Prelude.{◌≡◌, ◌≢◌, ◌⊎◌, ◌++◌, Bool, false, is_some, List, [], Option, Some, option_and_then}
+use Rattle.std.specs.Prelude.{◌≡◌, ◌⊎◌, ◌++◌, ℕ, ⊤, Bool, IsTrue, is_some, List, [], Option, Some, option_and_then}
 use Rattle.std.specs.Prelude.{Result, Ok, IsErrAnd}
 use Rattle.std.specs.Result.{result_ok}
 use Rattle.clap.specs.Words.{Text}
-use Rattle.bac_text.specs.Checked.{ends_of, fresh, has_failed, octets_of}
+use Rattle.bac_text.specs.Checked.{ends_of, fresh, octets_of}
 use Rattle.bac_text.specs.declared.checked.Checked.{Checked}
-use Rattle.bac_links.specs.Answered.{answers_of}
+use Rattle.bac_links.specs.Answered.{answers_of, GoOnAlike}
 use Rattle.bac_links.specs.History.{Account, Entry}
+use Rattle.bac_links.specs.declared.fault.ToolFault.TheVariants as tools
 use Rattle.bac_links.specs.declared.link.LinkFault.{LinkFault}
+use Rattle.bac_script.specs.Alike.{IsFrontOf}
+use Rattle.bac_script.specs.declared.tracing.TraceFault.TheVariants as stops
 use Rattle.bac_words.specs.Line.{IsRefusal}
 use Rattle.bac_words.specs.declared.faults.UsageFault.TheVariants.{Memory}
 use Rattle.bac_tools.specs.Outside.{Outside}
 use Rattle.bac_tools.specs.Program.{Program}
 use Rattle.bac_tools.specs.declared.binding.Binding.{Binding}
 use Rattle.bac_tools.specs.declared.program.Ran.{Ran}
+use Rattle.bac_tools.specs.declared.report.Fault.{Fault}
 use Rattle.bac_tools.specs.declared.report.Fault.TheVariants as faults
+use Rattle.bac_tools.specs.declared.report.Report.{Report}
 
 -- The network gave a socket.
 abbrev pub is_socket : {L : Type 0} → Option (Result L LinkFault) → Bool
@@ -26,8 +31,21 @@ abbrev pub Gained : {L : Type 0} → (L → Account) → Option (Result L LinkFa
 Gained seen (Some (Ok link)) (Some (Ok link')) gained = (seen link').history ≡ (seen link).history ++ gained
 Gained seen opened opened' gained = gained ≡ []
 
--- A whole run with these words, and what its socket was asked and answered. It did not lack memory, and its writer did
--- not fail.
+-- A run was cut off where this is the fault that it tells: there was no memory for its words, or its writer failed.
+abbrev pub CutsOff : Option Fault → Type 0
+CutsOff (Some (faults.Usage Memory)) = ⊤
+CutsOff (Some (faults.Tool tools.WriteFailed)) = ⊤
+CutsOff (Some (faults.Trace stops.WriteFailed)) = ⊤
+CutsOff _ = ⊥
+
+abbrev pub IsCutOff : Report → Type 0
+IsCutOff report = CutsOff report.fault
+
+-- With this report this was printed of a text: all of it; or, where the run was cut off, a front of it.
+abbrev pub IsPrinted : (printed text : List ℕ) → Report → Type 0
+IsPrinted printed text report = (printed ≡ text) ⊎ (IsCutOff report × IsFrontOf printed text)
+
+-- A whole run with these words, and what its socket was asked and answered.
 pub record Run {N L R W : Type 0} (gives : N → Binding → Result L LinkFault → Type 0) (out : Outside L R W)
     (words : List Text) : Type 0 where
   pub network : N
@@ -37,26 +55,37 @@ pub record Run {N L R W : Type 0} (gives : N → Binding → Result L LinkFault 
   pub writer' : Checked W
   pub ran : Ran N L
   pub program : Program gives out network (fresh reader) reader' (fresh writer) writer' ran words
-  pub memory : ran.report.fault ≢ Some (faults.Usage Memory)
-  pub written : has_failed writer' ≡ false
   pub gained : List Entry
   pub gains : Gained out.seen program.opened ran.socket gained
 
 module _ {N L R W M K S V : Type 0} {gives : N → Binding → Result L LinkFault → Type 0} {out : Outside L R W}
     {gives' : M → Binding → Result K LinkFault → Type 0} {out' : Outside K S V} {words : List Text}
     (one : Run gives out words) (other : Run gives' out' words) where
-  -- Both had a socket or neither, the sockets were answered alike, and the readers gave the same octets and met their
-  -- end as often.
-  pub record AreGivenAlike : Type 0 where
-    pub socket : is_socket one.program.opened ≡ is_socket other.program.opened
-    pub answers : answers_of one.gained ≡ answers_of other.gained
-    pub octets : octets_of one.reader' ≡ octets_of other.reader'
-    pub ends : ends_of one.reader' ≡ ends_of other.reader'
+  -- Where neither was cut off they have the same report; but where `clap` does not take the words, each tells of help, or
+  -- of words that are refused, by an error that `clap` may give at these.
+  abbrev pub EndAlike : Report → Report → Type 0
+  EndAlike report other_report = (IsCutOff report → ⊥) → (IsCutOff other_report → ⊥) →
+      (report ≡ other_report) ⊎ (IsErrAnd one.program.answer (IsRefusal words)
+      × IsErrAnd other.program.answer (IsRefusal words))
 
-  -- They asked and sent the same, printed the same, and have the same report; but where `clap` does not take the words,
-  -- each tells of help, or of words that are refused, by an error that `clap` may give at these.
-  pub record AreAlike : Type 0 where
-    pub asked : one.gained ≡ other.gained
-    pub printed : octets_of one.writer' ≡ octets_of other.writer'
-    pub told : (one.ran.report ≡ other.ran.report) ⊎ (IsErrAnd one.program.answer (IsRefusal words)
-        × IsErrAnd other.program.answer (IsRefusal words))
+  -- Both printed one text, or a front of it where they were cut off.
+  abbrev pub PrintAlike : Report → Report → Type 0
+  PrintAlike report other_report = (text : List ℕ) × IsPrinted (octets_of one.writer') text report
+      × IsPrinted (octets_of other.writer') text other_report
+
+  module _ (first rest other_first other_rest : List Entry) where
+    -- Where both asked for a socket, both had one or neither; so far the sockets were answered alike; and the readers
+    -- gave the same octets and met their end as often.
+    pub record AreGivenAlike : Type 0 where
+      pub socket : IsTrue (is_some one.program.opened) → IsTrue (is_some other.program.opened)
+          → is_socket one.program.opened ≡ is_socket other.program.opened
+      pub gained : one.gained ≡ first ++ rest
+      pub other_gained : other.gained ≡ other_first ++ other_rest
+      pub answers : answers_of first ≡ answers_of other_first
+      pub octets : octets_of one.reader' ≡ octets_of other.reader'
+      pub ends : ends_of one.reader' ≡ ends_of other.reader'
+
+    -- So far they asked and sent the same; and they go on alike.
+    pub record AreAlike : Type 0 where
+      pub asked : first ≡ other_first
+      pub goes_on : GoOnAlike IsCutOff EndAlike PrintAlike one.ran.report other.ran.report rest other_rest
