@@ -59,7 +59,7 @@ awk -F ' [|] ' '
     BEGIN {
         rows_count = 0
         print ".\\\" Made from man/numbers.txt by man/numbers.sh: change it there."
-        print ".Dd November 24, 2026\n.Dt BACTOOL-NUMBERS 7\n.Os\n.Sh NAME\n.Nm bactool-numbers"
+        print ".Dd November 26, 2026\n.Dt BACTOOL-NUMBERS 7\n.Os\n.Sh NAME\n.Nm bactool-numbers"
         print ".Nd the numbers of BACnet that one meets with bactool\n.Sh DESCRIPTION"
         print "The tools of\n.Xr bactool 1\ntake and print the numbers that stand in the datagrams."
         print "These are the ones that one meets, from the enumerations of the standard."
@@ -72,7 +72,7 @@ awk -F ' [|] ' '
     { columns = NF; for (i = 1; i <= NF; i++) rows[rows_count, i] = $i; rows_count++ }
     END {
         close_section()
-        print ".Sh SEE ALSO\n.Xr bacrp 1 ,\n.Xr bactool 1 ,\n.Xr bacwp 1"
+        print ".Sh SEE ALSO\n.Xr bacrp 1 ,\n.Xr bacsite 1 ,\n.Xr bactool 1 ,\n.Xr bacwp 1"
         print ".Sh STANDARDS\nANSI/ASHRAE 135, clauses 12, 18, 20.2 and 21."
     }
 ' numbers.txt >"$page"
