@@ -3,10 +3,9 @@ use Rattle.std.specs.Prelude.{◌≡◌, ℕ, nat_le, if◌then◌else◌, List,
 use Rattle.std.specs.Option.{option_to_list}
 use Rattle.std.specs.List.{flat_map, last_or}
 use Rattle.bac_pdu.specs.Peer.{Station}
-use Rattle.bac_device.specs.Places.{Write}
-use Rattle.bac_device.specs.Device.{DeviceState, Holds}
+use Rattle.bac_device.specs.Device.{DeviceState}
 use Rattle.bac_device.specs.Reply.{reply_of, write_of_datagram, with_write}
-use Rattle.bac_device.specs.Turns.{Arrival as Came, AreDefined}
+use Rattle.bac_device.specs.Turns.{Arrival as Came}
 use Rattle.bac_links.specs.Limits.{serve_wait}
 use Rattle.bac_links.specs.Foretold.{Heard, Arrival, Failure}
 use Rattle.bac_links.specs.History.{Entry, Waited, Unposted, Account}
@@ -69,11 +68,8 @@ module _ (count : ℕ) (device : DeviceState) where
   serve_move gained = serve_behind gained (last_or None gained)
 
 -- What a device that serves over a link answers and sends, and what is left of both, however the server ends and
--- whatever the link is. For any writes that leave the points as they stand in the device, its replies are those of the
--- definition; and afterwards the points stand as the writes that it accepted leave them.
+-- whatever the link is.
 pub record Serves (count : ℕ) (before after : DeviceState) (seen left : Account) (result : Result ℕ ToolFault) : Type 0
   where
     pub plays : Plays (serve_move count before) seen left result
     pub device : after ≡ device_behind before (arrivals_in plays.gained)
-    pub defined : (writes : List Write) → Holds before writes
-        → AreDefined before writes (arrivals_in plays.gained) (replies_of before (arrivals_in plays.gained)) after
