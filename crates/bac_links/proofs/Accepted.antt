@@ -21,7 +21,8 @@ use Rattle.bac_device.specs.Places.{Write, Standing, written_value}
 use Rattle.bac_device.specs.Inner.Places.{IsUrgent}
 use Rattle.bac_device.specs.Device.{DeviceState, points_of, device_after, Holds}
 use Rattle.bac_device.specs.Reply.{property_of, commanded_point, urgency, ordered_write, accepted_write, write_in_body}
-use Rattle.bac_device.specs.Reply.{write_in_request, write_message, write_apdu, write_of_datagram, reply_to, writes_after}
+use Rattle.bac_device.specs.Reply.{write_in_request, write_message, write_apdu, write_of_datagram, reply_to}
+use Rattle.bac_device.specs.Reply.{writes_after}
 use Rattle.bac_device.specs.Turns.{Arrival, AreDefined, all_writes, replies_to}
 use Rattle.bac_device.proofs.StateLaws.{points_after, write_held, after_holds}
 use Rattle.bac_links.specs.Serve.{device_next, device_behind, replies_of}
@@ -135,7 +136,8 @@ module _ (info : Info) (points : List Description) where
       (ap (λ (d : DeviceState). replies_of d arrivals) (next_after writes came)
       ∙ replied_after (writes_after info points writes came.from came.datagram) arrivals)
 
-  left_after : (writes : List Write) (arrivals : List Arrival) → device_behind (device_after info points writes) arrivals
+  left_after : (writes : List Write) (arrivals : List Arrival)
+      → device_behind (device_after info points writes) arrivals
       ≡ device_after info points (all_writes info points writes arrivals)
   left_after writes [] = refl
   left_after writes (came ∷ arrivals) =

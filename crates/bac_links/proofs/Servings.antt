@@ -48,7 +48,8 @@ replies-append device [] ys = refl
 replies-append device (x ∷ xs) ys =
     ap (λ (rs : List Reply). reply_of device x.from x.datagram ∷ rs) (replies-append (device_next device x) xs ys)
 
-arrivals-push : (gained : List Entry) (x : Entry) → arrivals_in (gained ++ x ∷ []) ≡ arrivals_in gained ++ came_of_entry x
+arrivals-push : (gained : List Entry) (x : Entry)
+    → arrivals_in (gained ++ x ∷ []) ≡ arrivals_in gained ++ came_of_entry x
 arrivals-push gained x =
     flat_map-append came_of_entry gained (x ∷ [])
     ∙ ap (λ (cs : List Came). arrivals_in gained ++ cs) (append-nil (came_of_entry x))
@@ -202,7 +203,8 @@ module _ (before device : DeviceState) (seen mid : Account) (count came replied 
         next = next;
         turns = is.waits;
         device_is = device_is;
-        came_is = rw (is.brought, goes.came_is, came_so) (sym (length-append (arrivals_in goes.gained) (came_by heard)));
+        came_is = rw (is.brought, goes.came_is, came_so)
+            (sym (length-append (arrivals_in goes.gained) (came_by heard)));
         replied_is = rw (replies_are, goes.replied_is, replied_so)
             (sym (count-append (replies_of before (arrivals_in goes.gained)) (replies_of device (came_by heard))));
       }

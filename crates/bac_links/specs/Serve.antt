@@ -18,18 +18,20 @@ abbrev pub came_by : Heard → List Came
 came_by (Arrival from octets) = record { from = from; datagram = octets } ∷ []
 came_by _ = []
 
--- The datagrams that came, in their order.
+-- The datagram that came by this entry, if one did.
 abbrev pub came_of_entry : Entry → List Came
 came_of_entry (Waited wait heard) = came_by heard
 came_of_entry _ = []
 
+-- The datagrams that came, in their order.
 abbrev pub arrivals_in : List Entry → List Came
 arrivals_in = flat_map came_of_entry
 
--- A device once it has taken a datagram, and once it has taken these, one after another.
+-- A device once it has taken a datagram.
 abbrev pub device_next : DeviceState → Came → DeviceState
 device_next device came = with_write device (write_of_datagram device came.from came.datagram)
 
+-- A device once it has taken these, one after another.
 abbrev pub device_behind : DeviceState → List Came → DeviceState
 device_behind device [] = device
 device_behind device (came ∷ later) = device_behind (device_next device came) later
@@ -53,7 +55,8 @@ module _ (count : ℕ) (device : DeviceState) where
   -- Once as many datagrams came as were asked for it is over, with the number of replies; else a turn begins.
   abbrev pub serve_next : List Entry → Move (Result ℕ ToolFault)
   serve_next gained =
-      if nat_le count (length (arrivals_in gained)) then Ends (Ok (reply_count (replies_of device (arrivals_in gained))))
+      if nat_le count (length (arrivals_in gained))
+      then Ends (Ok (reply_count (replies_of device (arrivals_in gained))))
       else turn_after serve_wait (waits_in gained)
 
   -- The next move of a server, behind what came last: the reply to a datagram is sent before the next wait.
@@ -64,6 +67,7 @@ module _ (count : ℕ) (device : DeviceState) where
   serve_behind gained (Some (Unposted to octets)) = Ends (Err SendFailed)
   serve_behind gained _ = serve_next gained
 
+  -- The next move of a server.
   abbrev pub serve_move : List Entry → Move (Result ℕ ToolFault)
   serve_move gained = serve_behind gained (last_or None gained)
 
