@@ -3,8 +3,7 @@
 //! A [`Link`] sends and receives datagrams and knows the time: [`UdpLink`] over a socket, [`MemoryLink`] in memory.
 //! [`run_read`] and [`run_write`] make one request and print how it ended, [`run_whois`] prints the devices that it
 //! finds, and [`serve`] answers for a device. [`status`] is the program's status after that. `specs/Call.antt`,
-//! `specs/Search.antt` and `specs/Serve.antt` say what each of them asks of its link; `specs/Foretold.antt` says what a
-//! link foretells.
+//! `specs/Search.antt` and `specs/Serve.antt` say by their moves (`specs/Asking.antt`) what each asks of its link.
 //!
 //! Whole runs over links in memory, with what they send and print, are tests of `tool_trials` (`src/tests/links`).
 //!
