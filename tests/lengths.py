@@ -40,8 +40,10 @@ def local_socket():
 @contextlib.contextmanager
 def running(*words, **how):
     with subprocess.Popen(words, **how) as process:
-        yield process
-        process.kill()
+        try:
+            yield process
+        finally:
+            process.kill()
 
 
 def answered(desk, lengths):
@@ -73,13 +75,15 @@ def heard_by_a_device(program):
 
 
 def heard_by_a_tool(program, length):
+    head = bytes([0x30, 1, 12]) + POINT
+    (longer, _), (answer, octets) = datagram(LONGEST + 1, head), datagram(length, head)
     with local_socket() as field:
         mac = "127.0.0.1:%d" % field.getsockname()[1]
         words = [program, "bacrp", "1234", "1", "1", "85", "--mac", mac, "--apdu-timeout", "5000"]
         with running(*words, stdout=subprocess.PIPE) as tool:
-            _, desk = field.recvfrom(LONGEST)
-            for longer in [LONGEST + 1, length]:
-                answer, octets = datagram(longer, bytes([0x30, 1, 12]) + POINT)
+            with contextlib.suppress(socket.timeout):
+                _, desk = field.recvfrom(LONGEST)
+                field.sendto(longer, desk)
                 field.sendto(answer, desk)
             printed = tool.stdout.read().decode()
     if printed != f"X'{octets.hex()}'\n":
