@@ -4,11 +4,11 @@ test which that line names, and says so where the test passes.
 
 Usage: tests/holes.py [--only PATTERN] [--jobs N]. The status is 0 where each test fails, and passes without a body.
 
-A line `hole:` names a file: of the src/tests/ of bac_trials or tool_trials, one of whose tests has to fail; of
-tests/rows/, one of whose rows has to; or a script of tests/, which has to. The trials are run by `rt try --test`, those of the file's
-module alone; the program is one that `rt try` makes, in which an index or a sum out of bounds also ends it. Nothing is
-proved here: tests/wrong_bodies.py does that. Each body takes a build of some 70 seconds of processor time, so this is
-no part of the gate.
+A line `hole:` names a file: of src/tests/ of bac_trials or tool_trials, one of whose tests has to fail; of tests/rows/,
+one of whose rows has to; or a script of tests/, which has to. The trials are run by `rt try --test`, those of the
+file's module alone; the program is one that `rt try` makes, in which an index or a sum out of bounds also ends it.
+Nothing is proved here: tests/wrong_bodies.py does that. Each body takes a build of some 70 seconds of processor time,
+so this is no part of the gate.
 """
 import argparse
 import collections

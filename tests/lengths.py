@@ -40,8 +40,10 @@ def local_socket():
 @contextlib.contextmanager
 def running(*words, **how):
     with subprocess.Popen(words, **how) as process:
-        yield process
-        process.kill()
+        try:
+            yield process
+        finally:
+            process.kill()
 
 
 def answered(desk, lengths):
@@ -60,7 +62,6 @@ def answered(desk, lengths):
 
 
 def heard_by_a_device(program):
-    """The first length at which a device does not answer as it is to, with its answer."""
     with local_socket() as free:
         there = free.getsockname()
     with running(program, "bacdev", "1234", "--port", str(there[1])), local_socket() as desk:
@@ -69,28 +70,31 @@ def heard_by_a_device(program):
             heard = answered(desk, [LONGEST + 1, length])
             if heard != bytes.fromhex(f"810a000d010050{length % 256:02x}0f91029109"):
                 yield f"a device is sent {length} octets, and answers {heard and heard.hex()}"
-                return
 
 
-def heard_by_a_tool(program, length):
-    with local_socket() as field:
-        mac = "127.0.0.1:%d" % field.getsockname()[1]
-        words = [program, "bacrp", "1234", "1", "1", "85", "--mac", mac, "--apdu-timeout", "5000"]
-        with running(*words, stdout=subprocess.PIPE) as tool:
-            _, desk = field.recvfrom(LONGEST)
-            for longer in [LONGEST + 1, length]:
-                answer, octets = datagram(longer, bytes([0x30, 1, 12]) + POINT)
-                field.sendto(answer, desk)
-            printed = tool.stdout.read().decode()
-    if printed != f"X'{octets.hex()}'\n":
-        yield f"a tool is answered by {length} octets, and prints {printed[:100]!a}"
+def heard_by_tools(program):
+    head = bytes([0x30, 1, 12]) + POINT
+    longer, _ = datagram(LONGEST + 1, head)
+    for length in SOME:
+        answer, octets = datagram(length, head)
+        with local_socket() as field:
+            mac = "127.0.0.1:%d" % field.getsockname()[1]
+            words = [program, "bacrp", "1234", "1", "1", "85", "--mac", mac, "--apdu-timeout", "5000"]
+            with running(*words, stdout=subprocess.PIPE) as tool:
+                with contextlib.suppress(socket.timeout):
+                    _, desk = field.recvfrom(LONGEST)
+                    field.sendto(longer, desk)
+                    field.sendto(answer, desk)
+                printed = tool.stdout.read().decode()
+        if printed != f"X'{octets.hex()}'\n":
+            yield f"a tool is answered by {length} octets, and prints {printed[:100]!a}"
 
 
 def main(program):
-    wrong = [*heard_by_a_device(program), *(it for length in SOME for it in heard_by_a_tool(program, length))]
+    wrong = next((it for found in (heard_by_a_device, heard_by_tools) for it in found(program)), None)
     tried = f"{LONGEST - 999} requests and {len(SOME)} answers of up to {LONGEST} octets"
     well = f"tests/lengths.py: {tried} are heard whole, and longer ones are not"
-    print("\n".join(f"not as it is to be: {it}" for it in wrong) or well)
+    print(f"not as it is to be: {wrong}" if wrong else well)
     return 1 if wrong else 0
 
 

@@ -37,11 +37,11 @@ PAGES = [
     ("progress", "No request waits for ever", ["bac_tsm::no_request_waits_for_ever"]
     + ["bac_links::laws::a_call_ends_in_time"]),
     ("machine", "The client call by call, and its laws", ["bac_tsm::*"]),
-    ("serving", "A device that serves", ["bac_links::serve", "bac_links::laws::a_server_keeps_its_points"]),
+    ("serving", "A device that serves", ["bac_links::serve"]),
     ("links", "Links, and the laws of the tools over them", ["bac_links::*"]),
     ("command", "The words of a command line", ["bac_words::parse_words", "bac_words::*", "clap_laws::*"]),
-    ("program", "From the words to the status", ["bac_tools::run_words", "bac_tools::run_program", "bac_text::Checked::read"]
-    + ["bac_text::Checked::write", "bac_text::Checked::flush", "bac_tools::*", "bactool::*"]),
+    ("program", "From the words to the status", ["bac_tools::run_program", "bac_tools::run_words"]
+    + ["bac_text::Checked::read", "bac_text::Checked::write", "bac_text::Checked::flush", "bac_tools::*", "bactool::*"]),
 ]
 
 # What a page shows at its head: a file of specs/, and the definitions of it.
@@ -123,10 +123,10 @@ traits and constants of `src/`. Whoever has read a page knows what is promised; 
 
 **How to read a page.** It names its calls first: begin with their clauses, in the files that it lists. Then go down the
 list with these files open. Call by call it has what a clause names, then what that rests on, and so on; so a file
-stands where it is first needed, and in a file the reading goes from its top. Whoever takes a definition by its comment
-leaves out what that one alone rests on. What an earlier page tells is only named here, with that page. `UdpLink: seen`
-is what a clause calls `⟦<UdpLink as Link>⟧.seen`. What types keep to themselves, at the end of a page, says how the
-fields of a type fit one another; no promise needs it.
+stands where it is first needed, and in a file the reading goes from its top. Whoever is content with the comment of a
+definition can leave out what that definition alone rests on. What an earlier page tells is only named on a later one,
+with that page. `UdpLink: seen` is what a clause calls `⟦<UdpLink as Link>⟧.seen`. What types keep to themselves, at the
+end of a page, says how the fields of a type fit one another; no promise needs it.
 
 **The numbers** are lines, without comments, blank lines and attributes; those of a call are its signature and its
 clauses. A type has its fields, what they keep to, and what its `impl Model` shows of it. `make reading` writes these
@@ -143,17 +143,19 @@ def pages():
     rest = {name: call for crate in CRATES if crate not in TRIALS for name, call in called(crate).items()}
     every = dict(rest)
     for page, title, names in PAGES:
-        calls = {}
+        calls, shown = {}, []
         for name in names:
             found = [one for one in rest if one.startswith(name[:-1])] if name.endswith("*") else [name]
-            PROBLEMS.extend(f"the page {page} is to have {one}, which is no public call" for one in {*found} - {*every})
+            if not found or not {*found} <= {*every}:
+                PROBLEMS.append(f"the page {page} is to have {name}, which is no public call")
             calls.update({one: every[one] for one in found if one in every})
+            other = "" if len(found) == sum(one.startswith(name[:-1]) for one in every) else "other "
+            shown.append(f"the {other}public calls of `{name[:-3]}`" if name.endswith("*") else f"`{name}`")
             rest = {one: call for one, call in rest.items() if one not in found}
         texts[f"{FOLDER}/{page}.md"], items = page_of(page, title, calls, told)
         sizes[page] = size(items)
         files = len({item.file for item in items})
-        shown = ", ".join(re.sub("`(.*)::[*]`", r"the public calls of `\1`", f"`{name}`") for name in names)
-        index += f"| [{title}]({page}.md) | {shown} | {len(items)} | {sizes[page]} | {files} |\n"
+        index += f"| [{title}]({page}.md) | {', '.join(shown)} | {len(items)} | {sizes[page]} | {files} |\n"
     PROBLEMS.extend(f"{name} stands on no page of {FOLDER}" for name in rest)
     texts[f"{FOLDER}/README.md"] = index
     return texts, sizes

@@ -64,14 +64,15 @@ class Needs:
 
 TOKEN = re.compile(r'"(?:\\.|[^"\\])*"|\[\]|λ|[(){}\[\],;]|[^\s(){}\[\],;λ"]+')
 OPEN, CLOSE = "({[", ")}]"
-BUILT_IN = set("→ × ¬ ⊥ = : | ↦ _ . in let elim Unit tt absurd Type record unfold open use as where pub λ , ;".split())
+BUILT_IN = set("""→ × ¬ ⊥ = : | ↦ ← λ _ . , ; ( ) { } [ ] in let do elim Unit tt absurd Type record unfold open use as
+    where pub""".split())
 VALUES = {"true", "false", "zero", "suc", "pos", "negsuc", "[]", "∷", "tt"}  # std's constructors in small letters
 NUMBER = re.compile(r"\d[\w_]*$|0x[\w_]+$")
 WORD = re.compile(r"[^\W\d][\w'-]*$")
 # What stands in a term where it binds names: before a colon, behind a λ, a `let`, before an arrow of `do`, a case.
-BINDERS = [r"[({]\s*((?:[^\W\d][\w'-]*\s+)+):(?=\s)", r"λ ([^.]*)\.", r"\blet (\S+)\s+=", r"(\S+) ←"]
-BINDERS += [r"[\[;|]([^\[;|]*?)↦"]
-BINDER = re.compile("|".join(BINDERS))
+BINDERS = [r"[({]\s*((?:[^\W\d][\w'-]*\s+)+):(?=\s)", r"λ ([^.]*)\.", r"\blet (\S+)\s+="]
+BINDERS += [r"(?:^|do|;)\s*([^\n;]+?) ←", r"[\[;|]([^\[;|]*?)↦"]
+BINDER = re.compile("|".join(BINDERS), re.M)
 LABEL = re.compile(r"([{;]\s*)[^\s={;]+ =(?=\s)")  # a field, or an argument by its name
 
 
@@ -108,8 +109,8 @@ def say(needs, scopes, text, bound, pattern=""):
     for token in [*TOKEN.findall(pattern), *tokens, *([">>="] if "do" in tokens else [])]:
         token = token.rstrip(".") or token
         head = token.partition(".")[0]
-        is_name = head and token[0] not in '"({[)}]' and not NUMBER.match(token) and token not in BUILT_IN | {"do", "←"}
-        if token == "[]" or is_name and not {head, token} & bound:
+        is_name = head and token[0] != '"' and token not in BUILT_IN and not NUMBER.match(token)
+        if is_name and not {head, token} & bound:
             needs.add(looked_up(scopes, token), head)
     return bound
 
@@ -197,8 +198,8 @@ class Specs:
         return kind and kind[1]
 
     def constructors_of(self, block):
-        lines = block["lines"][1:] if self.type_of(block) == "data" else []
-        return (found[1] for line in lines if (found := re.match(rf" {{{block['base'] + 2}}}(\S+) :", line)))
+        parts = self.parts(block)[1:] if self.type_of(block) == "data" else []
+        return (found[1] for part in parts if (found := re.match(r" *(\S+) :", part)))
 
     def find(self, needs, block):
         bound, kind, scopes = set(), self.type_of(block), (self.names,)
@@ -216,12 +217,16 @@ class Specs:
 
     def parts(self, block):
         """The signature and each case; of a type, its head and each constructor or field."""
-        step, parts = block["base"] + (2 if self.type_of(block) else 0), []
-        for line in block["lines"]:
-            line = re.sub(r" -- .*$", "", line)
-            if not parts or len(line) - len(line.lstrip()) == step and line.strip()[0] not in CLOSE:
-                parts.append("")
-            parts[-1] += line + "\n"
+        lines = [re.sub(r" -- .*$", "", line) for line in block["lines"]]
+        depth = lambda line: len(line) - len(line.lstrip())
+        head = next(at for at, line in enumerate(lines, 1) if line.endswith("where")) if self.type_of(block) else 1
+        step = depth(lines[head]) if self.type_of(block) and lines[head:] else block["base"]
+        parts = ["\n".join(lines[:head])]
+        for line in lines[head:]:
+            if depth(line) == step and line.strip()[0] not in CLOSE:
+                parts.append(line)
+            else:
+                parts[-1] += "\n" + line
         return parts
 
 
@@ -449,7 +454,7 @@ class Source:
 
     def type(self, kind, name, public, start, end):
         code = self.code[start:end]
-        head = re.match(r"[^{(=;]*", code)[0]
+        head = re.match(r"(?:pub\([^)]*\))?([^{(=;]*)", code)[1]
         bound = generics(head) | {"Self", name}
         names, ghosts = self.ghost_uses(start, end), list(self.ghosts(start, end))
         mine = {ghost for ghost, *_ in ghosts} if kind == "trait" else set(re.findall(r"(\w+)\s*:(?!:)", code))

@@ -39,7 +39,8 @@ module _ (purpose : Purpose) (call : Call) where
       subst (λ (w : Checked W). Took contents before w []) (sym tells.0) (Took-none before),
     )
 
-    pub went : (result : Result Exit ToolFault) → Tells purpose call contents before after seen left result → Went result
+    pub went : (result : Result Exit ToolFault) → Tells purpose call contents before after seen left result
+        → Went result
     went (Ok exit) tells =
         record { comes = Ok tells.0; plays = tells.3.plays; answers = λ other. ap Ok tells.1; prints = tells.2 }
     went (Err WriteFailed) tells = record {

@@ -189,8 +189,8 @@ module _ (purpose : Purpose) (call : Call) where
 
 -- ---- behind a time, with the request open
 
-module _ (purpose : Purpose) (call : Call) (seen left : Account) (time : ℕ) (more : List Entry) (client : Client) (n : ℕ)
-    (carried : CarriesOn purpose call time (handed more) client)
+module _ (purpose : Purpose) (call : Call) (seen left : Account) (time : ℕ) (more : List Entry) (client : Client)
+    (n : ℕ) (carried : CarriesOn purpose call time (handed more) client)
     (follows : Follows (move purpose call) [] (Timed time ∷ more)) (due : List Entry)
     (next : move purpose call (Timed time ∷ more) ≡ or_sent due (turn_after (wait_of call) n))
     (turns : waits_in more ≡ n) where
@@ -330,7 +330,8 @@ module _ (purpose : Purpose) (call : Call) (seen mid next : Account) (client : C
           on_so purpose call far.time waited middle hears (Timed now) (Tick now) tt refl none_then after is
 
       next_then : endings ticked.notes ≡ []
-          → move purpose call (Timed far.time ∷ timed) ≡ or_sent (posts ticked.notes) (turn_after (wait_of call) (suc n))
+          → move purpose call (Timed far.time ∷ timed)
+          ≡ or_sent (posts ticked.notes) (turn_after (wait_of call) (suc n))
       next_then none_then =
           behind_time purpose call (Timed far.time ∷ waited) now
           (carried_then none_then (keeping middle ticked.after) refl).unended

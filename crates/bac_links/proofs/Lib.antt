@@ -3,6 +3,7 @@ mod CallEvents
 mod CallTurns
 mod Searches
 mod Servings
+mod Accepted
 mod Progress
 mod Unheard
 mod Asking

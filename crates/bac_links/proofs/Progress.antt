@@ -184,7 +184,8 @@ module _ (purpose : Purpose) (call : Call) where
         → IsAt (before ++ Timed (time_behind n) ∷ []) (Timed (time_behind n)) n (time_behind n)
     at_time before last n now is = record {
       came_last = last_push (Some (Timed first)) before (Timed (time_behind n));
-      steady = further before (Timed (time_behind n)) now (time_behind n) is.steady (omega (arith, is.near)) (omega arith);
+      steady = further before (Timed (time_behind n)) now (time_behind n) is.steady (omega (arith, is.near))
+          (omega arith);
       near = omega arith;
       within = is.within;
       told = λ timely. omega arith;

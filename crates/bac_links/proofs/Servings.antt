@@ -7,9 +7,8 @@ use Rattle.std.proofs.lemmas.List.Concat.{flat_map-append}
 use Rattle.std.proofs.lemmas.Bool.{le-leb, lt-leb}
 use Rattle.bac_pdu.specs.Peer.{Station}
 use Rattle.bac_device.specs.Device.{DeviceState}
-use Rattle.bac_device.specs.Turns.{Arrival as Came, RepliesInTurn}
+use Rattle.bac_device.specs.Turns.{Arrival as Came}
 use Rattle.bac_device.specs.Reply.{reply_of}
-use Rattle.bac_device.proofs.StateLaws.{in_turn}
 use Rattle.bac_links.specs.Limits.{most_turns, serve_wait}
 use Rattle.bac_links.specs.Foretold.{Heard, Silence, Arrival, Failure}
 use Rattle.bac_links.specs.History.{Entry, Waited, Posted, Unposted, Account, GainsAll}
@@ -38,15 +37,6 @@ one_at_most device Failure = tt
 
 -- ---- datagrams one after another
 
-turns-append : (before middle after : DeviceState) (xs ys : List Came) (rs ss : List Reply) →
-    RepliesInTurn before xs rs middle → RepliesInTurn middle ys ss after
-    → RepliesInTurn before (xs ++ ys) (rs ++ ss) after
-turns-append before middle after [] ys [] ss first second =
-    subst (λ (d : DeviceState). RepliesInTurn d ys ss after) first second
-turns-append before middle after (x ∷ xs) ys (r ∷ rs) ss (next, one, rest) second =
-    (next, one, turns-append next middle after xs ys rs ss rest second)
-turns-append before middle after _ ys _ ss first second = absurd first
-
 behind-append : (device : DeviceState) (xs ys : List Came)
     → device_behind device (xs ++ ys) ≡ device_behind (device_behind device xs) ys
 behind-append device [] ys = refl
@@ -58,7 +48,8 @@ replies-append device [] ys = refl
 replies-append device (x ∷ xs) ys =
     ap (λ (rs : List Reply). reply_of device x.from x.datagram ∷ rs) (replies-append (device_next device x) xs ys)
 
-arrivals-push : (gained : List Entry) (x : Entry) → arrivals_in (gained ++ x ∷ []) ≡ arrivals_in gained ++ came_of_entry x
+arrivals-push : (gained : List Entry) (x : Entry)
+    → arrivals_in (gained ++ x ∷ []) ≡ arrivals_in gained ++ came_of_entry x
 arrivals-push gained x =
     flat_map-append came_of_entry gained (x ∷ [])
     ∙ ap (λ (cs : List Came). arrivals_in gained ++ cs) (append-nil (came_of_entry x))
@@ -108,7 +99,6 @@ pub record ServeGoes (before device : DeviceState) (seen link : Account) (count 
   pub next : serve_move count before gained ≡ serve_next count before gained
   pub turns : waits_in gained ≡ n
   pub device_is : device ≡ device_behind before (arrivals_in gained)
-  pub in_turn : RepliesInTurn before (arrivals_in gained) (replies_of before (arrivals_in gained)) device
   pub came_is : came ≡ length (arrivals_in gained)
   pub replied_is : replied ≡ reply_count (replies_of before (arrivals_in gained))
 
@@ -120,7 +110,6 @@ serves_none device seen count = record {
   next = refl;
   turns = refl;
   device_is = refl;
-  in_turn = refl;
   came_is = refl;
   replied_is = refl;
 }
@@ -133,9 +122,6 @@ module _ (before device : DeviceState) (seen mid : Account) (count came replied 
   served result over = record {
     plays = record { gained = goes.gained; gains = goes.gains; follows = goes.follows; over = over };
     device = goes.device_is;
-    defined = λ writes holds.
-        in_turn before (arrivals_in goes.gained) (replies_of before (arrivals_in goes.gained)) device writes
-        goes.in_turn holds;
   }
 
   pub serve_done : came ≡ count → Serves count before device seen mid (Ok replied)
@@ -201,18 +187,9 @@ module _ (before device : DeviceState) (seen mid : Account) (count came replied 
 
       device_is : after ≡ device_behind before (arrivals_in gained)
       device_is =
-          leaves.0 ∙ ap (λ (d : DeviceState). device_behind d (came_by heard)) goes.device_is
+          leaves ∙ ap (λ (d : DeviceState). device_behind d (came_by heard)) goes.device_is
           ∙ sym (behind-append before (arrivals_in goes.gained) (came_by heard))
           ∙ ap (device_behind before) (sym is.brought)
-
-      turns_are : RepliesInTurn before (arrivals_in gained) (replies_of before (arrivals_in gained)) after
-      turns_are =
-          subst (λ (cs : List Came). RepliesInTurn before cs (replies_of before (arrivals_in gained)) after)
-          (sym is.brought)
-          (subst (λ (rs : List Reply). RepliesInTurn before (arrivals_in goes.gained ++ came_by heard) rs after)
-          (sym replies_are)
-          (turns-append before device after (arrivals_in goes.gained) (came_by heard)
-          (replies_of before (arrivals_in goes.gained)) (replies_of device (came_by heard)) goes.in_turn leaves.1))
 
       on_with : (brings : Brought) → came_in brings ≡ length (came_by heard)
           → replied_in brings ≡ reply_count (replies_of device (came_by heard)) → GainsAll gained seen left
@@ -226,8 +203,8 @@ module _ (before device : DeviceState) (seen mid : Account) (count came replied 
         next = next;
         turns = is.waits;
         device_is = device_is;
-        in_turn = turns_are;
-        came_is = rw (is.brought, goes.came_is, came_so) (sym (length-append (arrivals_in goes.gained) (came_by heard)));
+        came_is = rw (is.brought, goes.came_is, came_so)
+            (sym (length-append (arrivals_in goes.gained) (came_by heard)));
         replied_is = rw (replies_are, goes.replied_is, replied_so)
             (sym (count-append (replies_of before (arrivals_in goes.gained)) (replies_of device (came_by heard))));
       }
@@ -238,8 +215,6 @@ module _ (before device : DeviceState) (seen mid : Account) (count came replied 
       fails_with result gains follows over = record {
         plays = record { gained = gained; gains = gains; follows = follows; over = over };
         device = device_is;
-        defined = λ writes holds.
-            in_turn before (arrivals_in gained) (replies_of before (arrivals_in gained)) after writes turns_are holds;
       }
 
     module _ (received : heard ≢ Failure) where
@@ -298,7 +273,7 @@ module _ (before device : DeviceState) (seen mid : Account) (count came replied 
       (follows_sent after left within fewer heard received x reply e refl)
       (behind count before (waited after left within fewer heard) x)
   serve_fails after left within fewer ReceiveFailed (same, gains) =
-      fails_with after left within fewer Failure (same, same) (waited after left within fewer Failure)
+      fails_with after left within fewer Failure same (waited after left within fewer Failure)
       (behind_waited after left within fewer Failure) (Err ReceiveFailed)
       (gains_one after left within fewer Failure gains) (follows_waited after left within fewer Failure)
       (behind count before goes.gained (Waited serve_wait Failure))

@@ -20,5 +20,7 @@ module _ (count : ℕ) (before after after' : DeviceState) where
       let all : serves.plays.gained ≡ serves'.plays.gained =
       here ∙ ap (λ (xs : List Entry). first ++ xs) (none ∙ sym none') ∙ ap (λ (xs : List Entry). xs ++ rest') so_far
       ∙ sym there in
-      ((one, serves.device ∙ ap (λ (xs : List Entry). device_behind before (arrivals_in xs)) all ∙ sym serves'.device), tt))
+      let devices = serves.device ∙ ap (λ (xs : List Entry). device_behind before (arrivals_in xs)) all
+      ∙ sym serves'.device in
+      ((one, devices), tt))
       gains gains' same

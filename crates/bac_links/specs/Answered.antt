@@ -15,13 +15,14 @@ pub data Answer : Type 0 where
   Sends : Answer
   Loses : Answer
 
--- The answer in an entry, and those among entries.
+-- The answer in an entry.
 abbrev pub answer_of : Entry → Answer
 answer_of (Waited wait heard) = Brings heard
 answer_of (Timed time) = Shows time
 answer_of (Posted to octets) = Sends
 answer_of (Unposted to octets) = Loses
 
+-- The answers in these entries, in order.
 abbrev pub answers_of : List Entry → List Answer
 answers_of = map answer_of
 
@@ -49,7 +50,8 @@ module _ {A : Type 0} (Runs Others : Account → Account → A → Type 0) (IsCu
 -- ---- what was printed
 
 -- With this result a writer took the text; where it failed, a front of it.
-abbrev pub Printed : {W A : Type 0} → (W → Option (List ℕ)) → Checked W → Checked W → List ℕ → Result A ToolFault → Type 0
+abbrev pub Printed : {W A : Type 0} → (W → Option (List ℕ)) → (before after : Checked W) → (text : List ℕ)
+    → Result A ToolFault → Type 0
 Printed contents before after text (Err WriteFailed) = TakesFront contents before after text
 Printed contents before after text result = Took contents before after text
 

@@ -27,6 +27,7 @@ abbrev pub service_of : Purpose → ℕ
 service_of Reading = 12
 service_of Writing = 15
 
+-- What the client of a call goes by: its timeout, and its retries.
 abbrev pub rules_for : Call → Rules
 rules_for call = client_rules call.timeout call.retries
 
@@ -91,6 +92,7 @@ module _ (purpose : Purpose) (call : Call) where
   move_behind gained (Some (Waited wait Failure)) = Ends (Err ReceiveFailed)
   move_behind gained (Some (Waited wait heard)) = or_ended (end_in (events_of gained)) (Asks ForTime)
 
+  -- The next move of a call: what came last is the last of the entries.
   abbrev pub move : List Entry → Move Comes
   move gained = move_behind gained (last_or None gained)
 

@@ -2,7 +2,6 @@
 use Rattle.std.specs.Prelude.{ℕ, List, ◌∷◌, Option, Result, Some, None, Ok, Err}
 use Rattle.bac_pdu.specs.declared.peer.Peer.{Peer}
 use Rattle.bac_pdu.specs.Peer.{Station, station}
-use Rattle.bac_links.specs.declared.link.LinkFault.{LinkFault}
 
 -- What a receive hears.
 pub data Heard : Type 0 where
@@ -27,7 +26,7 @@ abbrev pub after_wait : ℕ → Foretold → Foretold
 after_wait wait t = record t { heard = λ waits. t.heard (wait ∷ waits); time = λ waits. t.time (wait ∷ waits) }
 
 -- What is heard where `receive` answers this and leaves these octets in its datagram.
-abbrev pub heard_by : Result (Option Peer) LinkFault → List ℕ → Heard
+abbrev pub heard_by : {E : Type 0} → Result (Option Peer) E → List ℕ → Heard
 heard_by (Ok None) octets = Silence
 heard_by (Ok (Some from)) octets = Arrival (station from) octets
 heard_by (Err fault) octets = Failure

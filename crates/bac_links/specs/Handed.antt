@@ -10,6 +10,7 @@ abbrev pub data_in : Heard → List Event
 data_in (Arrival from octets) = Data from octets ∷ []
 data_in _ = []
 
+-- What the client is handed of an entry: what was heard, or the time that was told.
 abbrev pub handed_of : Entry → List Event
 handed_of (Waited wait heard) = data_in heard
 handed_of (Timed time) = Tick time ∷ []

@@ -44,6 +44,7 @@ gaining more a = record { foretold = option_map (foretold_after more) a.foretold
 abbrev pub GainsAll : List Entry → Account → Account → Type 0
 GainsAll gained before after = (after ≡ gaining gained before) × ForSome before.foretold (Foretells gained)
 
+-- It gains this one entry.
 abbrev pub Gains : Entry → Account → Account → Type 0
 Gains entry = GainsAll (entry ∷ [])
 

@@ -4,6 +4,7 @@ pub mod History
 pub mod Asking
 pub mod Answered
 pub mod Memory
+pub mod Socket
 pub mod Fault
 pub mod Handed
 pub mod Ending

@@ -57,11 +57,12 @@ found_line found =
     ++ 32 ∷ (decimal found.device.segmentation
     ++ 32 ∷ (decimal found.device.vendor ++ 10 ∷ []))))
 
--- The greatest of these times, and how much greater it is than the first.
+-- The greatest of this time and these.
 abbrev pub greatest_of : ℕ → List ℕ → ℕ
 greatest_of greatest [] = greatest
 greatest_of greatest (time ∷ later) = greatest_of (max greatest time) later
 
+-- How much has passed by these times: how much greater than the first is the greatest.
 abbrev pub passed_in : List ℕ → ℕ
 passed_in [] = 0
 passed_in (first ∷ later) = greatest_of first later - first
@@ -71,16 +72,17 @@ module _ (search : Search) where
   abbrev pub who_is_to : List ℕ
   who_is_to = wrapped (station search.to).route false (laid_out (unconfirmed 8 (who_is_octets search.who)))
 
-  -- The devices that the waits among these entries find, in their order.
+  -- The device that is found by this entry, if one is.
   abbrev pub found_of_entry : Entry → List Found
   found_of_entry (Waited wait heard) = found_by search.who heard
   found_of_entry _ = []
 
+  -- The devices that the waits among these entries find, in their order.
   abbrev pub found_in : List Entry → List Found
   found_in = flat_map found_of_entry
 
-  -- Behind a time and so many waits: behind none the Who-Is is due; else the search is over once the timeout has passed.
-  -- It is good to have found a device.
+  -- Behind a time and so many waits: behind none the Who-Is is due; else the search is over once the timeout has
+  -- passed. It is good to have found a device.
   abbrev pub behind_time : List Entry → (waits : ℕ) → Move (Result Exit ToolFault)
   behind_time gained zero = Asks (ToSend (station search.to) who_is_to)
   behind_time gained (suc n) =
@@ -97,6 +99,7 @@ module _ (search : Search) where
   search_behind gained (Some (Waited wait Failure)) = Ends (Err ReceiveFailed)
   search_behind gained (Some (Waited wait heard)) = Asks ForTime
 
+  -- The next move of a search.
   abbrev pub search_move : List Entry → Move (Result Exit ToolFault)
   search_move gained = search_behind gained (last_or None gained)
 

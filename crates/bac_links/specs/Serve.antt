@@ -3,10 +3,9 @@ use Rattle.std.specs.Prelude.{◌≡◌, ℕ, nat_le, if◌then◌else◌, List,
 use Rattle.std.specs.Option.{option_to_list}
 use Rattle.std.specs.List.{flat_map, last_or}
 use Rattle.bac_pdu.specs.Peer.{Station}
-use Rattle.bac_device.specs.Places.{Write}
-use Rattle.bac_device.specs.Device.{DeviceState, Holds}
+use Rattle.bac_device.specs.Device.{DeviceState}
 use Rattle.bac_device.specs.Reply.{reply_of, write_in_datagram, with_write}
-use Rattle.bac_device.specs.Turns.{Arrival as Came, AreDefined}
+use Rattle.bac_device.specs.Turns.{Arrival as Came}
 use Rattle.bac_links.specs.Limits.{serve_wait}
 use Rattle.bac_links.specs.Foretold.{Heard, Arrival, Failure}
 use Rattle.bac_links.specs.History.{Entry, Waited, Unposted, Account}
@@ -19,18 +18,20 @@ abbrev pub came_by : Heard → List Came
 came_by (Arrival from octets) = record { from = from; datagram = octets } ∷ []
 came_by _ = []
 
--- The datagrams that came, in their order.
+-- The datagram that came by this entry, if one did.
 abbrev pub came_of_entry : Entry → List Came
 came_of_entry (Waited wait heard) = came_by heard
 came_of_entry _ = []
 
+-- The datagrams that came, in their order.
 abbrev pub arrivals_in : List Entry → List Came
 arrivals_in = flat_map came_of_entry
 
--- A device once it has taken a datagram, and once it has taken these, one after another.
+-- A device once it has taken a datagram.
 abbrev pub device_next : DeviceState → Came → DeviceState
 device_next device came = with_write device (write_in_datagram device came.from came.datagram)
 
+-- A device once it has taken these, one after another.
 abbrev pub device_behind : DeviceState → List Came → DeviceState
 device_behind device [] = device
 device_behind device (came ∷ later) = device_behind (device_next device came) later
@@ -54,7 +55,8 @@ module _ (count : ℕ) (device : DeviceState) where
   -- Once as many datagrams came as were asked for it is over, with the number of replies; else a turn begins.
   abbrev pub serve_next : List Entry → Move (Result ℕ ToolFault)
   serve_next gained =
-      if nat_le count (length (arrivals_in gained)) then Ends (Ok (reply_count (replies_of device (arrivals_in gained))))
+      if nat_le count (length (arrivals_in gained))
+      then Ends (Ok (reply_count (replies_of device (arrivals_in gained))))
       else turn_after serve_wait (waits_in gained)
 
   -- The next move of a server, behind what came last: the reply to a datagram is sent before the next wait.
@@ -65,15 +67,13 @@ module _ (count : ℕ) (device : DeviceState) where
   serve_behind gained (Some (Unposted to octets)) = Ends (Err SendFailed)
   serve_behind gained _ = serve_next gained
 
+  -- The next move of a server.
   abbrev pub serve_move : List Entry → Move (Result ℕ ToolFault)
   serve_move gained = serve_behind gained (last_or None gained)
 
 -- What a device that serves over a link answers and sends, and what is left of both, however the server ends and
--- whatever the link is. For any writes that leave the points as they stand in the device, its replies are those of the
--- definition; and afterwards the points stand as the writes that it accepted leave them.
+-- whatever the link is.
 pub record Serves (count : ℕ) (before after : DeviceState) (seen left : Account) (result : Result ℕ ToolFault) : Type 0
   where
     pub plays : Plays (serve_move count before) seen left result
     pub device : after ≡ device_behind before (arrivals_in plays.gained)
-    pub defined : (writes : List Write) → Holds before writes
-        → AreDefined before writes (arrivals_in plays.gained) (replies_of before (arrivals_in plays.gained)) after

@@ -2,7 +2,9 @@
 //! law. And that `==` on the public types is that of their values.
 
 ghost use Rattle.std.specs.Prelude.{◌≡◌, ◌≢◌, ◌≤◌, ◌+◌, ◌*◌, ◌++◌, ◌↔◌, ℕ, suc, ⊤, IsTrue, List, Result, Ok, Err};
-ghost use Rattle.bac_device.specs.Device.{DeviceState, points_of};
+ghost use Rattle.bac_device.specs.Places.{Write as Change};
+ghost use Rattle.bac_device.specs.Device.{DeviceState, points_of, Holds};
+ghost use Rattle.bac_device.specs.Turns.{AreDefined};
 ghost use Rattle.bac_text.specs.declared.checked.Checked.{Checked};
 ghost use Rattle.bac_text.specs.declared.jobs.Call.{Call};
 ghost use Rattle.bac_text.specs.declared.jobs.Search.{Search};
@@ -12,7 +14,7 @@ ghost use Rattle.bac_links.specs.Asking.{waits_in};
 ghost use Rattle.bac_links.specs.Call.{Tells};
 ghost use Rattle.bac_links.specs.Progress.{AreTold, ArePrompt};
 ghost use Rattle.bac_links.specs.Search.{Searched};
-ghost use Rattle.bac_links.specs.Serve.{Serves};
+ghost use Rattle.bac_links.specs.Serve.{arrivals_in, replies_of, Serves};
 ghost use Rattle.bac_links.specs.declared.ending.Purpose.{Purpose};
 ghost use Rattle.bac_links.specs.declared.ending.Exit.{Exit as Ended};
 ghost use Rattle.bac_links.specs.declared.fault.ToolFault.{ToolFault as Fault};
@@ -28,6 +30,15 @@ pub fn a_server_keeps_its_points()
     ensures { (count : ℕ) (before after : DeviceState) (seen left : Account) (result : Result ℕ Fault)
         → Serves count before after seen left result
         → (after.info ≡ before.info) × (points_of after ≡ points_of before) }
+{}
+
+/// For any writes that leave the points as they stand in the device before, the replies of a server are those of the
+/// definition; and however it ends, the points stand afterwards as the writes that it accepted leave them.
+pub fn a_server_replies_as_defined()
+    ensures { (count : ℕ) (before after : DeviceState) (seen left : Account) (result : Result ℕ Fault)
+        (gained : List Entry) (writes : List Change)
+        → Serves count before after seen left result → left.history ≡ seen.history ++ gained → Holds before writes
+        → AreDefined before writes (arrivals_in gained) (replies_of before (arrivals_in gained)) after }
 {}
 
 /// No call waits for ever. Take any clock whose times are those that the link told, as the link's own: where by it no

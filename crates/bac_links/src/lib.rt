@@ -3,8 +3,7 @@
 //! A [`Link`] sends and receives datagrams and knows the time: [`UdpLink`] over a socket, [`MemoryLink`] in memory.
 //! [`run_read`] and [`run_write`] make one request and print how it ended, [`run_whois`] prints the devices that it
 //! finds, and [`serve`] answers for a device. [`status`] is the program's status after that. `specs/Call.antt`,
-//! `specs/Search.antt` and `specs/Serve.antt` say what each of them asks of its link; `specs/Foretold.antt` says what a
-//! link foretells.
+//! `specs/Search.antt` and `specs/Serve.antt` say by their moves (`specs/Asking.antt`) what each asks of its link.
 //!
 //! Whole runs over links in memory, with what they send and print, are tests of `tool_trials` (`src/tests/links`).
 //!
@@ -26,9 +25,11 @@ mod fault;
 mod history;
 pub mod laws;
 mod link;
+mod log;
 mod memory;
 mod search;
 mod serving;
+mod socket;
 mod udp;
 
 pub use call::{run_read, run_write};
@@ -36,7 +37,9 @@ pub use datagram::{DATAGRAM_OCTETS, Datagram};
 pub use ending::{Exit, Purpose, status};
 pub use fault::ToolFault;
 pub use link::{Link, LinkFault};
+pub use log::{CallNote, Log};
 pub use memory::{MemoryLink, Step};
 pub use search::run_whois;
 pub use serving::serve;
+pub use socket::{Socket, SystemSocket};
 pub use udp::{Refused, UdpLink};

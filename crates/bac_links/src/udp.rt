@@ -1,6 +1,6 @@
 //! A link over a UDP socket.
-ghost use Rattle.std.specs.Prelude.{◌≡◌, ◌+◌, ◌*◌, [], None, IfOk, IfNone, IfSome, MatchOption, OnOk, OnErr, Ok};
-ghost use Rattle.std.specs.Prelude.{false, is_err, max, vec_len};
+ghost use Rattle.std.specs.Prelude.{◌≡◌, ◌≢◌, ◌+◌, ◌*◌, ◌++◌, [], None, IfOk, IfNone, IfSome, MatchOption, OnOk, OnErr};
+ghost use Rattle.std.specs.Prelude.{Ok, false, is_ok, is_err, max, vec_len};
 ghost use Rattle.std.specs.Duration.{as_nanos};
 ghost use Rattle.std.specs.Option.{option_flatten};
 ghost use Rattle.std.specs.Result.{result_ok};
@@ -8,17 +8,19 @@ ghost use Rattle.bac_pdu.specs.Peer.{station};
 ghost use Rattle.bac_links.specs.Limits.{longest_datagram};
 ghost use Rattle.bac_links.specs.Foretold.{heard_by};
 ghost use Rattle.bac_links.specs.History.{Waited, Timed, Gains, posted, remembering};
-ghost use Rattle.bac_links.specs.Inner.Socket.{IsAddressOf, heard_from, is_quiet, peer_at, time_by};
+ghost use Rattle.bac_links.specs.Socket.{IsAddressOf, heard_from, is_quiet, peer_at, time_by};
+ghost use Rattle.bac_links.specs.Socket.{Logs, Binds, Sends, Times, Waits, limits};
 
 use crate::datagram::{DATAGRAM_OCTETS, Datagram};
 use crate::history::History;
 use crate::link::{Link, LinkFault};
+use crate::socket::{Socket, SystemSocket};
 use bac_pdu::Peer;
 use std::alloc::Global;
 use std::io;
 use std::io::ErrorKind;
-use std::net::{Ipv4Addr, Net, SocketAddr, SocketAddrV4, UdpSocket};
-use std::time::{Clock, Duration, Instant};
+use std::net::{Ipv4Addr, Net, SocketAddr, SocketAddrV4};
+use std::time::{Clock, Duration};
 
 // One octet more than a datagram may have, so that a longer one is seen.
 const BUFFER_OCTETS: usize = DATAGRAM_OCTETS + 1;
@@ -33,15 +35,11 @@ pub enum Refused {
     IsLost,
 }
 
-/// A link over a UDP socket. Its time is milliseconds since it was made.
+/// A link over a UDP socket. Its time is milliseconds since the socket was made.
 #[derive(Drop)]
-pub struct UdpLink<R: Clock + Drop> {
-    rt: R,
-    // Where the system was asked for it.
-    at: Peer,
-    socket: UdpSocket,
+pub struct UdpLink<S: Socket + Drop> {
+    socket: S,
     buffer: Vec<u8>,
-    made: Instant,
     time: u64,
     // The time limit that the socket has, 0 before the first.
     wait_ms: u32,
@@ -52,16 +50,16 @@ pub struct UdpLink<R: Clock + Drop> {
     ghost room: { vec_len buffer ≡ longest_datagram + 1 },
 }
 
-impl<R: Net + Clock + Clone + Drop> UdpLink<R> {
+impl<R: Net + Clock + Clone + Drop> UdpLink<SystemSocket<R>> {
     /// A socket at this address, or at a free port of it where the port is 0. A send that the system refuses fails.
     ///
     /// # Errors
     ///
     /// `LinkFault` where there is no such socket to be had, no memory, or no clock.
     pub fn bind(rt: &R, alloc: Global, at: Peer) -> Result<Self, LinkFault>
-        ensures sound { IfOk result (λ link. ⟦<UdpLink<R> as Link>⟧.has_failed link ≡ false) }
+        ensures sound { IfOk result (λ link. ⟦<UdpLink<SystemSocket<R>> as Link>⟧.has_failed link ≡ false) }
         ensures refused { IfOk result (λ link. link.refused ≡ Refused.Fails) }
-        ensures at { IfOk result (λ link. link.at ≡ at) }
+        ensures at { IfOk result (λ link. Binds at link.socket.log.calls) }
         ensures begun { IfOk result (λ link. (link.time ≡ 0) × (link.wait_ms ≡ 0) × (link.history.entries ≡ [])) }
     {
         Self::bind_with(rt, alloc, at, Refused::Fails)
@@ -73,21 +71,30 @@ impl<R: Net + Clock + Clone + Drop> UdpLink<R> {
     ///
     /// `LinkFault` where there is no such socket to be had, no memory, or no clock.
     pub fn bind_with(rt: &R, alloc: Global, at: Peer, refused: Refused) -> Result<Self, LinkFault>
-        ensures sound { IfOk result (λ link. ⟦<UdpLink<R> as Link>⟧.has_failed link ≡ false) }
+        ensures sound { IfOk result (λ link. ⟦<UdpLink<SystemSocket<R>> as Link>⟧.has_failed link ≡ false) }
         ensures refused { IfOk result (λ link. link.refused ≡ refused) }
-        ensures at { IfOk result (λ link. link.at ≡ at) }
+        ensures at { IfOk result (λ link. Binds at link.socket.log.calls) }
         ensures begun { IfOk result (λ link. (link.time ≡ 0) × (link.wait_ms ≡ 0) × (link.history.entries ≡ [])) }
     {
-        // Its duplicate has a descriptor past those of the standard streams, also where one of these is closed.
-        let bound = UdpSocket::bind(rt, address_of(at)).map_err(|_| LinkFault)?;
-        let socket = bound.try_clone().map_err(|_| LinkFault)?;
-        let made = Instant::now(rt).map_err(|_| LinkFault)?;
+        Self::over(SystemSocket::bind(rt, address_of(at))?, alloc, refused)
+    }
+}
+
+impl<S: Socket + Drop> UdpLink<S> {
+    /// A link over this socket, whose receives have no time limit yet.
+    ///
+    /// # Errors
+    ///
+    /// `LinkFault` where there is no memory.
+    pub fn over(socket: S, alloc: Global, refused: Refused) -> Result<Self, LinkFault>
+        ensures sound { IfOk result (λ link. ⟦<UdpLink<S> as Link>⟧.has_failed link ≡ false) }
+        ensures refused { IfOk result (λ link. link.refused ≡ refused) }
+        ensures socket { IfOk result (λ link. link.socket ≡ socket) }
+        ensures begun { IfOk result (λ link. (link.time ≡ 0) × (link.wait_ms ≡ 0) × (link.history.entries ≡ [])) }
+    {
         Ok(UdpLink {
-            rt: rt.clone().map_err(|_| LinkFault)?,
-            at,
             socket,
             buffer: vec![in alloc; 0; BUFFER_OCTETS].map_err(|_| LinkFault)?,
-            made,
             time: 0,
             wait_ms: 0,
             refused,
@@ -95,16 +102,19 @@ impl<R: Net + Clock + Clone + Drop> UdpLink<R> {
             history: History::new(),
         })
     }
-}
 
-impl<R: Clock + Drop> UdpLink<R> {
     // The socket waits at most so long from now on. The system is asked only where that is another time than before.
     fn limit_wait(&mut self, wait_ms: u32) -> io::Result<()>
-        ensures ok { OnOk result (self.new ≡ record self.old { wait_ms = wait_ms }) }
-        ensures err { OnErr result (self.new ≡ self.old) }
+        ensures limited { OnOk result (self.new.wait_ms ≡ wait_ms) }
+        ensures unlimited { OnErr result (wait_ms ≢ self.old.wait_ms) }
+        ensures failed { self.new.failed ≡ self.old.failed }
+        ensures history { self.new.history ≡ self.old.history }
+        ensures left { (self.new.refused ≡ self.old.refused) × (self.new.time ≡ self.old.time) }
+        ensures asked { S.log self.new.socket
+            ≡ S.log self.old.socket ++ limits self.old.wait_ms wait_ms (is_ok result) }
     {
         if wait_ms != self.wait_ms {
-            self.socket.set_read_timeout(Some(wait_of(wait_ms)))?;
+            self.socket.set_read_timeout(wait_of(wait_ms))?;
             self.wait_ms = wait_ms;
         }
         Ok(())
@@ -114,11 +124,12 @@ impl<R: Clock + Drop> UdpLink<R> {
     fn next_datagram(&mut self, wait_ms: u32, datagram: &mut Datagram) -> io::Result<Option<Peer>>
         ensures failed { self.new.failed ≡ self.old.failed }
         ensures history { self.new.history ≡ self.old.history }
-        ensures left { (self.new.refused ≡ self.old.refused) × (self.new.made ≡ self.old.made)
-            × (self.new.time ≡ self.old.time) }
+        ensures left { (self.new.refused ≡ self.old.refused) × (self.new.time ≡ self.old.time) }
         ensures limited { OnOk result (self.new.wait_ms ≡ max wait_ms 1) }
         ensures plain { IfOk result (λ heard. IfSome heard (λ from. from.route ≡ None)) }
         ensures kept { IfNone (option_flatten (result_ok result)) (datagram.new ≡ datagram.old) }
+        ensures asked { Logs (Waits self.old.refused self.old.wait_ms (max wait_ms 1) (heard_by result datagram.new))
+            (S.log self.old.socket) (S.log self.new.socket) }
     {
         self.limit_wait(wait_ms.max(1))?;
         match self.socket.recv_from(&mut self.buffer) {
@@ -138,7 +149,7 @@ fn wait_of(wait_ms: u32) -> Duration
 
 // The time of the link, by what its clock says has passed.
 fn time_by(passed: io::Result<Duration>, before: u64) -> u64
-    ensures { result ≡ time_by passed before }
+    ensures { result ≡ time_by (result_ok passed) before }
 {
     match passed {
         Ok(passed) => u64::try_from(passed.as_millis()).unwrap_or(u64::MAX),
@@ -195,7 +206,7 @@ fn peer_of(address: SocketAddr) -> Option<Peer>
     }
 }
 
-impl<R: Clock + Drop> Link for UdpLink<R> {
+impl<S: Socket + Drop> Link for UdpLink<S> {
     ghost seen = { λ link. remembering link.history.entries };
 
     ghost has_failed = { λ link. link.failed };
@@ -204,7 +215,10 @@ impl<R: Clock + Drop> Link for UdpLink<R> {
         requires { self.old.failed ≡ false }
         ensures fault { self.new.failed ≡ is_err result }
         ensures lost { self.old.refused ≡ Refused.IsLost → result ≡ Ok tt }
-        ensures left { self.new ≡ record self.old { failed = is_err result; history = self.new.history } }
+        ensures left { (self.new.refused ≡ self.old.refused) × (self.new.time ≡ self.old.time)
+            × (self.new.wait_ms ≡ self.old.wait_ms) }
+        ensures asked { Logs (Sends self.old.refused to octets.now (is_ok result))
+            (S.log self.old.socket) (S.log self.new.socket) }
         ensures told { Gains (posted result (station to) octets.now) (remembering self.old.history.entries)
             (remembering self.new.history.entries) }
     {
@@ -226,8 +240,9 @@ impl<R: Clock + Drop> Link for UdpLink<R> {
         ensures plain { IfOk result (λ heard. IfSome heard (λ from. from.route ≡ None)) }
         ensures kept { IfNone (option_flatten (result_ok result)) (datagram.new ≡ datagram.old) }
         ensures limited { OnOk result (self.new.wait_ms ≡ max wait_ms 1) }
-        ensures left { (self.new.refused ≡ self.old.refused) × (self.new.made ≡ self.old.made)
-            × (self.new.time ≡ self.old.time) }
+        ensures left { (self.new.refused ≡ self.old.refused) × (self.new.time ≡ self.old.time) }
+        ensures asked { Logs (Waits self.old.refused self.old.wait_ms (max wait_ms 1) (heard_by result datagram.new))
+            (S.log self.old.socket) (S.log self.new.socket) }
         ensures told { Gains (Waited wait_ms (heard_by result datagram.new)) (remembering self.old.history.entries)
             (remembering self.new.history.entries) }
     {
@@ -243,11 +258,13 @@ impl<R: Clock + Drop> Link for UdpLink<R> {
     }
 
     fn now(&mut self) -> u64
-        ensures left { self.new ≡ record self.old { time = result; history = self.new.history } }
+        ensures left { (self.new.refused ≡ self.old.refused) × (self.new.failed ≡ self.old.failed)
+            × (self.new.wait_ms ≡ self.old.wait_ms) × (self.new.time ≡ result) }
+        ensures asked { Logs (Times self.old.time result) (S.log self.old.socket) (S.log self.new.socket) }
         ensures told { Gains (Timed result) (remembering self.old.history.entries)
             (remembering self.new.history.entries) }
     {
-        self.time = time_by(self.made.elapsed(&self.rt), self.time);
+        self.time = time_by(self.socket.elapsed(), self.time);
         self.history = self.history.and_time(self.time);
         self.time
     }

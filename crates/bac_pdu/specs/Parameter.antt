@@ -12,7 +12,8 @@ pub data Parameter : Type 0 where
   numbered : ℕ → ℕ → Parameter
   value : List ℕ → Parameter
 
--- The object stands under tag 0. The value is a list of whole items between two tags 3.
+-- The octets of a parameter: an object stands under tag 0, a number under its own tag, and a value is a list of whole
+-- items between two tags 3.
 abbrev pub SpellsParameter : List ℕ → Parameter → Type 0
 SpellsParameter octets (object id) = SpellsIn values.object 0 octets id
 SpellsParameter octets (numbered tag n) = SpellsIn values.enumerated tag octets n

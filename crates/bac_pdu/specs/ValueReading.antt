@@ -15,7 +15,7 @@ who_is_of body = do
   high ← number_at 1 low.1
   whole_of (limits.Range low.0 high.0) high.1
 
--- What the body of an I-Am says.
+-- What the body of an I-Am says, where its object is a device.
 unfoldable pub introduction_of : List ℕ → Option Introduction
 introduction_of body = do
   device ← kind_at object_in body

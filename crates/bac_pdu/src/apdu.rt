@@ -162,8 +162,8 @@ fn read_parts(first: u8, octets: &[u8]) -> Option<(Option<Part>, u8, &[u8])>
     Some((Some(part), *service, body))
 }
 
-/// Appends the APDU, with 0 in each bit that is not looked at. `Full`, with the frame unchanged, only where there is no
-/// room for it.
+/// Appends the APDU, with 0 in each bit that is not looked at. It must be no SegmentACK, and a code must be below 16.
+/// `Full`, with the frame unchanged, only where there is no room for it.
 #[inline(always)]
 pub fn write_apdu(frame: &mut Frame, apdu: &Apdu<'_>) -> Result<(), Full>
     requires { IsWritable (message apdu.now) }

@@ -119,8 +119,8 @@ fn append_limits(frame: &mut Frame, who: &WhoIs) -> Result<(), Full>
     }
 }
 
-/// Appends the body of an I-Am, each number in its fewest octets. `Full`, with the frame unchanged, only where there is
-/// no room for it.
+/// Appends the body of an I-Am, each number in its fewest octets. The object must be a device. `Full`, with the frame
+/// unchanged, only where there is no room for it.
 pub fn write_iam(frame: &mut Frame, i_am: &IAm) -> Result<(), Full>
     requires { (identifier i_am.now.device).kind ≡ 8 }
     ensures appended { Appends frame.old (i_am_octets (introduction i_am.now)) frame.new result }

@@ -10,7 +10,8 @@ use crate::value::enumerated_and_rest;
 use crate::writing::whole_or_nothing;
 use bac_wire::{Frame, Full, Value, write_value};
 
-/// The class and the code that the body of an Error begins with (clause 18). What follows is not looked at.
+/// The class and the code that the body of an Error begins with (clause 18). None where no two Enumerateds stand there.
+/// What follows is not looked at.
 #[tactic(auto, unfolding(crate::specs::ValueReading::error_of))]
 pub fn read_error(body: &[u8]) -> Option<(u32, u32)>
     ensures value { result ≡ error_of body.now }

@@ -51,7 +51,7 @@ pub fn in_words()
     ensures error { (body : List ℕ) (x : ℕ × ℕ) → (error_of body ≡ Some x) ↔ IsErrorBody body x }
 {}
 
-/// What is written is read back.
+/// What is written is read back: a datagram for a station without a route, an APDU, and the body of each kind.
 pub fn come_back()
     ensures taken { (from : Station) (expect : Bool) (apdu datagram : List ℕ)
         → Takes None expect apdu datagram → carried from datagram
@@ -83,7 +83,7 @@ pub fn wrapped_round()
     ensures parts { (a : Answer) → ack_octets a ≡ (ack_front a.reference ++ a.value) ++ ack_end }
 {}
 
-/// Octets are one thing of each kind at most.
+/// Octets are one thing of each kind at most, and a datagram takes one APDU to a station at most.
 pub fn one_record()
     ensures delivery { (from : Station) → IsSingle (Carries from) }
     ensures taken { (to : Option NetworkAddress) (expect : Bool)

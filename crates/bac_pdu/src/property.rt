@@ -137,7 +137,8 @@ pub fn read_write(body: &[u8]) -> Result<WriteRequest<'_>, RejectReason>
     })
 }
 
-/// The property and the value that the body of a ReadProperty-ACK is. None where the body is not whole.
+/// What the body of a ReadProperty-ACK says: a property, and its value. None where the body is not whole, or where more
+/// follows.
 #[tactic(auto, using(crate::proofs::ReadLaws::value_there), unfolding(crate::specs::PropertyReading::ack_of))]
 pub fn read_ack(body: &[u8]) -> Option<Ack<'_>>
     ensures value { option_map answer result ≡ ack_of body.now }
@@ -179,8 +180,8 @@ pub fn write_read(frame: &mut Frame, request: &ReadRequest) -> Result<(), Full>
     whole_or_nothing(frame, start, appended)
 }
 
-/// Appends the body of a ReadProperty-ACK, each number in its fewest octets. `Full`, with the frame unchanged, only
-/// where there is no room for it.
+/// Appends the body of a ReadProperty-ACK, each number in its fewest octets. The value must be whole items, with at
+/// most 32 opening tags open at once. `Full`, with the frame unchanged, only where there is no room for it.
 pub fn write_ack(frame: &mut Frame, ack: &Ack<'_>) -> Result<(), Full>
     requires { IsRegion deepest ack.now.value.now }
     ensures appended { Appends frame.old (ack_octets (answer ack.now)) frame.new result }
@@ -206,8 +207,9 @@ fn append_ack(frame: &mut Frame, ack: &Ack<'_>) -> Result<(), Full>
     append_enclosed(frame, ack.value)
 }
 
-/// Appends the body of a WriteProperty, the second `write`, each number in its fewest octets. `Full`, with the frame
-/// unchanged, only where there is no room for it.
+/// Appends the body of a WriteProperty, the second `write`, each number in its fewest octets. The value must be whole
+/// items, with at most 32 opening tags open at once, and a priority 1 to 16. `Full`, with the frame unchanged, only
+/// where there is no room for it.
 pub fn write_write(frame: &mut Frame, request: &WriteRequest<'_>) -> Result<(), Full>
     requires region { IsRegion deepest request.now.value.now }
     requires priority { IfSome request.now.priority IsPriority }

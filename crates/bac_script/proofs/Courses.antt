@@ -1,18 +1,16 @@
 -- The course of a script, line after line.
 use Rattle.std.proofs.Common.{◌≡◌, ℕ, ◌+◌, Bool, true, List, [], ◌∷◌, ◌++◌, length, Option, Some, None, Result, Ok, Err}
 use Rattle.std.proofs.Common.{refl, sym, ◌∙◌, ap, subst, append_assoc, arith}
-use Rattle.std.specs.Prelude.{◌&&◌, slice_get, option_map, MatchOption}
+use Rattle.std.specs.Prelude.{◌&&◌, MatchOption}
 use Rattle.std.specs.Option.{option_map_or}
 use Rattle.std.specs.Result.{result_ok}
-use Rattle.std.specs.List.{list_all}
-use Rattle.std.proofs.Math.Bool.{and_assoc, and-true}
 use Rattle.bac_script.specs.declared.input.Reading.{Reading}
 use Rattle.bac_script.specs.declared.line.LineFault.{LineFault}
 use Rattle.bac_script.specs.declared.tracing.TraceEnd.{TraceEnd}
 use Rattle.bac_script.specs.declared.tracing.TraceFault.{TraceFault}
 use Rattle.bac_script.specs.Line.{Said, said}
 use Rattle.bac_script.specs.Inner.Running.{Stage, ran}
-use Rattle.bac_script.specs.Script.{lines, is_nothing, said_from, all_said, text_of, fault_at}
+use Rattle.bac_script.specs.Script.{lines, is_nothing, said_from, all_said, text_of, fault_at, fault_from}
 use Rattle.bac_script.specs.Script.{first_fault, text, EndsAs}
 use Rattle.bac_script.proofs.Machine.{first_stage, text_from, text_is}
 use Rattle.bac_script.proofs.Settled.{settings_first}
@@ -36,7 +34,7 @@ behind_both xs ys later =
 abbrev pub and_on : Stage → ℕ → Result Said LineFault → (Said → Course) → Course
 and_on stage count (Ok one) later = behind (ran stage one).text (later one)
 and_on stage count (Err fault) later =
-    record { text = []; fault = Some (fault_at (count + 1) (Err fault)); count = count }
+    record { text = []; fault = Some (fault_at (count + 1) fault); count = count }
 
 -- The course of these lines from a stage on, behind so many others.
 abbrev pub course : Stage → Bool → ℕ → List (List ℕ) → Course
@@ -53,19 +51,17 @@ course_on stage is_first count later one = course (ran stage one).after (is_firs
 abbrev pub whole : List (List ℕ) → Course
 whole all = course first_stage true 0 all
 
--- What a course is, by what its lines say up to the first fault: `number` is that of the line behind these.
+-- What a course is, by what its lines say up to the first fault.
 record IsCourse (stage : Stage) (is_first : Bool) (count : ℕ) (all : List (List ℕ)) (says : List Said)
     (c : Course) : Type 0 where
   text : c.text ≡ text_from stage says
-  fault : (number : ℕ) (still : Bool) → number ≡ count + length says + 1
-      → still ≡ (is_first && list_all is_nothing says) →
-      c.fault ≡ option_map (λ line. fault_at number (said still line)) (slice_get all (length says))
+  fault : c.fault ≡ fault_from is_first (count + 1) all
   counted : c.fault ≡ None → c.count ≡ count + length all
 
 is_course : (all : List (List ℕ)) (stage : Stage) (is_first : Bool) (count : ℕ)
     → IsCourse stage is_first count all (said_from is_first all) (course stage is_first count all)
 is_course [] stage is_first count =
-    record { text = refl; fault = λ number still n b. refl; counted = λ none. omega arith }
+    record { text = refl; fault = refl; counted = λ none. omega arith }
 is_course (line ∷ later) stage is_first count =
     go (said is_first line) refl (λ one. is_course later (ran stage one).after (is_first && is_nothing one) (count + 1))
   where
@@ -78,17 +74,12 @@ is_course (line ∷ later) stage is_first count =
         (and_on stage count s (course_on stage is_first count later))
     go (Ok one) is h = record {
       text = ap (λ (xs : List ℕ). (ran stage one).text ++ xs) (h one).text;
-      fault = λ number still n b.
-          (h one).fault number still (omega arith) (b ∙ sym (and_assoc is_first (is_nothing one) _));
+      fault = rw is (h one).fault;
       counted = λ none. let more = (h one).counted none in omega (arith, more);
     }
     go (Err fault) is h = record {
       text = refl;
-      fault = λ number still n b.
-          let here : count + 1 ≡ number = omega arith in
-          ap (λ (k : ℕ). Some (fault_at k (Err fault))) here
-          ∙ ap (λ (s : Result Said LineFault). Some (fault_at number s))
-          (sym (ap (λ (first : Bool). said first line) (b ∙ and-true is_first) ∙ is));
+      fault = rw is refl;
       counted = λ none. absurd (cc);
     }
 
@@ -97,8 +88,7 @@ runs_text all = (is_course all first_stage true 0).text ∙ sym (text_is (all_sa
 
 -- The fault of a script is that of its course.
 pub fault_is : (all : List (List ℕ)) → (whole all).fault ≡ first_fault all
-fault_is all = (is_course all first_stage true 0).fault (length (all_said all) + 1) (list_all is_nothing (all_said all))
-    (omega arith) refl
+fault_is all = (is_course all first_stage true 0).fault
 
 -- The whole text was written, and the answer is the first fault, or how the input ended.
 abbrev pub RunsWhole : List ℕ → Reading → List ℕ → Result TraceEnd TraceFault → Type 0

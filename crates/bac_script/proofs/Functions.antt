@@ -1,6 +1,6 @@
 -- A script is a function of its octets and of whether they ended.
 use Rattle.std.proofs.Common.{◌≡◌, ◌≢◌, ◌⊎◌, ℕ, List, [], ◌∷◌, ◌++◌, length, Option, Some, None, Result, Ok, Err, refl}
-use Rattle.std.proofs.Common.{sym, ◌∙◌, ap, inl, inr, arith}
+use Rattle.std.proofs.Common.{sym, ◌∙◌, ap, inl, inr, arith, append_assoc}
 use Rattle.std.specs.Prelude.{MatchOption}
 use Rattle.std.proofs.lemmas.List.{append-nil}
 use Rattle.bac_text.specs.declared.checked.Checked.{Checked}
@@ -14,6 +14,7 @@ use Rattle.bac_script.specs.Input.{ReaderStands}
 use Rattle.bac_script.specs.Script.{lines, text, text_of, all_said, first_fault, EndsAs, Runs}
 use Rattle.bac_script.specs.Tracing.{Traces}
 use Rattle.bac_script.proofs.Courses.{RunsWhole}
+use Rattle.bac_script.proofs.Fronts.{text_front}
 use Rattle.bac_script.specs.Alike.{IsFrontOf, AreAlike}
 
 -- How often reading met the end.
@@ -129,3 +130,32 @@ traces_alike {remaining = remaining} {remaining' = remaining'} reader other_read
     rw (run.took.passed, other.took.passed)
     (runs_alike other.given run.reading other.reading alike run.written other.written answer other_answer
     (rw (← given) run.runs) other.runs)
+
+-- A run whose reader gave less, and did not end, wrote a front of what a whole one wrote.
+pub traces_front : {R S V W : Type 0} {remaining : R → Option (List ℕ)} {remaining' : S → Option (List ℕ)}
+    {contents : V → Option (List ℕ)} {contents' : W → Option (List ℕ)}
+    (reader : R) (other_reader : S) (reader' : Checked R) (other_reader' : Checked S) (writer : V) (other_writer : W)
+    (writer' : Checked V) (other_writer' : Checked W)
+    (answer other_answer : Result TraceEnd TraceFault)
+    → Traces remaining contents (fresh reader) reader' (fresh writer) writer' answer →
+    Traces remaining' contents' (fresh other_reader) other_reader' (fresh other_writer) other_writer' other_answer →
+    IsFrontOf (octets_of reader') (octets_of other_reader') → ends_of reader' ≡ 0 → other_answer ≢ Err WriteFailed
+    → IsFrontOf (octets_of writer') (octets_of other_writer')
+traces_front {remaining = remaining} reader other_reader reader' other_reader' writer other_writer writer' other_writer'
+    answer other_answer run other less unended whole =
+    let front = front_of run.given run.reading run.written answer run.runs in
+    let lines_are = same_lines run.given run.reading Open
+    (sym (ends_are remaining run.reading reader reader' run.read.stopped) ∙ unended) in
+    let open_text : text run.given Open ≡ run.written ++ front.0 =
+    ap (λ (all : List (List ℕ)). text_of (all_said all)) (sym lines_are) ∙ front.1 in
+    let given : other.given ≡ run.given ++ less.0 =
+    sym other.read.gave.passed ∙ less.1 ∙ ap (λ (xs : List ℕ). xs ++ less.0) run.read.gave.passed in
+    let more = text_front run.given less.0 other.reading in (
+      front.0 ++ more.0,
+      other.took.passed
+          ∙ (whole_of other.given other.reading other.written other_answer whole other.runs).0
+          ∙ ap (λ (xs : List ℕ). text xs other.reading) given ∙ more.1
+          ∙ ap (λ (xs : List ℕ). xs ++ more.0) open_text
+          ∙ append_assoc run.written front.0 more.0
+          ∙ ap (λ (xs : List ℕ). xs ++ (front.0 ++ more.0)) (sym run.took.passed),
+    )

@@ -5,4 +5,5 @@ pub mod Machine
 pub mod Settled
 pub mod Courses
 pub mod SoFar
+pub mod Fronts
 pub mod Functions

@@ -24,8 +24,8 @@ use Rattle.bac_script.specs.Line.{Said, said}
 use Rattle.bac_script.specs.Inner.Running.{Stage, Stands, new_client, device_with, ran}
 use Rattle.bac_script.specs.Script.{lines, is_nothing, fault_at, first_fault, text, Runs}
 use Rattle.bac_text.specs.Page.{held as on_page, writer_of, Writes, Wrote, Prints}
-use Rattle.bac_script.specs.Tracing.{Traces, IsToldFirst}
-use Rattle.bac_script.specs.Inner.Tracing.{IsNeeded, RunsOn}
+use Rattle.bac_script.specs.Tracing.{Traces, IsNeeded, IsToldFirst}
+use Rattle.bac_script.specs.Inner.Tracing.{RunsOn}
 use Rattle.bac_script.proofs.Pieces.{NextLine, next_ended, next_long, next_last, lines-rest, lines-last, lines-ended}
 use Rattle.bac_script.proofs.Pieces.{said-whole_long}
 use Rattle.bac_script.proofs.Taken.{Takes-more, Takes-front, further}
@@ -125,8 +125,8 @@ one_empty_read AtEnd = omega arith
 one_empty_read Failed = omega arith
 
 fault_runs : (octets : List ℕ) (reading : Reading) (text : List ℕ) (number : ℕ) (fault : LineFault)
-    → RunsWhole octets reading text (Err (fault_at number (Err fault))) →
-    Runs octets reading text (Err (fault_at number (Err fault)))
+    → RunsWhole octets reading text (Err (fault_at number fault)) →
+    Runs octets reading text (Err (fault_at number fault))
 fault_runs octets reading text number Bad runs = runs
 fault_runs octets reading text number TooLong runs = runs
 
@@ -303,15 +303,15 @@ module _ {R W : Type 0} {remaining : R → Option (List ℕ)} {contents : W → 
   -- A line stops it.
   pub faulty : (fault : LineFault) → reading ≢ Failed → IsLineCut reading line → 0 < length line
       → said is_first line ≡ Err fault →
-      RunsOn remaining contents reader reader' page kept (Err (fault_at (count + 1) (Err fault)))
+      RunsOn remaining contents reader reader' page kept (Err (fault_at (count + 1) fault))
   faulty fault going cut some bad =
       let next = NextLine-from remaining reading middle reader' line rest cut stands going some in
       let at = next.same is_first ∙ bad in
-      stops (Err (fault_at (count + 1) (Err fault))) (prints_nothing kept) (s.printed ⨾ handed)
+      stops (Err (fault_at (count + 1) fault)) (prints_nothing kept) (s.printed ⨾ handed)
       (fault_runs octets_now reading (s.text ++ []) (count + 1) fault
       (runs_as octets_now reading
-      (record { text = s.text ++ []; fault = Some (fault_at (count + 1) (Err fault)); count = count })
-      (Err (fault_at (count + 1) (Err fault)))
+      (record { text = s.text ++ []; fault = Some (fault_at (count + 1) fault); count = count })
+      (Err (fault_at (count + 1) fault))
       (left (next.whole ∷ next.others) next.split
       ∙ ap (λ (r : Result Said LineFault).
       behind s.text (and_on s.stage count r (course_on s.stage is_first count next.others))) at) refl))

@@ -1,10 +1,10 @@
 -- A script as a whole: its lines, what they say, what is printed for them, and how it ends.
 use Rattle.std.specs.Prelude.{◌≡◌, ℕ, suc, ◌+◌, Bool, true, false, ◌&&◌, ◌||◌, ◌==◌, nat_lt, List, [], ◌∷◌, ◌++◌}
-use Rattle.std.specs.Prelude.{length, filter, slice_get, Option, Result, Ok, Err, option_map, if◌then◌else◌}
+use Rattle.std.specs.Prelude.{length, filter, Option, Some, None, Result, Ok, Err, if◌then◌else◌}
 use Rattle.std.specs.Prelude.{MatchOption}
 use Rattle.std.specs.Option.{option_map_or}
 use Rattle.std.specs.Result.{result_ok}
-use Rattle.std.specs.List.{onto_first, list_all, flat_map}
+use Rattle.std.specs.List.{onto_first, flat_map}
 use Rattle.bac_tsm.specs.Events.{Event, Note, Rules}
 use Rattle.bac_tsm.specs.Lookahead.{Accepted, accepted, output}
 use Rattle.bac_tsm.specs.Client.{client_rules}
@@ -14,7 +14,7 @@ use Rattle.bac_device.specs.Turns.{Arrival, replies_to}
 use Rattle.bac_script.specs.declared.input.Reading.{Reading}
 use Rattle.bac_script.specs.declared.input.Reading.TheVariants.{Open, AtEnd, Failed}
 use Rattle.bac_script.specs.declared.line.LineFault.{LineFault}
-use Rattle.bac_script.specs.declared.line.LineFault.TheVariants.{TooLong}
+use Rattle.bac_script.specs.declared.line.LineFault.TheVariants.{Bad, TooLong}
 use Rattle.bac_script.specs.declared.tracing.TraceEnd.{TraceEnd}
 use Rattle.bac_script.specs.declared.tracing.TraceFault.{TraceFault}
 use Rattle.bac_script.specs.declared.tracing.TraceFault.TheVariants.{BadLine, LineTooLong, ReadFailed, WriteFailed}
@@ -109,17 +109,26 @@ text_of all = printed (output (rules_in all) (settings_in all).first_ticket (eve
 abbrev pub text : List ℕ → Reading → List ℕ
 text octets reading = text_of (all_said (lines octets reading))
 
--- The fault of the line with this number, which is too long or else bad.
-abbrev pub fault_at : ℕ → Result Said LineFault → TraceFault
-fault_at n (Err TooLong) = LineTooLong n
-fault_at n _ = BadLine n
+-- The fault of the line with this number.
+abbrev pub fault_at : ℕ → LineFault → TraceFault
+fault_at n TooLong = LineTooLong n
+fault_at n Bad = BadLine n
 
--- The fault of the first line that is bad or too long, if there is one, with its number from 1: it is the line behind
--- those that say something in the language.
+-- The fault of a line, or, where it says something, that of those behind it.
+abbrev pub fault_or : ℕ → Result Said LineFault → (Said → Option TraceFault) → Option TraceFault
+fault_or n (Ok one) later = later one
+fault_or n (Err fault) later = Some (fault_at n fault)
+
+-- The fault of the first line that is bad or too long, if there is one. The first of these lines has this number; the
+-- flag says whether it may still say settings.
+abbrev pub fault_from : Bool → ℕ → List (List ℕ) → Option TraceFault
+fault_from is_first n [] = None
+fault_from is_first n (line ∷ lines) =
+    fault_or n (said is_first line) (λ one. fault_from (is_first && is_nothing one) (n + 1) lines)
+
+-- The same of a script: its first line has the number 1.
 abbrev pub first_fault : List (List ℕ) → Option TraceFault
-first_fault all =
-    option_map (λ line. fault_at (length (all_said all) + 1) (said (list_all is_nothing (all_said all)) line))
-    (slice_get all (length (all_said all)))
+first_fault lines = fault_from true 1 lines
 
 -- How a script without a fault ends: well at the end of its input, or with `ReadFailed` where its reader failed.
 -- Nothing else ends it.

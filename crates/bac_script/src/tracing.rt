@@ -111,7 +111,7 @@ fn run_script<R: Read, W: Write>(
 
 // The fault of the line with this number.
 fn fault_in_line(fault: LineFault, number: u64) -> TraceFault
-    ensures { result ≡ fault_at number (Err fault) }
+    ensures { result ≡ fault_at number fault }
 {
     match fault {
         LineFault::Bad => TraceFault::BadLine(number),

@@ -58,6 +58,6 @@ routed_peer_of parts = do
   route ← route_of parts.1
   Some (record router { route = Some route })
 
--- A peer, where a slash (47) stands behind a router with a route.
+-- A peer: before a slash (47) a router, and behind it a route; without a slash a peer without a route.
 abbrev pub peer_of : List ℕ → Option Station
 peer_of text = option_map_or routed_peer_of (cut_at 47 text) (plain_peer_of text)

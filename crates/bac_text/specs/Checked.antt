@@ -5,9 +5,15 @@ use Rattle.std.specs.Io.KnownBytes.{Appends, Consumes}
 use Rattle.std.specs.Result.{result_unwrap_or}
 use Rattle.bac_text.specs.declared.checked.Checked.{Checked}
 use Rattle.bac_text.specs.declared.transcript.Transcript.{Transcript}
+use Rattle.bac_text.specs.StreamCall.{StreamCall}
 
+-- The reader or writer within.
 abbrev pub inner_of : {T : Type 0} → Checked T → T
-inner_of checked = checked.inner
+inner_of checked = checked.inner.stream
+
+-- The calls of the reader or writer within so far, each with what it answered.
+abbrev pub calls_of : {T : Type 0} → Checked T → List StreamCall
+calls_of checked = checked.inner.transcript.calls
 
 abbrev pub has_failed : {T : Type 0} → Checked T → Bool
 has_failed checked = checked.failed
@@ -25,24 +31,29 @@ reads_of checked = checked.reads
 
 -- The octets that passed: what a reader gave, or what a writer took.
 abbrev pub octets_of : {T : Type 0} → Checked T → List ℕ
-octets_of checked = checked.transcript.octets
+octets_of checked = checked.inner.transcript.octets
 
 -- The octets that passed by the last read, or the last write.
 abbrev pub last_of : {T : Type 0} → Checked T → List ℕ
-last_of checked = checked.transcript.last
+last_of checked = checked.inner.transcript.last
 
 -- What is known of its reads is as before.
 abbrev pub HasNotRead : {T : Type 0} → Checked T → Checked T → Type 0
 HasNotRead before after = after ≡ record after { ended = before.ended; ends = before.ends; reads = before.reads }
 
--- Nothing passed yet.
+-- Nothing was asked, and nothing passed yet.
 abbrev pub nothing_passed : Transcript
-nothing_passed = record { octets = []; last = [] }
+nothing_passed = record { calls = []; octets = []; last = [] }
 
 -- A checked reader or writer as it is made.
 abbrev pub fresh : {T : Type 0} → T → Checked T
-fresh inner =
-    record { inner = inner; failed = false; ended = false; ends = 0; reads = 0; transcript = nothing_passed }
+fresh stream = record {
+  inner = record { stream = stream; transcript = nothing_passed };
+  failed = false;
+  ended = false;
+  ends = 0;
+  reads = 0;
+}
 
 -- A read gave nothing, though there was room for at least one octet, or a write took nothing of at least one.
 abbrev pub passes_none : {E : Type 0} → Result ℕ E → List ℕ → Bool

@@ -1,4 +1,5 @@
 pub mod Limits
+pub mod StreamCall
 pub mod Checked
 pub mod Page
 pub mod Words

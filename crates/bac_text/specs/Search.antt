@@ -1,9 +1,10 @@
--- What ends a piece of text, and how far it is to the first such octet.
+-- What ends a piece of text.
 use Rattle.std.specs.Prelude.{ℕ, ◌==◌, nat_lt, Bool}
 use Rattle.bac_text.specs.declared.search.End.{End}
 use Rattle.bac_text.specs.declared.search.End.TheVariants.{Blank, At, PastAscii}
 use Rattle.bac_text.specs.Words.{is_blank}
 
+-- The octet ends such a piece.
 abbrev pub ends_at : End → ℕ → Bool
 ends_at Blank = is_blank
 ends_at (At other) = λ octet. octet == other

@@ -1,24 +1,23 @@
 //! Readers and writers that remember whether they failed.
-ghost use Rattle.std.specs.Prelude.{◌≡◌, ◌+◌, ◌-◌, ◌^◌, ◌++◌, ◌||◌, min, is_err};
+ghost use Rattle.std.specs.Prelude.{◌≡◌, ◌+◌, ◌-◌, ◌^◌, [], ◌∷◌, ◌++◌, ◌||◌, length, min, is_err};
 ghost use Rattle.std.specs.Io.{ReadsAtMost, WritesAtMost};
 ghost use Rattle.std.specs.Io.KnownBytes.{ReadConsumes, WriteAppends, Keeps};
-ghost use Rattle.bac_text.specs.Checked.{inner_of, has_failed, has_ended, ends_of, reads_of, octets_of, last_of, gone};
-ghost use Rattle.bac_text.specs.Checked.{HasNotRead, fresh, passes_none, ends_with};
-ghost use Rattle.bac_text.specs.Inner.Checked.{having_passed};
+ghost use Rattle.bac_text.specs.StreamCall.{ReadCall, WriteCall, FlushCall, given};
+ghost use Rattle.bac_text.specs.Checked.{inner_of, calls_of, has_failed, has_ended, ends_of, reads_of, octets_of};
+ghost use Rattle.bac_text.specs.Checked.{last_of, gone, HasNotRead, fresh, passes_none, ends_with};
 
-use crate::transcript::{Part, Transcript};
+use crate::noted::Noted;
 use std::io::{self, Read, Write};
 
 /// A reader or a writer that remembers whether it failed and whether its end was read, and counts its reads and those
 /// of them that gave nothing.
 #[derive(Drop)]
 pub struct Checked<T> {
-    inner: T,
+    inner: Noted<T>,
     failed: bool,
     ended: bool,
     ends: u64,
     reads: u64,
-    transcript: Transcript,
 }
 
 /// The writer failed, or took no octet.
@@ -27,16 +26,15 @@ pub struct WriteFailed;
 
 impl<T> Checked<T> {
     /// The reader or writer as it is before its first read or write.
-    pub fn new(inner: T) -> Self
-        ensures { result ≡ fresh inner }
+    pub fn new(stream: T) -> Self
+        ensures { result ≡ fresh stream }
     {
         Checked {
-            inner,
+            inner: Noted::new(stream),
             failed: false,
             ended: false,
             ends: 0,
             reads: 0,
-            transcript: Transcript::new(),
         }
     }
 
@@ -67,17 +65,6 @@ impl<T> Checked<T> {
     {
         self.reads.min(u64::from(u32::MAX)) as u32
     }
-
-    // Remembers the octets that this read gave, or that this write took.
-    fn remember(&mut self, outcome: &io::Result<usize>, octets: &[u8])
-        ensures { self.new ≡ having_passed (gone outcome.now octets.now) self.old }
-    {
-        let count = match outcome {
-            Ok(count) => *count,
-            Err(_) => 0,
-        };
-        self.transcript = self.transcript.and(&Part { octets, count });
-    }
 }
 
 impl<R: Read> Read for Checked<R> {
@@ -85,7 +72,10 @@ impl<R: Read> Read for Checked<R> {
 
     fn read(&mut self, buf: &mut [u8]) -> io::Result<usize>
         ensures bound { ReadsAtMost result buf.new }
-        ensures bytes { ReadConsumes (R.remaining self.old.inner) (R.remaining self.new.inner) result buf.new }
+        ensures asked { calls_of self.new
+            ≡ calls_of self.old ++ ReadCall (length buf.old) (given result buf.new) ∷ [] }
+        ensures bytes { ReadConsumes (R.remaining (inner_of self.old)) (R.remaining (inner_of self.new))
+            result buf.new }
         ensures failed { has_failed self.new ≡ (has_failed self.old || is_err result) }
         ensures ended { has_ended self.new ≡ passes_none result buf.new }
         ensures ends { ends_of self.new ≡ ends_with (ends_of self.old) (passes_none result buf.new) }
@@ -102,7 +92,6 @@ impl<R: Read> Read for Checked<R> {
         if outcome.is_err() {
             self.failed = true;
         }
-        self.remember(&outcome, buf);
         outcome
     }
 }
@@ -112,7 +101,8 @@ impl<W: Write> Write for Checked<W> {
 
     fn write(&mut self, buf: &[u8]) -> io::Result<usize>
         ensures bound { WritesAtMost result buf.now }
-        ensures bytes { WriteAppends (W.contents self.old.inner) (W.contents self.new.inner) result buf.now }
+        ensures asked { calls_of self.new ≡ calls_of self.old ++ WriteCall buf.now result ∷ [] }
+        ensures bytes { WriteAppends (W.contents (inner_of self.old)) (W.contents (inner_of self.new)) result buf.now }
         ensures failed { has_failed self.new ≡ (has_failed self.old || is_err result || passes_none result buf.now) }
         ensures passed { octets_of self.new ≡ octets_of self.old ++ gone result buf.now }
         ensures last { last_of self.new ≡ gone result buf.now }
@@ -124,12 +114,13 @@ impl<W: Write> Write for Checked<W> {
             Ok(_) => {}
             Err(_) => self.failed = true,
         }
-        self.remember(&outcome, buf);
         outcome
     }
 
     fn flush(&mut self) -> io::Result<()>
-        ensures bytes { Keeps (W.contents self.old.inner) (W.contents self.new.inner) }
+        ensures asked { calls_of self.new ≡ calls_of self.old ++ FlushCall result ∷ [] }
+        ensures passed { (octets_of self.new ≡ octets_of self.old) × (last_of self.new ≡ last_of self.old) }
+        ensures bytes { Keeps (W.contents (inner_of self.old)) (W.contents (inner_of self.new)) }
         ensures reads { self.new ≡ record self.old { inner = self.new.inner } }
     {
         self.inner.flush()

@@ -22,6 +22,7 @@ mod hex_digits;
 mod hex_lanes;
 mod jobs;
 pub mod laws;
+mod noted;
 mod numbers;
 mod page;
 mod pairs;

@@ -22,7 +22,7 @@ pub enum End {
     PastAscii,
 }
 
-/// The position of the first octet that ends a piece, or the length where none does.
+/// The position of the first octet that ends a piece of text, if one does.
 pub fn position_of_end(octets: &[u8], end: End) -> Option<usize>
     ensures { result ≡ position (ends_at end) octets.now }
 {

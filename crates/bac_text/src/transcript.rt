@@ -1,12 +1,16 @@
-//! What passed through a reader or a writer. It exists only in proofs: it takes no memory, and its methods do nothing.
-ghost use Rattle.std.specs.Prelude.{◌≡◌, ◌++◌, ℕ, List, [], take};
+//! What a reader or a writer was asked, and what passed. It exists only in proofs: it takes no memory, and its methods
+//! do nothing.
+ghost use Rattle.std.specs.Prelude.{◌≡◌, ℕ, List};
 ghost use Rattle.std.specs.Borrow.{ftrue};
+ghost use Rattle.bac_text.specs.StreamCall.{StreamCall};
 
+use std::io;
 use std::marker::Model;
 
-/// The octets that passed so far, and those of them that passed last.
+/// The calls so far with their answers, the octets that passed, and those of them that passed last.
 #[derive(Drop)]
 pub(crate) struct Transcript {
+    pub ghost calls: { List StreamCall },
     pub ghost octets: { List ℕ },
     pub ghost last: { List ℕ },
 }
@@ -15,25 +19,28 @@ impl Model for Transcript {
     ghost also_owns = { λ _. ftrue };
 }
 
-/// So many of these octets, from the first.
+/// A call that was made, with its answer: a read into this room, a write of these octets, or a flush.
 #[derive(Clone, Copy, Drop)]
-pub(crate) struct Part<'a> {
-    pub octets: &'a [u8],
-    pub count: usize,
+pub(crate) enum Made<'a> {
+    Read(&'a [u8], &'a io::Result<usize>),
+    Write(&'a [u8], &'a io::Result<usize>),
+    Flush(&'a io::Result<()>),
 }
 
 impl Transcript {
+    ghost use Rattle.bac_text.specs.Checked.{nothing_passed};
+    ghost use Rattle.bac_text.specs.Inner.Checked.{with_call};
+
     /// Nothing passed yet.
     pub fn new() -> Transcript
-        ensures { result ≡ record { octets = []; last = [] } }
+        ensures { result ≡ nothing_passed }
     {
         Transcript {}
     }
 
-    /// The transcript, and these octets behind it.
-    pub fn and(&self, _part: &Part<'_>) -> Transcript
-        ensures { let octets = take _part.now.count _part.now.octets.now in
-            result ≡ record { octets = self.now.octets ++ octets; last = octets } }
+    /// The transcript, and this call behind it.
+    pub fn and(&self, _call: &Made<'_>) -> Transcript
+        ensures { result ≡ with_call _call.now self.now }
     {
         Transcript {}
     }

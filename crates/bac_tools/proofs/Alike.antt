@@ -102,8 +102,8 @@ module _ {V W : Type 0} (contents : V → Option (List ℕ)) (contents' : W → 
   calls : (purpose : Purpose) (call : Call) → Tells purpose call contents (fresh writer) wrote seen left answer
       → Tells purpose call contents' (fresh writer') wrote' seen' left' answer' → Same
   calls purpose call a b =
-      let both = calls_so_far purpose call contents contents' (fresh writer) wrote (fresh writer') wrote' seen left seen'
-      left' answer answer' first rest first' rest' a b gains gains' same in (
+      let both = calls_so_far purpose call contents contents' (fresh writer) wrote (fresh writer') wrote' seen left
+      seen' left' answer answer' first rest first' rest' a b gains gains' same in (
         both.0,
         going (λ r. ⊥) (λ r s. r ≢ Err WriteFailed → s ≢ Err WriteFailed → r ≡ s)
             (OneText contents (fresh writer) wrote contents' (fresh writer') wrote') IsCutOff EndSame PrintSame answer
@@ -279,8 +279,8 @@ module _ {N L R W M K S V : Type 0} {gives : N → Binding → Result L LinkFaul
       (out.seen left) (out'.seen link') (out'.seen left') r.answer s.answer first rest first' rest'
       (gains ∙ ap (λ (xs : List Entry). (out.seen link).history ++ xs) h.gained)
       (gains' ∙ ap (λ (xs : List Entry). (out'.seen link').history ++ xs) h.other_gained) h.answers
-      (IsErrAnd one.program.answer (IsRefusal words) × IsErrAnd other.program.answer (IsRefusal words)) job r.tool s.tool
-      in (
+      (IsErrAnd one.program.answer (IsRefusal words) × IsErrAnd other.program.answer (IsRefusal words)) job r.tool
+      s.tool in (
         both.0,
         subst (λ (x : Report). GoesOn x other.ran.report rest rest') (sym r.reported)
             (subst (λ (y : Report). GoesOn (tool_report r.answer) y rest rest') (sym s.reported) both.1),
@@ -359,7 +359,8 @@ module _ {N L R W M K S V : Type 0} {gives : N → Binding → Result L LinkFaul
 
     abbrev TheirsEnds : Result Job UsageFault → Type 0
     TheirsEnds s =
-        Ends gives' out' other.network (fresh other.reader) other.reader' (fresh other.writer) other.writer' other.ran s o'
+        Ends gives' out' other.network (fresh other.reader) other.reader' (fresh other.writer) other.writer' other.ran s
+        o'
 
     report_here : (fault : UsageFault) → OursEnds (Err fault) → one.ran.report ≡ report_of (faults.Usage fault)
     report_here fault r = ap (λ (x : Ran N L). x.report) r.2

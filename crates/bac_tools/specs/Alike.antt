@@ -38,6 +38,7 @@ CutsOff (Some (faults.Tool tools.WriteFailed)) = ⊤
 CutsOff (Some (faults.Trace stops.WriteFailed)) = ⊤
 CutsOff _ = ⊥
 
+-- The run with this report was.
 abbrev pub IsCutOff : Report → Type 0
 IsCutOff report = CutsOff report.fault
 
@@ -61,8 +62,8 @@ pub record Run {N L R W : Type 0} (gives : N → Binding → Result L LinkFault 
 module _ {N L R W M K S V : Type 0} {gives : N → Binding → Result L LinkFault → Type 0} {out : Outside L R W}
     {gives' : M → Binding → Result K LinkFault → Type 0} {out' : Outside K S V} {words : List Text}
     (one : Run gives out words) (other : Run gives' out' words) where
-  -- Where neither was cut off they have the same report; but where `clap` does not take the words, each tells of help, or
-  -- of words that are refused, by an error that `clap` may give at these.
+  -- Where neither was cut off they have the same report; but where `clap` does not take the words, each tells of help,
+  -- or of words that are refused, by an error that `clap` may give at these.
   abbrev pub EndAlike : Report → Report → Type 0
   EndAlike report other_report = (IsCutOff report → ⊥) → (IsCutOff other_report → ⊥) →
       (report ≡ other_report) ⊎ (IsErrAnd one.program.answer (IsRefusal words)

@@ -2,7 +2,7 @@
 use Rattle.std.specs.Prelude.{ℕ, Bool, List, Option}
 use Rattle.bac_links.specs.History.{Account}
 
--- What a link was asked and what it foretold, and whether it has failed; the octets that a reader has left, and those
+-- What is seen of a link: what it was asked, and whether it has failed; the octets that a reader has left, and those
 -- of a writer, where they are known.
 pub record Outside (L R W : Type 0) : Type 0 where
   pub seen : L → Account

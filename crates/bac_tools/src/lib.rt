@@ -18,8 +18,8 @@ mod report;
 mod running;
 
 pub use bac_links::{
-    DATAGRAM_OCTETS, Datagram, Exit, Link, LinkFault, MemoryLink, Refused, Step, ToolFault,
-    UdpLink, run_read, run_whois, run_write, serve, status,
+    DATAGRAM_OCTETS, Datagram, Exit, Link, LinkFault, MemoryLink, Refused, Socket, Step,
+    SystemSocket, ToolFault, UdpLink, run_read, run_whois, run_write, serve, status,
 };
 pub use bac_script::{TraceEnd, TraceFault, show_outcome, show_value, trace, trace_status};
 pub use bac_text::{Call, Checked, Search, read_peer};

@@ -1,4 +1,3 @@
 mod Deliveries
 mod Lines
 mod Stands
-mod WrittenAlone

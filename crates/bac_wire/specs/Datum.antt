@@ -103,7 +103,8 @@ pub record Spells (spelling : List ℕ) (value : Datum) : Type 0 where
 abbrev pub octet_count : ℕ → ℕ
 octet_count n = unwrap_or (find (λ count. nat_lt n (256 ^ count)) (1 ∷ 2 ∷ 3 ∷ 4 ∷ 5 ∷ 6 ∷ 7 ∷ [])) 8
 
--- The fewest octets that hold the number in two's complement, where the sign takes a bit more.
+-- The same in two's complement, where the sign takes a bit more: of a number n from 0 on it is the count of 2 * n, and
+-- so it is of the negative number -1 - n.
 abbrev pub signed_count : ℤ → ℕ
 signed_count (pos n) = octet_count (2 * n)
 signed_count (negsuc n) = octet_count (2 * n)

@@ -29,7 +29,7 @@ behind_item items depth tag (Context n) rest = behind_count n rest
 behind_item items (suc depth) tag Opening rest = items depth rest >>= behind_closing tag.number
 behind_item items depth tag _ rest = None
 
--- The octets behind the items that begin with this tag. A closing tag begins no item: there it is all octets.
+-- The octets behind the items that begin with this tag. A closing tag begins no item: there all octets are left.
 abbrev pub behind_tag : (ℕ → List ℕ → Option (List ℕ)) → ℕ → List ℕ → Tag → Shape → List ℕ → Option (List ℕ)
 behind_tag items depth octets tag Closing rest = Some octets
 behind_tag items depth octets tag shape rest = behind_item items depth tag shape rest >>= items depth
@@ -41,10 +41,11 @@ behind_tag_found items depth [] None = Some []
 behind_tag_found items depth (x ∷ xs) None = None
 behind_tag_found items depth octets (Some t) = behind_tag items depth octets t.0 t.0.shape t.1
 
--- The octets behind the items at the front, of which there are fewer than this count.
-unfoldable pub behind_items : ℕ → ℕ → List ℕ → Option (List ℕ)
+-- The octets behind the items at the front. Each step takes an item or goes into one; `steps` ends the recursion, and
+-- one more than there are octets is enough (law `regions`, `rest`).
+unfoldable pub behind_items : (steps depth : ℕ) → List ℕ → Option (List ℕ)
 behind_items zero depth octets = None
-behind_items (suc count) depth octets = behind_tag_found (behind_items count) depth octets (tag_at octets)
+behind_items (suc steps) depth octets = behind_tag_found (behind_items steps) depth octets (tag_at octets)
 
 -- The items up to a closing tag of this number, and the octets behind that tag.
 unfoldable pub region_at : ℕ → List ℕ → Option (List ℕ × List ℕ)

@@ -1,7 +1,8 @@
 -- The limits of frames and of regions. The code has constants of the same numbers.
 use Rattle.std.specs.Prelude.{ℕ}
 
--- The octets that a frame has room for, as many as the largest NPDU of BACnet/IP has (ANSI/ASHRAE 135, clause 6).
+-- The octets that a frame has room for: the greatest APDU that a device can announce, which has 1476 (ANSI/ASHRAE 135,
+-- 20.1.2.5), with the headers before it, which have 17 at most, and four octets more.
 abbrev pub frame_room : ℕ
 frame_room = 1497
 

@@ -29,11 +29,11 @@ object_of_contents contents = if length contents == 4 then Some (identifier_of (
 abbrev pub read_as : {A B : Type 0} → (A → Option B) → Option (A × List ℕ) → Option (B × List ℕ)
 read_as taken read = read >>= (λ x. taken x.0 >>= (λ y. Some (y, x.1)))
 
--- The number in one to four octets under this tag.
+-- The number in one to four octets under this tag, and the octets behind it.
 unfoldable pub number_at : ℕ → List ℕ → Option (ℕ × List ℕ)
 number_at number octets = read_as (number_within 4) (context_at number octets)
 
--- The object's identifier under this tag.
+-- The object's identifier under this tag, and the octets behind it.
 unfoldable pub object_at : ℕ → List ℕ → Option (Identifier × List ℕ)
 object_at number octets = read_as object_of_contents (context_at number octets)
 
@@ -48,7 +48,7 @@ opening_of number tag _ rest = None
 unfoldable pub behind_opening : ℕ → List ℕ → Option (List ℕ)
 behind_opening number octets = tag_at octets >>= (λ x. opening_of number x.0 x.0.shape x.1)
 
--- The items between an opening and a closing tag of this number.
+-- The items between an opening and a closing tag of this number, and the octets behind these.
 unfoldable pub enclosed_at : ℕ → List ℕ → Option (List ℕ × List ℕ)
 enclosed_at number octets = behind_opening number octets >>= region_at number
 
@@ -69,6 +69,6 @@ abbrev pub object_in : Datum → Option Identifier
 object_in (object id) = Some id
 object_in _ = None
 
--- The value at the front, where it is of the kind that `in_kind` takes.
+-- The value at the front, where it is of the kind that `in_kind` takes, and the octets behind it.
 unfoldable pub kind_at : {A : Type 0} → (Datum → Option A) → List ℕ → Option (A × List ℕ)
 kind_at in_kind octets = read_as in_kind (value_at octets)

@@ -23,8 +23,8 @@ SpellsLength low (a ∷ b ∷ c ∷ []) n = (low ≡ 5) × (a ≡ 254) × (n ≡
 SpellsLength low (a ∷ b ∷ c ∷ d ∷ e ∷ []) n = (low ≡ 5) × (a ≡ 255) × (n ≡ big_number 4 (b ∷ c ∷ d ∷ e ∷ []))
 SpellsLength low _ n = ⊥
 
--- The low half of the initial octet (20.2.1.1, 20.2.1.3): 8 is the context class, and below it the length, or 6 and 7
--- for the brackets.
+-- The low half of the initial octet (20.2.1.1, 20.2.1.3): its highest bit, which counts 8, says that the class is
+-- context, and the bits below say the length; 14 is an opening tag, and 15 a closing one.
 abbrev pub SpellsShape : ℕ → List ℕ → Shape → Type 0
 SpellsShape low octets (App n) = SpellsLength low octets n
 SpellsShape low octets (Context n) = (8 ≤ low) × SpellsLength (low - 8) octets n

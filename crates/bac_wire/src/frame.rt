@@ -7,10 +7,11 @@ ghost use Rattle.bac_wire.specs.Writing.{Appends};
 use arrayvec::ArrayVec;
 use std::marker::Model;
 
-/// The octets that a frame has room for, as many as the largest NPDU of BACnet/IP has (ANSI/ASHRAE 135, clause 6).
+/// The octets that a frame has room for: the greatest APDU that a device can announce, which has 1,476 (ANSI/ASHRAE
+/// 135, 20.1.2.5), with the headers before it, which have 17 at most, and four octets more.
 pub const FRAME_OCTETS: usize = 1497;
 
-/// The frame has no room for what was to be appended. It is as it was.
+/// The caller's octets don't all fit into the frame. It is as it was.
 #[derive(Clone, Copy, Debug, PartialEq, Eq)]
 pub struct Full;
 

@@ -17,8 +17,9 @@ pub const NESTING: u8 = 32;
 /// The number of the tags round a parameter's value, which are not counted among those.
 const REGION_END: u8 = 3;
 
-/// How many octets at the front are whole items, up to a closing tag 3; `None` where no such tag ends them. Contents
-/// are passed over by their length, so an octet in them ends nothing (ANSI/ASHRAE 135, 20.2.1.3).
+/// How many octets at the front are whole items, up to a closing tag 3; `None` where no such tag stands behind them, or
+/// where more than 32 opening tags are open at once in them. Contents are passed over by their length, so an octet in
+/// them ends nothing (ANSI/ASHRAE 135, 20.2.1.3).
 pub fn region(octets: &[u8]) -> Option<usize>
     ensures { FindsRegion deepest 3 octets.now result }
 {
@@ -27,7 +28,8 @@ pub fn region(octets: &[u8]) -> Option<usize>
     Some(octets.len() - rest.len())
 }
 
-/// Whether the octets are whole items and nothing else. No octets at all are that too.
+/// Whether the octets are whole items and nothing else, with at most 32 opening tags open at once. No octets at all are
+/// that too.
 pub fn is_region(octets: &[u8]) -> bool
     ensures { IsTrue result ↔ IsRegion deepest octets.now }
 {

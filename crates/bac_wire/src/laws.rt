@@ -65,7 +65,8 @@ pub fn regions()
     ensures reading { (number : ℕ) → IsReader (SpellsClosed number) (region_at number) }
 {}
 
-/// Parameters: each function reads what stands under a context tag of its number, and the written forms spell them.
+/// Parameters: each function reads what stands under a context tag of its number, or between an opening and a closing
+/// tag of that number, and the written forms spell them.
 pub fn parameters()
     ensures context { (number : ℕ) → IsReader (SpellsContext number) (context_at number) }
     ensures number { (number : ℕ) → IsReader (SpellsIn enumerated number) (number_at number) }

@@ -60,7 +60,8 @@ impl Value<'_> {
 }
 
 /// The value that begins the input, and how many octets spell it; `None` only where no prefix is a spelling of a value:
-/// at a tag of another number or class, or contents of another length than the kind takes. Nothing is copied.
+/// no tag, one of another number or class, too few octets behind it, or contents that stand for no value of their kind.
+/// Nothing is copied.
 pub fn read_value(octets: &[u8]) -> Option<(Value<'_>, usize)>
     ensures { FindsFront Spells octets.now (option_map (λ x. (datum x.0, x.1)) result) }
 {
@@ -68,7 +69,7 @@ pub fn read_value(octets: &[u8]) -> Option<(Value<'_>, usize)>
     Some((value, octets.len() - rest.len()))
 }
 
-/// Appends the shortest spelling of the value.
+/// The value that begins the input, and the octets behind it; `None` where `read_value` gives none.
 #[tactic(auto, unfolding(crate::specs::DatumReading::value_at))]
 pub fn value_and_rest(octets: &[u8]) -> Option<(Value<'_>, &[u8])>
     ensures { option_map (λ x. (datum x.0, x.1.now)) result ≡ value_at octets.now }

@@ -4,10 +4,12 @@
 ghost use Rattle.std.specs.Prelude.{◌≡◌, ◌⊎◌, [], Err, IfOk};
 ghost use Rattle.std.specs.Process.{exit_status};
 ghost use Rattle.bac_links.specs.declared.fault.ToolFault.TheVariants.{WriteFailed};
+ghost use Rattle.bac_links.specs.Socket.{Binds};
 ghost use Rattle.bac_tools.specs.Report.{IsHelp, tool_report};
 
 use bac_tools::{
-    Binding, Fault, Link, LinkFault, Network, Report, ToolFault, UdpLink, UsageFault, run_program,
+    Binding, Fault, Link, LinkFault, Network, Report, SystemSocket, ToolFault, UdpLink, UsageFault,
+    run_program,
 };
 use std::alloc::Global;
 use std::env;
@@ -34,12 +36,13 @@ struct Sockets<'r, R> {
 }
 
 impl<R: Net + Clock + Clone + Drop> Network for Sockets<'_, R> {
-    type Socket = UdpLink<R>;
+    type Socket = UdpLink<SystemSocket<R>>;
 
     ghost gives = { λ _ binding socket.
-        IfOk socket (λ link. (link.at ≡ binding.at) × (link.refused ≡ binding.refused) × (link.history.entries ≡ [])) };
+        IfOk socket (λ link. Binds binding.at link.socket.log.calls × (link.refused ≡ binding.refused)
+            × (link.history.entries ≡ [])) };
 
-    fn bind(self, binding: Binding) -> Result<UdpLink<R>, LinkFault> {
+    fn bind(self, binding: Binding) -> Result<UdpLink<SystemSocket<R>>, LinkFault> {
         UdpLink::bind_with(self.rt, self.alloc, binding.at, binding.refused)
     }
 }

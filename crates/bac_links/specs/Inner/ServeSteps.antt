@@ -4,7 +4,6 @@ use Rattle.std.specs.Option.{option_to_list}
 use Rattle.std.specs.List.{flat_map}
 use Rattle.bac_pdu.specs.Peer.{Station}
 use Rattle.bac_device.specs.Device.{DeviceState}
-use Rattle.bac_device.specs.Turns.{RepliesInTurn}
 use Rattle.bac_links.specs.Limits.{serve_wait}
 use Rattle.bac_links.specs.Foretold.{Heard, Failure}
 use Rattle.bac_links.specs.History.{Entry, Waited, Posted, Unposted, Account, GainsAll, Gains}
@@ -25,10 +24,9 @@ replied_in Nothing = 0
 replied_in Ignored = 0
 replied_in Answered = 1
 
--- A wait that heard this leaves this device, and these replies.
+-- A wait that heard this leaves this device.
 abbrev pub LeavesDevice : DeviceState → Heard → DeviceState → Type 0
-LeavesDevice before heard after = (after ≡ device_behind before (came_by heard))
-    × RepliesInTurn before (came_by heard) (replies_of before (came_by heard)) after
+LeavesDevice before heard after = after ≡ device_behind before (came_by heard)
 
 -- The sends of these replies.
 abbrev pub sends_of : List (Option (Station × List ℕ)) → List Entry

@@ -1,5 +1,5 @@
 -- A script whose text is still on its way to the writer.
-use Rattle.std.specs.Prelude.{◌≡◌, ◌⊎◌, List, [], ℕ, Option, Result}
+use Rattle.std.specs.Prelude.{List, ℕ, Option, Result}
 use Rattle.bac_text.specs.declared.checked.Checked.{Checked}
 use Rattle.bac_script.specs.declared.input.Reading.{Reading}
 use Rattle.bac_script.specs.declared.tracing.TraceEnd.{TraceEnd}
@@ -7,11 +7,7 @@ use Rattle.bac_script.specs.declared.tracing.TraceFault.{TraceFault}
 use Rattle.bac_text.specs.declared.page.Page.{Page}
 use Rattle.bac_text.specs.Page.{writer_of, Prints}
 use Rattle.bac_script.specs.Script.{Runs}
-use Rattle.bac_script.specs.Tracing.{LastIsNeeded, HasRead, IsToldFirst}
-
--- Nothing was read, or the last read was needed.
-abbrev pub IsNeeded : {R : Type 0} → Checked R → Checked R → List ℕ → Type 0
-IsNeeded reader reader' given = ((reader' ≡ reader) × (given ≡ [])) ⊎ LastIsNeeded reader reader' given
+use Rattle.bac_script.specs.Tracing.{HasRead, IsToldFirst}
 
 -- What `Traces` says, while some of the text may still be on the page: the text that was printed is that of the script,
 -- or, where the writer failed, a front of it.

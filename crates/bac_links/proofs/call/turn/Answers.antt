@@ -30,7 +30,8 @@ returns-in-Err-pass_time-clause-err g c = (
   λ purpose call seen n wait within far.
       let heard = rw (c.in-Ok-None.field-0-is, wait) at c.in-Ok-None.ensures.ok in
       let failed = c.in-Err-pass_time.ensures.err.1 in
-      let ticked = failed.1 (alone purpose call seen _ _ _ n within far heard.0 heard.1 _ heard.2 heard.3.0 heard.3.1) in
+      let ticked = failed.1
+      (alone purpose call seen _ _ _ n within far heard.0 heard.1 _ heard.2 heard.3.0 heard.3.1) in
       rw c.in-Err-pass_time.ensures.err.0
       (unsent purpose call seen _ _ _ n within far heard.0 heard.1 _ heard.2 heard.3.0 heard.3.1 _ failed.0 ticked.0
       ticked.1),

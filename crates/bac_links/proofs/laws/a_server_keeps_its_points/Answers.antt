@@ -3,7 +3,7 @@ use Rattle.std.proofs.lemmas.Bool.{cases_Bool}
 use Rattle.bac_device.specs.Point.{same_object}
 use Rattle.bac_device.specs.Places.{Write, Standing, put}
 use Rattle.bac_device.specs.Device.{DeviceState, points_of}
-use Rattle.bac_device.specs.Reply.{write_of_datagram, with_write}
+use Rattle.bac_device.specs.Reply.{write_in_datagram, with_write}
 use Rattle.bac_device.specs.Turns.{Arrival}
 use Rattle.bac_links.specs.Serve.{arrivals_in, device_next, device_behind}
 use Rattle.bac_links.proofs.laws.a_server_keeps_its_points.Goals as goal
@@ -32,7 +32,7 @@ written device (Some write) = (refl, put_points write device.standings)
 kept : (device : DeviceState) (arrivals : List Arrival) → Keeps device (device_behind device arrivals)
 kept device [] = (refl, refl)
 kept device (arrival ∷ arrivals) =
-    let first = written device (write_of_datagram device arrival.from arrival.datagram) in
+    let first = written device (write_in_datagram device arrival.from arrival.datagram) in
     let later = kept (device_next device arrival) arrivals in
     (later.0 ∙ first.0, later.1 ∙ first.1)
 

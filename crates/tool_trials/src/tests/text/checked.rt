@@ -1,7 +1,8 @@
 //! Readers and writers that fail.
-use crate::tests::streams::{Asked, Progress, telling, with_room};
+use crate::tests::streams::{Asked, Progress, with_room};
 use bac_text::{Checked, WriteFailed, show_value};
-use std::io::{Read, Write};
+use std::cell::Cell;
+use std::io::{self, ErrorKind, Read, Write};
 
 #[test]
 fn a_fresh_reader_has_not_failed(rt: HostRuntime) {
@@ -29,11 +30,80 @@ fn a_full_writer_has_failed_and_a_flush_has_not(rt: HostRuntime) {
     }
 }
 
-// A write that takes none is not made again, though the writer would take it then.
+/// What a stream answers to one call after another: so many octets, or a failure of this kind.
+const ANSWERS: [Result<usize, ErrorKind>; 10] = [
+    Ok(9),
+    Ok(1),
+    Ok(0),
+    Ok(2),
+    Err(ErrorKind::TimedOut),
+    Ok(3),
+    Err(ErrorKind::Interrupted),
+    Ok(0),
+    Err(ErrorKind::WouldBlock),
+    Ok(16),
+];
+
+/// A reader and writer that counts its calls, and answers them so.
+#[derive(Drop)]
+struct Answering<'a> {
+    calls: &'a Cell<usize>,
+}
+
+impl Answering<'_> {
+    fn next(&self) -> io::Result<usize> {
+        let call = self.calls.get();
+        self.calls.set(call.saturating_add(1));
+        match ANSWERS.get(call) {
+            Some(Ok(count)) => Ok(*count),
+            Some(Err(kind)) => Err(io::Error::from(*kind)),
+            None => Err(io::Error::from(ErrorKind::Other)),
+        }
+    }
+}
+
+impl Read for Answering<'_> {
+    fn read(&mut self, buf: &mut [u8]) -> io::Result<usize> {
+        let count = self.next()?.min(buf.len());
+        Ok(count)
+    }
+}
+
+impl Write for Answering<'_> {
+    fn write(&mut self, buf: &[u8]) -> io::Result<usize> {
+        let count = self.next()?.min(buf.len());
+        Ok(count)
+    }
+
+    fn flush(&mut self) -> io::Result<()> {
+        self.next()?;
+        Ok(())
+    }
+}
+
+/// Whether a call with so many octets has this answer of the stream.
+fn is_told(got: io::Result<usize>, answer: &Result<usize, ErrorKind>, octets: usize) -> bool {
+    match (got, answer) {
+        (Ok(count), Ok(answered)) => count == octets.min(*answered),
+        (Err(error), Err(kind)) => error.kind() == *kind,
+        _ => false,
+    }
+}
+
 #[test]
-fn a_write_is_made_once(rt: HostRuntime) {
-    let progress = Progress::default();
-    let mut writer = Checked::new(telling(&progress, b"x", 0, true));
-    assert!(rt; writer.write(b"x").ok() == Some(0) && writer.failed());
-    assert!(rt; progress.writes.get() == 1);
+fn each_call_is_one_of_the_stream_within(rt: HostRuntime) {
+    for octets in 0..=16 {
+        let [reads, writes, flushes] = [Cell::new(0), Cell::new(0), Cell::new(0)];
+        let mut reader = Checked::new(Answering { calls: &reads });
+        let mut writer = Checked::new(Answering { calls: &writes });
+        let mut flushed = Checked::new(Answering { calls: &flushes });
+        let mut room = [0; 16];
+        for (at, answer) in ANSWERS.iter().enumerate() {
+            assert!(rt; is_told(reader.read(&mut room[..octets]), answer, octets), "read {at}");
+            assert!(rt; is_told(writer.write(&room[..octets]), answer, octets), "write {at}");
+            assert!(rt; is_told(flushed.flush().map(|()| 0), answer, 0), "flush {at}");
+            let calls = [reads.get(), writes.get(), flushes.get()];
+            assert!(rt; calls == [at + 1; 3], "after call {at}");
+        }
+    }
 }

@@ -1,4 +1,5 @@
--- `new` picks no octets. A walk by hand: see the head of `Walks`.
+-- `new` picks that nothing was asked. A walk by hand: see the head of `Walks`.
+use Rattle.bac_text.specs.Checked.{nothing_passed}
 use Rattle.bac_text.proofs.Walks.{[], ◌∷◌, refl, proved, raw, ◌$◌, ◌∵◌, !, qed, done, drop, fjoin, suffices, agg, enter}
 use Rattle.bac_text.proofs.Walks.{returns, no_more, alloc_all, pass_all, free_all, look_at, sets, nothing, on_entry}
 use Rattle.bac_text.proofs.Walks.{says, ends_at, none, none_made}
@@ -15,5 +16,5 @@ new_spec 𝓤 𝓛 𝓜 𝓡 wired =
     drop ! $ drop ! $ enter ! _ _ _ _ _ $ alloc_all ! (λ l. pass_all ! refl tt $
     sets ! (agg ! (no_more !)) refl (tt, tt) $ nothing ! $ none_made ! $ fjoin ! $
     returns ! (look_at ! 0 refl) $ free_all ! refl $
-    suffices ! _ (ends_at 𝓛 f.ended tt c ((κs, qs, bounds, a, tt), g) none (record { octets = []; last = [] }) tt tt) $
+    suffices ! _ (ends_at 𝓛 f.ended tt c ((κs, qs, bounds, a, tt), g) none nothing_passed tt tt) $
     says ! refl $ nothing ! $ nothing ! $ done !))

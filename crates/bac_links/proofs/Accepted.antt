@@ -1,0 +1,154 @@
+-- A write that a device accepts is at a priority that there is; so its replies, one after another, are those of the
+-- definition.
+use Rattle.std.proofs.Common.{◌≡◌, ◌==◌, ◌&&◌, ℕ, Bool, true, false, not, List, [], ◌∷◌, ◌++◌, Option, Some, None}
+use Rattle.std.proofs.Common.{Result, Ok, Err, IfSome, refl, ap, ◌∙◌, subst, arith, inl, inr}
+use Rattle.std.specs.Prelude.{is_some, is_none, if◌then◌else◌}
+use Rattle.std.specs.Option.{ok_or, option_and_then, option_to_list}
+use Rattle.std.specs.Result.{result_ok}
+use Rattle.std.proofs.lemmas.Bool.{cases_Bool}
+use Rattle.bac_pdu.specs.Peer.{Station}
+use Rattle.bac_pdu.specs.declared.apdu.Part.{Part}
+use Rattle.bac_pdu.specs.Apdu.{Message, confirmed}
+use Rattle.bac_pdu.specs.ApduReading.{apdu_of}
+use Rattle.bac_pdu.specs.DatagramReading.{carried}
+use Rattle.bac_pdu.specs.Property.{Order, IsPriority}
+use Rattle.bac_pdu.specs.PropertyReading.{write_of}
+use Rattle.bac_pdu.proofs.WriteLaws.{write_is}
+use Rattle.bac_device.specs.Steps.{◌>>=◌}
+use Rattle.bac_device.specs.Info.{Info}
+use Rattle.bac_device.specs.Point.{Description}
+use Rattle.bac_device.specs.Places.{Write, Standing, written_value}
+use Rattle.bac_device.specs.Inner.Places.{IsUrgent}
+use Rattle.bac_device.specs.Device.{DeviceState, points_of, device_after, Holds}
+use Rattle.bac_device.specs.Reply.{property_of, commanded_point, urgency, ordered_write, accepted_write, write_in_body}
+use Rattle.bac_device.specs.Reply.{write_in_request, write_in_message, write_in_apdu, write_in_datagram, reply_to}
+use Rattle.bac_device.specs.Reply.{writes_after}
+use Rattle.bac_device.specs.Turns.{Arrival, AreDefined, all_writes, replies_to}
+use Rattle.bac_device.proofs.StateLaws.{points_after, write_held, after_holds}
+use Rattle.bac_links.specs.Serve.{device_next, device_behind, replies_of}
+
+-- ---- one write
+
+-- Two steps that went well.
+stepped : {A B E : Type 0} (x : Result A E) (f : A → Result B E) (y : B) → (x >>= f) ≡ Ok y
+    → (a : A) × (x ≡ Ok a) × (f a ≡ Ok y)
+stepped (Ok a) f y e = (a, refl, e)
+stepped (Err failure) f y e = absurd cc
+
+-- A step that went well behind a test, for what there is.
+passed : {A B E : Type 0} (b : Bool) (bad : E) (o : Option A) (none : E) (f : A → Result B E) (y : B)
+    → (if b then Err bad else (ok_or o none >>= f)) ≡ Ok y → (a : A) × (f a ≡ Ok y)
+passed true bad o none f y e = absurd cc
+passed false bad (Some a) none f y e = (a, e)
+passed false bad None none f y e = absurd cc
+
+if_ok : {A E : Type 0} (P : A → Type 0) (r : Result A E) → ((a : A) → r ≡ Ok a → P a) → IfSome (result_ok r) P
+if_ok P (Ok a) h = h a refl
+if_ok P (Err failure) h = tt
+
+was_ok : {A E : Type 0} (r : Result A E) (a : A) → result_ok r ≡ Some a → r ≡ Ok a
+was_ok (Ok x) a e = cc
+was_ok (Err failure) a e = cc
+
+if_then : {A B : Type 0} (P : B → Type 0) (f : A → Option B) (o : Option A)
+    → ((a : A) → o ≡ Some a → IfSome (f a) P) → IfSome (option_and_then f o) P
+if_then P f None h = tt
+if_then P f (Some a) h = h a refl
+
+urgency_is : (priority : Option ℕ) (n : ℕ) → IfSome priority IsPriority → urgency priority ≡ Ok n → IsPriority n
+urgency_is None n sound e = let is : 16 ≡ n = cc in (omega (arith, is), omega (arith, is))
+urgency_is (Some p) n sound e = elim (cases_Bool (p == 6)) [
+  | inl y ↦ let bad = rw y at e in absurd cc
+  | inr k ↦
+      let good = rw k at e in
+      let is : p ≡ n = cc in
+      subst IsPriority is sound
+]
+
+ordered_urgent : (standing : Standing) (o : Order) (write : Write) → IfSome o.priority IsPriority
+    → ordered_write standing o ≡ Ok write → IsUrgent write
+unfolding ordered_write
+ordered_urgent standing o write sound e =
+    let a = stepped (urgency o.priority) _ write e in
+    let b = stepped (written_value standing.point o.value) _ write a.2 in
+    let is : a.0 ≡ write.priority = ap written_at b.2 in
+    subst IsPriority is (urgency_is o.priority a.0 sound a.1)
+  where
+    written_at : {E : Type 0} → Result Write E → ℕ
+    written_at (Ok w) = w.priority
+    written_at (Err failure) = 0
+
+accepted_urgent : (device : DeviceState) (o : Order) (write : Write) → IfSome o.priority IsPriority
+    → accepted_write device o ≡ Ok write → IsUrgent write
+unfolding accepted_write
+accepted_urgent device o write sound e =
+    let a = stepped (property_of device o.reference.object o.reference.property) _ write e in
+    let b = passed (is_some o.reference.index && not a.0.is_array) _ (commanded_point device o.reference) _
+    (λ standing. ordered_write standing o) write a.2 in
+    ordered_urgent b.0 o write sound b.1
+
+body_urgent : (device : DeviceState) (body : List ℕ) → IfSome (write_in_body device body) IsUrgent
+unfolding write_in_body
+body_urgent device body =
+    if_then IsUrgent _ (result_ok (write_of body)) (λ o is.
+    if_ok IsUrgent (accepted_write device o)
+    (λ write made.
+    accepted_urgent device o write ((write_is body (Ok o)).0 (was_ok (write_of body) o is)).whole.urgent made))
+
+request_urgent : (device : DeviceState) (part : Option Part) (service : ℕ) (body : List ℕ)
+    → IfSome (write_in_request device part service body) IsUrgent
+unfolding write_in_request
+request_urgent device part service body = elim (cases_Bool (is_none part && service == 15)) [
+  | inl y ↦ rw y (body_urgent device body)
+  | inr n ↦ rw n tt
+]
+
+message_urgent : (device : DeviceState) (broadcast : Bool) (message : Message)
+    → IfSome (write_in_message device broadcast message) IsUrgent
+message_urgent device true (confirmed part code id service body) = tt
+message_urgent device false (confirmed part code id service body) = request_urgent device part service body
+message_urgent device broadcast _ = tt
+
+datagram_urgent : (device : DeviceState) (from : Station) (datagram : List ℕ)
+    → IfSome (write_in_datagram device from datagram) IsUrgent
+unfolding write_in_datagram write_in_apdu
+datagram_urgent device from datagram =
+    if_then IsUrgent _ (carried from datagram) (λ delivery came.
+    if_then IsUrgent _ (apdu_of delivery.apdu) (λ message is. message_urgent device delivery.broadcast message))
+
+-- ---- one datagram after another
+
+module _ (info : Info) (points : List Description) where
+  next_after : (writes : List Write) (came : Arrival) → device_next (device_after info points writes) came
+      ≡ device_after info points (writes_after info points writes came.from came.datagram)
+  next_after writes came =
+      let device = device_after info points writes in
+      let write = write_in_datagram device came.from came.datagram in
+      write_held device writes write (after_holds info points writes) (datagram_urgent device came.from came.datagram)
+      ∙ ap (λ (p : List Description). device_after info p (writes ++ option_to_list write))
+      (points_after info points writes)
+
+  replied_after : (writes : List Write) (arrivals : List Arrival)
+      → replies_of (device_after info points writes) arrivals ≡ replies_to info points writes arrivals
+  replied_after writes [] = refl
+  replied_after writes (came ∷ arrivals) =
+      ap (λ (rest : List (Option (Station × List ℕ))). reply_to info points writes came.from came.datagram ∷ rest)
+      (ap (λ (d : DeviceState). replies_of d arrivals) (next_after writes came)
+      ∙ replied_after (writes_after info points writes came.from came.datagram) arrivals)
+
+  left_after : (writes : List Write) (arrivals : List Arrival)
+      → device_behind (device_after info points writes) arrivals
+      ≡ device_after info points (all_writes info points writes arrivals)
+  left_after writes [] = refl
+  left_after writes (came ∷ arrivals) =
+      ap (λ (d : DeviceState). device_behind d arrivals) (next_after writes came)
+      ∙ left_after (writes_after info points writes came.from came.datagram) arrivals
+
+pub defined : (device : DeviceState) (writes : List Write) (arrivals : List Arrival) → Holds device writes
+    → AreDefined device writes arrivals (replies_of device arrivals) (device_behind device arrivals)
+defined device writes arrivals holds = record {
+  replied = ap (λ (d : DeviceState). replies_of d arrivals) holds
+      ∙ replied_after device.info (points_of device) writes arrivals;
+  written = ap (λ (d : DeviceState). device_behind d arrivals) holds
+      ∙ left_after device.info (points_of device) writes arrivals;
+}

@@ -1,0 +1,19 @@
+-- The call that a note stands for.
+use Rattle.std.specs.Prelude.{List, ◌∷◌, [], ◌++◌, length, take, is_ok}
+use Rattle.std.specs.Result.{result_ok, result_map_both}
+use Rattle.std.specs.IoError.{error_kind}
+use Rattle.std.specs.Duration.{as_nanos}
+use Rattle.bac_links.specs.Socket.{SystemCall, Bind, Limit, SendTo, Receive, Elapsed}
+use Rattle.bac_links.specs.declared.log.CallNote.{CallNote}
+use Rattle.bac_links.specs.declared.log.CallNote.TheVariants as note
+
+abbrev pub call_of : CallNote → SystemCall
+call_of (note.Bind at) = Bind at
+call_of (note.Limit limit done) = Limit (as_nanos limit) (is_ok done.now)
+call_of (note.SendTo octets to sent) = SendTo octets.now to (result_ok sent.now)
+call_of (note.Receive room came) =
+    Receive (length room.now) (result_map_both (λ c. (take c.0 room.now, c.1)) error_kind came.now)
+call_of (note.Elapsed passed) = Elapsed (result_ok passed.now)
+
+abbrev pub logged : List SystemCall → CallNote → List SystemCall
+logged calls note = calls ++ call_of note ∷ []

@@ -1,0 +1,114 @@
+-- What a link asks of a socket and its clock, and what it makes of the answers.
+use Rattle.std.specs.Prelude.{◌≡◌, ◌≢◌, ◌⊎◌, ℕ, ◌+◌, ◌*◌, ◌/◌, ◌-◌, ◌^◌, ◌==◌, ◌||◌, min, max, Bool, true, false}
+use Rattle.std.specs.Prelude.{List, [], ◌∷◌, ◌++◌, length, nat_le, Option, Some, None, Result, Ok, Err, if◌then◌else◌}
+use Rattle.std.specs.Duration.{as_nanos}
+use Rattle.std.specs.Net.Addr.{ipv4_bits, IsIpv4OfBits}
+use Rattle.std.specs.Net.Socket.{v4_ip, v4_port}
+use Rattle.std.specs.Option.{option_map_or}
+use Rattle.std.specs.declared.time.Duration.{Duration}
+use Rattle.std.specs.declared.io.ErrorKind.{ErrorKind}
+use Rattle.std.specs.declared.io.ErrorKind.TheVariants.{WouldBlock, TimedOut, Interrupted, ConnectionRefused}
+use Rattle.std.specs.declared.io.ErrorKind.TheVariants.{ConnectionReset, HostUnreachable, NetworkUnreachable}
+use Rattle.std.specs.declared.net.socket_addr.SocketAddr.{SocketAddr}
+use Rattle.std.specs.declared.net.socket_addr.SocketAddr.TheVariants.{V4, V6}
+use Rattle.bac_pdu.specs.Peer.{station}
+use Rattle.bac_pdu.specs.declared.peer.Peer.{Peer}
+use Rattle.bac_links.specs.Foretold.{Heard, Silence, Arrival, Failure}
+use Rattle.bac_links.specs.Limits.{longest_datagram}
+use Rattle.bac_links.specs.declared.udp.Refused.{Refused}
+use Rattle.bac_links.specs.declared.udp.Refused.TheVariants.{Fails, IsLost}
+
+-- ---- what the system was asked
+
+-- One call of the system, with its answer: a socket at this address; that its receives wait at most so long from now on, and
+-- whether that was done; a datagram for an address, and how many of its octets went, unless it was refused; a datagram,
+-- with room for so many octets, and which came from where, or why none did; how long ago the socket was made, unless the
+-- clock failed.
+pub data SystemCall : Type 0 where
+  Bind : (at : SocketAddr) → SystemCall
+  Limit : (nanos : ℕ) (done : Bool) → SystemCall
+  SendTo : (octets : List ℕ) (to : SocketAddr) (sent : Option ℕ) → SystemCall
+  Receive : (room : ℕ) (came : Result (List ℕ × SocketAddr) ErrorKind) → SystemCall
+  Elapsed : (passed : Option Duration) → SystemCall
+
+-- Between these two logs the system was asked for something of which this holds.
+abbrev pub Logs : (List SystemCall → Type 0) → (before after : List SystemCall) → Type 0
+Logs Are before after = (calls : List SystemCall) × (after ≡ before ++ calls) × Are calls
+
+-- ---- addresses
+
+-- The IPv4 address and the port of the peer.
+abbrev pub IsAddressOf : Peer → SocketAddr → Type 0
+IsAddressOf peer (V4 address) = IsIpv4OfBits (v4_ip address) peer.ip × (v4_port address ≡ peer.port)
+IsAddressOf peer (V6 address) = ⊥
+
+-- The peer at an IPv4 address.
+abbrev pub peer_at : SocketAddr → Option Peer
+peer_at (V4 address) = Some (record { ip = ipv4_bits (v4_ip address); port = v4_port address; route = None })
+peer_at (V6 address) = None
+
+-- A socket was asked for at the address of this peer, and nothing else.
+abbrev pub Binds : Peer → List SystemCall → Type 0
+Binds at calls = (address : SocketAddr) × IsAddressOf at address × (calls ≡ Bind address ∷ [])
+
+-- ---- the time
+
+-- The time of a link: how many whole milliseconds have passed by its clock since it was made, up to the greatest
+-- number. Where the clock failed it is the time before.
+abbrev pub time_by : Option Duration → ℕ → ℕ
+time_by (Some passed) before = min (as_nanos passed / 1_000_000) (2 ^ 64 - 1)
+time_by None before = before
+
+-- The clock was read once, and this is the time by it.
+abbrev pub Times : (before now : ℕ) → List SystemCall → Type 0
+Times before now calls =
+    (passed : Option Duration) × (now ≡ time_by passed before) × (calls ≡ Elapsed passed ∷ [])
+
+-- ---- a send
+
+abbrev pub is_lost : Refused → Bool
+is_lost Fails = false
+is_lost IsLost = true
+
+-- These octets were given to send to the address of the peer, once, and nothing else was asked for. The send is good
+-- where all of them went, or where what is refused is lost.
+abbrev pub Sends : Refused → Peer → List ℕ → (good : Bool) → List SystemCall → Type 0
+Sends refused to octets good calls =
+    (address : SocketAddr) × (sent : Option ℕ) × IsAddressOf to address × (calls ≡ SendTo octets address sent ∷ [])
+    × (good ≡ (option_map_or (λ n. n == length octets) sent false || is_lost refused))
+
+-- ---- a wait
+
+-- The peer that these octets came from, where they are not too many to be heard.
+abbrev pub heard_from : SocketAddr → List ℕ → Option Peer
+heard_from address octets = if nat_le (length octets) longest_datagram then peer_at address else None
+
+-- A receive with this error counts as silence: its time was over, or it tells that a datagram sent before did not come
+-- to its peer, and such a datagram counts as lost.
+abbrev pub is_quiet : Refused → ErrorKind → Bool
+is_quiet refused WouldBlock = true
+is_quiet refused TimedOut = true
+is_quiet refused Interrupted = true
+is_quiet refused ConnectionRefused = is_lost refused
+is_quiet refused ConnectionReset = is_lost refused
+is_quiet refused HostUnreachable = is_lost refused
+is_quiet refused NetworkUnreachable = is_lost refused
+is_quiet refused kind = false
+
+-- What is heard where a receive is answered so.
+abbrev pub hears : Refused → Result (List ℕ × SocketAddr) ErrorKind → Heard
+hears refused (Ok came) = option_map_or (λ peer. Arrival (station peer) came.0) (heard_from came.1 came.0) Silence
+hears refused (Err kind) = if is_quiet refused kind then Silence else Failure
+
+-- What a socket whose receives wait so long is asked for, so that they wait this long, in milliseconds: nothing where
+-- they do.
+abbrev pub limits : (waits wait : ℕ) → (done : Bool) → List SystemCall
+limits waits wait done = if wait == waits then [] else Limit (wait * 1_000_000) done ∷ []
+
+-- A socket whose receives wait so long was asked for a datagram once, with room for one octet more than is heard; where
+-- they are to wait another time, this was set before. This was heard, or the other time could not be set.
+abbrev pub Waits : Refused → (waits wait : ℕ) → Heard → List SystemCall → Type 0
+Waits refused waits wait heard calls =
+    ((came : Result (List ℕ × SocketAddr) ErrorKind) × (heard ≡ hears refused came)
+    × (calls ≡ limits waits wait true ++ Receive (longest_datagram + 1) came ∷ []))
+    ⊎ ((wait ≢ waits) × (heard ≡ Failure) × (calls ≡ limits waits wait false))
