@@ -1,4 +1,2 @@
-mod Deliveries
 mod Lines
-mod Stands
 mod WrittenAlone
