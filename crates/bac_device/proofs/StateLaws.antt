@@ -113,6 +113,30 @@ pub after_holds : (info : Info) (points : List Description) (writes : List Write
 after_holds info points writes =
     ap (λ (p : List Description). device_after info p writes) (sym (points_after info points writes))
 
+-- ---- one call after another
+
+-- a device of these points and writes, once it has replied: the writes, and the one that the datagram orders
+pub next_writes : {device after : DeviceState} (info : Info) (points : List Description) (writes : List Write)
+    (from : Station) (datagram : List ℕ) → device ≡ device_after info points writes
+    → ((held : List Write) → Holds device held → after ≡ device_after device.info (points_of device)
+    (writes_after device.info (points_of device) held from datagram))
+    → after ≡ device_after info points (writes_after info points writes from datagram)
+next_writes info points writes from datagram made replied =
+    let next = rw made at replied in
+    next writes (after_holds info points writes)
+    ∙ ap (λ (p : List Description). device_after info p (writes_after info p writes from datagram))
+    (points_after info points writes)
+
+-- what is present at such a device
+pub present_now : (info : Info) (points : List Description) (writes : List Write) {device : DeviceState}
+    {asked object : Identifier} {found : Option ℕ} → device ≡ device_after info points writes
+    → ((held : List Write) → Holds device held → found ≡ present_after (points_of device) held asked)
+    → asked ≡ object → found ≡ present_after points writes object
+present_now info points writes {object = object} made answered is =
+    let now = rw (made, is) at answered in
+    now writes (after_holds info points writes)
+    ∙ ap (λ (p : List Description). present_after p writes object) (points_after info points writes)
+
 -- a call whose reply and device are those of the definition
 pub answers : (device : DeviceState) (arrival : Arrival) (reply : Option (Station × List ℕ)) (after : DeviceState)
     → ((writes : List Write) → Holds device writes

@@ -39,10 +39,10 @@ use std::marker::Model;
 /// The points that a device has room for.
 pub const POINTS: usize = 32;
 
-/// Why a point was not added.
+/// Why a point was not added. The fault is the caller's: it is in the point, or in what was added before it.
 #[derive(Clone, Copy, Debug, PartialEq, Eq)]
 pub enum AddFault {
-    /// The device has 32 points already.
+    /// The device has [`POINTS`] points already.
     TooMany,
     /// A point of the device has this object identifier.
     Twice,

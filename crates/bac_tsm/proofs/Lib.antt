@@ -1,5 +1,6 @@
 mod AnswersInWords
 mod CallNotes
+mod Calls
 mod Held
 pub mod Laws
 mod LookaheadSteps

@@ -21,11 +21,11 @@ use std::marker::Model;
 /// Why a request was not accepted.
 #[derive(Clone, Copy, Debug, PartialEq, Eq)]
 pub enum SubmitFault {
-    /// The service body has more than 476 octets.
+    /// The service body has more than [`LONGEST_BODY`] octets: the caller's fault.
     TooLong,
-    /// As many requests are open as there are slots.
+    /// [`PLACES`] requests are open: nobody's fault. There is room again once one of them ends.
     TableFull,
-    /// The next ticket would be `u64::MAX`.
+    /// The next ticket would be `u64::MAX`: the fault of whoever chose the first ticket.
     TicketsSpent,
 }
 

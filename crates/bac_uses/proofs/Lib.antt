@@ -1,3 +1,1 @@
-mod Deliveries
 mod Lines
-mod Stands

@@ -1,6 +1,7 @@
 //! Two reads of one device, open at once.
 
-ghost use Rattle.std.specs.Prelude.{◌≡◌, ◌++◌};
+ghost use Rattle.std.specs.Prelude.{◌≡◌, [], ◌∷◌};
+ghost use Rattle.std.specs.List.{flat_map};
 ghost use Rattle.bac_pdu.specs.Peer.{station};
 ghost use Rattle.bac_uses.specs.TwoReads.{read_of, again_unless};
 
@@ -17,8 +18,8 @@ const NAME: [u8; 7] = [0x0c, 0x00, 0x00, 0x00, 0x05, 0x19, 77];
 /// seconds later. What is to be sent at once, and again, is what `Client::to_send` lends.
 pub fn two_reads(device: Peer, from: Peer, heard: &[u8]) -> Due
     // Each read is to be sent again exactly where the datagram is no answer to it, and none has ended without one.
-    ensures { result ≡ again_unless (station from) heard.now (read_of (station device) 0 85)
-        ++ again_unless (station from) heard.now (read_of (station device) 1 77) }
+    ensures { result ≡ flat_map (again_unless (station from) heard.now)
+        (read_of (station device) 0 85 ∷ read_of (station device) 1 77 ∷ []) }
 {
     let config = Config {
         timeout: 3000,

@@ -1,10 +1,9 @@
-use Rattle.std.proofs.Common.{◌∙◌}
-use Rattle.bac_uses.proofs.Deliveries.{delivered}
+use Rattle.std.proofs.Common.{refl, arith}
+use Rattle.bac_tsm.proofs.Laws.{opens, told_unless_answered}
 use Rattle.bac_uses.proofs.client.two_reads.Goals as goal
 
 pub returns : goal.returns
 returns c =
-    let asked = rw (c.submit-value.ensures.1, c.new-client.ensures) at c.submit-name.ensures.1 in
-    let heard = rw asked at c.datagram-ended.ensures.1 in
-    let ticked = rw heard at c.tick.ensures.0 in
-    ticked ∙ delivered _ _ _
+    let one = opens _ _ _ c.new-client.ensures c.submit-value.ensures (omega arith) (omega arith) (omega arith) refl in
+    let two = opens _ _ _ one.1 c.submit-name.ensures (omega arith) (omega arith) (omega arith) refl in
+    told_unless_answered _ _ _ two.1 (refl, (refl, tt)) c.datagram-ended.ensures.1 c.tick.ensures.0
