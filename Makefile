@@ -51,10 +51,10 @@ examples: program
 	    examples/demo.sh $(PROGRAM) $$port | sed "s/$$port/47808/" | diff - examples/demo.out
 	@echo "examples/demo.sh: as it is to be"
 	@tests/program.sh $(PROGRAM)
+	@tests/lengths.py $(PROGRAM)
 	@tests/rows.py $(PROGRAM)
 	@tests/memory.sh $(PROGRAM)
 	@tests/failing.sh $(PROGRAM)
-	@tests/lengths.py $(PROGRAM)
 	@tests/bacsite.py $(PROGRAM)
 
 forget:

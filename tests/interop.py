@@ -14,8 +14,8 @@ import tempfile
 import time
 
 from relay import DEVICE, Relay
+from tree import TOP
 
-TOP = os.path.dirname(os.path.dirname(os.path.abspath(__file__)))
 PROGRAM = os.environ.get("BACTOOL", TOP + "/crates/bactool/out/bactool")
 FAILURES = []
 

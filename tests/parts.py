@@ -26,6 +26,8 @@ import tempfile
 import time
 from collections import namedtuple
 
+from tree import TOP
+
 LOGS = "out/parts"
 SIGNALS = (signal.SIGINT, signal.SIGTERM, signal.SIGHUP)
 QUIET = 300  # seconds after which a line says what is at work, where nothing else was said
@@ -201,7 +203,7 @@ def gate(clock):
 def main(words):
     if words not in (["test"], ["gate"]):
         sys.exit(__doc__)
-    os.chdir(os.path.dirname(os.path.dirname(os.path.abspath(__file__))))
+    os.chdir(TOP)
     os.makedirs(LOGS, exist_ok=True)
     passed, lost = (test if words == ["test"] else gate)(Clock())
     print(f"{passed} passed, {sum(lost.values())} failed{': ' * bool(lost)}{', '.join(lost)}")

@@ -94,7 +94,7 @@ def page_of(page, title, calls, told):
     module, names = RULE.get(page, (None, []))
     rule = [DEFINITIONS[module].items[name] for name in names]
     if rule:
-        cases = [line for item in rule for part in item.file.parts(item.block)[1:] for line in part.splitlines()]
+        cases = [line for item in rule for part in item.cases for line in part.splitlines()]
         lines += [f"The rule, of `{rule[0].file.path}`:", "", "```", textwrap.dedent("\n".join(cases)), "```", ""]
     lines += ["| Call | Definitions | Lines |", "|---|---|---|"]
     for name, call in calls.items():

@@ -141,6 +141,10 @@ def head_of(text, mark):
     return " ".join(line[len(mark) :].strip() for line in itertools.takewhile(re.compile(mark + " ").match, lines))
 
 
+def depth_of(line):
+    return len(line) - len(line.lstrip())
+
+
 # ---- antt: files ----
 
 DEFINITIONS = {}  # by module: Specs
@@ -156,78 +160,63 @@ class Specs:
         self.items, self.constructors, self.names = {}, {}, brought_in(self.text, ghost=False)
         passed_on = ((module, names or ()) for module, names, _, public in uses_in(self.text, False) if public)
         self.passes_on = {here: (module, name) for module, names in passed_on for name, here in names}
-        self.read(re.sub(r"(?ms)^(?:unfoldable )?(?:pub )?use [^\n{]*(?:\{.*?\}[^\n]*)?$", "", self.text))
+        text = re.sub(r"(?ms)^(?:unfoldable )?(?:pub )?use [^\n{]*(?:\{.*?\}[^\n]*)?$", "", self.text)
+        for comment, modules, lines in list(self.blocks(text)):
+            self.define(" ".join(comment), modules, lines)
 
-    def read(self, text):
-        modules, comment, block = [], [], None
+    def blocks(self, text):
+        """Of each definition the comment above it, the parameters of the modules round it, and its lines."""
+        modules, comment, lines, base = [], [], [], 0
         for line in re.sub(r"(?ms)^ *module _ .*?where$", lambda head: head[0].replace("\n", ""), text).split("\n"):
-            said, depth = line.strip(), len(line) - len(line.lstrip())
+            said, depth = line.strip(), depth_of(line)
             if said.startswith("module _ "):
-                modules = [*modules[: depth // 2], said[len("module _") : -len("where")]]
-                comment, block = [], None
-            elif block and depth > block["base"]:
-                block["lines"] += [line] if not said.startswith("--") else []
+                modules, comment, lines = [*modules[: depth // 2], said[len("module _") : -len("where")]], [], []
+            elif lines and depth > base:
+                lines += [re.sub(r" -- .*$", "", line)] if not said.startswith("--") else []
             elif not said or said.startswith("--"):
                 comment = [*comment, said[2:].strip()] if said else []
             elif re.match(STARTS, said) or said.split()[1:2] == [":"]:
-                block = {"name": re.match(rf"(?:{STARTS})*(\S+)", said)[1], "lines": [line], "base": depth}
-                block["modules"] = modules[: depth // 2]
-                self.define(block, " ".join(comment))
+                lines, base = [line], depth
+                yield comment, modules[: depth // 2], lines
                 comment = []
-            elif block and depth == block["base"]:
-                block["lines"].append(line)
+            elif lines and depth == base:
+                lines.append(line)
             elif not said.startswith("infix"):
                 PROBLEMS.append(f"{self.path}: what this line defines can't be told: {said}")
-        for item in self.items.values():
-            item.lines = len(item.block["lines"])
-            for one in self.constructors_of(item.block):
-                self.constructors[one] = item
-                item.constructors.add(one)
-                self.names.setdefault(one, lambda rest, item=item: item)
 
-    def define(self, block, comment):
-        place, find = len(self.items), lambda needs: self.find(needs, block)
-        item = Item(self, block["name"], "definition", place, 0, comment, find)
-        item.block = block
-        self.items[item.name] = item
-        self.names.add(item.name, lambda rest: item)
-
-    @staticmethod
-    def type_of(block):
-        kind = re.match(r" *(?:(?:pub|abbrev|unfoldable) )*(data|record) ", block["lines"][0])
-        return kind and kind[1]
-
-    def constructors_of(self, block):
-        parts = self.parts(block)[1:] if self.type_of(block) == "data" else []
-        return (found[1] for part in parts if (found := re.match(r" *(\S+) :", part)))
-
-    def find(self, needs, block):
-        bound, kind, scopes = set(), self.type_of(block), (self.names,)
-        for parameters in block["modules"]:
-            bound = say(needs, scopes, parameters, bound)
-        head, *parts = self.parts(block)
-        if kind:
-            bound = say(needs, scopes, head.partition(f" {block['name']}")[2], bound)
-        else:
-            say(needs, scopes, head.partition(" : ")[2], bound)
-        for part in parts:
-            left, _, right = re.split(r"\s([:=])(?:\s|$)", part, maxsplit=1)
-            say(needs, scopes, right, bound, "" if kind else left.partition(block["name"])[2] or left)
-            bound |= {left.split()[-1]} if kind == "record" else set()
-
-    def parts(self, block):
-        """The signature and each case; of a type, its head and each constructor or field."""
-        lines = [re.sub(r" -- .*$", "", line) for line in block["lines"]]
-        depth = lambda line: len(line) - len(line.lstrip())
-        head = next(at for at, line in enumerate(lines, 1) if line.endswith("where")) if self.type_of(block) else 1
-        step = depth(lines[head]) if self.type_of(block) and lines[head:] else block["base"]
+    def define(self, comment, modules, lines):
+        name = re.match(rf" *(?:{STARTS})*(\S+)", lines[0])[1]
+        kind = re.match(r" *(?:(?:pub|abbrev|unfoldable) )*(?:(data|record) )?", lines[0])[1]
+        # The signature and each case; of a type, its head and each constructor or field.
+        head = next(at for at, line in enumerate(lines, 1) if line.endswith("where")) if kind else 1
+        step = depth_of(lines[head] if kind and lines[head:] else lines[0])
         parts = ["\n".join(lines[:head])]
         for line in lines[head:]:
-            if depth(line) == step and line.strip()[0] not in CLOSE:
+            if depth_of(line) == step and line.strip()[0] not in CLOSE:
                 parts.append(line)
             else:
                 parts[-1] += "\n" + line
-        return parts
+        find = lambda needs: self.find(needs, kind, name, modules, parts)
+        item = self.items[name] = Item(self, name, "definition", len(self.items), len(lines), comment, find)
+        self.names.add(name, lambda rest: item)
+        item.cases = parts[1:]
+        for found in (re.match(r" *(\S+) :", part) for part in parts[1:] if kind == "data"):
+            item.constructors.add(found[1])
+            self.constructors[found[1]] = item
+            self.names.setdefault(found[1], lambda rest: item)
+
+    def find(self, needs, kind, name, modules, parts):
+        bound, scopes = set(), (self.names,)
+        for parameters in modules:
+            bound = say(needs, scopes, parameters, bound)
+        if kind:
+            bound = say(needs, scopes, parts[0].partition(f" {name}")[2], bound)
+        else:
+            say(needs, scopes, parts[0].partition(" : ")[2], bound)
+        for part in parts[1:]:
+            left, _, right = re.split(r"\s([:=])(?:\s|$)", part, maxsplit=1)
+            say(needs, scopes, right, bound, "" if kind else left.partition(name)[2] or left)
+            bound |= {left.split()[-1]} if kind == "record" else set()
 
 
 def defined(module, name):

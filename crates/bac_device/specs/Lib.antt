@@ -1,4 +1,3 @@
-pub mod Steps
 pub mod Limits
 pub mod Info
 pub mod Kind

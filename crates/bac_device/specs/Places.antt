@@ -6,7 +6,7 @@ use Rattle.std.specs.Option.{option_and_then, option_flatten, ok_or}
 use Rattle.bac_wire.specs.Identifier.{Identifier}
 use Rattle.bac_device.specs.declared.failure.Failure.{Failure}
 use Rattle.bac_device.specs.declared.failure.Failure.TheVariants.{WrongType, OutOfRange}
-use Rattle.bac_device.specs.Steps.{◌>>=◌}
+use Rattle.bac_pdu.specs.Steps.{◌>>=◌}
 use Rattle.bac_device.specs.Kind.{is_commandable, place_in, one_value, allows}
 use Rattle.bac_device.specs.Point.{Description, same_object}
 

@@ -23,7 +23,7 @@ use Rattle.bac_device.specs.declared.failure.Failure.TheVariants.{UnknownObject,
 use Rattle.bac_device.specs.declared.failure.Failure.TheVariants.{WriteDenied}
 use Rattle.bac_device.specs.Info.{Info}
 use Rattle.bac_device.specs.Limits.{greatest_apdu, no_segmentation, own_vendor}
-use Rattle.bac_device.specs.Steps.{◌>>=◌}
+use Rattle.bac_pdu.specs.Steps.{◌>>=◌}
 use Rattle.bac_device.specs.Kind.{is_commandable}
 use Rattle.bac_device.specs.Point.{Description}
 use Rattle.bac_device.specs.Places.{Write, Standing, written_value, put}

@@ -1,8 +1,9 @@
 //! What holds of the definitions that the contracts cite, and of the public types. Each function has an empty body, and
 //! its clause is the law.
 
-ghost use Rattle.std.specs.Prelude.{IsTrue, ◌≡◌, ◌↔◌, ℕ, List, Option};
+ghost use Rattle.std.specs.Prelude.{◌≡◌, ℕ, List, Option};
 ghost use Rattle.std.specs.Option.{ForSome};
+ghost use Rattle.bac_wire.specs.Copies.{MakesCopies, EqualsBy};
 ghost use Rattle.bac_pdu.specs.Peer.{Station};
 ghost use Rattle.bac_device.specs.Limits.{device_room, longest_name};
 ghost use Rattle.bac_device.specs.Info.{Info};
@@ -54,13 +55,11 @@ pub fn limits()
 
 /// A clone is what it was cloned from, and takes no memory.
 pub fn clones<'a>()
-    ensures fault { ((x y : AddFault) → ⟦<AddFault as Clone>⟧.is_clone x y → y ≡ x)
-        × ((x : AddFault) → ⟦<AddFault as Clone>⟧.is_infallible x) }
-    ensures point { ((x y : Point) → ⟦<Point<'a> as Clone>⟧.is_clone x y → y ≡ x)
-        × ((x : Point) → ⟦<Point<'a> as Clone>⟧.is_infallible x) }
+    ensures fault { MakesCopies ⟦<AddFault as Clone>⟧.is_clone ⟦<AddFault as Clone>⟧.is_infallible }
+    ensures point { MakesCopies ⟦<Point<'a> as Clone>⟧.is_clone ⟦<Point<'a> as Clone>⟧.is_infallible }
 {}
 
-/// Faults are equal by `==` that are the same of the four.
-pub fn same_fault()
-    ensures { (x y : AddFault) → IsTrue (⟦<AddFault as PartialEq>⟧.eq x y) ↔ (x ≡ y) }
+/// What `==` compares: which of the four a fault is.
+pub fn equals()
+    ensures fault { EqualsBy (λ fault. fault) ⟦<AddFault as PartialEq>⟧.eq }
 {}

@@ -14,7 +14,7 @@ use Rattle.bac_pdu.specs.DatagramReading.{carried}
 use Rattle.bac_pdu.specs.Property.{Order, IsPriority}
 use Rattle.bac_pdu.specs.PropertyReading.{write_of}
 use Rattle.bac_pdu.proofs.WriteLaws.{write_is}
-use Rattle.bac_device.specs.Steps.{◌>>=◌}
+use Rattle.bac_pdu.specs.Steps.{◌>>=◌}
 use Rattle.bac_device.specs.Info.{Info}
 use Rattle.bac_device.specs.Point.{Description}
 use Rattle.bac_device.specs.Places.{Write, Standing, written_value}

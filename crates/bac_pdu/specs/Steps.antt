@@ -1,8 +1,8 @@
--- One step after another, where each can be refused with a reason.
+-- One step after another, where each can fail.
 use Rattle.std.specs.Prelude.{Result, Ok, Err}
 
--- The next step, where this one went well; else the reason why it did not.
+-- The next step, where this one went well; else its failure.
 infixl 10 ◌>>=◌
 abbrev pub ◌>>=◌ : {A B E : Type 0} → Result A E → (A → Result B E) → Result B E
 (Ok x) >>= f = f x
-(Err reason) >>= f = Err reason
+(Err failure) >>= f = Err failure

@@ -1,7 +1,8 @@
 //! What holds of the public types and constants: the limits that the code names, clones, and what `==` compares. Each
-//! function has an empty body, and its clause is the law.
+//! function has an empty body, and its clauses are the laws.
 
-ghost use Rattle.std.specs.Prelude.{◌≡◌, ◌↔◌, IsTrue};
+ghost use Rattle.std.specs.Prelude.{◌≡◌};
+ghost use Rattle.bac_wire.specs.Copies.{MakesCopies, EqualsBy};
 ghost use Rattle.bac_tsm.specs.Client.{outcome_seen, end_seen};
 ghost use Rattle.bac_tsm.specs.Limits.{longest_body, table_size};
 
@@ -20,38 +21,20 @@ pub fn constants_are_limits()
 
 /// A clone is what it was cloned from, and takes no memory.
 pub fn clones<'a>()
-    ensures fault { ((x y : SubmitFault) → ⟦<SubmitFault as Clone>⟧.is_clone x y → y ≡ x)
-        × ((x : SubmitFault) → ⟦<SubmitFault as Clone>⟧.is_infallible x) }
-    ensures config { ((x y : Config) → ⟦<Config as Clone>⟧.is_clone x y → y ≡ x)
-        × ((x : Config) → ⟦<Config as Clone>⟧.is_infallible x) }
-    ensures event { ((x y : Event) → ⟦<Event<'a> as Clone>⟧.is_clone x y → y ≡ x)
-        × ((x : Event) → ⟦<Event<'a> as Clone>⟧.is_infallible x) }
-    ensures note { ((x y : Note) → ⟦<Note<'a> as Clone>⟧.is_clone x y → y ≡ x)
-        × ((x : Note) → ⟦<Note<'a> as Clone>⟧.is_infallible x) }
-    ensures outcome { ((x y : Outcome) → ⟦<Outcome<'a> as Clone>⟧.is_clone x y → y ≡ x)
-        × ((x : Outcome) → ⟦<Outcome<'a> as Clone>⟧.is_infallible x) }
-    ensures end { ((x y : Ended) → ⟦<Ended<'a> as Clone>⟧.is_clone x y → y ≡ x)
-        × ((x : Ended) → ⟦<Ended<'a> as Clone>⟧.is_infallible x) }
-    ensures entry { ((x y : Entry) → ⟦<Entry as Clone>⟧.is_clone x y → y ≡ x)
-        × ((x : Entry) → ⟦<Entry as Clone>⟧.is_infallible x) }
+    ensures fault { MakesCopies ⟦<SubmitFault as Clone>⟧.is_clone ⟦<SubmitFault as Clone>⟧.is_infallible }
+    ensures config { MakesCopies ⟦<Config as Clone>⟧.is_clone ⟦<Config as Clone>⟧.is_infallible }
+    ensures event { MakesCopies ⟦<Event<'a> as Clone>⟧.is_clone ⟦<Event<'a> as Clone>⟧.is_infallible }
+    ensures note { MakesCopies ⟦<Note<'a> as Clone>⟧.is_clone ⟦<Note<'a> as Clone>⟧.is_infallible }
+    ensures outcome { MakesCopies ⟦<Outcome<'a> as Clone>⟧.is_clone ⟦<Outcome<'a> as Clone>⟧.is_infallible }
+    ensures end { MakesCopies ⟦<Ended<'a> as Clone>⟧.is_clone ⟦<Ended<'a> as Clone>⟧.is_infallible }
+    ensures entry { MakesCopies ⟦<Entry as Clone>⟧.is_clone ⟦<Entry as Clone>⟧.is_infallible }
 {}
 
-/// Faults are equal by `==` that are the same of the three.
-pub fn same_fault()
-    ensures { (x y : SubmitFault) → IsTrue (⟦<SubmitFault as PartialEq>⟧.eq x y) ↔ (x ≡ y) }
-{}
-
-/// Entries of a tick are equal that are of the same kind and have the same ticket.
-pub fn same_entry()
-    ensures { (x y : Entry) → IsTrue (⟦<Entry as PartialEq>⟧.eq x y) ↔ (x ≡ y) }
-{}
-
-/// Outcomes are equal that say the same, with the octets that they lend.
-pub fn same_outcome<'a>()
-    ensures { (x y : Outcome) → IsTrue (⟦<Outcome<'a> as PartialEq>⟧.eq x y) ↔ (outcome_seen x ≡ outcome_seen y) }
-{}
-
-/// Ends are equal that have the same ticket and the same outcome, with the octets that it lends.
-pub fn same_end<'a>()
-    ensures { (x y : Ended) → IsTrue (⟦<Ended<'a> as PartialEq>⟧.eq x y) ↔ (end_seen x ≡ end_seen y) }
+/// What `==` compares: all that a fault or an entry says, and what an outcome or an end says with the octets that it
+/// lends, wherever these lie.
+pub fn equals<'a>()
+    ensures fault { EqualsBy (λ fault. fault) ⟦<SubmitFault as PartialEq>⟧.eq }
+    ensures entry { EqualsBy (λ entry. entry) ⟦<Entry as PartialEq>⟧.eq }
+    ensures outcome { EqualsBy outcome_seen ⟦<Outcome<'a> as PartialEq>⟧.eq }
+    ensures end { EqualsBy end_seen ⟦<Ended<'a> as PartialEq>⟧.eq }
 {}
