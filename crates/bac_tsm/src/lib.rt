@@ -46,7 +46,7 @@ mod table;
 mod theorems;
 
 pub use client::{Client, SubmitFault};
-pub use comparing::{clones, constants_are_limits, same_end, same_entry, same_fault, same_outcome};
+pub use comparing::{clones, constants_are_limits, equals};
 pub use config::Config;
 pub use due::{Due, Entry};
 pub use event::{Event, Note};
