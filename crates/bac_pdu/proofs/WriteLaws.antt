@@ -1,13 +1,11 @@
 -- Reading the body of a WriteProperty finds what it orders, or the first fault that it has.
-use Rattle.std.proofs.Common.{◌≡◌, ℕ, Bool, true, false, cond, ltb, List, [], ◌∷◌, ◌++◌, Option, Some, None, Result, Ok}
+use Rattle.std.proofs.Common.{◌≡◌, ℕ, Bool, true, false, cond, List, [], ◌∷◌, ◌++◌, Option, Some, None, Result, Ok}
 use Rattle.std.proofs.Common.{Err, refl, ap, subst, ◌∙◌, arith, inl, inr}
-use Rattle.std.specs.Prelude.{◌↔◌, ◌⊎◌, IfSome, ◌&&◌}
-use Rattle.std.specs.Option.{option_map_or}
+use Rattle.std.specs.Prelude.{◌↔◌, ◌⊎◌, IfSome}
 use Rattle.std.proofs.lemmas.Bool.{false_from_ne_true, iff_false}
 use Rattle.std.proofs.lemmas.Grind.{common_steps}
 use Rattle.bac_wire.specs.Front.{SpellsTo, SpellsAll}
-use Rattle.bac_wire.specs.ParameterReading.{behind_opening, enclosed_at}
-use Rattle.bac_wire.proofs.RegionReading.{no_octets}
+use Rattle.bac_wire.specs.ParameterReading.{enclosed_at}
 use Rattle.bac_wire.proofs.ParameterLaws.{no_number}
 use Rattle.bac_pdu.specs.declared.reject.RejectReason.{RejectReason}
 use Rattle.bac_pdu.specs.declared.reject.RejectReason.TheVariants.{MissingParameter, OutOfRange, TooMany}

@@ -2,7 +2,7 @@
 //! function has an empty body, and its clauses are the laws.
 
 ghost use Rattle.bac_wire.specs.declared.tag.Tag.{Tag as AnyTag};
-ghost use Rattle.std.specs.Prelude.{IsTrue, ◌≡◌, ℕ, ◌+◌, ◌^◌, ◌<◌, ◌≤◌, ◌↔◌, List, [], ◌++◌, length, Some, Ok};
+ghost use Rattle.std.specs.Prelude.{◌≡◌, ℕ, ◌+◌, ◌^◌, ◌<◌, ◌≤◌, ◌↔◌, List, [], ◌++◌, length, Some};
 ghost use Rattle.bac_wire.specs.Limits.{frame_room, deepest};
 ghost use Rattle.bac_wire.specs.Front.{IsPrefixFree, IsReadBack, IsReader, IsShortest};
 ghost use Rattle.bac_wire.specs.Tag.{SpellsTag, IsTag, plain_tag};
