@@ -98,11 +98,6 @@ endings_sent rules events i a = grind arith
 posts_ended : (i : ℕ) (request : Request) (e : Option End) → posts (end_notes i request e) ≡ []
 posts_ended i request e = grind arith
 
--- An end is told at its position.
-told_there : (request : Request) (x : Option End) (y : End) → x ≡ Some y
-    → endings (end_notes y.position request x) ≡ y.outcome ∷ []
-told_there request x y e = grind (arith, nat_tests, e)
-
 not_silent : (request : Request) (x : Option End) (y : End) → x ≡ Some y → endings (end_notes y.position request x) ≡ []
     → ⊥
 not_silent request x y e none = grind (arith, nat_tests, e, none)

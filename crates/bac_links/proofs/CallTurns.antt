@@ -1,6 +1,6 @@
 -- One turn of a call; and how the call ends, or fails.
 use Rattle.std.proofs.Common.{◌≡◌, ◌≢◌, ◌⊎◌, ℕ, suc, ◌<◌, ◌≤◌, List, [], ◌∷◌, ◌++◌, length, Option, Some, None}
-use Rattle.std.proofs.Common.{slice_get, Result, Ok, Err, IfOk, IfErr, true, false, nat_eq, inl, inr, refl, sym}
+use Rattle.std.proofs.Common.{Result, Ok, Err, IfOk, IfErr, true, false, nat_eq, inl, inr, refl, sym}
 use Rattle.std.proofs.Common.{ap, ◌∙◌, arith, append_assoc, subst, All}
 use Rattle.std.proofs.lemmas.Bool.{cases_Bool}
 use Rattle.std.proofs.lemmas.List.{append-nil}
@@ -9,10 +9,9 @@ use Rattle.std.proofs.lemmas.List.Elements.{All-nil, All-cons}
 use Rattle.std.specs.List.{list_any}
 use Rattle.bac_pdu.specs.Peer.{Station}
 use Rattle.bac_tsm.specs.Limits.{longest_body}
-use Rattle.bac_tsm.specs.declared.due.Entry.TheVariants.{Resend}
 use Rattle.bac_tsm.specs.Events.{Outcome, Event, Data, Tick, Rules}
 use Rattle.bac_tsm.specs.Lookahead.{Accepted, End, send_notes, sends}
-use Rattle.bac_tsm.specs.Machine.{State, Stepped, to_send, sent, is_due, due_entry, tick, step}
+use Rattle.bac_tsm.specs.Machine.{State, Stepped, to_send, sent, is_due, tick, step}
 use Rattle.bac_tsm.specs.Client.{Client, rules_of, keeping}
 use Rattle.bac_text.specs.declared.checked.Checked.{Checked}
 use Rattle.bac_text.specs.Checked.{TookOrFailed}
@@ -44,25 +43,6 @@ use Rattle.bac_links.proofs.CallEvents.{submitted, begins, begins_sent}
 pub one_post : (state : State) (ticket : ℕ) (to : Station × List ℕ) → Some to ≡ to_send state ticket
     → posts (sent state ticket) ≡ Posted to.0 to.1 ∷ []
 one_post state ticket to e = rw (← e) refl
-
--- A send ends nothing.
-pub sent_unended : (state : State) (ticket : ℕ) → endings (sent state ticket) ≡ []
-sent_unended state ticket = grind arith
-
--- Where one request is open and the first entry of a tick is a resend, that is all that the tick does.
-pub resent : (rules : Rules) (state : State) (now ticket : ℕ) → IsAlone state →
-    Some (Resend ticket) ≡ slice_get (tick rules state now).answer 0 →
-    (step rules state (Tick now)).notes ≡ sent (tick rules state now).after ticket
-resent rules state now ticket alone first =
-    elim (cases_Bool (is_due rules (tick rules state now).after.clock alone.0)) [
-      | inl y ↦
-          let same : Some (Resend ticket) ≡ Some (due_entry rules alone.0) = rw (alone.1, y) at first in
-          let entry : Resend ticket ≡ due_entry rules alone.0 = cc in
-          rw (alone.1, y, ← entry) (append-nil _)
-      | inr n ↦
-          let bad : Some (Resend ticket) ≡ None = rw (alone.1, n) at first in
-          cc
-    ]
 
 -- Where one request is open and a tick ends it, the tick sends nothing.
 unsent_at_end : (rules : Rules) (state : State) (now : ℕ) → IsAlone state →
