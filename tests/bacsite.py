@@ -156,7 +156,7 @@ class Tests(unittest.TestCase):
             octets 20.5 => 0 41a40000   octets -40 => 0 c2200000   octets -.1 => 0 bdcccccd   octets -1e30 => 0 f149f2ca
             octets -0 => 0 80000000   octets 20 --double => 0 4034000000000000   octets 1e39 => 2 !past the range: 1e39
             octets 1e-60 => 2 !past   octets -3.4028236e38 => 2 !past   octets 1e9999 --double => 2 !past the range: 1e9
-            octets nan => 2 !no number: 'nan'   octets '' => 2 !no number   octets 0x10 => 2 !no   octets ٣ => 2 !no num""")
+            octets nan => 2 !no number: 'nan'   octets '' => 2 !no number   octets 0x10 => 2 !no   octets ٣ => 2 !no""")
 
     def test_reals_are_the_shortest_that_read_back(self):
         loader, chance = importlib.machinery.SourceFileLoader("bacsite", IN + "/bacsite"), random.Random(1)
