@@ -112,7 +112,7 @@ device_number number = lookup (nat_eq number) (
     ∷ (155, unsigned 1)  -- database-revision
     ∷ [])
 
--- The properties that follow from what the device keeps, by their numbers.
+-- The properties that follow from what the device keeps, and its list of address bindings, by their numbers.
 abbrev pub kept_property : DeviceState → ℕ → Option Property
 kept_property device number = lookup (nat_eq number) (
     (75, single (values.object (device_object device.info)))  -- object-identifier

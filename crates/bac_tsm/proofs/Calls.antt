@@ -41,7 +41,8 @@ pub opens : {known client after : Client} {answer : Result ℕ SubmitFault}
     × (after ≡ keeping known (opened known.state (request_of (rules_of known) known.state.next_ticket peer service body
     ((known.state.last_number + 1) % 256))))
 opens {known} peer service body is done short room left free =
-    let now = rw is at done in rw (opened_next (rules_of known) known.state peer service body short room left free) at now
+    let now = rw is at done in
+    rw (opened_next (rules_of known) known.state peer service body short room left free) at now
 
 -- No two of these requests have one invoke id.
 abbrev pub AreApart : List Waiting → Type 0
