@@ -108,16 +108,12 @@ class Tests(unittest.TestCase):
         with socket.socket(socket.AF_INET, socket.SOCK_DGRAM) as free:
             free.bind(("0.0.0.0", 0))
             port = str(free.getsockname()[1])
-        cls.device = subprocess.Popen([TOOL, "bacdev", "1000", "--port", port])
+        device = subprocess.Popen([TOOL, "bacdev", "1000", "--port", port])
+        for cleanup in (device.wait,), (device.terminate,), (shutil.rmtree, IN):  # the last one is the first
+            cls.addClassCleanup(*cleanup)
         NAMES.update(ODD=cls.odd.address, DEAD="127.0.0.1:%d" % cls.dead.getsockname()[1], DEV="127.0.0.1:" + port)
         if not any(run("read", NAMES["DEV"], "0", "5", "85")[0] == 0 for _ in range(20)):
-            sys.exit("bacdev does not answer")
-
-    @classmethod
-    def tearDownClass(cls):
-        cls.device.terminate()
-        cls.device.wait()
-        shutil.rmtree(IN)
+            raise OSError("bacdev does not answer")
 
     def stand_in(self, values, **more):
         """A stand-in, whose address is HERE."""
