@@ -45,13 +45,13 @@ ODD = {  # what the stand-in has, by object: the property, its octets, and how i
              (56, tagged(10, b"\xff\x0a\x1f\xff"), "D'ff0a1fff'"), (57, tagged(11, b"\x0c\xff\0\0"), "T'0cff0000'"),
              (77, string(b"\0Z\0\xfc", 4), "Zü"), (85, unsigned(1), "1 (no real)"),
              (87, b"\0" + real("41a00000"), "{null, 20}"), (9999, unsigned(62), "62")],
-    (4, 1): [(33, unsigned(12345678), "12345678"), (40, enumerated(7), "7"), (46, string("Aus"), "Aus"),
+    (4, 1): [(33, real("00000000"), "00000000 (no integer)"), (40, enumerated(7), "7"), (46, string("Aus"), "Aus"),
              (85, enumerated(1), "1 (active)"), (104, enumerated(0), "0 (inactive)")],
     (13, 2): [(74, unsigned(2), "2"), (77, string("\u202eMode"), r"\u202eMode"), (85, unsigned(2), "2"),
               (110, string("At home") + string('a,"b\\'), '{"At home", "a,"b\\"}')],
     (17, 1): [(85, real("40000000"), "40000000")], (39, 1): [(23, b"\x0e\x0f", "hex 0e0f"), (85, bits("01"), "B'01'")],
     (23, 1): [(45, unsigned(12345678), "12345678"), (85, unsigned(40000000), "40000000")],
-    (45, 1): [(59, tagged(3, b"\x80\0"), "-32768"), (85, tagged(3, b"\xfb"), "-5")],
+    (45, 1): [(59, tagged(3, b"\x80\0"), "-32768"), (85, tagged(3, b"\xfb"), "-5"), (87, b"", "{}")],
     (46, 1): [(22, real("40000000"), "40000000 (no double)"), (45, tagged(5, struct.pack(">d", 20)), "20"),
               (85, tagged(5, struct.pack(">d", 72.3)), "72.3")],
     (300, 1): [(45, real("40000000"), "40000000"), (77, string("A|B"), "A|B"), (85, real("40000000"), "40000000")],
@@ -108,16 +108,12 @@ class Tests(unittest.TestCase):
         with socket.socket(socket.AF_INET, socket.SOCK_DGRAM) as free:
             free.bind(("0.0.0.0", 0))
             port = str(free.getsockname()[1])
-        cls.device = subprocess.Popen([TOOL, "bacdev", "1000", "--port", port])
+        device = subprocess.Popen([TOOL, "bacdev", "1000", "--port", port])
+        for cleanup in (device.wait,), (device.terminate,), (shutil.rmtree, IN):  # the last one is the first
+            cls.addClassCleanup(*cleanup)
         NAMES.update(ODD=cls.odd.address, DEAD="127.0.0.1:%d" % cls.dead.getsockname()[1], DEV="127.0.0.1:" + port)
         if not any(run("read", NAMES["DEV"], "0", "5", "85")[0] == 0 for _ in range(20)):
-            sys.exit("bacdev does not answer")
-
-    @classmethod
-    def tearDownClass(cls):
-        cls.device.terminate()
-        cls.device.wait()
-        shutil.rmtree(IN)
+            raise OSError("bacdev does not answer")
 
     def stand_in(self, values, **more):
         """A stand-in, whose address is HERE."""
@@ -290,20 +286,20 @@ DEAD;device -;timeout
         self.assertEqual(wrong.asked, [(8, 4194303, 75)], "another device is asked once, and for nothing more")
 
     def test_check(self):
-        self.stand_in({(0, 3, 85): ("abort", 4), (1, 2, 85): b"", (0, 4, 85): real("7f7fffff")})
+        self.stand_in({(0, 3, 85): ("abort", 4), (0, 4, 85): real("7f7fffff"),
+                       (8, 4194303, 75): ("error", 1, 31), (8, 77, 75): an_object(8, 77)})
         self.rows("""
             check -w 60:70 -c 50:90 DEV real 0 5 85 => 1 BACNET WARNING - 72.3 | value=72.3;60:70;50:90
             check -w @72:73 DEV 0 5 85 => 1 BACNET WARNING - 72.3 | value=72.3;@72:73;~:
             check -c 72 DEV 0 5 85 => 2 BACNET CRITICAL - 72.3 | value=72.3;~:;72
-            check HERE 0 4 85 => 0 BACNET OK - 3.4028235e+38 | value=340282350000000000000000000000000000000;~:;~:
+            check 77@HERE 0 4 85 => 0 BACNET OK - 3.4028235e+38 | value=340282350000000000000000000000000000000;~:;~:
             check ODD 0 1 85 => 2 BACNET CRITICAL - no number: NaN   check DEAD 0 1 85 => 2 BACNET CRITICAL - timeout
             check DEV 0 99 85 => 3 BACNET UNKNOWN - error 1 31   check HERE 0 3 85 => 3 BACNET UNKNOWN - abort 4
-            check HERE 1 2 85 => 3 BACNET UNKNOWN - no number: {}   check ODD 1 3 85 => 3 BACNET UNKNOWN - no real: 1
-            check ODD 300 1 85 => 3 BACNET UNKNOWN - no number: 40000000
+            check ODD 1 3 85 => 3 BACNET UNKNOWN - no real: 1   check 78@HERE 0 1 85 => 3 BACNET UNKNOWN - error 2 32
+            check ODD 300 1 85 => 3 BACNET UNKNOWN - no number: 40000000   survey HERE => 1 HERE  device -  error 1 31
             check ODD 300 1 77 => 3 BACNET UNKNOWN - no number: A/B   check 9 0 5 85 => 3 BACNET UNKNOWN - no address: 9
             check 7@DEV 0 5 85 => 3 BACNET UNKNOWN - another device: 8:1000
-            check -c 5:1 DEV 0 5 85 => 3 BACNET UNKNOWN - no range: 5:1
-            check -w :20 DEV 0 5 85 => 3 BACNET UNKNOWN - no range: :20
+            check -c 5:1 DEV => 3 BACNET UNKNOWN - no range: 5:1   check -w :20 DEV => 3 BACNET UNKNOWN - no range: :20
             check --tools /nowhere DEV 0 5 85 => 3 BACNET UNKNOWN - no bactool in /nowhere""")
         self.assertEqual((run("check", "--help")[0], run("check")[0], run("check", "-c")[0]), (3, 3, 3))
 
