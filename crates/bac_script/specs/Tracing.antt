@@ -30,8 +30,8 @@ pub record HasRead {R : Type 0} (remaining : R → Option (List ℕ)) (reader re
   pub needed : IsNeeded reader reader' given
   pub spared : ReadsNoMore reader reader'
 
--- The text of the lines that were whole before the last read was written: so nobody waits for text while the reader is
--- asked, and nothing is read once the writer has failed.
+-- However the run ended, the text of the lines that were whole before the last read was written. So it was out before
+-- that read, or a write that failed later would have left it out; and no run knows which of its reads is the last.
 abbrev pub IsToldFirst : {R W : Type 0} → Checked R → Checked W → Checked W → List ℕ → Type 0
 IsToldFirst reader' writer writer' given = (before : List ℕ) → given ≡ before ++ last_of reader' →
     (later : List ℕ) × (octets_of writer' ≡ (octets_of writer ++ text before Open) ++ later)
