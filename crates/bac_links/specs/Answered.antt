@@ -57,8 +57,8 @@ Printed contents before after text result = Took contents before after text
 
 module _ {V W A : Type 0} (contents : V → Option (List ℕ)) (before after : Checked V)
     (other_contents : W → Option (List ℕ)) (other_before other_after : Checked W) where
-  -- Two runs with these results printed one text, each to its writer. So where one writer failed, it took a front of
-  -- what the other took.
+  -- Two runs with these results printed one text, each to its writer. So where one writer failed and the other did not,
+  -- it took a front of what the other took.
   abbrev pub OneText : (result other : Result A ToolFault) → Type 0
   OneText result other = (text : List ℕ) × Printed contents before after text result
       × Printed other_contents other_before other_after text other
