@@ -1,5 +1,5 @@
 -- What a link asks of a socket and its clock, and what it makes of the answers.
-use Rattle.std.specs.Prelude.{◌≡◌, ◌≢◌, ◌⊎◌, ℕ, ◌+◌, ◌*◌, ◌/◌, ◌-◌, ◌^◌, ◌==◌, ◌||◌, min, max, Bool, true, false}
+use Rattle.std.specs.Prelude.{◌≡◌, ◌≢◌, ◌⊎◌, ℕ, ◌+◌, ◌*◌, ◌/◌, ◌-◌, ◌^◌, ◌==◌, ◌||◌, min, Bool, true, false}
 use Rattle.std.specs.Prelude.{List, [], ◌∷◌, ◌++◌, length, nat_le, Option, Some, None, Result, Ok, Err, if◌then◌else◌}
 use Rattle.std.specs.Duration.{as_nanos}
 use Rattle.std.specs.Net.Addr.{ipv4_bits, IsIpv4OfBits}
@@ -20,10 +20,10 @@ use Rattle.bac_links.specs.declared.udp.Refused.TheVariants.{Fails, IsLost}
 
 -- ---- what the system was asked
 
--- One call of the system, with its answer: a socket at this address; that its receives wait at most so long from now on, and
--- whether that was done; a datagram for an address, and how many of its octets went, unless it was refused; a datagram,
--- with room for so many octets, and which came from where, or why none did; how long ago the socket was made, unless the
--- clock failed.
+-- One call of the system, with its answer: a socket at this address; that its receives wait at most so long from now
+-- on, and whether that was done; a datagram for an address, and how many of its octets went, unless it was refused; a
+-- datagram, with room for so many octets, and which came from where, or why none did; how long ago the socket was made,
+-- unless the clock failed.
 pub data SystemCall : Type 0 where
   Bind : (at : SocketAddr) → SystemCall
   Limit : (nanos : ℕ) (done : Bool) → SystemCall

@@ -1,5 +1,5 @@
 //! What a link asks the system for.
-ghost use Rattle.std.specs.Prelude.{◌≡◌, ◌≤◌, ◌∷◌, [], length, is_ok, take, IfOk};
+ghost use Rattle.std.specs.Prelude.{◌≡◌, ◌≤◌, ◌∷◌, ◌++◌, [], length, is_ok, take, IfOk};
 ghost use Rattle.std.specs.Duration.{as_nanos};
 ghost use Rattle.std.specs.Io.{WritesAtMost};
 ghost use Rattle.std.specs.IoError.{error_kind};
@@ -14,7 +14,7 @@ use std::time::{Clock, Duration, Instant};
 
 /// A UDP socket and its clock, which remember what they were asked and answered. Each method is one call of the system.
 pub trait Socket {
-    ghost use Rattle.std.specs.Prelude.{List, ◌++◌};
+    ghost use Rattle.std.specs.Prelude.{List};
     ghost use Rattle.bac_links.specs.Socket.{SystemCall};
 
     // The calls of the system so far.
@@ -71,25 +71,40 @@ impl<R: Net + Clock + Clone + Drop> SystemSocket<R> {
 impl<R: Clock + Drop> Socket for SystemSocket<R> {
     ghost log = { λ socket. socket.log.calls };
 
-    fn set_read_timeout(&mut self, limit: Duration) -> io::Result<()> {
+    fn set_read_timeout(&mut self, limit: Duration) -> io::Result<()>
+        ensures log { self.new.log.calls ≡ self.old.log.calls ++ Limit (as_nanos limit) (is_ok result) ∷ [] }
+        ensures left { self.new ≡ record self.old { log = self.new.log } }
+    {
         let done = self.socket.set_read_timeout(Some(limit));
         self.log = self.log.and(&CallNote::Limit(limit, &done));
         done
     }
 
-    fn send_to(&mut self, octets: &[u8], to: SocketAddr) -> io::Result<usize> {
+    fn send_to(&mut self, octets: &[u8], to: SocketAddr) -> io::Result<usize>
+        ensures bound { WritesAtMost result octets.now }
+        ensures log { self.new.log.calls ≡ self.old.log.calls ++ SendTo octets.now to (result_ok result) ∷ [] }
+        ensures left { self.new ≡ record self.old { log = self.new.log } }
+    {
         let sent = self.socket.send_to(octets, to);
         self.log = self.log.and(&CallNote::SendTo(octets, to, &sent));
         sent
     }
 
-    fn recv_from(&mut self, room: &mut [u8]) -> io::Result<(usize, SocketAddr)> {
+    fn recv_from(&mut self, room: &mut [u8]) -> io::Result<(usize, SocketAddr)>
+        ensures within { IfOk result (λ came. came.0 ≤ length room.new) }
+        ensures log { self.new.log.calls ≡ self.old.log.calls ++ Receive (length room.old)
+            (result_map_both (λ came. (take came.0 room.new, came.1)) error_kind result) ∷ [] }
+        ensures left { self.new ≡ record self.old { log = self.new.log } }
+    {
         let came = self.socket.recv_from(room);
         self.log = self.log.and(&CallNote::Receive(room, &came));
         came
     }
 
-    fn elapsed(&mut self) -> io::Result<Duration> {
+    fn elapsed(&mut self) -> io::Result<Duration>
+        ensures log { self.new.log.calls ≡ self.old.log.calls ++ Elapsed (result_ok result) ∷ [] }
+        ensures left { self.new ≡ record self.old { log = self.new.log } }
+    {
         let passed = self.made.elapsed(&self.rt);
         self.log = self.log.and(&CallNote::Elapsed(&passed));
         passed

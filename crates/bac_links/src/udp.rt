@@ -216,7 +216,7 @@ impl<S: Socket + Drop> Link for UdpLink<S> {
         ensures fault { self.new.failed ≡ is_err result }
         ensures lost { self.old.refused ≡ Refused.IsLost → result ≡ Ok tt }
         ensures left { (self.new.refused ≡ self.old.refused) × (self.new.time ≡ self.old.time)
-            × (self.new.wait_ms ≡ self.old.wait_ms) }
+            × (self.new.wait_ms ≡ self.old.wait_ms) × (self.new.buffer ≡ self.old.buffer) }
         ensures asked { Logs (Sends self.old.refused to octets.now (is_ok result))
             (S.log self.old.socket) (S.log self.new.socket) }
         ensures told { Gains (posted result (station to) octets.now) (remembering self.old.history.entries)
@@ -259,7 +259,7 @@ impl<S: Socket + Drop> Link for UdpLink<S> {
 
     fn now(&mut self) -> u64
         ensures left { (self.new.refused ≡ self.old.refused) × (self.new.failed ≡ self.old.failed)
-            × (self.new.wait_ms ≡ self.old.wait_ms) × (self.new.time ≡ result) }
+            × (self.new.wait_ms ≡ self.old.wait_ms) × (self.new.buffer ≡ self.old.buffer) × (self.new.time ≡ result) }
         ensures asked { Logs (Times self.old.time result) (S.log self.old.socket) (S.log self.new.socket) }
         ensures told { Gains (Timed result) (remembering self.old.history.entries)
             (remembering self.new.history.entries) }

@@ -11,18 +11,14 @@ use bac_tools::{
     Binding, Fault, Link, LinkFault, Network, Report, SystemSocket, ToolFault, UdpLink, UsageFault,
     run_program,
 };
-use std::alloc::Global;
 use std::env;
 use std::fmt::Display;
 use std::io::{Eprint, Print};
-use std::net::Net;
 use std::process::ExitCode;
-use std::time::Clock;
 
 fn main(rt: HostRuntime) -> ExitCode {
-    let alloc = rt.alloc();
-    let sockets = Sockets { rt: &rt, alloc };
-    let report = run_program(alloc, env::args(&rt), sockets, rt.stdin(), rt.stdout())
+    let sockets = Sockets { rt: &rt };
+    let report = run_program(rt.alloc(), env::args(&rt), sockets, rt.stdin(), rt.stdout())
         .ran
         .report;
     exit_code(&told(&rt, report))
@@ -30,20 +26,19 @@ fn main(rt: HostRuntime) -> ExitCode {
 
 /// The sockets of this machine.
 #[derive(Drop)]
-struct Sockets<'r, R> {
-    rt: &'r R,
-    alloc: Global,
+struct Sockets<'r> {
+    rt: &'r HostRuntime,
 }
 
-impl<R: Net + Clock + Clone + Drop> Network for Sockets<'_, R> {
-    type Socket = UdpLink<SystemSocket<R>>;
+impl Network for Sockets<'_> {
+    type Socket = UdpLink<SystemSocket<HostRuntime>>;
 
     ghost gives = { λ _ binding socket.
         IfOk socket (λ link. Binds binding.at link.socket.log.calls × (link.refused ≡ binding.refused)
-            × (link.history.entries ≡ [])) };
+        × (link.history.entries ≡ [])) };
 
-    fn bind(self, binding: Binding) -> Result<UdpLink<SystemSocket<R>>, LinkFault> {
-        UdpLink::bind_with(self.rt, self.alloc, binding.at, binding.refused)
+    fn bind(self, binding: Binding) -> Result<UdpLink<SystemSocket<HostRuntime>>, LinkFault> {
+        UdpLink::bind_with(self.rt, self.rt.alloc(), binding.at, binding.refused)
     }
 }
 

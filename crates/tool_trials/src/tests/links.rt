@@ -2,6 +2,7 @@
 ghost use Rattle.std.specs.Prelude.{◌≡◌, false};
 
 mod devices;
+mod errors;
 mod failing;
 mod requests;
 mod sockets;

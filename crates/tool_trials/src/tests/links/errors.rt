@@ -1,0 +1,167 @@
+//! Tools over a socket of which one sort of call fails, with each kind of error.
+ghost use Rattle.std.specs.Prelude.{◌≡◌, ◌≤◌, length};
+
+use super::*;
+use bac_links::{CallNote, Log, Refused, Socket, UdpLink};
+use std::io::{self, ErrorKind};
+use std::net::{Ipv4Addr, SocketAddr, SocketAddrV4};
+use std::time::Duration;
+
+/// What a socket is asked for.
+#[derive(Clone, Copy, PartialEq, Eq)]
+enum Asked {
+    Limit,
+    Send,
+    Receive,
+    Time,
+}
+
+/// A socket that gives this datagram whenever it is waited for, but that fails with this error where it is asked for
+/// this. A wait that fails takes 50 ms.
+#[derive(Drop)]
+struct Failing<'a> {
+    at: Asked,
+    kind: ErrorKind,
+    datagram: &'a [u8],
+    passed: Duration,
+    log: Log,
+}
+
+impl<'a> Failing<'a> {
+    fn new(at: Asked, kind: ErrorKind, datagram: &'a [u8]) -> Self {
+        Failing {
+            at,
+            kind,
+            datagram,
+            passed: Duration::from_millis(0),
+            log: Log::new(),
+        }
+    }
+
+    /// What is asked for, or the error.
+    fn unless_failing<T: Drop>(&self, asked: Asked, answer: T) -> io::Result<T> {
+        if asked == self.at {
+            return Err(io::Error::from(self.kind));
+        }
+        Ok(answer)
+    }
+}
+
+/// Puts the octets there, as many as there is room for.
+fn put(octets: &[u8], room: &mut [u8]) -> usize
+    ensures within { result ≤ length room.new }
+    ensures room { length room.new ≡ length room.old }
+{
+    let len = octets.len().min(room.len());
+    room[..len].copy_from_slice(&octets[..len]);
+    len
+}
+
+impl Socket for Failing<'_> {
+    ghost log = { λ socket. socket.log.calls };
+
+    fn set_read_timeout(&mut self, limit: Duration) -> io::Result<()> {
+        let done = self.unless_failing(Asked::Limit, ());
+        self.log = self.log.and(&CallNote::Limit(limit, &done));
+        done
+    }
+
+    fn send_to(&mut self, octets: &[u8], to: SocketAddr) -> io::Result<usize> {
+        let sent = self.unless_failing(Asked::Send, octets.len());
+        self.log = self.log.and(&CallNote::SendTo(octets, to, &sent));
+        sent
+    }
+
+    fn recv_from(&mut self, room: &mut [u8]) -> io::Result<(usize, SocketAddr)> {
+        let from = SocketAddr::V4(SocketAddrV4::new(
+            Ipv4Addr::from_bits(CONTROLLER.ip),
+            CONTROLLER.port,
+        ));
+        let came = self.unless_failing(Asked::Receive, (put(self.datagram, room), from));
+        if came.is_err() {
+            self.passed = self.passed.saturating_add(Duration::from_millis(50));
+        }
+        self.log = self.log.and(&CallNote::Receive(room, &came));
+        came
+    }
+
+    fn elapsed(&mut self) -> io::Result<Duration> {
+        let passed = self.unless_failing(Asked::Time, self.passed);
+        self.log = self.log.and(&CallNote::Elapsed(&passed));
+        passed
+    }
+}
+
+/// How a read with a timeout of 100 ms ends over such a socket, which gives the answer to it.
+fn read_ends(alloc: Global, at: Asked, kind: ErrorKind) -> Result<Got, LinkFault> {
+    let mut link = UdpLink::over(Failing::new(at, kind, VALUE), alloc, Refused::Fails)?;
+    let job = Job::Read(&call_of(100, 0, BODY));
+    Ok(run_job(job, &mut link, [0; 9].as_mut_slice()))
+}
+
+type Served = Result<u32, ToolFault>;
+
+/// How a device ends that is to answer one datagram over such a socket, which gives a request.
+fn serve_ends(alloc: Global, at: Asked, kind: ErrorKind) -> Result<Served, LinkFault> {
+    let mut link = UdpLink::over(Failing::new(at, kind, ASK), alloc, Refused::IsLost)?;
+    let mut device = small_device().ok_or(LinkFault)?;
+    Ok(serve(&mut link, &mut device, 1))
+}
+
+const UNHEARD: Got = Err(ToolFault::ReceiveFailed);
+
+const BROKEN: Served = Err(ToolFault::ReceiveFailed);
+
+/// All turns go by in silence.
+const SILENT: Served = Err(ToolFault::TurnsSpent);
+
+/// Each kind of error, and how a read and a device end where each receive fails with it. What tells that a wait is
+/// over, or that a device's reply did not come to its peer, is silence.
+static RECEIVING: [(ErrorKind, Got, Served); 12] = [
+    (ErrorKind::WouldBlock, Ok(Exit::Bad), SILENT),
+    (ErrorKind::TimedOut, Ok(Exit::Bad), SILENT),
+    (ErrorKind::Interrupted, Ok(Exit::Bad), SILENT),
+    (ErrorKind::ConnectionRefused, UNHEARD, SILENT),
+    (ErrorKind::ConnectionReset, UNHEARD, SILENT),
+    (ErrorKind::HostUnreachable, UNHEARD, SILENT),
+    (ErrorKind::NetworkUnreachable, UNHEARD, SILENT),
+    (ErrorKind::NetworkDown, UNHEARD, BROKEN),
+    (ErrorKind::NotConnected, UNHEARD, BROKEN),
+    (ErrorKind::PermissionDenied, UNHEARD, BROKEN),
+    (ErrorKind::OutOfMemory, UNHEARD, BROKEN),
+    (ErrorKind::Other, UNHEARD, BROKEN),
+];
+
+#[test]
+fn receives_fail(rt: HostRuntime) -> Result<(), Fail> {
+    for (kind, read, served) in &RECEIVING {
+        assert!(rt;
+            read_ends(rt.alloc(), Asked::Receive, *kind)? == *read,
+            "{kind:?}"
+        );
+        assert!(rt;
+            serve_ends(rt.alloc(), Asked::Receive, *kind)? == *served,
+            "{kind:?}"
+        );
+    }
+    Ok(())
+}
+
+/// What else fails, and how both end then, whatever the error is. A device loses the reply that it can't send. Without
+/// a clock no time goes by, and what comes is heard all the same.
+static OTHERS: [(Asked, Got, Served); 3] = [
+    (Asked::Limit, UNHEARD, BROKEN),
+    (Asked::Send, Err(ToolFault::SendFailed), Ok(1)),
+    (Asked::Time, Ok(Exit::Good), Ok(1)),
+];
+
+#[test]
+fn other_calls_fail(rt: HostRuntime) -> Result<(), Fail> {
+    for (at, read, served) in &OTHERS {
+        for (kind, ..) in &RECEIVING {
+            assert!(rt; read_ends(rt.alloc(), *at, *kind)? == *read, "{kind:?}");
+            assert!(rt; serve_ends(rt.alloc(), *at, *kind)? == *served, "{kind:?}");
+        }
+    }
+    Ok(())
+}
