@@ -41,7 +41,8 @@ PAGES = [
     ("links", "Links, and the laws of the tools over them", ["bac_links::*"]),
     ("command", "The words of a command line", ["bac_words::parse_words", "bac_words::*", "clap_laws::*"]),
     ("program", "From the words to the status", ["bac_tools::run_program", "bac_tools::run_words"]
-    + ["bac_text::Checked::read", "bac_text::Checked::write", "bac_text::Checked::flush", "bac_tools::*", "bactool::*"]),
+    + ["bac_text::Checked::read", "bac_text::Checked::write", "bac_text::Checked::flush"]
+    + ["bac_tools::*", "bactool::*"]),
 ]
 
 # What a page shows at its head: a file of specs/, and the definitions of it.

@@ -168,11 +168,12 @@ class Specs:
         """Of each definition the comment above it, the parameters of the modules round it, and its lines."""
         modules, comment, lines, base = [], [], [], 0
         for line in re.sub(r"(?ms)^ *module _ .*?where$", lambda head: head[0].replace("\n", ""), text).split("\n"):
+            line = re.sub(r"(?<=\S) +-- .*$", "", line)
             said, depth = line.strip(), depth_of(line)
             if said.startswith("module _ "):
                 modules, comment, lines = [*modules[: depth // 2], said[len("module _") : -len("where")]], [], []
             elif lines and depth > base:
-                lines += [re.sub(r" -- .*$", "", line)] if not said.startswith("--") else []
+                lines += [line] if not said.startswith("--") else []
             elif not said or said.startswith("--"):
                 comment = [*comment, said[2:].strip()] if said else []
             elif re.match(STARTS, said) or said.split()[1:2] == [":"]:

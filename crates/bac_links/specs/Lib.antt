@@ -5,6 +5,7 @@ pub mod Asking
 pub mod Answered
 pub mod Memory
 pub mod Socket
+pub mod Log
 pub mod Fault
 pub mod Handed
 pub mod Ending

@@ -1,13 +1,15 @@
-//! What holds of the definitions that the contracts cite: each such function has an empty body, and its clause is the
-//! law. And that `==` on the public types is that of their values.
+//! What holds of the definitions that the contracts cite, and of the public types. Each function has an empty body, and
+//! its clauses are the laws.
 
-ghost use Rattle.std.specs.Prelude.{◌≡◌, ◌≢◌, ◌≤◌, ◌+◌, ◌*◌, ◌++◌, ◌↔◌, ℕ, suc, ⊤, IsTrue, List, Result, Ok, Err};
+ghost use Rattle.std.specs.Prelude.{◌≡◌, ◌≢◌, ◌≤◌, ◌+◌, ◌*◌, ◌++◌, ℕ, suc, ⊤, List, Result, Ok, Err};
+ghost use Rattle.bac_wire.specs.Copies.{MakesCopies, EqualsBy};
 ghost use Rattle.bac_device.specs.Places.{Write as Change};
 ghost use Rattle.bac_device.specs.Device.{DeviceState, points_of, Holds};
 ghost use Rattle.bac_device.specs.Turns.{AreDefined};
 ghost use Rattle.bac_text.specs.declared.checked.Checked.{Checked};
 ghost use Rattle.bac_text.specs.declared.jobs.Call.{Call};
 ghost use Rattle.bac_text.specs.declared.jobs.Search.{Search};
+ghost use Rattle.bac_links.specs.Limits.{longest_datagram};
 ghost use Rattle.bac_links.specs.History.{Entry, Account};
 ghost use Rattle.bac_links.specs.Answered.{AskAlike, OneText};
 ghost use Rattle.bac_links.specs.Asking.{waits_in};
@@ -19,9 +21,11 @@ ghost use Rattle.bac_links.specs.declared.ending.Purpose.{Purpose};
 ghost use Rattle.bac_links.specs.declared.ending.Exit.{Exit as Ended};
 ghost use Rattle.bac_links.specs.declared.fault.ToolFault.{ToolFault as Fault};
 
-use crate::ending::Exit;
+use crate::datagram::DATAGRAM_OCTETS;
+use crate::ending::{Exit, Purpose as Aim};
 use crate::fault::ToolFault;
 use crate::link::LinkFault;
+use crate::memory::Step;
 use crate::udp::Refused;
 use std::io::Write;
 
@@ -89,30 +93,25 @@ pub fn a_server_is_a_function()
         (λ result other. (result ≡ other) × (after ≡ other_after)) (λ result other. ⊤) }
 {}
 
-/// Exits are equal that are the same of the two.
-pub fn same_exit(exit: Exit, other: Exit) -> bool
-    ensures { IsTrue result ↔ (exit ≡ other) }
-{
-    exit == other
-}
+/// The limit that the code names is that of the definitions.
+pub fn limits()
+    ensures datagram { DATAGRAM_OCTETS ≡ longest_datagram }
+{}
 
-/// Faults of the tools are equal that are the same of the four.
-pub fn same_fault(fault: ToolFault, other: ToolFault) -> bool
-    ensures { IsTrue result ↔ (fault ≡ other) }
-{
-    fault == other
-}
+/// A clone is what it was cloned from, and takes no memory.
+pub fn clones<'a>()
+    ensures purpose { MakesCopies ⟦<Aim as Clone>⟧.is_clone ⟦<Aim as Clone>⟧.is_infallible }
+    ensures exit { MakesCopies ⟦<Exit as Clone>⟧.is_clone ⟦<Exit as Clone>⟧.is_infallible }
+    ensures fault { MakesCopies ⟦<ToolFault as Clone>⟧.is_clone ⟦<ToolFault as Clone>⟧.is_infallible }
+    ensures link_fault { MakesCopies ⟦<LinkFault as Clone>⟧.is_clone ⟦<LinkFault as Clone>⟧.is_infallible }
+    ensures refused { MakesCopies ⟦<Refused as Clone>⟧.is_clone ⟦<Refused as Clone>⟧.is_infallible }
+    ensures step { MakesCopies ⟦<Step<'a> as Clone>⟧.is_clone ⟦<Step<'a> as Clone>⟧.is_infallible }
+{}
 
-/// There is but one fault of links, which is equal to itself.
-pub fn same_link_fault(link_fault: LinkFault, other: LinkFault) -> bool
-    ensures { IsTrue result ↔ (link_fault ≡ other) }
-{
-    link_fault == other
-}
-
-/// What becomes of a refused datagram is equal where it is the same of the two.
-pub fn same_refused(refused: Refused, other: Refused) -> bool
-    ensures { IsTrue result ↔ (refused ≡ other) }
-{
-    refused == other
-}
+/// What `==` compares: which exit, which fault and which of the two for a refused datagram it is.
+pub fn equals()
+    ensures exit { EqualsBy (λ exit. exit) ⟦<Exit as PartialEq>⟧.eq }
+    ensures fault { EqualsBy (λ fault. fault) ⟦<ToolFault as PartialEq>⟧.eq }
+    ensures link_fault { EqualsBy (λ link_fault. link_fault) ⟦<LinkFault as PartialEq>⟧.eq }
+    ensures refused { EqualsBy (λ refused. refused) ⟦<Refused as PartialEq>⟧.eq }
+{}

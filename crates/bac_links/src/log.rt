@@ -29,7 +29,7 @@ pub enum CallNote<'a> {
 }
 
 impl Log {
-    ghost use Rattle.bac_links.specs.Inner.Log.{logged};
+    ghost use Rattle.bac_links.specs.Log.{logged};
 
     /// No call was made yet.
     pub fn new() -> Log

@@ -1,6 +1,7 @@
-//! What holds of the definitions that the contracts cite. Each function has an empty body, or only compares, and its
-//! clause is the law.
-ghost use Rattle.std.specs.Prelude.{◌≡◌, ◌≢◌, ◌↔◌, ℕ, List, Result, Err, IsTrue};
+//! What holds of the definitions that the contracts cite. Each function has an empty body, and its clauses are
+//! the laws.
+ghost use Rattle.std.specs.Prelude.{◌≡◌, ◌≢◌, ℕ, List, Result, Err};
+ghost use Rattle.bac_wire.specs.Copies.{MakesCopies, EqualsBy};
 ghost use Rattle.bac_tsm.specs.Laws.{NumbersComeBackLate};
 ghost use Rattle.bac_tsm.specs.Limits.{table_size};
 ghost use Rattle.bac_text.specs.declared.checked.Checked.{Checked};
@@ -42,16 +43,14 @@ pub fn numbers_come_back_late()
         → NumbersComeBackLate table_size (requests_in (all_said (lines octets reading))) }
 {}
 
-/// Ends of scripts are equal just where they are the same.
-pub fn same_end(end: &TraceEnd, other: &TraceEnd) -> bool
-    ensures { IsTrue result ↔ (end.now ≡ other.now) }
-{
-    end == other
-}
+/// A clone is what it was cloned from, and takes no memory.
+pub fn clones()
+    ensures end { MakesCopies ⟦<TraceEnd as Clone>⟧.is_clone ⟦<TraceEnd as Clone>⟧.is_infallible }
+    ensures fault { MakesCopies ⟦<TraceFault as Clone>⟧.is_clone ⟦<TraceFault as Clone>⟧.is_infallible }
+{}
 
-/// Faults of scripts are equal just where they are the same.
-pub fn same_fault(fault: &TraceFault, other: &TraceFault) -> bool
-    ensures { IsTrue result ↔ (fault.now ≡ other.now) }
-{
-    fault == other
-}
+/// What `==` compares: all that an end or a fault of a script says.
+pub fn equals()
+    ensures end { EqualsBy (λ end. end) ⟦<TraceEnd as PartialEq>⟧.eq }
+    ensures fault { EqualsBy (λ fault. fault) ⟦<TraceFault as PartialEq>⟧.eq }
+{}

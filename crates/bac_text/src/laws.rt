@@ -1,6 +1,7 @@
-//! What holds of the definitions that the contracts cite. Each function has an empty body, or only compares, and its
-//! clause is the law.
-ghost use Rattle.std.specs.Prelude.{◌≡◌, ◌↔◌, ◌<◌, ◌^◌, ℕ, List, Option, Some, Ok, IfSome, IsTrue};
+//! What holds of the definitions that the contracts cite. Each function has an empty body, and its clauses are
+//! the laws.
+ghost use Rattle.std.specs.Prelude.{◌≡◌, ◌↔◌, ◌<◌, ◌^◌, ℕ, List, Option, Some, Ok, IfSome};
+ghost use Rattle.bac_wire.specs.Copies.{MakesCopies, EqualsBy};
 ghost use Rattle.bac_wire.specs.Datum.{Datum, Spells};
 ghost use Rattle.bac_wire.specs.Front.{SpellsAll};
 ghost use Rattle.bac_wire.specs.Identifier.{Identifier, IsIdentifier};
@@ -28,16 +29,14 @@ pub fn bodies_in_words()
         body_of object property index priority words ≡ Ok body → IsWritten object property index priority words body }
 {}
 
-/// Faults of pairs are equal just where they are the same.
-pub fn same_pair_fault(fault: &PairFault, other: &PairFault) -> bool
-    ensures { IsTrue result ↔ (fault.now ≡ other.now) }
-{
-    fault == other
-}
+/// A clone is what it was cloned from, and takes no memory.
+pub fn clones()
+    ensures pair { MakesCopies ⟦<PairFault as Clone>⟧.is_clone ⟦<PairFault as Clone>⟧.is_infallible }
+    ensures write { MakesCopies ⟦<WriteFailed as Clone>⟧.is_clone ⟦<WriteFailed as Clone>⟧.is_infallible }
+{}
 
-/// Faults of writing are all the same.
-pub fn same_write_fault(failed: &WriteFailed, other: &WriteFailed) -> bool
-    ensures { IsTrue result ↔ (failed.now ≡ other.now) }
-{
-    failed == other
-}
+/// What `==` compares: which fault of a pair it is; faults of writing are all the same.
+pub fn equals()
+    ensures pair { EqualsBy (λ pair. pair) ⟦<PairFault as PartialEq>⟧.eq }
+    ensures write { EqualsBy (λ write. write) ⟦<WriteFailed as PartialEq>⟧.eq }
+{}

@@ -1,9 +1,12 @@
-//! What holds of the definitions that the contracts cite: the clause of a function with an empty body is the law.
+//! What holds of the definitions that the contracts cite, and of the public types: the clause of a function with an
+//! empty body is the law.
 ghost use Rattle.std.specs.Prelude.{List};
+ghost use Rattle.bac_wire.specs.Copies.{MakesCopies};
 ghost use Rattle.clap.specs.Words.{Text};
 ghost use Rattle.bac_links.specs.History.{Entry};
 ghost use Rattle.bac_tools.specs.Alike.{Run, AreGivenAlike, AreAlike};
 
+use crate::binding::Binding;
 use crate::program::Network;
 use std::io::{Read, Write};
 
@@ -24,4 +27,9 @@ pub fn the_program_is_a_function<M: Network, N: Network, R: Read, S: Read, V: Wr
         (first rest other_first other_rest : List Entry)
         → AreGivenAlike one other first rest other_first other_rest
         → AreAlike one other first rest other_first other_rest }
+{}
+
+/// A clone is what it was cloned from, and takes no memory.
+pub fn clones()
+    ensures binding { MakesCopies ⟦<Binding as Clone>⟧.is_clone ⟦<Binding as Clone>⟧.is_infallible }
 {}

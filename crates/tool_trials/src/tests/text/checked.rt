@@ -99,9 +99,18 @@ fn each_call_is_one_of_the_stream_within(rt: HostRuntime) {
         let mut flushed = Checked::new(Answering { calls: &flushes });
         let mut room = [0; 16];
         for (at, answer) in ANSWERS.iter().enumerate() {
-            assert!(rt; is_told(reader.read(&mut room[..octets]), answer, octets), "read {at}");
-            assert!(rt; is_told(writer.write(&room[..octets]), answer, octets), "write {at}");
-            assert!(rt; is_told(flushed.flush().map(|()| 0), answer, 0), "flush {at}");
+            assert!(rt;
+                is_told(reader.read(&mut room[..octets]), answer, octets),
+                "read {at}"
+            );
+            assert!(rt;
+                is_told(writer.write(&room[..octets]), answer, octets),
+                "write {at}"
+            );
+            assert!(rt;
+                is_told(flushed.flush().map(|()| 0), answer, 0),
+                "flush {at}"
+            );
             let calls = [reads.get(), writes.get(), flushes.get()];
             assert!(rt; calls == [at + 1; 3], "after call {at}");
         }

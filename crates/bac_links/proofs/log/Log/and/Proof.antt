@@ -30,7 +30,7 @@ use denote.Triple.Walked.{says, Stays, stay_dropped, walk_of, ends_at, walk_Meet
 use Rattle.bac_text.proofs.Walks.{none, none_made}
 use Rattle.bac_links.specs.contracts.log.Log as Log
 use Rattle.bac_links.specs.contracts.log.CallNote as Note
-use Rattle.bac_links.specs.Inner.Log.{logged}
+use Rattle.bac_links.specs.Log.{logged}
 use Rattle.bac_links.specs.contracts.log.Log.and as F
 use Rattle.bac_links.specs.contracts.log.Log.and.Key.{name as #self}
 use Rattle.bac_links.proofs.log.Log.and.Statement as stated

@@ -1,4 +1,4 @@
--- The call that a note stands for.
+-- The log of a socket, one call later.
 use Rattle.std.specs.Prelude.{List, ◌∷◌, [], ◌++◌, length, take, is_ok}
 use Rattle.std.specs.Result.{result_ok, result_map_both}
 use Rattle.std.specs.IoError.{error_kind}
@@ -7,6 +7,7 @@ use Rattle.bac_links.specs.Socket.{SystemCall, Bind, Limit, SendTo, Receive, Ela
 use Rattle.bac_links.specs.declared.log.CallNote.{CallNote}
 use Rattle.bac_links.specs.declared.log.CallNote.TheVariants as note
 
+-- The call, with its answer, of which a note tells.
 abbrev pub call_of : CallNote → SystemCall
 call_of (note.Bind at) = Bind at
 call_of (note.Limit limit done) = Limit (as_nanos limit) (is_ok done.now)
@@ -15,5 +16,6 @@ call_of (note.Receive room came) =
     Receive (length room.now) (result_map_both (λ c. (take c.0 room.now, c.1)) error_kind came.now)
 call_of (note.Elapsed passed) = Elapsed (result_ok passed.now)
 
+-- The log, and the call of this note behind it.
 abbrev pub logged : List SystemCall → CallNote → List SystemCall
 logged calls note = calls ++ call_of note ∷ []
