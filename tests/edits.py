@@ -56,7 +56,7 @@ def functions_of(crate, path, text):
         if owner:
             trait, given, kind = owner.groups()
             words = "".join(it[0].upper() + it[1:] for it in re.findall(r"(?<!')\b\w+", given or ""))
-            place, shown = rf"(\w+::)*(fn::)?{kind}{trait or ''}({words})?::", f"{kind}::{name}"
+            place, shown = rf"(\w+::)*(fn::)?{kind}(\+\w+)*{trait or ''}({words})?::", f"{kind}::{name}"
         whole = rf"(\w+::)*\+{cycle[1]}|" if cycle else ""
         symbols, key = rf"{crate}::({whole}{place}{name}(::.+)?)$", (path, cycle[1] if cycle else first)
         beside = Beside(last, "", place) if owner and not owner[1] or not indent else None
