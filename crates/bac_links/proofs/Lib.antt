@@ -10,3 +10,4 @@ mod Asking
 pub mod Alike
 pub mod SearchesAlike
 pub mod ServingsAlike
+pub mod Lines

@@ -1,0 +1,22 @@
+-- The line of a call that met no fault: for a crate above.
+use Rattle.std.proofs.Common.{◌≡◌, ◌<◌, List, ℕ, Option, Result, Ok, Err, ap, arith}
+use Rattle.bac_tsm.specs.Events.{Outcome}
+use Rattle.bac_text.specs.Checked.{Took}
+use Rattle.bac_text.specs.declared.checked.Checked.{Checked}
+use Rattle.bac_text.specs.declared.jobs.Call.{Call}
+use Rattle.bac_links.specs.Call.{Tells}
+use Rattle.bac_links.specs.Ending.{ending_line, exit_of, status_of}
+use Rattle.bac_links.specs.History.{Account}
+use Rattle.bac_links.specs.declared.ending.Exit.{Exit}
+use Rattle.bac_links.specs.declared.ending.Purpose.{Purpose}
+use Rattle.bac_links.specs.declared.fault.ToolFault.{ToolFault}
+
+-- with a status below 3 the writer took the line of how the request ended, and the status is that of this end
+pub line_of : {W : Type 0} (purpose : Purpose) (call : Call) (contents : W → Option (List ℕ))
+    (before after : Checked W) (seen left : Account) (answer : Result Exit ToolFault)
+    → Tells purpose call contents before after seen left answer → status_of answer < 3
+    → (ending : Option Outcome) × (status_of answer ≡ status_of (Ok (exit_of purpose ending)))
+    × Took contents before after (ending_line purpose ending)
+line_of purpose call contents before after seen left (Ok exit) told below =
+    (told.0, ap (λ (e : Exit). status_of (Ok e)) told.1, told.2)
+line_of purpose call contents before after seen left (Err fault) told below = absurd (omega (arith, below))
