@@ -9,7 +9,7 @@
 # make gate: what a change has to pass: proves every crate and its tests from nothing, tries every wrong body, and runs
 #     everything; three quarters of an hour to an hour with four processors on a slow day, an hour and a half with two
 # make examples: runs each script of examples/, the demonstration, the program's own tests, those of bacsite and the
-#     guide, and compares what they write. A minute
+#     guide, and compares what they write. Two minutes
 # make forget: takes away what the prover keeps, 3.2 GB, but not the program; the next check proves from nothing
 # make documents: compares the documents, the reading lists and what reads the rules back with the tree. Seconds
 # make reading: writes docs/reading/ anew, and the sizes of its lists in README.md. Seconds
