@@ -1,5 +1,5 @@
 //! Tools over a socket of which one sort of call fails, with each kind of error.
-ghost use Rattle.std.specs.Prelude.{◌≡◌, ◌≤◌, length};
+ghost use Rattle.std.specs.Prelude.{◌≡◌, ◌≤◌, length, IfOk};
 
 use super::*;
 use bac_links::{CallNote, Log, Refused, Socket, UdpLink};
@@ -39,7 +39,9 @@ impl<'a> Failing<'a> {
     }
 
     /// What is asked for, or the error.
-    fn unless_failing<T: Drop>(&self, asked: Asked, answer: T) -> io::Result<T> {
+    fn unless_failing<T: Drop>(&self, asked: Asked, answer: T) -> io::Result<T>
+        ensures { IfOk result (λ given. given ≡ answer) }
+    {
         if asked == self.at {
             return Err(io::Error::from(self.kind));
         }
