@@ -447,7 +447,8 @@ def main():
         print(f"{len(edits)} bodies, of which {len(unfit)} don't fit the code")
         return 1 if unfit or not edits else 0
     is_kept = lambda crate: os.path.isdir(f"{ROOT}/crates/{crate}/out/incremental")
-    unkept = ", ".join(crate for crate, group in tried.items() if group and not is_kept(crate))
+    built = crates_below()["bactool"]  # a crate that the program doesn't rest on is proved here, from nothing
+    unkept = ", ".join(it for it, group in tried.items() if group and it in built and not is_kept(it))
     if unkept:
         print(f"no kept proofs of {unkept}: run `make program` first, or each check proves them from nothing")
         return 2
