@@ -10,7 +10,7 @@ ghost use Rattle.bac_wire.specs.Identifier.{identifier};
 ghost use Rattle.bac_device.specs.Limits.{device_room};
 ghost use Rattle.bac_device.specs.Kind.{value_of};
 ghost use Rattle.bac_device.specs.Point.{given, same_object};
-ghost use Rattle.bac_device.specs.Places.{Write, NoneTo, present, place_at, put as put_write};
+ghost use Rattle.bac_device.specs.Places.{Write, NoneTo, present, place_at, put};
 ghost use Rattle.bac_device.specs.Inner.Places.{write_seen};
 ghost use Rattle.bac_wire.specs.Steps.{result_seen};
 ghost use Rattle.bac_device.specs.Property.{single};
@@ -109,14 +109,6 @@ impl Device {
         Ok(())
     }
 
-    /// Adds this point, for which there has to be room.
-    pub(crate) fn append(&mut self, point: StandingPoint)
-        requires { length self.old.standings < device_room }
-        ensures { self.new ≡ record { info = self.old.info; standings = self.old.standings ++ point ∷ [] } }
-    {
-        self.points.push(point);
-    }
-
     /// The number of the present value of a point (clause 19.2), as in [`Point::start`]: what the most urgent place
     /// that is not NULL holds, or `start`. None where the object is no point.
     #[tactic(auto, using(crate::proofs::StateLaws::present_held))]
@@ -140,18 +132,12 @@ impl Device {
         self.place_at(object, priority)
     }
 
-    fn present_at(&self, object: ObjectId) -> Option<u32>
-        ensures { result ≡ option_map present (standing_at self.now (identifier object)) }
+    /// Adds this point, for which there has to be room.
+    pub(crate) fn append(&mut self, point: StandingPoint)
+        requires { length self.old.standings < device_room }
+        ensures { self.new ≡ record { info = self.old.info; standings = self.old.standings ++ point ∷ [] } }
     {
-        let point = self.point(object)?;
-        Some(point.present())
-    }
-
-    fn place_at(&self, object: ObjectId, priority: u8) -> Option<Option<u32>>
-        ensures { result
-            ≡ option_and_then (λ standing. place_at standing priority) (standing_at self.now (identifier object)) }
-    {
-        self.point(object)?.place(priority)
+        self.points.push(point);
     }
 
     /// What the device is known by.
@@ -199,14 +185,21 @@ impl Device {
         put_in(&mut self.points, write);
     }
 
-    /// The point that is this object.
-    fn point(&self, object: ObjectId) -> Option<&StandingPoint>
-        ensures { option_copied result ≡ standing_at self.now (identifier object) }
+    fn present_at(&self, object: ObjectId) -> Option<u32>
+        ensures { result ≡ option_map present (standing_at self.now (identifier object)) }
     {
-        self.points.iter().find(|point| point.is_object(object))
+        let point = self.point(object)?;
+        Some(point.present())
     }
 
-    /// The device's own property of this number.
+    fn place_at(&self, object: ObjectId, priority: u8) -> Option<Option<u32>>
+        ensures { result
+            ≡ option_and_then (λ standing. place_at standing priority) (standing_at self.now (identifier object)) }
+    {
+        self.point(object)?.place(priority)
+    }
+
+    // The device's own property of this number.
     #[tactic(auto, unfolding(crate::specs::Device::device_property))]
     fn own_property(&self, number: u32) -> Option<Property<'_>>
         ensures value { option_map property_seen result ≡ device_property self.now number }
@@ -223,32 +216,39 @@ impl Device {
             },
         }
     }
-}
 
-/// Makes the write at the points that are its object.
-fn put_in(points: &mut [StandingPoint], write: &PlaceWrite)
-    ensures { points.new ≡ map (put_write (write_seen write.now)) points.old }
-{
-    for point in points.iter_mut() {
-        point.put(write);
+    // The point that is this object.
+    fn point(&self, object: ObjectId) -> Option<&StandingPoint>
+        ensures { option_copied result ≡ standing_at self.now (identifier object) }
+    {
+        self.points.iter().find(|point| point.is_object(object))
     }
 }
 
-/// Whether one of the points is this object.
+// Whether one of the points is this object.
 fn has_object(points: &[StandingPoint], object: ObjectId) -> bool
     ensures { result ≡ list_any (λ standing. same_object standing.point.object (identifier object)) points.now }
 {
     points.iter().any(|point| point.is_object(object))
 }
 
-/// Whether one of the points has this name.
+// Whether one of the points has this name.
 fn has_name(points: &[StandingPoint], name: &str) -> bool
     ensures { result ≡ list_any (λ standing. bytes_eq standing.point.name name.now) points.now }
 {
     points.iter().any(|point| point.has_name(name))
 }
 
-/// The text of a property of every device of this kind.
+// Makes the write at the points that are its object.
+fn put_in(points: &mut [StandingPoint], write: &PlaceWrite)
+    ensures { points.new ≡ map (put (write_seen write.now)) points.old }
+{
+    for point in points.iter_mut() {
+        point.put(write);
+    }
+}
+
+// The text of a property of every device of this kind.
 #[tactic(auto, unfolding(crate::specs::Device::device_text))]
 fn fixed_text(number: u32) -> Option<&'static str>
     ensures { option_map (λ text. text.now) result ≡ device_text number }
@@ -263,7 +263,7 @@ fn fixed_text(number: u32) -> Option<&'static str>
     }
 }
 
-/// The number of a property of every device of this kind.
+// The number of a property of every device of this kind.
 #[tactic(auto, unfolding(crate::specs::Device::device_number))]
 fn fixed_number(number: u32) -> Option<Value<'static>>
     ensures value { option_map datum result ≡ device_number number }

@@ -7,7 +7,7 @@ ghost use Rattle.bac_device.specs.Inner.Examples.{of, element_of, read, read_for
 ghost use Rattle.bac_device.specs.Inner.Examples.{has_no, makes, refuses};
 ghost use Rattle.bac_device.specs.Inner.Examples.{real_72_3, twenty, thirty, zero_real, null, unsigned, enumerated};
 
-/// A property is read, whole or an element of it.
+// A property is read, whole or an element of it.
 #[tactic(none)]
 fn examples_of_reads()
     // A present value of each kind: 72.3 degrees, off, and the first of four seasons.
@@ -36,7 +36,7 @@ fn examples_of_reads()
         ∷ []) }
 {}
 
-/// A present value is written, and what is present then.
+// A present value is written, and what is present then.
 #[tactic(none)]
 fn examples_of_writes()
     // At two priorities: the more urgent one is present until NULL lets it go, then the other one, and at last the

@@ -3,11 +3,16 @@
 ghost use Rattle.std.specs.Prelude.{◌≡◌, ◌^◌, ◌<◌, IsTrue};
 ghost use Rattle.std.specs.Option.{option_map};
 ghost use Rattle.bac_wire.specs.Datum.{datum, IsSound};
-ghost use Rattle.bac_device.specs.Kind.{kind_of, is_commandable as has_priorities, value_of, place_value, number_in};
-ghost use Rattle.bac_device.specs.Kind.{place_in, one_value as only_value, allows as has_value};
-ghost use Rattle.bac_device.specs.Kind.{allows_extra as has_extra};
+ghost use Rattle.bac_device.specs.Kind as spec;
 
 use bac_wire::{Value, value_and_rest};
+
+/// The type of a point (clause 12).
+#[derive(Clone, Copy)]
+pub(crate) struct Kind {
+    pub(crate) family: Family,
+    pub(crate) role: Role,
+}
 
 /// What the present value of a point is: a Real, one of two states, or one of several.
 #[derive(Clone, Copy)]
@@ -25,25 +30,11 @@ pub(crate) enum Role {
     Value,
 }
 
-/// The type of a point (clause 12).
-#[derive(Clone, Copy)]
-pub(crate) struct Kind {
-    pub(crate) family: Family,
-    pub(crate) role: Role,
-}
-
-/// The kind of this family and role.
-fn kind_with(family: Family, role: Role) -> Kind
-    ensures { result ≡ record { family = family; role = role } }
-{
-    Kind { family, role }
-}
-
 impl Kind {
     /// The kind of this object type, where it is one of a point (clause 21, BACnetObjectType).
     #[tactic(auto, unfolding(crate::specs::Kind::kind_of))]
     pub(crate) fn of_number(number: u16) -> Option<Self>
-        ensures { result ≡ kind_of number }
+        ensures { result ≡ spec.kind_of number }
     {
         match number {
             0 => Some(kind_with(Family::Analog, Role::Input)),
@@ -61,7 +52,7 @@ impl Kind {
 
     /// Whether `extra` is one that a point of this kind can have.
     pub(crate) fn allows_extra(self, extra: u32) -> bool
-        ensures { result ≡ has_extra self.family self.role extra }
+        ensures { result ≡ spec.allows_extra self.family self.role extra }
     {
         match (self.family, self.role) {
             (Family::Analog, _) => true,
@@ -72,19 +63,21 @@ impl Kind {
     }
 }
 
-impl Role {
-    /// Whether points of this role have a priority array (clause 19.2).
-    pub(crate) fn is_commandable(self) -> bool
-        ensures { result ≡ has_priorities self }
-    {
-        !matches!(self, Role::Input)
-    }
-}
-
 impl Family {
+    /// The value that stands for what a place of a priority array holds.
+    pub(crate) fn place_value(self, place: Option<u32>) -> Value<'static>
+        ensures value { datum result ≡ spec.place_value self place }
+        ensures sound { IsSound (datum result) }
+    {
+        match place {
+            Some(number) => self.value(number),
+            None => Value::Null,
+        }
+    }
+
     /// The value that stands for the number of a present value.
     pub(crate) fn value(self, number: u32) -> Value<'static>
-        ensures value { datum result ≡ value_of self number }
+        ensures value { datum result ≡ spec.value_of self number }
         ensures sound { IsSound (datum result) }
     {
         match self {
@@ -94,20 +87,19 @@ impl Family {
         }
     }
 
-    /// The value that stands for what a place of a priority array holds.
-    pub(crate) fn place_value(self, place: Option<u32>) -> Value<'static>
-        ensures value { datum result ≡ place_value self place }
-        ensures sound { IsSound (datum result) }
+    /// What a value asks a place to hold. None where it is of another type.
+    pub(crate) fn place_in(self, value: &Value<'_>) -> Option<Option<u64>>
+        ensures { result ≡ spec.place_in self (datum value.now) }
     {
-        match place {
-            Some(number) => self.value(number),
-            None => Value::Null,
+        match value {
+            Value::Null => Some(None),
+            _ => self.number_in(value).map(Some),
         }
     }
 
     /// The number that a value stands for. None where it is of another type.
     pub(crate) fn number_in(self, value: &Value<'_>) -> Option<u64>
-        ensures { result ≡ number_in self (datum value.now) }
+        ensures { result ≡ spec.number_in self (datum value.now) }
     {
         match (self, value) {
             (Family::Analog, Value::Real(octets)) => Some(u64::from(u32::from_be_bytes(*octets))),
@@ -117,19 +109,9 @@ impl Family {
         }
     }
 
-    /// What a value asks a place to hold. None where it is of another type.
-    pub(crate) fn place_in(self, value: &Value<'_>) -> Option<Option<u64>>
-        ensures { result ≡ place_in self (datum value.now) }
-    {
-        match value {
-            Value::Null => Some(None),
-            _ => self.number_in(value).map(Some),
-        }
-    }
-
     /// Whether a present value can have this number. `extra` is the number of states.
     pub(crate) fn allows(self, extra: u32, number: u64) -> bool
-        ensures value { result ≡ has_value self extra number }
+        ensures value { result ≡ spec.allows self extra number }
         ensures fits { IsTrue result → number < 2 ^ 32 }
     {
         match self {
@@ -140,14 +122,30 @@ impl Family {
     }
 }
 
+impl Role {
+    /// Whether points of this role have a priority array (clause 19.2).
+    pub(crate) fn is_commandable(self) -> bool
+        ensures { result ≡ spec.is_commandable self }
+    {
+        !matches!(self, Role::Input)
+    }
+}
+
 /// The one value that the octets are.
 #[tactic(auto, unfolding(crate::specs::Kind::one_value))]
 pub(crate) fn one_value(octets: &[u8]) -> Option<Value<'_>>
-    ensures { option_map datum result ≡ only_value octets.now }
+    ensures { option_map datum result ≡ spec.one_value octets.now }
 {
     let (value, rest) = value_and_rest(octets)?;
     if !rest.is_empty() {
         return None;
     }
     Some(value)
+}
+
+// The kind of this family and role.
+fn kind_with(family: Family, role: Role) -> Kind
+    ensures { result ≡ record { family = family; role = role } }
+{
+    Kind { family, role }
 }

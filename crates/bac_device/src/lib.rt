@@ -17,7 +17,10 @@
 //!     ∷ makes (write_at 16 valve null) ∷ has (of 85 valve) zero_real ∷ []) }
 //! ```
 //!
-//! Calls, of `bac_uses` (`src/device.rt`), where it is proved that none of them can fail:
+//! The caller keeps to this: it sends what [`Device::answer`] leaves in the frame to the peer that it answers. No call
+//! has a condition.
+//!
+//! Calls, of `one_valve` of `bac_uses` (`src/device.rt`), where it is proved that none of them can fail:
 //!
 //! ```rust
 //! let mut device = Device::new(DeviceInfo::new(1234, "Heating").unwrap());
@@ -31,6 +34,7 @@
 //! ```
 #![tactic(auto)]
 
+mod accepting;
 mod demonstration;
 mod device;
 mod examples;

@@ -7,7 +7,7 @@ ghost use Rattle.bac_wire.specs.Identifier.{identifier};
 ghost use Rattle.bac_device.specs.Point.{given, description_of, same_object};
 ghost use Rattle.bac_device.specs.Places.{standing_after, present, place_at, written_value, put};
 ghost use Rattle.bac_device.specs.Inner.Places.{write_seen};
-ghost use Rattle.bac_device.specs.Kind.{is_commandable as has_priorities};
+ghost use Rattle.bac_device.specs.Kind.{is_commandable};
 ghost use Rattle.bac_device.specs.Property.{point_property, kind_property};
 ghost use Rattle.bac_device.specs.Inner.Property.{property_seen, IsSoundProperty};
 
@@ -27,7 +27,7 @@ use std::marker::Model;
 /// The octets that a name has at most.
 pub const NAME_OCTETS: usize = 64;
 
-/// The places of a priority array (clause 19.2).
+// The places of a priority array (clause 19.2).
 const PRIORITIES: usize = 16;
 
 /// A point that a device shall have: an object of type 0 to 5, 13, 14 or 19 (clause 12).
@@ -134,7 +134,7 @@ impl StandingPoint {
 
     /// Whether the point can be written.
     pub(crate) fn is_commandable(&self) -> bool
-        ensures { result ≡ has_priorities self.now.point.kind.role }
+        ensures { result ≡ is_commandable self.now.point.kind.role }
     {
         self.kind.role.is_commandable()
     }
@@ -184,7 +184,29 @@ impl StandingPoint {
         }
     }
 
-    /// The property of this number, where it is one that only points of some types have.
+    /// The property of this number.
+    #[tactic(auto, unfolding(crate::specs::Property::point_property))]
+    pub(crate) fn property(&self, number: u32) -> Option<Property<'_>>
+        ensures value { option_map property_seen result ≡ point_property self.now number }
+        ensures sound { IfSome result IsSoundProperty }
+    {
+        let family = self.kind.family;
+        match number {
+            OBJECT_IDENTIFIER => Some(Property::Single(Value::Object(self.id))),
+            OBJECT_NAME => Some(Property::Single(Value::Chars(
+                UTF_8,
+                self.name.as_str().as_bytes(),
+            ))),
+            OBJECT_TYPE => Some(Property::Single(Value::Enumerated(u32::from(self.id.kind())))),
+            PRESENT_VALUE => Some(Property::Single(family.value(self.present()))),
+            EVENT_STATE => Some(Property::Single(Value::Enumerated(NORMAL))),
+            OUT_OF_SERVICE => Some(Property::Single(Value::Bool(false))),
+            STATUS_FLAGS => Some(Property::Single(Value::Bits(4, &[0]))),
+            _ => self.property_by_kind(number),
+        }
+    }
+
+    // The property of this number, where it is one that only points of some types have.
     #[tactic(auto, unfolding(crate::specs::Property::kind_property))]
     fn property_by_kind(&self, number: u32) -> Option<Property<'_>>
         ensures value { option_map property_seen result ≡ kind_property self.now number }
@@ -209,31 +231,9 @@ impl StandingPoint {
             _ => None,
         }
     }
-
-    /// The property of this number.
-    #[tactic(auto, unfolding(crate::specs::Property::point_property))]
-    pub(crate) fn property(&self, number: u32) -> Option<Property<'_>>
-        ensures value { option_map property_seen result ≡ point_property self.now number }
-        ensures sound { IfSome result IsSoundProperty }
-    {
-        let family = self.kind.family;
-        match number {
-            OBJECT_IDENTIFIER => Some(Property::Single(Value::Object(self.id))),
-            OBJECT_NAME => Some(Property::Single(Value::Chars(
-                UTF_8,
-                self.name.as_str().as_bytes(),
-            ))),
-            OBJECT_TYPE => Some(Property::Single(Value::Enumerated(u32::from(self.id.kind())))),
-            PRESENT_VALUE => Some(Property::Single(family.value(self.present()))),
-            EVENT_STATE => Some(Property::Single(Value::Enumerated(NORMAL))),
-            OUT_OF_SERVICE => Some(Property::Single(Value::Bool(false))),
-            STATUS_FLAGS => Some(Property::Single(Value::Bits(4, &[0]))),
-            _ => self.property_by_kind(number),
-        }
-    }
 }
 
-/// The first of the places that is not NULL.
+// The first of the places that is not NULL.
 fn first_set(places: &[Option<u32>]) -> Option<&Option<u32>>
     ensures { option_copied result ≡ find is_some places.now }
 {

@@ -29,32 +29,6 @@ pub(crate) enum Property<'a> {
 }
 
 impl<'a> Property<'a> {
-    /// How many values there are.
-    pub(crate) fn count(&self) -> usize
-        ensures { result ≡ length (property_seen self.now).values }
-    {
-        match self {
-            Property::Single(_) => 1,
-            Property::EmptyList => 0,
-            Property::ObjectList(_, points) => 1 + points.len(),
-            Property::PriorityArray(_, places) => places.len(),
-        }
-    }
-
-    /// The value at this position, counted from 0.
-    pub(crate) fn value_at(&self, position: usize) -> Option<Value<'a>>
-        requires { IsSoundProperty self.now }
-        ensures value { option_map datum result ≡ slice_get (property_seen self.now).values position }
-        ensures sound { IfSome result (λ value. IsSound (datum value)) }
-    {
-        match self {
-            Property::Single(value) => (position == 0).then_some(*value),
-            Property::EmptyList => None,
-            Property::ObjectList(device, points) => object_at(*device, points, position),
-            Property::PriorityArray(family, places) => place_at(*family, places, position),
-        }
-    }
-
     /// What an index chooses: without one all, with 0 the number of elements, else the element, counted from 1.
     #[tactic(auto, unfolding(crate::specs::Property::element))]
     pub(crate) fn element(self, index: Option<u32>) -> Result<Property<'a>, Failure>
@@ -83,28 +57,32 @@ impl<'a> Property<'a> {
     {
         matches!(self, Property::ObjectList(..) | Property::PriorityArray(..))
     }
-}
 
-/// The object at this position of the object list.
-fn object_at(device: ObjectId, points: &[StandingPoint], position: usize) -> Option<Value<'static>>
-    ensures value { option_map datum result
-        ≡ slice_get (object (identifier device) ∷ point_objects points.now) position }
-    ensures sound { IfSome result (λ value. IsSound (datum value)) }
-{
-    if position == 0 {
-        return Some(Value::Object(device));
+    /// How many values there are.
+    pub(crate) fn count(&self) -> usize
+        ensures { result ≡ length (property_seen self.now).values }
+    {
+        match self {
+            Property::Single(_) => 1,
+            Property::EmptyList => 0,
+            Property::ObjectList(_, points) => 1 + points.len(),
+            Property::PriorityArray(_, places) => places.len(),
+        }
     }
-    let point = points.get(position - 1)?;
-    Some(Value::Object(point.id()))
-}
 
-/// The value of the place at this position of a priority array.
-fn place_at(family: Family, places: &[Option<u32>], position: usize) -> Option<Value<'static>>
-    ensures value { option_map datum result ≡ slice_get (map (place_value family) places.now) position }
-    ensures sound { IfSome result (λ value. IsSound (datum value)) }
-{
-    let held = places.get(position)?;
-    Some(family.place_value(*held))
+    /// The value at this position, counted from 0.
+    pub(crate) fn value_at(&self, position: usize) -> Option<Value<'a>>
+        requires { IsSoundProperty self.now }
+        ensures value { option_map datum result ≡ slice_get (property_seen self.now).values position }
+        ensures sound { IfSome result (λ value. IsSound (datum value)) }
+    {
+        match self {
+            Property::Single(value) => (position == 0).then_some(*value),
+            Property::EmptyList => None,
+            Property::ObjectList(device, points) => object_at(*device, points, position),
+            Property::PriorityArray(family, places) => place_at(*family, places, position),
+        }
+    }
 }
 
 /// Appends the octets of the values, one after the other. It is `Full` only where there is no room for them; some of
@@ -122,4 +100,26 @@ pub(crate) fn append_region(frame: &mut Frame, property: &Property<'_>) -> Resul
         }
     }
     Ok(())
+}
+
+// The object at this position of the object list.
+fn object_at(device: ObjectId, points: &[StandingPoint], position: usize) -> Option<Value<'static>>
+    ensures value { option_map datum result
+        ≡ slice_get (object (identifier device) ∷ point_objects points.now) position }
+    ensures sound { IfSome result (λ value. IsSound (datum value)) }
+{
+    if position == 0 {
+        return Some(Value::Object(device));
+    }
+    let point = points.get(position - 1)?;
+    Some(Value::Object(point.id()))
+}
+
+// The value of the place at this position of a priority array.
+fn place_at(family: Family, places: &[Option<u32>], position: usize) -> Option<Value<'static>>
+    ensures value { option_map datum result ≡ slice_get (map (place_value family) places.now) position }
+    ensures sound { IfSome result (λ value. IsSound (datum value)) }
+{
+    let held = places.get(position)?;
+    Some(family.place_value(*held))
 }

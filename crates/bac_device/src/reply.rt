@@ -6,90 +6,216 @@ ghost use Rattle.bac_wire.specs.Limits.{frame_room};
 ghost use Rattle.bac_wire.specs.Identifier.{identifier};
 ghost use Rattle.bac_pdu.specs.Apdu.{laid_out, reject, error};
 ghost use Rattle.bac_pdu.specs.Peer.{station};
-ghost use Rattle.bac_pdu.specs.Property.{reference, order, IsPriority};
+ghost use Rattle.bac_pdu.specs.Property.{reference};
 ghost use Rattle.bac_pdu.specs.Failure.{error_octets};
 ghost use Rattle.bac_pdu.specs.Reject.{reason_number};
 ghost use Rattle.bac_wire.specs.Steps.{result_seen};
 ghost use Rattle.bac_device.specs.Places.{Write};
-ghost use Rattle.bac_device.specs.Inner.Places.{IsUrgent, write_seen};
+ghost use Rattle.bac_device.specs.Inner.Places.{IsUrgent};
 ghost use Rattle.bac_device.specs.Inner.Property.{property_seen, IsSoundProperty};
 ghost use Rattle.bac_device.specs.Failure.{error_class, error_code};
 ghost use Rattle.bac_device.specs.Device.{Holds, points_of, device_after};
 ghost use Rattle.bac_device.specs.Size.{ReplyFits};
-ghost use Rattle.bac_device.specs.Reply.{replied_object, read_property, accepted_write, ordered_write};
-ghost use Rattle.bac_device.specs.Reply.{ack as ack_message};
-ghost use Rattle.bac_device.specs.Reply.{urgency as urgency_of, read_reply, write_reply, write_in_body, full_reply};
-ghost use Rattle.bac_device.specs.Reply.{write_in_request, fitting, refused as refused_message, who_is_reply};
-ghost use Rattle.bac_device.specs.Reply.{i_am as i_am_message, reply_apdu, write_in_apdu, reply_of};
-ghost use Rattle.bac_device.specs.Reply.{write_in_datagram, with_write, reply_to, writes_after};
+ghost use Rattle.bac_device.specs.Reply as spec;
 
 use crate::device::Device;
 use crate::failure::Failure;
 use crate::info::DeviceInfo;
 use crate::numbers::{MAX_APDU, NO_SEGMENTATION, VENDOR};
-use crate::point::StandingPoint;
 use crate::property::{Property, append_region};
-use crate::write::PlaceWrite;
 use bac_pdu::{
     Apdu, I_AM, IAm, Part, Peer, READ_PROPERTY, ReadRequest, RejectReason, WHO_IS, WRITE_PROPERTY,
-    WriteRequest, announced, begin_ack, end_ack, open_datagram, read_apdu, read_read, read_whois,
-    read_write, wrap_within, write_apdu, write_error, write_iam,
+    announced, begin_ack, end_ack, open_datagram, read_apdu, read_read, read_whois, read_write,
+    wrap_within, write_apdu, write_error, write_iam,
 };
 use bac_wire::{Frame, Full, ObjectId};
 
-/// The abort reason of what would have to be sent or taken in segments (clause 18.10).
+// The abort reason of what would have to be sent or taken in segments (clause 18.10).
 const SEGMENTATION_NOT_SUPPORTED: u8 = 4;
 
-/// The priority of a write that names none (clause 19.2).
-const LEAST_URGENT: u8 = 16;
-
-/// The priority that is kept for minimum on and off times (clause 19.2).
-const MINIMUM_TIMES: u8 = 6;
-
 impl Device {
-    /// The object that a reply names: the device under its own instance.
-    fn replied_object(&self, object: ObjectId) -> ObjectId
-        ensures { identifier result ≡ replied_object self.now.info (identifier object) }
+    /// Answers a datagram that came from this peer: makes the frame the reply's datagram, and says whom it is for.
+    /// None, with an empty frame, where the device is silent. A write that the datagram orders is made where the device
+    /// accepts it.
+    ///
+    /// There is a reply to a Who-Is that asks for the device, and to a confirmed request that was not sent to all. An
+    /// APDU of more octets than the requester announced becomes an Abort. That of an I-Am has fifteen octets.
+    #[tactic(auto, using(crate::proofs::StateLaws::write_held))]
+    pub fn answer(&mut self, from: Peer, datagram: &[u8], frame: &mut Frame) -> Option<Peer>
+        ensures standing { option_map (λ peer. (station peer, frame.new)) result
+            ≡ spec.reply_of self.old (station from) datagram.now }
+        ensures written { self.new
+            ≡ spec.with_write self.old (spec.write_in_datagram self.old (station from) datagram.now) }
+        ensures reply { (writes : List Write) → Holds self.old writes
+            → option_map (λ peer. (station peer, frame.new)) result
+            ≡ spec.reply_to self.old.info (points_of self.old) writes (station from) datagram.now }
+        ensures after { (writes : List Write) → Holds self.old writes
+            → self.new ≡ device_after self.old.info (points_of self.old)
+            (spec.writes_after self.old.info (points_of self.old) writes (station from) datagram.now) }
+        ensures fits { IfSome result (λ peer. ReplyFits (station from) datagram.now (station peer, frame.new)) }
+        ensures silent { IfNone result (frame.new ≡ []) }
     {
-        let info = self.info();
-        if info.is_object(object) {
-            info.object()
-        } else {
-            object
+        frame.clear();
+        self.answer_into(from, datagram, frame)
+    }
+
+    // The same, where the frame is empty at first.
+    #[tactic(auto, unfolding(crate::specs::Reply::reply_of, crate::specs::Reply::write_in_datagram))]
+    fn answer_into(&mut self, from: Peer, datagram: &[u8], frame: &mut Frame) -> Option<Peer>
+        requires { frame.old ≡ [] }
+        ensures reply { option_map (λ peer. (station peer, frame.new)) result
+            ≡ spec.reply_of self.old (station from) datagram.now }
+        ensures silent { IfNone result (frame.new ≡ []) }
+        ensures after { self.new
+            ≡ spec.with_write self.old (spec.write_in_datagram self.old (station from) datagram.now) }
+        ensures urgent { IfSome (spec.write_in_datagram self.old (station from) datagram.now) IsUrgent }
+    {
+        let carried = open_datagram(from, datagram)?;
+        self.reply(carried.broadcast, carried.apdu, frame)?;
+        match wrap_within(carried.peer, false, frame) {
+            Ok(()) => Some(carried.peer),
+            // What is announced at most fits a frame behind any header.
+            Err(Full) => unreachable!(),
         }
     }
 
-    /// The property that a request asks for, or the element of it.
+    // Appends the reply to the octets of an APDU to an empty frame; an accepted write is made. None where there is no
+    // reply.
+    #[tactic(auto, unfolding(crate::specs::Reply::reply_apdu, crate::specs::Reply::write_in_apdu))]
+    fn reply(&mut self, broadcast: bool, apdu: &[u8], frame: &mut Frame) -> Option<()>
+        requires { frame.old ≡ [] }
+        ensures reply { option_map (λ _. frame.new) result ≡ spec.reply_apdu self.old broadcast apdu.now }
+        ensures silent { IfNone result (frame.new ≡ []) }
+        ensures few { length frame.new ≤ 1476 }
+        ensures after { self.new ≡ spec.with_write self.old (spec.write_in_apdu self.old broadcast apdu.now) }
+        ensures urgent { IfSome (spec.write_in_apdu self.old broadcast apdu.now) IsUrgent }
+    {
+        match read_apdu(apdu)? {
+            Apdu::Confirmed {
+                part,
+                code,
+                id,
+                service,
+                body,
+            } if !broadcast => {
+                self.fitting_reply(part, code, id, service, body, frame);
+                Some(())
+            }
+            Apdu::Unconfirmed {
+                service: WHO_IS,
+                body,
+            } => introduce(self.info(), body, frame),
+            _ => None,
+        }
+    }
+
+    // Appends the reply to a confirmed request, of at most the octets that this code announces, to an empty frame.
+    fn fitting_reply(
+        &mut self,
+        part: Option<Part>,
+        code: u8,
+        id: u8,
+        service: u8,
+        body: &[u8],
+        frame: &mut Frame,
+    )
+        requires { frame.old ≡ [] }
+        ensures reply { frame.new
+            ≡ laid_out (spec.fitting code id (spec.full_reply self.old part id service body.now)) }
+        ensures few { length frame.new ≤ 1476 }
+        ensures after { self.new ≡ spec.with_write self.old (spec.write_in_request self.old part service body.now) }
+        ensures urgent { IfSome (spec.write_in_request self.old part service body.now) IsUrgent }
+    {
+        match self.full_reply(part, id, service, body, frame) {
+            Ok(()) if frame.len() <= usize::from(announced(code)) => {}
+            _ => make_abort(id, frame),
+        }
+    }
+
+    // Appends the whole reply to a confirmed request to an empty frame; an accepted write is made.
+    #[tactic(auto, unfolding(crate::specs::Reply::full_reply, crate::specs::Reply::write_in_request))]
+    fn full_reply(
+        &mut self,
+        part: Option<Part>,
+        id: u8,
+        service: u8,
+        body: &[u8],
+        frame: &mut Frame,
+    ) -> Result<(), Full>
+        requires { frame.old ≡ [] }
+        ensures ok { OnOk result (frame.new ≡ laid_out (spec.full_reply self.old part id service body.now)) }
+        ensures full { OnErr result
+            (frame_room < length (laid_out (spec.full_reply self.old part id service body.now))) }
+        ensures after { self.new ≡ spec.with_write self.old (spec.write_in_request self.old part service body.now) }
+        ensures urgent { IfSome (spec.write_in_request self.old part service body.now) IsUrgent }
+    {
+        if part.is_some() {
+            make_abort(id, frame);
+            return Ok(());
+        }
+        match service {
+            READ_PROPERTY => self.read_reply(id, body, frame),
+            WRITE_PROPERTY => self.write_reply(id, body, frame),
+            _ => append_reject(id, RejectReason::UnknownService, frame),
+        }
+    }
+
+    // Appends the reply to a ReadProperty with this body to an empty frame.
+    #[tactic(auto, unfolding(crate::specs::Reply::read_reply))]
+    fn read_reply(&self, id: u8, body: &[u8], frame: &mut Frame) -> Result<(), Full>
+        requires { frame.old ≡ [] }
+        ensures ok { OnOk result (frame.new ≡ laid_out (spec.read_reply self.now id body.now)) }
+        ensures full { OnErr result (frame_room < length (laid_out (spec.read_reply self.now id body.now))) }
+    {
+        let request = match read_read(body) {
+            Ok(request) => request,
+            Err(reason) => return append_reject(id, reason, frame),
+        };
+        match self.read_property(&request) {
+            Ok(property) => self.ack(id, &request, &property, frame),
+            Err(failure) => append_error(id, READ_PROPERTY, failure, frame),
+        }
+    }
+
+    // Appends the reply to a WriteProperty with this body to an empty frame; an accepted write is made.
+    #[tactic(auto, unfolding(crate::specs::Reply::write_reply, crate::specs::Reply::write_in_body))]
+    fn write_reply(&mut self, id: u8, body: &[u8], frame: &mut Frame) -> Result<(), Full>
+        requires { frame.old ≡ [] }
+        ensures ok { OnOk result (frame.new ≡ laid_out (spec.write_reply self.old id body.now)) }
+        ensures full { OnErr result (frame_room < length (laid_out (spec.write_reply self.old id body.now))) }
+        ensures after { self.new ≡ spec.with_write self.old (spec.write_in_body self.old body.now) }
+        ensures urgent { IfSome (spec.write_in_body self.old body.now) IsUrgent }
+    {
+        let request = match read_write(body) {
+            Ok(request) => request,
+            Err(reason) => return append_reject(id, reason, frame),
+        };
+        match self.accepted_write(&request) {
+            Ok(write) => {
+                self.put(&write);
+                write_apdu(
+                    frame,
+                    &Apdu::SimpleAck {
+                        id,
+                        service: WRITE_PROPERTY,
+                    },
+                )
+            }
+            Err(failure) => append_error(id, WRITE_PROPERTY, failure, frame),
+        }
+    }
+
+    // The property that a request asks for, or the element of it.
     #[tactic(auto, unfolding(crate::specs::Reply::read_property))]
     fn read_property(&self, request: &ReadRequest) -> Result<Property<'_>, Failure>
-        ensures value { result_seen property_seen result ≡ read_property self.now (reference request.now) }
+        ensures value { result_seen property_seen result ≡ spec.read_property self.now (reference request.now) }
         ensures sound { IfOk result IsSoundProperty }
     {
         let property = self.property(request.object, request.property)?;
         property.element(request.index)
     }
 
-    /// The write that a request orders, where the device accepts it; else why it does not.
-    #[tactic(auto, unfolding(crate::specs::Reply::accepted_write))]
-    fn accepted_write(&self, request: &WriteRequest<'_>) -> Result<PlaceWrite, Failure>
-        requires { IfSome request.now.priority IsPriority }
-        ensures { result_seen write_seen result ≡ accepted_write self.now (order request.now) }
-    {
-        let Some(point) = self.commanded_point(request.object, request.property) else {
-            let property = self.property(request.object, request.property)?;
-            if request.index.is_some() && !property.is_array() {
-                return Err(Failure::NotAnArray);
-            }
-            return Err(Failure::WriteDenied);
-        };
-        // A present value is no array.
-        if request.index.is_some() {
-            return Err(Failure::NotAnArray);
-        }
-        ordered_write(point, request)
-    }
-
-    /// Appends the ReadProperty-ACK with these values to an empty frame.
+    // Appends the ReadProperty-ACK with these values to an empty frame.
     fn ack(
         &self,
         id: u8,
@@ -100,10 +226,10 @@ impl Device {
         requires sound { IsSoundProperty property.now }
         requires empty { frame.old ≡ [] }
         ensures ok { OnOk result
-            (frame.new ≡ laid_out (ack_message self.now id (reference request.now) (property_seen property.now))) }
+            (frame.new ≡ laid_out (spec.ack self.now id (reference request.now) (property_seen property.now))) }
         ensures full { OnErr result
             (frame_room < length
-            (laid_out (ack_message self.now id (reference request.now) (property_seen property.now)))) }
+            (laid_out (spec.ack self.now id (reference request.now) (property_seen property.now)))) }
     {
         let replied = ReadRequest {
             object: self.replied_object(request.object),
@@ -125,179 +251,24 @@ impl Device {
         end_ack(frame)
     }
 
-    /// Appends the reply to a ReadProperty with this body to an empty frame.
-    #[tactic(auto, unfolding(crate::specs::Reply::read_reply))]
-    fn read_reply(&self, id: u8, body: &[u8], frame: &mut Frame) -> Result<(), Full>
-        requires { frame.old ≡ [] }
-        ensures ok { OnOk result (frame.new ≡ laid_out (read_reply self.now id body.now)) }
-        ensures full { OnErr result (frame_room < length (laid_out (read_reply self.now id body.now))) }
+    // The object that a reply names: the device under its own instance.
+    fn replied_object(&self, object: ObjectId) -> ObjectId
+        ensures { identifier result ≡ spec.replied_object self.now.info (identifier object) }
     {
-        let request = match read_read(body) {
-            Ok(request) => request,
-            Err(reason) => return append_reject(id, reason, frame),
-        };
-        match self.read_property(&request) {
-            Ok(property) => self.ack(id, &request, &property, frame),
-            Err(failure) => append_error(id, READ_PROPERTY, failure, frame),
-        }
-    }
-
-    /// Appends the reply to a WriteProperty with this body to an empty frame; an accepted write is made.
-    #[tactic(auto, unfolding(crate::specs::Reply::write_reply, crate::specs::Reply::write_in_body))]
-    fn write_reply(&mut self, id: u8, body: &[u8], frame: &mut Frame) -> Result<(), Full>
-        requires { frame.old ≡ [] }
-        ensures ok { OnOk result (frame.new ≡ laid_out (write_reply self.old id body.now)) }
-        ensures full { OnErr result (frame_room < length (laid_out (write_reply self.old id body.now))) }
-        ensures after { self.new ≡ with_write self.old (write_in_body self.old body.now) }
-        ensures urgent { IfSome (write_in_body self.old body.now) IsUrgent }
-    {
-        let request = match read_write(body) {
-            Ok(request) => request,
-            Err(reason) => return append_reject(id, reason, frame),
-        };
-        match self.accepted_write(&request) {
-            Ok(write) => {
-                self.put(&write);
-                write_apdu(
-                    frame,
-                    &Apdu::SimpleAck {
-                        id,
-                        service: WRITE_PROPERTY,
-                    },
-                )
-            }
-            Err(failure) => append_error(id, WRITE_PROPERTY, failure, frame),
-        }
-    }
-
-    /// Appends the whole reply to a confirmed request to an empty frame; an accepted write is made.
-    #[tactic(auto, unfolding(crate::specs::Reply::full_reply, crate::specs::Reply::write_in_request))]
-    fn full_reply(
-        &mut self,
-        part: Option<Part>,
-        id: u8,
-        service: u8,
-        body: &[u8],
-        frame: &mut Frame,
-    ) -> Result<(), Full>
-        requires { frame.old ≡ [] }
-        ensures ok { OnOk result (frame.new ≡ laid_out (full_reply self.old part id service body.now)) }
-        ensures full { OnErr result (frame_room < length (laid_out (full_reply self.old part id service body.now))) }
-        ensures after { self.new ≡ with_write self.old (write_in_request self.old part service body.now) }
-        ensures urgent { IfSome (write_in_request self.old part service body.now) IsUrgent }
-    {
-        if part.is_some() {
-            make_abort(id, frame);
-            return Ok(());
-        }
-        match service {
-            READ_PROPERTY => self.read_reply(id, body, frame),
-            WRITE_PROPERTY => self.write_reply(id, body, frame),
-            _ => append_reject(id, RejectReason::UnknownService, frame),
-        }
-    }
-
-    /// Appends the reply to a confirmed request, of at most the octets that this code announces, to an empty frame.
-    fn fitting_reply(
-        &mut self,
-        part: Option<Part>,
-        code: u8,
-        id: u8,
-        service: u8,
-        body: &[u8],
-        frame: &mut Frame,
-    )
-        requires { frame.old ≡ [] }
-        ensures reply { frame.new ≡ laid_out (fitting code id (full_reply self.old part id service body.now)) }
-        ensures few { length frame.new ≤ 1476 }
-        ensures after { self.new ≡ with_write self.old (write_in_request self.old part service body.now) }
-        ensures urgent { IfSome (write_in_request self.old part service body.now) IsUrgent }
-    {
-        match self.full_reply(part, id, service, body, frame) {
-            Ok(()) if frame.len() <= usize::from(announced(code)) => {}
-            _ => make_abort(id, frame),
-        }
-    }
-
-    /// Appends the reply to the octets of an APDU to an empty frame; an accepted write is made. None where there is no
-    /// reply.
-    #[tactic(auto, unfolding(crate::specs::Reply::reply_apdu, crate::specs::Reply::write_in_apdu))]
-    fn reply(&mut self, broadcast: bool, apdu: &[u8], frame: &mut Frame) -> Option<()>
-        requires { frame.old ≡ [] }
-        ensures reply { option_map (λ _. frame.new) result ≡ reply_apdu self.old broadcast apdu.now }
-        ensures silent { IfNone result (frame.new ≡ []) }
-        ensures few { length frame.new ≤ 1476 }
-        ensures after { self.new ≡ with_write self.old (write_in_apdu self.old broadcast apdu.now) }
-        ensures urgent { IfSome (write_in_apdu self.old broadcast apdu.now) IsUrgent }
-    {
-        match read_apdu(apdu)? {
-            Apdu::Confirmed {
-                part,
-                code,
-                id,
-                service,
-                body,
-            } if !broadcast => {
-                self.fitting_reply(part, code, id, service, body, frame);
-                Some(())
-            }
-            Apdu::Unconfirmed {
-                service: WHO_IS,
-                body,
-            } => introduce(self.info(), body, frame),
-            _ => None,
-        }
-    }
-
-    /// Answers a datagram that came from this peer: makes the frame the reply's datagram, and says whom it is for.
-    /// None, with an empty frame, where the device is silent. A write that the datagram orders is made where the device
-    /// accepts it.
-    ///
-    /// There is a reply to a Who-Is that asks for the device, and to a confirmed request that was not sent to all. An
-    /// APDU of more octets than the requester announced becomes an Abort. That of an I-Am has fifteen octets.
-    #[tactic(auto, using(crate::proofs::StateLaws::write_held))]
-    pub fn answer(&mut self, from: Peer, datagram: &[u8], frame: &mut Frame) -> Option<Peer>
-        ensures standing { option_map (λ peer. (station peer, frame.new)) result
-            ≡ reply_of self.old (station from) datagram.now }
-        ensures written { self.new ≡ with_write self.old (write_in_datagram self.old (station from) datagram.now) }
-        ensures reply { (writes : List Write) → Holds self.old writes
-            → option_map (λ peer. (station peer, frame.new)) result
-            ≡ reply_to self.old.info (points_of self.old) writes (station from) datagram.now }
-        ensures after { (writes : List Write) → Holds self.old writes
-            → self.new ≡ device_after self.old.info (points_of self.old)
-            (writes_after self.old.info (points_of self.old) writes (station from) datagram.now) }
-        ensures fits { IfSome result (λ peer. ReplyFits (station from) datagram.now (station peer, frame.new)) }
-        ensures silent { IfNone result (frame.new ≡ []) }
-    {
-        frame.clear();
-        self.answer_into(from, datagram, frame)
-    }
-
-    /// The same, where the frame is empty at first.
-    #[tactic(auto, unfolding(crate::specs::Reply::reply_of, crate::specs::Reply::write_in_datagram))]
-    fn answer_into(&mut self, from: Peer, datagram: &[u8], frame: &mut Frame) -> Option<Peer>
-        requires { frame.old ≡ [] }
-        ensures reply { option_map (λ peer. (station peer, frame.new)) result
-            ≡ reply_of self.old (station from) datagram.now }
-        ensures silent { IfNone result (frame.new ≡ []) }
-        ensures after { self.new ≡ with_write self.old (write_in_datagram self.old (station from) datagram.now) }
-        ensures urgent { IfSome (write_in_datagram self.old (station from) datagram.now) IsUrgent }
-    {
-        let carried = open_datagram(from, datagram)?;
-        self.reply(carried.broadcast, carried.apdu, frame)?;
-        match wrap_within(carried.peer, false, frame) {
-            Ok(()) => Some(carried.peer),
-            // What is announced at most fits a frame behind any header.
-            Err(Full) => unreachable!(),
+        let info = self.info();
+        if info.is_object(object) {
+            info.object()
+        } else {
+            object
         }
     }
 }
 
-/// Appends the I-Am to an empty frame, where the body of a Who-Is asks for the device. Else None.
+// Appends the I-Am to an empty frame, where the body of a Who-Is asks for the device. Else None.
 #[tactic(auto, using(crate::proofs::SizeLaws::length_i_am), unfolding(crate::specs::Reply::who_is_reply))]
 fn introduce(info: &DeviceInfo, body: &[u8], frame: &mut Frame) -> Option<()>
     requires { frame.old ≡ [] }
-    ensures value { option_map (λ _. frame.new) result ≡ option_map laid_out (who_is_reply info.now body.now) }
+    ensures value { option_map (λ _. frame.new) result ≡ option_map laid_out (spec.who_is_reply info.now body.now) }
     ensures silent { IfNone result (frame.new ≡ []) }
     ensures few { length frame.new ≤ 15 }
 {
@@ -307,11 +278,11 @@ fn introduce(info: &DeviceInfo, body: &[u8], frame: &mut Frame) -> Option<()>
     i_am(info, frame).ok()
 }
 
-/// Appends the device's I-Am to an empty frame.
+// Appends the device's I-Am to an empty frame.
 fn i_am(info: &DeviceInfo, frame: &mut Frame) -> Result<(), Full>
     requires { frame.old ≡ [] }
-    ensures ok { OnOk result (frame.new ≡ laid_out (i_am_message info.now)) }
-    ensures full { OnErr result (frame_room < length (laid_out (i_am_message info.now))) }
+    ensures ok { OnOk result (frame.new ≡ laid_out (spec.i_am info.now)) }
+    ensures full { OnErr result (frame_room < length (laid_out (spec.i_am info.now))) }
 {
     let i_am = IAm {
         device: info.object(),
@@ -330,35 +301,7 @@ fn i_am(info: &DeviceInfo, frame: &mut Frame) -> Result<(), Full>
     write_iam(frame, &i_am)
 }
 
-/// The write that a request orders of a point.
-#[tactic(auto, unfolding(crate::specs::Reply::ordered_write))]
-fn ordered_write(point: &StandingPoint, request: &WriteRequest<'_>) -> Result<PlaceWrite, Failure>
-    requires { IfSome request.now.priority IsPriority }
-    ensures { result_seen write_seen result ≡ ordered_write point.now (order request.now) }
-{
-    let priority = urgency(request.priority)?;
-    let value = point.value_in(request.value)?;
-    Ok(PlaceWrite {
-        object: request.object,
-        priority,
-        value,
-    })
-}
-
-/// The priority of a write: the least urgent where it names none, and never the one that is kept.
-fn urgency(priority: Option<u8>) -> Result<u8, Failure>
-    requires { IfSome priority IsPriority }
-    ensures value { result ≡ urgency_of priority }
-    ensures urgent { IfOk result IsPriority }
-{
-    match priority {
-        None => Ok(LEAST_URGENT),
-        Some(MINIMUM_TIMES) => Err(Failure::WriteDenied),
-        Some(priority) => Ok(priority),
-    }
-}
-
-/// Appends a Reject to an empty frame.
+// Appends a Reject to an empty frame.
 fn append_reject(id: u8, reason: RejectReason, frame: &mut Frame) -> Result<(), Full>
     requires { frame.old ≡ [] }
     ensures ok { OnOk result (frame.new ≡ laid_out (reject id (reason_number reason))) }
@@ -373,7 +316,7 @@ fn append_reject(id: u8, reason: RejectReason, frame: &mut Frame) -> Result<(), 
     )
 }
 
-/// Appends an Error to an empty frame.
+// Appends an Error to an empty frame.
 fn append_error(id: u8, service: u8, failure: Failure, frame: &mut Frame) -> Result<(), Full>
     requires { frame.old ≡ [] }
     ensures ok { OnOk result
@@ -393,9 +336,9 @@ fn append_error(id: u8, service: u8, failure: Failure, frame: &mut Frame) -> Res
     write_error(frame, failure.class(), failure.code())
 }
 
-/// Makes the frame the Abort of what would have to come in segments.
+// Makes the frame the Abort of what would have to come in segments.
 fn make_abort(id: u8, frame: &mut Frame)
-    ensures { frame.new ≡ laid_out (refused_message id) }
+    ensures { frame.new ≡ laid_out (spec.refused id) }
 {
     frame.clear();
     let _ = write_apdu(

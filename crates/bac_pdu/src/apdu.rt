@@ -11,17 +11,6 @@ use crate::writing::whole_or_nothing;
 use arrayvec::ArrayVec;
 use bac_wire::{Frame, Full};
 
-/// Where an APDU stands among the parts of a longer message (clause 5.2).
-#[derive(Clone, Copy, Debug, PartialEq, Eq)]
-pub struct Part {
-    /// Whether more parts follow.
-    pub more: bool,
-    /// The number of this part, in a cycle of 256.
-    pub sequence: u8,
-    /// How many parts the sender would send before it waits for a SegmentACK.
-    pub window: u8,
-}
-
 /// An APDU (clause 20.1). `id` is the invoke id, `service` the number of the service choice.
 ///
 /// A `part` stands where the APDU is one of several; `code` is that of the greatest APDU that the requester takes.
@@ -67,6 +56,17 @@ pub enum Apdu<'a> {
     },
 }
 
+/// Where an APDU stands among the parts of a longer message (clause 5.2).
+#[derive(Clone, Copy, Debug, PartialEq, Eq)]
+pub struct Part {
+    /// Whether more parts follow.
+    pub more: bool,
+    /// The number of this part, in a cycle of 256.
+    pub sequence: u8,
+    /// How many parts the sender would send before it waits for a SegmentACK.
+    pub window: u8,
+}
+
 /// The APDU that the octets are. None where they are none, where the type is unknown, or where the layout is cut.
 ///
 /// Bits and octets that the layout of the type does not name are not looked at.
@@ -107,7 +107,33 @@ pub fn read_apdu(octets: &[u8]) -> Option<Apdu<'_>>
     }
 }
 
-/// The rest of a Confirmed-Request.
+/// Appends the APDU, with 0 in each bit that is not looked at. It must be no SegmentACK, and a code must be below 16.
+/// `Full`, with the frame unchanged, only where there is no room for it.
+#[inline(always)]
+pub fn write_apdu(frame: &mut Frame, apdu: &Apdu<'_>) -> Result<(), Full>
+    requires { IsWritable (message apdu.now) }
+    ensures appended { Appends frame.old (laid_out (message apdu.now)) frame.new result }
+    ensures read_back { OnOk result (apdu_of (laid_out (message apdu.now)) ≡ Some (message apdu.now)) }
+{
+    append_apdu(frame, apdu)
+}
+
+/// The octets of the greatest APDU that a code announces (clause 20.1.2.5), by its low four bits. Codes above 5 are
+/// taken as 0.
+pub fn announced(code: u8) -> u16
+    ensures { result ≡ announced_size code }
+{
+    match code & 15 {
+        1 => 128,
+        2 => 206,
+        3 => 480,
+        4 => 1024,
+        5 => 1476,
+        _ => 50,
+    }
+}
+
+// The rest of a Confirmed-Request.
 fn read_confirmed(first: u8, octets: &[u8]) -> Option<Apdu<'_>>
     ensures { option_map message result ≡ confirmed_of first octets.now }
 {
@@ -124,7 +150,7 @@ fn read_confirmed(first: u8, octets: &[u8]) -> Option<Apdu<'_>>
     })
 }
 
-/// The rest of a ComplexACK.
+// The rest of a ComplexACK.
 fn read_complex_ack(first: u8, octets: &[u8]) -> Option<Apdu<'_>>
     ensures { option_map message result ≡ complex_ack_of first octets.now }
 {
@@ -140,7 +166,7 @@ fn read_complex_ack(first: u8, octets: &[u8]) -> Option<Apdu<'_>>
     })
 }
 
-/// The part, the service and the body.
+// The part, the service and the body.
 #[tactic(auto, unfolding(crate::specs::ApduReading::parts_at))]
 fn read_parts(first: u8, octets: &[u8]) -> Option<(Option<Part>, u8, &[u8])>
     ensures { option_map (λ x. (x.0, x.1, x.2.now)) result ≡ parts_at first octets.now }
@@ -160,17 +186,6 @@ fn read_parts(first: u8, octets: &[u8]) -> Option<(Option<Part>, u8, &[u8])>
         window: *window,
     };
     Some((Some(part), *service, body))
-}
-
-/// Appends the APDU, with 0 in each bit that is not looked at. It must be no SegmentACK, and a code must be below 16.
-/// `Full`, with the frame unchanged, only where there is no room for it.
-#[inline(always)]
-pub fn write_apdu(frame: &mut Frame, apdu: &Apdu<'_>) -> Result<(), Full>
-    requires { IsWritable (message apdu.now) }
-    ensures appended { Appends frame.old (laid_out (message apdu.now)) frame.new result }
-    ensures read_back { OnOk result (apdu_of (laid_out (message apdu.now)) ≡ Some (message apdu.now)) }
-{
-    append_apdu(frame, apdu)
 }
 
 #[inline(always)]
@@ -223,7 +238,7 @@ fn flags_of(part: Option<Part>) -> u8
     }
 }
 
-/// What stands before the body of a message that can have a part.
+// What stands before the body of a message that can have a part.
 #[inline(always)]
 fn head_of(begin: &[u8], part: Option<Part>, service: u8) -> ArrayVec<u8, 6>
     requires { length begin.now < 4 }
@@ -239,7 +254,7 @@ fn head_of(begin: &[u8], part: Option<Part>, service: u8) -> ArrayVec<u8, 6>
     head
 }
 
-/// Appends the head and the body. Where there is no room for both, nothing is appended.
+// Appends the head and the body. Where there is no room for both, nothing is appended.
 fn append_both(frame: &mut Frame, head: &[u8], body: &[u8]) -> Result<(), Full>
     ensures { Appends frame.old (head.now ++ body.now) frame.new result }
 {
@@ -247,19 +262,4 @@ fn append_both(frame: &mut Frame, head: &[u8], body: &[u8]) -> Result<(), Full>
     frame.append(head)?;
     let appended = frame.append(body);
     whole_or_nothing(frame, start, appended)
-}
-
-/// The octets of the greatest APDU that a code announces (clause 20.1.2.5), by its low four bits. Codes above 5 are
-/// taken as 0.
-pub fn announced(code: u8) -> u16
-    ensures { result ≡ announced_size code }
-{
-    match code & 15 {
-        1 => 128,
-        2 => 206,
-        3 => 480,
-        4 => 1024,
-        5 => 1476,
-        _ => 50,
-    }
 }

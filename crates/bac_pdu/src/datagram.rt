@@ -26,7 +26,7 @@ pub struct Carried<'a> {
     pub apdu: &'a [u8],
 }
 
-/// The type of each BACnet/IP datagram.
+// The type of each BACnet/IP datagram.
 const BACNET_IP: u8 = 0x81;
 
 // The functions that are read (Annex J.2).
@@ -36,9 +36,10 @@ const BROADCAST: u8 = 0x0b;
 
 const FORWARDED: u8 = 0x04;
 
+// The number that stands for all networks (clause 6.2.2).
 const ALL_NETWORKS: u16 = 0xffff;
 
-/// The octets before an APDU, at most: of the link header and of the network header.
+// The octets before an APDU, at most: of the link header and of the network header.
 const FRONT_OCTETS: usize = 4 + HEADER_OCTETS;
 
 /// What the datagram that came from this address and port carries (Annex J and clause 6).
@@ -72,42 +73,6 @@ pub fn open_datagram(from: Peer, datagram: &[u8]) -> Option<Carried<'_>>
         broadcast: to_all || header.destination.is_some(),
         apdu,
     })
-}
-
-/// Who sent the datagram, whether to all, and the octets behind the link header.
-#[tactic(auto, unfolding(crate::specs::DatagramReading::link_at))]
-fn link_and_rest(from: Peer, datagram: &[u8]) -> Option<(Peer, bool, &[u8])>
-    ensures { option_map (λ x. ((station x.0, x.1), x.2.now)) result ≡ link_at (station from) datagram.now }
-{
-    let [kind, function, high, low, rest @ ..] = datagram else {
-        return None;
-    };
-    if *kind != BACNET_IP || usize::from(BigEndian::read_u16(&[*high, *low])) != datagram.len() {
-        return None;
-    }
-    origin_and_rest(*function, from, rest)
-}
-
-/// Who sent a datagram of this function, whether to all, and the octets behind those that say it.
-fn origin_and_rest(function: u8, from: Peer, octets: &[u8]) -> Option<(Peer, bool, &[u8])>
-    ensures { option_map (λ x. ((station x.0, x.1), x.2.now)) result ≡ origin_at function (station from) octets.now }
-{
-    match function {
-        UNICAST => Some((from, false, octets)),
-        BROADCAST => Some((from, true, octets)),
-        FORWARDED => {
-            let [a, b, c, d, e, f, rest @ ..] = octets else {
-                return None;
-            };
-            let originator = Peer {
-                ip: BigEndian::read_u32(&[*a, *b, *c, *d]),
-                port: BigEndian::read_u16(&[*e, *f]),
-                route: None,
-            };
-            Some((originator, true, rest))
-        }
-        _ => None,
-    }
 }
 
 /// Makes the frame the unicast datagram that takes the APDU to the peer, and says in it whether a reply is expected.
@@ -153,26 +118,44 @@ pub fn wrap_within(to: Peer, expect: bool, frame: &mut Frame) -> Result<(), Full
     }
 }
 
-/// What stands before an APDU of this size for a station of this network.
-#[tactic(auto, using(crate::proofs::DatagramLaws::local_front))]
-fn local_front(expect: bool, size: usize) -> [u8; 6]
-    requires { size ≤ frame_room }
-    ensures { result ≡ front_octets None expect size }
+// Who sent the datagram, whether to all, and the octets behind the link header.
+#[tactic(auto, unfolding(crate::specs::DatagramReading::link_at))]
+fn link_and_rest(from: Peer, datagram: &[u8]) -> Option<(Peer, bool, &[u8])>
+    ensures { option_map (λ x. ((station x.0, x.1), x.2.now)) result ≡ link_at (station from) datagram.now }
 {
-    let length = 6 + size;
-    let [version, control] = local_header(expect);
-    [
-        BACNET_IP,
-        UNICAST,
-        (length / 256) as u8,
-        (length % 256) as u8,
-        version,
-        control,
-    ]
+    let [kind, function, high, low, rest @ ..] = datagram else {
+        return None;
+    };
+    if *kind != BACNET_IP || usize::from(BigEndian::read_u16(&[*high, *low])) != datagram.len() {
+        return None;
+    }
+    origin_and_rest(*function, from, rest)
 }
 
-/// What stands before an APDU of this size: the link header and the network header. `Full` where no frame has room for
-/// these and the APDU.
+// Who sent a datagram of this function, whether to all, and the octets behind those that say it.
+fn origin_and_rest(function: u8, from: Peer, octets: &[u8]) -> Option<(Peer, bool, &[u8])>
+    ensures { option_map (λ x. ((station x.0, x.1), x.2.now)) result ≡ origin_at function (station from) octets.now }
+{
+    match function {
+        UNICAST => Some((from, false, octets)),
+        BROADCAST => Some((from, true, octets)),
+        FORWARDED => {
+            let [a, b, c, d, e, f, rest @ ..] = octets else {
+                return None;
+            };
+            let originator = Peer {
+                ip: BigEndian::read_u32(&[*a, *b, *c, *d]),
+                port: BigEndian::read_u16(&[*e, *f]),
+                route: None,
+            };
+            Some((originator, true, rest))
+        }
+        _ => None,
+    }
+}
+
+// What stands before an APDU of this size: the link header and the network header. `Full` where no frame has room for
+// these and the APDU.
 #[tactic(auto, unfolding(crate::specs::Inner::Datagram::front_octets))]
 fn front_of(to: Peer, expect: bool, size: usize) -> Result<ArrayVec<u8, FRONT_OCTETS>, Full>
     requires { size < 2 ^ 63 }
@@ -195,4 +178,22 @@ fn front_of(to: Peer, expect: bool, size: usize) -> Result<ArrayVec<u8, FRONT_OC
     let _ = front.try_extend_from_slice(&count);
     let _ = front.try_extend_from_slice(header.as_slice());
     Ok(front)
+}
+
+// What stands before an APDU of this size for a station of this network.
+#[tactic(auto, using(crate::proofs::DatagramLaws::local_front))]
+fn local_front(expect: bool, size: usize) -> [u8; 6]
+    requires { size ≤ frame_room }
+    ensures { result ≡ front_octets None expect size }
+{
+    let length = 6 + size;
+    let [version, control] = local_header(expect);
+    [
+        BACNET_IP,
+        UNICAST,
+        (length / 256) as u8,
+        (length % 256) as u8,
+        version,
+        control,
+    ]
 }

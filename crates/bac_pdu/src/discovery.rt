@@ -105,20 +105,6 @@ pub fn write_whois(frame: &mut Frame, who: &WhoIs) -> Result<(), Full>
     whole_or_nothing(frame, start, appended)
 }
 
-/// Appends the body of a Who-Is. Where there is no room, a front of it may stay.
-fn append_limits(frame: &mut Frame, who: &WhoIs) -> Result<(), Full>
-    ensures appended { AppendsFront frame.old (who_is_octets who.now) frame.new result }
-    ensures known { OnOk result (HasLimits who.now) }
-{
-    match who {
-        WhoIs::All => frame.append(&[]),
-        WhoIs::Range { low, high } => {
-            append_number(frame, LOW_LIMIT, *low)?;
-            append_number(frame, HIGH_LIMIT, *high)
-        }
-    }
-}
-
 /// Appends the body of an I-Am, each number in its fewest octets. The object must be a device. `Full`, with the frame
 /// unchanged, only where there is no room for it.
 pub fn write_iam(frame: &mut Frame, i_am: &IAm) -> Result<(), Full>
@@ -134,7 +120,21 @@ pub fn write_iam(frame: &mut Frame, i_am: &IAm) -> Result<(), Full>
     whole_or_nothing(frame, start, appended)
 }
 
-/// Appends the body of an I-Am. Where there is no room, a front of it may stay.
+// Appends the body of a Who-Is. Where there is no room, a front of it may stay.
+fn append_limits(frame: &mut Frame, who: &WhoIs) -> Result<(), Full>
+    ensures appended { AppendsFront frame.old (who_is_octets who.now) frame.new result }
+    ensures known { OnOk result (HasLimits who.now) }
+{
+    match who {
+        WhoIs::All => frame.append(&[]),
+        WhoIs::Range { low, high } => {
+            append_number(frame, LOW_LIMIT, *low)?;
+            append_number(frame, HIGH_LIMIT, *high)
+        }
+    }
+}
+
+// Appends the body of an I-Am. Where there is no room, a front of it may stay.
 fn append_introduction(frame: &mut Frame, i_am: &IAm) -> Result<(), Full>
     requires { (identifier i_am.now.device).kind ≡ 8 }
     ensures appended { AppendsFront frame.old (i_am_octets (introduction i_am.now)) frame.new result }

@@ -14,8 +14,8 @@ ghost use Rattle.bac_pdu.specs.PropertyReading.{ack_of, read_of, write_of};
 ghost use Rattle.bac_pdu.specs.ValueReading.{introduction_of, who_is_of};
 ghost use Rattle.bac_pdu.specs.Inner.Examples.{IsWritten, desk, far, from_desk, present_value, small_device};
 
-/// A ReadProperty request, from the inside to the outside: the body, the APDU and the datagram (ANSI/ASHRAE 135, 15.5,
-/// 20.1.2 and J.2).
+// A ReadProperty request, from the inside to the outside: the body, the APDU and the datagram (ANSI/ASHRAE 135, 15.5,
+// 20.1.2 and J.2).
 #[tactic(none)]
 fn examples_of_datagrams()
     // Analog-input 1 under tag 0, and the property 85 under tag 1.
@@ -39,7 +39,7 @@ fn examples_of_datagrams()
         ∷ 0x00 ∷ 0x05 ∷ 0x01 ∷ 0x0c ∷ read_octets present_value }
 {}
 
-/// How a request may be answered (ANSI/ASHRAE 135, 20.1.4 to 20.1.9), and why a body is rejected.
+// How a request may be answered (ANSI/ASHRAE 135, 20.1.4 to 20.1.9), and why a body is rejected.
 #[tactic(none)]
 fn examples_of_apdus()
     // The value is 72.3, a Real, between the opening and the closing tag 3.
@@ -67,7 +67,7 @@ fn examples_of_apdus()
         ≡ Err OutOfRange }
 {}
 
-/// Who-Is and I-Am (ANSI/ASHRAE 135, 16.10).
+// Who-Is and I-Am (ANSI/ASHRAE 135, 16.10).
 #[tactic(none)]
 fn examples_of_discovery()
     // Every device is asked, or those from 1000 to 1234.

@@ -12,18 +12,18 @@ use crate::route::Route;
 use arrayvec::ArrayVec;
 use byteorder::{BigEndian, ByteOrder};
 
-/// A station of another network, as a network header names it.
-#[derive(Clone, Copy)]
-pub(crate) struct Address<'a> {
-    pub network: u16,
-    pub address: &'a [u8],
-}
-
 /// What a network header says (clause 6.2): the stations of other networks that the datagram is for and from.
 #[derive(Clone, Copy)]
 pub(crate) struct Header<'a> {
     pub destination: Option<Address<'a>>,
     pub source: Option<Address<'a>>,
+}
+
+/// A station of another network, as a network header names it.
+#[derive(Clone, Copy)]
+pub(crate) struct Address<'a> {
+    pub network: u16,
+    pub address: &'a [u8],
 }
 
 const VERSION: u8 = 1;
@@ -40,7 +40,7 @@ const EXPECTS_REPLY: u8 = 0x04;
 
 const DESTINED: u8 = 1 << DESTINATION;
 
-/// The hop count of a datagram that no router has passed on.
+// The hop count of a datagram that no router has passed on.
 const HOPS: u8 = 255;
 
 /// The octets of a header that is written, at most.
@@ -71,44 +71,6 @@ pub(crate) fn header_and_rest(octets: &[u8]) -> Option<(Header<'_>, &[u8])>
     ))
 }
 
-/// The address that the control octet announces, if it does, and the octets behind.
-fn announced_and_rest(announced: bool, octets: &[u8]) -> Option<(Option<Address<'_>>, &[u8])>
-    ensures { option_map (λ x. (option_map address_seen x.0, x.1.now)) result
-        ≡ announced_at announced octets.now }
-{
-    if !announced {
-        return Some((None, octets));
-    }
-    let (address, rest) = address_and_rest(octets)?;
-    Some((Some(address), rest))
-}
-
-/// A network and an address in it, of as many octets as the one before it says, and the octets behind.
-#[tactic(auto, unfolding(crate::specs::DatagramReading::address_at))]
-fn address_and_rest(octets: &[u8]) -> Option<(Address<'_>, &[u8])>
-    ensures { option_map (λ x. (address_seen x.0, x.1.now)) result ≡ address_at octets.now }
-{
-    let [high, low, count, rest @ ..] = octets else {
-        return None;
-    };
-    let network = BigEndian::read_u16(&[*high, *low]);
-    let (address, rest) = rest.split_at_checked(usize::from(*count))?;
-    Some((Address { network, address }, rest))
-}
-
-/// The octets behind the hop count that stands where a destination does.
-fn rest_behind_hops(destined: bool, octets: &[u8]) -> Option<&[u8]>
-    ensures { option_map (λ x. x.now) result ≡ behind_hops destined octets.now }
-{
-    if !destined {
-        return Some(octets);
-    }
-    let [_, rest @ ..] = octets else {
-        return None;
-    };
-    Some(rest)
-}
-
 /// The network header of a datagram for a station, which is the destination where it is of another network.
 pub(crate) fn network_header(route: Option<Route>, expect: bool) -> ArrayVec<u8, HEADER_OCTETS>
     ensures value { result.items ≡ plain_header (option_map network_address route) expect }
@@ -137,4 +99,42 @@ pub(crate) fn local_header(expect: bool) -> [u8; 2]
     ensures { result ≡ plain_header None expect }
 {
     [VERSION, if expect { EXPECTS_REPLY } else { 0 }]
+}
+
+// The address that the control octet announces, if it does, and the octets behind.
+fn announced_and_rest(announced: bool, octets: &[u8]) -> Option<(Option<Address<'_>>, &[u8])>
+    ensures { option_map (λ x. (option_map address_seen x.0, x.1.now)) result
+        ≡ announced_at announced octets.now }
+{
+    if !announced {
+        return Some((None, octets));
+    }
+    let (address, rest) = address_and_rest(octets)?;
+    Some((Some(address), rest))
+}
+
+// A network and an address in it, of as many octets as the one before it says, and the octets behind.
+#[tactic(auto, unfolding(crate::specs::DatagramReading::address_at))]
+fn address_and_rest(octets: &[u8]) -> Option<(Address<'_>, &[u8])>
+    ensures { option_map (λ x. (address_seen x.0, x.1.now)) result ≡ address_at octets.now }
+{
+    let [high, low, count, rest @ ..] = octets else {
+        return None;
+    };
+    let network = BigEndian::read_u16(&[*high, *low]);
+    let (address, rest) = rest.split_at_checked(usize::from(*count))?;
+    Some((Address { network, address }, rest))
+}
+
+// The octets behind the hop count that stands where a destination does.
+fn rest_behind_hops(destined: bool, octets: &[u8]) -> Option<&[u8]>
+    ensures { option_map (λ x. x.now) result ≡ behind_hops destined octets.now }
+{
+    if !destined {
+        return Some(octets);
+    }
+    let [_, rest @ ..] = octets else {
+        return None;
+    };
+    Some(rest)
 }

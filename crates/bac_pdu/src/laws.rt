@@ -5,9 +5,9 @@ ghost use Rattle.std.specs.Prelude.{◌≡◌, ◌↔◌, ◌+◌, ◌<◌, ◌�
 ghost use Rattle.std.specs.Prelude.{Option, Some, None, IfSome, Result, Ok};
 ghost use Rattle.std.specs.List.{AllByRecursion};
 ghost use Rattle.bac_wire.specs.Datum.{IsDatum, enumerated};
-ghost use Rattle.bac_pdu.specs.declared.discovery.WhoIs.{WhoIs as AnyWhoIs};
+ghost use Rattle.bac_pdu.specs.declared.discovery.WhoIs.{WhoIs};
 ghost use Rattle.bac_pdu.specs.declared.discovery.WhoIs.TheVariants.{Range};
-ghost use Rattle.bac_pdu.specs.declared.reject.RejectReason.{RejectReason as AnyReason};
+ghost use Rattle.bac_pdu.specs.declared.reject.RejectReason.{RejectReason};
 ghost use Rattle.bac_pdu.specs.Peer.{Station, NetworkAddress, IsRoutable, network_address, station};
 ghost use Rattle.bac_wire.specs.Front.{IsSingle};
 ghost use Rattle.bac_wire.specs.Copies.{MakesCopies, EqualsBy};
@@ -40,12 +40,12 @@ pub fn in_words()
     ensures carried { (from : Station) (datagram : List ℕ) (delivery : Delivery)
         → (carried from datagram ≡ Some delivery) ↔ Carries from datagram delivery }
     ensures apdu { (octets : List ℕ) (message : Message) → (apdu_of octets ≡ Some message) ↔ IsLaidOut octets message }
-    ensures read { (body : List ℕ) (outcome : Result Reference AnyReason)
+    ensures read { (body : List ℕ) (outcome : Result Reference RejectReason)
         → (read_of body ≡ outcome) ↔ IsOutcome IsReadBody ReadFault body outcome }
-    ensures write { (body : List ℕ) (outcome : Result Order AnyReason)
+    ensures write { (body : List ℕ) (outcome : Result Order RejectReason)
         → (write_of body ≡ outcome) ↔ IsOutcome IsWriteBody WriteFault body outcome }
     ensures ack { (body : List ℕ) (answer : Answer) → (ack_of body ≡ Some answer) ↔ IsAckBody body answer }
-    ensures who_is { (body : List ℕ) (who : AnyWhoIs) → (who_is_of body ≡ Some who) ↔ IsWhoIsBody body who }
+    ensures who_is { (body : List ℕ) (who : WhoIs) → (who_is_of body ≡ Some who) ↔ IsWhoIsBody body who }
     ensures i_am { (body : List ℕ) (introduction : Introduction)
         → (introduction_of body ≡ Some introduction) ↔ IsIAmBody body introduction }
     ensures error { (body : List ℕ) (x : ℕ × ℕ) → (error_of body ≡ Some x) ↔ IsErrorBody body x }

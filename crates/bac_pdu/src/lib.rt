@@ -14,7 +14,11 @@
 //!     0x81 ∷ 0x0a ∷ 0x00 ∷ 0x11 ∷ 0x01 ∷ 0x04 ∷ 0x00 ∷ 0x05 ∷ 0x01 ∷ 0x0c ∷ read_octets present_value }
 //! ```
 //!
-//! Calls, of `bac_uses` (`src/pdu.rt`), where it is proved which datagram comes of them:
+//! The caller keeps to this: an APDU that is written is no SegmentACK, and its code at most 15; a value is whole items
+//! (`is_region` of `bac_wire`), a priority 1 to 16, and the object of an I-Am a device. Octets that are read may be
+//! any.
+//!
+//! Calls, of `asking` of `bac_uses` (`src/pdu.rt`), where it is proved which datagram comes of them:
 //!
 //! ```rust
 //! write_read(&mut body, &request)?;

@@ -29,49 +29,6 @@ const VALUE: u8 = 3;
 
 pub(crate) const PRIORITY: u8 = 4;
 
-/// The contents under a context tag of this number.
-#[tactic(auto, unfolding(bac_wire::specs::ParameterReading::context_at))]
-#[inline(always)]
-fn context_and_rest(number: u8, octets: &[u8]) -> Option<(&[u8], &[u8])>
-    ensures { option_map (λ x. (x.0.now, x.1.now)) result ≡ context_at number octets.now }
-{
-    let (tag, rest) = tag_and_rest(octets)?;
-    match tag.shape {
-        Shape::Context(count) if tag.number == number => rest.split_at_checked(count as usize),
-        _ => None,
-    }
-}
-
-/// The number in one to four octets under a context tag of this number.
-#[tactic(auto, unfolding(bac_wire::specs::ParameterReading::number_at))]
-pub(crate) fn number_and_rest(number: u8, octets: &[u8]) -> Option<(u32, &[u8])>
-    ensures { option_map (λ x. (x.0, x.1.now)) result ≡ number_at number octets.now }
-{
-    let (contents, rest) = context_and_rest(number, octets)?;
-    Some((number_in(contents)?, rest))
-}
-
-fn number_in(contents: &[u8]) -> Option<u32>
-    ensures { result ≡ number_within 4 contents.now }
-{
-    match contents {
-        [] => None,
-        [n] => Some(u32::from(*n)),
-        _ if 4 < contents.len() => None,
-        _ => Some(BigEndian::read_uint(contents, contents.len()) as u32),
-    }
-}
-
-/// A number under a context tag of this number, where there is one.
-pub(crate) fn optional_and_rest(number: u8, octets: &[u8]) -> (Option<u32>, &[u8])
-    ensures { let found = optional_at number octets.now in (result.0 ≡ found.0) × (result.1.now ≡ found.1) }
-{
-    match number_and_rest(number, octets) {
-        Some((n, rest)) => (Some(n), rest),
-        None => (None, octets),
-    }
-}
-
 /// The object's identifier under a context tag of this number.
 #[tactic(auto, unfolding(bac_wire::specs::ParameterReading::object_at))]
 pub(crate) fn object_and_rest(number: u8, octets: &[u8]) -> Option<(ObjectId, &[u8])>
@@ -85,6 +42,25 @@ pub(crate) fn object_and_rest(number: u8, octets: &[u8]) -> Option<(ObjectId, &[
     Some((object, rest))
 }
 
+/// A number under a context tag of this number, where there is one.
+pub(crate) fn optional_and_rest(number: u8, octets: &[u8]) -> (Option<u32>, &[u8])
+    ensures { let found = optional_at number octets.now in (result.0 ≡ found.0) × (result.1.now ≡ found.1) }
+{
+    match number_and_rest(number, octets) {
+        Some((n, rest)) => (Some(n), rest),
+        None => (None, octets),
+    }
+}
+
+/// The number in one to four octets under a context tag of this number.
+#[tactic(auto, unfolding(bac_wire::specs::ParameterReading::number_at))]
+pub(crate) fn number_and_rest(number: u8, octets: &[u8]) -> Option<(u32, &[u8])>
+    ensures { option_map (λ x. (x.0, x.1.now)) result ≡ number_at number octets.now }
+{
+    let (contents, rest) = context_and_rest(number, octets)?;
+    Some((number_in(contents)?, rest))
+}
+
 /// The whole items between an opening and a closing tag 3.
 #[tactic(auto, unfolding(bac_wire::specs::ParameterReading::enclosed_at))]
 pub(crate) fn enclosed_and_rest(octets: &[u8]) -> Option<(&[u8], &[u8])>
@@ -96,26 +72,15 @@ pub(crate) fn enclosed_and_rest(octets: &[u8]) -> Option<(&[u8], &[u8])>
     Some((items, rest))
 }
 
-#[tactic(auto, unfolding(bac_wire::specs::ParameterReading::behind_opening))]
-fn rest_behind_opening(octets: &[u8]) -> Option<&[u8]>
-    ensures { option_map (λ x. x.now) result ≡ behind_opening 3 octets.now }
+/// Appends an object's identifier. Where there is no room, nothing is appended.
+pub(crate) fn append_object(body: &mut Frame, number: u8, id: ObjectId) -> Result<(), Full>
+    requires { number < 15 }
+    ensures appended { Appends body.old (object_octets number (identifier id)) body.new result }
+    ensures known { IsIdentifier (identifier id) }
 {
-    let (tag, rest) = tag_and_rest(octets)?;
-    match tag.shape {
-        Shape::Opening if tag.number == VALUE => Some(rest),
-        _ => None,
-    }
-}
-
-#[tactic(auto, unfolding(bac_wire::specs::ItemReading::behind_closing))]
-fn rest_behind_closing(octets: &[u8]) -> Option<&[u8]>
-    ensures { option_map (λ x. x.now) result ≡ behind_closing 3 octets.now }
-{
-    let (tag, rest) = tag_and_rest(octets)?;
-    match tag.shape {
-        Shape::Closing if tag.number == VALUE => Some(rest),
-        _ => None,
-    }
+    let mut contents = [0; 4];
+    BigEndian::write_u32(&mut contents, id.number());
+    append_four(body, number, &contents)
 }
 
 /// Appends a number in its fewest octets, where there is one. Where there is no room, nothing is appended.
@@ -146,50 +111,6 @@ pub(crate) fn append_number(body: &mut Frame, number: u8, n: u32) -> Result<(), 
     append_context(body, number, &contents[..count])
 }
 
-/// Appends a tag of one octet, and the contents that it counts, at most four octets. Where there is no room, nothing is
-/// appended.
-#[tactic(auto, using(crate::proofs::ShortTags::short_context))]
-fn append_context(body: &mut Frame, number: u8, contents: &[u8]) -> Result<(), Full>
-    requires number { number < 15 }
-    requires short { length contents.now ≤ 4 }
-    ensures { Appends body.old (context_octets number contents.now) body.new result }
-{
-    let mut octets = ArrayVec::<u8, 5>::new();
-    octets.push(16 * number + 8 + contents.len() as u8);
-    let _ = octets.try_extend_from_slice(contents);
-    body.append(octets.as_slice())
-}
-
-/// Appends a number in one octet behind a tag of one octet. Where there is no room, nothing is appended.
-#[tactic(auto, using(crate::proofs::ShortTags::one_number))]
-fn append_octet(body: &mut Frame, number: u8, n: u8) -> Result<(), Full>
-    requires { number < 15 }
-    ensures { Appends body.old (number_octets number n) body.new result }
-{
-    body.append(&[16 * number + 9, n])
-}
-
-/// Appends an object's identifier. Where there is no room, nothing is appended.
-pub(crate) fn append_object(body: &mut Frame, number: u8, id: ObjectId) -> Result<(), Full>
-    requires { number < 15 }
-    ensures appended { Appends body.old (object_octets number (identifier id)) body.new result }
-    ensures known { IsIdentifier (identifier id) }
-{
-    let mut contents = [0; 4];
-    BigEndian::write_u32(&mut contents, id.number());
-    append_four(body, number, &contents)
-}
-
-/// Appends a tag of one octet, and the four octets that it counts. Where there is no room, nothing is appended.
-#[tactic(auto, using(crate::proofs::ShortTags::four_context))]
-fn append_four(body: &mut Frame, number: u8, contents: &[u8; 4]) -> Result<(), Full>
-    requires { number < 15 }
-    ensures { Appends body.old (context_octets number contents.now) body.new result }
-{
-    let [a, b, c, d] = *contents;
-    body.append(&[16 * number + 12, a, b, c, d])
-}
-
 /// Appends whole items between an opening and a closing tag 3. Where there is no room, a front of that may stay.
 pub(crate) fn append_enclosed(body: &mut Frame, items: &[u8]) -> Result<(), Full>
     ensures { AppendsFront body.old (enclosed_octets 3 items.now) body.new result }
@@ -213,4 +134,83 @@ pub(crate) fn append_closing(body: &mut Frame) -> Result<(), Full>
     ensures { Appends body.old (plain_tag (closing_tag 3)) body.new result }
 {
     body.append(&[16 * VALUE + 15])
+}
+
+// The contents under a context tag of this number.
+#[tactic(auto, unfolding(bac_wire::specs::ParameterReading::context_at))]
+#[inline(always)]
+fn context_and_rest(number: u8, octets: &[u8]) -> Option<(&[u8], &[u8])>
+    ensures { option_map (λ x. (x.0.now, x.1.now)) result ≡ context_at number octets.now }
+{
+    let (tag, rest) = tag_and_rest(octets)?;
+    match tag.shape {
+        Shape::Context(count) if tag.number == number => rest.split_at_checked(count as usize),
+        _ => None,
+    }
+}
+
+fn number_in(contents: &[u8]) -> Option<u32>
+    ensures { result ≡ number_within 4 contents.now }
+{
+    match contents {
+        [] => None,
+        [n] => Some(u32::from(*n)),
+        _ if 4 < contents.len() => None,
+        _ => Some(BigEndian::read_uint(contents, contents.len()) as u32),
+    }
+}
+
+#[tactic(auto, unfolding(bac_wire::specs::ParameterReading::behind_opening))]
+fn rest_behind_opening(octets: &[u8]) -> Option<&[u8]>
+    ensures { option_map (λ x. x.now) result ≡ behind_opening 3 octets.now }
+{
+    let (tag, rest) = tag_and_rest(octets)?;
+    match tag.shape {
+        Shape::Opening if tag.number == VALUE => Some(rest),
+        _ => None,
+    }
+}
+
+#[tactic(auto, unfolding(bac_wire::specs::ItemReading::behind_closing))]
+fn rest_behind_closing(octets: &[u8]) -> Option<&[u8]>
+    ensures { option_map (λ x. x.now) result ≡ behind_closing 3 octets.now }
+{
+    let (tag, rest) = tag_and_rest(octets)?;
+    match tag.shape {
+        Shape::Closing if tag.number == VALUE => Some(rest),
+        _ => None,
+    }
+}
+
+// Appends a tag of one octet, and the four octets that it counts. Where there is no room, nothing is appended.
+#[tactic(auto, using(crate::proofs::ShortTags::four_context))]
+fn append_four(body: &mut Frame, number: u8, contents: &[u8; 4]) -> Result<(), Full>
+    requires { number < 15 }
+    ensures { Appends body.old (context_octets number contents.now) body.new result }
+{
+    let [a, b, c, d] = *contents;
+    body.append(&[16 * number + 12, a, b, c, d])
+}
+
+// Appends a number in one octet behind a tag of one octet. Where there is no room, nothing is appended.
+#[tactic(auto, using(crate::proofs::ShortTags::one_number))]
+fn append_octet(body: &mut Frame, number: u8, n: u8) -> Result<(), Full>
+    requires { number < 15 }
+    ensures { Appends body.old (number_octets number n) body.new result }
+{
+    body.append(&[16 * number + 9, n])
+}
+
+// Appends a tag of one octet, and the contents that it counts, at most four octets. Where there is no room, nothing is
+// appended.
+#[tactic(auto, using(crate::proofs::ShortTags::short_context))]
+fn append_context(body: &mut Frame, number: u8, contents: &[u8]) -> Result<(), Full>
+    requires number { number < 15 }
+    requires short { length contents.now ≤ 4 }
+    ensures { Appends body.old (context_octets number contents.now) body.new result }
+{
+    let mut octets = ArrayVec::<u8, 5>::new();
+    octets.push(16 * number + 8 + contents.len() as u8);
+    let _ = octets.try_extend_from_slice(contents);
+    body.append(octets.as_slice())
 }

@@ -60,32 +60,6 @@ pub struct Ack<'a> {
     pub value: &'a [u8],
 }
 
-/// The property that the front of the body names.
-#[tactic(auto, unfolding(crate::specs::PropertyReading::reference_at))]
-fn reference_and_rest(body: &[u8]) -> Result<(ReadRequest, &[u8]), RejectReason>
-    ensures { result_seen (λ x. (reference x.0, x.1.now)) result ≡ reference_at body.now }
-{
-    if body.is_empty() {
-        return Err(RejectReason::MissingParameter);
-    }
-    let Some((object, rest)) = object_and_rest(OBJECT, body) else {
-        return Err(RejectReason::InvalidTag);
-    };
-    if rest.is_empty() {
-        return Err(RejectReason::MissingParameter);
-    }
-    let Some((property, rest)) = number_and_rest(PROPERTY, rest) else {
-        return Err(RejectReason::InvalidTag);
-    };
-    let (index, rest) = optional_and_rest(INDEX, rest);
-    let request = ReadRequest {
-        object,
-        property,
-        index,
-    };
-    Ok((request, rest))
-}
-
 /// Reads the body of a ReadProperty, the second `read`: what it asks for, or the first reject reason that it has.
 ///
 /// # Errors
@@ -157,16 +131,6 @@ pub fn read_ack(body: &[u8]) -> Option<Ack<'_>>
     })
 }
 
-/// Appends the parameters that name a property. Where there is no room, a front of them may stay.
-fn append_reference(frame: &mut Frame, request: &ReadRequest) -> Result<(), Full>
-    ensures appended { AppendsFront frame.old (read_octets (reference request.now)) frame.new result }
-    ensures known { OnOk result (AllByRecursion IsParameter (reference_parameters (reference request.now))) }
-{
-    append_object(frame, OBJECT, request.object)?;
-    append_number(frame, PROPERTY, request.property)?;
-    append_optional(frame, INDEX, request.index)
-}
-
 /// Appends the body of a ReadProperty, the `read`, each number in its fewest octets. `Full`, with the frame unchanged,
 /// only where there is no room for it.
 pub fn write_read(frame: &mut Frame, request: &ReadRequest) -> Result<(), Full>
@@ -178,33 +142,6 @@ pub fn write_read(frame: &mut Frame, request: &ReadRequest) -> Result<(), Full>
     let start = frame.len();
     let appended = append_reference(frame, request);
     whole_or_nothing(frame, start, appended)
-}
-
-/// Appends the body of a ReadProperty-ACK, each number in its fewest octets. The value must be whole items, with at
-/// most 32 opening tags open at once. `Full`, with the frame unchanged, only where there is no room for it.
-pub fn write_ack(frame: &mut Frame, ack: &Ack<'_>) -> Result<(), Full>
-    requires { IsRegion deepest ack.now.value.now }
-    ensures appended { Appends frame.old (ack_octets (answer ack.now)) frame.new result }
-    ensures shortest { OnOk result (IsShortest IsAckBody (ack_octets (answer ack.now)) (answer ack.now)) }
-    ensures read_back { OnOk result (ack_of (ack_octets (answer ack.now)) ≡ Some (answer ack.now)) }
-{
-    let start = frame.len();
-    let appended = append_ack(frame, ack);
-    whole_or_nothing(frame, start, appended)
-}
-
-/// Appends the body of a ReadProperty-ACK. Where there is no room, a front of it may stay.
-fn append_ack(frame: &mut Frame, ack: &Ack<'_>) -> Result<(), Full>
-    ensures appended { AppendsFront frame.old (ack_octets (answer ack.now)) frame.new result }
-    ensures known { OnOk result (AllByRecursion IsParameter (reference_parameters (answer ack.now).reference)) }
-{
-    let request = ReadRequest {
-        object: ack.object,
-        property: ack.property,
-        index: ack.index,
-    };
-    append_reference(frame, &request)?;
-    append_enclosed(frame, ack.value)
 }
 
 /// Appends the body of a WriteProperty, the second `write`, each number in its fewest octets. The value must be whole
@@ -222,7 +159,64 @@ pub fn write_write(frame: &mut Frame, request: &WriteRequest<'_>) -> Result<(), 
     whole_or_nothing(frame, start, appended)
 }
 
-/// Appends the body of a WriteProperty. Where there is no room, a front of it may stay.
+/// Appends the body of a ReadProperty-ACK, each number in its fewest octets. The value must be whole items, with at
+/// most 32 opening tags open at once. `Full`, with the frame unchanged, only where there is no room for it.
+pub fn write_ack(frame: &mut Frame, ack: &Ack<'_>) -> Result<(), Full>
+    requires { IsRegion deepest ack.now.value.now }
+    ensures appended { Appends frame.old (ack_octets (answer ack.now)) frame.new result }
+    ensures shortest { OnOk result (IsShortest IsAckBody (ack_octets (answer ack.now)) (answer ack.now)) }
+    ensures read_back { OnOk result (ack_of (ack_octets (answer ack.now)) ≡ Some (answer ack.now)) }
+{
+    let start = frame.len();
+    let appended = append_ack(frame, ack);
+    whole_or_nothing(frame, start, appended)
+}
+
+/// Appends what stands before the value in the body of a ReadProperty-ACK, each number in its fewest octets. `Full`,
+/// with the frame unchanged, only where there is no room for it.
+pub fn begin_ack(frame: &mut Frame, request: &ReadRequest) -> Result<(), Full>
+    ensures { Appends frame.old (ack_front (reference request.now)) frame.new result }
+{
+    let start = frame.len();
+    let appended = append_ack_front(frame, request);
+    whole_or_nothing(frame, start, appended)
+}
+
+/// Appends what stands behind the value in the body of a ReadProperty-ACK. `Full`, with the frame unchanged, only where
+/// there is no room for it.
+pub fn end_ack(frame: &mut Frame) -> Result<(), Full>
+    ensures { Appends frame.old ack_end frame.new result }
+{
+    append_closing(frame)
+}
+
+// The property that the front of the body names.
+#[tactic(auto, unfolding(crate::specs::PropertyReading::reference_at))]
+fn reference_and_rest(body: &[u8]) -> Result<(ReadRequest, &[u8]), RejectReason>
+    ensures { result_seen (λ x. (reference x.0, x.1.now)) result ≡ reference_at body.now }
+{
+    if body.is_empty() {
+        return Err(RejectReason::MissingParameter);
+    }
+    let Some((object, rest)) = object_and_rest(OBJECT, body) else {
+        return Err(RejectReason::InvalidTag);
+    };
+    if rest.is_empty() {
+        return Err(RejectReason::MissingParameter);
+    }
+    let Some((property, rest)) = number_and_rest(PROPERTY, rest) else {
+        return Err(RejectReason::InvalidTag);
+    };
+    let (index, rest) = optional_and_rest(INDEX, rest);
+    let request = ReadRequest {
+        object,
+        property,
+        index,
+    };
+    Ok((request, rest))
+}
+
+// Appends the body of a WriteProperty. Where there is no room, a front of it may stay.
 fn append_order(frame: &mut Frame, request: &WriteRequest<'_>) -> Result<(), Full>
     ensures appended { AppendsFront frame.old (write_octets (order request.now)) frame.new result }
     ensures known { OnOk result (AllByRecursion IsParameter (reference_parameters (order request.now).reference)) }
@@ -237,18 +231,22 @@ fn append_order(frame: &mut Frame, request: &WriteRequest<'_>) -> Result<(), Ful
     append_optional(frame, PRIORITY, request.priority.map(u32::from))
 }
 
-/// Appends what stands before the value in the body of a ReadProperty-ACK, each number in its fewest octets. `Full`,
-/// with the frame unchanged, only where there is no room for it.
-pub fn begin_ack(frame: &mut Frame, request: &ReadRequest) -> Result<(), Full>
-    ensures { Appends frame.old (ack_front (reference request.now)) frame.new result }
+// Appends the body of a ReadProperty-ACK. Where there is no room, a front of it may stay.
+fn append_ack(frame: &mut Frame, ack: &Ack<'_>) -> Result<(), Full>
+    ensures appended { AppendsFront frame.old (ack_octets (answer ack.now)) frame.new result }
+    ensures known { OnOk result (AllByRecursion IsParameter (reference_parameters (answer ack.now).reference)) }
 {
-    let start = frame.len();
-    let appended = append_ack_front(frame, request);
-    whole_or_nothing(frame, start, appended)
+    let request = ReadRequest {
+        object: ack.object,
+        property: ack.property,
+        index: ack.index,
+    };
+    append_reference(frame, &request)?;
+    append_enclosed(frame, ack.value)
 }
 
-/// Appends what stands before the value in the body of a ReadProperty-ACK. Where there is no room, a front of it may
-/// stay.
+// Appends what stands before the value in the body of a ReadProperty-ACK. Where there is no room, a front of it may
+// stay.
 fn append_ack_front(frame: &mut Frame, request: &ReadRequest) -> Result<(), Full>
     ensures { AppendsFront frame.old (ack_front (reference request.now)) frame.new result }
 {
@@ -256,10 +254,12 @@ fn append_ack_front(frame: &mut Frame, request: &ReadRequest) -> Result<(), Full
     append_opening(frame)
 }
 
-/// Appends what stands behind the value in the body of a ReadProperty-ACK. `Full`, with the frame unchanged, only where
-/// there is no room for it.
-pub fn end_ack(frame: &mut Frame) -> Result<(), Full>
-    ensures { Appends frame.old ack_end frame.new result }
+// Appends the parameters that name a property. Where there is no room, a front of them may stay.
+fn append_reference(frame: &mut Frame, request: &ReadRequest) -> Result<(), Full>
+    ensures appended { AppendsFront frame.old (read_octets (reference request.now)) frame.new result }
+    ensures known { OnOk result (AllByRecursion IsParameter (reference_parameters (reference request.now))) }
 {
-    append_closing(frame)
+    append_object(frame, OBJECT, request.object)?;
+    append_number(frame, PROPERTY, request.property)?;
+    append_optional(frame, INDEX, request.index)
 }

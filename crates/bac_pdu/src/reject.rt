@@ -3,8 +3,8 @@
 ghost use Rattle.std.specs.Prelude.{◌≡◌};
 ghost use Rattle.bac_pdu.specs.Reject.{reason_number};
 
-/// What is wrong with a confirmed request that is rejected (clause 18.9): the fault is its sender's. Which reason a
-/// body gets is this project's choice.
+/// What is wrong with a confirmed request that is rejected (clause 18.9): the fault is its sender's, who is told by a
+/// Reject. Which reason a body gets is this project's choice.
 #[derive(Clone, Copy, Debug, PartialEq, Eq)]
 pub enum RejectReason {
     /// Something else stands where a parameter was expected.

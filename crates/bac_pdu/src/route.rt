@@ -5,7 +5,7 @@ ghost use Rattle.std.specs.Prelude.{◌≡◌, ◌<◌, ◌≤◌, ◌-◌, ◌�
 /// The octets that the address of a routed station has at most.
 pub const ADDRESS_OCTETS: usize = 7;
 
-/// The octets that are kept for an address: a word, which is copied as one.
+// The octets that are kept for an address: a word, which is copied as one.
 const ROOM: usize = ADDRESS_OCTETS + 1;
 
 /// The way from a router to a station of another network: the number of the network, and the station's address in it

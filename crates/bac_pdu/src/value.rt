@@ -3,15 +3,14 @@
 ghost use Rattle.std.specs.Prelude.{◌≡◌};
 ghost use Rattle.std.specs.Option.{option_map};
 ghost use Rattle.bac_wire.specs.Identifier.{identifier};
-ghost use Rattle.bac_wire.specs.ParameterReading.{kind_at, unsigned_in as only_unsigned};
-ghost use Rattle.bac_wire.specs.ParameterReading.{enumerated_in as only_enumerated, object_in as only_object};
+ghost use Rattle.bac_wire.specs.ParameterReading.{kind_at, unsigned_in, enumerated_in, object_in};
 
 use bac_wire::{ObjectId, Value, value_and_rest};
 
 /// The Enumerated at the front, and the octets behind it.
 #[tactic(auto, unfolding(bac_wire::specs::ParameterReading::kind_at))]
 pub(crate) fn enumerated_and_rest(octets: &[u8]) -> Option<(u32, &[u8])>
-    ensures { option_map (λ x. (x.0, x.1.now)) result ≡ kind_at only_enumerated octets.now }
+    ensures { option_map (λ x. (x.0, x.1.now)) result ≡ kind_at enumerated_in octets.now }
 {
     match value_and_rest(octets)? {
         (Value::Enumerated(n), rest) => Some((n, rest)),
@@ -22,7 +21,7 @@ pub(crate) fn enumerated_and_rest(octets: &[u8]) -> Option<(u32, &[u8])>
 /// The Unsigned at the front, and the octets behind it.
 #[tactic(auto, unfolding(bac_wire::specs::ParameterReading::kind_at))]
 pub(crate) fn unsigned_and_rest(octets: &[u8]) -> Option<(u64, &[u8])>
-    ensures { option_map (λ x. (x.0, x.1.now)) result ≡ kind_at only_unsigned octets.now }
+    ensures { option_map (λ x. (x.0, x.1.now)) result ≡ kind_at unsigned_in octets.now }
 {
     match value_and_rest(octets)? {
         (Value::Unsigned(n), rest) => Some((n, rest)),
@@ -33,7 +32,7 @@ pub(crate) fn unsigned_and_rest(octets: &[u8]) -> Option<(u64, &[u8])>
 /// The ObjectIdentifier at the front, and the octets behind it.
 #[tactic(auto, unfolding(bac_wire::specs::ParameterReading::kind_at))]
 pub(crate) fn identifier_and_rest(octets: &[u8]) -> Option<(ObjectId, &[u8])>
-    ensures { option_map (λ x. (identifier x.0, x.1.now)) result ≡ kind_at only_object octets.now }
+    ensures { option_map (λ x. (identifier x.0, x.1.now)) result ≡ kind_at object_in octets.now }
 {
     match value_and_rest(octets)? {
         (Value::Object(id), rest) => Some((id, rest)),

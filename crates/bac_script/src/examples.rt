@@ -6,7 +6,7 @@ ghost use Rattle.bac_script.specs.declared.tracing.TraceFault.TheVariants.{BadLi
 ghost use Rattle.bac_script.specs.Inner.Examples.{IsTraced, ended, read, sent, answer};
 ghost use Rattle.bac_script.specs.Script.{Runs};
 
-/// What is printed of a client's events.
+// What is printed of a client's events.
 #[tactic(none)]
 fn examples_of_a_client()
     ensures answered { IsTraced (read ∷ answer ∷ []) (sent ∷ "done 0 value 4290999a" ∷ []) (ended 2) }
@@ -24,7 +24,7 @@ fn examples_of_a_client()
         ("send 0 127.0.0.1:47808 810a001a01040005010f0c0040000119553e4441a000003f4910" ∷ "done 0 ok" ∷ []) (ended 2) }
 {}
 
-/// What is printed of the device's replies.
+// What is printed of the device's replies.
 #[tactic(none)]
 fn examples_of_a_device()
     // Who-Is of 1000 to 1234, and of 1235 to 2000.
@@ -44,7 +44,7 @@ fn examples_of_a_device()
         ∷ "reply 127.0.0.1:50000 810a0017010030010c0c0040000119553e4441a000003f" ∷ []) (ended 2) }
 {}
 
-/// Where a script stops.
+// Where a script stops.
 #[tactic(none)]
 fn examples_of_ends()
     ensures empty { IsTraced [] [] (ended 0) }

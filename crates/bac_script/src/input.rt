@@ -1,4 +1,5 @@
 //! The lines of a reader, one at a time.
+
 ghost use Rattle.std.specs.Prelude.{◌≡◌, ◌≢◌, ◌==◌, ◌+◌, ◌<◌, ◌≤◌, ◌⊎◌, ◌++◌, [], length, take, drop, position, true};
 ghost use Rattle.std.specs.Prelude.{false, MatchOption, MatchResult};
 ghost use Rattle.bac_text.specs.Checked.{has_failed, reads_of, last_of};
@@ -12,12 +13,29 @@ use bac_text::{Checked, End, LONGEST_LINE, Page, WriteFailed, position_of_end};
 use std::io::{Read, Write};
 use std::marker::Model;
 
-/// Room for what is held: a line that isn't whole yet, and what a read gives behind it.
+// Room for what is held: a line that isn't whole yet, and what a read gives behind it.
 const CHUNK_ROOM: usize = 32_768;
 
-/// The octets of the longest line with its line feed. So many without a line feed among them are a line that is too
-/// long.
+// The octets of the longest line with its line feed. So many without a line feed among them are a line that is too
+// long.
 const LINE_ROOM: usize = LONGEST_LINE + 1;
+
+/// Octets that were read and not yet taken.
+#[derive(Drop)]
+pub(crate) struct Chunk {
+    octets: [u8; CHUNK_ROOM],
+    start: usize,
+    end: usize,
+    // Among so many of the first octets that are held there is no line feed.
+    searched: usize,
+}
+
+/// The next line is so many of the first octets that are held. Where reading is over, it is all that was left.
+#[derive(Clone, Copy)]
+pub(crate) struct Next {
+    pub(crate) reading: Reading,
+    pub(crate) length: usize,
+}
 
 /// How reading stands.
 #[derive(Clone, Copy, PartialEq, Eq)]
@@ -28,23 +46,6 @@ pub(crate) enum Reading {
     AtEnd,
     /// A read failed, or the reads are spent.
     Failed,
-}
-
-/// The next line is so many of the first octets that are held. Where reading is over, it is all that was left.
-#[derive(Clone, Copy)]
-pub(crate) struct Next {
-    pub(crate) reading: Reading,
-    pub(crate) length: usize,
-}
-
-/// Octets that were read and not yet taken.
-#[derive(Drop)]
-pub(crate) struct Chunk {
-    octets: [u8; CHUNK_ROOM],
-    start: usize,
-    end: usize,
-    /// Among so many of the first octets that are held there is no line feed.
-    searched: usize,
 }
 
 impl Model for Chunk {
@@ -72,31 +73,6 @@ impl Chunk {
             end: 0,
             searched: 0,
         }
-    }
-
-    // How many octets are held.
-    fn len(&self) -> usize
-        ensures { result ≡ length self.now }
-    {
-        self.end - self.start
-    }
-
-    /// The first octets that are held.
-    pub(crate) fn front(&self, count: usize) -> &[u8]
-        requires { count ≤ length self.now }
-        ensures { result.now ≡ take count self.now }
-    {
-        &self.octets[self.start..self.start + count]
-    }
-
-    /// Takes the first octets away.
-    #[tactic(auto, using(crate::proofs::Chunks::range_skipped))]
-    pub(crate) fn skip(&mut self, count: usize)
-        requires { count ≤ length self.old }
-        ensures { self.new ≡ drop count self.old }
-    {
-        self.start += count;
-        self.searched = 0;
     }
 
     /// Finds the next line, and reads until it is held. Before each read the page is turned in, so that nobody waits
@@ -141,6 +117,24 @@ impl Chunk {
                 return Ok(Next { reading, length });
             }
         }
+    }
+
+    /// The first octets that are held.
+    pub(crate) fn front(&self, count: usize) -> &[u8]
+        requires { count ≤ length self.now }
+        ensures { result.now ≡ take count self.now }
+    {
+        &self.octets[self.start..self.start + count]
+    }
+
+    /// Takes the first octets away.
+    #[tactic(auto, using(crate::proofs::Chunks::range_skipped))]
+    pub(crate) fn skip(&mut self, count: usize)
+        requires { count ≤ length self.old }
+        ensures { self.new ≡ drop count self.old }
+    {
+        self.start += count;
+        self.searched = 0;
     }
 
     // How many octets the next line has, where it is whole among those that are held. What was searched isn't searched
@@ -194,6 +188,13 @@ impl Chunk {
         }
         self.end += count;
         Reading::Open
+    }
+
+    // How many octets are held.
+    fn len(&self) -> usize
+        ensures { result ≡ length self.now }
+    {
+        self.end - self.start
     }
 }
 

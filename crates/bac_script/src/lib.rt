@@ -11,6 +11,9 @@
 //! ```text
 //! ensures answered { IsTraced (read ∷ answer ∷ []) (sent ∷ "done 0 value 4290999a" ∷ []) (ended 2) }
 //! ```
+//!
+//! The caller keeps to this: the reader and the writer that it hands on have not failed yet. So does `run_job` of
+//! `bac_tools` (`src/running.rt`), where it is proved which status and which fault come of what [`trace`] answers.
 #![tactic(auto)]
 
 mod examples;

@@ -1,4 +1,5 @@
 //! The lines of a script.
+
 ghost use Rattle.std.specs.Prelude.{◌≡◌, [], option_map, None, Some, IfSome, MatchOption, MatchResult, Ok, Err};
 ghost use Rattle.std.specs.Str.{is_utf8};
 ghost use Rattle.bac_pdu.specs.Peer.{station};
@@ -44,6 +45,15 @@ pub(crate) enum Line<'a> {
     Ask(Received<'a>),
 }
 
+impl Line<'_> {
+    /// Whether the line says nothing.
+    pub(crate) fn is_skipped(&self) -> bool
+        ensures { result ≡ is_nothing (line_seen self.now) }
+    {
+        matches!(self, Line::Skipped)
+    }
+}
+
 /// A datagram, and whom it comes from.
 #[derive(Clone, Copy)]
 pub(crate) struct Received<'a> {
@@ -73,15 +83,6 @@ impl LineRoom {
     }
 }
 
-impl Line<'_> {
-    /// Whether the line says nothing.
-    pub(crate) fn is_skipped(&self) -> bool
-        ensures { result ≡ is_nothing (line_seen self.now) }
-    {
-        matches!(self, Line::Skipped)
-    }
-}
-
 /// Why a line can't be run.
 #[derive(Clone, Copy, PartialEq, Eq)]
 pub(crate) enum LineFault {
@@ -106,16 +107,6 @@ pub(crate) fn read_line<'a>(
     read_words(Words::new(text), is_first, room).ok_or(LineFault::Bad)
 }
 
-// Whether the octets are UTF-8. Of most lines all are ASCII, which is seen sooner.
-fn is_text(octets: &[u8]) -> bool
-    ensures { result ≡ is_utf8 octets.now }
-{
-    match position_of_end(octets, End::PastAscii) {
-        None => true,
-        Some(_) => str::from_utf8(octets).is_ok(),
-    }
-}
-
 // The octets of a line without its line feed and a carriage return before that.
 fn line_text(line: &[u8]) -> Result<&[u8], LineFault>
     ensures { MatchResult result (λ text. text_of_line line.now ≡ Ok text.now)
@@ -131,6 +122,16 @@ fn line_text(line: &[u8]) -> Result<&[u8], LineFault>
     match text {
         [shorter @ .., b'\r'] if is_ended => Ok(shorter),
         _ => Ok(text),
+    }
+}
+
+// Whether the octets are UTF-8. Of most lines all are ASCII, which is seen sooner.
+fn is_text(octets: &[u8]) -> bool
+    ensures { result ≡ is_utf8 octets.now }
+{
+    match position_of_end(octets, End::PastAscii) {
+        None => true,
+        Some(_) => str::from_utf8(octets).is_ok(),
     }
 }
 
@@ -234,14 +235,12 @@ fn read_tick(mut words: Words<'_>) -> Option<Line<'_>>
     Some(Line::Tick(now))
 }
 
-// Something, where no word is left.
-fn ended(mut words: Words<'_>) -> Option<()>
-    ensures { MatchOption result (IsLeft words.entry) (λ _. words.entry ≡ []) }
+fn next_peer(words: &mut Words<'_>) -> Option<Peer>
+    ensures { MatchOption result (next_as peer_of words.old ≡ None)
+        (λ peer. next_as peer_of words.old ≡ Some (station peer, words.new)) }
 {
-    match words.next_word() {
-        Some(_) => None,
-        None => Some(()),
-    }
+    let word = words.next_word()?;
+    peer_in(word)
 }
 
 // The property of an object that the next three words name.
@@ -286,14 +285,6 @@ fn next_write_index(words: &mut Words<'_>) -> Option<Option<u32>>
     read_write_index(word)
 }
 
-fn next_peer(words: &mut Words<'_>) -> Option<Peer>
-    ensures { MatchOption result (next_as peer_of words.old ≡ None)
-        (λ peer. next_as peer_of words.old ≡ Some (station peer, words.new)) }
-{
-    let word = words.next_word()?;
-    peer_in(word)
-}
-
 fn next_plain_peer(words: &mut Words<'_>) -> Option<Peer>
     ensures { MatchOption result (next_as plain_peer_of words.old ≡ None)
         (λ peer. next_as plain_peer_of words.old ≡ Some (station peer, words.new)) }
@@ -311,4 +302,14 @@ fn next_datagram<'a>(
 {
     let word = words.next_word()?;
     read_datagram(word, room)
+}
+
+// Something, where no word is left.
+fn ended(mut words: Words<'_>) -> Option<()>
+    ensures { MatchOption result (IsLeft words.entry) (λ _. words.entry ≡ []) }
+{
+    match words.next_word() {
+        Some(_) => None,
+        None => Some(()),
+    }
 }

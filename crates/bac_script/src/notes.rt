@@ -1,4 +1,5 @@
 //! What is printed of a client's notes, and of a device's replies.
+
 ghost use Rattle.std.specs.Prelude.{◌≡◌, [], ◌∷◌, ◌++◌, false, is_err, option_map, IfErr};
 ghost use Rattle.std.specs.List.{flat_map};
 ghost use Rattle.hex.specs.Hex.{encode_lower};
@@ -99,6 +100,20 @@ pub(crate) fn print_due<W: Write>(page: &mut Page<'_, W>, client: &Client, due: 
     }
 }
 
+/// Prints what the device answers: its reply, or that it is silent.
+#[tactic(auto, using(bac_text::proofs::Printed::printing))]
+pub(crate) fn print_answer<W: Write>(page: &mut Page<'_, W>, to: Option<Peer>, octets: &[u8])
+    ensures { Prints W.contents page.old page.new (reply_text (option_map (λ peer. (station peer, octets.now)) to)) }
+{
+    match to {
+        Some(peer) => {
+            page.print(b"reply ");
+            print_datagram(page, peer, octets);
+        }
+        None => page.print(b"silent\n"),
+    }
+}
+
 fn print_entry<W: Write>(page: &mut Page<'_, W>, client: &Client, entry: Entry)
     ensures { Prints W.contents page.old page.new (notes_text (due_notes client.now.state entry)) }
 {
@@ -115,20 +130,6 @@ fn print_timeout<W: Write>(page: &mut Page<'_, W>, ticket: u64)
     page.print(b"timeout ");
     page.print_number(ticket);
     page.print(b"\n");
-}
-
-/// Prints what the device answers: its reply, or that it is silent.
-#[tactic(auto, using(bac_text::proofs::Printed::printing))]
-pub(crate) fn print_answer<W: Write>(page: &mut Page<'_, W>, to: Option<Peer>, octets: &[u8])
-    ensures { Prints W.contents page.old page.new (reply_text (option_map (λ peer. (station peer, octets.now)) to)) }
-{
-    match to {
-        Some(peer) => {
-            page.print(b"reply ");
-            print_datagram(page, peer, octets);
-        }
-        None => page.print(b"silent\n"),
-    }
 }
 
 // Prints whom a datagram is for, and its octets.

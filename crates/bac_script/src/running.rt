@@ -1,10 +1,11 @@
 //! The lines of a script, run on its client and its device one after another.
+
 ghost use Rattle.std.specs.Prelude.{◌≡◌, List, []};
 ghost use Rattle.bac_tsm.specs.Events.{Ask, Data, Tick};
 ghost use Rattle.bac_tsm.specs.Client.{keeping};
 ghost use Rattle.bac_script.specs.Inner.LineSeen.{arrival_seen, line_seen};
 ghost use Rattle.bac_pdu.specs.Peer.{station};
-ghost use Rattle.bac_device.specs.Places.{Write as Written};
+ghost use Rattle.bac_device.specs.Places.{Write};
 ghost use Rattle.bac_text.specs.Page.{Prints};
 ghost use Rattle.bac_script.specs.Inner.Running.{Stage, Stands, step_of, device_with, writes_with, reply_after, ran};
 ghost use Rattle.bac_script.specs.Text.{notes_text};
@@ -20,14 +21,6 @@ use std::io::Write;
 
 // A body that words can make is one that the client sends.
 const _: () = prove!(bac_text::LONGEST_BODY == bac_tsm::LONGEST_BODY);
-
-/// The device that a script asks: the demonstration device under a number and a name of its own.
-pub(crate) fn small_device() -> Device
-    ensures { result ≡ device_with [] }
-{
-    let info = DeviceInfo::new(1_234, "Small device").unwrap();
-    demo(info)
-}
 
 /// Runs a line on the client and the device, and prints what comes of it. The device's reply is put into the frame.
 #[tactic(auto, using(bac_text::proofs::Printed::no_print))]
@@ -52,6 +45,14 @@ pub(crate) fn run_line<W: Write>(
         Line::Tick(now) => tick(client, now, page),
         Line::Ask(received) => ask(device, received, reply, page),
     }
+}
+
+/// The device that a script asks: the demonstration device under a number and a name of its own.
+pub(crate) fn small_device() -> Device
+    ensures { result ≡ device_with [] }
+{
+    let info = DeviceInfo::new(1_234, "Small device").unwrap();
+    demo(info)
 }
 
 // Asks the client to make a request of the peer.
@@ -103,9 +104,9 @@ fn ask<W: Write>(
     reply: &mut Frame,
     page: &mut Page<'_, W>,
 )
-    ensures device { (writes : List Written) → device.old ≡ device_with writes
+    ensures device { (writes : List Write) → device.old ≡ device_with writes
         → device.new ≡ device_with (writes_with writes (arrival_seen received.entry)) }
-    ensures text { (writes : List Written) → device.old ≡ device_with writes
+    ensures text { (writes : List Write) → device.old ≡ device_with writes
         → Prints W.contents page.old page.new (reply_after writes (arrival_seen received.entry)) }
 {
     let to = device.answer(*received.from, received.datagram, reply);

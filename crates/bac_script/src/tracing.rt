@@ -1,4 +1,5 @@
 //! A script, run as it is read.
+
 ghost use Rattle.std.specs.Prelude.{◌≡◌, ◌⊎◌, ◌↔◌, true, false, Err, []};
 ghost use Rattle.bac_text.specs.Checked.{has_failed};
 ghost use Rattle.bac_script.specs.Input.{AreSpent};
@@ -24,27 +25,27 @@ pub struct TraceEnd {
     pub lines: u64,
 }
 
-/// Why a script stopped.
+/// Why a script stopped. What the lines before that print was printed, as far as the writer took it.
 #[derive(Clone, Copy, Debug, PartialEq, Eq, Error)]
 pub enum TraceFault {
-    /// The line with this number, from 1, is no line of the language.
+    /// The line with this number, from 1, is no line of the language: the fault of who wrote it.
     #[error("line {0}: bad line")]
     BadLine(u64),
-    /// The line with this number, from 1, has more than 4,096 octets.
+    /// The line with this number, from 1, has more than 4,096 octets: the fault of who wrote it.
     #[error("line {0}: too long")]
     LineTooLong(u64),
-    /// The reader failed, or its reads are spent.
+    /// The reader failed, or its reads are spent: no fault of the script.
     #[error("reading failed")]
     ReadFailed,
-    /// The writer failed, or took no octet.
+    /// The writer failed, or took no octet: no fault of the script.
     #[error("writing failed")]
     WriteFailed,
 }
 
 impl From<WriteFailed> for TraceFault {
-    ghost use Rattle.bac_script.specs.declared.tracing.TraceFault.TheVariants as faults;
+    ghost use Rattle.bac_script.specs.declared.tracing.TraceFault.TheVariants.{WriteFailed};
 
-    ghost from_gives = { λ _ fault. fault ≡ faults.WriteFailed };
+    ghost from_gives = { λ _ fault. fault ≡ WriteFailed };
 
     fn from(_failed: WriteFailed) -> TraceFault {
         TraceFault::WriteFailed
@@ -66,6 +67,18 @@ pub fn trace<R: Read, W: Write>(
     let answer = run_script(reader, &mut page);
     page.finish()?;
     answer
+}
+
+/// The status with which the program ends after a script: 0 at its end, 2 after a line that is bad or too long, 3 where
+/// reading or writing failed.
+pub fn trace_status(answer: &Result<TraceEnd, TraceFault>) -> u8
+    ensures { result ≡ trace_status_of answer.now }
+{
+    match answer {
+        Ok(_) => 0,
+        Err(TraceFault::BadLine(_) | TraceFault::LineTooLong(_)) => 2,
+        Err(TraceFault::ReadFailed | TraceFault::WriteFailed) => 3,
+    }
 }
 
 // Runs each line of a script. What is printed goes to the writer before more is read; in the end some of it may still
@@ -109,16 +122,6 @@ fn run_script<R: Read, W: Write>(
     }
 }
 
-// The fault of the line with this number.
-fn fault_in_line(fault: LineFault, number: u64) -> TraceFault
-    ensures { result ≡ fault_at number fault }
-{
-    match fault {
-        LineFault::Bad => TraceFault::BadLine(number),
-        LineFault::TooLong => TraceFault::LineTooLong(number),
-    }
-}
-
 // The client of a script that says no settings: it waits for three seconds, and sends three times again.
 fn usual_client() -> Client
     ensures { result ≡ new_client 3000 3 0 }
@@ -130,14 +133,12 @@ fn usual_client() -> Client
     Client::new(config, 0)
 }
 
-/// The status with which the program ends after a script: 0 at its end, 2 after a line that is bad or too long, 3 where
-/// reading or writing failed.
-pub fn trace_status(answer: &Result<TraceEnd, TraceFault>) -> u8
-    ensures { result ≡ trace_status_of answer.now }
+// The fault of the line with this number.
+fn fault_in_line(fault: LineFault, number: u64) -> TraceFault
+    ensures { result ≡ fault_at number fault }
 {
-    match answer {
-        Ok(_) => 0,
-        Err(TraceFault::BadLine(_) | TraceFault::LineTooLong(_)) => 2,
-        Err(TraceFault::ReadFailed | TraceFault::WriteFailed) => 3,
+    match fault {
+        LineFault::Bad => TraceFault::BadLine(number),
+        LineFault::TooLong => TraceFault::LineTooLong(number),
     }
 }

@@ -25,7 +25,7 @@ pub enum SubmitFault {
     TooLong,
     /// [`PLACES`] requests are open: nobody's fault. There is room again once one of them ends.
     TableFull,
-    /// The next ticket would be `u64::MAX`: the fault of whoever chose the first ticket.
+    /// The next ticket would be `u64::MAX`: the fault of whoever chose the first ticket. Only a new client has more.
     TicketsSpent,
 }
 
@@ -45,9 +45,9 @@ pub struct Client {
 impl Model for Client {
     ghost use Rattle.std.specs.Prelude.{◌<◌, ◌≤◌};
     ghost use Rattle.std.specs.List.{All};
-    ghost use Rattle.bac_tsm.specs.Client.{Client as Held, client_of};
+    ghost use Rattle.bac_tsm.specs.Client.{Client, client_of};
 
-    ghost Value = { Held };
+    ghost Value = { Client };
 
     ghost view = { λ c. client_of c.config (record {
       clock = c.clock;

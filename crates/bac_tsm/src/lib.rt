@@ -18,8 +18,12 @@
 //!     (0, sent 0 1) ∷ (2, sent 0 1) ∷ (3, sent 0 1) ∷ (4, sent 0 1) ∷ (5, TimedOut 0) ∷ [] }
 //! ```
 //!
-//! Calls, of `bac_uses` (`src/client.rt`), where it is proved that each read is to be sent again exactly where what was
-//! heard is no answer to it:
+//! The caller keeps to this: it sends what [`Client::to_send`] lends, once a request is opened and at each
+//! [`Entry::Resend`], and it tells the time again and again, since nothing is due but at a tick. No call of [`Client`]
+//! has a condition.
+//!
+//! Calls, of `two_reads` of `bac_uses` (`src/client.rt`), where it is proved that each read is to be sent again exactly
+//! where what was heard is no answer to it:
 //!
 //! ```rust
 //! let mut client = Client::new(config, 0);

@@ -82,7 +82,7 @@ impl Default for OpenRequest {
 }
 
 impl OpenRequest {
-    // Makes it a new request with this body, whose datagram is written in the frame.
+    /// Makes it a new request with this body, whose datagram is written in the frame.
     pub(crate) fn begin(&mut self, asked: Asked, body: &[u8], frame: &mut Frame)
         requires { length body.now ≤ longest_body }
         ensures { self.new ≡ begun asked body.now }
@@ -96,28 +96,28 @@ impl OpenRequest {
         write_request(&mut self.datagram, asked, body, frame);
     }
 
-    // Its ticket.
+    /// Its ticket.
     pub(crate) fn ticket(&self) -> u64
         ensures { result ≡ self.now.request.ticket }
     {
         self.ticket
     }
 
-    // Its invoke id.
+    /// Its invoke id.
     pub(crate) fn number(&self) -> u8
         ensures { result ≡ self.now.request.number }
     {
         self.number
     }
 
-    // The timeout has passed since the request was last sent.
+    /// The timeout has passed since the request was last sent.
     pub(crate) fn is_due(&self, clock: u64, config: Config) -> bool
         ensures { result ≡ is_due (client_rules config.timeout config.retries) clock self.now }
     {
         clock.saturating_sub(self.base) >= u64::from(config.timeout)
     }
 
-    // What becomes of the request when it is due.
+    /// What becomes of the request when it is due.
     pub(crate) fn due_entry(&self, config: Config) -> Entry
         ensures { result ≡ due_entry (client_rules config.timeout config.retries) self.now }
     {
@@ -128,7 +128,7 @@ impl OpenRequest {
         }
     }
 
-    // Makes it one that is sent again now.
+    /// Makes it one that is sent again now.
     pub(crate) fn send_again(&mut self, clock: u64, config: Config)
         requires { self.old.count < config.retries }
         ensures { self.new ≡ record { request = self.old.request; base = clock; count = suc self.old.count } }
@@ -137,7 +137,7 @@ impl OpenRequest {
         self.count += 1;
     }
 
-    // The answer is to this request.
+    /// The answer is to this request.
     #[tactic(auto, unfolding(crate::specs::Answers::is_answer_to))]
     pub(crate) fn is_answered_by(&self, answer: &Answer<'_>) -> bool
         ensures { result ≡ is_answer_to self.now.request (answer_seen answer.now) }

@@ -57,7 +57,7 @@ impl Model for Table {
 }
 
 impl Table {
-    // A table with no request open.
+    /// A table with no request open.
     pub(crate) fn new() -> Self
         ensures { result ≡ [] }
     {
@@ -71,7 +71,7 @@ impl Table {
         }
     }
 
-    // How many requests are open.
+    /// How many requests are open.
     pub(crate) fn len(&self) -> usize
         ensures count { result ≡ length self.now }
         ensures few { result ≤ table_size }
@@ -79,7 +79,7 @@ impl Table {
         self.tickets.len()
     }
 
-    // The request with this ticket.
+    /// The request with this ticket.
     pub(crate) fn find(&self, ticket: u64) -> Option<&OpenRequest>
         ensures { option_copied result ≡ find (λ w. nat_eq w.request.ticket ticket) self.now }
     {
@@ -87,30 +87,7 @@ impl Table {
         Some(self.at(rank))
     }
 
-    // The rank of the request with this ticket: its index in the order. Where it stands if no request between it and
-    // the last has ended is looked at first.
-    fn rank_of(&self, ticket: u64) -> Option<usize>
-        ensures { IsRankOf ticket self.now result }
-    {
-        let last = *self.tickets.last()?;
-        let later = last.wrapping_sub(ticket) as usize;
-        let likely = (self.tickets.len() - 1).wrapping_sub(later);
-        if self.tickets.get(likely).copied() == Some(ticket) {
-            return Some(likely);
-        }
-        self.tickets.as_slice().binary_search(&ticket).ok()
-    }
-
-    // The request at this rank.
-    #[tactic(auto, using(crate::proofs::TableReads::read_within, crate::proofs::TableReads::read_held, crate::proofs::TableReads::rank_within))]
-    fn at(&self, rank: usize) -> &OpenRequest
-        requires { rank < length self.now }
-        ensures { result.now ≡ get_or self.now rank nothing }
-    {
-        held(&self.slots, self.order[rank])
-    }
-
-    // The first invoke id of the cycle after the last one that no open request has.
+    /// The first invoke id of the cycle after the last one that no open request has.
     #[tactic(auto, using(crate::proofs::TableReads::free_is, crate::proofs::TableReads::taken_on, crate::proofs::TableReads::last_is))]
     pub(crate) fn free_number(&self, last: u8) -> u8
         ensures { result ≡ next_invoke_id last (map (λ w. w.request.number) self.now) }
@@ -124,14 +101,7 @@ impl Table {
         last
     }
 
-    // Some open request has this invoke id.
-    fn is_taken(&self, number: u8) -> bool
-        ensures { result ≡ list_any (λ w. nat_eq number w.request.number) self.now }
-    {
-        self.numbers[usize::from(number)].is_some()
-    }
-
-    // Opens a request with this body, at a slot that is free.
+    /// Opens a request with this body, at a slot that is free.
     pub(crate) fn open(&mut self, asked: Asked, body: &[u8])
         requires room { length self.old < table_size }
         requires number { times number_in asked.number self.old ≡ 0 }
@@ -147,8 +117,8 @@ impl Table {
         put_last(&mut self.sends, slot);
     }
 
-    // Ends the request that the answer is to, and answers its ticket. Only the request with the answer's invoke id is
-    // looked at.
+    /// Ends the request that the answer is to, and answers its ticket. Only the request with the answer's invoke id is
+    /// looked at.
     pub(crate) fn close(&mut self, answer: &Answer<'_>) -> Option<u64>
         ensures told { option_to_list result
             ≡ map ticket_in (filter (λ w. is_answer_to w.request (answer_seen answer.now)) self.old) }
@@ -165,7 +135,7 @@ impl Table {
         Some(ticket)
     }
 
-    // Some request is due at this clock, and then the one that was sent longest ago is.
+    /// Some request is due at this clock, and then the one that was sent longest ago is.
     pub(crate) fn is_due(&self, clock: u64, config: Config) -> bool
         ensures due { result ≡ list_any (is_due (client_rules config.timeout config.retries) clock) self.now }
         ensures few { length self.now ≤ table_size }
@@ -177,8 +147,8 @@ impl Table {
         }
     }
 
-    // Brings each request that is due to this clock, and takes down what becomes of it, in the order of tickets. It
-    // stands alone, so that a tick at which nothing is due is a comparison at its caller.
+    /// Brings each request that is due to this clock, and takes down what becomes of it, in the order of tickets. It
+    /// stands alone, so that a tick at which nothing is due is a comparison at its caller.
     #[inline(never)]
     pub(crate) fn pass_all(&mut self, clock: u64, config: Config, entries: &mut Entries)
         requires due { list_any (is_due (client_rules config.timeout config.retries) clock) self.old ≡ true }
@@ -197,6 +167,22 @@ impl Table {
             is_due = self.is_due(clock, config);
         }
         sort_by_ticket(entries.as_mut_slice());
+    }
+
+    // The request at this rank.
+    #[tactic(auto, using(crate::proofs::TableReads::read_within, crate::proofs::TableReads::read_held, crate::proofs::TableReads::rank_within))]
+    fn at(&self, rank: usize) -> &OpenRequest
+        requires { rank < length self.now }
+        ensures { result.now ≡ get_or self.now rank nothing }
+    {
+        held(&self.slots, self.order[rank])
+    }
+
+    // Some open request has this invoke id.
+    fn is_taken(&self, number: u8) -> bool
+        ensures { result ≡ list_any (λ w. nat_eq number w.request.number) self.now }
+    {
+        self.numbers[usize::from(number)].is_some()
     }
 
     // Brings the request that was sent longest ago to this clock, and answers what becomes of it.
@@ -222,6 +208,20 @@ impl Table {
         entry
     }
 
+    // The rank of the request with this ticket: its index in the order. Where it stands if no request between it and
+    // the last has ended is looked at first.
+    fn rank_of(&self, ticket: u64) -> Option<usize>
+        ensures { IsRankOf ticket self.now result }
+    {
+        let last = *self.tickets.last()?;
+        let later = last.wrapping_sub(ticket) as usize;
+        let likely = (self.tickets.len() - 1).wrapping_sub(later);
+        if self.tickets.get(likely).copied() == Some(ticket) {
+            return Some(likely);
+        }
+        self.tickets.as_slice().binary_search(&ticket).ok()
+    }
+
     // Ends the request at this rank: its slot is the last of the free ones.
     fn end(&mut self, rank: usize)
         requires { rank < length self.old }
@@ -236,78 +236,11 @@ impl Table {
     }
 }
 
-// The slot that was sent longest ago.
-fn first_sent(sends: &ArrayVec<u8, PLACES>) -> u8
-    requires { 0 < length sends.now.items }
-    ensures { Some result ≡ slice_get sends.now.items 0 }
-{
-    sends[0]
-}
-
-// The request at this slot.
-fn held(slots: &[OpenRequest; PLACES], slot: u8) -> &OpenRequest
-    requires { slot < table_size }
-    ensures { result.now ≡ get_or slots.now slot nothing }
-{
-    &slots[usize::from(slot)]
-}
-
-// Makes the request at this slot a new one.
-fn begin_at(
-    slots: &mut [OpenRequest; PLACES],
-    slot: u8,
-    asked: Asked,
-    body: &[u8],
-    frame: &mut Frame,
-)
-    requires within { slot < table_size }
-    requires short { length body.now ≤ longest_body }
-    ensures { slots.new ≡ set slots.old slot (begun asked body.now) }
-{
-    slots[usize::from(slot)].begin(asked, body, frame);
-}
-
-// Makes the request at this slot one that is sent again now.
-fn send_again_at(slots: &mut [OpenRequest; PLACES], slot: u8, clock: u64, config: Config)
-    requires within { slot < table_size }
-    requires left { (get_or slots.old slot nothing).count < config.retries }
-    ensures { slots.new ≡ set slots.old slot (sent_at clock (get_or slots.old slot nothing)) }
-{
-    slots[usize::from(slot)].send_again(clock, config);
-}
-
-// Puts the item behind the others.
-fn put_last<T: Copy + Default>(items: &mut ArrayVec<T, PLACES>, item: T)
-    requires { length items.old.items < table_size }
-    ensures { items.new.items ≡ items.old.items ++ item ∷ [] }
-{
-    items.push(item);
-}
-
 // A blank request at each slot.
 fn no_requests() -> [OpenRequest; PLACES]
     ensures { length result ≡ table_size }
 {
     Default::default()
-}
-
-// Takes a slot out. The likely rank is looked at first.
-fn take_out(slots: &mut ArrayVec<u8, PLACES>, slot: u8, likely: usize)
-    requires { 0 < times_of_slot slot slots.old.items }
-    ensures { IsTakenOut slot slots.old.items slots.new.items }
-{
-    if slots.get(likely).copied() == Some(slot) {
-        slots.remove(likely);
-    } else if let Some(rank) = rank_of_slot(slots, slot) {
-        slots.remove(rank);
-    }
-}
-
-// The first rank at which the slot stands.
-fn rank_of_slot(slots: &[u8], slot: u8) -> Option<usize>
-    ensures { result ≡ position (λ other. nat_eq other slot) slots.now }
-{
-    slots.iter().position(|other| *other == slot)
 }
 
 // A table of invoke ids of which none is taken.
@@ -328,4 +261,71 @@ fn every_slot() -> ArrayVec<u8, PLACES>
         slots.push(slot);
     }
     slots
+}
+
+// Makes the request at this slot a new one.
+fn begin_at(
+    slots: &mut [OpenRequest; PLACES],
+    slot: u8,
+    asked: Asked,
+    body: &[u8],
+    frame: &mut Frame,
+)
+    requires within { slot < table_size }
+    requires short { length body.now ≤ longest_body }
+    ensures { slots.new ≡ set slots.old slot (begun asked body.now) }
+{
+    slots[usize::from(slot)].begin(asked, body, frame);
+}
+
+// Puts the item behind the others.
+fn put_last<T: Copy + Default>(items: &mut ArrayVec<T, PLACES>, item: T)
+    requires { length items.old.items < table_size }
+    ensures { items.new.items ≡ items.old.items ++ item ∷ [] }
+{
+    items.push(item);
+}
+
+// The request at this slot.
+fn held(slots: &[OpenRequest; PLACES], slot: u8) -> &OpenRequest
+    requires { slot < table_size }
+    ensures { result.now ≡ get_or slots.now slot nothing }
+{
+    &slots[usize::from(slot)]
+}
+
+// The slot that was sent longest ago.
+fn first_sent(sends: &ArrayVec<u8, PLACES>) -> u8
+    requires { 0 < length sends.now.items }
+    ensures { Some result ≡ slice_get sends.now.items 0 }
+{
+    sends[0]
+}
+
+// Makes the request at this slot one that is sent again now.
+fn send_again_at(slots: &mut [OpenRequest; PLACES], slot: u8, clock: u64, config: Config)
+    requires within { slot < table_size }
+    requires left { (get_or slots.old slot nothing).count < config.retries }
+    ensures { slots.new ≡ set slots.old slot (sent_at clock (get_or slots.old slot nothing)) }
+{
+    slots[usize::from(slot)].send_again(clock, config);
+}
+
+// Takes a slot out. The likely rank is looked at first.
+fn take_out(slots: &mut ArrayVec<u8, PLACES>, slot: u8, likely: usize)
+    requires { 0 < times_of_slot slot slots.old.items }
+    ensures { IsTakenOut slot slots.old.items slots.new.items }
+{
+    if slots.get(likely).copied() == Some(slot) {
+        slots.remove(likely);
+    } else if let Some(rank) = rank_of_slot(slots, slot) {
+        slots.remove(rank);
+    }
+}
+
+// The first rank at which the slot stands.
+fn rank_of_slot(slots: &[u8], slot: u8) -> Option<usize>
+    ensures { result ≡ position (λ other. nat_eq other slot) slots.now }
+{
+    slots.iter().position(|other| *other == slot)
 }

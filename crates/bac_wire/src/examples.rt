@@ -9,7 +9,7 @@ ghost use Rattle.bac_wire.specs.Parameter.{enclosed_octets, number_octets, objec
 ghost use Rattle.bac_wire.specs.ParameterReading.{enclosed_at, number_at, object_at};
 ghost use Rattle.bac_wire.specs.Inner.Examples.{IsWritten, input, device};
 
-/// What is written of a value, and read back (ANSI/ASHRAE 135, 20.2.2 to 20.2.14).
+// What is written of a value, and read back (ANSI/ASHRAE 135, 20.2.2 to 20.2.14).
 #[tactic(none)]
 fn examples_of_octets()
     ensures null { IsWritten null (0x00 ∷ []) }
@@ -36,7 +36,7 @@ fn examples_of_octets()
     ensures device { IsWritten (object device) (0xc4 ∷ 0x02 ∷ 0x00 ∷ 0x04 ∷ 0xd2 ∷ []) }
 {}
 
-/// What is read at the front of octets, and what is left of them.
+// What is read at the front of octets, and what is left of them.
 #[tactic(none)]
 fn examples_of_reading()
     // The value that stands first.
@@ -53,7 +53,7 @@ fn examples_of_reading()
     ensures context { value_at (0x09 ∷ 0x05 ∷ []) ≡ None }
 {}
 
-/// The parameters of a service: a number, an object and a value under context tags.
+// The parameters of a service: a number, an object and a value under context tags.
 #[tactic(none)]
 fn examples_of_parameters()
     // The property 85 under tag 1, and analog-input 5 under tag 0.

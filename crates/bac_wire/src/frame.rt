@@ -11,7 +11,7 @@ use std::marker::Model;
 /// 135, 20.1.2.5), with the headers before it, which have 17 at most, and four octets more.
 pub const FRAME_OCTETS: usize = 1497;
 
-/// The caller's octets don't all fit into the frame. It is as it was.
+/// The caller's octets don't all fit into the frame, which is as it was. The caller clears it first, or writes less.
 #[derive(Clone, Copy, Debug, PartialEq, Eq)]
 pub struct Full;
 
@@ -98,7 +98,7 @@ impl Frame {
     }
 }
 
-/// Moves the first `count` octets to the end, and puts these before them. The slice has room for just both.
+// Moves the first `count` octets to the end, and puts these before them. The slice has room for just both.
 fn put_before(octets: &mut [u8], count: usize, front: &[u8])
     requires { length octets.old ≡ count + length front.now }
     ensures { octets.new ≡ front.now ++ take count octets.old }

@@ -5,7 +5,7 @@ ghost use Rattle.std.specs.Option.{option_map};
 ghost use Rattle.bac_wire.specs.Limits.{deepest};
 ghost use Rattle.bac_wire.specs.Inner.Front.{Finds};
 ghost use Rattle.bac_wire.specs.TagReading.{tag_at};
-ghost use Rattle.bac_wire.specs.ItemReading.{behind_closing as closing_at};
+ghost use Rattle.bac_wire.specs.ItemReading.{behind_closing};
 ghost use Rattle.bac_wire.specs.Region.{IsRegion, FindsRegion, LeavesRest};
 ghost use Rattle.bac_wire.specs.Inner.Region.{CountsBehind, LeavesBehind};
 
@@ -14,7 +14,7 @@ use crate::tag::{Shape, Tag, tag_and_rest};
 /// The opening tags that may be open at once in a region.
 pub const NESTING: u8 = 32;
 
-/// The number of the tags round a parameter's value, which are not counted among those.
+// The number of the tags round a parameter's value, which are not counted among those.
 const REGION_END: u8 = 3;
 
 /// How many octets at the front are whole items, up to a closing tag 3; `None` where no such tag stands behind them, or
@@ -39,7 +39,7 @@ pub fn is_region(octets: &[u8]) -> bool
     }
 }
 
-/// The octets behind the items at the front: none, or those from a closing tag on.
+// The octets behind the items at the front: none, or those from a closing tag on.
 #[cycle(nesting)]
 fn behind_items(octets: &[u8], depth: u8) -> Option<&[u8]>
     ensures { Finds (LeavesRest depth octets.now) (option_map (λ r. r.now) result) }
@@ -54,7 +54,7 @@ fn behind_items(octets: &[u8], depth: u8) -> Option<&[u8]>
     if rest.is_empty() { Some(rest) } else { None }
 }
 
-/// The octets behind the item that begins with this tag, where `behind` is what stands behind the tag.
+// The octets behind the item that begins with this tag, where `behind` is what stands behind the tag.
 #[cycle(nesting)]
 fn behind_item(tag: Tag, behind: &[u8], depth: u8) -> Option<&[u8]>
     ensures { (octets : List ℕ) → Some (tag, behind.now) ≡ tag_at octets
@@ -73,7 +73,7 @@ fn behind_item(tag: Tag, behind: &[u8], depth: u8) -> Option<&[u8]>
     }
 }
 
-/// What is left behind the first `count` octets.
+// What is left behind the first `count` octets.
 fn behind_octets(octets: &[u8], count: u32) -> Option<&[u8]>
     ensures { Finds (CountsBehind count octets.now) (option_map (λ r. r.now) result) }
 {
@@ -81,10 +81,10 @@ fn behind_octets(octets: &[u8], count: u32) -> Option<&[u8]>
     Some(rest)
 }
 
-/// The octets behind the closing tag of this number.
+// The octets behind the closing tag of this number.
 #[tactic(auto, unfolding(crate::specs::ItemReading::behind_closing))]
 fn behind_closing(octets: &[u8], number: u8) -> Option<&[u8]>
-    ensures { option_map (λ r. r.now) result ≡ closing_at number octets.now }
+    ensures { option_map (λ r. r.now) result ≡ behind_closing number octets.now }
 {
     let (tag, rest) = tag_and_rest(octets)?;
     match tag.shape {

@@ -1,14 +1,14 @@
 //! What holds of the definitions that the contracts cite, and of the clones and the `==` of the public types. Each
 //! function has an empty body, and its clauses are the laws.
 
-ghost use Rattle.bac_wire.specs.declared.tag.Tag.{Tag as AnyTag};
+ghost use Rattle.bac_wire.specs.declared.tag.Tag.{Tag};
 ghost use Rattle.std.specs.Prelude.{◌≡◌, ℕ, ◌+◌, ◌^◌, ◌<◌, ◌≤◌, ◌↔◌, List, [], ◌++◌, length, Some};
 ghost use Rattle.bac_wire.specs.Limits.{frame_room, deepest};
 ghost use Rattle.bac_wire.specs.Front.{IsPrefixFree, IsReadBack, IsReader, IsShortest};
 ghost use Rattle.bac_wire.specs.Tag.{SpellsTag, IsTag, plain_tag};
 ghost use Rattle.bac_wire.specs.TagReading.{tag_at};
 ghost use Rattle.bac_wire.specs.Identifier.{Identifier, IsIdentifier, identifier};
-ghost use Rattle.bac_wire.specs.Datum.{Datum, IsDatum, IsSound, Spells, datum, plain, enumerated, object as identified};
+ghost use Rattle.bac_wire.specs.Datum.{Datum, IsDatum, IsSound, Spells, datum, plain, enumerated, object};
 ghost use Rattle.bac_wire.specs.DatumReading.{value_at};
 ghost use Rattle.bac_wire.specs.Region.{IsItem, IsRegion, IsClosedRegion, LeavesRest, Opens, SpellsClosed, closing_tag};
 ghost use Rattle.bac_wire.specs.ItemReading.{behind_items, region_at};
@@ -27,8 +27,8 @@ use crate::value::Value;
 /// `tag_at` reads from left to right what spells a tag, and nothing else.
 pub fn tags()
     ensures one { IsPrefixFree SpellsTag }
-    ensures shortest { (tag : AnyTag) → IsTag tag → IsShortest SpellsTag (plain_tag tag) tag }
-    ensures read_back { (tag : AnyTag) → IsTag tag → IsReadBack SpellsTag (plain_tag tag) tag }
+    ensures shortest { (tag : Tag) → IsTag tag → IsShortest SpellsTag (plain_tag tag) tag }
+    ensures read_back { (tag : Tag) → IsTag tag → IsReadBack SpellsTag (plain_tag tag) tag }
     ensures reading { IsReader SpellsTag tag_at }
 {}
 
@@ -70,12 +70,12 @@ pub fn regions()
 pub fn parameters()
     ensures context { (number : ℕ) → IsReader (SpellsContext number) (context_at number) }
     ensures number { (number : ℕ) → IsReader (SpellsIn enumerated number) (number_at number) }
-    ensures object { (number : ℕ) → IsReader (SpellsIn identified number) (object_at number) }
+    ensures object { (number : ℕ) → IsReader (SpellsIn object number) (object_at number) }
     ensures enclosed { (number : ℕ) → IsReader (SpellsEnclosed number) (enclosed_at number) }
     ensures of_number { (number n : ℕ) → number < 255 → n < 2 ^ 32
         → SpellsIn enumerated number (number_octets number n) n }
     ensures of_object { (number : ℕ) (id : Identifier) → number < 255 → IsIdentifier id
-        → SpellsIn identified number (object_octets number id) id }
+        → SpellsIn object number (object_octets number id) id }
     ensures of_region { (number : ℕ) (region : List ℕ) → number < 255 → IsRegion deepest region
         → SpellsEnclosed number (enclosed_octets number region) region }
 {}

@@ -14,7 +14,10 @@
 //! ensures real { IsWritten (real (0x42 ∷ 0x90 ∷ 0x99 ∷ 0x9a ∷ [])) (0x44 ∷ 0x42 ∷ 0x90 ∷ 0x99 ∷ 0x9a ∷ []) }
 //! ```
 //!
-//! A call, of `bac_uses` (`src/wire.rt`), where it is proved that what was written can be read back:
+//! The caller keeps to this: a value that it writes is sound ([`Value::sound`]), the number of a tag at most 254, and
+//! [`Frame::truncate`] keeps no more octets than there are. Octets that are read may be any.
+//!
+//! A call, `written_alone` of `bac_uses` (`src/wire.rt`), where it is proved that what was written can be read back:
 //!
 //! ```rust
 //! frame.clear();

@@ -2,10 +2,10 @@
 
 ghost use Rattle.std.specs.Prelude.{◌≡◌, ◌<◌, ◌^◌, ◌↔◌, IsSome, IfSome};
 
-/// How many types of object there are: ten bits number them.
+// How many types of object there are: ten bits number them.
 const TYPES: u16 = 1 << 10;
 
-/// How many instances a type can have: 22 bits number them.
+// How many instances a type can have: 22 bits number them.
 const INSTANCES: u32 = 1 << 22;
 
 /// The identifier of an object: its type and its instance (ANSI/ASHRAE 135, 20.2.14 and 21).

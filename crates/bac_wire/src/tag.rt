@@ -56,7 +56,18 @@ pub fn tag_and_rest(octets: &[u8]) -> Option<(Tag, &[u8])>
     Some((Tag { number, shape }, rest))
 }
 
-/// The tag's number, by the high half of the initial octet: 15 there says that the next octet holds it.
+/// Appends the shortest spelling of the tag, whose number is at most 254. Where it passes the frame's room it is
+/// `Full`, and the frame is as it was.
+pub fn write_tag(frame: &mut Frame, tag: Tag) -> Result<(), Full>
+    requires { tag.number < 255 }
+    ensures appended { Appends frame.old (plain_tag tag) frame.new result }
+    ensures shortest { OnOk result (IsShortest SpellsTag (plain_tag tag) tag) }
+    ensures read_back { OnOk result (IsReadBack SpellsTag (plain_tag tag) tag) }
+{
+    frame.append(shortest(tag).as_slice())
+}
+
+// The tag's number, by the high half of the initial octet: 15 there says that the next octet holds it.
 #[tactic(auto, unfolding(crate::specs::TagReading::tag_number_at))]
 fn number_and_rest(high: u8, octets: &[u8]) -> Option<(u8, &[u8])>
     requires { high < 16 }
@@ -71,7 +82,7 @@ fn number_and_rest(high: u8, octets: &[u8]) -> Option<(u8, &[u8])>
     }
 }
 
-/// The tag's shape, by the low half of the initial octet: 8 is the class bit, and the rest the length or a bracket.
+// The tag's shape, by the low half of the initial octet: 8 is the class bit, and the rest the length or a bracket.
 #[tactic(auto, unfolding(crate::specs::TagReading::shape_at))]
 fn shape_and_rest(low: u8, octets: &[u8]) -> Option<(Shape, &[u8])>
     requires { low < 16 }
@@ -91,7 +102,7 @@ fn shape_and_rest(low: u8, octets: &[u8]) -> Option<(Shape, &[u8])>
     }
 }
 
-/// The length, by the three low bits: 5 there says that it follows.
+// The length, by the three low bits: 5 there says that it follows.
 #[tactic(auto, unfolding(crate::specs::TagReading::length_at))]
 fn length_and_rest(low: u8, octets: &[u8]) -> Option<(u32, &[u8])>
     ensures { option_map (λ x. (x.0, x.1.now)) result ≡ length_at low octets.now }
@@ -103,7 +114,7 @@ fn length_and_rest(low: u8, octets: &[u8]) -> Option<(u32, &[u8])>
     }
 }
 
-/// A length that follows: one octet, or two behind 254, or four behind 255.
+// A length that follows: one octet, or two behind 254, or four behind 255.
 #[tactic(auto, unfolding(crate::specs::TagReading::long_length_at))]
 #[cold]
 #[inline(never)]
@@ -116,17 +127,6 @@ fn long_length_and_rest(octets: &[u8]) -> Option<(u32, &[u8])>
         [255, b, c, d, e, rest @ ..] => Some((BigEndian::read_u32(&[*b, *c, *d, *e]), rest)),
         _ => None,
     }
-}
-
-/// Appends the shortest spelling of the tag, whose number is at most 254. Where it passes the frame's room it is
-/// `Full`, and the frame is as it was.
-pub fn write_tag(frame: &mut Frame, tag: Tag) -> Result<(), Full>
-    requires { tag.number < 255 }
-    ensures appended { Appends frame.old (plain_tag tag) frame.new result }
-    ensures shortest { OnOk result (IsShortest SpellsTag (plain_tag tag) tag) }
-    ensures read_back { OnOk result (IsReadBack SpellsTag (plain_tag tag) tag) }
-{
-    frame.append(shortest(tag).as_slice())
 }
 
 /// Room for a tag, which has seven octets at most, and for eight octets behind it.
@@ -159,7 +159,7 @@ pub(crate) fn shortest(tag: Tag) -> Head
     octets
 }
 
-/// Puts the octets of a length behind those of the tag.
+// Puts the octets of a length behind those of the tag.
 fn push_length(octets: &mut Head, count: u32)
     requires { length octets.old.items ≤ 2 }
     ensures items { octets.new.items ≡ octets.old.items ++ plain_length count }

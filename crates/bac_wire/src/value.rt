@@ -5,12 +5,11 @@ ghost use Rattle.std.specs.Option.{option_map};
 ghost use Rattle.byteorder.specs.Endian.{big_bytes, low_bytes, twos_complement};
 ghost use Rattle.std.specs.Int.{w64};
 ghost use Rattle.bac_wire.specs.Front.{FindsFront, IsShortest, IsReadBack};
-ghost use Rattle.bac_wire.specs.Datum.{Spells, datum, IsSound, InRange, plain, octet_count as count_octets};
-ghost use Rattle.bac_wire.specs.Datum.{signed_count as count_signed};
-ghost use Rattle.bac_wire.specs.Inner.Datum.{tagged as tagged_octets};
-ghost use Rattle.bac_wire.specs.Datum.{boolean, null};
+ghost use Rattle.bac_wire.specs.Datum.{Spells, datum, IsSound, InRange, plain, boolean, null, octet_count};
+ghost use Rattle.bac_wire.specs.Datum.{signed_count};
+ghost use Rattle.bac_wire.specs.Inner.Datum.{tagged};
 ghost use Rattle.bac_wire.specs.Identifier.{identifier, number_of};
-ghost use Rattle.bac_wire.specs.DatumReading.{exactly, number_within, bits_of as bits_at, contents_of, value_at};
+ghost use Rattle.bac_wire.specs.DatumReading.{exactly, number_within, bits_of, contents_of, value_at};
 ghost use Rattle.bac_wire.specs.Writing.{Appends};
 
 use crate::frame::{FRAME_OCTETS, Frame, Full};
@@ -89,7 +88,38 @@ pub fn value_and_rest(octets: &[u8]) -> Option<(Value<'_>, &[u8])>
     Some((value_of(tag.number, contents)?, rest))
 }
 
-/// The value that the contents stand for, by the number of the tag before them.
+/// Appends the shortest spelling of the value, which is sound. Where it passes the frame's room it is `Full`, and the
+/// frame is as it was.
+#[inline(always)]
+pub fn write_value(frame: &mut Frame, value: &Value<'_>) -> Result<(), Full>
+    requires { IsSound (datum value.now) }
+    ensures appended { Appends frame.old (plain (datum value.now)) frame.new result }
+    ensures shortest { OnOk result (IsShortest Spells (plain (datum value.now)) (datum value.now)) }
+    ensures read_back { OnOk result (IsReadBack Spells (plain (datum value.now)) (datum value.now)) }
+{
+    append_value(frame, value)
+}
+
+/// The fewest octets that hold the number, at least one (ANSI/ASHRAE 135, 20.2.4).
+pub fn octet_count(n: u64) -> usize
+    ensures value { result ≡ octet_count n }
+    ensures low { 1 ≤ result }
+    ensures high { result ≤ 8 }
+    ensures fits { n < 256 ^ result }
+{
+    match n {
+        0..0x100 => 1,
+        0x100..0x1_0000 => 2,
+        0x1_0000..0x100_0000 => 3,
+        0x100_0000..0x1_0000_0000 => 4,
+        0x1_0000_0000..0x100_0000_0000 => 5,
+        0x100_0000_0000..0x1_0000_0000_0000 => 6,
+        0x1_0000_0000_0000..0x100_0000_0000_0000 => 7,
+        _ => 8,
+    }
+}
+
+// The value that the contents stand for, by the number of the tag before them.
 #[tactic(auto, unfolding(crate::specs::DatumReading::contents_of))]
 fn value_of(number: u8, contents: &[u8]) -> Option<Value<'_>>
     ensures { option_map datum result ≡ contents_of number contents.now }
@@ -116,7 +146,7 @@ fn value_of(number: u8, contents: &[u8]) -> Option<Value<'_>>
     }
 }
 
-/// The number that the contents are, where they have from one octet up to `most`.
+// The number that the contents are, where they have from one octet up to `most`.
 fn unsigned_of(contents: &[u8], most: usize) -> Option<u64>
     requires { most ≤ 8 }
     ensures value { result ≡ number_within most contents.now }
@@ -128,7 +158,7 @@ fn unsigned_of(contents: &[u8], most: usize) -> Option<u64>
     Some(BigEndian::read_uint(contents, contents.len()))
 }
 
-/// The number that the contents are in two's complement, where they have one octet to eight.
+// The number that the contents are in two's complement, where they have one octet to eight.
 fn signed_of(contents: &[u8]) -> Option<i64>
     ensures { result ≡ option_map (twos_complement (length contents.now)) (number_within 8 contents.now) }
 {
@@ -138,41 +168,29 @@ fn signed_of(contents: &[u8]) -> Option<i64>
     Some(BigEndian::read_int(contents, contents.len()))
 }
 
-/// The contents, where they are four octets.
+// The contents, where they are four octets.
 fn four(contents: &[u8]) -> Option<[u8; 4]>
     ensures { result ≡ exactly 4 contents.now }
 {
     contents.try_into().ok()
 }
 
-/// The contents, where they are eight octets.
+// The contents, where they are eight octets.
 fn eight(contents: &[u8]) -> Option<[u8; 8]>
     ensures { result ≡ exactly 8 contents.now }
 {
     contents.try_into().ok()
 }
 
-/// A BitString: how many bits are unused, and the octets. `None` where that is not sound.
+// A BitString: how many bits are unused, and the octets. `None` where that is not sound.
 fn bits_of(contents: &[u8]) -> Option<Value<'_>>
-    ensures { option_map datum result ≡ bits_at contents.now }
+    ensures { option_map datum result ≡ bits_of contents.now }
 {
     let [unused, octets @ ..] = contents else {
         return None;
     };
     let value = Value::Bits(*unused, octets);
     value.sound().then_some(value)
-}
-
-/// Appends the shortest spelling of the value, which is sound. Where it passes the frame's room it is `Full`, and the
-/// frame is as it was.
-#[inline(always)]
-pub fn write_value(frame: &mut Frame, value: &Value<'_>) -> Result<(), Full>
-    requires { IsSound (datum value.now) }
-    ensures appended { Appends frame.old (plain (datum value.now)) frame.new result }
-    ensures shortest { OnOk result (IsShortest Spells (plain (datum value.now)) (datum value.now)) }
-    ensures read_back { OnOk result (IsReadBack Spells (plain (datum value.now)) (datum value.now)) }
-{
-    append_value(frame, value)
 }
 
 #[tactic(auto, unfolding(crate::specs::Datum::plain, crate::specs::Inner::Datum::tagged))]
@@ -214,25 +232,76 @@ fn append_boolean(frame: &mut Frame, value: bool) -> Result<(), Full>
     frame.append(&[0x10 + u8::from(value)])
 }
 
-/// Appends a tag of one octet, and the four octets that it counts.
+fn append_number(frame: &mut Frame, number: u8, n: u64) -> Result<(), Full>
+    requires { number < 15 }
+    ensures { Appends frame.old (tagged number (big_bytes (octet_count n) n)) frame.new result }
+{
+    if n < 256 {
+        return append_octet(frame, number, n as u8);
+    }
+    let mut contents = [0; 8];
+    let count = octet_count(n);
+    BigEndian::write_uint(&mut contents, n, count);
+    append_tagged(frame, number, &contents[..count], &[])
+}
+
+// Appends a tag of one octet, and a number in one octet.
+#[tactic(auto, using(crate::proofs::PlainDatum::one_tagged))]
+fn append_octet(frame: &mut Frame, number: u8, n: u8) -> Result<(), Full>
+    requires { number < 15 }
+    ensures { Appends frame.old (tagged number (big_bytes (octet_count n) n)) frame.new result }
+{
+    frame.append(&[16 * number + 1, n])
+}
+
+#[tactic(auto, using(crate::proofs::PlainDatum::bytes_taken))]
+fn append_signed(frame: &mut Frame, n: i64) -> Result<(), Full>
+    ensures { Appends frame.old (tagged 3 (big_bytes (signed_count n) (low_bytes w64 (signed_count n) n)))
+        frame.new result }
+{
+    let mut contents = [0; 8];
+    let count = signed_octet_count(n);
+    BigEndian::write_int(&mut contents, n, count);
+    append_tagged(frame, 3, &contents[..count], &[])
+}
+
+// The fewest octets that hold the number in two's complement.
+fn signed_octet_count(n: i64) -> usize
+    ensures value { result ≡ signed_count n }
+    ensures low { 1 ≤ result }
+    ensures high { result ≤ 8 }
+{
+    let size = n.unsigned_abs();
+    octet_count(2 * (if n < 0 { size - 1 } else { size }))
+}
+
+fn append_object(frame: &mut Frame, id: ObjectId) -> Result<(), Full>
+    ensures { Appends frame.old (tagged 12 (big_bytes 4 (number_of (identifier id)))) frame.new result }
+{
+    let mut contents = [0; 4];
+    BigEndian::write_u32(&mut contents, id.number());
+    append_four(frame, 12, &contents)
+}
+
+// Appends a tag of one octet, and the four octets that it counts.
 #[tactic(auto, using(crate::proofs::PlainDatum::four_tagged))]
 #[inline(always)]
 fn append_four(frame: &mut Frame, number: u8, contents: &[u8; 4]) -> Result<(), Full>
     requires { number < 15 }
     // This follows from the type of the contents. It is said for the caller's proof.
     ensures four { length contents.now ≡ 4 }
-    ensures appended { Appends frame.old (tagged_octets number contents.now) frame.new result }
+    ensures appended { Appends frame.old (tagged number contents.now) frame.new result }
 {
     let [a, b, c, d] = *contents;
     frame.append(&[16 * number + 4, a, b, c, d])
 }
 
-/// Appends the tag of the contents, which are in two parts, and the contents.
+// Appends the tag of the contents, which are in two parts, and the contents.
 #[tactic(auto, unfolding(crate::specs::Inner::Datum::tagged))]
 fn append_tagged(frame: &mut Frame, number: u8, first: &[u8], rest: &[u8]) -> Result<(), Full>
     requires number { number < 255 }
     requires first { length first.now ≤ 8 }
-    ensures { Appends frame.old (tagged_octets number (first.now ++ rest.now)) frame.new result }
+    ensures { Appends frame.old (tagged number (first.now ++ rest.now)) frame.new result }
 {
     if FRAME_OCTETS < rest.len() {
         return Err(Full);
@@ -245,74 +314,4 @@ fn append_tagged(frame: &mut Frame, number: u8, first: &[u8], rest: &[u8]) -> Re
     }
     frame.append(head.as_slice())?;
     frame.append(rest)
-}
-
-fn append_number(frame: &mut Frame, number: u8, n: u64) -> Result<(), Full>
-    requires { number < 15 }
-    ensures { Appends frame.old (tagged_octets number (big_bytes (count_octets n) n)) frame.new result }
-{
-    if n < 256 {
-        return append_octet(frame, number, n as u8);
-    }
-    let mut contents = [0; 8];
-    let count = octet_count(n);
-    BigEndian::write_uint(&mut contents, n, count);
-    append_tagged(frame, number, &contents[..count], &[])
-}
-
-/// Appends a tag of one octet, and a number in one octet.
-#[tactic(auto, using(crate::proofs::PlainDatum::one_tagged))]
-fn append_octet(frame: &mut Frame, number: u8, n: u8) -> Result<(), Full>
-    requires { number < 15 }
-    ensures { Appends frame.old (tagged_octets number (big_bytes (count_octets n) n)) frame.new result }
-{
-    frame.append(&[16 * number + 1, n])
-}
-
-#[tactic(auto, using(crate::proofs::PlainDatum::bytes_taken))]
-fn append_signed(frame: &mut Frame, n: i64) -> Result<(), Full>
-    ensures { Appends frame.old (tagged_octets 3 (big_bytes (count_signed n) (low_bytes w64 (count_signed n) n)))
-        frame.new result }
-{
-    let mut contents = [0; 8];
-    let count = signed_octet_count(n);
-    BigEndian::write_int(&mut contents, n, count);
-    append_tagged(frame, 3, &contents[..count], &[])
-}
-
-fn append_object(frame: &mut Frame, id: ObjectId) -> Result<(), Full>
-    ensures { Appends frame.old (tagged_octets 12 (big_bytes 4 (number_of (identifier id)))) frame.new result }
-{
-    let mut contents = [0; 4];
-    BigEndian::write_u32(&mut contents, id.number());
-    append_four(frame, 12, &contents)
-}
-
-/// The fewest octets that hold the number, at least one (ANSI/ASHRAE 135, 20.2.4).
-pub fn octet_count(n: u64) -> usize
-    ensures value { result ≡ count_octets n }
-    ensures low { 1 ≤ result }
-    ensures high { result ≤ 8 }
-    ensures fits { n < 256 ^ result }
-{
-    match n {
-        0..0x100 => 1,
-        0x100..0x1_0000 => 2,
-        0x1_0000..0x100_0000 => 3,
-        0x100_0000..0x1_0000_0000 => 4,
-        0x1_0000_0000..0x100_0000_0000 => 5,
-        0x100_0000_0000..0x1_0000_0000_0000 => 6,
-        0x1_0000_0000_0000..0x100_0000_0000_0000 => 7,
-        _ => 8,
-    }
-}
-
-/// The fewest octets that hold the number in two's complement.
-fn signed_octet_count(n: i64) -> usize
-    ensures value { result ≡ count_signed n }
-    ensures low { 1 ≤ result }
-    ensures high { result ≤ 8 }
-{
-    let size = n.unsigned_abs();
-    octet_count(2 * (if n < 0 { size - 1 } else { size }))
 }

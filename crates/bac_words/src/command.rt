@@ -1,4 +1,5 @@
 //! The command that `clap` reads the words by.
+
 ghost use Rattle.std.specs.Prelude.{◌≡◌, false, IfOk, codes, map};
 ghost use Rattle.std.specs.List.{fold, list_any};
 ghost use Rattle.clap.specs.Words.{App, new_app, new_rule, rule_of, with_rule, with_subcommand};
@@ -12,104 +13,27 @@ use clap::builder::ValueParser;
 use clap::{Arg, Command};
 use std::alloc::{AllocError, Global};
 
-/// A word that is a number from `least` to `most`.
-fn number<'a>(alloc: Global, id: &'a str, least: u32, most: u32, help: &'a str) -> Arg<'a>
-    ensures rule { rule_of result ≡ number id.entry.now least most }
-    ensures local { result.global ≡ false }
+/// The program, with a subcommand for each tool.
+pub fn bactool<'a>(alloc: Global) -> Result<Command<'a>, AllocError>
+    ensures { IfOk result (λ c. IsCommand c bactool) }
 {
-    Arg::new(alloc, id)
-        .value_parser(ValueParser::signed(i64::from(least), i64::from(most)))
-        .help(help)
+    let command = named(alloc, "bactool", help::ABOUT, help::TYPICAL).subcommand_required(true);
+    let command = with_tool(command, bacrp(alloc))?;
+    let command = with_tool(command, bacwp(alloc))?;
+    let command = with_tool(command, bacwi(alloc))?;
+    let command = with_tool(command, bacdev(alloc))?;
+    with_tool(command, Ok(bactrace(alloc)))
 }
 
-/// A number that has to be there.
-fn needed<'a>(alloc: Global, id: &'a str, least: u32, most: u32, help: &'a str) -> Arg<'a>
-    ensures rule { rule_of result ≡ needed (number id.entry.now least most) }
-    ensures local { result.global ≡ false }
+// A command with one more tool, where there is memory for it.
+fn with_tool<'a>(
+    command: Command<'a>,
+    tool: Result<Command<'a>, AllocError>,
+) -> Result<Command<'a>, AllocError>
+    ensures { (app added : App) → IsCommand command.entry app → IfOk tool.entry (λ t. IsCommand t added)
+        → IfOk result (λ c. IsCommand c (with_subcommand app added.top)) }
 {
-    number(alloc, id, least, most, help).required(true)
-}
-
-/// A number that is given by its name.
-fn option<'a>(alloc: Global, id: &'a str, least: u32, most: u32, help: &'a str) -> Arg<'a>
-    ensures rule { rule_of result ≡ by_name (number id.entry.now least most) }
-    ensures local { result.global ≡ false }
-{
-    number(alloc, id, least, most, help).long(id)
-}
-
-/// The instance that `bacdev` has; the last one stands for every device.
-fn own_instance_arg<'a>(alloc: Global) -> Arg<'a>
-    ensures rule { rule_of result ≡ needed (number (codes "device-instance") 0 4194302) }
-    ensures local { result.global ≡ false }
-{
-    needed(alloc, "device-instance", 0, 4_194_302, help::OWN_INSTANCE)
-}
-
-fn mac_arg<'a>(alloc: Global) -> Arg<'a>
-    ensures rule { rule_of result ≡ mac_rule }
-    ensures local { result.global ≡ false }
-{
-    Arg::new(alloc, "mac")
-        .long("mac")
-        .required(true)
-        .help(help::MAC)
-}
-
-fn timeout_arg<'a>(alloc: Global, help: &'a str) -> Arg<'a>
-    ensures rule { rule_of result ≡ timeout_rule }
-    ensures local { result.global ≡ false }
-{
-    option(alloc, "apdu-timeout", 1, 60_000, help)
-}
-
-fn retries_arg<'a>(alloc: Global) -> Arg<'a>
-    ensures rule { rule_of result ≡ retries_rule }
-    ensures local { result.global ≡ false }
-{
-    option(alloc, "apdu-retries", 0, 9, help::RETRIES)
-}
-
-fn port_arg<'a>(alloc: Global, help: &'a str) -> Arg<'a>
-    ensures rule { rule_of result ≡ port_rule }
-    ensures local { result.global ≡ false }
-{
-    option(alloc, "port", 0, 65_535, help)
-}
-
-fn index<'a>(alloc: Global) -> Arg<'a>
-    ensures rule { rule_of result ≡ needed (new_rule (codes "index")) }
-    ensures local { result.global ≡ false }
-{
-    Arg::new(alloc, "index")
-        .required(true)
-        .help(help::WRITTEN_ELEMENT)
-}
-
-fn pairs<'a>(alloc: Global) -> Arg<'a>
-    ensures rule { rule_of result ≡ needed (several (new_rule (codes "tag value"))) }
-    ensures local { result.global ≡ false }
-{
-    Arg::new(alloc, "tag value")
-        .num_args(1..)
-        .required(true)
-        .help(help::PAIRS)
-}
-
-/// A command with its help.
-fn named<'a>(alloc: Global, name: &'a str, about: &'a str, lines: &'a str) -> Command<'a>
-    ensures { IsCommand result (new_app name.entry.now) }
-{
-    Command::new(alloc, name).about(about).after_help(lines)
-}
-
-/// A tool with its arguments.
-fn tool<'a>(command: Command<'a>, arguments: Vec<Arg<'a>>) -> Result<Command<'a>, AllocError>
-    requires { list_any (λ a. a.global) arguments.items ≡ false }
-    ensures { (app : App) → IsCommand command.entry app
-        → IfOk result (λ c. IsCommand c (fold with_rule app (map rule_of arguments.entry.items))) }
-{
-    command.args(arguments)
+    command.subcommand(tool?)
 }
 
 fn bacrp<'a>(alloc: Global) -> Result<Command<'a>, AllocError>
@@ -202,25 +126,102 @@ fn bactrace<'a>(alloc: Global) -> Command<'a>
     named(alloc, "bactrace", help::TRACES, help::TRACE_LINES)
 }
 
-// A command with one more tool, where there is memory for it.
-fn with_tool<'a>(
-    command: Command<'a>,
-    tool: Result<Command<'a>, AllocError>,
-) -> Result<Command<'a>, AllocError>
-    ensures { (app added : App) → IsCommand command.entry app → IfOk tool.entry (λ t. IsCommand t added)
-        → IfOk result (λ c. IsCommand c (with_subcommand app added.top)) }
+// A command with its help.
+fn named<'a>(alloc: Global, name: &'a str, about: &'a str, lines: &'a str) -> Command<'a>
+    ensures { IsCommand result (new_app name.entry.now) }
 {
-    command.subcommand(tool?)
+    Command::new(alloc, name).about(about).after_help(lines)
 }
 
-/// The program, with a subcommand for each tool.
-pub fn bactool<'a>(alloc: Global) -> Result<Command<'a>, AllocError>
-    ensures { IfOk result (λ c. IsCommand c bactool) }
+// A tool with its arguments.
+fn tool<'a>(command: Command<'a>, arguments: Vec<Arg<'a>>) -> Result<Command<'a>, AllocError>
+    requires { list_any (λ a. a.global) arguments.items ≡ false }
+    ensures { (app : App) → IsCommand command.entry app
+        → IfOk result (λ c. IsCommand c (fold with_rule app (map rule_of arguments.entry.items))) }
 {
-    let command = named(alloc, "bactool", help::ABOUT, help::TYPICAL).subcommand_required(true);
-    let command = with_tool(command, bacrp(alloc))?;
-    let command = with_tool(command, bacwp(alloc))?;
-    let command = with_tool(command, bacwi(alloc))?;
-    let command = with_tool(command, bacdev(alloc))?;
-    with_tool(command, Ok(bactrace(alloc)))
+    command.args(arguments)
+}
+
+fn index<'a>(alloc: Global) -> Arg<'a>
+    ensures rule { rule_of result ≡ needed (new_rule (codes "index")) }
+    ensures local { result.global ≡ false }
+{
+    Arg::new(alloc, "index")
+        .required(true)
+        .help(help::WRITTEN_ELEMENT)
+}
+
+fn pairs<'a>(alloc: Global) -> Arg<'a>
+    ensures rule { rule_of result ≡ needed (several (new_rule (codes "tag value"))) }
+    ensures local { result.global ≡ false }
+{
+    Arg::new(alloc, "tag value")
+        .num_args(1..)
+        .required(true)
+        .help(help::PAIRS)
+}
+
+fn mac_arg<'a>(alloc: Global) -> Arg<'a>
+    ensures rule { rule_of result ≡ mac_rule }
+    ensures local { result.global ≡ false }
+{
+    Arg::new(alloc, "mac")
+        .long("mac")
+        .required(true)
+        .help(help::MAC)
+}
+
+fn timeout_arg<'a>(alloc: Global, help: &'a str) -> Arg<'a>
+    ensures rule { rule_of result ≡ timeout_rule }
+    ensures local { result.global ≡ false }
+{
+    option(alloc, "apdu-timeout", 1, 60_000, help)
+}
+
+fn retries_arg<'a>(alloc: Global) -> Arg<'a>
+    ensures rule { rule_of result ≡ retries_rule }
+    ensures local { result.global ≡ false }
+{
+    option(alloc, "apdu-retries", 0, 9, help::RETRIES)
+}
+
+fn port_arg<'a>(alloc: Global, help: &'a str) -> Arg<'a>
+    ensures rule { rule_of result ≡ port_rule }
+    ensures local { result.global ≡ false }
+{
+    option(alloc, "port", 0, 65_535, help)
+}
+
+// The instance that `bacdev` has; the last one stands for every device.
+fn own_instance_arg<'a>(alloc: Global) -> Arg<'a>
+    ensures rule { rule_of result ≡ needed (number (codes "device-instance") 0 4194302) }
+    ensures local { result.global ≡ false }
+{
+    needed(alloc, "device-instance", 0, 4_194_302, help::OWN_INSTANCE)
+}
+
+// A number that is given by its name.
+fn option<'a>(alloc: Global, id: &'a str, least: u32, most: u32, help: &'a str) -> Arg<'a>
+    ensures rule { rule_of result ≡ by_name (number id.entry.now least most) }
+    ensures local { result.global ≡ false }
+{
+    number(alloc, id, least, most, help).long(id)
+}
+
+// A number that has to be there.
+fn needed<'a>(alloc: Global, id: &'a str, least: u32, most: u32, help: &'a str) -> Arg<'a>
+    ensures rule { rule_of result ≡ needed (number id.entry.now least most) }
+    ensures local { result.global ≡ false }
+{
+    number(alloc, id, least, most, help).required(true)
+}
+
+// A word that is a number from `least` to `most`.
+fn number<'a>(alloc: Global, id: &'a str, least: u32, most: u32, help: &'a str) -> Arg<'a>
+    ensures rule { rule_of result ≡ number id.entry.now least most }
+    ensures local { result.global ≡ false }
+{
+    Arg::new(alloc, id)
+        .value_parser(ValueParser::signed(i64::from(least), i64::from(most)))
+        .help(help)
 }

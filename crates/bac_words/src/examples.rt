@@ -6,7 +6,7 @@ ghost use Rattle.bac_words.specs.declared.faults.UsageFault.TheVariants.{BadInde
 ghost use Rattle.bac_words.specs.declared.jobs.Job.TheVariants.{Read, Write, WhoIs, Device, Trace};
 ghost use Rattle.bac_words.specs.Inner.Examples.{IsOrdered, at_port, usual};
 
-/// What the words of a request order: to whom it goes, how long and how often, and its service body.
+// What the words of a request order: to whom it goes, how long and how often, and its service body.
 #[tactic(none)]
 fn examples_of_requests()
     // The present value (85) of analog input (0) 5.
@@ -42,7 +42,7 @@ fn examples_of_requests()
     ensures bad_value { IsOrdered (codes "bactool bacwp 1234 1 1 85 8 -1 2 3 2 y --mac 192.0.2.7") (Err (BadValue 2)) }
 {}
 
-/// What the words of the other tools order.
+// What the words of the other tools order.
 #[tactic(none)]
 fn examples_of_other_tools()
     // Every device, one, and those within limits.

@@ -1,4 +1,5 @@
 //! Why the words give no job.
+
 ghost use Rattle.std.specs.Prelude.{◌≡◌};
 ghost use Rattle.bac_words.specs.Fault.{usage_of, usage_status_of};
 ghost use Rattle.bac_words.specs.Inner.Fault.{fault_from};
@@ -9,13 +10,13 @@ use clap::error::ErrorKind;
 use std::alloc::AllocError;
 use thiserror::Error;
 
-/// What is wrong with the words.
+/// Why the words give no job: the fault of who typed them, but for `Memory` and `Help`.
 #[derive(Debug, Drop, Error)]
 pub enum UsageFault {
-    /// There is no memory for them.
+    /// There is no memory for them: nobody's fault.
     #[error("out of memory")]
     Memory,
-    /// They ask for help, which this is.
+    /// They ask for help, which this is: no fault.
     #[error("{0}")]
     Help(clap::Error),
     /// They are no words of the program, as this says.

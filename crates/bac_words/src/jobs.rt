@@ -1,4 +1,5 @@
 //! What the words ask for.
+
 use bac_device::DeviceInfo;
 use bac_text::{Call, Search};
 

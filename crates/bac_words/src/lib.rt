@@ -12,6 +12,9 @@
 //! ensures read { IsOrdered (codes "bactool bacrp 1234 0 5 85 --mac 192.0.2.7")
 //!     (Ok (Read (usual (0x0c ∷ 0x00 ∷ 0x00 ∷ 0x00 ∷ 0x05 ∷ 0x19 ∷ 0x55 ∷ [])))) }
 //! ```
+//!
+//! No call has a condition. `run_words` of `bac_tools` (`src/program.rt`) calls [`parse_words`] and runs the job that
+//! it answers; it is proved there that words without a job are told in the report, and that nothing else is done then.
 #![tactic(auto)]
 
 mod called;

@@ -1,4 +1,5 @@
 //! From the words to the job.
+
 ghost use Rattle.std.specs.Prelude.{◌≡◌, ◌<◌, ◌⊎◌, IfOk, IfSome, IsSomeAnd, Some, codes};
 ghost use Rattle.std.specs.Prelude.{IsErrAnd, option_map};
 ghost use Rattle.clap.specs.Words.{found_of, rows_of, subcommand_rows_of};
@@ -147,6 +148,63 @@ fn call(matches: &ArgMatches<'_>, to: Peer, body: ArrayVec<u8, LONGEST_BODY>) ->
     }
 }
 
+// The body of a write, whose values are the pairs as they were typed.
+#[tactic(auto, using(crate::proofs::Given::of_tool, crate::proofs::Given::given_to_tool))]
+fn write_body(
+    matches: &ArgMatches<'_>,
+    index: Option<u32>,
+) -> Result<ArrayVec<u8, LONGEST_BODY>, PairFault>
+    requires { IsTaken (rules_of bacwp) (rows_of (found_of matches.now)) }
+    ensures { result_seen (λ body. body.items) result ≡ body_given (rows_of (found_of matches.now)) index }
+{
+    let pairs = matches.get_strs("tag value").unwrap_or(&[]);
+    let mut words = TypedWords::new(pairs);
+    body_of_write(
+        object(matches),
+        needed(matches, "property"),
+        index,
+        priority(matches),
+        &mut words,
+    )
+}
+
+// The limits of a search: one number is both of them, and no number is no limit.
+fn limits(least: Option<u32>, most: Option<u32>) -> WhoIs
+    ensures { result ≡ limits least most }
+{
+    match least {
+        None => WhoIs::All,
+        Some(low) => WhoIs::Range {
+            low,
+            high: most.unwrap_or(low),
+        },
+    }
+}
+
+// The peer of `--mac`, which has no route.
+#[tactic(auto, using(crate::proofs::Given::first_words))]
+fn peer(matches: &ArgMatches<'_>) -> Option<Peer>
+    ensures { result ≡ peer_given (rows_of (found_of matches.now)) }
+{
+    peer_of(matches.get_str("mac")?)
+}
+
+// The peer that a word names, as it stands.
+#[tactic(auto, using(crate::proofs::Given::peer_named))]
+fn peer_of(word: &str) -> Option<Peer>
+    ensures { result ≡ peer_in word.now }
+{
+    plain_peer_in(word.as_bytes())
+}
+
+// The index of a write, as it was typed.
+#[tactic(auto, using(crate::proofs::Given::first_words))]
+fn index(matches: &ArgMatches<'_>) -> Option<Option<u32>>
+    ensures { result ≡ index_given (rows_of (found_of matches.now)) }
+{
+    read_write_index(unmarked(matches.get_str("index")?).as_bytes())
+}
+
 // The object of a request.
 #[tactic(auto, using(crate::proofs::Given::of_request, crate::proofs::Given::given_to_request))]
 fn object(matches: &ArgMatches<'_>) -> ObjectId
@@ -196,50 +254,6 @@ fn priority(matches: &ArgMatches<'_>) -> Option<u8>
     priority_from(needed(matches, "priority") as u8)
 }
 
-// The peer of `--mac`, which has no route.
-#[tactic(auto, using(crate::proofs::Given::first_words))]
-fn peer(matches: &ArgMatches<'_>) -> Option<Peer>
-    ensures { result ≡ peer_given (rows_of (found_of matches.now)) }
-{
-    peer_of(matches.get_str("mac")?)
-}
-
-// The peer that a word names, as it stands.
-#[tactic(auto, using(crate::proofs::Given::peer_named))]
-fn peer_of(word: &str) -> Option<Peer>
-    ensures { result ≡ peer_in word.now }
-{
-    plain_peer_in(word.as_bytes())
-}
-
-// The index of a write, as it was typed.
-#[tactic(auto, using(crate::proofs::Given::first_words))]
-fn index(matches: &ArgMatches<'_>) -> Option<Option<u32>>
-    ensures { result ≡ index_given (rows_of (found_of matches.now)) }
-{
-    read_write_index(unmarked(matches.get_str("index")?).as_bytes())
-}
-
-// The body of a write, whose values are the pairs as they were typed.
-#[tactic(auto, using(crate::proofs::Given::of_tool, crate::proofs::Given::given_to_tool))]
-fn write_body(
-    matches: &ArgMatches<'_>,
-    index: Option<u32>,
-) -> Result<ArrayVec<u8, LONGEST_BODY>, PairFault>
-    requires { IsTaken (rules_of bacwp) (rows_of (found_of matches.now)) }
-    ensures { result_seen (λ body. body.items) result ≡ body_given (rows_of (found_of matches.now)) index }
-{
-    let pairs = matches.get_strs("tag value").unwrap_or(&[]);
-    let mut words = TypedWords::new(pairs);
-    body_of_write(
-        object(matches),
-        needed(matches, "property"),
-        index,
-        priority(matches),
-        &mut words,
-    )
-}
-
 // The number of an argument that has to be given.
 fn needed(matches: &ArgMatches<'_>, id: &str) -> u32
     requires number { IsNumberWord id.now (rows_of (found_of matches.now)) }
@@ -257,17 +271,4 @@ fn number(matches: &ArgMatches<'_>, id: &str) -> Option<u32>
     ensures within { IfSome result (IsWithin (bounds id.now)) }
 {
     matches.get_one(id)
-}
-
-// The limits of a search: one number is both of them, and no number is no limit.
-fn limits(least: Option<u32>, most: Option<u32>) -> WhoIs
-    ensures { result ≡ limits least most }
-{
-    match least {
-        None => WhoIs::All,
-        Some(low) => WhoIs::Range {
-            low,
-            high: most.unwrap_or(low),
-        },
-    }
 }

@@ -1,4 +1,5 @@
 //! Marked words as they were typed.
+
 ghost use Rattle.std.specs.Prelude.{◌≡◌, drop, map};
 ghost use Rattle.clap.specs.Walk.{texts};
 ghost use Rattle.bac_words.specs.Marks.{unmarked};
@@ -9,7 +10,7 @@ use bac_text::WordSource;
 #[derive(Drop)]
 pub(crate) struct TypedWords<'w, 'a> {
     words: &'w [&'a str],
-    /// How many are taken.
+    // How many are taken.
     taken: usize,
 }
 
