@@ -24,7 +24,7 @@ import subprocess
 import sys
 import time
 
-from tests.tree import all_crates
+from tests.tree import all_crates, free_memory
 
 PROGRAM = "bactool"
 TRIALS = ["bac_trials", "tool_trials"]
@@ -59,13 +59,6 @@ def size(crate):
 def processors():
     given = os.environ.get("RT_JOBS", "")
     return int(given) if given.isdigit() and int(given) > 0 else len(os.sched_getaffinity(0))
-
-
-def room():
-    """How many crates the free memory holds."""
-    with open("/proc/meminfo", encoding="utf-8") as lines:
-        free = re.search(r"MemAvailable:\s+(\d+)", lines.read())
-    return max(1024 * int(free[1]) // CRATE_MEMORY, 1)
 
 
 class Work:
@@ -169,7 +162,7 @@ def build(crates, screen, is_done):
     """Answers whether each crate was proved. Those of which is_done says so are left as they are."""
     done = set(filter(is_done, crates))
     left, working, kept, long = {it: crates[it] for it in crates if it not in done}, [], len(done), chains(crates)
-    places = min(processors(), room())
+    places = max(min(processors(), free_memory() // CRATE_MEMORY), 1)
     try:
         while left or working:
             ready = sorted((crate for crate in left if left[crate] <= done), key=long.get, reverse=True)

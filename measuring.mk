@@ -23,7 +23,7 @@ bench: bench-loopback
 	@mkdir -p $(ROOM) && bench/run.sh $(ROOM)
 
 bench-loopback: program
-	@bench/loopback.sh $(ROUNDS)
+	@bench/loopback.py $(ROUNDS)
 
 soak: program
 	@bench/soak_device.py $(DATAGRAMS)

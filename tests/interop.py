@@ -14,9 +14,8 @@ import tempfile
 import time
 
 from relay import DEVICE, Relay
-from tree import TOP
+from tree import PROGRAM, TOP, free_port
 
-PROGRAM = os.environ.get("BACTOOL", TOP + "/crates/bactool/out/bactool")
 FAILURES = []
 
 # What bacrp is asked, what it prints, and the names that tshark has for the object and the property.
@@ -119,7 +118,7 @@ def output_of(words, status=(0,)):
 
 def device():
     """A bacdev at a free port, and the port."""
-    port = int(output_of([TOP + "/examples/free-port.sh"]))
+    port = free_port()
     process = subprocess.Popen([PROGRAM, "bacdev", "1234", "--port", str(port)], stderr=subprocess.DEVNULL)
     for _ in range(50):
         if output_of([PROGRAM, "bacwi", "--mac", "127.0.0.1:%d" % port, "--apdu-timeout", "100"], (0, 1)):

@@ -26,7 +26,7 @@ import tempfile
 import time
 from collections import namedtuple
 
-from tree import TOP
+from tree import TOP, free_memory
 
 LOGS = "out/parts"
 SIGNALS = (signal.SIGINT, signal.SIGTERM, signal.SIGHUP)
@@ -43,9 +43,7 @@ def processors():
 
 def beside(*rows):
     """These rows of parts, or one behind the other where memory is short: each takes some 2 GB a processor."""
-    with open("/proc/meminfo", encoding="utf-8") as lines:
-        free = int(re.search(r"MemAvailable:\s+(\d+)", lines.read())[1])
-    return rows if free >= 4000000 * processors() else [[part for row in rows for part in row]]
+    return rows if free_memory() >= 4000000000 * processors() else [[part for row in rows for part in row]]
 
 
 def gently(*command):

@@ -1,8 +1,10 @@
-"""What the scripts over the tree share: where it is, its files' texts, and its crates."""
+"""What the scripts share: where the tree and the built program are, the files' texts, the crates, and the machine."""
 import os
 import re
+import subprocess
 
 TOP = os.path.dirname(os.path.dirname(os.path.abspath(__file__)))
+PROGRAM = os.environ.get("BACTOOL", TOP + "/crates/bactool/out/bactool")
 
 
 def text_of(path):
@@ -31,3 +33,18 @@ def all_crates():
     """The crates of crates.txt, in its order, each with the crates and libraries that it uses."""
     lines = (line.partition(":") for line in text_of("crates.txt").splitlines() if ":" in line and line[0] != "#")
     return {name.split()[0]: below.split() for name, _, below in lines}
+
+
+def free_port():
+    """A UDP port that no socket of this machine has."""
+    return int(subprocess.check_output([TOP + "/examples/free-port.sh"]))
+
+
+def resident(process, what="VmRSS"):
+    """The kilobytes of a process that lie in memory now (VmRSS), or lay in it at most (VmHWM)."""
+    return int(re.search(rf"{what}:\s+(\d+)", text_of(f"/proc/{process}/status"))[1])
+
+
+def free_memory():
+    """The octets that programs can have without other memory being moved out."""
+    return 1024 * int(re.search(r"MemAvailable:\s+(\d+)", text_of("/proc/meminfo"))[1])

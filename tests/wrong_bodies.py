@@ -37,12 +37,11 @@ import tempfile
 import time
 
 from edits import ROOT, Edit, functions_of, text_of
-from tree import all_crates
+from tree import all_crates, free_memory
 
 KINDS = ["clause", "safety", "step", "name", "PROVED", "bad"]
 STRENGTHS = ["false", "open", "limit"]
-# What a check takes of the machine's memory, in MB.
-CHECK_MEMORY = 3000
+CHECK_MEMORY = 3000000000  # what a check takes of the machine's memory, in octets
 SAMPLE = 8
 LARGEST = 80  # bodies of a round
 # What a check prints of a goal, of an answer, of a function, once as it goes and once at its end, and of a text that it
@@ -415,8 +414,7 @@ def strays():
 
 def usual_jobs():
     """As many checks at a time as there are processors, and memory for."""
-    memory = re.search(r"MemAvailable: +(\d+)", text_of("/proc/meminfo")) if os.path.isfile("/proc/meminfo") else None
-    return max(1, min(len(os.sched_getaffinity(0)), int(memory[1]) // 1000 // CHECK_MEMORY if memory else 1))
+    return max(1, min(len(os.sched_getaffinity(0)), free_memory() // CHECK_MEMORY))
 
 
 def main():
