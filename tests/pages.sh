@@ -197,10 +197,7 @@ awk '/^\.Sh/ { inside = /DIAGNOSTICS/ } /^\.Pp/ { inside = 0 } inside && /^\.It/
 same faults 'faults of the code' 'faults of man bactool'
 
 # The page of numbers, the document, and the tables of bacsite are as made.
-man/numbers.sh "$room"
-for made in man/bactool-numbers.7 docs/NUMBERS.md site/bacsite; do
-    diff "$room/${made#*/}" "$made" >&2 || wrong "$made is not as man/numbers.sh makes it"
-done
+man/numbers.py --check >&2 || wrong 'a table of numbers is not as it is made'
 
 # The program is of the version that CHANGELOG.md tells of.
 changes=$(sed -n 's/^## \([0-9][0-9.]*\).*/\1/p' CHANGELOG.md | head -n 1)
