@@ -25,7 +25,7 @@ import tempfile
 import time
 from collections import namedtuple
 
-from tree import TOP, free_memory
+from tree import TOP, free_memory, processors
 
 LOGS = "out/parts"
 SIGNALS = (signal.SIGINT, signal.SIGTERM, signal.SIGHUP)
@@ -34,10 +34,6 @@ QUIET = 300  # seconds after which a line says what is at work, where nothing el
 # A part: its command; the numbers of what it tried and of what failed, in what it says (where none stands, each find is
 # one); which lines are shown as they come; which one says that it will fail; where it runs, and with what settings.
 Part = namedtuple("Part", "name command tried failed shown lost place settings", defaults=["", ".", None, ".", {}])
-
-
-def processors():
-    return len(os.sched_getaffinity(0))
 
 
 def beside(*rows):

@@ -1,7 +1,9 @@
 """What the scripts share: where the tree and the built program are, the files' texts, the crates, and the machine."""
+import glob
 import os
 import re
-import subprocess
+import shutil
+import socket
 
 TOP = os.path.dirname(os.path.dirname(os.path.abspath(__file__)))
 PROGRAM = os.environ.get("BACTOOL", TOP + "/crates/bactool/out/bactool")
@@ -35,9 +37,32 @@ def all_crates():
     return {name.split()[0]: below.split() for name, _, below in lines}
 
 
+def crates_below():
+    """Each crate of the repository with those that it rests on, itself among them."""
+    below = {}
+    for name, parts in all_crates().items():
+        below[name] = {name}.union(*(below.get(it, set()) for it in parts))
+    return below
+
+
+def copy_sources(room):
+    """Copies to a folder what is proved of the tree, without what is kept of the proofs."""
+    for name in ("crates.txt", "HANDLES"):
+        shutil.copy(f"{TOP}/{name}", room)
+    for part in ("src", "specs", "proofs"):
+        for folder in glob.glob(f"{TOP}/crates/*/{part}"):
+            shutil.copytree(folder, room + folder[len(TOP) :])
+
+
+def processors():
+    return len(os.sched_getaffinity(0))
+
+
 def free_port():
     """A UDP port that no socket of this machine has."""
-    return int(subprocess.check_output([TOP + "/examples/free-port.sh"]))
+    with socket.socket(socket.AF_INET, socket.SOCK_DGRAM) as it:
+        it.bind(("127.0.0.1", 0))
+        return it.getsockname()[1]
 
 
 def resident(process, what="VmRSS"):

@@ -1,6 +1,6 @@
 #!/usr/bin/env python3
 """Makes man/bactool-numbers.7, docs/NUMBERS.md and the tables of site/bacsite from man/numbers.txt. Usage:
-man/numbers.py [--check], which writes none of them, and ends with 1 where one is not as it is made.
+man/tables.py [--check], which writes none of them, and ends with 1 where one is not as it is made.
 """
 import os
 import re
@@ -10,7 +10,7 @@ sys.path.insert(0, os.path.dirname(os.path.abspath(__file__)) + "/../tests")
 from tree import TOP, text_of
 
 TABLES = {"Object types": "object-type", "Properties": "property-list", "Units": "units"}
-MADE = "Made from man/numbers.txt by man/numbers.py: change it there."
+MADE = "Made from man/numbers.txt by man/tables.py: change it there."
 PAGE = rf""".\" {MADE}
 .Dd November 26, 2026
 .Dt BACTOOL-NUMBERS 7
@@ -117,7 +117,7 @@ def main(checks):
             with open(f"{TOP}/{path}", "w", encoding="utf-8") as file:
                 file.write(text)
         elif text != text_of(path):
-            print(f"{path} is not as man/numbers.py makes it")
+            print(f"{path} is not as man/tables.py makes it")
             wrong = 1
     return wrong
 
