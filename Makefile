@@ -53,7 +53,6 @@ examples: program
 	@tests/program.sh $(PROGRAM)
 	@tests/lengths.py $(PROGRAM)
 	@tests/rows.py $(PROGRAM)
-	@tests/memory.sh $(PROGRAM)
 	@tests/failing.sh $(PROGRAM)
 	@tests/bacsite.py $(PROGRAM)
 

@@ -15,7 +15,6 @@ own, out/build/CRATE: a copy of the sources, with links to what is built of the 
 goes there and comes back.
 """
 import fcntl
-import glob
 import os
 import re
 import shutil
@@ -24,7 +23,7 @@ import subprocess
 import sys
 import time
 
-from tests.tree import all_crates
+from tests import tree
 
 PROGRAM = "bactool"
 TRIALS = ["bac_trials", "tool_trials"]
@@ -38,16 +37,8 @@ that the next build proves only what has changed."""
 
 def needed(tops):
     """The crates that these rest on, and themselves: each with those of the repository that it rests on."""
-    below, found, more = all_crates(), {}, list(tops)
-    while more:
-        crate = more.pop()
-        found[crate] = {name for name in below[crate] if name in below}
-        more += found[crate] - found.keys()
-    return found
-
-
-def all_below(crate, crates):
-    return crates[crate].union(*(all_below(it, crates) for it in crates[crate]))
+    below = tree.crates_below()
+    return {crate: below[crate] - {crate} for crate in set().union(*map(below.get, tops))}
 
 
 def size(crate):
@@ -58,14 +49,7 @@ def size(crate):
 
 def processors():
     given = os.environ.get("RT_JOBS", "")
-    return int(given) if given.isdigit() and int(given) > 0 else len(os.sched_getaffinity(0))
-
-
-def room():
-    """How many crates the free memory holds."""
-    with open("/proc/meminfo", encoding="utf-8") as lines:
-        free = re.search(r"MemAvailable:\s+(\d+)", lines.read())
-    return max(1024 * int(free[1]) // CRATE_MEMORY, 1)
+    return int(given) if given.isdigit() and int(given) > 0 else tree.processors()
 
 
 class Work:
@@ -88,10 +72,7 @@ class Work:
     def enter(self, below):
         self.leave()  # a build that was killed may have left the room as it was
         os.makedirs(self.room)
-        for name in ("crates.txt", "HANDLES"):
-            shutil.copy(name, self.room)
-        for part in glob.glob("crates/*/src") + glob.glob("crates/*/specs") + glob.glob("crates/*/proofs"):
-            shutil.copytree(part, f"{self.room}/{part}")
+        tree.copy_sources(self.room)
         for it in below:
             shutil.copytree(f"crates/{it}/out/rlib", f"{self.room}/crates/{it}/out/rlib", copy_function=os.link)
         if os.path.isdir(f"{self.home}/out"):
@@ -169,14 +150,14 @@ def build(crates, screen, is_done):
     """Answers whether each crate was proved. Those of which is_done says so are left as they are."""
     done = set(filter(is_done, crates))
     left, working, kept, long = {it: crates[it] for it in crates if it not in done}, [], len(done), chains(crates)
-    places = min(processors(), room())
+    places = max(min(processors(), tree.free_memory() // CRATE_MEMORY), 1)
     try:
         while left or working:
             ready = sorted((crate for crate in left if left[crate] <= done), key=long.get, reverse=True)
             free, among = processors() - sum(work.jobs for work in working), sum(map(long.get, ready))
             for crate in ready[: places - len(working)]:
                 share = max(min(-(-free * long[crate] // among), size(crate) // PROCESS_CODE), 1)
-                working.append(Work(crate, all_below(crate, crates), share))
+                working.append(Work(crate, crates[crate], share))
                 free, among = free - share, among - long[crate]
                 del left[crate]
             time.sleep(0.5)

@@ -26,7 +26,7 @@ uninstall:
 	@packaging/install.sh --remove
 
 lint: program
-	@tests/pages.sh $(PROGRAM)
+	@tests/pages.py $(PROGRAM)
 	@tests/numbers.sh
 	@tests/completions.sh
 	@tests/install.sh $(PROGRAM)

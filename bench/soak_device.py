@@ -17,10 +17,10 @@ import time
 from collections import Counter
 
 TOP = os.path.dirname(os.path.dirname(os.path.abspath(__file__)))
-sys.path.insert(0, TOP + "/crates/bac_trials/oracle")
+sys.path[:0] = [TOP + "/crates/bac_trials/oracle", TOP + "/tests"]
 from count import region, tag
+from tree import PROGRAM, free_port, resident
 
-PROGRAM = os.environ.get("BACTOOL", TOP + "/crates/bactool/out/bactool")
 INSTANCE = 1234
 AT_MOST = 65535  # datagrams that one bacdev answers
 BATCH = 16
@@ -251,7 +251,7 @@ class Served:
     """A bacdev of its own, asked by two sockets: one for what is tried, one to know that it has been answered."""
 
     def __init__(self):
-        port = int(subprocess.run([TOP + "/examples/free-port.sh"], stdout=subprocess.PIPE, check=True).stdout)
+        port = free_port()
         self.process = subprocess.Popen([PROGRAM, "bacdev", str(INSTANCE), "--port", str(port)], stderr=subprocess.PIPE)
         self.peer = ("127.0.0.1", port)
         self.tried, self.fence = (socket.socket(socket.AF_INET, socket.SOCK_DGRAM) for _ in range(2))
@@ -285,10 +285,6 @@ class Served:
                 found.append(self.tried.recv(2048))
         except BlockingIOError:
             return found
-
-    def resident(self):
-        with open("/proc/%d/status" % self.process.pid) as status:
-            return next(int(line.split()[1]) for line in status if line.startswith("VmRSS"))
 
     def end(self):
         """Asks until it ends by its count; whether it then ended well and printed no fault."""
@@ -333,8 +329,8 @@ def main(words):
             tried(seed, device, [make(dice, port) for _ in range(min(BATCH, left))], counts)
             left -= min(BATCH, left)
             if device.asked > 1000 and len(memory) % 2 == 0:
-                memory.append(device.resident())
-        memory.append(device.resident())
+                memory.append(resident(device.process.pid))
+        memory.append(resident(device.process.pid))
         if not device.end():
             stop(seed, "it didn't end by its count", [], [])
     count, took = sum(counts.values()), time.time() - begun

@@ -16,8 +16,9 @@ import threading
 import time
 from collections import Counter
 
-TOP = os.path.dirname(os.path.dirname(os.path.abspath(__file__)))
-PROGRAM = os.environ.get("BACTOOL", TOP + "/crates/bactool/out/bactool")
+sys.path.insert(0, os.path.dirname(os.path.abspath(__file__)) + "/../tests")
+from tree import PROGRAM, resident
+
 PLACES = int(os.environ.get("PLACES", 64))
 BLOCK = 1000
 ROUTED = ["127.0.0.1:47808/5/07", "10.0.0.9:65535/65534/01020304050607"]
@@ -136,11 +137,6 @@ class Followed:
         return line != "full" or len(self.open) == PLACES
 
 
-def resident(process):
-    with open("/proc/%d/status" % process.pid) as status:
-        return next(int(line.split()[1]) for line in status if line.startswith("VmRSS"))
-
-
 def write_script(process, dice, lines, told):
     """Writes the lines, with a tick now and then, and tells the memory and how many lines must print one."""
     chosen, now, asked = pool(dice), 0, 0
@@ -154,10 +150,10 @@ def write_script(process, dice, lines, told):
         process.stdin.write(("\n".join(part) + "\n").encode())
         if block % (lines // 10 // BLOCK * BLOCK or BLOCK) == 0:
             process.stdin.flush()
-            told["memory"].append(resident(process))
+            told["memory"].append(resident(process.pid))
     process.stdin.flush()
     told["asked"] = asked
-    told["memory"].append(resident(process))
+    told["memory"].append(resident(process.pid))
     process.stdin.close()
 
 

@@ -116,7 +116,6 @@ class Edit:
         names = (it.strip("`,.") for it in self.hole.split())
         self.test = next((it for it in names if "/" in it and os.path.isfile(f"{ROOT}/{it}")), "")
         self.is_unfit = self.unfit()
-        self.shown = "the crate" if self.is_wide else ", ".join(dict.fromkeys(it.shown for _, it in self.functions))
 
     def unfit(self):
         """Why this edit can't be tried on the code as it stands, or "". Notes the functions that it touches."""

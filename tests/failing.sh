@@ -1,9 +1,9 @@
 #!/bin/sh
-# Has each call of the program to the system fail, one in each run, by each error of the table below: opening a socket,
-# sending, receiving, reading, writing. Every such run has to end with status 3 and the line of its fault, after a front
-# of what it prints otherwise. But where a receive fails by what is silence, it goes on as if nothing had come, and a
-# device goes on where it can't send a reply. Where none fails, the program makes the calls that are wanted, and no
-# others.
+# Refuses each request for memory that the program makes, one in each run: it has to end with `out of memory`, status 4.
+# And has each call of the program to the system fail so, by each error of the table below: opening a socket, sending,
+# receiving, reading, writing. Every such run has to end with status 3 and the line of its fault, after a front of what
+# it prints otherwise. But where a receive fails by what is silence, it goes on as if nothing had come; a device goes on
+# where it can't send a reply, too. Where none fails, the program makes the calls that are wanted, and no others.
 # Usage: tests/failing.sh PROGRAM; it needs cc, and says so where there is none.
 # shellcheck disable=SC2015,SC2086  # `wrong` behind `||` ends the script; some texts are several words
 set -eu
@@ -46,6 +46,7 @@ line_of() {
         sendto) echo 'bactool: sending failed' ;;
         read) echo 'bactool: reading failed' ;;
         write) echo 'bactool: writing failed' ;;
+        memory) echo 'bactool: out of memory' ;;
     esac
 }
 
@@ -55,18 +56,46 @@ wrong() {
     exit 1
 }
 
-# failing NUMBER ERRNO WORDS..: runs the words, whose call of this number fails by this error. Standard input is
-# $room/input; `said` is what fail.c says.
+# failing NUMBER ERRNO WORDS..: runs the words, whose call of this number fails by this error, or with no error given,
+# whose request for memory of this number is refused. Standard input is $room/input; `said` is what fail.c says.
 failing() {
-    export FAILED="$1" ERRNO="$2"
+    if [ -n "$2" ]; then export FAILED="$1" ERRNO="$2"; else export REFUSED="$1"; fi
     shift 2
     status=0
-    LD_PRELOAD=$room/fail.so timeout 20 "$program" "$@" \
+    timeout 20 env LD_PRELOAD="$room/fail.so" "$program" "$@" \
         <"$room/input" >"$room/output" 2>"$room/error" 3>"$room/said" || status=$?
     said=
     read -r said <"$room/said" || true
-    unset FAILED ERRNO
+    unset FAILED ERRNO REFUSED
 }
+
+# refused STATUS WORDS..: each request for memory is refused in turn, until none is left; then the status is this one.
+refused() {
+    wanted=$1
+    shift
+    number=1
+    while failing $number '' "$@" && [ -n "$said" ]; do
+        [ "$status" = 4 ] && [ ! -s "$room/output" ] && line_of memory | cmp -s - "$room/error" ||
+            wrong "request $number of $* refused: status $status"
+        number=$((number + 1))
+    done
+    [ "$status" = "$wanted" ] && [ $number != 1 ] || wrong "$*: $((number - 1)) requests, status $status"
+    requests=$((requests + number - 1))
+}
+requests=0
+for script in "$here"/../examples/*.trace; do
+    cp "$script" "$room/input"
+    refused 0 bactrace
+done
+: >"$room/input"
+refused 0 --help
+refused 0 bacwp --help
+refused 2
+refused 2 bacrp 1234 0 5
+refused 2 bacrp 1234 0 5 85 --mac 1.2.3
+refused 2 bacwp 1234 1 1 85 16 -1 4 zz --mac 127.0.0.1
+refused 2 bacwi 1 2 --mac 1.2.3
+echo "tests/failing.sh: $requests requests for memory refused, each told as it is to be"
 
 # What was printed is a front of the whole, and the fault is that of the call.
 is_fault() {

@@ -26,7 +26,7 @@ import threading
 import time
 
 from edits import ROOT, Edit
-from tree import text_of
+from tree import copy_sources, free_port, text_of
 
 TRIALS = re.compile(r"(crates/(?:bac|tool)_trials)/src/tests/")
 MOST = 1800  # seconds that a build may take, on a machine with much else to do
@@ -59,14 +59,6 @@ def replace_in(file, old, new):
     if text.count(old) != 1:
         raise NotTried(f"{file}: {old!r} stands {text.count(old)} times")
     write(file, text.replace(old, new))
-
-
-def copy_sources(room):
-    shutil.copy(f"{ROOT}/crates.txt", room)
-    shutil.copy(f"{ROOT}/HANDLES", room)
-    for part in ("src", "specs", "proofs"):
-        for folder in glob.glob(f"{ROOT}/crates/*/{part}"):
-            shutil.copytree(folder, room + folder[len(ROOT) :])
 
 
 def leave_one_module(room, test):
@@ -109,12 +101,6 @@ def of_trials(room, test):
 def run(command, folder):
     how = {"stdin": subprocess.DEVNULL, "capture_output": True, "text": True, "errors": "replace"}
     return subprocess.run(command, cwd=folder, check=False, **how)
-
-
-def free_port():
-    with socket.socket(socket.AF_INET, socket.SOCK_DGRAM) as it:
-        it.bind(("127.0.0.1", 0))
-        return it.getsockname()[1]
 
 
 def built(room):

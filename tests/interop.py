@@ -1,23 +1,25 @@
 #!/usr/bin/env python3
 """Runs the tools and nmap against bacdev through a relay that keeps every datagram, and has tshark read them all.
 
-Usage: tests/interop.sh, which installs what is missing. It prints the tables, and ends with 1 where something is not as
-it is to be: a tool or nmap that prints something else, a datagram that tshark finds malformed or reads as something
-else than it is.
+Usage: tests/interop.py, once the program is built. It installs nmap and tshark by apt-get where they are missing; nmap
+needs root for UDP. It prints the tables, and ends with 1 where something is not as it is to be: a tool or nmap that
+prints something else, a datagram that tshark finds malformed or reads as something else than it is.
 """
 import os
 import re
+import select
+import shutil
 import socket
 import subprocess
 import sys
 import tempfile
+import threading
 import time
 
-from relay import DEVICE, Relay
-from tree import TOP
+from tree import PROGRAM, TOP, free_port
 
-PROGRAM = os.environ.get("BACTOOL", TOP + "/crates/bactool/out/bactool")
 FAILURES = []
+DEVICE = "127.0.0.1:47808"  # what the device is called in the lines that are kept, whichever port it has
 
 # What bacrp is asked, what it prints, and the names that tshark has for the object and the property.
 READS = [
@@ -119,12 +121,56 @@ def output_of(words, status=(0,)):
 
 def device():
     """A bacdev at a free port, and the port."""
-    port = int(output_of([TOP + "/examples/free-port.sh"]))
+    port = free_port()
     process = subprocess.Popen([PROGRAM, "bacdev", "1234", "--port", str(port)], stderr=subprocess.DEVNULL)
     for _ in range(50):
         if output_of([PROGRAM, "bacwi", "--mac", "127.0.0.1:%d" % port, "--apdu-timeout", "100"], (0, 1)):
             return process, port
     sys.exit("bacdev doesn't answer")
+
+
+class Relay:
+    """Between clients and a device, on 127.0.0.1. `lines` has each datagram as examples/capture.py reads them. Clients
+    have the ports from 50000 on there, in the order of their first datagrams, so that no port of theirs is one that a
+    dissector knows for something else."""
+
+    def __init__(self, device_port):
+        self.front = socket.socket(socket.AF_INET, socket.SOCK_DGRAM)
+        self.front.bind(("127.0.0.1", 0))
+        self.port = self.front.getsockname()[1]
+        self.device = ("127.0.0.1", device_port)
+        self.clients, self.names, self.lines = {}, {}, []
+        threading.Thread(target=self.run, daemon=True).start()
+
+    def keep(self, sender, receiver, octets):
+        self.lines.append("%.6f %s %s %s" % (time.time(), sender, receiver, octets.hex()))
+
+    def name_of(self, client):
+        return self.names.setdefault(client, "127.0.0.1:%d" % (50000 + len(self.names)))
+
+    def behind(self, client):
+        """The socket that speaks with the device for a client."""
+        for back, other in self.clients.items():
+            if other == client:
+                return back
+        back = socket.socket(socket.AF_INET, socket.SOCK_DGRAM)
+        back.connect(self.device)
+        self.clients[back] = client
+        return back
+
+    def run(self):
+        while True:
+            for one in select.select([self.front, *self.clients], [], [])[0]:
+                try:
+                    octets, client = one.recvfrom(2048)
+                except OSError:
+                    continue
+                if one is self.front:
+                    self.keep(self.name_of(client), DEVICE, octets)
+                    self.behind(client).send(octets)
+                else:
+                    self.keep(DEVICE, self.name_of(self.clients[one]), octets)
+                    self.front.sendto(octets, self.clients[one])
 
 
 class Recorded:
@@ -214,6 +260,10 @@ def nmap_through(relay):
 
 
 def main():
+    if not shutil.which("nmap") or not shutil.which("tshark"):
+        how = {"check": True, "stdin": subprocess.DEVNULL, "env": {**os.environ, "DEBIAN_FRONTEND": "noninteractive"}}
+        subprocess.run(["apt-get", "update", "-q"], **how)
+        subprocess.run(["apt-get", "install", "-qy", "--no-install-recommends", "nmap", "tshark"], **how)
     process, port = device()
     relay = Relay(port)
     recorded = Recorded(relay)

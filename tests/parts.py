@@ -6,10 +6,9 @@ then what runs the program, alone, since clocks and sockets are in it. A part th
 
 `gate` is what a change has to pass. First it looks whether the documents agree with the tree, and whether the wrong
 bodies fit the code. Then `rt ci` proves and tests everything from nothing, in a copy of the tree, since it sets aside
-what is kept of the proofs, and behind it a request for memory is refused. Beside these come the build and all wrong
-bodies. Last comes what runs the program. Where a part fails, the others are ended. The copy has no must-fail/: for its
-edits `rt ci` would prove each crate once more, and the wrong bodies try them over what the build kept. In the tree
-itself `rt ci` and `rt must-fail` try them too.
+what is kept of the proofs. Beside it come the build and all wrong bodies. Last comes what runs the program. Where a
+part fails, the others are ended. The copy has no must-fail/: for its edits `rt ci` would prove each crate once more,
+and the wrong bodies try them over what the build kept. In the tree itself `rt ci` and `rt must-fail` try them too.
 
 Two parts go side by side where there are 4 GB of free memory for each processor. How far a part is stands here,
 behind the minutes since the beginning; all that it says is in out/parts, and the end of that is shown where it fails.
@@ -26,7 +25,7 @@ import tempfile
 import time
 from collections import namedtuple
 
-from tree import TOP
+from tree import TOP, free_memory, processors
 
 LOGS = "out/parts"
 SIGNALS = (signal.SIGINT, signal.SIGTERM, signal.SIGHUP)
@@ -37,15 +36,9 @@ QUIET = 300  # seconds after which a line says what is at work, where nothing el
 Part = namedtuple("Part", "name command tried failed shown lost place settings", defaults=["", ".", None, ".", {}])
 
 
-def processors():
-    return len(os.sched_getaffinity(0))
-
-
 def beside(*rows):
     """These rows of parts, or one behind the other where memory is short: each takes some 2 GB a processor."""
-    with open("/proc/meminfo", encoding="utf-8") as lines:
-        free = int(re.search(r"MemAvailable:\s+(\d+)", lines.read())[1])
-    return rows if free >= 4000000 * processors() else [[part for row in rows for part in row]]
+    return rows if free_memory() >= 4000000000 * processors() else [[part for row in rows for part in row]]
 
 
 def gently(*command):
@@ -173,7 +166,7 @@ def run(rows, clock, ends_at_failure):
 
 def test(clock):
     print("Here: the tests of both trials, some wrong bodies of each crate, the examples, rows and guide.")
-    print("Left to make gate: proofs from nothing, all other wrong bodies, and a refused request for memory.")
+    print("Left to make gate: proofs from nothing, and all other wrong bodies.")
     sys.stdout.flush()
     trials = Part("trials", ["./build.py", "--tests"], r"(\d+) tests passed")
     passed, lost = 0, {}
@@ -187,14 +180,13 @@ def test(clock):
 
 
 def gate(clock):
-    allocation = Part("allocation", gently("tests/allocation.sh"), r"over (\d+) scripts")
     others = [build(gently("./build.py")), bodies("wrong bodies")]
     with tempfile.TemporaryDirectory(prefix="gate-") as room:
         read_back = r"^(\d+) rows .* and (\d+) other texts|agree with the tree$"
         documents = Part("documents", ["make", "--no-print-directory", "documents"], read_back)
         fit = Part("fit", ["tests/wrong_bodies.py", "--list"], "", r"of which (\d+)", shown=r"^crates/|fit")
         passed, lost = run([[documents, fit]], clock, True)
-        for rows in (beside([whole_proof(room), allocation], others), [[examples()]]):
+        for rows in (beside([whole_proof(room)], others), [[examples()]]):
             more, lost = (0, lost) if lost else run(rows, clock, True)
             passed += more
         return passed, lost

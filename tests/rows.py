@@ -35,6 +35,8 @@ import tempfile
 from collections import namedtuple
 from concurrent.futures import ThreadPoolExecutor
 
+from tree import free_port
+
 HERE = os.path.dirname(os.path.abspath(__file__))
 LETTERS = {
     "P": "127.0.0.1:47808",
@@ -43,7 +45,7 @@ LETTERS = {
     "V": "810a0017010030010c0c0000000519553e444290999a3f",
     "A": "810a001501001000c4020004d22205c49103220104",
 }
-LETTERS["S"] = "--mac 127.0.0.1:%s --apdu-timeout 20" % subprocess.getoutput(HERE + "/../examples/free-port.sh")
+LETTERS["S"] = f"--mac 127.0.0.1:{free_port()} --apdu-timeout 20"
 READ, SENT, DONE = "read P 0 5 85\n", "send 0 P M\n", "done 0 value 4290999a\n"
 PLACES = 64
 SCRIPT = ["bactool", "bactrace"]

@@ -1,8 +1,12 @@
-"""What the scripts over the tree share: where it is, its files' texts, and its crates."""
+"""What the scripts share: where the tree and the built program are, the files' texts, the crates, and the machine."""
+import glob
 import os
 import re
+import shutil
+import socket
 
 TOP = os.path.dirname(os.path.dirname(os.path.abspath(__file__)))
+PROGRAM = os.environ.get("BACTOOL", TOP + "/crates/bactool/out/bactool")
 
 
 def text_of(path):
@@ -31,3 +35,41 @@ def all_crates():
     """The crates of crates.txt, in its order, each with the crates and libraries that it uses."""
     lines = (line.partition(":") for line in text_of("crates.txt").splitlines() if ":" in line and line[0] != "#")
     return {name.split()[0]: below.split() for name, _, below in lines}
+
+
+def crates_below():
+    """Each crate of the repository with those that it rests on, itself among them."""
+    below = {}
+    for name, parts in all_crates().items():
+        below[name] = {name}.union(*(below.get(it, set()) for it in parts))
+    return below
+
+
+def copy_sources(room):
+    """Copies to a folder what is proved of the tree, without what is kept of the proofs."""
+    for name in ("crates.txt", "HANDLES"):
+        shutil.copy(f"{TOP}/{name}", room)
+    for part in ("src", "specs", "proofs"):
+        for folder in glob.glob(f"{TOP}/crates/*/{part}"):
+            shutil.copytree(folder, room + folder[len(TOP) :])
+
+
+def processors():
+    return len(os.sched_getaffinity(0))
+
+
+def free_port():
+    """A UDP port that no socket of this machine has."""
+    with socket.socket(socket.AF_INET, socket.SOCK_DGRAM) as it:
+        it.bind(("127.0.0.1", 0))
+        return it.getsockname()[1]
+
+
+def resident(process, what="VmRSS"):
+    """The kilobytes of a process that lie in memory now (VmRSS), or lay in it at most (VmHWM)."""
+    return int(re.search(rf"{what}:\s+(\d+)", text_of(f"/proc/{process}/status"))[1])
+
+
+def free_memory():
+    """The octets that programs can have without other memory being moved out."""
+    return 1024 * int(re.search(r"MemAvailable:\s+(\d+)", text_of("/proc/meminfo"))[1])

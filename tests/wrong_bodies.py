@@ -37,12 +37,11 @@ import tempfile
 import time
 
 from edits import ROOT, Edit, functions_of, text_of
-from tree import all_crates
+from tree import copy_sources, crates_below, free_memory, processors
 
 KINDS = ["clause", "safety", "step", "name", "PROVED", "bad"]
 STRENGTHS = ["false", "open", "limit"]
-# What a check takes of the machine's memory, in MB.
-CHECK_MEMORY = 3000
+CHECK_MEMORY = 3000000000  # what a check takes of the machine's memory, in octets
 SAMPLE = 8
 LARGEST = 80  # bodies of a round
 # What a check prints of a goal, of an answer, of a function, once as it goes and once at its end, and of a text that it
@@ -125,14 +124,6 @@ def rows_of(said, crate):
     return rows
 
 
-def crates_below():
-    """Each crate of the repository with those that it stands on, itself among them."""
-    below = {}
-    for name, parts in all_crates().items():
-        below[name] = {name}.union(*(below.get(it, set()) for it in parts))
-    return below
-
-
 def link(source, to):
     """A second name for a file that nothing writes to, or a copy where the folders are of two file systems."""
     try:
@@ -189,11 +180,7 @@ class Round:
     def check(self):
         """What the check says, and its processor seconds."""
         with tempfile.TemporaryDirectory(prefix="wrong-bodies-") as folder:
-            for name in ("crates.txt", "HANDLES"):
-                shutil.copy(f"{ROOT}/{name}", folder)
-            for it in crates_below():
-                for part in ("src", "specs", "proofs"):
-                    self.copy(folder, f"{it}/{part}")
+            copy_sources(folder)
             for it in crates_below()[self.crate] - {self.crate}:
                 self.copy(folder, f"{it}/out/rlib", link)
             for it in ("rlib", "incremental"):
@@ -320,7 +307,7 @@ class Bodies:
     """The bodies of a crate: those that are left to try, and what came of the others."""
 
     def __init__(self, crate, edits, options):
-        self.crate, self.edits, self.left, self.options, self.are_alone = crate, edits, edits, options, options.alone
+        self.crate, self.edits, self.left, self.options, self.are_alone = crate, edits, edits, options, False
         self.strange, self.count, self.open, self.seconds, self.bare = [], 0, 0, 0.0, clauses_of(crate)
 
     def rounds(self):
@@ -336,9 +323,6 @@ class Bodies:
         opened = opened_by(rows_of(said, self.crate), self.bare)
         self.bare = {it: symbols for it, symbols in self.bare.items() if it not in opened}
         self.seconds, self.open = self.seconds + seconds, self.open - 1
-        if self.options.said:
-            with open(f"{self.options.said}/{self.crate}-{round.number}", "w", encoding="utf-8") as it:
-                it.write(said)
 
     def further(self):
         """Once all rounds are back, those that try again what has no kind; if nothing is left, tells of the crate."""
@@ -400,11 +384,10 @@ def edits_of(crate, options):
     edits = [it for it in (Body(crate, file) for file in files) if re.search(options.only, it.name)]
     if options.sample and edits and not any(it.is_unfit for it in edits):
         return sample_of(beside([it for it in edits if not it.is_wide]))
-    for it in [] if options.no_twins else edits:
+    for it in edits:
         it.twin = Body(crate, it.file, is_twin=True) if it.has_twin else None
     edits += [it.twin for it in edits if it.twin]
-    beside([it for it in edits if it.calls_right or not options.alone])
-    return edits
+    return beside(edits)
 
 
 def strays():
@@ -415,22 +398,18 @@ def strays():
 
 def usual_jobs():
     """As many checks at a time as there are processors, and memory for."""
-    memory = re.search(r"MemAvailable: +(\d+)", text_of("/proc/meminfo")) if os.path.isfile("/proc/meminfo") else None
-    return max(1, min(len(os.sched_getaffinity(0)), int(memory[1]) // 1000 // CHECK_MEMORY if memory else 1))
+    return max(1, min(processors(), free_memory() // CHECK_MEMORY))
 
 
 def main():
     parser = argparse.ArgumentParser(description=__doc__, formatter_class=argparse.RawDescriptionHelpFormatter)
     flag, word = functools.partial(parser.add_argument, action="store_true"), parser.add_argument
-    flag("--list", help="try nothing: name the bodies that don't fit the code, and print the rounds")
+    flag("--list", help="try nothing: name the bodies that don't fit the code")
     flag("--goals", help="print each refusal, and the seconds that it took")
     flag("--clauses", help="print the clauses of public functions that no body leaves open")
-    flag("--alone", help="give each body its own check")
-    flag("--no-twins", help="leave the twins out")
     flag("--sample", help=f"take {SAMPLE} of each crate that one check holds, those of must-fail first, without twins")
     word("--only", default="", metavar="PATTERN", help="take the bodies whose CRATE/NAME the pattern is found in")
     word("--jobs", type=int, default=usual_jobs(), metavar="N", help="the checks at a time (%(default)s here)")
-    word("--said", metavar="FOLDER", help="keep there what each check says")
     word("crates", nargs="*", help="take these crates alone")
     options = parser.parse_args()
     crates = [it for it in crates_below() if not options.crates or it in options.crates]
@@ -439,10 +418,6 @@ def main():
     unfit = dict.fromkeys(f"{os.path.relpath(it.file, ROOT)}: {it.is_unfit}" for it in edits if it.is_unfit)
     unfit.update(dict.fromkeys(f"{os.path.relpath(it, ROOT)}: no edit of a crate of crates.txt" for it in strays()))
     print("".join(f"{it}\n" for it in unfit), end="")
-    if options.list:
-        for crate, group in tried.items():
-            for number, (_, some) in enumerate(rounds_of([it for it in group if not it.is_unfit], options.alone), 1):
-                print("\n".join(f"{crate} round {number}: {it.name.partition('/')[2]}: {it.shown}" for it in some))
     if options.list or unfit or not edits:
         print(f"{len(edits)} bodies, of which {len(unfit)} don't fit the code")
         return 1 if unfit or not edits else 0
@@ -452,8 +427,6 @@ def main():
     if unkept:
         print(f"no kept proofs of {unkept}: run `make program` first, or each check proves them from nothing")
         return 2
-    if options.said:
-        os.makedirs(options.said, exist_ok=True)
     crates = [Bodies(crate, group, options) for crate, group in tried.items() if group]
     try_all(crates, options.jobs)
     failed = [line for it in crates for line in it.strange]

@@ -1,0 +1,126 @@
+#!/usr/bin/env python3
+"""Makes man/bactool-numbers.7, docs/NUMBERS.md and the tables of site/bacsite from man/numbers.txt. Usage:
+man/tables.py [--check], which writes none of them, and ends with 1 where one is not as it is made.
+"""
+import os
+import re
+import sys
+
+sys.path.insert(0, os.path.dirname(os.path.abspath(__file__)) + "/../tests")
+from tree import TOP, text_of
+
+TABLES = {"Object types": "object-type", "Properties": "property-list", "Units": "units"}
+MADE = "Made from man/numbers.txt by man/tables.py: change it there."
+PAGE = rf""".\" {MADE}
+.Dd November 26, 2026
+.Dt BACTOOL-NUMBERS 7
+.Os
+.Sh NAME
+.Nm bactool-numbers
+.Nd the numbers of BACnet that one meets with bactool
+.Sh DESCRIPTION
+The tools of
+.Xr bactool 1
+take and print the numbers that stand in the datagrams.
+These are the ones that one meets, from the enumerations of the standard.
+Not all are here, and vendors have numbers of their own.
+"""
+FOOT = """.Sh SEE ALSO
+.Xr bacrp 1 ,
+.Xr bacsite 1 ,
+.Xr bactool 1 ,
+.Xr bacwp 1
+.Sh STANDARDS
+ANSI/ASHRAE 135, clauses 12, 18, 20.2 and 21.
+"""
+DOCUMENT = f"""<!-- {MADE} -->
+# Numbers
+
+The tools take and print the numbers that stand in the datagrams. These are the ones that one meets, from the
+enumerations of ANSI/ASHRAE 135 (clauses 12, 18, 20.2 and 21). Not all are here, and vendors have numbers of their own.
+`man 7 bactool-numbers` shows the same.
+
+"""
+
+
+def sections():
+    """Each section: its title, how many columns a heading of its list joins (0: a table), its text, and its rows."""
+    for section in re.split(r"(?m)^= ", text_of("man/numbers.txt"))[1:]:
+        head, *lines = [line for line in section.splitlines() if line and line[0] != "#"]
+        text = " ".join(line[2:] for line in lines if line.startswith(": "))
+        joins = int((re.findall(r"list (\d)", head) or [0])[0])
+        yield head.split(" | ")[0], joins, text, [line.split(" | ") for line in lines if not line.startswith(": ")]
+
+
+def folded(words, width, by_sentences=False):
+    """Lines of at most so many columns, in which a sentence begins a line, if that is asked for."""
+    lines = []
+    for word in words:
+        begins = not lines or by_sentences and lines[-1].endswith(".") or len(f"{lines[-1]} {word}") > width
+        lines[len(lines) - (not begins):] = [word if begins else f"{lines[-1]} {word}"]
+    return "".join(f"{line}\n" for line in lines)
+
+
+def plain(text):
+    """A text in which `man` reads nothing otherwise than as it stands."""
+    return text.replace("-", r"\-").replace("'", r"\(aq").replace('"', r"\(dq") + r"\&" * (text == "No.")
+
+
+def on_page(title, joins, text, rows):
+    sentences = lambda words: folded(plain(words).split(), 78, by_sentences=True)
+    if joins:
+        lines = [f".It Sy {plain(' '.join(row[:joins]))}\n{sentences(' '.join(row[joins:]))}" for row in rows[1:]]
+        head = "-tag -width 4n"
+    else:
+        line = lambda row, mark: f".It{mark}{f' Ta{mark}'.join(map(plain, row))}\n"
+        lines = [line(rows[0], " Sy "), *(line(row, " ") for row in rows[1:])]
+        head = "-column " + " ".join([*("0" * max(map(len, column)) for column in list(zip(*rows))[:-1]), "Ds"])
+    return f".Ss {plain(title)}\n{sentences(text)}.Bl {head}\n{''.join(lines)}.El\n"
+
+
+def in_document(title, _, text, rows):
+    lines = [f"| {' | '.join(row)} |\n" for row in rows]
+    lines.insert(1, "|---" * len(rows[0]) + "|\n")
+    return f"## {title}\n\n" + (folded(text.split(), 120) + "\n" if text else "") + "".join(lines)
+
+
+def tag(told):
+    """The tag of the value where others look like it; p, as the present value; -, none or parts; ?, not known."""
+    if re.search("present value|by the object type", told):
+        return ":p"
+    if told[:1].isdigit():
+        return f":{told[0]}" if re.match("[23459] ", told) else ""
+    return ":-" if told == "-" else ":?"
+
+
+def of_bacsite(title, _, text, rows):
+    """The words of the tables: the name of one, and its rows NUMBER:NAME or NUMBER:NAME:TAG."""
+    if title in TABLES:
+        yield TABLES[title]
+        yield from (":".join(row[:2]) + ("" if title == "Units" else tag(row[2])) for row in rows[1:])
+    for properties, meanings in rows[1:] if title == "What numbers of a value mean" else ():
+        words = [(f"{at} " * (not it[0].isdigit()) + it).split() for at, it in enumerate(meanings.split(", "))]
+        for name in properties.split(", "):
+            yield from (name, *(f"{number}:{'-'.join(meaning)}" for number, *meaning in words))
+
+
+def main(checks):
+    parts = list(sections())
+    tables = folded((word for part in parts for word in of_bacsite(*part)), 120)
+    wrong = 0
+    for path, text in [
+        ("man/bactool-numbers.7", PAGE + "".join(on_page(*part) for part in parts) + FOOT),
+        ("docs/NUMBERS.md", DOCUMENT + "\n".join(in_document(*part) for part in parts)),
+        ("site/bacsite", re.sub(r'(?s)(?<=\nNUMBERS = """\n).*?(?="""\n)', lambda _: tables, text_of("site/bacsite"))),
+    ]:
+        if not checks:
+            with open(f"{TOP}/{path}", "w", encoding="utf-8") as file:
+                file.write(text)
+        elif text != text_of(path):
+            print(f"{path} is not as man/tables.py makes it")
+            wrong = 1
+    return wrong
+
+
+if __name__ == "__main__":
+    sys.exit(main(sys.argv[1:] == ["--check"]))
