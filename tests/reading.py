@@ -30,7 +30,7 @@ PAGES = [
     ("datagrams", "Datagrams, APDUs and service bodies", ["bac_pdu::*"]),
     ("client", "The client over a list of events", ["bac_tsm::run"]),
     ("device", "The device: its reply to a datagram, and its points", ["bac_device::Device::answer", "bac_device::*"]),
-    ("texts", "Words as values and bodies, and values as text", ["bac_text::*", "bac_outcomes::*"]),
+    ("texts", "Words as values and bodies, and values as text", ["bac_text::*", "bac_print::*"]),
     ("script", "What a script prints and answers", ["bac_script::trace", "bac_script::*"]),
     ("calls", "A read, a write and a search over a link", ["bac_links::run_read", "bac_links::run_write"]
     + ["bac_links::run_whois"]),
@@ -41,7 +41,7 @@ PAGES = [
     ("links", "Links, and the laws of the tools over them", ["bac_links::*"]),
     ("command", "The words of a command line", ["bac_words::parse_words", "bac_words::*", "clap_laws::*"]),
     ("program", "From the words to the status", ["bac_tools::run_program", "bac_tools::run_words"]
-    + ["bac_text::Checked::read", "bac_text::Checked::write", "bac_text::Checked::flush"]
+    + ["bac_print::Checked::read", "bac_print::Checked::write", "bac_print::Checked::flush"]
     + ["bac_tools::*", "bactool::*"]),
 ]
 

@@ -1,8 +1,8 @@
 -- Two calls that are answered alike ask alike, end alike, and print one line.
 use Rattle.std.proofs.Common.{◌≡◌, ◌≢◌, ℕ, List, [], Option, Result, Ok, Err, refl, sym, ap, ◌∙◌, subst}
-use Rattle.bac_text.specs.declared.checked.Checked.{Checked}
-use Rattle.bac_text.specs.Checked.{Took}
-use Rattle.bac_text.proofs.Known.{Took-none}
+use Rattle.bac_print.specs.declared.checked.Checked.{Checked}
+use Rattle.bac_print.specs.Checked.{Took}
+use Rattle.bac_print.proofs.Known.{Took-none}
 use Rattle.bac_links.specs.History.{Account}
 use Rattle.bac_links.specs.Answered.{AskAlike, Printed, OneText}
 use Rattle.bac_links.specs.Asking.{Plays}

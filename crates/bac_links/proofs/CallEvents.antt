@@ -10,7 +10,7 @@ use Rattle.std.proofs.lemmas.Bool.Decides.{nat_tests}
 use Rattle.std.proofs.Math.Seq.{take-append_seam}
 use Rattle.std.specs.List.{All}
 use Rattle.bac_pdu.specs.Peer.{station}
-use Rattle.bac_tsm.specs.Limits.{longest_body}
+use Rattle.bac_pdu.specs.Apdu.{longest_body}
 use Rattle.bac_tsm.specs.Events.{Outcome, Event, Ask, Data, Tick, Note, Dropped, Rules, Request}
 use Rattle.bac_tsm.specs.Lookahead.{Accepted, End, accepted, accepted_at, end, end_notes, or_dropped, send_notes}
 use Rattle.bac_tsm.specs.Lookahead.{next_invoke_id, refusal_of, output, notes_on, is_tick}

@@ -8,13 +8,13 @@ use Rattle.std.proofs.lemmas.List.Concat.{flat_map-append}
 use Rattle.std.proofs.lemmas.List.Elements.{All-nil, All-cons}
 use Rattle.std.specs.List.{list_any}
 use Rattle.bac_pdu.specs.Peer.{Station}
-use Rattle.bac_tsm.specs.Limits.{longest_body}
+use Rattle.bac_pdu.specs.Apdu.{longest_body}
 use Rattle.bac_tsm.specs.Events.{Outcome, Event, Data, Tick, Rules}
 use Rattle.bac_tsm.specs.Lookahead.{Accepted, End, send_notes, sends}
 use Rattle.bac_tsm.specs.Machine.{State, Stepped, to_send, sent, is_due, tick, step}
 use Rattle.bac_tsm.specs.Client.{Client, rules_of, keeping}
-use Rattle.bac_text.specs.declared.checked.Checked.{Checked}
-use Rattle.bac_text.specs.Checked.{TookOrFailed}
+use Rattle.bac_print.specs.declared.checked.Checked.{Checked}
+use Rattle.bac_print.specs.Checked.{TookOrFailed}
 use Rattle.bac_links.specs.Limits.{most_turns}
 use Rattle.bac_links.specs.Foretold.{Heard, Silence, Arrival, Failure}
 use Rattle.bac_links.specs.History.{Entry, Waited, Timed, Posted, Unposted, Account, Gains, GainsAll}

@@ -1,8 +1,8 @@
 -- The line of a call that met no fault: for a crate above.
 use Rattle.std.proofs.Common.{◌≡◌, ◌<◌, List, ℕ, Option, Result, Ok, Err, ap, arith}
 use Rattle.bac_tsm.specs.Events.{Outcome}
-use Rattle.bac_text.specs.Checked.{Took}
-use Rattle.bac_text.specs.declared.checked.Checked.{Checked}
+use Rattle.bac_print.specs.Checked.{Took}
+use Rattle.bac_print.specs.declared.checked.Checked.{Checked}
 use Rattle.bac_text.specs.declared.jobs.Call.{Call}
 use Rattle.bac_links.specs.Call.{Tells}
 use Rattle.bac_links.specs.Ending.{ending_line, exit_of, status_of}

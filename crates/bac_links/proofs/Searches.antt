@@ -6,9 +6,9 @@ use Rattle.std.proofs.lemmas.List.{append-nil}
 use Rattle.std.proofs.lemmas.Bool.{le-leb, lt-leb}
 use Rattle.std.proofs.lemmas.Bool.Decides.{nat_tests}
 use Rattle.std.proofs.lemmas.List.Concat.{flat_map-append}
-use Rattle.bac_text.specs.declared.checked.Checked.{Checked}
-use Rattle.bac_text.specs.Checked.{Took}
-use Rattle.bac_text.proofs.Known.{Took-none, Took-more}
+use Rattle.bac_print.specs.declared.checked.Checked.{Checked}
+use Rattle.bac_print.specs.Checked.{Took}
+use Rattle.bac_print.proofs.Known.{Took-none, Took-more}
 use Rattle.bac_links.specs.Limits.{most_turns}
 use Rattle.bac_pdu.specs.Peer.{station}
 use Rattle.bac_links.specs.Foretold.{Heard, Silence, Arrival, Failure}

@@ -3,8 +3,8 @@ use Rattle.std.proofs.Common.{◌≡◌, ◌⊎◌, ℕ, List, [], ◌∷◌, �
 use Rattle.std.proofs.Common.{ap, ◌∙◌, subst, flat_map, inl, inr}
 use Rattle.std.proofs.lemmas.List.{append_cancel_left, append-nil}
 use Rattle.std.proofs.lemmas.List.Concat.{flat_map-append}
-use Rattle.bac_text.specs.declared.checked.Checked.{Checked}
-use Rattle.bac_text.specs.Checked.{TakesFront}
+use Rattle.bac_print.specs.declared.checked.Checked.{Checked}
+use Rattle.bac_print.specs.Checked.{TakesFront}
 use Rattle.bac_links.specs.History.{Entry, Waited, Account}
 use Rattle.bac_links.specs.Answered.{AskAlike, Printed, OneText}
 use Rattle.bac_links.specs.Asking.{Asks, Ends, ForTime, question_of, Follows}

@@ -1,7 +1,7 @@
 -- A call over a link whose history gained nothing has not ended.
 use Rattle.std.proofs.Common.{◌≡◌, ℕ, List, [], Option, Ok, sym, ap, ◌∙◌}
 use Rattle.std.proofs.lemmas.List.{append-nil}
-use Rattle.bac_text.specs.declared.checked.Checked.{Checked}
+use Rattle.bac_print.specs.declared.checked.Checked.{Checked}
 use Rattle.bac_links.specs.History.{Account}
 use Rattle.bac_links.specs.Asking.{Asks, Ends, ForTime}
 use Rattle.bac_links.specs.Call.{move, Tells}

@@ -1,7 +1,7 @@
 -- What a link answered to what it was asked, and that who is answered alike asks alike.
 use Rattle.std.specs.Prelude.{◌≡◌, ℕ, List, [], ◌∷◌, ◌++◌, map, Option, Result, Err}
-use Rattle.bac_text.specs.declared.checked.Checked.{Checked}
-use Rattle.bac_text.specs.Checked.{Took, TakesFront}
+use Rattle.bac_print.specs.declared.checked.Checked.{Checked}
+use Rattle.bac_print.specs.Checked.{Took, TakesFront}
 use Rattle.bac_links.specs.Foretold.{Heard}
 use Rattle.bac_links.specs.History.{Entry, Waited, Timed, Posted, Unposted, Account}
 use Rattle.bac_links.specs.Asking.{question_of}

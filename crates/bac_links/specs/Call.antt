@@ -15,8 +15,8 @@ use Rattle.bac_links.specs.Asking.{Move, Asks, Ends, ForTime, question_of, Plays
 use Rattle.bac_links.specs.declared.ending.Purpose.{Purpose}
 use Rattle.bac_links.specs.declared.ending.Purpose.TheVariants.{Reading, Writing}
 use Rattle.bac_text.specs.declared.jobs.Call.{Call}
-use Rattle.bac_text.specs.declared.checked.Checked.{Checked}
-use Rattle.bac_text.specs.Checked.{Took, TakesFront}
+use Rattle.bac_print.specs.declared.checked.Checked.{Checked}
+use Rattle.bac_print.specs.Checked.{Took, TakesFront}
 use Rattle.bac_links.specs.declared.ending.Exit.{Exit}
 use Rattle.bac_links.specs.Ending.{exit_of, ending_line}
 use Rattle.bac_links.specs.declared.fault.ToolFault.{ToolFault}

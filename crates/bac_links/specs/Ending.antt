@@ -5,8 +5,8 @@ use Rattle.std.specs.Option.{option_map_or}
 use Rattle.bac_tsm.specs.Events.{Outcome, Simple, Complex}
 use Rattle.bac_pdu.specs.Property.{Answer}
 use Rattle.bac_pdu.specs.PropertyReading.{ack_of}
-use Rattle.bac_text.specs.Values.{region_text}
-use Rattle.bac_outcomes.specs.Outcomes.{outcome_text}
+use Rattle.bac_print.specs.Values.{region_text}
+use Rattle.bac_print.specs.Outcomes.{outcome_text}
 use Rattle.bac_links.specs.declared.ending.Purpose.{Purpose}
 use Rattle.bac_links.specs.declared.ending.Purpose.TheVariants.{Reading, Writing}
 use Rattle.bac_links.specs.declared.fault.ToolFault.{ToolFault}

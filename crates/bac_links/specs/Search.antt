@@ -4,8 +4,8 @@ use Rattle.std.specs.Prelude.{decimal, if◌then◌else◌, Option, Some, None, 
 use Rattle.std.specs.Option.{option_to_list}
 use Rattle.std.specs.List.{flat_map, last_or}
 use Rattle.bac_wire.specs.Steps.{◌>>=◌}
-use Rattle.bac_text.specs.declared.checked.Checked.{Checked}
-use Rattle.bac_text.specs.Checked.{Took}
+use Rattle.bac_print.specs.declared.checked.Checked.{Checked}
+use Rattle.bac_print.specs.Checked.{Took}
 use Rattle.bac_pdu.specs.declared.discovery.WhoIs.{WhoIs}
 use Rattle.bac_pdu.specs.Peer.{Station, station}
 use Rattle.bac_pdu.specs.Apdu.{Message, laid_out, unconfirmed}
@@ -14,7 +14,7 @@ use Rattle.bac_pdu.specs.Datagram.{wrapped}
 use Rattle.bac_pdu.specs.DatagramReading.{carried}
 use Rattle.bac_pdu.specs.Discovery.{Introduction, asks, who_is_octets}
 use Rattle.bac_pdu.specs.ValueReading.{introduction_of}
-use Rattle.bac_text.specs.PeerTexts.{peer_text}
+use Rattle.bac_print.specs.PeerTexts.{peer_text}
 use Rattle.bac_links.specs.Limits.{turn_wait}
 use Rattle.bac_links.specs.Foretold.{Heard, Arrival, Failure}
 use Rattle.bac_links.specs.History.{Entry, Waited, Timed, Posted, Unposted, Account, GainsAll}

@@ -4,7 +4,7 @@ ghost use Rattle.std.specs.Option.{option_map};
 ghost use Rattle.bac_tsm.specs.Events.{Tick};
 ghost use Rattle.bac_tsm.specs.Machine.{step, sent};
 ghost use Rattle.bac_tsm.specs.Client.{rules_of, keeping, outcome_seen};
-ghost use Rattle.bac_text.specs.Checked.{has_failed};
+ghost use Rattle.bac_print.specs.Checked.{has_failed};
 ghost use Rattle.bac_links.specs.Limits.{most_turns, turn_wait};
 ghost use Rattle.bac_links.specs.Foretold.{Heard, Failure};
 ghost use Rattle.bac_links.specs.History.{Waited, Timed, Account, Gains, GainsAll};
@@ -21,7 +21,8 @@ use crate::datagram::Datagram;
 use crate::ending::{Ending, Exit, Purpose, show_ending};
 use crate::fault::ToolFault;
 use crate::link::Link;
-use bac_text::{Call, Checked};
+use bac_print::Checked;
+use bac_text::Call;
 use bac_tsm::{Client, Config, Entry, Outcome};
 use std::io::Write;
 

@@ -1,9 +1,9 @@
 //! How a call ends, and what is printed of that.
 ghost use Rattle.std.specs.Prelude.{◌≡◌, codes, false, is_err, is_some, if◌then◌else◌, IfOk, IfErr};
 ghost use Rattle.std.specs.Option.{option_map_or};
-ghost use Rattle.bac_text.specs.Checked.{has_failed, TookOrFailed};
-ghost use Rattle.bac_text.specs.Page.{Prints};
-ghost use Rattle.bac_text.specs.Values.{region_text};
+ghost use Rattle.bac_print.specs.Checked.{has_failed, TookOrFailed};
+ghost use Rattle.bac_print.specs.Page.{Prints};
+ghost use Rattle.bac_print.specs.Values.{region_text};
 ghost use Rattle.bac_links.specs.Call.{service_of};
 ghost use Rattle.bac_pdu.specs.Property.{Answer};
 ghost use Rattle.bac_pdu.specs.PropertyReading.{ack_of};
@@ -11,9 +11,8 @@ ghost use Rattle.bac_links.specs.Ending.{ending_text, ending_line, exit_of, stat
 ghost use Rattle.bac_links.specs.Inner.Ending.{ending_seen};
 
 use crate::fault::ToolFault;
-use bac_outcomes::print_outcome;
 use bac_pdu::{READ_PROPERTY, WRITE_PROPERTY, read_ack};
-use bac_text::{Checked, Page};
+use bac_print::{Checked, Page, print_outcome};
 use bac_tsm::Outcome;
 use std::io::Write;
 
@@ -55,7 +54,7 @@ impl Purpose {
 }
 
 /// Prints the line that tells how the request ended.
-#[tactic(auto, unfolding(bac_text::specs::Page::Wrote))]
+#[tactic(auto, unfolding(bac_print::specs::Page::Wrote))]
 pub(crate) fn show_ending<W: Write>(
     purpose: Purpose,
     ending: Ending<'_>,

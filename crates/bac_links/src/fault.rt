@@ -2,7 +2,7 @@
 ghost use Rattle.std.specs.Prelude.{◌≡◌};
 ghost use Rattle.bac_links.specs.declared.fault.ToolFault.TheVariants as faults;
 
-use bac_text::WriteFailed as NotWritten;
+use bac_print::WriteFailed as NotWritten;
 use thiserror::Error;
 
 /// Why a tool could not go on.

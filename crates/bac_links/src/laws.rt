@@ -6,7 +6,7 @@ ghost use Rattle.bac_wire.specs.Copies.{MakesCopies, EqualsBy};
 ghost use Rattle.bac_device.specs.Places.{Write as Change};
 ghost use Rattle.bac_device.specs.Device.{DeviceState, points_of, Holds};
 ghost use Rattle.bac_device.specs.Turns.{AreDefined};
-ghost use Rattle.bac_text.specs.declared.checked.Checked.{Checked};
+ghost use Rattle.bac_print.specs.declared.checked.Checked.{Checked};
 ghost use Rattle.bac_text.specs.declared.jobs.Call.{Call};
 ghost use Rattle.bac_text.specs.declared.jobs.Search.{Search};
 ghost use Rattle.bac_links.specs.Limits.{longest_datagram};

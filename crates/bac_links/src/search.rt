@@ -2,8 +2,8 @@
 ghost use Rattle.std.specs.Prelude.{◌≡◌, ◌<◌, false, is_err, IfErr};
 ghost use Rattle.std.specs.Option.{option_map};
 ghost use Rattle.bac_pdu.specs.Peer.{station};
-ghost use Rattle.bac_text.specs.Checked.{has_failed, TookOrFailed};
-ghost use Rattle.bac_text.specs.Page.{Prints};
+ghost use Rattle.bac_print.specs.Checked.{has_failed, TookOrFailed};
+ghost use Rattle.bac_print.specs.Page.{Prints};
 ghost use Rattle.bac_links.specs.History.{Gains, posted};
 ghost use Rattle.bac_links.specs.Fault.{is_link_fault, is_write_fault};
 ghost use Rattle.bac_links.specs.Search.{found_of, found_line, who_is_to, Searched};
@@ -19,7 +19,8 @@ use bac_pdu::{
     Apdu, I_AM, IAm, Peer, WHO_IS, WhoIs, open_datagram, read_apdu, read_iam, wrap_within,
     write_apdu, write_whois,
 };
-use bac_text::{Checked, Page, Search};
+use bac_print::{Checked, Page};
+use bac_text::Search;
 use bac_wire::Frame;
 use std::io::Write;
 
@@ -71,7 +72,7 @@ fn read_found(who: WhoIs, from: Peer, octets: &[u8]) -> Option<Found>
 }
 
 // Prints the line of a device.
-#[tactic(auto, unfolding(bac_text::specs::Page::Wrote))]
+#[tactic(auto, unfolding(bac_print::specs::Page::Wrote))]
 fn show_found<W: Write>(found: Found, writer: &mut Checked<W>) -> Result<(), ToolFault>
     requires { has_failed writer.old ≡ false }
     ensures text { TookOrFailed W.contents writer.old writer.new (found_line (found_seen found)) result }

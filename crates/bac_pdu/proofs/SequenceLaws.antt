@@ -1,21 +1,10 @@
 -- Things that are spelled one after the other.
-use Rattle.std.proofs.Common.{◌≡◌, ℕ, List, [], ◌∷◌, ◌++◌, Option, Some, refl, sym, ap, subst, ◌∙◌, append_assoc}
+use Rattle.std.proofs.Common.{◌≡◌, ℕ, List, [], ◌∷◌, ◌++◌, Some, refl, sym, ap, subst, ◌∙◌, append_assoc}
 use Rattle.std.specs.List.{AllByRecursion, flat_map}
 use Rattle.std.proofs.lemmas.List.{append-nil}
 use Rattle.std.proofs.lemmas.Option.{none-some}
-use Rattle.bac_wire.specs.Front.{Begins, IsReader, SpellsTo, SpellsAll}
-use Rattle.bac_wire.proofs.Readers.{found_at}
+use Rattle.bac_wire.specs.Front.{SpellsTo, SpellsAll}
 use Rattle.bac_pdu.specs.PropertyReading.{whole_of}
-
--- ---- what stands at the front
-
-pub begins : {A : Type 0} (Spells : List ℕ → A → Type 0) (at : List ℕ → Option (A × List ℕ)) → IsReader Spells at
-    → (octets : List ℕ) (x : A) (rest : List ℕ) → at octets ≡ found_at x rest → Begins Spells octets x rest
-begins Spells at reader octets x rest e = reader.takes octets x rest e
-
-pub begins_read : {A : Type 0} (Spells : List ℕ → A → Type 0) (at : List ℕ → Option (A × List ℕ)) → IsReader Spells at
-    → (octets : List ℕ) (x : A) (rest : List ℕ) → Begins Spells octets x rest → at octets ≡ found_at x rest
-begins_read Spells at reader octets x rest b = ap at b.whole ∙ reader.again b.front x rest b.spelled
 
 -- ---- one after the other
 

@@ -84,3 +84,8 @@ IsWritable _ = Unit {0}
 -- The octets of the greatest APDU that a code announces, by its low four bits; the codes above 5 are taken as 0.
 abbrev pub announced_size : ℕ → ℕ
 announced_size code = slice_index_or (50 ∷ 128 ∷ 206 ∷ 480 ∷ 1024 ∷ 1476 ∷ []) (code % 16) 50
+
+-- The octets of the longest service body that a client sends. With the four before it in a request they make an APDU of
+-- 480 octets, what code 3 announces. The code has a constant of the same number.
+abbrev pub longest_body : ℕ
+longest_body = 476

@@ -118,6 +118,10 @@ pub fn write_apdu(frame: &mut Frame, apdu: &Apdu<'_>) -> Result<(), Full>
     append_apdu(frame, apdu)
 }
 
+/// The octets of the longest service body that a client sends. With the four octets before it in a request (clause
+/// 20.1.2) they make an APDU of 480, which is what code 3 announces, and fits a frame of ARCNET (clause 20.1.2.5).
+pub const LONGEST_BODY: usize = 476;
+
 /// The octets of the greatest APDU that a code announces (clause 20.1.2.5), by its low four bits. Codes above 5 are
 /// taken as 0.
 pub fn announced(code: u8) -> u16

@@ -13,7 +13,7 @@ ghost use Rattle.bac_wire.specs.Front.{IsSingle};
 ghost use Rattle.bac_wire.specs.Copies.{MakesCopies, EqualsBy};
 ghost use Rattle.bac_pdu.specs.Datagram.{Delivery, Carries, Takes, front_count, wrapped};
 ghost use Rattle.bac_pdu.specs.DatagramReading.{carried};
-ghost use Rattle.bac_pdu.specs.Apdu.{Message, message, IsLaidOut, IsWritable, laid_out};
+ghost use Rattle.bac_pdu.specs.Apdu.{Message, message, IsLaidOut, IsWritable, laid_out, longest_body};
 ghost use Rattle.bac_pdu.specs.ApduReading.{apdu_of};
 ghost use Rattle.bac_pdu.specs.Parameter.{IsParameter};
 ghost use Rattle.bac_pdu.specs.Property.{Reference, Answer, Order, reference, answer, order, reference_parameters};
@@ -26,7 +26,7 @@ ghost use Rattle.bac_pdu.specs.Discovery.{who_is_octets, i_am_octets};
 ghost use Rattle.bac_pdu.specs.Failure.{IsErrorBody, error_octets};
 ghost use Rattle.bac_pdu.specs.ValueReading.{who_is_of, introduction_of, error_of};
 
-use crate::apdu::{Apdu, Part};
+use crate::apdu::{Apdu, LONGEST_BODY, Part};
 use crate::datagram::Carried;
 use crate::discovery::{DEVICE, IAm, WhoIs};
 use crate::peer::Peer;
@@ -106,6 +106,11 @@ pub fn numbers()
     ensures who_is { WHO_IS ≡ 8 }
     ensures device { DEVICE ≡ 8 }
     ensures address { ADDRESS_OCTETS ≡ 7 }
+{}
+
+/// The limit that the code names is that of the definitions.
+pub fn limits()
+    ensures body { LONGEST_BODY ≡ longest_body }
 {}
 
 /// A clone is what it was cloned from, and takes no memory.

@@ -51,7 +51,7 @@ mod service;
 mod value;
 mod writing;
 
-pub use apdu::{Apdu, Part, announced, read_apdu, write_apdu};
+pub use apdu::{Apdu, LONGEST_BODY, Part, announced, read_apdu, write_apdu};
 pub use datagram::{Carried, open_datagram, wrap, wrap_within};
 pub use discovery::{DEVICE, IAm, WhoIs, read_iam, read_whois, write_iam, write_whois};
 pub use failure::{read_error, write_error};

@@ -11,9 +11,9 @@ use Rattle.std.proofs.lemmas.List.{take-take, take_all}
 use Rattle.std.proofs.lemmas.List.Edits.{take-paste}
 use Rattle.std.proofs.lemmas.Slice.{between_is, take-put_mid}
 use borrow.Rule.Slice.PartMut.{put_mid}
-use Rattle.bac_text.specs.declared.checked.Checked.{Checked}
-use Rattle.bac_text.specs.Checked.{inner_of, octets_of}
-use Rattle.bac_text.proofs.Known.{Consumes-kept}
+use Rattle.bac_print.specs.declared.checked.Checked.{Checked}
+use Rattle.bac_print.specs.Checked.{inner_of, octets_of}
+use Rattle.bac_print.proofs.Known.{Consumes-kept}
 use Rattle.bac_script.specs.Inner.Feeds.{HasNoFeed}
 use Rattle.bac_script.specs.Inner.Limits.{line_room, chunk_room}
 use Rattle.bac_script.specs.Inner.Input.{TakesAndKeeps, IsLineCut}

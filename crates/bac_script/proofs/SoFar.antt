@@ -6,8 +6,8 @@ use Rattle.std.specs.Prelude.{◌&&◌}
 use Rattle.std.proofs.lemmas.List.{append-nil, append_cancel_right, length-append, take-append-drop}
 use Rattle.bac_tsm.specs.Client.{Client}
 use Rattle.bac_device.specs.Device.{DeviceState}
-use Rattle.bac_text.specs.declared.checked.Checked.{Checked}
-use Rattle.bac_text.specs.declared.page.Page.{Page}
+use Rattle.bac_print.specs.declared.checked.Checked.{Checked}
+use Rattle.bac_print.specs.declared.page.Page.{Page}
 use Rattle.bac_script.specs.declared.input.Reading.{Reading}
 use Rattle.bac_script.specs.declared.input.Reading.TheVariants.{Open, AtEnd, Failed}
 use Rattle.bac_script.specs.declared.line.LineFault.{LineFault}
@@ -15,7 +15,7 @@ use Rattle.bac_script.specs.declared.line.LineFault.TheVariants.{Bad, TooLong}
 use Rattle.bac_script.specs.declared.tracing.TraceEnd.{TraceEnd}
 use Rattle.bac_script.specs.declared.tracing.TraceFault.{TraceFault}
 use Rattle.bac_script.specs.declared.tracing.TraceFault.TheVariants.{BadLine, LineTooLong, ReadFailed, WriteFailed}
-use Rattle.bac_text.specs.Checked.{has_failed, ends_with, reads_of, last_of, octets_of}
+use Rattle.bac_print.specs.Checked.{has_failed, ends_with, reads_of, last_of, octets_of}
 use Rattle.bac_script.specs.Input.{ReadsNoMore, ReaderStands}
 use Rattle.bac_script.specs.Inner.Input.{HasNotEnded, TakesAndKeeps, ReadForLine, empty_reads, IsLineCut}
 use Rattle.bac_script.specs.Inner.Feeds.{HasNoFeed}
@@ -23,15 +23,15 @@ use Rattle.bac_script.specs.Inner.Limits.{line_room}
 use Rattle.bac_script.specs.Line.{Said, said}
 use Rattle.bac_script.specs.Inner.Running.{Stage, Stands, new_client, device_with, ran}
 use Rattle.bac_script.specs.Script.{lines, is_nothing, fault_at, first_fault, text, Runs}
-use Rattle.bac_text.specs.Page.{held as on_page, writer_of, Writes, Wrote, Prints}
+use Rattle.bac_print.specs.Page.{held as on_page, writer_of, Writes, Wrote, Prints}
 use Rattle.bac_script.specs.Tracing.{Traces, IsNeeded, IsToldFirst}
 use Rattle.bac_script.specs.Inner.Tracing.{RunsOn}
 use Rattle.bac_script.proofs.Pieces.{NextLine, next_ended, next_long, next_last, lines-rest, lines-last, lines-ended}
 use Rattle.bac_script.proofs.Pieces.{said-whole_long}
 use Rattle.bac_script.proofs.Taken.{Takes-more, Takes-front, further}
-use Rattle.bac_text.proofs.Printed.{◌⨾◌, prints_nothing}
-use Rattle.bac_text.proofs.Known.{Gave-none}
-use Rattle.bac_text.proofs.Shown.{finished, all_written}
+use Rattle.bac_print.proofs.Printed.{◌⨾◌, prints_nothing}
+use Rattle.bac_print.proofs.Known.{Gave-none}
+use Rattle.bac_print.proofs.Shown.{finished, all_written}
 use Rattle.bac_script.proofs.Machine.{first_stage}
 use Rattle.bac_script.proofs.Courses.{Course, behind, behind_both, and_on, course, course_on, whole, runs_text}
 use Rattle.bac_script.proofs.Courses.{fault_is, RunsWhole, runs_as}

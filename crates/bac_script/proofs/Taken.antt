@@ -7,13 +7,13 @@ use Rattle.std.specs.Prelude.{◌==◌, position}
 use Rattle.std.proofs.lemmas.Bool.{eqb-false, eqb-true}
 use Rattle.std.proofs.lemmas.Bool.Decides.{nat_tests}
 use Rattle.std.proofs.lemmas.List.{take-append-drop, take_all, take_more, drop_all, append-nil}
-use Rattle.bac_text.specs.declared.page.Page.{Page}
-use Rattle.bac_text.specs.Page.{held as on_page, writer_of, Wrote, Prints}
-use Rattle.bac_text.proofs.Printed.{◌⨾◌}
+use Rattle.bac_print.specs.declared.page.Page.{Page}
+use Rattle.bac_print.specs.Page.{held as on_page, writer_of, Wrote, Prints}
+use Rattle.bac_print.proofs.Printed.{◌⨾◌}
 use Rattle.std.proofs.lemmas.List.Sums.{fails_before_first}
 use Rattle.std.proofs.lemmas.List.Quantifiers.{position-Some}
-use Rattle.bac_text.specs.declared.checked.Checked.{Checked}
-use Rattle.bac_text.specs.Checked.{reads_of, ends_with, last_of, octets_of, has_failed}
+use Rattle.bac_print.specs.declared.checked.Checked.{Checked}
+use Rattle.bac_print.specs.Checked.{reads_of, ends_with, last_of, octets_of, has_failed}
 use Rattle.bac_script.specs.Inner.Feeds.{HasNoFeed}
 use Rattle.bac_script.specs.Inner.Limits.{line_room}
 use Rattle.bac_script.specs.declared.input.Reading.{Reading}
@@ -21,7 +21,7 @@ use Rattle.bac_script.specs.declared.input.Reading.TheVariants.{Open, AtEnd, Fai
 use Rattle.bac_script.specs.Input.{ReaderStands}
 use Rattle.bac_script.specs.Inner.Input.{HasNotEnded}
 use Rattle.bac_script.specs.Inner.Input.{TakesAndKeeps, ReadForLine, IsNext, IsTurnedIn}
-use Rattle.bac_text.proofs.Known.{Gave-more}
+use Rattle.bac_print.proofs.Known.{Gave-more}
 
 pub Takes-more : {R : Type 0} {remaining : R → Option (List ℕ)} {a b c : Checked R} {held mid kept xs ys : List ℕ}
     → TakesAndKeeps remaining a b held mid xs → TakesAndKeeps remaining b c mid kept ys →

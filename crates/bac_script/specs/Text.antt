@@ -6,8 +6,8 @@ use Rattle.bac_pdu.specs.Peer.{Station}
 use Rattle.bac_tsm.specs.declared.client.SubmitFault.{SubmitFault}
 use Rattle.bac_tsm.specs.declared.client.SubmitFault.TheVariants.{TooLong, TableFull, TicketsSpent}
 use Rattle.bac_tsm.specs.Events.{Note, Sent, Refused, Done, Dropped, TimedOut}
-use Rattle.bac_text.specs.PeerTexts.{peer_text}
-use Rattle.bac_outcomes.specs.Outcomes.{outcome_text}
+use Rattle.bac_print.specs.PeerTexts.{peer_text}
+use Rattle.bac_print.specs.Outcomes.{outcome_text}
 
 abbrev pub refusal_text : SubmitFault → List ℕ
 refusal_text TooLong = codes "too-long"

@@ -1,12 +1,12 @@
 -- What a run read, and what it wrote and answered.
 use Rattle.std.specs.Prelude.{◌≡◌, ◌⊎◌, List, [], ◌++◌, ℕ, ◌+◌, ◌≤◌, length, Option, None, Result, Ok, Err}
-use Rattle.bac_text.specs.declared.checked.Checked.{Checked}
+use Rattle.bac_print.specs.declared.checked.Checked.{Checked}
 use Rattle.bac_script.specs.declared.input.Reading.{Reading}
 use Rattle.bac_script.specs.declared.input.Reading.TheVariants.{Open}
 use Rattle.bac_script.specs.declared.tracing.TraceEnd.{TraceEnd}
 use Rattle.bac_script.specs.declared.tracing.TraceFault.{TraceFault}
 use Rattle.bac_script.specs.declared.tracing.TraceFault.TheVariants.{BadLine, LineTooLong}
-use Rattle.bac_text.specs.Checked.{reads_of, last_of, octets_of, Took, Gave}
+use Rattle.bac_print.specs.Checked.{reads_of, last_of, octets_of, Took, Gave}
 use Rattle.bac_script.specs.Input.{ReaderStands, ReadsNoMore}
 use Rattle.bac_script.specs.Script.{lines, first_fault, text, Runs}
 

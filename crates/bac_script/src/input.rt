@@ -2,14 +2,15 @@
 
 ghost use Rattle.std.specs.Prelude.{◌≡◌, ◌≢◌, ◌==◌, ◌+◌, ◌<◌, ◌≤◌, ◌⊎◌, ◌++◌, [], length, take, drop, position, true};
 ghost use Rattle.std.specs.Prelude.{false, MatchOption, MatchResult};
-ghost use Rattle.bac_text.specs.Checked.{has_failed, reads_of, last_of};
-ghost use Rattle.bac_text.specs.Page.{writer_of, Prints};
+ghost use Rattle.bac_print.specs.Checked.{has_failed, reads_of, last_of};
+ghost use Rattle.bac_print.specs.Page.{writer_of, Prints};
 ghost use Rattle.bac_script.specs.Inner.Feeds.{HasNoFeed};
 ghost use Rattle.bac_script.specs.Input.{ReaderStands, ReadsNoMore};
 ghost use Rattle.bac_script.specs.Inner.Input.{most_to_come, may_read, empty_reads, TakesAndKeeps, ReadForLine};
 ghost use Rattle.bac_script.specs.Inner.Input.{IsLineCut, IsNext};
 
-use bac_text::{Checked, End, LONGEST_LINE, Page, WriteFailed, position_of_end};
+use bac_print::{Checked, Page, WriteFailed};
+use bac_text::{End, LONGEST_LINE, position_of_end};
 use std::io::{Read, Write};
 use std::marker::Model;
 
@@ -81,7 +82,7 @@ impl Chunk {
     /// # Errors
     ///
     /// `WriteFailed` where the page has failed before a read that would be needed.
-    #[tactic(auto, using(crate::proofs::Taken::read_for_line, crate::proofs::Taken::still_for_line), unfolding(bac_text::specs::Page::Wrote))]
+    #[tactic(auto, using(crate::proofs::Taken::read_for_line, crate::proofs::Taken::still_for_line), unfolding(bac_print::specs::Page::Wrote))]
     pub(crate) fn next_line<R: Read, W: Write>(
         &mut self,
         reader: &mut Checked<R>,

@@ -4,8 +4,8 @@ ghost use Rattle.std.specs.Prelude.{◌≡◌, ◌≢◌, ℕ, List, Result, Err
 ghost use Rattle.bac_wire.specs.Copies.{MakesCopies, EqualsBy};
 ghost use Rattle.bac_tsm.specs.Laws.{NumbersComeBackLate};
 ghost use Rattle.bac_tsm.specs.Limits.{table_size};
-ghost use Rattle.bac_text.specs.declared.checked.Checked.{Checked};
-ghost use Rattle.bac_text.specs.Checked.{fresh, ends_of, octets_of};
+ghost use Rattle.bac_print.specs.declared.checked.Checked.{Checked};
+ghost use Rattle.bac_print.specs.Checked.{fresh, ends_of, octets_of};
 ghost use Rattle.bac_script.specs.declared.input.Reading.{Reading};
 ghost use Rattle.bac_script.specs.declared.tracing.TraceFault.TheVariants.{WriteFailed};
 ghost use Rattle.bac_script.specs.Alike.{IsFrontOf, AreAlike};

@@ -7,17 +7,16 @@ ghost use Rattle.bac_pdu.specs.Peer.{station};
 ghost use Rattle.bac_tsm.specs.Events.{Done, Refused, TimedOut};
 ghost use Rattle.bac_tsm.specs.Machine.{sent, due_notes};
 ghost use Rattle.bac_tsm.specs.Client.{outcome_seen};
-ghost use Rattle.bac_text.specs.Checked.{has_failed, TookOrFailed};
-ghost use Rattle.bac_text.specs.Page.{Prints};
-ghost use Rattle.bac_text.specs.PeerTexts.{peer_text};
-ghost use Rattle.bac_text.specs.Values.{region_text};
-ghost use Rattle.bac_outcomes.specs.Outcomes.{outcome_text};
+ghost use Rattle.bac_print.specs.Checked.{has_failed, TookOrFailed};
+ghost use Rattle.bac_print.specs.Page.{Prints};
+ghost use Rattle.bac_print.specs.PeerTexts.{peer_text};
+ghost use Rattle.bac_print.specs.Values.{region_text};
+ghost use Rattle.bac_print.specs.Outcomes.{outcome_text};
 ghost use Rattle.bac_script.specs.Text.{note_text, notes_text, reply_text};
 
 use crate::tracing::TraceFault;
-use bac_outcomes::print_outcome;
 use bac_pdu::Peer;
-use bac_text::{Checked, Page};
+use bac_print::{Checked, Page, print_outcome};
 use bac_tsm::{Client, Ended, Entry, Outcome, SubmitFault};
 use std::io::Write;
 
@@ -35,7 +34,7 @@ pub fn show_outcome<W: Write>(
     ensures failed { has_failed writer.new ≡ is_err result }
     ensures fault { IfErr result (λ fault. fault ≡ TraceFault.WriteFailed) }
 {
-    Ok(bac_outcomes::show_outcome(outcome, writer)?)
+    Ok(bac_print::show_outcome(outcome, writer)?)
 }
 
 /// Writes the text of a region: of one value its text, of none or several their texts in braces, and of anything else
@@ -50,11 +49,11 @@ pub fn show_value<W: Write>(region: &[u8], writer: &mut Checked<W>) -> Result<()
     ensures failed { has_failed writer.new ≡ is_err result }
     ensures fault { IfErr result (λ fault. fault ≡ TraceFault.WriteFailed) }
 {
-    Ok(bac_text::show_value(region, writer)?)
+    Ok(bac_print::show_value(region, writer)?)
 }
 
 /// Prints what the client sends under the ticket, where the request is open.
-#[tactic(auto, using(bac_text::proofs::Printed::printing, std::proofs::lemmas::Grind::common_steps))]
+#[tactic(auto, using(bac_print::proofs::Printed::printing, std::proofs::lemmas::Grind::common_steps))]
 pub(crate) fn print_sent<W: Write>(page: &mut Page<'_, W>, client: &Client, ticket: u64)
     ensures { Prints W.contents page.old page.new (notes_text (sent client.now.state ticket)) }
 {
@@ -91,7 +90,7 @@ pub(crate) fn print_end<W: Write>(page: &mut Page<'_, W>, ended: Ended<'_>)
 }
 
 /// Prints what became of the requests that were due, in their order.
-#[tactic(auto, using(bac_text::proofs::Printed::printing, std::proofs::lemmas::Grind::common_steps, std::proofs::lemmas::List::take_more))]
+#[tactic(auto, using(bac_print::proofs::Printed::printing, std::proofs::lemmas::Grind::common_steps, std::proofs::lemmas::List::take_more))]
 pub(crate) fn print_due<W: Write>(page: &mut Page<'_, W>, client: &Client, due: &[Entry])
     ensures { Prints W.contents page.old page.new (notes_text (flat_map (due_notes client.now.state) due.now)) }
 {
@@ -101,7 +100,7 @@ pub(crate) fn print_due<W: Write>(page: &mut Page<'_, W>, client: &Client, due: 
 }
 
 /// Prints what the device answers: its reply, or that it is silent.
-#[tactic(auto, using(bac_text::proofs::Printed::printing))]
+#[tactic(auto, using(bac_print::proofs::Printed::printing))]
 pub(crate) fn print_answer<W: Write>(page: &mut Page<'_, W>, to: Option<Peer>, octets: &[u8])
     ensures { Prints W.contents page.old page.new (reply_text (option_map (λ peer. (station peer, octets.now)) to)) }
 {
@@ -123,7 +122,7 @@ fn print_entry<W: Write>(page: &mut Page<'_, W>, client: &Client, entry: Entry)
     }
 }
 
-#[tactic(auto, using(bac_text::proofs::Printed::printing))]
+#[tactic(auto, using(bac_print::proofs::Printed::printing))]
 fn print_timeout<W: Write>(page: &mut Page<'_, W>, ticket: u64)
     ensures { Prints W.contents page.old page.new (note_text (TimedOut ticket)) }
 {
@@ -134,7 +133,7 @@ fn print_timeout<W: Write>(page: &mut Page<'_, W>, ticket: u64)
 
 // Prints whom a datagram is for, and its octets.
 #[inline(always)]
-#[tactic(auto, using(bac_text::proofs::Printed::printing))]
+#[tactic(auto, using(bac_print::proofs::Printed::printing))]
 fn print_datagram<W: Write>(page: &mut Page<'_, W>, peer: Peer, octets: &[u8])
     ensures { Prints W.contents page.old page.new
         (peer_text (station peer) ++ 32 ∷ (encode_lower octets.now ++ 10 ∷ [])) }

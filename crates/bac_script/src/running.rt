@@ -6,7 +6,7 @@ ghost use Rattle.bac_tsm.specs.Client.{keeping};
 ghost use Rattle.bac_script.specs.Inner.LineSeen.{arrival_seen, line_seen};
 ghost use Rattle.bac_pdu.specs.Peer.{station};
 ghost use Rattle.bac_device.specs.Places.{Write};
-ghost use Rattle.bac_text.specs.Page.{Prints};
+ghost use Rattle.bac_print.specs.Page.{Prints};
 ghost use Rattle.bac_script.specs.Inner.Running.{Stage, Stands, step_of, device_with, writes_with, reply_after, ran};
 ghost use Rattle.bac_script.specs.Text.{notes_text};
 
@@ -14,16 +14,13 @@ use crate::line::{Line, Received};
 use crate::notes::{print_answer, print_due, print_end, print_refusal, print_sent};
 use bac_device::{Device, DeviceInfo, demo};
 use bac_pdu::Peer;
-use bac_text::Page;
+use bac_print::Page;
 use bac_tsm::{Client, SubmitFault};
 use bac_wire::Frame;
 use std::io::Write;
 
-// A body that words can make is one that the client sends.
-const _: () = prove!(bac_text::LONGEST_BODY == bac_tsm::LONGEST_BODY);
-
 /// Runs a line on the client and the device, and prints what comes of it. The device's reply is put into the frame.
-#[tactic(auto, using(bac_text::proofs::Printed::no_print))]
+#[tactic(auto, using(bac_print::proofs::Printed::no_print))]
 pub(crate) fn run_line<W: Write>(
     client: &mut Client,
     device: &mut Device,

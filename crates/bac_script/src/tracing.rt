@@ -1,18 +1,18 @@
 //! A script, run as it is read.
 
 ghost use Rattle.std.specs.Prelude.{◌≡◌, ◌⊎◌, ◌↔◌, true, false, Err, []};
-ghost use Rattle.bac_text.specs.Checked.{has_failed};
+ghost use Rattle.bac_print.specs.Checked.{has_failed};
 ghost use Rattle.bac_script.specs.Input.{AreSpent};
 ghost use Rattle.bac_script.specs.Inner.Running.{new_client};
 ghost use Rattle.bac_script.specs.Script.{fault_at};
-ghost use Rattle.bac_text.specs.Page.{held, writer_of};
+ghost use Rattle.bac_print.specs.Page.{held, writer_of};
 ghost use Rattle.bac_script.specs.Tracing.{Traces, trace_status_of};
 ghost use Rattle.bac_script.specs.Inner.Tracing.{RunsOn};
 
 use crate::input::{Chunk, Reading};
 use crate::line::{LineFault, LineRoom, read_line};
 use crate::running::{run_line, small_device};
-use bac_text::{Checked, Page, WriteFailed};
+use bac_print::{Checked, Page, WriteFailed};
 use bac_tsm::{Client, Config};
 use bac_wire::Frame;
 use std::io::{Read, Write};

@@ -13,10 +13,10 @@ use Rattle.bac_pdu.proofs.SequenceLaws.{whole_spell}
 use Rattle.bac_pdu.proofs.ShortestLaws.{order_is_written}
 use Rattle.bac_text.specs.declared.pairs.PairFault.TheVariants.{TooLong}
 use Rattle.bac_text.specs.Pairs.{values_in, order_of, body_of}
-use Rattle.bac_text.specs.Values.{values_of}
+use Rattle.bac_wire.specs.DatumReading.{values_of}
 use Rattle.bac_text.specs.Inner.Pairs.{region_with, region_of}
 use Rattle.bac_text.specs.PairsInWords.{IsWritten}
-use Rattle.bac_text.proofs.ValueLists.{read_all}
+use Rattle.bac_wire.proofs.ValueLists.{read_all}
 use Rattle.bac_text.proofs.ValueRegions.{values_are_region}
 use Rattle.bac_text.proofs.WordRanges.{values_range, values_spelled}
 use Rattle.bac_text.proofs.WordValues.{at_most_found}

@@ -1,12 +1,9 @@
--- Octets and their digits, by lanes.
-use Rattle.std.proofs.Common.{◌≡◌, ℕ, ◌+◌, ◌*◌, ◌/◌, ◌%◌, ◌<◌, ◌≤◌, cond, List, [], ◌∷◌, map, ◌++◌, length, take, drop}
-use Rattle.std.proofs.Common.{get_or, slice_index, true, false, suc, Some, None, Ok, refl, arith, sym, ap, ◌∙◌}
+-- Digits as octets, by lanes.
+use Rattle.std.proofs.Common.{◌≡◌, ℕ, ◌+◌, ◌*◌, ◌%◌, ◌<◌, ◌≤◌, cond, List, [], ◌∷◌, map, ◌++◌, length, take, get_or}
+use Rattle.std.proofs.Common.{true, false, suc, Some, None, Ok, refl, arith, ap, ◌∙◌}
 use Rattle.std.specs.Prelude.{◌-◌, nat_lt, not, bit_and, bit_or}
-use Rattle.std.specs.List.{range_with_len}
-use Rattle.std.proofs.Math.Seq.{take-append_seam, take-add}
-use Rattle.std.proofs.lemmas.List.{take-take, take-append-drop, length-take-le}
-use Rattle.std.proofs.lemmas.Simd.{length-chunk, take_more_put_chunk, splat_is_map, zip2_splat, zip2_of_maps}
-use Rattle.std.proofs.lemmas.List.FromFn.{get_or-map-range_with_len}
+use Rattle.std.proofs.lemmas.List.{length-take-le}
+use Rattle.std.proofs.lemmas.Simd.{length-chunk, splat_is_map, zip2_splat, zip2_of_maps}
 use Rattle.std.proofs.lemmas.Nat.{and_mask}
 use Rattle.std.specs.Result.{result_ok}
 use Rattle.std.proofs.lemmas.Bool.{not-true}
@@ -14,65 +11,11 @@ use Rattle.std.proofs.lemmas.Bool.Decides.{nat_tests}
 use Rattle.std.proofs.lemmas.List.Folds.{list_all_at}
 use lib.Lanes.{chunk, put_chunk, top, zip2}
 use lib.ListN.{replicate}
-use Rattle.hex.specs.Hex.{lower_digits, encode_lower, is_hex_digit, hex_digit_value, decode_pairs, decode_of}
-use Rattle.hex.proofs.HexLemmas.{length-encode_with}
+use Rattle.hex.specs.Hex.{is_hex_digit, hex_digit_value, decode_pairs, decode_of}
 use Rattle.bac_text.specs.Inner.HexLanes.{number_by_lane, octets_by_lanes}
 use Rattle.bac_text.proofs.HexText.{same_digits, others_refused}
 use Rattle.bac_text.proofs.Lanes.{lane_is}
-use Rattle.bac_text.proofs.Printed.{encode_with-append}
-
--- Functions with the same values up to here.
-same_below : {X : Type 0} (d : X) (f g : ℕ → X) (k n : ℕ) → map f (range_with_len 0 k) ≡ map g (range_with_len 0 k)
-    → n < k → f n ≡ g n
-same_below {X} d f g k n e h =
-    sym (get_or-map-range_with_len f 0 k n n d h (omega arith)) ∙ ap (λ (xs : List X). get_or xs n d) e
-    ∙ get_or-map-range_with_len g 0 k n n d h (omega arith)
-
--- The digit of a number up to 15, as a lane has it.
-abbrev digit_lane : ℕ → ℕ
-digit_lane n = (n + cond (top 7 (cond (nat_lt 9 n) 255 0)) 87 48) % 256
-
-pub high_digit : (octet : ℕ) → octet < 256 → digit_lane (octet / 16) ≡ slice_index lower_digits (octet / 16)
-high_digit octet h = same_below 0 digit_lane (slice_index lower_digits) 16 (octet / 16) refl (omega arith)
-
-pub low_digit : (octet : ℕ) → digit_lane (bit_and octet 15) ≡ slice_index lower_digits (octet % 16)
-low_digit octet = ap digit_lane (and_mask octet 4)
-    ∙ same_below 0 digit_lane (slice_index lower_digits) 16 (octet % 16) refl (omega arith)
-
--- Of what is read piece by piece and written piece by piece, one more piece: it may begin before the place that was
--- reached.
-module _ (f : List ℕ → List ℕ) (xs ys : List ℕ) (i j n k l m : ℕ) (before : i ≤ j) (below : k ≤ l)
-    (apart : (more : List ℕ) → f (take i xs ++ more) ≡ f (take i xs) ++ f more)
-    (size : length (f (take i xs)) ≡ k) (long : length (f (chunk i n xs)) ≡ m)
-    (room : k + m ≤ length ys) (written : take l ys ≡ f (take j xs)) where
-  front : take k ys ≡ f (take i xs)
-  front =
-      let more = drop i (take j xs) in
-      let parts = sym (take-append-drop i (take j xs)) ∙ ap (λ (zs : List ℕ). zs ++ more) (take-take i j xs before) in
-      sym (take-take k l ys below) ∙ ap (take k) (written ∙ ap f parts ∙ apart more)
-      ∙ ap (λ (h : ℕ). take h (f (take i xs) ++ f more)) (sym size) ∙ take-append_seam (f (take i xs)) (f more)
-
-  one_more : take (k + m) (put_chunk k ys (f (chunk i n xs))) ≡ f (take (i + n) xs)
-  one_more =
-      take_more_put_chunk k ys (f (chunk i n xs)) (k + m) (ap (λ (h : ℕ). k + h) (sym long)) room
-      ∙ ap (λ (zs : List ℕ). zs ++ f (chunk i n xs)) front
-      ∙ sym (apart (chunk i n xs)) ∙ ap f (sym (take-add i n xs))
-
--- The digits of eight more octets were written.
-pub written_on : (octets digits : List ℕ) (at start : ℕ) → at ≤ start → start ≤ length octets → at + 8 ≤ length octets
-    → length digits ≡ 2 * length octets →
-    take (2 * start) digits ≡ encode_lower (take start octets) →
-    take (2 * (at + 8)) (put_chunk (2 * at) digits (encode_lower (chunk at 8 octets)))
-    ≡ encode_lower (take (at + 8) octets)
-written_on octets digits at start before within room size written =
-    let twice = λ (xs : List ℕ). length-encode_with lower_digits xs in
-    let place : 2 * (at + 8) ≡ 2 * at + 16 = omega arith in
-    rw place (one_more encode_lower octets digits at start 8 (2 * at) (2 * start) 16 before (omega arith)
-    (encode_with-append lower_digits (take at octets))
-    (omega (arith, twice (take at octets), length-take-le at octets (omega arith)))
-    (omega (arith, twice (chunk at 8 octets), length-chunk at 8 octets room)) (omega arith) written)
-
--- ---- digits, as lanes read them
+use Rattle.bac_wire.proofs.Pieces.{same_below, one_more}
 
 number_is : (digit : ℕ)
     → (bit_and digit 15 + cond (top 7 (cond (nat_lt 63 digit) 255 0)) 9 0) % 256 ≡ number_by_lane digit

@@ -1,5 +1,5 @@
 -- Numbers that are read digit by digit.
-use Rattle.std.proofs.Common.{decimal, lit<, ◌≡◌, ℕ, ◌+◌, ◌-◌, ◌*◌, ◌^◌, ◌<◌, ◌≤◌, true, false, List, [], ◌∷◌, length}
+use Rattle.std.proofs.Common.{◌≡◌, ℕ, ◌+◌, ◌-◌, ◌*◌, ◌^◌, ◌<◌, ◌≤◌, true, false, List, [], ◌∷◌, length}
 use Rattle.std.proofs.Common.{take, get_or, Some, None, refl, ◌∙◌, ap, arith}
 use Rattle.std.specs.Prelude.{◌&&◌}
 use Rattle.std.specs.List.{list_all}
@@ -11,7 +11,6 @@ use Rattle.std.proofs.lemmas.List.Folds.{list_all_at, list_all_more}
 use Rattle.std.proofs.lemmas.Bool.Decides.{nat_tests}
 use Rattle.std.proofs.lemmas.Int.Digits.{digits_value_more}
 use Rattle.std.proofs.lemmas.Str.Parse.{digits_value-take-le}
-use Rattle.std.proofs.lemmas.Fmt.{length-decimal-le}
 use Rattle.bac_text.specs.Words.{number_up_to}
 
 all_tested : (word : List ℕ) → all_ascii_digits word ≡ list_all is_ascii_digit word
@@ -56,16 +55,6 @@ pub number_up_to-whole : (word : List ℕ) (i number : ℕ) → length word ≤ 
     → all_ascii_digits (take i word) ≡ true
     → number ≡ digits_value 10 (take i word) → number < 2 ^ 64 → number_up_to (2 ^ 64 - 1) word ≡ Some number
 number_up_to-whole word i number h some all e fits = let whole = take_all i word h in grind (arith, nat_tests)
-
--- How many digits a number of one, two or eight octets has.
-pub one_octet : (n : ℕ) → n < 256 → length (decimal n) ≤ 3
-one_octet n small = let fits : n < 2 ^ 64 = omega arith in length-decimal-le 3 n (lit< tt) (omega arith) fits
-
-pub two_octets : (n : ℕ) → n < 65536 → length (decimal n) ≤ 5
-two_octets n small = let fits : n < 2 ^ 64 = omega arith in length-decimal-le 5 n (lit< tt) (omega arith) fits
-
-pub eight_octets : (n : ℕ) → n < 2 ^ 64 → length (decimal n) ≤ 20
-eight_octets n fits = length-decimal-le 20 n (lit< tt) (omega arith) fits
 
 pub ruleset plain_numbers =
     (digits_next, value_next, not_number, others_are, number_up_to-too_big, number_up_to-whole, nat_tests)

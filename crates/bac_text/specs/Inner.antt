@@ -1,11 +1,9 @@
 -- What only private clauses say. No promise of this crate rests on it.
-pub mod Checked
 pub mod Words
 pub mod Search
 pub mod Leading
 pub mod HexLanes
 pub mod Address
-pub mod Values
 pub mod ValueWords
 pub mod Pairs
 pub mod Examples

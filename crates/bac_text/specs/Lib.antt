@@ -1,12 +1,7 @@
 pub mod Limits
-pub mod StreamCall
-pub mod Checked
-pub mod Page
 pub mod Words
 pub mod Search
 pub mod Address
-pub mod PeerTexts
-pub mod Values
 pub mod ValueWords
 pub mod Parameters
 pub mod Pairs

@@ -8,7 +8,7 @@ use Rattle.bac_wire.specs.Steps.{result_seen}
 use Rattle.bac_pdu.specs.Property.{Order, write_octets}
 use Rattle.bac_text.specs.declared.pairs.PairFault.{PairFault}
 use Rattle.bac_text.specs.declared.pairs.PairFault.TheVariants.{Bad, TooLong}
-use Rattle.bac_text.specs.Limits.{longest_body}
+use Rattle.bac_pdu.specs.Apdu.{longest_body}
 use Rattle.bac_text.specs.ValueWords.{value_in}
 
 -- The value of a pair and those of the pairs behind it, or the number of the first pair that has none.

@@ -3,17 +3,14 @@ ghost use Rattle.std.specs.Prelude.{◌≡◌, ◌≤◌, length, IfSome, IfOk};
 ghost use Rattle.bac_wire.specs.Identifier.{identifier};
 ghost use Rattle.bac_wire.specs.Steps.{result_seen};
 ghost use Rattle.bac_pdu.specs.Property.{IsPriority, reference, read_octets};
-ghost use Rattle.bac_text.specs.Limits.{longest_body};
+ghost use Rattle.bac_pdu.specs.Apdu.{longest_body};
 ghost use Rattle.bac_text.specs.Pairs.{body_of, words_behind};
 
 use crate::pairs::{PairFault, read_pairs};
 use crate::words::WordSource;
 use arrayvec::ArrayVec;
-use bac_pdu::{ReadRequest, WriteRequest, write_read, write_write};
+use bac_pdu::{LONGEST_BODY, ReadRequest, WriteRequest, write_read, write_write};
 use bac_wire::{Frame, ObjectId};
-
-/// The octets of the longest service body that a client sends.
-pub const LONGEST_BODY: usize = 476;
 
 /// Room for one service body, which may be used again for the next.
 #[derive(Drop)]

@@ -1,43 +1,29 @@
-//! Examples of words and texts, worked out by computation. They show what the definitions mean.
+//! Examples of words, worked out by computation. They show what the definitions mean.
 
 ghost use Rattle.std.specs.Prelude.{◌≡◌, [], ◌∷◌, codes, replicate, Some, None, Ok, Err};
 ghost use Rattle.bac_text.specs.declared.pairs.PairFault.TheVariants.{Bad, TooLong};
 ghost use Rattle.bac_text.specs.Address.{peer_of};
 ghost use Rattle.bac_text.specs.Inner.Examples.{IsWritten, device, far_device, body_with_words};
-ghost use Rattle.bac_text.specs.PeerTexts.{peer_text};
-ghost use Rattle.bac_text.specs.Values.{region_text};
 ghost use Rattle.bac_text.specs.Words.{words_of};
 
-/// A value of each kind: the number of its tag and a word, the octets that they write (ANSI/ASHRAE 135, 20.2), and the
-/// text of these octets.
+/// A value of each kind: the number of its tag and a word, and the octets that they write (ANSI/ASHRAE 135, 20.2).
 #[tactic(none)]
 fn examples_of_values()
-    ensures null { IsWritten "0" "any" (0x00 ∷ []) "null" }
-    ensures boolean { IsWritten "1" "false" (0x10 ∷ []) "false" }
-    ensures unsigned { IsWritten "2" "72" (0x21 ∷ 0x48 ∷ []) "72" }
-    ensures two_octets { IsWritten "2" "256" (0x22 ∷ 0x01 ∷ 0x00 ∷ []) "256" }
-    ensures signed { IsWritten "3" "-5" (0x31 ∷ 0xfb ∷ []) "-5" }
-    ensures below_one_octet { IsWritten "3" "-129" (0x32 ∷ 0xff ∷ 0x7f ∷ []) "-129" }
-    ensures real { IsWritten "4" "4290999A" (0x44 ∷ 0x42 ∷ 0x90 ∷ 0x99 ∷ 0x9a ∷ []) "4290999a" }
-    ensures double { IsWritten "5" "4052000000000000" (0x55 ∷ 0x08 ∷ 0x40 ∷ 0x52 ∷ replicate 6 0) "4052000000000000" }
-    ensures octet_string { IsWritten "6" "1234ff" (0x63 ∷ 0x12 ∷ 0x34 ∷ 0xff ∷ []) "X'1234ff'" }
-    ensures character_string { IsWritten "7" "?" (0x72 ∷ 0x00 ∷ 0x3f ∷ []) "\"?\"" }
-    ensures bit_string { IsWritten "8" "10101" (0x82 ∷ 0x03 ∷ 0xa8 ∷ []) "B'10101'" }
-    ensures enumerated { IsWritten "9" "3" (0x91 ∷ 0x03 ∷ []) "3" }
-    ensures date { IsWritten "10" "5b011804" (0xa4 ∷ 0x5b ∷ 0x01 ∷ 0x18 ∷ 0x04 ∷ []) "D'5b011804'" }
-    ensures time { IsWritten "11" "11232d11" (0xb4 ∷ 0x11 ∷ 0x23 ∷ 0x2d ∷ 0x11 ∷ []) "T'11232d11'" }
-    ensures object { IsWritten "12" "3:15" (0xc4 ∷ 0x00 ∷ 0xc0 ∷ 0x00 ∷ 0x0f ∷ []) "3:15" }
-{}
-
-/// What is printed of a region of no value, of several, of what is no value, and of texts that can't stand as they are.
-#[tactic(none)]
-fn examples_of_regions()
-    ensures empty { region_text [] ≡ codes "{}" }
-    ensures several { region_text (0x21 ∷ 0x05 ∷ 0x21 ∷ 0x06 ∷ []) ≡ codes "{5,6}" }
-    ensures longer_than_needed { region_text (0x22 ∷ 0x00 ∷ 0x05 ∷ []) ≡ codes "5" }
-    ensures no_value { region_text (0x0e ∷ 0x21 ∷ 0x05 ∷ 0x0f ∷ []) ≡ codes "hex 0e21050f" }
-    ensures escaped { region_text (0x74 ∷ 0x00 ∷ 0x61 ∷ 0x22 ∷ 0x5c ∷ []) ≡ codes "\"a\\\"\\\\\"" }
-    ensures other_set { region_text (0x72 ∷ 0x05 ∷ 0xff ∷ []) ≡ codes "5:\"\\xff\"" }
+    ensures null { IsWritten "0" "any" (0x00 ∷ []) }
+    ensures boolean { IsWritten "1" "false" (0x10 ∷ []) }
+    ensures unsigned { IsWritten "2" "72" (0x21 ∷ 0x48 ∷ []) }
+    ensures two_octets { IsWritten "2" "256" (0x22 ∷ 0x01 ∷ 0x00 ∷ []) }
+    ensures signed { IsWritten "3" "-5" (0x31 ∷ 0xfb ∷ []) }
+    ensures below_one_octet { IsWritten "3" "-129" (0x32 ∷ 0xff ∷ 0x7f ∷ []) }
+    ensures real { IsWritten "4" "4290999A" (0x44 ∷ 0x42 ∷ 0x90 ∷ 0x99 ∷ 0x9a ∷ []) }
+    ensures double { IsWritten "5" "4052000000000000" (0x55 ∷ 0x08 ∷ 0x40 ∷ 0x52 ∷ replicate 6 0) }
+    ensures octet_string { IsWritten "6" "1234ff" (0x63 ∷ 0x12 ∷ 0x34 ∷ 0xff ∷ []) }
+    ensures character_string { IsWritten "7" "?" (0x72 ∷ 0x00 ∷ 0x3f ∷ []) }
+    ensures bit_string { IsWritten "8" "10101" (0x82 ∷ 0x03 ∷ 0xa8 ∷ []) }
+    ensures enumerated { IsWritten "9" "3" (0x91 ∷ 0x03 ∷ []) }
+    ensures date { IsWritten "10" "5b011804" (0xa4 ∷ 0x5b ∷ 0x01 ∷ 0x18 ∷ 0x04 ∷ []) }
+    ensures time { IsWritten "11" "11232d11" (0xb4 ∷ 0x11 ∷ 0x23 ∷ 0x2d ∷ 0x11 ∷ []) }
+    ensures object { IsWritten "12" "3:15" (0xc4 ∷ 0x00 ∷ 0xc0 ∷ 0x00 ∷ 0x0f ∷ []) }
 {}
 
 /// What the words of a line write.
@@ -45,11 +31,9 @@ fn examples_of_regions()
 fn examples_of_words()
     ensures words { words_of (codes " tick\t 5 ") ≡ codes "tick" ∷ codes "5" ∷ [] }
 
-    // The usual port may be left out, and is printed.
+    // The usual port may be left out.
     ensures peer { peer_of (codes "127.0.0.1") ≡ Some device }
-    ensures printed { peer_text device ≡ codes "127.0.0.1:47808" }
     ensures routed { peer_of (codes "127.0.0.1/5/07") ≡ Some far_device }
-    ensures routed_printed { peer_text far_device ≡ codes "127.0.0.1:47808/5/07" }
     ensures three_numbers { peer_of (codes "1.2.3") ≡ None }
 
     // A WriteProperty body: the object, the property, the value between its tags, the priority (clause 15.9).

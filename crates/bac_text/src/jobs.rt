@@ -1,7 +1,22 @@
-//! What the words of a client's tool ask for.
-use crate::bodies::LONGEST_BODY;
+//! What the words of a command line ask for.
 use arrayvec::ArrayVec;
-use bac_pdu::{Peer, WhoIs};
+use bac_device::DeviceInfo;
+use bac_pdu::{LONGEST_BODY, Peer, WhoIs};
+
+/// What the program is to do.
+#[derive(Drop)]
+pub enum Job {
+    /// Reads a property: `bacrp`.
+    Read(Call),
+    /// Writes a property: `bacwp`.
+    Write(Call),
+    /// Looks for devices: `bacwi`.
+    WhoIs(Search),
+    /// Is a device: `bacdev`.
+    Device(Serve),
+    /// Runs a script: `bactrace`.
+    Trace,
+}
 
 /// One request to a device.
 #[derive(Drop)]
@@ -29,4 +44,15 @@ pub struct Search {
     pub port: u16,
     /// Which devices are asked.
     pub who: WhoIs,
+}
+
+/// A device to be run.
+#[derive(Drop)]
+pub struct Serve {
+    /// Its instance and its name.
+    pub info: DeviceInfo,
+    /// The port that it listens at; 0 is any.
+    pub port: u16,
+    /// The datagrams after which it ends, at least 1.
+    pub count: u32,
 }

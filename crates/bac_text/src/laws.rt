@@ -1,24 +1,13 @@
 //! What holds of the definitions that the contracts cite. Each function has an empty body, and its clauses are
 //! the laws.
-ghost use Rattle.std.specs.Prelude.{◌≡◌, ◌↔◌, ◌<◌, ◌^◌, ℕ, List, Option, Some, Ok, IfSome};
+ghost use Rattle.std.specs.Prelude.{◌≡◌, ◌<◌, ◌^◌, ℕ, List, Option, Ok, IfSome};
 ghost use Rattle.bac_wire.specs.Copies.{MakesCopies, EqualsBy};
-ghost use Rattle.bac_wire.specs.Datum.{Datum, Spells};
-ghost use Rattle.bac_wire.specs.Front.{SpellsAll};
 ghost use Rattle.bac_wire.specs.Identifier.{Identifier, IsIdentifier};
 ghost use Rattle.bac_pdu.specs.Property.{IsPriority};
 ghost use Rattle.bac_text.specs.Pairs.{body_of};
 ghost use Rattle.bac_text.specs.PairsInWords.{IsWritten};
-ghost use Rattle.bac_text.specs.Values.{values_of};
 
-use crate::checked::WriteFailed;
 use crate::pairs::PairFault;
-
-/// A region is read as the values whose spellings it is, one after another and nothing else (clause 20.2.1).
-#[tactic(auto, using(crate::proofs::ValueLists::are_spelled))]
-pub fn values_in_words()
-    ensures { (region : List ℕ) (values : List Datum) →
-        (values_of region ≡ Some values) ↔ SpellsAll Spells region values }
-{}
 
 /// The body of a WriteProperty request gives the property the values that the words write, spelled one after another,
 /// and is read as these values.
@@ -32,11 +21,9 @@ pub fn bodies_in_words()
 /// A clone is what it was cloned from, and takes no memory.
 pub fn clones()
     ensures pair { MakesCopies ⟦<PairFault as Clone>⟧.is_clone ⟦<PairFault as Clone>⟧.is_infallible }
-    ensures write { MakesCopies ⟦<WriteFailed as Clone>⟧.is_clone ⟦<WriteFailed as Clone>⟧.is_infallible }
 {}
 
-/// What `==` compares: which fault of a pair it is; faults of writing are all the same.
+/// What `==` compares: which fault of a pair it is.
 pub fn equals()
     ensures pair { EqualsBy (λ pair. pair) ⟦<PairFault as PartialEq>⟧.eq }
-    ensures write { EqualsBy (λ write. write) ⟦<WriteFailed as PartialEq>⟧.eq }
 {}

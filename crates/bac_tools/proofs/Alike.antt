@@ -8,8 +8,8 @@ use Rattle.clap.specs.Values.{kind_of}
 use Rattle.clap.specs.Words.{Text, fault_of}
 use Rattle.bac_device.specs.Demo.{demo_points}
 use Rattle.bac_device.specs.Device.{device_after}
-use Rattle.bac_text.specs.Checked.{fresh, octets_of}
-use Rattle.bac_text.specs.declared.checked.Checked.{Checked}
+use Rattle.bac_print.specs.Checked.{fresh, octets_of}
+use Rattle.bac_print.specs.declared.checked.Checked.{Checked}
 use Rattle.bac_text.specs.declared.jobs.Call.{Call}
 use Rattle.bac_links.proofs.Alike.{calls_so_far}
 use Rattle.bac_links.proofs.SearchesAlike.{searches_so_far}
@@ -35,8 +35,8 @@ use Rattle.bac_words.specs.Line.{Answers, IsRefusal}
 use Rattle.bac_words.specs.Marks.{marked_words}
 use Rattle.bac_words.specs.declared.faults.UsageFault.{UsageFault}
 use Rattle.bac_words.specs.declared.faults.UsageFault.TheVariants.{Help, Memory, Words}
-use Rattle.bac_words.specs.declared.jobs.Job.{Job}
-use Rattle.bac_words.specs.declared.jobs.Job.TheVariants.{Read, Write, WhoIs, Device, Trace}
+use Rattle.bac_text.specs.declared.jobs.Job.{Job}
+use Rattle.bac_text.specs.declared.jobs.Job.TheVariants.{Read, Write, WhoIs, Device, Trace}
 use Rattle.bac_tools.specs.Alike.{AreAlike, AreGivenAlike, EndAlike, Gained, IsCutOff, IsPrinted, PrintAlike, Run}
 use Rattle.bac_tools.specs.Alike.{is_socket}
 use Rattle.bac_tools.specs.Binding.{binding_of}

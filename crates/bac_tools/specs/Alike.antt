@@ -3,8 +3,8 @@ use Rattle.std.specs.Prelude.{◌≡◌, ◌⊎◌, ◌++◌, ℕ, ⊤, Bool, Is
 use Rattle.std.specs.Prelude.{Result, Ok, IsErrAnd}
 use Rattle.std.specs.Result.{result_ok}
 use Rattle.clap.specs.Words.{Text}
-use Rattle.bac_text.specs.Checked.{ends_of, fresh, octets_of}
-use Rattle.bac_text.specs.declared.checked.Checked.{Checked}
+use Rattle.bac_print.specs.Checked.{ends_of, fresh, octets_of}
+use Rattle.bac_print.specs.declared.checked.Checked.{Checked}
 use Rattle.bac_links.specs.Answered.{answers_of, GoOnAlike}
 use Rattle.bac_links.specs.History.{Account, Entry}
 use Rattle.bac_links.specs.declared.fault.ToolFault.TheVariants as tools

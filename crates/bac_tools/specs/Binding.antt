@@ -2,8 +2,8 @@
 use Rattle.std.specs.Prelude.{◌≡◌, ℕ, Bool, false, Option, Some, None, Result, IfOk, IsSomeAnd, ⊤}
 use Rattle.bac_links.specs.declared.link.LinkFault.{LinkFault}
 use Rattle.bac_links.specs.declared.udp.Refused.TheVariants.{Fails, IsLost}
-use Rattle.bac_words.specs.declared.jobs.Job.{Job}
-use Rattle.bac_words.specs.declared.jobs.Job.TheVariants.{Read, Write, WhoIs, Device, Trace}
+use Rattle.bac_text.specs.declared.jobs.Job.{Job}
+use Rattle.bac_text.specs.declared.jobs.Job.TheVariants.{Read, Write, WhoIs, Device, Trace}
 use Rattle.bac_tools.specs.declared.binding.Binding.{Binding}
 
 -- A client's socket: it has every address of the machine, and a send that the system refuses fails.

@@ -10,13 +10,13 @@ use Rattle.std.specs.declared.io.ErrorKind.{ErrorKind}
 use Rattle.std.specs.declared.string.String.{String}
 use Rattle.std.specs.declared.vec.IntoIter.{IntoIter}
 use Rattle.clap.specs.Words.{Text}
-use Rattle.bac_text.specs.declared.checked.Checked.{Checked}
+use Rattle.bac_print.specs.declared.checked.Checked.{Checked}
 use Rattle.bac_links.specs.declared.link.LinkFault.{LinkFault}
 use Rattle.bac_words.specs.Called.{words_called}
 use Rattle.bac_words.specs.Line.{Answers, IsRefusal}
 use Rattle.bac_words.specs.declared.faults.UsageFault.{UsageFault}
 use Rattle.bac_words.specs.declared.faults.UsageFault.TheVariants.{Memory}
-use Rattle.bac_words.specs.declared.jobs.Job.{Job}
+use Rattle.bac_text.specs.declared.jobs.Job.{Job}
 use Rattle.bac_tools.specs.Binding.{binding_of}
 use Rattle.bac_tools.specs.Outside.{Outside}
 use Rattle.bac_tools.specs.Report.{report_of, unread_report}

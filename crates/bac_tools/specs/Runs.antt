@@ -3,8 +3,8 @@ use Rattle.std.specs.Prelude.{◌≡◌, ◌↔◌, ◌⊎◌, ℕ, true, [], Li
 use Rattle.std.specs.Result.{result_map_both}
 use Rattle.bac_device.specs.Demo.{demo_points}
 use Rattle.bac_device.specs.Device.{DeviceState, device_after}
-use Rattle.bac_text.specs.Checked.{has_failed}
-use Rattle.bac_text.specs.declared.checked.Checked.{Checked}
+use Rattle.bac_print.specs.Checked.{has_failed}
+use Rattle.bac_print.specs.declared.checked.Checked.{Checked}
 use Rattle.bac_links.specs.History.{Account}
 use Rattle.bac_links.specs.Call.{Tells}
 use Rattle.bac_links.specs.Search.{Searched}
@@ -20,9 +20,9 @@ use Rattle.bac_script.specs.Tracing.{Traces}
 use Rattle.bac_script.specs.declared.tracing.TraceEnd.{TraceEnd}
 use Rattle.bac_script.specs.declared.tracing.TraceFault.{TraceFault}
 use Rattle.bac_script.specs.declared.tracing.TraceFault.TheVariants as stops
-use Rattle.bac_words.specs.declared.jobs.Job.{Job}
-use Rattle.bac_words.specs.declared.jobs.Job.TheVariants.{Read, Write, WhoIs, Device, Trace}
-use Rattle.bac_words.specs.declared.jobs.Serve.{Serve}
+use Rattle.bac_text.specs.declared.jobs.Job.{Job}
+use Rattle.bac_text.specs.declared.jobs.Job.TheVariants.{Read, Write, WhoIs, Device, Trace}
+use Rattle.bac_text.specs.declared.jobs.Serve.{Serve}
 use Rattle.bac_tools.specs.Outside.{Outside}
 use Rattle.bac_tools.specs.Report.{report_of, tool_report, trace_report}
 use Rattle.bac_tools.specs.declared.report.Fault.TheVariants as faults

@@ -1,6 +1,6 @@
 //! A job, run over its link, reader and writer.
 ghost use Rattle.std.specs.Prelude.{◌≡◌, ◌≢◌, false};
-ghost use Rattle.bac_text.specs.Checked.{has_failed};
+ghost use Rattle.bac_print.specs.Checked.{has_failed};
 ghost use Rattle.bac_links.specs.Fault.{is_link_fault, is_write_fault};
 ghost use Rattle.bac_words.specs.Job.{IsReady};
 ghost use Rattle.bac_tools.specs.Binding.{binding_of, IsOpened};
@@ -11,7 +11,7 @@ use crate::report::Report;
 use bac_device::demo;
 use bac_links::{Exit, Link, LinkFault, ToolFault, run_read, run_whois, run_write, serve};
 use bac_script::trace;
-use bac_text::Checked;
+use bac_print::Checked;
 use bac_words::{Job, Serve};
 use std::io::{Read, Write};
 

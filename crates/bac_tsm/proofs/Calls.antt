@@ -9,7 +9,8 @@ use Rattle.std.proofs.lemmas.Bool.Decides.{nat_tests}
 use Rattle.bac_pdu.specs.Peer.{Station}
 use Rattle.bac_tsm.specs.declared.due.Entry.{Entry}
 use Rattle.bac_tsm.specs.declared.client.SubmitFault.{SubmitFault}
-use Rattle.bac_tsm.specs.Limits.{longest_body, table_size}
+use Rattle.bac_pdu.specs.Apdu.{longest_body}
+use Rattle.bac_tsm.specs.Limits.{table_size}
 use Rattle.bac_tsm.specs.Events.{Outcome, Request, Rules, request_of}
 use Rattle.bac_tsm.specs.Lookahead.{next_invoke_id, refusal_of}
 use Rattle.bac_tsm.specs.Answers.{outcome_of}

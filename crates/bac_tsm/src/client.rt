@@ -2,7 +2,8 @@
 
 ghost use Rattle.std.specs.Prelude.{◌≡◌, ◌<◌, ◌≤◌, IfNone, length};
 ghost use Rattle.std.specs.Option.{option_map, option_copied};
-ghost use Rattle.bac_tsm.specs.Limits.{longest_body, table_size};
+ghost use Rattle.bac_pdu.specs.Apdu.{longest_body};
+ghost use Rattle.bac_tsm.specs.Limits.{table_size};
 ghost use Rattle.bac_tsm.specs.Lookahead.{refusal_of};
 ghost use Rattle.bac_tsm.specs.Machine.{submit, datagram, tick, to_send, open_under, initial};
 ghost use Rattle.bac_pdu.specs.Peer.{station};
@@ -11,11 +12,11 @@ ghost use Rattle.bac_tsm.specs.Client.{client_of, rules_of, keeping, end_seen};
 use crate::answer::read_answer;
 use crate::config::Config;
 use crate::due::{Due, Entries};
-use crate::limits::{LONGEST_BODY, PLACES};
+use crate::limits::PLACES;
 use crate::outcome::Ended;
 use crate::request::{Asked, OpenRequest};
 use crate::table::Table;
-use bac_pdu::Peer;
+use bac_pdu::{LONGEST_BODY, Peer};
 use std::marker::Model;
 
 /// Why a request was not accepted.

@@ -4,19 +4,18 @@
 ghost use Rattle.std.specs.Prelude.{◌≡◌};
 ghost use Rattle.bac_wire.specs.Copies.{MakesCopies, EqualsBy};
 ghost use Rattle.bac_tsm.specs.Client.{outcome_seen, end_seen};
-ghost use Rattle.bac_tsm.specs.Limits.{longest_body, table_size};
+ghost use Rattle.bac_tsm.specs.Limits.{table_size};
 
 use crate::client::SubmitFault;
 use crate::config::Config;
 use crate::due::Entry;
 use crate::event::{Event, Note};
-use crate::limits::{LONGEST_BODY, PLACES};
+use crate::limits::PLACES;
 use crate::outcome::{Ended, Outcome};
 
-/// The limits that the code names are those of the definitions.
+/// The limit that the code names is that of the definitions.
 pub fn constants_are_limits()
     ensures places { PLACES ≡ table_size }
-    ensures body { LONGEST_BODY ≡ longest_body }
 {}
 
 /// A clone is what it was cloned from, and takes no memory.

@@ -49,12 +49,13 @@ mod running;
 mod table;
 mod theorems;
 
+pub use bac_pdu::LONGEST_BODY;
 pub use client::{Client, SubmitFault};
 pub use comparing::{clones, constants_are_limits, equals};
 pub use config::Config;
 pub use due::{Due, Entry};
 pub use event::{Event, Note};
-pub use limits::{LONGEST_BODY, PLACES};
+pub use limits::PLACES;
 pub use outcome::{Ended, Outcome};
 pub use running::{Watcher, run};
 pub use theorems::{

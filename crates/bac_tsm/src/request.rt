@@ -1,7 +1,7 @@
 //! An open request.
 
 ghost use Rattle.std.specs.Prelude.{◌≡◌, ◌<◌, ◌≤◌, suc, length, nat_eq, true};
-ghost use Rattle.bac_tsm.specs.Limits.{longest_body};
+ghost use Rattle.bac_pdu.specs.Apdu.{longest_body};
 ghost use Rattle.bac_tsm.specs.Machine.{is_due, due_entry};
 ghost use Rattle.bac_pdu.specs.Peer.{station};
 ghost use Rattle.std.specs.Option.{option_map_or};

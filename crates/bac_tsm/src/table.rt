@@ -4,7 +4,8 @@ ghost use Rattle.std.specs.Prelude.{◌≡◌, Some, None, replicate, ◌<◌, �
 ghost use Rattle.std.specs.Prelude.{nat_eq, position, get_or, slice_get, remove, set};
 ghost use Rattle.std.specs.List.{All, AllPairs, filter, find, flat_map, list_any};
 ghost use Rattle.std.specs.Option.{option_copied, option_to_list};
-ghost use Rattle.bac_tsm.specs.Limits.{longest_body, table_size};
+ghost use Rattle.bac_pdu.specs.Apdu.{longest_body};
+ghost use Rattle.bac_tsm.specs.Limits.{table_size};
 ghost use Rattle.bac_tsm.specs.Lookahead.{next_invoke_id};
 ghost use Rattle.std.specs.List.Sorted.{IsPermutation, IsNonDecreasingBy};
 ghost use Rattle.bac_tsm.specs.Machine.{is_due, due_answer, kept};

@@ -2,13 +2,14 @@
 
 ghost use Rattle.std.specs.Prelude.{◌≡◌, ◌<◌, false, Option, Ok};
 ghost use Rattle.bac_tsm.specs.Events.{Outcome};
-ghost use Rattle.bac_text.specs.Checked.{has_failed, Took};
+ghost use Rattle.bac_print.specs.Checked.{has_failed, Took};
 ghost use Rattle.bac_links.specs.Ending.{ending_line, exit_of, status_of};
 ghost use Rattle.bac_links.specs.declared.ending.Purpose.TheVariants.{Reading};
 
 use bac_links::{UdpLink, run_read, status};
 use bac_pdu::Peer;
-use bac_text::{Call, Checked};
+use bac_print::Checked;
+use bac_text::Call;
 use std::alloc::Global;
 use std::io::Write;
 use std::net::Net;

@@ -64,6 +64,14 @@ pub unless : {A : Type 0} (b : Bool) {x : Option A} {y : A} → cond b None x �
 unless true e = absurd cc
 unless false e = (refl, e)
 
+pub begins : {A : Type 0} (Spells : List ℕ → A → Type 0) (at : List ℕ → Option (A × List ℕ)) → IsReader Spells at
+    → (octets : List ℕ) (x : A) (rest : List ℕ) → at octets ≡ found_at x rest → Begins Spells octets x rest
+begins Spells at reader octets x rest e = reader.takes octets x rest e
+
+pub begins_read : {A : Type 0} (Spells : List ℕ → A → Type 0) (at : List ℕ → Option (A × List ℕ)) → IsReader Spells at
+    → (octets : List ℕ) (x : A) (rest : List ℕ) → Begins Spells octets x rest → at octets ≡ found_at x rest
+begins_read Spells at reader octets x rest b = ap at b.whole ∙ reader.again b.front x rest b.spelled
+
 -- no spelling begins another
 pub one_front : {A : Type 0} (Spells : List ℕ → A → Type 0) (at : List ℕ → Option (A × List ℕ)) → IsReader Spells at
     → (a b u v : List ℕ) (x y : A) → Spells a x → Spells b y → a ++ u ≡ b ++ v → (a ≡ b) × (x ≡ y)

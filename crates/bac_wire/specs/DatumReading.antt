@@ -1,6 +1,6 @@
 -- Reading a value from left to right: by its tag, and then by the table of the kinds. `Spells` says what that means.
-use Rattle.std.specs.Prelude.{ℕ, nat_lt, ◌==◌, true, false, if◌then◌else◌, List, [], ◌∷◌, length, take, drop, Option}
-use Rattle.std.specs.Prelude.{Some, None}
+use Rattle.std.specs.Prelude.{ℕ, zero, suc, nat_lt, ◌==◌, true, false, if◌then◌else◌, List, [], ◌∷◌, length, take, drop}
+use Rattle.std.specs.Prelude.{Option, Some, None}
 use Rattle.std.specs.Option.{option_map}
 use Rattle.byteorder.specs.Endian.{big_number, twos_complement}
 use Rattle.bac_wire.specs.declared.tag.Shape.{Shape}
@@ -70,3 +70,16 @@ with_shape tag _ rest = None
 -- The value at the front, and the octets behind it.
 unfoldable pub value_at : List ℕ → Option (Datum × List ℕ)
 value_at spelling = tag_at spelling >>= (λ tag. with_shape tag.0 tag.0.shape tag.1)
+
+-- The values that the octets are, one after another, where these are at most so many.
+unfoldable pub values_within : ℕ → List ℕ → Option (List Datum)
+values_within count [] = Some []
+values_within zero (octet ∷ octets) = None
+values_within (suc count) (octet ∷ octets) = do
+  first ← value_at (octet ∷ octets)
+  others ← values_within count first.1
+  Some (first.0 ∷ others)
+
+-- The values that a region is, if it is nothing else. No value has less than one octet.
+abbrev pub values_of : List ℕ → Option (List Datum)
+values_of region = values_within (length region) region

@@ -4,12 +4,12 @@
 ghost use Rattle.bac_wire.specs.declared.tag.Tag.{Tag};
 ghost use Rattle.std.specs.Prelude.{◌≡◌, ℕ, ◌+◌, ◌^◌, ◌<◌, ◌≤◌, ◌↔◌, List, [], ◌++◌, length, Some};
 ghost use Rattle.bac_wire.specs.Limits.{frame_room, deepest};
-ghost use Rattle.bac_wire.specs.Front.{IsPrefixFree, IsReadBack, IsReader, IsShortest};
+ghost use Rattle.bac_wire.specs.Front.{IsPrefixFree, IsReadBack, IsReader, IsShortest, SpellsAll};
 ghost use Rattle.bac_wire.specs.Tag.{SpellsTag, IsTag, plain_tag};
 ghost use Rattle.bac_wire.specs.TagReading.{tag_at};
 ghost use Rattle.bac_wire.specs.Identifier.{Identifier, IsIdentifier, identifier};
 ghost use Rattle.bac_wire.specs.Datum.{Datum, IsDatum, IsSound, Spells, datum, plain, enumerated, object};
-ghost use Rattle.bac_wire.specs.DatumReading.{value_at};
+ghost use Rattle.bac_wire.specs.DatumReading.{value_at, values_of};
 ghost use Rattle.bac_wire.specs.Region.{IsItem, IsRegion, IsClosedRegion, LeavesRest, Opens, SpellsClosed, closing_tag};
 ghost use Rattle.bac_wire.specs.ItemReading.{behind_items, region_at};
 ghost use Rattle.bac_wire.specs.Parameter.{SpellsContext, SpellsIn, SpellsEnclosed, number_octets, object_octets};
@@ -40,6 +40,13 @@ pub fn values()
     ensures read_back { (value : Datum) → IsDatum value → IsReadBack Spells (plain value) value }
     ensures reading { IsReader Spells value_at }
     ensures sound { (octets : List ℕ) (value : Datum) → Spells octets value → IsSound value }
+{}
+
+/// A region is read as the values whose spellings it is, one after another and nothing else (clause 20.2.1).
+#[tactic(auto, using(crate::proofs::ValueLists::are_spelled))]
+pub fn values_in_words()
+    ensures { (region : List ℕ) (values : List Datum) →
+        (values_of region ≡ Some values) ↔ SpellsAll Spells region values }
 {}
 
 /// Items: none begins another, whatever depth is allowed to either, and none begins with a closing tag. In a region no

@@ -3,7 +3,7 @@ use Rattle.std.proofs.Common.{◌≡◌, ◌∙◌, sym, List, Result}
 use Rattle.std.proofs.lemmas.Option.{same_Some}
 use Rattle.clap.specs.Words.{Text}
 use Rattle.bac_words.specs.declared.faults.UsageFault.{UsageFault}
-use Rattle.bac_words.specs.declared.jobs.Job.{Job}
+use Rattle.bac_text.specs.declared.jobs.Job.{Job}
 use Rattle.bac_words.specs.Line.{Answers}
 
 pub one_answer : (words : List Text) (a b : Result Job UsageFault) → Answers words a → Answers words b → a ≡ b

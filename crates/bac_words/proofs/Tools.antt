@@ -21,7 +21,7 @@ use Rattle.bac_words.specs.Inner.Job.{IsTool}
 use Rattle.bac_words.specs.Line.{IsRefusal}
 use Rattle.bac_words.specs.Marks.{marked_words}
 use Rattle.clap_laws.specs.Entering.{asks_for_help}
-use Rattle.bac_words.specs.declared.jobs.Job.{Job}
+use Rattle.bac_text.specs.declared.jobs.Job.{Job}
 use Rattle.clap_laws.proofs.Enters.{enters}
 use Rattle.clap_laws.proofs.Rows.{level_taken, when_found}
 

@@ -16,8 +16,8 @@ use Rattle.bac_text.specs.Parameters.{priority_from, write_index_of}
 use Rattle.bac_text.specs.Pairs.{body_of}
 use Rattle.bac_text.specs.declared.jobs.Call.{Call}
 use Rattle.bac_text.specs.declared.pairs.PairFault.{PairFault}
-use Rattle.bac_words.specs.declared.jobs.Job.{Job}
-use Rattle.bac_words.specs.declared.jobs.Job.TheVariants as job
+use Rattle.bac_text.specs.declared.jobs.Job.{Job}
+use Rattle.bac_text.specs.declared.jobs.Job.TheVariants as job
 use Rattle.bac_words.specs.declared.faults.UsageFault.{UsageFault}
 use Rattle.bac_words.specs.declared.faults.UsageFault.TheVariants.{BadIndex, BadMac}
 use Rattle.bac_words.specs.Fault.{usage_of}

@@ -4,7 +4,7 @@ use Rattle.clap.specs.Words.{Text, fault_of, subcommand_of}
 use Rattle.clap.specs.Kinds.{IsAmong}
 use Rattle.clap.specs.Values.{kind_of}
 use Rattle.clap.specs.declared.error.kind.ErrorKind.TheVariants as kind
-use Rattle.bac_words.specs.declared.jobs.Job.{Job}
+use Rattle.bac_text.specs.declared.jobs.Job.{Job}
 use Rattle.bac_words.specs.declared.faults.UsageFault.{UsageFault}
 use Rattle.bac_words.specs.declared.faults.UsageFault.TheVariants.{Help, Memory, Words}
 use Rattle.bac_words.specs.Command.{bactool}

@@ -22,13 +22,12 @@ mod command;
 mod examples;
 mod faults;
 mod help;
-mod jobs;
 mod marks;
 mod parse;
 mod typed;
 
+pub use bac_text::{Job, Serve};
 pub use called::words_of;
 pub use command::bactool;
 pub use faults::{UsageFault, usage_status};
-pub use jobs::{Job, Serve};
 pub use parse::parse_words;

@@ -21,14 +21,13 @@ ghost use Rattle.bac_words.specs.Line.{Answers, IsRefusal};
 
 use crate::command::bactool;
 use crate::faults::UsageFault;
-use crate::jobs::{Job, Serve};
 use crate::marks::marked_words;
 use crate::typed::{TypedWords, unmarked};
 use arrayvec::ArrayVec;
 use bac_device::DeviceInfo;
 use bac_pdu::{Peer, ReadRequest, WhoIs};
 use bac_text::{
-    Call, LONGEST_BODY, PairFault, Search, body_of_read, body_of_write, plain_peer_in,
+    Call, Job, LONGEST_BODY, PairFault, Search, Serve, body_of_read, body_of_write, plain_peer_in,
     priority_from, read_write_index,
 };
 use bac_wire::ObjectId;

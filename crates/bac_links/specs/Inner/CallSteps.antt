@@ -5,7 +5,7 @@ use Rattle.bac_pdu.specs.Peer.{Station, station}
 use Rattle.bac_tsm.specs.Events.{Outcome, Data, Event, Ask, Tick, Note, Sent, Refused, Done, Dropped, TimedOut, Rules}
 use Rattle.bac_tsm.specs.Machine.{State, Waiting, Stepped, step}
 use Rattle.bac_tsm.specs.Laws.{state_at}
-use Rattle.bac_tsm.specs.Limits.{longest_body}
+use Rattle.bac_pdu.specs.Apdu.{longest_body}
 use Rattle.bac_tsm.specs.Client.{Client}
 use Rattle.bac_links.specs.Foretold.{Heard, Silence, Arrival, Failure}
 use Rattle.bac_links.specs.History.{Entry, Timed, Posted, Unposted, Account, GainsAll}

@@ -2,8 +2,8 @@
 use Rattle.std.specs.Prelude.{◌≡◌, ◌≢◌, ℕ, nat_lt, Bool, List, [], ◌∷◌, ◌++◌, length, Option, Result, Ok, Err}
 use Rattle.std.specs.List.{flat_map}
 use Rattle.bac_text.specs.declared.jobs.Search.{Search}
-use Rattle.bac_text.specs.declared.checked.Checked.{Checked}
-use Rattle.bac_text.specs.Checked.{Took}
+use Rattle.bac_print.specs.declared.checked.Checked.{Checked}
+use Rattle.bac_print.specs.Checked.{Took}
 use Rattle.bac_pdu.specs.declared.discovery.WhoIs.{WhoIs}
 use Rattle.bac_links.specs.Limits.{turn_wait}
 use Rattle.bac_links.specs.Foretold.{Heard, Failure}

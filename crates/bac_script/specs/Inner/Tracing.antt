@@ -1,11 +1,11 @@
 -- A script whose text is still on its way to the writer.
 use Rattle.std.specs.Prelude.{List, ℕ, Option, Result}
-use Rattle.bac_text.specs.declared.checked.Checked.{Checked}
+use Rattle.bac_print.specs.declared.checked.Checked.{Checked}
 use Rattle.bac_script.specs.declared.input.Reading.{Reading}
 use Rattle.bac_script.specs.declared.tracing.TraceEnd.{TraceEnd}
 use Rattle.bac_script.specs.declared.tracing.TraceFault.{TraceFault}
-use Rattle.bac_text.specs.declared.page.Page.{Page}
-use Rattle.bac_text.specs.Page.{writer_of, Prints}
+use Rattle.bac_print.specs.declared.page.Page.{Page}
+use Rattle.bac_print.specs.Page.{writer_of, Prints}
 use Rattle.bac_script.specs.Script.{Runs}
 use Rattle.bac_script.specs.Tracing.{HasRead, IsToldFirst}
 

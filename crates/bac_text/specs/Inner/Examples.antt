@@ -5,12 +5,10 @@ use Rattle.bac_pdu.specs.Peer.{Station}
 use Rattle.bac_text.specs.declared.pairs.PairFault.{PairFault}
 use Rattle.bac_text.specs.Pairs.{body_of}
 use Rattle.bac_text.specs.Inner.Pairs.{region_of}
-use Rattle.bac_text.specs.Values.{region_text}
 
--- A tag's number and a word write these octets, and these octets are printed so.
-abbrev pub IsWritten : String → String → List ℕ → String → Type 0
-IsWritten tag word octets text = (region_of (codes tag ∷ codes word ∷ []) ≡ Ok octets)
-    × (region_text octets ≡ codes text)
+-- A tag's number and a word write these octets.
+abbrev pub IsWritten : String → String → List ℕ → Type 0
+IsWritten tag word octets = region_of (codes tag ∷ codes word ∷ []) ≡ Ok octets
 
 -- 127.0.0.1, port 47808.
 abbrev pub device : Station

@@ -4,7 +4,7 @@ use Rattle.bac_pdu.specs.declared.peer.Peer.{Peer}
 use Rattle.bac_text.specs.Words.{words_of}
 use Rattle.bac_text.specs.declared.jobs.Call.{Call}
 use Rattle.bac_words.specs.declared.faults.UsageFault.{UsageFault}
-use Rattle.bac_words.specs.declared.jobs.Job.{Job}
+use Rattle.bac_text.specs.declared.jobs.Job.{Job}
 use Rattle.bac_words.specs.Line.{Answers}
 
 -- `clap` takes the words of this line, and they order this job; or this is wrong with them.

@@ -15,7 +15,8 @@ use bac_links::{
     Exit, Link, LinkFault, MemoryLink, Step, ToolFault, run_read, run_whois, run_write, serve,
 };
 use bac_pdu::{Peer, WhoIs};
-use bac_text::{Call, Checked, Search};
+use bac_print::Checked;
+use bac_text::{Call, Search};
 use std::alloc::Global;
 use std::io::Write;
 use std::process::Abort;

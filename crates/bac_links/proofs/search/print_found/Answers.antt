@@ -1,5 +1,5 @@
 use Rattle.std.proofs.Common.{refl}
-use Rattle.bac_text.proofs.Printed.{◌⨾◌, printed_as}
+use Rattle.bac_print.proofs.Printed.{◌⨾◌, printed_as}
 use Rattle.bac_links.proofs.search.print_found.Goals as goal
 
 pub returns : goal.returns

@@ -1,6 +1,6 @@
 use Rattle.std.proofs.Common.{rules, Err}
 use Rattle.std.proofs.lemmas.Result.{err_from_is_err_and}
-use Rattle.bac_text.proofs.Shown.{shown}
+use Rattle.bac_print.proofs.Shown.{shown}
 use Rattle.bac_links.proofs.search.show_found.Goals as goal
 
 pub returns-in_err-finish-clause-text : goal.returns-in_err-finish-clause-text

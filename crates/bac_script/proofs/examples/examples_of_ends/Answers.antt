@@ -4,7 +4,7 @@ use Rattle.std.specs.Str.{is_utf8, chars}
 use Rattle.std.specs.Fmt.{digits}
 use Rattle.hex.specs.Hex.{decode_pairs, encode_with}
 use Rattle.bac_text.specs.ValueWords.{value_under}
-use Rattle.bac_text.specs.Values.{values_within}
+use Rattle.bac_wire.specs.DatumReading.{values_within}
 use Rattle.bac_wire.specs.Datum.{plain}
 use Rattle.bac_wire.specs.Inner.Datum.{tagged}
 use Rattle.bac_wire.specs.Tag.{plain_tag}

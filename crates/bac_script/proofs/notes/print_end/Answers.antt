@@ -1,4 +1,4 @@
-use Rattle.bac_text.proofs.Printed.{◌⨾◌}
+use Rattle.bac_print.proofs.Printed.{◌⨾◌}
 use Rattle.bac_script.proofs.notes.print_end.Goals as goal
 
 pub returns : goal.returns

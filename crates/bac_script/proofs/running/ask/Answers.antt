@@ -5,7 +5,7 @@ use Rattle.bac_device.specs.Demo.{demo_points}
 use Rattle.bac_device.specs.Device.{device_after}
 use Rattle.bac_device.specs.Reply.{reply_to, writes_after}
 use Rattle.bac_device.proofs.StateLaws.{points_after, after_holds}
-use Rattle.bac_text.proofs.Printed.{printed_as}
+use Rattle.bac_print.proofs.Printed.{printed_as}
 use Rattle.bac_script.specs.Running.{small_device}
 use Rattle.bac_script.specs.Text.{reply_text}
 use Rattle.bac_script.proofs.running.ask.Goals as goal

@@ -6,9 +6,9 @@ use Rattle.bac_wire.specs.Identifier.{identifier}
 use Rattle.bac_tsm.specs.declared.client.SubmitFault.TheVariants.{TooLong}
 use Rattle.bac_tsm.specs.Events.{Refused}
 use Rattle.bac_tsm.specs.Lookahead.{refusal_of}
-use Rattle.bac_text.specs.Limits.{longest_body}
+use Rattle.bac_pdu.specs.Apdu.{longest_body}
 use Rattle.bac_text.specs.Pairs.{whole_body_of}
-use Rattle.bac_text.proofs.Printed.{printed_as}
+use Rattle.bac_print.proofs.Printed.{printed_as}
 use Rattle.bac_script.specs.declared.line.Line.{Line}
 use Rattle.bac_script.specs.declared.line.Line.TheVariants.{LongWrite}
 use Rattle.bac_script.specs.declared.long_write.LongWrite.{LongWrite as Write}

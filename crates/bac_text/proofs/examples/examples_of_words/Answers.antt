@@ -14,9 +14,7 @@ returns c =
     record {
       words = refl;
       peer = refl;
-      printed = refl;
       routed = refl;
-      routed_printed = refl;
       three_numbers = refl;
       body = refl;
       bad = refl;

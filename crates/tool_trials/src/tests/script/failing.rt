@@ -2,7 +2,7 @@
 use crate::tests::streams::{Asked, Progress, printed_after, telling, with_room};
 use arrayvec::ArrayVec;
 use bac_script::{TraceEnd, TraceFault, trace};
-use bac_text::Checked;
+use bac_print::Checked;
 use std::alloc::Global;
 use std::io::{self, ErrorKind, Read};
 

@@ -1,6 +1,6 @@
 //! Readers and writers that fail.
 use crate::tests::streams::{Asked, Progress, with_room};
-use bac_text::{Checked, WriteFailed, show_value};
+use bac_print::{Checked, WriteFailed, show_value};
 use std::cell::Cell;
 use std::io::{self, ErrorKind, Read, Write};
 

@@ -1,4 +1,4 @@
--- `new` picks no entries. A proof by hand: `Walks` of bac_text says why, and where its form is from.
+-- `new` picks no entries. A proof by hand: `Walks` of bac_print says why, and where its form is from.
 use Rattle.std.proofs.Common.{[], ◌∷◌, refl}
 use seplogic.Ra.Ura.{Ura}
 use mir.Syntax.{Fn}
@@ -23,7 +23,7 @@ use denote.Triple.Entry.{alive}
 use denote.Triple.Spec.{Meets, triple_of}
 use denote.Triple.Table.{entered}
 use denote.Triple.Walked.{says, Stays, walk_of, ends_at, walk_Meets}
-use Rattle.bac_text.proofs.Walks.{none, none_made}
+use Rattle.bac_print.proofs.Walks.{none, none_made}
 use Rattle.bac_links.specs.contracts.history.History as History
 use Rattle.bac_links.specs.contracts.history.History.new as F
 use Rattle.bac_links.specs.contracts.history.History.new.Key.{name as #self}

@@ -1,4 +1,4 @@
--- `and` picks what the new log asked. A proof by hand: `Walks` of bac_text says why, and where its form is
+-- `and` picks what the new log asked. A proof by hand: `Walks` of bac_print says why, and where its form is
 -- from.
 use Rattle.std.proofs.Common.{List, [], ◌∷◌, ◌++◌, refl}
 use seplogic.Ra.Ura.{Ura}
@@ -27,7 +27,7 @@ use denote.Triple.Entry.{alive}
 use denote.Triple.Spec.{Meets, triple_of}
 use denote.Triple.Table.{entered}
 use denote.Triple.Walked.{says, Stays, stay_dropped, walk_of, ends_at, walk_Meets, Goes-dropped}
-use Rattle.bac_text.proofs.Walks.{none, none_made}
+use Rattle.bac_print.proofs.Walks.{none, none_made}
 use Rattle.bac_links.specs.contracts.log.Log as Log
 use Rattle.bac_links.specs.contracts.log.CallNote as Note
 use Rattle.bac_links.specs.Log.{logged}

@@ -1,0 +1,7 @@
+pub mod Known
+pub mod Printed
+pub mod NumberLengths
+pub mod ValueTexts
+pub mod Shown
+pub mod HexLanes
+pub mod Walks

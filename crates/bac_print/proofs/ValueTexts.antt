@@ -1,0 +1,147 @@
+-- The texts of values, and of what they are made of.
+use Rattle.std.proofs.Common.{◌≡◌, ℕ, ◌+◌, ◌-◌, ◌*◌, ◌<◌, min, false, List, [], ◌∷◌, ◌++◌, length, take, get_or, Option}
+use Rattle.std.proofs.Common.{Some, None, refl, sym, ◌∙◌, ap, arith, append_assoc, length-append, decimal}
+use Rattle.std.specs.Prelude.{◌==◌, ℤ, pos, negsuc, ◌<ℤ◌, unsigned_abs, option_map, IfSome}
+use Rattle.std.specs.Fmt.{signed_decimal}
+use Rattle.std.specs.List.{flat_map}
+use Rattle.std.specs.Option.{option_map_or}
+use Rattle.std.proofs.Math.Seq.{take-append-add}
+use Rattle.std.proofs.lemmas.List.{append-nil, take_more}
+use Rattle.std.proofs.lemmas.List.Concat.{flat_map-append}
+use Rattle.std.proofs.lemmas.Option.{none-some}
+use Rattle.std.proofs.lemmas.Int.{ints, to_z-of_z}
+use Rattle.bac_wire.specs.Datum.{Datum}
+use Rattle.bac_wire.specs.DatumReading.{value_at, values_within, values_of}
+use Rattle.bac_print.specs.declared.page.Page.{Page}
+use Rattle.bac_print.specs.Page.{Prints}
+use Rattle.std.specs.Prelude.{codes}
+use Rattle.hex.specs.Hex.{encode_lower}
+use Rattle.bac_print.specs.Values.{octet_bits, bits_text, datum_text, values_text, region_text}
+use Rattle.bac_print.specs.Inner.Values.{joined, separator}
+use Rattle.bac_print.proofs.Printed.{◌⨾◌, printed_as, prints_nothing}
+use Rattle.bac_wire.proofs.ValueLists.{values-none, values-first, values-empty}
+
+-- The text of one more octet.
+pub texts_more : (text : ℕ → List ℕ) (xs : List ℕ) (i : ℕ) → i < length xs →
+    flat_map text (take (i + 1) xs) ≡ flat_map text (take i xs) ++ text (get_or xs i 0)
+texts_more text xs i within =
+    ap (flat_map text) (take_more xs i 0 within) ∙ flat_map-append text (take i xs) (get_or xs i 0 ∷ [])
+    ∙ ap (λ (one : List ℕ). flat_map text (take i xs) ++ one) (append-nil (text (get_or xs i 0)))
+
+pub signed_negative : (z : ℤ) → z <ℤ pos 0 → 45 ∷ decimal (unsigned_abs z) ≡ signed_decimal z
+signed_negative (pos n) h = absurd (omega (arith, ints))
+signed_negative (negsuc n) h = refl
+
+length_bits : (octets : List ℕ) → length (flat_map octet_bits octets) ≡ 8 * length octets
+length_bits [] = refl
+length_bits (x ∷ xs) = omega (arith, length-append (octet_bits x) (flat_map octet_bits xs), length_bits xs)
+
+-- The bits of octets, of which the last is known.
+pub bits_last : (others : List ℕ) (last unused : ℕ) →
+    flat_map octet_bits others ++ take (8 - unused) (octet_bits last) ≡ bits_text unused (others ++ last ∷ [])
+bits_last others last unused =
+    let front = flat_map octet_bits others in
+    let count : length front + (8 - unused) ≡ 8 * length (others ++ last ∷ []) - min unused 8 =
+    omega (arith, length_bits others, length-append others (last ∷ [])) in
+    sym (take-append-add front (octet_bits last) (8 - unused)) ∙ ap (λ (n : ℕ). take n (front ++ octet_bits last)) count
+    ∙ ap (λ (bits : List ℕ). take (8 * length (others ++ last ∷ []) - min unused 8) bits)
+    (ap (λ (bits : List ℕ). front ++ bits) (sym (append-nil (octet_bits last)))
+    ∙ sym (flat_map-append octet_bits others (last ∷ [])))
+
+-- One more value, and a comma where others follow.
+one_more : (first : Datum) (more : List Datum) (behind : List ℕ) → values_of behind ≡ Some more →
+    joined (first ∷ more) ≡ (datum_text first ++ separator behind) ++ joined more
+unfolding values_within
+one_more first [] [] e = sym (append-nil (datum_text first ++ []) ∙ append-nil (datum_text first))
+one_more first (second ∷ more) [] e = grind arith
+one_more first [] (octet ∷ octets) e = absurd (let bad = values-empty (octet ∷ octets) e in cc)
+one_more first (second ∷ more) (octet ∷ octets) e =
+    sym (append_assoc (datum_text first) (44 ∷ []) (joined (second ∷ more)))
+
+-- What stands behind the first of the values.
+behind_first : (value : Datum) (others : List Datum) (found : Option (List Datum))
+    → option_map (λ more. value ∷ more) found ≡ Some others →
+    (more : List Datum) × (found ≡ Some more) × (others ≡ value ∷ more)
+behind_first value others None e = absurd (none-some others e)
+behind_first value others (Some more) e = (more, refl, cc)
+
+nothing_left : (rest : List ℕ) (others : List Datum) → value_at rest ≡ None → values_of rest ≡ Some others → others ≡ []
+unfolding values_within
+nothing_left [] others none e = cc
+nothing_left (octet ∷ octets) others none e = grind (arith, values-none)
+
+-- If the region is values and nothing else, the texts of those before the rest were printed.
+pub record PrintsFront {W : Type 0} (contents : W → Option (List ℕ)) (before after : Page W)
+    (region rest : List ℕ) : Type 0 where
+  pub front : (values : List Datum) → values_of region ≡ Some values →
+      (text : List ℕ) × (others : List Datum) × (values_of rest ≡ Some others) × (joined values ≡ text ++ joined others)
+      × Prints contents before after text
+
+-- The values were printed, where the region is values.
+abbrev pub PrintsValues : {W : Type 0} → (W → Option (List ℕ)) → Page W → Page W → List ℕ → Type 0
+PrintsValues contents before after region =
+    IfSome (values_of region) (λ values. Prints contents before after (joined values))
+
+module _ {W : Type 0} {contents : W → Option (List ℕ)} where
+  pub front_none : (page : Page W) (region : List ℕ) → PrintsFront contents page page region region
+  front_none page region = record { front = λ values e. ([], values, e, refl, prints_nothing page) }
+
+  pub front_more : {before middle next after : Page W} {region rest behind : List ℕ} {value : Datum} →
+      PrintsFront contents before middle region rest →
+      value_at rest ≡ Some (value, behind) → Prints contents middle next (datum_text value)
+      → Prints contents next after (separator behind) →
+      PrintsFront contents before after region behind
+  front_more {rest = rest} {behind = behind} {value = value} so_far found first second = record {
+    front = λ values e.
+        let f = so_far.front values e in
+        let more = behind_first value f.1 (values_of behind) (sym (values-first rest value behind found) ∙ f.2) in (
+          f.0 ++ (datum_text value ++ separator behind),
+          more.0,
+          more.1,
+          f.3 ∙ ap (λ (all : List Datum). f.0 ++ joined all) more.2
+              ∙ ap (λ (text : List ℕ). f.0 ++ text) (one_more value more.0 behind more.1)
+              ∙ sym (append_assoc f.0 (datum_text value ++ separator behind) (joined more.0)),
+          f.4 ⨾ first ⨾ second,
+        );
+  }
+
+  pub front_whole : {before after : Page W} {region rest : List ℕ} → PrintsFront contents before after region rest
+      → value_at rest ≡ None →
+      PrintsValues contents before after region
+  front_whole {before} {after} {region} {rest} so_far none = go (values_of region) refl
+    where
+      go : (found : Option (List Datum)) → values_of region ≡ found
+          → IfSome found (λ values. Prints contents before after (joined values))
+      go None e = tt
+      go (Some values) e =
+          let f = so_far.front values e in
+          printed_as f.4 (sym
+          (f.3 ∙ ap (λ (all : List Datum). f.0 ++ joined all) (nothing_left rest f.1 none f.2) ∙ append-nil f.0))
+
+  -- None or several stand in braces.
+  pub printed_in_braces : {before first second after : Page W} (region : List ℕ) (count : ℕ)
+      → Some count ≡ option_map length (values_of region) →
+      (count == 1) ≡ false → Prints contents before first (123 ∷ []) → PrintsValues contents first second region
+      → Prints contents second after (125 ∷ []) →
+      Prints contents before after (region_text region)
+  printed_in_braces {before} {first} {second} {after} region count counted several opened printed closed =
+      go (values_of region) counted printed
+    where
+      go : (found : Option (List Datum)) → Some count ≡ option_map length found
+          → IfSome found (λ values. Prints contents first second (joined values)) →
+          Prints contents before after (option_map_or values_text found (codes "hex " ++ encode_lower region))
+      go None e p = absurd (none-some count (sym e))
+      go (Some values) e p =
+          let same : count ≡ length values = cc in
+          let other : (length values == 1) ≡ false = ap (λ (n : ℕ). n == 1) (sym same) ∙ several in
+          printed_as (opened ⨾ p ⨾ closed) (rw other refl)
+
+  -- What is no values is shown by its octets.
+  pub printed_octets : {before middle after : Page W} (region : List ℕ) → None ≡ option_map length (values_of region) →
+      Prints contents before middle (codes "hex ") → Prints contents middle after (encode_lower region) →
+      Prints contents before after (region_text region)
+  printed_octets region none first second = printed_as (first ⨾ second) (grind arith)
+
+pub ruleset printing_values = (front_none, front_whole)
+
+pub ruleset printing_signed = (signed_negative, ints, to_z-of_z)

@@ -1,0 +1,20 @@
+-- `new` picks that nothing was asked. A walk by hand: see the head of `Walks`.
+use Rattle.bac_print.specs.Checked.{nothing_passed}
+use Rattle.bac_print.proofs.Walks.{[], ◌∷◌, refl, proved, raw, ◌$◌, ◌∵◌, !, qed, done, drop, fjoin, suffices, agg}
+use Rattle.bac_print.proofs.Walks.{enter, returns, no_more, alloc_all, pass_all, free_all, look_at, sets, nothing}
+use Rattle.bac_print.proofs.Walks.{on_entry, says, ends_at, none, none_made}
+use Rattle.bac_print.specs.contracts.transcript.Transcript.new as f
+use Rattle.bac_print.proofs.transcript.Transcript.new.Statement.{statement}
+use Rattle.bac_print.proofs.transcript.Transcript.new.Code as code
+
+pub new_spec : {M : Type 1} → statement M
+new_spec 𝓤 𝓛 𝓜 𝓡 wired =
+    let c = f.clauses 𝓛 𝓜.mem 𝓡.returns in
+    proved 𝓛 f.ended tt c 𝓜 𝓡 tt f.Key.name code.function (code.unfolded 𝓤 𝓛.H 𝓜 𝓡 wired) (λ κs. tt) (λ κs. tt)
+    (λ κs qs bounds a g are.
+    qed 𝓛 (raw (on_entry 𝓛 f.signature κs qs a tt) ∷ raw ((c κs a).requires g) ∷ []) ∵
+    drop ! $ drop ! $ enter ! _ _ _ _ _ $ alloc_all ! (λ l. pass_all ! refl tt $
+    sets ! (agg ! (no_more !)) refl (tt, tt) $ nothing ! $ none_made ! $ fjoin ! $
+    returns ! (look_at ! 0 refl) $ free_all ! refl $
+    suffices ! _ (ends_at 𝓛 f.ended tt c ((κs, qs, bounds, a, tt), g) none nothing_passed tt tt) $
+    says ! refl $ nothing ! $ nothing ! $ done !))

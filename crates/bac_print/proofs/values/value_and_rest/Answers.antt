@@ -1,0 +1,6 @@
+use Rattle.std.proofs.Common.{sym}
+use Rattle.bac_wire.proofs.ValueLists.{value-shorter}
+use Rattle.bac_print.proofs.values.value_and_rest.Goals as goal
+
+pub returns-clause-shorter : goal.returns-clause-shorter
+returns-clause-shorter c = value-shorter _ _ _ (sym c.in_ok-value.ensures)

@@ -1,0 +1,89 @@
+-- What contracts see of a checked reader or writer.
+use Rattle.std.specs.Prelude.{◌≡◌, ℕ, ◌+◌, ◌-◌, ◌^◌, min, Bool, false, ◌&&◌, ◌==◌, nat_lt, if◌then◌else◌, List}
+use Rattle.std.specs.Prelude.{[], ◌++◌, length, take, Option, Result, Ok, Err}
+use Rattle.std.specs.Io.KnownBytes.{Appends, Consumes}
+use Rattle.std.specs.Result.{result_unwrap_or}
+use Rattle.bac_print.specs.declared.checked.Checked.{Checked}
+use Rattle.bac_print.specs.declared.transcript.Transcript.{Transcript}
+use Rattle.bac_print.specs.StreamCall.{StreamCall}
+
+-- The reader or writer within.
+abbrev pub inner_of : {T : Type 0} → Checked T → T
+inner_of checked = checked.inner.stream
+
+-- The calls of the reader or writer within so far, each with what it answered.
+abbrev pub calls_of : {T : Type 0} → Checked T → List StreamCall
+calls_of checked = checked.inner.transcript.calls
+
+abbrev pub has_failed : {T : Type 0} → Checked T → Bool
+has_failed checked = checked.failed
+
+-- The last read gave nothing, though there was room.
+abbrev pub has_ended : {T : Type 0} → Checked T → Bool
+has_ended checked = checked.ended
+
+-- So many reads gave nothing, though there was room.
+abbrev pub ends_of : {T : Type 0} → Checked T → ℕ
+ends_of checked = checked.ends
+
+abbrev pub reads_of : {T : Type 0} → Checked T → ℕ
+reads_of checked = checked.reads
+
+-- The octets that passed: what a reader gave, or what a writer took.
+abbrev pub octets_of : {T : Type 0} → Checked T → List ℕ
+octets_of checked = checked.inner.transcript.octets
+
+-- The octets that passed by the last read, or the last write.
+abbrev pub last_of : {T : Type 0} → Checked T → List ℕ
+last_of checked = checked.inner.transcript.last
+
+-- What is known of its reads is as before.
+abbrev pub HasNotRead : {T : Type 0} → Checked T → Checked T → Type 0
+HasNotRead before after = after ≡ record after { ended = before.ended; ends = before.ends; reads = before.reads }
+
+-- Nothing was asked, and nothing passed yet.
+abbrev pub nothing_passed : Transcript
+nothing_passed = record { calls = []; octets = []; last = [] }
+
+-- A checked reader or writer as it is made.
+abbrev pub fresh : {T : Type 0} → T → Checked T
+fresh stream = record {
+  inner = record { stream = stream; transcript = nothing_passed };
+  failed = false;
+  ended = false;
+  ends = 0;
+  reads = 0;
+}
+
+-- A read gave nothing, though there was room for at least one octet, or a write took nothing of at least one.
+abbrev pub passes_none : {E : Type 0} → Result ℕ E → List ℕ → Bool
+passes_none (Ok count) octets = count == 0 && nat_lt 0 (length octets)
+passes_none (Err e) octets = false
+
+-- One more read that gave nothing, where this is one. The count stays at 2^64 - 1.
+abbrev pub ends_with : ℕ → Bool → ℕ
+ends_with ends is = if is then min (ends + 1) (2 ^ 64 - 1) else ends
+
+-- The octets that passed: what a read gave of its room, or a write took of its text.
+abbrev pub gone : {E : Type 0} → Result ℕ E → List ℕ → List ℕ
+gone result octets = take (result_unwrap_or result 0) octets
+
+-- The reader gave these octets; where it knows those that it has left, they were the first of them.
+pub record Gave {R : Type 0} (left : R → Option (List ℕ)) (before after : Checked R) (given : List ℕ) : Type 0 where
+  pub passed : octets_of after ≡ octets_of before ++ given
+  pub known : Consumes (left (inner_of before)) (left (inner_of after)) given
+
+module _ {W : Type 0} (contents : W → Option (List ℕ)) (before after : Checked W) where
+  -- The writer took these octets; where it knows its octets, they are behind them.
+  pub record Took (taken : List ℕ) : Type 0 where
+    pub passed : octets_of after ≡ octets_of before ++ taken
+    pub known : Appends (contents (inner_of before)) (contents (inner_of after)) taken
+
+  -- The writer took a front of the text.
+  abbrev pub TakesFront : List ℕ → Type 0
+  TakesFront text = (taken rest : List ℕ) × (text ≡ taken ++ rest) × Took taken
+
+  -- The writer took the text, or, where it failed, a front of it.
+  abbrev pub TookOrFailed : {A E : Type 0} → List ℕ → Result A E → Type 0
+  TookOrFailed text (Ok done) = Took text
+  TookOrFailed text (Err e) = TakesFront text

@@ -1,0 +1,4 @@
+-- What only private clauses say. No promise of this crate rests on it.
+pub mod Checked
+pub mod Values
+pub mod Examples

@@ -1,0 +1,28 @@
+-- The transcript of a reader or a writer, one call later.
+use Rattle.std.specs.Prelude.{ℕ, List, [], ◌∷◌, ◌++◌, length, Result}
+use Rattle.std.specs.declared.io.Error.{Error}
+use Rattle.bac_print.specs.declared.transcript.Made.{Made}
+use Rattle.bac_print.specs.declared.transcript.Made.TheVariants as made
+use Rattle.bac_print.specs.declared.transcript.Transcript.{Transcript}
+use Rattle.bac_print.specs.StreamCall.{StreamCall, ReadCall, WriteCall, FlushCall, given}
+use Rattle.bac_print.specs.Checked.{gone}
+
+-- This call was made, and these octets passed by it.
+abbrev pub having_passed : StreamCall → List ℕ → Transcript → Transcript
+having_passed call octets before =
+    record { calls = before.calls ++ call ∷ []; octets = before.octets ++ octets; last = octets }
+
+abbrev pub with_read : ℕ → Result ℕ Error → List ℕ → Transcript → Transcript
+with_read room answer octets = having_passed (ReadCall room (given answer octets)) (gone answer octets)
+
+abbrev pub with_write : List ℕ → Result ℕ Error → Transcript → Transcript
+with_write octets answer = having_passed (WriteCall octets answer) (gone answer octets)
+
+-- A flush passes nothing, and what passed last stays.
+abbrev pub with_flush : Result (Unit {0}) Error → Transcript → Transcript
+with_flush answer before = record before { calls = before.calls ++ FlushCall answer ∷ [] }
+
+abbrev pub with_call : Made → Transcript → Transcript
+with_call (made.Read room answer) = with_read (length room.now) answer.now room.now
+with_call (made.Write octets answer) = with_write octets.now answer.now
+with_call (made.Flush answer) = with_flush answer.now

@@ -1,0 +1,14 @@
+-- The texts of values in a row, and what stands between two of them.
+use Rattle.std.specs.Prelude.{ℕ, List, [], ◌∷◌, map}
+use Rattle.std.specs.List.{join_with_byte}
+use Rattle.bac_wire.specs.Datum.{Datum}
+use Rattle.bac_print.specs.Values.{datum_text}
+
+-- The texts of values, joined by commas (44).
+abbrev pub joined : List Datum → List ℕ
+joined values = join_with_byte 44 (map datum_text values)
+
+-- A comma, where more octets follow; else nothing.
+abbrev pub separator : List ℕ → List ℕ
+separator [] = []
+separator (octet ∷ octets) = 44 ∷ []

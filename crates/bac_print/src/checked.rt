@@ -1,0 +1,128 @@
+//! Readers and writers that remember whether they failed.
+ghost use Rattle.std.specs.Prelude.{◌≡◌, ◌+◌, ◌-◌, ◌^◌, [], ◌∷◌, ◌++◌, ◌||◌, length, min, is_err};
+ghost use Rattle.std.specs.Io.{ReadsAtMost, WritesAtMost};
+ghost use Rattle.std.specs.Io.KnownBytes.{ReadConsumes, WriteAppends, Keeps};
+ghost use Rattle.bac_print.specs.StreamCall.{ReadCall, WriteCall, FlushCall, given};
+ghost use Rattle.bac_print.specs.Checked.{inner_of, calls_of, has_failed, has_ended, ends_of, reads_of, octets_of};
+ghost use Rattle.bac_print.specs.Checked.{last_of, gone, HasNotRead, fresh, passes_none, ends_with};
+
+use crate::noted::Noted;
+use std::io::{self, Read, Write};
+
+/// A reader or a writer that remembers whether it failed and whether its end was read, and counts its reads and those
+/// of them that gave nothing.
+#[derive(Drop)]
+pub struct Checked<T> {
+    inner: Noted<T>,
+    failed: bool,
+    ended: bool,
+    ends: u64,
+    reads: u64,
+}
+
+/// The writer failed, or took no octet.
+#[derive(Clone, Copy, Debug, PartialEq, Eq)]
+pub struct WriteFailed;
+
+impl<T> Checked<T> {
+    /// The reader or writer as it is before its first read or write.
+    pub fn new(stream: T) -> Self
+        ensures { result ≡ fresh stream }
+    {
+        Checked {
+            inner: Noted::new(stream),
+            failed: false,
+            ended: false,
+            ends: 0,
+            reads: 0,
+        }
+    }
+
+    /// Whether a read or a write failed, or a write of at least one octet took none.
+    pub fn failed(&self) -> bool
+        ensures { result ≡ has_failed self.now }
+    {
+        self.failed
+    }
+
+    /// Whether the last read gave nothing, though there was room: what was read has ended.
+    pub fn ended(&self) -> bool
+        ensures { result ≡ has_ended self.now }
+    {
+        self.ended
+    }
+
+    /// How many reads gave nothing, though there was room.
+    pub fn ends(&self) -> u64
+        ensures { result ≡ ends_of self.now }
+    {
+        self.ends
+    }
+
+    /// The reads so far, but no more than `u32::MAX`, where they are spent.
+    pub fn reads(&self) -> u32
+        ensures { result ≡ min (reads_of self.now) (2 ^ 32 - 1) }
+    {
+        self.reads.min(u64::from(u32::MAX)) as u32
+    }
+}
+
+impl<R: Read> Read for Checked<R> {
+    ghost remaining = { λ reader. R.remaining (inner_of reader) };
+
+    fn read(&mut self, buf: &mut [u8]) -> io::Result<usize>
+        ensures bound { ReadsAtMost result buf.new }
+        ensures asked { calls_of self.new
+            ≡ calls_of self.old ++ ReadCall (length buf.old) (given result buf.new) ∷ [] }
+        ensures bytes { ReadConsumes (R.remaining (inner_of self.old)) (R.remaining (inner_of self.new))
+            result buf.new }
+        ensures failed { has_failed self.new ≡ (has_failed self.old || is_err result) }
+        ensures ended { has_ended self.new ≡ passes_none result buf.new }
+        ensures ends { ends_of self.new ≡ ends_with (ends_of self.old) (passes_none result buf.new) }
+        ensures passed { octets_of self.new ≡ octets_of self.old ++ gone result buf.new }
+        ensures last { last_of self.new ≡ gone result buf.new }
+        ensures reads { reads_of self.new ≡ min (reads_of self.old + 1) (2 ^ 64 - 1) }
+    {
+        self.reads = self.reads.saturating_add(1);
+        let outcome = self.inner.read(buf);
+        self.ended = matches!(outcome, Ok(0)) && !buf.is_empty();
+        if self.ended {
+            self.ends = self.ends.saturating_add(1);
+        }
+        if outcome.is_err() {
+            self.failed = true;
+        }
+        outcome
+    }
+}
+
+impl<W: Write> Write for Checked<W> {
+    ghost contents = { λ writer. W.contents (inner_of writer) };
+
+    fn write(&mut self, buf: &[u8]) -> io::Result<usize>
+        ensures bound { WritesAtMost result buf.now }
+        ensures asked { calls_of self.new ≡ calls_of self.old ++ WriteCall buf.now result ∷ [] }
+        ensures bytes { WriteAppends (W.contents (inner_of self.old)) (W.contents (inner_of self.new)) result buf.now }
+        ensures failed { has_failed self.new ≡ (has_failed self.old || is_err result || passes_none result buf.now) }
+        ensures passed { octets_of self.new ≡ octets_of self.old ++ gone result buf.now }
+        ensures last { last_of self.new ≡ gone result buf.now }
+        ensures reads { HasNotRead self.old self.new }
+    {
+        let outcome = self.inner.write(buf);
+        match outcome {
+            Ok(0) => self.failed = self.failed || !buf.is_empty(),
+            Ok(_) => {}
+            Err(_) => self.failed = true,
+        }
+        outcome
+    }
+
+    fn flush(&mut self) -> io::Result<()>
+        ensures asked { calls_of self.new ≡ calls_of self.old ++ FlushCall result ∷ [] }
+        ensures passed { (octets_of self.new ≡ octets_of self.old) × (last_of self.new ≡ last_of self.old) }
+        ensures bytes { Keeps (W.contents (inner_of self.old)) (W.contents (inner_of self.new)) }
+        ensures reads { self.new ≡ record self.old { inner = self.new.inner } }
+    {
+        self.inner.flush()
+    }
+}

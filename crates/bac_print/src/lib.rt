@@ -1,0 +1,29 @@
+//! Texts on their way out: values, peers, and how a request ended.
+//!
+//! [`Checked`] is a reader or a writer that remembers whether it failed, and [`Page`] gathers text for one.
+//! [`show_value`] prints values, and [`show_outcome`] how a request ended. `specs/Values.antt` says what is printed of
+//! a value.
+//!
+//! Of `examples_of_values` in `src/examples.rt`, which is proved: octets, and what is printed of them.
+//!
+//! ```text
+//! ensures real { IsPrinted (0x44 ∷ 0x42 ∷ 0x90 ∷ 0x99 ∷ 0x9a ∷ []) "4290999a" }
+//! ensures octet_string { IsPrinted (0x63 ∷ 0x12 ∷ 0x34 ∷ 0xff ∷ []) "X'1234ff'" }
+//! ```
+#![tactic(auto)]
+
+mod checked;
+mod examples;
+mod hex_lanes;
+pub mod laws;
+mod noted;
+mod outcomes;
+mod page;
+mod peer_texts;
+mod transcript;
+mod values;
+
+pub use checked::{Checked, WriteFailed};
+pub use outcomes::{print_outcome, show_outcome};
+pub use page::Page;
+pub use values::show_value;

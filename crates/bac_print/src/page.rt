@@ -1,0 +1,201 @@
+//! Text on its way to a writer.
+ghost use Rattle.std.specs.Prelude.{◌≡◌, ◌+◌, ◌≤◌, [], ◌++◌, drop, length, decimal, is_err, false};
+ghost use Rattle.hex.specs.Hex.{encode_lower};
+ghost use Rattle.bac_print.specs.Checked.{has_failed, HasNotRead, TookOrFailed};
+ghost use Rattle.bac_print.specs.Page.{held, writer_of, Writes, Prints};
+
+use crate::checked::{Checked, WriteFailed};
+use crate::hex_lanes::write_hex;
+use arrayvec::ArrayVec;
+use std::io::Write;
+
+/// The octets that a page holds before they go to the writer.
+const PAGE_ROOM: usize = 16_384;
+
+/// The octets that are turned into hexadecimal at a time.
+const HEX_PART: usize = 32;
+
+/// The digits of the longest number.
+const LONGEST_NUMBER: usize = 20;
+
+/// Text on its way to a writer. It is gathered in fixed room, and goes to the writer when the room is full or the page
+/// is turned in. After a failed write what is printed is lost, so that it is enough to ask the page once whether it
+/// failed. A page can't be dropped: it is finished.
+pub struct Page<'w, W> {
+    writer: &'w mut Checked<W>,
+    held: ArrayVec<u8, PAGE_ROOM>,
+}
+
+// Writes the decimal digits of a number before a position of the room, and says where they begin.
+#[tactic(auto, using(std::proofs::lemmas::Fmt::decimal_nonempty))]
+pub(crate) fn write_digits(number: u64, room: &mut [u8], end: usize) -> usize
+    requires within { end ≤ length room.old }
+    requires fits { length (decimal number) ≤ end }
+    ensures digits { drop result room.new ≡ decimal number ++ drop end room.old }
+    ensures start { result + length (decimal number) ≡ end }
+    ensures size { length room.new ≡ length room.old }
+{
+    let mut start = end;
+    let mut rest = number;
+    while rest >= 10 {
+        start -= 1;
+        room[start] = b'0' + (rest % 10) as u8;
+        rest /= 10;
+    }
+    start -= 1;
+    room[start] = b'0' + rest as u8;
+    start
+}
+
+// Writes the whole text, or fails after a front of it. It stands apart from what `Checked` keeps, so a writer fails by
+// nothing but its own writes.
+#[tactic(auto, using(crate::proofs::Known::Sent_more))]
+fn put<W: Write>(writer: &mut Checked<W>, text: &[u8]) -> Result<(), WriteFailed>
+    requires { has_failed writer.old ≡ false }
+    ensures text { TookOrFailed W.contents writer.old writer.new text.now result }
+    ensures failed { has_failed writer.new ≡ is_err result }
+    ensures reads { HasNotRead writer.old writer.new }
+{
+    let mut rest = text;
+    while !rest.is_empty() {
+        let Ok(taken) = writer.write(rest) else {
+            return Err(WriteFailed);
+        };
+        if taken == 0 {
+            return Err(WriteFailed);
+        }
+        rest = &rest[taken..];
+    }
+    Ok(())
+}
+
+// Writes the whole text, or nothing where the writer has failed before.
+fn write_on<W: Write>(writer: &mut Checked<W>, text: &[u8])
+    ensures { Writes W.contents writer.old writer.new [] [] text.now }
+{
+    if !writer.failed() {
+        let _ = put(writer, text);
+    }
+}
+
+impl<'w, W: Write> Page<'w, W> {
+    /// An empty page on its way to the writer.
+    pub fn new(writer: &'w mut Checked<W>) -> Self
+        ensures same { result.writer.ghost_name ≡ writer.entry.ghost_name }
+        ensures writer { writer_of result ≡ writer.old }
+        ensures empty { held result ≡ [] }
+    {
+        Page {
+            writer,
+            held: ArrayVec::new(),
+        }
+    }
+
+    /// Whether the writer has failed.
+    pub fn failed(&self) -> bool
+        ensures { result ≡ has_failed (writer_of self.now) }
+    {
+        self.writer.failed()
+    }
+
+    /// Hands the writer what the page holds.
+    #[tactic(auto, unfolding(crate::specs::Page::Wrote))]
+    pub fn turn_in(&mut self)
+        ensures printed { Prints W.contents self.old self.new [] }
+        ensures empty { held self.new ≡ [] }
+    {
+        write_on(self.writer, self.held.as_slice());
+        self.held.clear();
+    }
+
+    /// Turns the page in, and gives the writer back.
+    ///
+    /// # Errors
+    ///
+    /// `WriteFailed` where the writer has failed.
+    pub fn finish(self) -> Result<(), WriteFailed>
+        ensures printed { Writes W.contents (writer_of self.entry) self.exit.0.now (held self.entry) [] [] }
+        ensures failed { has_failed self.exit.0.now ≡ is_err result }
+    {
+        let Page { writer, held } = self;
+        write_on(writer, held.as_slice());
+        if writer.failed() {
+            return Err(WriteFailed);
+        }
+        Ok(())
+    }
+
+    /// Prints the text.
+    #[inline(always)]
+    #[tactic(auto, unfolding(crate::specs::Page::Wrote))]
+    pub fn print(&mut self, text: &[u8])
+        ensures { Prints W.contents self.old self.new text.now }
+    {
+        if self.held.try_extend_from_slice(text).is_err() {
+            self.print_past(text);
+        }
+    }
+
+    // Prints a text for which there is no room on the page.
+    #[cold]
+    #[tactic(auto, using(crate::proofs::Printed::printing))]
+    fn print_past(&mut self, text: &[u8])
+        ensures { Prints W.contents self.old self.new text.now }
+    {
+        self.turn_in();
+        self.hold_or_write(text);
+    }
+
+    // Holds the text, or writes it where no page has room for it.
+    #[tactic(auto, unfolding(crate::specs::Page::Wrote))]
+    fn hold_or_write(&mut self, text: &[u8])
+        ensures { Prints W.contents self.old self.new text.now }
+    {
+        if self.held.try_extend_from_slice(text).is_err() {
+            self.write_past(text);
+        }
+    }
+
+    // Writes the text behind what the page holds.
+    fn write_past(&mut self, text: &[u8])
+        ensures { Prints W.contents self.old self.new text.now }
+    {
+        self.turn_in();
+        write_on(self.writer, text);
+    }
+}
+
+impl<W: Write> Page<'_, W> {
+    /// Prints the number in decimal digits.
+    #[tactic(auto, using(crate::proofs::NumberLengths::eight_octets))]
+    pub fn print_number(&mut self, number: u64)
+        ensures { Prints W.contents self.old self.new (decimal number) }
+    {
+        let mut room = [0; LONGEST_NUMBER];
+        let start = write_digits(number, &mut room, LONGEST_NUMBER);
+        self.print(&room[start..]);
+    }
+
+    /// Prints the octets in hexadecimal digits, in lower case.
+    #[tactic(auto, using(crate::proofs::Printed::printing_hex))]
+    pub fn print_hex(&mut self, octets: &[u8])
+        ensures { Prints W.contents self.old self.new (encode_lower octets.now) }
+    {
+        let mut rest = octets;
+        while !rest.is_empty() {
+            let (part, later) = rest.split_at(rest.len().min(HEX_PART));
+            self.print_hex_part(part);
+            rest = later;
+        }
+    }
+
+    fn print_hex_part(&mut self, octets: &[u8])
+        requires { length octets.now ≤ HEX_PART }
+        ensures { Prints W.contents self.old self.new (encode_lower octets.now) }
+    {
+        let mut digits = [0; 2 * HEX_PART];
+        let digits = &mut digits[..2 * octets.len()];
+        write_hex(octets, digits);
+        self.print(digits);
+    }
+}

@@ -1,9 +1,0 @@
-use Rattle.std.proofs.Common.{take}
-use Rattle.std.specs.List.{flat_map}
-use Rattle.bac_text.specs.Page.{Prints}
-use Rattle.bac_text.specs.Values.{octet_bits}
-use Rattle.bac_text.proofs.page.Page.print_whole_octets.Given as goal
-
-abbrev pub invariant-loop-octet : goal.invariant-loop-octet
-invariant-loop-octet g l =
-    Prints g.W.Write.contents l.fn.self l.self (flat_map octet_bits (take l.octet-index l.octets))

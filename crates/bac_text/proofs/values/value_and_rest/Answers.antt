@@ -1,6 +1,0 @@
-use Rattle.std.proofs.Common.{sym}
-use Rattle.bac_text.proofs.ValueLists.{value-shorter}
-use Rattle.bac_text.proofs.values.value_and_rest.Goals as goal
-
-pub returns-clause-shorter : goal.returns-clause-shorter
-returns-clause-shorter c = value-shorter _ _ _ (sym c.in_ok-value.ensures)

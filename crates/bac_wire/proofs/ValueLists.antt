@@ -1,0 +1,132 @@
+-- The values that a region is, from its front.
+use Rattle.std.proofs.Common.{◌≡◌, ℕ, zero, suc, ◌+◌, ◌<◌, ◌≤◌, List, [], ◌∷◌, length, Option, Some, None, refl, sym}
+use Rattle.std.proofs.Common.{◌∙◌, ap, subst, arith}
+use Rattle.std.specs.Prelude.{◌↔◌, option_map}
+use Rattle.std.proofs.lemmas.Bool.Decides.{nat_tests}
+use Rattle.std.proofs.lemmas.Option.{none-some}
+use Rattle.bac_wire.specs.Datum.{Datum, Spells}
+use Rattle.bac_wire.proofs.DatumLaws.{value_reader}
+use Rattle.bac_wire.proofs.RegionReading.{tag_shorter}
+use Rattle.bac_wire.specs.Front.{SpellsAll}
+use Rattle.bac_wire.proofs.Readers.{begins, begins_read}
+use Rattle.bac_wire.specs.Steps.{◌>>=◌}
+use Rattle.bac_wire.specs.DatumReading.{value_at, values_within, values_of}
+
+-- A value has an octet at least.
+pub value-shorter : (octets : List ℕ) (value : Datum) (rest : List ℕ) → value_at octets ≡ Some (value, rest)
+    → length rest < length octets
+value-shorter octets value rest e =
+    let b = begins Spells value_at value_reader octets value rest e in
+    let t = b.spelled.tagged in
+    subst (λ (w : List ℕ). length rest < length w) (sym b.whole)
+    (tag_shorter t.front b.spelled.contents b.front rest _ t.spelled t.whole)
+
+-- The values of the octets behind the first, after it.
+abbrev then_others : ℕ → Option (Datum × List ℕ) → Option (List Datum)
+then_others count found = found >>= (λ first. values_within count first.1 >>= (λ others. Some (first.0 ∷ others)))
+
+-- Any count that is large enough gives the same.
+enough : (count other : ℕ) (octets : List ℕ) → length octets ≤ count → length octets ≤ other
+    → values_within count octets ≡ values_within other octets
+unfolding values_within
+enough zero zero [] h k = refl
+enough zero (suc n) [] h k = refl
+enough (suc m) zero [] h k = refl
+enough (suc m) (suc n) [] h k = refl
+enough zero n (x ∷ xs) h k = absurd (omega arith)
+enough (suc m) zero (x ∷ xs) h k = absurd (omega arith)
+enough (suc m) (suc n) (x ∷ xs) h k = go (λ rest. enough m n rest) (value_at (x ∷ xs)) refl
+  where
+    go : ((rest : List ℕ) → length rest ≤ m → length rest ≤ n → values_within m rest ≡ values_within n rest) →
+        (found : Option (Datum × List ℕ)) → value_at (x ∷ xs) ≡ found → then_others m found ≡ then_others n found
+    go same None e = refl
+    go same (Some first) e =
+        let short = value-shorter (x ∷ xs) first.0 first.1 e in
+        ap (λ (found : Option (List Datum)). found >>= (λ others. Some (first.0 ∷ others)))
+        (same first.1 (omega arith) (omega arith))
+
+-- Where no value stands at the front of octets, they are no values.
+pub values-none : (octets : List ℕ) → value_at octets ≡ None → 0 < length octets → values_of octets ≡ None
+unfolding values_within
+values-none [] e h = absurd (omega arith)
+values-none (x ∷ xs) e h = ap (then_others (length xs)) e
+
+-- The first value, and those behind it.
+pub values-first : (octets : List ℕ) (value : Datum) (rest : List ℕ) → value_at octets ≡ Some (value, rest) →
+    values_of octets ≡ option_map (λ others. value ∷ others) (values_of rest)
+unfolding values_within
+values-first [] value rest e = absurd (let short = value-shorter [] value rest e in omega arith)
+values-first (x ∷ xs) value rest e =
+    let short = value-shorter (x ∷ xs) value rest e in
+    let same = enough (length xs) (length rest) rest (omega arith) (omega arith) in
+    grind arith
+
+-- Only nothing is no values.
+pub values-empty : (octets : List ℕ) → values_of octets ≡ Some [] → octets ≡ []
+unfolding values_within
+values-empty [] e = refl
+values-empty (x ∷ xs) e = absurd (grind arith)
+
+-- So many values were counted before the rest.
+pub record Counted (region rest : List ℕ) (count : ℕ) : Type 0 where
+  pub is : option_map length (values_of region) ≡ option_map (λ (n : ℕ). count + n) (option_map length (values_of rest))
+
+pub counted_none : (region : List ℕ) → Counted region region 0
+counted_none region = record { is = grind arith }
+
+pub counted_more : (region rest behind : List ℕ) (count : ℕ) (value : Datum) → Counted region rest count
+    → value_at rest ≡ Some (value, behind) →
+    Counted region behind (count + 1)
+counted_more region rest behind count value h found =
+    let more = values-first rest value behind found in
+    record { is = grind arith }
+
+pub counted_stuck : (region rest : List ℕ) (count : ℕ) → Counted region rest count → value_at rest ≡ None
+    → 0 < length rest →
+    None ≡ option_map length (values_of region)
+counted_stuck region rest count h none some = let stuck = values-none rest none some in grind arith
+
+pub counted_all : (region rest : List ℕ) (count : ℕ) → Counted region rest count → length rest ≡ 0
+    → Some count ≡ option_map length (values_of region)
+unfolding values_within
+counted_all region [] count h e = grind arith
+counted_all region (x ∷ xs) count h e = absurd (omega arith)
+
+pub ruleset counted = (counted_none, counted_more, counted_stuck, counted_all, nat_tests)
+
+-- ---- the values in the standard's words
+
+-- what the values of octets are, they spell
+pub spelled : (values : List Datum) (octets : List ℕ) → values_of octets ≡ Some values → SpellsAll Spells octets values
+unfolding values_within
+spelled [] octets e = values-empty octets e
+spelled (value ∷ others) [] e = absurd (let bad : [] ≡ value ∷ others = cc in cc)
+spelled (value ∷ others) (x ∷ xs) e = go (λ rest. spelled others rest) (value_at (x ∷ xs)) refl
+  where
+    parts : (first : Datum) (found : Option (List Datum))
+        → option_map (λ more. first ∷ more) found ≡ Some (value ∷ others) → (first ≡ value) × (found ≡ Some others)
+    parts first found h = grind arith
+
+    go : ((rest : List ℕ) → values_of rest ≡ Some others → SpellsAll Spells rest others) →
+        (found : Option (Datum × List ℕ)) → value_at (x ∷ xs) ≡ found → SpellsAll Spells (x ∷ xs) (value ∷ others)
+    go after None f = absurd (none-some (value ∷ others) (sym (values-none (x ∷ xs) f (omega arith)) ∙ e))
+    go after (Some first) f =
+        let found : value_at (x ∷ xs) ≡ Some (first.0, first.1) = f in
+        let both = parts first.0 (values_of first.1) (sym (values-first (x ∷ xs) first.0 first.1 found) ∙ e) in (
+          first.1,
+          begins Spells value_at value_reader (x ∷ xs) value first.1
+              (found ∙ ap (λ (v : Datum). Some (v, first.1)) both.0),
+          after first.1 both.1,
+        )
+
+-- what octets spell, their values are
+pub read_all : (values : List Datum) (octets : List ℕ) → SpellsAll Spells octets values → values_of octets ≡ Some values
+unfolding values_within
+read_all [] octets s = ap values_of s
+read_all (value ∷ others) octets s =
+    values-first octets value s.0 (begins_read Spells value_at value_reader octets value s.0 s.1)
+    ∙ ap (option_map (λ more. value ∷ more)) (read_all others s.0 s.2)
+
+pub are_spelled : (region : List ℕ) (values : List Datum)
+    → (values_of region ≡ Some values) ↔ SpellsAll Spells region values
+are_spelled region values = (spelled values region, read_all values region)
