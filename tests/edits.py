@@ -25,7 +25,7 @@ from tree import TOP as ROOT
 text_of = functools.cache(tree.text_of)
 # The layout is rt fmt's: a function ends at the first line that is its indent and a bracket.
 HEAD = re.compile(r"( *)(?:pub(?:\([^)]*\))? )?(?:const |unsafe )*fn (\w+)")
-IMPL = re.compile(r"impl(?:<.*?>)? (?:(\w+)(<.*>)? for )?(?:\w+::)*(\w+)")
+IMPL = re.compile(r"impl(?:<.*?>)? (?:(?:\w+::)*(\w+)(<.*>)? for )?(?:\w+::)*(\w+)")
 CYCLE = re.compile(r" *#\[cycle\((\w+)\)\]")
 # The lines of a function, from 0 on, where its body and its attributes begin, the names that a check has for it, its
 # own, what it is proved with, and where it may stand twice, if it may.

@@ -1,5 +1,6 @@
 pub mod Binding
 pub mod Report
+pub mod Telling
 pub mod Outside
 pub mod Runs
 pub mod Program

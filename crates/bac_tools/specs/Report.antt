@@ -1,5 +1,5 @@
 -- The status with which the program ends, and the fault that it tells of.
-use Rattle.std.specs.Prelude.{◌≡◌, ◌≤◌, ℕ, ⊤, Option, Some, None, option_map, Result, Err}
+use Rattle.std.specs.Prelude.{◌≡◌, ◌≤◌, ℕ, Option, Some, None, option_map, Result, Err}
 use Rattle.std.specs.Result.{result_err}
 use Rattle.std.specs.declared.io.ErrorKind.{ErrorKind}
 use Rattle.std.specs.declared.io.ErrorKind.TheVariants.{OutOfMemory}
@@ -10,7 +10,7 @@ use Rattle.bac_script.specs.Tracing.{trace_status_of}
 use Rattle.bac_script.specs.declared.tracing.TraceEnd.{TraceEnd}
 use Rattle.bac_script.specs.declared.tracing.TraceFault.{TraceFault}
 use Rattle.bac_words.specs.Fault.{usage_status_of}
-use Rattle.bac_words.specs.declared.faults.UsageFault.TheVariants.{Help, Memory}
+use Rattle.bac_words.specs.declared.faults.UsageFault.TheVariants.{Memory}
 use Rattle.bac_tools.specs.declared.report.Fault.{Fault}
 use Rattle.bac_tools.specs.declared.report.Fault.TheVariants as faults
 use Rattle.bac_tools.specs.declared.report.Report.{Report}
@@ -37,11 +37,6 @@ report_of fault = record { status = fault_status fault; fault = Some fault }
 abbrev pub unread_report : ErrorKind → Report
 unread_report OutOfMemory = report_of (faults.Usage Memory)
 unread_report kind = report_of faults.NoText
-
--- The fault that is told is help, which was asked for.
-abbrev pub IsHelp : Option Fault → Type 0
-IsHelp (Some (faults.Usage (Help text))) = ⊤
-IsHelp _ = ⊥
 
 -- The report after a tool over a link.
 abbrev pub tool_report : Result Exit ToolFault → Report

@@ -27,5 +27,5 @@ pub use bac_text::{Call, Search, read_peer};
 pub use bac_words::{Job, Serve, UsageFault, parse_words, usage_status, words_of};
 pub use binding::{Binding, binding_for};
 pub use program::{Ended, Network, Ran, run_program, run_words};
-pub use report::{Fault, Report};
+pub use report::{Fault, Report, Telling};
 pub use running::run_job;

@@ -1,18 +1,14 @@
 //! The program: its words, UDP sockets, standard input and output.
 #![tactic(auto)]
 
-ghost use Rattle.std.specs.Prelude.{◌≡◌, ◌⊎◌, [], Err, IfOk};
+ghost use Rattle.std.specs.Prelude.{◌≡◌, [], IfOk, Result};
 ghost use Rattle.std.specs.Process.{exit_status};
-ghost use Rattle.bac_links.specs.declared.fault.ToolFault.TheVariants.{WriteFailed};
+ghost use Rattle.std.specs.declared.io.Error.{Error};
 ghost use Rattle.bac_links.specs.Socket.{Binds};
-ghost use Rattle.bac_tools.specs.Report.{IsHelp, tool_report};
+ghost use Rattle.bac_tools.specs.Telling.{once_given};
 
-use bac_tools::{
-    Binding, Fault, Link, LinkFault, Network, Report, SystemSocket, ToolFault, UdpLink, UsageFault,
-    run_program,
-};
+use bac_tools::{Binding, Link, LinkFault, Network, Report, SystemSocket, UdpLink, run_program};
 use std::env;
-use std::fmt::Display;
 use std::io::{Eprint, Print};
 use std::process::ExitCode;
 
@@ -49,28 +45,12 @@ fn exit_code(report: &Report) -> ExitCode
     ExitCode::from(report.status)
 }
 
-// Prints help, or the line of a fault, and hands the report on. Where help can't be printed, that is what is reported.
+// Gives each standard stream what the report has for it. Where standard error fails there is nobody left to tell.
 fn told<R: Print + Eprint>(rt: &R, report: Report) -> Report
-    ensures { (result ≡ report) ⊎ ((result ≡ tool_report (Err WriteFailed)) × IsHelp report.fault) }
+    ensures { (printed : Result (Unit {0}) Error) × (result ≡ once_given report.fault printed report) }
 {
-    match &report.fault {
-        None => {}
-        Some(Fault::Usage(UsageFault::Help(text))) => {
-            if print!(rt; "{text}").is_err() {
-                let fault = ToolFault::WriteFailed;
-                show(rt, &fault);
-                return Report::from(Err(fault));
-            }
-        }
-        Some(Fault::Usage(UsageFault::Words(text))) => {
-            let _ = eprint!(rt; "{text}");
-        }
-        Some(fault) => show(rt, fault),
-    }
+    let printed = print!(rt; "{}", report.on_output());
+    let report = report.after_output(printed);
+    let _ = eprint!(rt; "{}", report.on_error());
     report
-}
-
-// Prints the line of a fault. Where standard error fails there is nobody left to tell.
-fn show<R: Eprint>(rt: &R, fault: &impl Display) {
-    let _ = eprintln!(rt; "bactool: {fault}");
 }
