@@ -104,7 +104,7 @@ module _ {R : Type 0} (move : List Entry → Move R) where
 pub played : {R : Type 0} (move : List Entry → Move R) (seen left : Account) (result : R) (gained : List Entry)
     → (plays : Plays move seen left result) → left.history ≡ seen.history ++ gained → plays.gained ≡ gained
 played move seen left result gained plays gains =
-    append_cancel_left seen.history _ _ (ap (λ (s : Account). s.history) (sym plays.gains.0) ∙ gains)
+    append_cancel_left seen.history _ _ (ap (λ (s : Account). s.history) (sym plays.gains) ∙ gains)
 
 -- Two that play to their ends: they stop together.
 module _ {R A : Type 0} (move : List Entry → Move R) (EndAlike PrintAlike : A → A → Type 0)

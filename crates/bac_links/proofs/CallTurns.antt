@@ -16,8 +16,8 @@ use Rattle.bac_tsm.specs.Client.{Client, rules_of, keeping}
 use Rattle.bac_print.specs.declared.checked.Checked.{Checked}
 use Rattle.bac_print.specs.Checked.{TookOrFailed}
 use Rattle.bac_links.specs.Limits.{most_turns}
-use Rattle.bac_links.specs.Foretold.{Heard, Silence, Arrival, Failure}
-use Rattle.bac_links.specs.History.{Entry, Waited, Timed, Posted, Unposted, Account, Gains, GainsAll}
+use Rattle.bac_links.specs.History.{Heard, Silence, Arrival, Failure, Entry, Waited, Timed, Posted, Unposted, Account}
+use Rattle.bac_links.specs.History.{GainsAll, Gains}
 use Rattle.bac_links.specs.Ending.{ending_line, exit_of}
 use Rattle.bac_links.specs.Asking.{Move, Asks, Ends, ForTime, ToSend, question_of, Follows, waits_in}
 use Rattle.bac_links.specs.Asking.{turn_after}

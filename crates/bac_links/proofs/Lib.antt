@@ -1,4 +1,5 @@
 mod Histories
+mod Played
 mod CallEvents
 mod CallTurns
 mod Searches

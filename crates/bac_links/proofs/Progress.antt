@@ -10,8 +10,7 @@ use Rattle.bac_tsm.specs.Events.{Event, Tick}
 use Rattle.bac_tsm.specs.Lookahead.{End, clock}
 use Rattle.bac_tsm.proofs.Progress.{clock_rises, open_soon, never_due}
 use Rattle.bac_print.specs.declared.checked.Checked.{Checked}
-use Rattle.bac_links.specs.Foretold.{Heard, Silence, Arrival, Failure}
-use Rattle.bac_links.specs.History.{Entry, Waited, Timed, Posted, Unposted, Account}
+use Rattle.bac_links.specs.History.{Heard, Silence, Arrival, Failure, Entry, Waited, Timed, Posted, Unposted, Account}
 use Rattle.bac_links.specs.Asking.{Move, Asks, Question, ForDatagram, ForTime, question_of, Follows, waits_in}
 use Rattle.bac_links.specs.Handed.{handed_of}
 use Rattle.bac_links.specs.Call.{rules_for, asked, end_in, events_of, Comes, or_ended, move_behind, move, Tells}

@@ -11,8 +11,8 @@ use Rattle.bac_print.specs.Checked.{Took}
 use Rattle.bac_print.proofs.Known.{Took-none, Took-more}
 use Rattle.bac_links.specs.Limits.{most_turns}
 use Rattle.bac_pdu.specs.Peer.{station}
-use Rattle.bac_links.specs.Foretold.{Heard, Silence, Arrival, Failure}
-use Rattle.bac_links.specs.History.{Entry, Waited, Timed, Posted, Unposted, Account, Gains, GainsAll}
+use Rattle.bac_links.specs.History.{Heard, Silence, Arrival, Failure, Entry, Waited, Timed, Posted, Unposted, Account}
+use Rattle.bac_links.specs.History.{GainsAll, Gains}
 use Rattle.bac_links.specs.Asking.{Asks, Ends, ForTime, Follows, waits_in, times_in, turn_after}
 use Rattle.bac_links.specs.Search.{Found, found_by, found_line, greatest_of, passed_in, who_is_to, found_of_entry}
 use Rattle.bac_links.specs.Search.{found_in, behind_time, search_behind, search_move, Searched}

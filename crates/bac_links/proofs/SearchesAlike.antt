@@ -82,7 +82,7 @@ module _ (search : Search) where
           (whole (Err TurnsSpent) it it.printed)
       stops (Err WriteFailed) gained it gains =
           subst (Stops (Err WriteFailed))
-          (append_cancel_left seen.history _ _ (ap (λ (s : Account). s.history) (sym it.gains.0) ∙ gains)) (cut it)
+          (append_cancel_left seen.history _ _ (ap (λ (s : Account). s.history) (sym it.gains) ∙ gains)) (cut it)
 
 -- Two searches that are answered alike.
 module _ {V W : Type 0} (contents : V → Option (List ℕ)) (contents' : W → Option (List ℕ)) (search : Search)

@@ -10,8 +10,8 @@ use Rattle.bac_device.specs.Device.{DeviceState}
 use Rattle.bac_device.specs.Turns.{Arrival as Came}
 use Rattle.bac_device.specs.Reply.{reply_of}
 use Rattle.bac_links.specs.Limits.{most_turns, serve_wait}
-use Rattle.bac_links.specs.Foretold.{Heard, Silence, Arrival, Failure}
-use Rattle.bac_links.specs.History.{Entry, Waited, Posted, Unposted, Account, GainsAll}
+use Rattle.bac_links.specs.History.{Heard, Silence, Arrival, Failure, Entry, Waited, Posted, Unposted, Account}
+use Rattle.bac_links.specs.History.{GainsAll}
 use Rattle.bac_links.specs.Asking.{Asks, Ends, ToSend, question_of, Follows, waits_in, turn_after}
 use Rattle.bac_links.specs.Serve.{came_by, came_of_entry, arrivals_in, device_next, device_behind, replies_of}
 use Rattle.bac_links.specs.Serve.{reply_count, or_reply, serve_next, serve_behind, serve_move, Serves}

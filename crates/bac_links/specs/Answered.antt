@@ -2,8 +2,7 @@
 use Rattle.std.specs.Prelude.{◌≡◌, ℕ, List, [], ◌∷◌, ◌++◌, map, Option, Result, Err}
 use Rattle.bac_print.specs.declared.checked.Checked.{Checked}
 use Rattle.bac_print.specs.Checked.{Took, TakesFront}
-use Rattle.bac_links.specs.Foretold.{Heard}
-use Rattle.bac_links.specs.History.{Entry, Waited, Timed, Posted, Unposted, Account}
+use Rattle.bac_links.specs.History.{Heard, Entry, Waited, Timed, Posted, Unposted, Account}
 use Rattle.bac_links.specs.Asking.{question_of}
 use Rattle.bac_links.specs.declared.fault.ToolFault.{ToolFault}
 use Rattle.bac_links.specs.declared.fault.ToolFault.TheVariants.{WriteFailed}

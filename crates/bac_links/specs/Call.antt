@@ -8,8 +8,7 @@ use Rattle.bac_tsm.specs.Events.{request_of}
 use Rattle.bac_tsm.specs.Lookahead.{Accepted, End, accepted, end, send_notes}
 use Rattle.bac_tsm.specs.Client.{client_rules}
 use Rattle.bac_links.specs.Limits.{turn_wait}
-use Rattle.bac_links.specs.Foretold.{Failure}
-use Rattle.bac_links.specs.History.{Entry, Waited, Timed, Posted, Unposted, Account}
+use Rattle.bac_links.specs.History.{Failure, Entry, Waited, Timed, Posted, Unposted, Account}
 use Rattle.bac_links.specs.Handed.{handed}
 use Rattle.bac_links.specs.Asking.{Move, Asks, Ends, ForTime, question_of, Plays, waits_in, turn_after}
 use Rattle.bac_links.specs.declared.ending.Purpose.{Purpose}

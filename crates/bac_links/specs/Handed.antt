@@ -2,8 +2,7 @@
 use Rattle.std.specs.Prelude.{List, [], ◌∷◌}
 use Rattle.std.specs.List.{flat_map}
 use Rattle.bac_tsm.specs.Events.{Event, Data, Tick}
-use Rattle.bac_links.specs.Foretold.{Heard, Arrival}
-use Rattle.bac_links.specs.History.{Entry, Waited, Timed}
+use Rattle.bac_links.specs.History.{Heard, Arrival, Entry, Waited, Timed}
 
 -- What the client is handed of a wait: the datagram that was heard, if there was one.
 abbrev pub data_in : Heard → List Event

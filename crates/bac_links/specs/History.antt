@@ -1,8 +1,13 @@
--- What a link was asked and answered, one thing after another; and what it knows of what comes.
-use Rattle.std.specs.Prelude.{◌≡◌, ℕ, List, [], ◌∷◌, ◌++◌, ⊤, Option, None, Result, Ok, Err}
-use Rattle.std.specs.Option.{ForSome, option_map}
-use Rattle.bac_pdu.specs.Peer.{Station}
-use Rattle.bac_links.specs.Foretold.{Foretold, Heard, after_wait}
+-- What a link was made of, and what it was asked and answered, one thing after another.
+use Rattle.std.specs.Prelude.{◌≡◌, ℕ, List, [], ◌∷◌, ◌++◌, Option, Some, None, Result, Ok, Err}
+use Rattle.bac_pdu.specs.declared.peer.Peer.{Peer}
+use Rattle.bac_pdu.specs.Peer.{Station, station}
+
+-- What a receive hears.
+pub data Heard : Type 0 where
+  Silence : Heard
+  Arrival : (from : Station) (octets : List ℕ) → Heard
+  Failure : Heard
 
 -- One thing that a link was asked, with its answer: a wait of so long, and what it heard; the time; a datagram that was
 -- sent, or that could not be.
@@ -12,41 +17,39 @@ pub data Entry : Type 0 where
   Posted : (to : Station) (octets : List ℕ) → Entry
   Unposted : (to : Station) (octets : List ℕ) → Entry
 
--- What a link that foretold this foretells once all of this was asked and answered.
-abbrev pub foretold_after : List Entry → Foretold → Foretold
-foretold_after [] t = t
-foretold_after (Waited wait heard ∷ later) t = foretold_after later (after_wait wait t)
-foretold_after (Posted to octets ∷ later) t =
-    foretold_after later (record t { sent = t.sent ++ record { time = t.time []; to = to; octets = octets } ∷ [] })
-foretold_after (_ ∷ later) t = foretold_after later t
+-- What one receive of a link in memory hears, and the time then. A receive that fails leaves the time as it was.
+pub record Scene : Type 0 where
+  pub heard : Heard
+  pub time : Option ℕ
 
--- What was asked was answered as was foretold.
-abbrev pub Foretells : List Entry → Foretold → Type 0
-Foretells [] t = ⊤
-Foretells (Waited wait heard ∷ later) t = (t.heard [] wait ≡ heard) × Foretells later (after_wait wait t)
-Foretells (Timed time ∷ later) t = (time ≡ t.time []) × Foretells later t
-Foretells (entry ∷ later) t = Foretells later (foretold_after (entry ∷ []) t)
+-- What a link was made of, which never changes: in memory the scenes that it hears, one after another. Of another link
+-- this is not known.
+pub data Made : Type 0 where
+  OfScenes : (scenes : List Scene) → Made
+  Unknown : Made
 
--- What contracts see of a link: what it foretells, where it knows this, and all that it was asked and answered.
+-- What contracts see of a link: what it was made of, and all that it was asked and answered.
 pub record Account : Type 0 where
-  pub foretold : Option Foretold
+  pub made : Made
   pub history : List Entry
 
--- A link that knows nothing of what comes.
+-- The account of a link of which it is not known what it was made of.
 abbrev pub remembering : List Entry → Account
-remembering entries = record { foretold = None; history = entries }
+remembering entries = record { made = Unknown; history = entries }
 
--- The account of a link after these entries too.
-abbrev pub gaining : List Entry → Account → Account
-gaining more a = record { foretold = option_map (foretold_after more) a.foretold; history = a.history ++ more }
-
--- The account of a link gains these entries, and they are what it foretold, where it did.
+-- The history of a link gains these entries, and it was made of the same.
 abbrev pub GainsAll : List Entry → Account → Account → Type 0
-GainsAll gained before after = (after ≡ gaining gained before) × ForSome before.foretold (Foretells gained)
+GainsAll gained before after = after ≡ record before { history = before.history ++ gained }
 
 -- It gains this one entry.
 abbrev pub Gains : Entry → Account → Account → Type 0
 Gains entry = GainsAll (entry ∷ [])
+
+-- What is heard where `receive` answers this and leaves these octets in its datagram.
+abbrev pub heard_by : {E : Type 0} → Result (Option Peer) E → List ℕ → Heard
+heard_by (Ok None) octets = Silence
+heard_by (Ok (Some from)) octets = Arrival (station from) octets
+heard_by (Err fault) octets = Failure
 
 -- The entry of a send with this result.
 abbrev pub posted : {A E : Type 0} → Result A E → Station → List ℕ → Entry

@@ -1,8 +1,8 @@
 pub mod Limits
-pub mod Foretold
 pub mod History
 pub mod Asking
 pub mod Answered
+pub mod Played
 pub mod Memory
 pub mod Socket
 pub mod Log

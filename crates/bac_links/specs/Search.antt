@@ -16,8 +16,7 @@ use Rattle.bac_pdu.specs.Discovery.{Introduction, asks, who_is_octets}
 use Rattle.bac_pdu.specs.ValueReading.{introduction_of}
 use Rattle.bac_print.specs.PeerTexts.{peer_text}
 use Rattle.bac_links.specs.Limits.{turn_wait}
-use Rattle.bac_links.specs.Foretold.{Heard, Arrival, Failure}
-use Rattle.bac_links.specs.History.{Entry, Waited, Timed, Posted, Unposted, Account, GainsAll}
+use Rattle.bac_links.specs.History.{Heard, Arrival, Failure, Entry, Waited, Timed, Posted, Unposted, Account, GainsAll}
 use Rattle.bac_links.specs.Asking.{Move, Asks, Ends, ForTime, ToSend, Follows, Plays, waits_in, times_in, turn_after}
 use Rattle.bac_links.specs.declared.ending.Exit.{Exit}
 use Rattle.bac_links.specs.declared.ending.Exit.TheVariants.{Good, Bad}

@@ -7,8 +7,7 @@ use Rattle.bac_device.specs.Device.{DeviceState}
 use Rattle.bac_device.specs.Reply.{reply_of, write_in_datagram, with_write}
 use Rattle.bac_device.specs.Turns.{Arrival as Came}
 use Rattle.bac_links.specs.Limits.{serve_wait}
-use Rattle.bac_links.specs.Foretold.{Heard, Arrival, Failure}
-use Rattle.bac_links.specs.History.{Entry, Waited, Unposted, Account}
+use Rattle.bac_links.specs.History.{Heard, Arrival, Failure, Entry, Waited, Unposted, Account}
 use Rattle.bac_links.specs.Asking.{Move, Asks, Ends, ToSend, Plays, waits_in, turn_after}
 use Rattle.bac_links.specs.declared.fault.ToolFault.{ToolFault}
 use Rattle.bac_links.specs.declared.fault.ToolFault.TheVariants.{SendFailed, ReceiveFailed}

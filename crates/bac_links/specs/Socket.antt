@@ -13,7 +13,7 @@ use Rattle.std.specs.declared.net.socket_addr.SocketAddr.{SocketAddr}
 use Rattle.std.specs.declared.net.socket_addr.SocketAddr.TheVariants.{V4, V6}
 use Rattle.bac_pdu.specs.Peer.{station}
 use Rattle.bac_pdu.specs.declared.peer.Peer.{Peer}
-use Rattle.bac_links.specs.Foretold.{Heard, Silence, Arrival, Failure}
+use Rattle.bac_links.specs.History.{Heard, Silence, Arrival, Failure}
 use Rattle.bac_links.specs.Limits.{longest_datagram}
 use Rattle.bac_links.specs.declared.udp.Refused.{Refused}
 use Rattle.bac_links.specs.declared.udp.Refused.TheVariants.{Fails, IsLost}

@@ -2,8 +2,7 @@
 ghost use Rattle.std.specs.Prelude.{◌≡◌, List, [], ◌∷◌, ◌++◌};
 ghost use Rattle.std.specs.Borrow.{ftrue};
 ghost use Rattle.bac_pdu.specs.Peer.{station};
-ghost use Rattle.bac_links.specs.Foretold.{heard_by};
-ghost use Rattle.bac_links.specs.History.{Entry, Waited, Timed, posted};
+ghost use Rattle.bac_links.specs.History.{heard_by, Entry, Waited, Timed, posted};
 
 use crate::datagram::Datagram;
 use crate::link::LinkFault;

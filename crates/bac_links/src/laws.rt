@@ -14,6 +14,7 @@ ghost use Rattle.bac_links.specs.History.{Entry, Account};
 ghost use Rattle.bac_links.specs.Answered.{AskAlike, OneText};
 ghost use Rattle.bac_links.specs.Asking.{waits_in};
 ghost use Rattle.bac_links.specs.Call.{Tells};
+ghost use Rattle.bac_links.specs.Memory.{PlaysItsScenes};
 ghost use Rattle.bac_links.specs.Progress.{AreTold, ArePrompt};
 ghost use Rattle.bac_links.specs.Search.{Searched};
 ghost use Rattle.bac_links.specs.Serve.{arrivals_in, replies_of, Serves};
@@ -24,9 +25,10 @@ ghost use Rattle.bac_links.specs.declared.fault.ToolFault.{ToolFault as Fault};
 use crate::datagram::DATAGRAM_OCTETS;
 use crate::ending::{Exit, Purpose as Aim};
 use crate::fault::ToolFault;
-use crate::link::LinkFault;
-use crate::memory::Step;
+use crate::link::{Link, LinkFault};
+use crate::memory::{MemoryLink, Step};
 use crate::udp::Refused;
+use std::alloc::Allocator;
 use std::io::Write;
 
 /// However a server ends, and whatever its link is, the device has its info and its points as before.
@@ -91,6 +93,12 @@ pub fn a_server_is_a_function()
     ensures { (count : ℕ) (before after other_after : DeviceState)
         → AskAlike (Serves count before after) (Serves count before other_after) (λ result. ⊥)
         (λ result other. (result ≡ other) × (after ≡ other_after)) (λ result other. ⊤) }
+{}
+
+/// Whoever used a link in memory, it answered as the steps say that it was made of: each wait heard the next one, once
+/// there was none nothing, and each time was the time then.
+pub fn a_memory_link_plays_its_steps<A: Allocator + Copy>(link: &MemoryLink<A>)
+    ensures { PlaysItsScenes (⟦<MemoryLink<A> as Link>⟧.seen link.now) }
 {}
 
 /// The limit that the code names is that of the definitions.

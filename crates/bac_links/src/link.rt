@@ -3,8 +3,7 @@ ghost use Rattle.std.specs.Prelude.{◌≡◌, Bool, false, is_err, None, IfOk, 
 ghost use Rattle.std.specs.Option.{option_flatten};
 ghost use Rattle.std.specs.Result.{result_ok};
 ghost use Rattle.bac_pdu.specs.Peer.{station};
-ghost use Rattle.bac_links.specs.Foretold.{heard_by};
-ghost use Rattle.bac_links.specs.History.{Account, Waited, Timed, Gains, posted};
+ghost use Rattle.bac_links.specs.History.{heard_by, Waited, Timed, Account, Gains, posted};
 
 use crate::datagram::Datagram;
 use bac_pdu::Peer;
@@ -17,8 +16,7 @@ pub struct LinkFault;
 
 /// What sends and receives datagrams, and knows the time. Once a send or a receive has failed, neither is called again.
 pub trait Link {
-    // What the link was asked and answered so far; and what it will hear, what its time will be, and what it sent,
-    // where it knows this.
+    // What the link was made of, and what it was asked and answered so far.
     ghost seen: { Self → Account };
 
     // A send or a receive has failed.

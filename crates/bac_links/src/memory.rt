@@ -1,20 +1,20 @@
 //! A link in memory.
 ghost use Rattle.std.specs.Prelude.{◌≡◌, ◌++◌, ◌∷◌, [], false, length, map, IfOk, OnOk, OnErr, is_err, slice_get};
 ghost use Rattle.std.specs.Prelude.{IfNone, IfSome, IsTrue, MatchOption, Some, None};
-ghost use Rattle.std.specs.Option.{option_flatten};
+ghost use Rattle.std.specs.Option.{option_flatten, option_to_list};
 ghost use Rattle.std.specs.Result.{result_ok};
 ghost use Rattle.bac_pdu.specs.Peer.{station};
-ghost use Rattle.bac_links.specs.Foretold.{after_wait, heard_by};
-ghost use Rattle.bac_links.specs.History.{Waited, Timed, Gains, posted};
-ghost use Rattle.bac_links.specs.Memory.{foretold_of, seen_of, foretold_by, fails_at, scene_of_step, scene_of_kept};
-ghost use Rattle.bac_links.specs.Memory.{sending_of, unrouted};
+ghost use Rattle.bac_links.specs.History.{heard_by, Waited, Timed, Gains, posted};
+ghost use Rattle.bac_links.specs.Memory.{account_of, account_with, scene_of_step, scene_of_kept, sent_by, sending_of};
+ghost use Rattle.bac_links.specs.Memory.{unrouted};
+ghost use Rattle.bac_links.specs.Played.{heard_next, behind_wait};
+ghost use Rattle.bac_links.specs.Inner.Stands.{Stands};
 
 use crate::datagram::Datagram;
 use crate::history::History;
 use crate::link::{Link, LinkFault};
 use bac_pdu::Peer;
 use std::alloc::{AllocError, Allocator, Global};
-use std::collections::VecDeque;
 
 /// What one receive of a link in memory hears.
 #[derive(Clone, Copy, Debug)]
@@ -48,13 +48,17 @@ struct Record<A: Allocator> {
 #[derive(Drop)]
 pub struct MemoryLink<A: Allocator = Global> {
     alloc: A,
-    steps: VecDeque<Kept<A>, A>,
+    // The steps, and the number of the next one, which is past the end once there is none.
+    steps: Vec<Kept<A>, A>,
+    next: usize,
     time: u64,
     sent: Vec<Record<A>, A>,
     fail_send: Option<u32>,
     failed: bool,
     // What it was asked and answered.
     history: History,
+    ghost stands: { ∥ Stands (map scene_of_kept steps.items) history.entries next time
+        (map sending_of sent.items) ∥₁ },
 }
 
 impl<A: Allocator + Copy> MemoryLink<A> {
@@ -64,45 +68,26 @@ impl<A: Allocator + Copy> MemoryLink<A> {
     ///
     /// `LinkFault` where there is no memory for the steps.
     pub fn new(alloc: A, steps: &[Step<'_>], fail_send: Option<u32>) -> Result<Self, LinkFault>
-        ensures told { IfOk result (λ link. foretold_of link ≡ foretold_by (map scene_of_step steps.now) 0 []) }
-        ensures fails_at { IfOk result (λ link. fails_at link ≡ fail_send) }
-        ensures begun { IfOk result (λ link. link.history.entries ≡ []) }
+        ensures made { IfOk result (λ link. ⟦<MemoryLink<A> as Link>⟧.seen link
+            ≡ account_of (map scene_of_step steps.now) []) }
+        ensures fails_at { IfOk result (λ link. link.fail_send ≡ fail_send) }
         ensures sound { IfOk result (λ link. ⟦<MemoryLink<A> as Link>⟧.has_failed link ≡ false) }
     {
-        let mut kept = VecDeque::new(alloc);
+        let mut kept = Vec::new(alloc);
         for step in steps {
             let step = keep(alloc, step).map_err(|_| LinkFault)?;
-            kept.push_back(step).map_err(|_| LinkFault)?;
+            kept.push(step).map_err(|_| LinkFault)?;
         }
         Ok(MemoryLink {
             alloc,
             steps: kept,
+            next: 0,
             time: 0,
             sent: Vec::new(alloc),
             fail_send,
             failed: false,
             history: History::new(),
         })
-    }
-
-    // Notes a datagram as sent.
-    fn record(&mut self, to: Peer, octets: &[u8]) -> Result<(), AllocError>
-        ensures steps { self.new.steps ≡ self.old.steps }
-        ensures time { self.new.time ≡ self.old.time }
-        ensures fail_send { self.new.fail_send ≡ self.old.fail_send }
-        ensures failed { self.new.failed ≡ self.old.failed }
-        ensures history { self.new.history ≡ self.old.history }
-        ensures ok { OnOk result (map sending_of self.new.sent.items ≡ map sending_of self.old.sent.items
-            ++ record { time = self.old.time; to = station to; octets = octets.now } ∷ []) }
-        ensures err { OnErr result (self.new.sent.items ≡ self.old.sent.items) }
-    {
-        let octets = Vec::from_slice(self.alloc, octets)?;
-        self.sent.push(Record {
-            time: self.time,
-            to,
-            octets,
-        })?;
-        Ok(())
     }
 }
 
@@ -131,56 +116,90 @@ fn without_route(peer: Peer) -> Peer
     }
 }
 
+// Keeps a datagram as sent at this time, unless it has the number of the send that fails, or there is no memory.
+fn keep_sent<A: Allocator + Copy>(
+    alloc: A,
+    sent: &mut Vec<Record<A>, A>,
+    fail_send: Option<u32>,
+    time: u64,
+    to: Peer,
+    octets: &[u8],
+) -> Result<(), LinkFault>
+    ensures ok { OnOk result (map sending_of sent.new.items ≡ map sending_of sent.old.items
+        ++ record { time = time; to = station to; octets = octets.now } ∷ []) }
+    ensures err { OnErr result (map sending_of sent.new.items ≡ map sending_of sent.old.items) }
+    ensures its_number { fail_send ≡ Some (length sent.old.items) → IsTrue (is_err result) }
+{
+    let number = sent.len() as u64;
+    if fail_send.map(u64::from) == Some(number) {
+        return Err(LinkFault);
+    }
+    let octets = Vec::from_slice(alloc, octets).map_err(|_| LinkFault)?;
+    sent.push(Record { time, to, octets })
+        .map_err(|_| LinkFault)?;
+    Ok(())
+}
+
+// What the record with this number tells.
+fn sending<A: Allocator>(sent: &[Record<A>], n: usize) -> Option<(u64, Peer, &[u8])>
+    ensures { MatchOption result (slice_get (map sending_of sent.now) n ≡ None)
+        (λ s. slice_get (map sending_of sent.now) n
+        ≡ Some (record { time = s.0; to = station s.1; octets = s.2.now })) }
+{
+    let record = sent.get(n)?;
+    Some((record.time, record.to, record.octets.as_slice()))
+}
+
+// What a wait hears where the step with this number is next, and the time then.
+fn hear<A: Allocator>(
+    steps: &[Kept<A>],
+    next: usize,
+    wait_ms: u32,
+    time: &mut u64,
+    datagram: &mut Datagram,
+) -> Result<Option<Peer>, LinkFault>
+    ensures heard { heard_by result datagram.new
+        ≡ heard_next (option_to_list (slice_get (map scene_of_kept steps.now) next)) }
+    ensures time { time.new ≡ (behind_wait wait_ms (option_to_list (slice_get (map scene_of_kept steps.now) next))
+        time.old).time }
+    ensures plain { IfOk result (λ heard. IfSome heard (λ from. from.route ≡ None)) }
+    ensures kept { IfNone (option_flatten (result_ok result)) (datagram.new ≡ datagram.old) }
+{
+    match steps.get(next) {
+        None => {
+            *time = time.saturating_add(u64::from(wait_ms));
+            Ok(None)
+        }
+        Some(Kept::Quiet(at)) => {
+            *time = *at;
+            Ok(None)
+        }
+        Some(Kept::Packet(at, from, octets)) => {
+            *time = *at;
+            if datagram.set(octets.as_slice()) {
+                Ok(Some(without_route(*from)))
+            } else {
+                Ok(None)
+            }
+        }
+        Some(Kept::Broken) => Err(LinkFault),
+    }
+}
+
 impl<A: Allocator> MemoryLink<A> {
     /// The send with this number among those that succeeded, from 0, with its time.
     pub fn sent(&self, n: usize) -> Option<(u64, Peer, &[u8])>
-        ensures { MatchOption result (slice_get (foretold_of self.now).sent n ≡ None)
-            (λ s. slice_get (foretold_of self.now).sent n
+        ensures { MatchOption result
+            (slice_get (sent_by (account_with self.now.steps.items self.now.history.entries)) n ≡ None)
+            (λ s. slice_get (sent_by (account_with self.now.steps.items self.now.history.entries)) n
             ≡ Some (record { time = s.0; to = station s.1; octets = s.2.now })) }
     {
-        let record = self.sent.get(n)?;
-        Some((record.time, record.to, record.octets.as_slice()))
-    }
-
-    // Hears the next step.
-    fn hear(&mut self, wait_ms: u32, datagram: &mut Datagram) -> Result<Option<Peer>, LinkFault>
-        requires { self.old.failed ≡ false }
-        ensures fault { self.new.failed ≡ is_err result }
-        ensures plain { IfOk result (λ heard. IfSome heard (λ from. from.route ≡ None)) }
-        ensures heard { (foretold_of self.old).heard [] wait_ms ≡ heard_by result datagram.new }
-        ensures kept { IfNone (option_flatten (result_ok result)) (datagram.new ≡ datagram.old) }
-        ensures goes_on { foretold_of self.new ≡ after_wait wait_ms (foretold_of self.old) }
-        ensures fails_at { fails_at self.new ≡ fails_at self.old }
-        ensures history { self.new.history ≡ self.old.history }
-    {
-        let now = &mut self.time;
-        match self.steps.pop_front() {
-            None => {
-                *now = now.saturating_add(u64::from(wait_ms));
-                Ok(None)
-            }
-            Some(Kept::Quiet(time)) => {
-                *now = time;
-                Ok(None)
-            }
-            Some(Kept::Packet(time, from, octets)) => {
-                *now = time;
-                if datagram.set(octets.as_slice()) {
-                    Ok(Some(without_route(from)))
-                } else {
-                    Ok(None)
-                }
-            }
-            Some(Kept::Broken) => {
-                self.failed = true;
-                Err(LinkFault)
-            }
-        }
+        sending(&self.sent, n)
     }
 }
 
 impl<A: Allocator + Copy> Link for MemoryLink<A> {
-    ghost seen = { seen_of };
+    ghost seen = { λ link. account_with link.steps.items link.history.entries };
 
     ghost has_failed = { λ link. link.failed };
 
@@ -188,18 +207,23 @@ impl<A: Allocator + Copy> Link for MemoryLink<A> {
     fn send(&mut self, to: Peer, octets: &[u8]) -> Result<(), LinkFault>
         requires { self.old.failed ≡ false }
         ensures fault { self.new.failed ≡ is_err result }
-        ensures told { Gains (posted result (station to) octets.now) (seen_of self.old) (seen_of self.new) }
-        ensures its_number { fails_at self.old ≡ Some (length (foretold_of self.old).sent) → IsTrue (is_err result) }
-        ensures fails_at { fails_at self.new ≡ fails_at self.old }
+        ensures told { Gains (posted result (station to) octets.now)
+            (account_with self.old.steps.items self.old.history.entries)
+            (account_with self.new.steps.items self.new.history.entries) }
+        ensures its_number { self.old.fail_send
+            ≡ Some (length (sent_by (account_with self.old.steps.items self.old.history.entries)))
+            → IsTrue (is_err result) }
+        ensures fails_at { self.new.fail_send ≡ self.old.fail_send }
     {
-        let number = self.sent.len() as u64;
-        let fails = self.fail_send.map(u64::from) == Some(number);
-        let sent = if fails || self.record(to, octets).is_err() {
-            self.failed = true;
-            Err(LinkFault)
-        } else {
-            Ok(())
-        };
+        let sent = keep_sent(
+            self.alloc,
+            &mut self.sent,
+            self.fail_send,
+            self.time,
+            to,
+            octets,
+        );
+        self.failed = sent.is_err();
         self.history = self.history.and_send(&sent, to, octets);
         sent
     }
@@ -209,18 +233,23 @@ impl<A: Allocator + Copy> Link for MemoryLink<A> {
         ensures fault { self.new.failed ≡ is_err result }
         ensures plain { IfOk result (λ heard. IfSome heard (λ from. from.route ≡ None)) }
         ensures kept { IfNone (option_flatten (result_ok result)) (datagram.new ≡ datagram.old) }
-        ensures told { Gains (Waited wait_ms (heard_by result datagram.new)) (seen_of self.old) (seen_of self.new) }
-        ensures fails_at { fails_at self.new ≡ fails_at self.old }
+        ensures told { Gains (Waited wait_ms (heard_by result datagram.new))
+            (account_with self.old.steps.items self.old.history.entries)
+            (account_with self.new.steps.items self.new.history.entries) }
+        ensures fails_at { self.new.fail_send ≡ self.old.fail_send }
     {
-        let heard = self.hear(wait_ms, datagram);
+        let heard = hear(&self.steps, self.next, wait_ms, &mut self.time, datagram);
+        self.next = self.next.saturating_add(1);
+        self.failed = heard.is_err();
         self.history = self.history.and_wait(wait_ms, &heard, datagram);
         heard
     }
 
     fn now(&mut self) -> u64
         ensures fault { self.new.failed ≡ self.old.failed }
-        ensures told { Gains (Timed result) (seen_of self.old) (seen_of self.new) }
-        ensures fails_at { fails_at self.new ≡ fails_at self.old }
+        ensures told { Gains (Timed result) (account_with self.old.steps.items self.old.history.entries)
+            (account_with self.new.steps.items self.new.history.entries) }
+        ensures fails_at { self.new.fail_send ≡ self.old.fail_send }
     {
         self.history = self.history.and_time(self.time);
         self.time

@@ -6,8 +6,7 @@ ghost use Rattle.std.specs.Option.{option_flatten};
 ghost use Rattle.std.specs.Result.{result_ok};
 ghost use Rattle.bac_pdu.specs.Peer.{station};
 ghost use Rattle.bac_links.specs.Limits.{longest_datagram};
-ghost use Rattle.bac_links.specs.Foretold.{heard_by};
-ghost use Rattle.bac_links.specs.History.{Waited, Timed, Gains, posted, remembering};
+ghost use Rattle.bac_links.specs.History.{heard_by, Waited, Timed, Gains, posted, remembering};
 ghost use Rattle.bac_links.specs.Socket.{IsAddressOf, heard_from, is_quiet, peer_at, time_by};
 ghost use Rattle.bac_links.specs.Socket.{Logs, Binds, Sends, Times, Waits, limits};
 

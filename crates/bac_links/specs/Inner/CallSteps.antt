@@ -7,8 +7,7 @@ use Rattle.bac_tsm.specs.Machine.{State, Waiting, Stepped, step}
 use Rattle.bac_tsm.specs.Laws.{state_at}
 use Rattle.bac_pdu.specs.Apdu.{longest_body}
 use Rattle.bac_tsm.specs.Client.{Client}
-use Rattle.bac_links.specs.Foretold.{Heard, Silence, Arrival, Failure}
-use Rattle.bac_links.specs.History.{Entry, Timed, Posted, Unposted, Account, GainsAll}
+use Rattle.bac_links.specs.History.{Heard, Silence, Arrival, Failure, Entry, Timed, Posted, Unposted, Account, GainsAll}
 use Rattle.bac_links.specs.Asking.{Follows, waits_in, turn_after}
 use Rattle.bac_links.specs.Handed.{handed}
 use Rattle.bac_links.specs.Limits.{turn_wait}

@@ -1,8 +1,7 @@
 -- The entry that a note stands for.
 use Rattle.std.specs.Prelude.{List, ◌∷◌, [], ◌++◌}
 use Rattle.bac_pdu.specs.Peer.{station}
-use Rattle.bac_links.specs.Foretold.{Silence, Arrival, Failure}
-use Rattle.bac_links.specs.History.{Entry, Waited, Timed, Posted, Unposted}
+use Rattle.bac_links.specs.History.{Silence, Arrival, Failure, Entry, Waited, Timed, Posted, Unposted}
 use Rattle.bac_links.specs.declared.history.Note.{Note}
 use Rattle.bac_links.specs.declared.history.Note.TheVariants as note
 

@@ -6,8 +6,7 @@ use Rattle.bac_print.specs.declared.checked.Checked.{Checked}
 use Rattle.bac_print.specs.Checked.{Took}
 use Rattle.bac_pdu.specs.declared.discovery.WhoIs.{WhoIs}
 use Rattle.bac_links.specs.Limits.{turn_wait}
-use Rattle.bac_links.specs.Foretold.{Heard, Failure}
-use Rattle.bac_links.specs.History.{Waited, Account, Gains}
+use Rattle.bac_links.specs.History.{Heard, Failure, Waited, Account, Gains}
 use Rattle.bac_links.specs.Search.{Found, found_by, found_line}
 use Rattle.bac_links.specs.declared.fault.ToolFault.{ToolFault}
 use Rattle.bac_links.specs.declared.fault.ToolFault.TheVariants.{SendFailed, ReceiveFailed, TurnsSpent, WriteFailed}

@@ -5,8 +5,7 @@ use Rattle.std.specs.List.{flat_map}
 use Rattle.bac_pdu.specs.Peer.{Station}
 use Rattle.bac_device.specs.Device.{DeviceState}
 use Rattle.bac_links.specs.Limits.{serve_wait}
-use Rattle.bac_links.specs.Foretold.{Heard, Failure}
-use Rattle.bac_links.specs.History.{Entry, Waited, Posted, Unposted, Account, GainsAll, Gains}
+use Rattle.bac_links.specs.History.{Heard, Failure, Entry, Waited, Posted, Unposted, Account, GainsAll, Gains}
 use Rattle.bac_links.specs.Serve.{came_by, device_behind, replies_of, reply_count}
 use Rattle.bac_links.specs.declared.fault.ToolFault.{ToolFault}
 use Rattle.bac_links.specs.declared.fault.ToolFault.TheVariants.{SendFailed, ReceiveFailed, TurnsSpent, WriteFailed}

@@ -1,10 +1,10 @@
 //! From words to what is printed and the status, over links in memory.
 ghost use Rattle.std.specs.Prelude.{◌≡◌, [], map, IfOk};
-ghost use Rattle.bac_links.specs.Memory.{foretold_of, foretold_by, scene_of_step};
+ghost use Rattle.bac_links.specs.Memory.{account_of, scene_of_step};
 
 use super::*;
 use crate::tests::links::quiet;
-use bac_links::{LinkFault, MemoryLink, Refused, Step};
+use bac_links::{Link, LinkFault, MemoryLink, Refused, Step};
 use bac_tools::{Binding, Network, Report, run_program};
 use std::alloc::Global;
 use std::cell::Cell;
@@ -25,7 +25,7 @@ impl Network for Rehearsal<'_, '_> {
     type Socket = MemoryLink;
 
     ghost gives = { λ network binding socket.
-        IfOk socket (λ link. foretold_of link ≡ foretold_by (map scene_of_step network.steps.now) 0 []) };
+        IfOk socket (λ link. ⟦<MemoryLink as Link>⟧.seen link ≡ account_of (map scene_of_step network.steps.now) []) };
 
     fn bind(self, binding: Binding) -> Result<MemoryLink, LinkFault> {
         self.asked.set(self.asked.get().saturating_add(1));

@@ -3,7 +3,7 @@ use Rattle.std.proofs.lemmas.List.{append-nil}
 use Rattle.std.proofs.lemmas.Result.{err_from_is_err_and}
 use Rattle.bac_print.proofs.Known.{Took-none}
 use Rattle.bac_pdu.specs.Peer.{station}
-use Rattle.bac_links.specs.Foretold.{Arrival}
+use Rattle.bac_links.specs.History.{Arrival}
 use Rattle.bac_links.specs.Inner.Search.{found_seen}
 use Rattle.bac_links.proofs.search.listen.Goals as goal
 

@@ -1,0 +1,5 @@
+use Rattle.bac_links.proofs.Played.{played_so}
+use Rattle.bac_links.proofs.laws.a_memory_link_plays_its_steps.Goals as goal
+
+pub returns : goal.returns
+returns g c = played_so c.args.link.now.stands

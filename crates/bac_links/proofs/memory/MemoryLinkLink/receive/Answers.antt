@@ -1,0 +1,16 @@
+use Rattle.std.proofs.Common.{arith, refl}
+use Rattle.std.proofs.Math.Logic.{∥∥₁_map}
+use Rattle.std.proofs.lemmas.List.{length-map}
+use Rattle.bac_links.proofs.Played.{stands_waited}
+use Rattle.bac_links.proofs.memory.MemoryLinkLink.receive.Goals as goal
+
+pub invariant_of-self : goal.invariant_of-self
+invariant_of-self g c =
+    let heard = rw c.deref.ensures.value at c.hear-heard.ensures.heard in
+    let time = rw c.deref.ensures.value at c.hear-heard.ensures.time in
+    record {
+      stands = ∥∥₁_map c.args.self.now.stands
+          (λ s. rw c.and_wait-self.ensures
+          (stands_waited _ _ _ _ _ s _ c.args.wait_ms _ _ _ refl heard time (rw length-map (omega arith)) (omega arith)
+          c.saturating_add-self.ensures));
+    }

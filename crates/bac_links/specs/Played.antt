@@ -1,0 +1,55 @@
+-- What a link in memory answers and sends, by the scenes that it was made of and what it was asked so far.
+use Rattle.std.specs.Prelude.{◌≡◌, ℕ, ◌+◌, ◌-◌, ◌^◌, min, List, [], ◌∷◌, ◌++◌, ⊤, unwrap_or}
+use Rattle.bac_pdu.specs.Peer.{Station}
+use Rattle.bac_links.specs.History.{Heard, Silence, Entry, Waited, Timed, Posted, Scene}
+
+-- Where a link in memory stands: the scenes that are to come, and its time.
+pub record Stage : Type 0 where
+  pub scenes : List Scene
+  pub time : ℕ
+
+-- At first all scenes are to come, and the time is 0.
+abbrev pub at_first : List Scene → Stage
+at_first scenes = record { scenes = scenes; time = 0 }
+
+-- What the next wait hears: the next scene; once there is none, nothing.
+abbrev pub heard_next : List Scene → Heard
+heard_next [] = Silence
+heard_next (scene ∷ later) = scene.heard
+
+-- A wait takes one scene. Once there is none, the time goes on by the wait, and stops at the greatest.
+abbrev pub behind_wait : (wait : ℕ) → List Scene → (time : ℕ) → Stage
+behind_wait wait [] time = record { scenes = []; time = min (time + wait) (2 ^ 64 - 1) }
+behind_wait wait (scene ∷ later) time = record { scenes = later; time = unwrap_or scene.time time }
+
+-- Where the link stands behind an entry: a wait alone changes that.
+abbrev pub behind : Stage → Entry → Stage
+behind stage (Waited wait heard) = behind_wait wait stage.scenes stage.time
+behind stage _ = stage
+
+-- A wait hears the next scene, and the time is that of the stage.
+abbrev pub IsPlayed : Stage → Entry → Type 0
+IsPlayed stage (Waited wait heard) = heard ≡ heard_next stage.scenes
+IsPlayed stage (Timed time) = time ≡ stage.time
+IsPlayed stage _ = ⊤
+
+-- So is each of these entries, one after another.
+abbrev pub ArePlayed : Stage → List Entry → Type 0
+ArePlayed stage [] = ⊤
+ArePlayed stage (entry ∷ later) = IsPlayed stage entry × ArePlayed (behind stage entry) later
+
+-- A datagram that was sent, and when.
+pub record Sending : Type 0 where
+  pub time : ℕ
+  pub to : Station
+  pub octets : List ℕ
+
+-- What was sent in an entry at this time.
+abbrev pub sending_in : (time : ℕ) → Entry → List Sending
+sending_in time (Posted to octets) = record { time = time; to = to; octets = octets } ∷ []
+sending_in time _ = []
+
+-- What was sent in these entries, one after another.
+abbrev pub sendings : Stage → List Entry → List Sending
+sendings stage [] = []
+sendings stage (entry ∷ later) = sending_in stage.time entry ++ sendings (behind stage entry) later
