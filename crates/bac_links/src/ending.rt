@@ -55,7 +55,6 @@ impl Purpose {
 }
 
 /// Prints the line that tells how the request ended.
-#[tactic(auto, unfolding(bac_text::specs::Page::Wrote))]
 pub(crate) fn show_ending<W: Write>(
     purpose: Purpose,
     ending: Ending<'_>,
