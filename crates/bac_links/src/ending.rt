@@ -54,7 +54,6 @@ impl Purpose {
 }
 
 /// Prints the line that tells how the request ended.
-#[tactic(auto, unfolding(bac_print::specs::Page::Wrote))]
 pub(crate) fn show_ending<W: Write>(
     purpose: Purpose,
     ending: Ending<'_>,

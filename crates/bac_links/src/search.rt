@@ -72,7 +72,6 @@ fn read_found(who: WhoIs, from: Peer, octets: &[u8]) -> Option<Found>
 }
 
 // Prints the line of a device.
-#[tactic(auto, unfolding(bac_print::specs::Page::Wrote))]
 fn show_found<W: Write>(found: Found, writer: &mut Checked<W>) -> Result<(), ToolFault>
     requires { has_failed writer.old ≡ false }
     ensures text { TookOrFailed W.contents writer.old writer.new (found_line (found_seen found)) result }

@@ -1,10 +1,15 @@
 -- What several reads or writes in a row do to known octets.
-use Rattle.std.proofs.Common.{arith, ◌≡◌, ℕ, ◌-◌, List, [], ◌∷◌, ◌++◌, length, take, drop, Option, refl, sym, ◌∙◌, ap}
-use Rattle.std.proofs.Common.{subst, append_assoc}
-use Rattle.std.proofs.lemmas.List.{append-nil, take-append-drop, take_rest}
-use Rattle.std.specs.Io.KnownBytes.{Keeps, Appends, Consumes}
+use Rattle.std.proofs.Common.{arith, ◌≡◌, ◌≢◌, ℕ, Bool, false, ◌||◌, List, [], ◌∷◌, ◌++◌, length, take, drop, Option}
+use Rattle.std.proofs.Common.{Result, Ok, Err, refl, sym, ◌∙◌, ap, subst, append_assoc}
+use Rattle.std.specs.Prelude.{is_err}
+use Rattle.std.specs.Result.{result_unwrap_or}
+use Rattle.std.specs.declared.io.Error.{Error}
+use Rattle.std.proofs.lemmas.List.{append-nil, take-append-drop}
+use Rattle.std.specs.Io.KnownBytes.{Keeps, Appends, Consumes, WriteAppends}
 use Rattle.bac_print.specs.declared.checked.Checked.{Checked}
-use Rattle.bac_print.specs.Checked.{inner_of, octets_of, HasNotRead, Took, Gave}
+use Rattle.bac_print.specs.StreamCall.{StreamCall, ReadCall, WriteCall, FlushCall}
+use Rattle.bac_print.specs.Checked.{inner_of, calls_of, has_failed, octets_of, passes_none, gone, HasNotRead}
+use Rattle.bac_print.specs.Checked.{OnlyWrites, Took, Gave}
 
 pub Appends-none : (known : Option (List ℕ)) → Appends known known []
 Appends-none known = grind (arith, append-nil)
@@ -24,14 +29,35 @@ Consumes-kept a b p = grind arith
 
 pub Took-none : {W : Type 0} {contents : W → Option (List ℕ)} (a : Checked W) → Took contents a a []
 Took-none {W} {contents} a =
-    record { passed = sym (append-nil (octets_of a)); known = Appends-none (contents (inner_of a)) }
+    record {
+      passed = sym (append-nil (octets_of a));
+      known = Appends-none (contents (inner_of a));
+      made = [];
+      calls = sym (append-nil (calls_of a));
+      asked = refl;
+    }
+
+OnlyWrites-more : (xs ys : List StreamCall) (a b c : Bool) → OnlyWrites a xs b → OnlyWrites b ys c
+    → OnlyWrites a (xs ++ ys) c
+OnlyWrites-more [] ys a b c p q = rw p at q
+OnlyWrites-more (WriteCall octets answer ∷ xs) ys a b c p q = (p.0, p.1, OnlyWrites-more xs ys _ b c p.2 q)
+OnlyWrites-more (ReadCall room given ∷ xs) ys a b c p q = absurd p
+OnlyWrites-more (FlushCall done ∷ xs) ys a b c p q = absurd p
 
 pub Took-more : {W : Type 0} {contents : W → Option (List ℕ)} {a b c : Checked W} {xs ys : List ℕ}
     → Took contents a b xs → Took contents b c ys → Took contents a c (xs ++ ys)
 Took-more {W} {contents} {a} {b} {c} {xs} {ys} p q = record {
   passed = q.passed ∙ ap (λ zs. zs ++ ys) p.passed ∙ append_assoc (octets_of a) xs ys;
   known = Appends-more (contents (inner_of a)) (contents (inner_of b)) (contents (inner_of c)) xs ys p.known q.known;
+  made = p.made ++ q.made;
+  calls = q.calls ∙ ap (λ zs. zs ++ q.made) p.calls ∙ append_assoc (calls_of a) p.made q.made;
+  asked = OnlyWrites-more p.made q.made (has_failed a) (has_failed b) (has_failed c) p.asked q.asked;
 }
+
+written_known : {E : Type 0} (old new : Option (List ℕ)) (answer : Result ℕ E) (text : List ℕ)
+    → WriteAppends old new answer text → Appends old new (gone answer text)
+written_known old new (Ok n) text p = p
+written_known old new (Err e) text p = grind (arith, append-nil)
 
 pub Gave-none : {R : Type 0} {remaining : R → Option (List ℕ)} (a : Checked R) → Gave remaining a a []
 Gave-none {R} {remaining} a =
@@ -56,18 +82,27 @@ pub record Sent {W : Type 0} (contents : W → Option (List ℕ)) (before now : 
     pub whole : text ≡ sent ++ rest
     pub took : Took contents before now sent
 
-pub Sent_more : {W : Type 0} (contents : W → Option (List ℕ)) (before now next : Checked W) (text rest : List ℕ) (n : ℕ)
-    → Sent contents before now text rest →
-    octets_of next ≡ octets_of now ++ take n rest
-    → Appends (contents (inner_of now)) (contents (inner_of next)) (take n rest) →
-    Sent contents before next text (take (length rest - n) (drop n rest))
-Sent_more contents before now next text rest n h passed p =
+-- One write more, of all that was left.
+pub Sent_more : {W : Type 0} {contents : W → Option (List ℕ)} {before now : Checked W} {text rest : List ℕ}
+    (next : Checked W) (answer : Result ℕ Error) → Sent contents before now text rest → has_failed now ≡ false
+    → rest ≢ [] → calls_of next ≡ calls_of now ++ WriteCall rest answer ∷ []
+    → WriteAppends (contents (inner_of now)) (contents (inner_of next)) answer rest →
+    has_failed next ≡ (has_failed now || is_err answer || passes_none answer rest)
+    → octets_of next ≡ octets_of now ++ gone answer rest →
+    Sent contents before next text (drop (result_unwrap_or answer 0) rest)
+Sent_more {contents = contents} {now = now} {rest = rest} next answer h sound some asked known failed passed =
+    let n = result_unwrap_or answer 0 in
     record {
       sent = h.sent ++ take n rest;
-      whole = h.whole ∙ (ap (λ zs. h.sent ++ zs)
-          (sym (take-append-drop n rest) ∙ ap (λ zs. take n rest ++ zs) (sym (take_rest rest n)))
-          ∙ sym (append_assoc h.sent (take n rest) (take (length rest - n) (drop n rest))));
-      took = Took-more h.took (record { passed = passed; known = p });
+      whole = h.whole ∙ ap (λ zs. h.sent ++ zs) (sym (take-append-drop n rest))
+          ∙ sym (append_assoc h.sent (take n rest) (drop n rest));
+      took = Took-more h.took (record {
+        passed = passed;
+        known = written_known (contents (inner_of now)) (contents (inner_of next)) answer rest known;
+        made = WriteCall rest answer ∷ [];
+        calls = asked;
+        asked = (sound, some, rw sound at failed);
+      });
     }
 
 no_octets : (xs : List ℕ) → length xs ≡ 0 → xs ≡ []

@@ -1,11 +1,11 @@
 -- What contracts see of a checked reader or writer.
-use Rattle.std.specs.Prelude.{◌≡◌, ℕ, ◌+◌, ◌-◌, ◌^◌, min, Bool, false, ◌&&◌, ◌==◌, nat_lt, if◌then◌else◌, List}
-use Rattle.std.specs.Prelude.{[], ◌++◌, length, take, Option, Result, Ok, Err}
+use Rattle.std.specs.Prelude.{◌≡◌, ◌≢◌, ℕ, ◌+◌, ◌-◌, ◌^◌, min, Bool, false, ◌&&◌, ◌||◌, ◌==◌, nat_lt, if◌then◌else◌}
+use Rattle.std.specs.Prelude.{List, [], ◌∷◌, ◌++◌, length, take, Option, Result, Ok, Err, is_err}
 use Rattle.std.specs.Io.KnownBytes.{Appends, Consumes}
 use Rattle.std.specs.Result.{result_unwrap_or}
 use Rattle.bac_print.specs.declared.checked.Checked.{Checked}
 use Rattle.bac_print.specs.declared.transcript.Transcript.{Transcript}
-use Rattle.bac_print.specs.StreamCall.{StreamCall}
+use Rattle.bac_print.specs.StreamCall.{StreamCall, WriteCall}
 
 -- The reader or writer within.
 abbrev pub inner_of : {T : Type 0} → Checked T → T
@@ -73,11 +73,22 @@ pub record Gave {R : Type 0} (left : R → Option (List ℕ)) (before after : Ch
   pub passed : octets_of after ≡ octets_of before ++ given
   pub known : Consumes (left (inner_of before)) (left (inner_of after)) given
 
+-- What a writer is asked, from where it has failed, or not, to where it has: only to write, at least one octet each
+-- time, and no more once a write failed or took none.
+abbrev pub OnlyWrites : Bool → List StreamCall → Bool → Type 0
+OnlyWrites failed [] failed' = failed' ≡ failed
+OnlyWrites failed (WriteCall octets answer ∷ later) failed' = (failed ≡ false) × (octets ≢ [])
+    × OnlyWrites (is_err answer || passes_none answer octets) later failed'
+OnlyWrites failed (_ ∷ later) failed' = ⊥
+
 module _ {W : Type 0} (contents : W → Option (List ℕ)) (before after : Checked W) where
-  -- The writer took these octets; where it knows its octets, they are behind them.
+  -- The writer took these octets; where it knows its octets, they are behind them. It was asked for nothing else.
   pub record Took (taken : List ℕ) : Type 0 where
     pub passed : octets_of after ≡ octets_of before ++ taken
     pub known : Appends (contents (inner_of before)) (contents (inner_of after)) taken
+    pub made : List StreamCall
+    pub calls : calls_of after ≡ calls_of before ++ made
+    pub asked : OnlyWrites (has_failed before) made (has_failed after)
 
   -- The writer took a front of the text.
   abbrev pub TakesFront : List ℕ → Type 0

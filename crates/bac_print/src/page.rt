@@ -49,7 +49,6 @@ pub(crate) fn write_digits(number: u64, room: &mut [u8], end: usize) -> usize
 
 // Writes the whole text, or fails after a front of it. It stands apart from what `Checked` keeps, so a writer fails by
 // nothing but its own writes.
-#[tactic(auto, using(crate::proofs::Known::Sent_more))]
 fn put<W: Write>(writer: &mut Checked<W>, text: &[u8]) -> Result<(), WriteFailed>
     requires { has_failed writer.old ≡ false }
     ensures text { TookOrFailed W.contents writer.old writer.new text.now result }

@@ -1,4 +1,4 @@
-use Rattle.std.proofs.Common.{rules, Err}
+use Rattle.std.proofs.Common.{rules, Ok, Err}
 use Rattle.std.proofs.lemmas.Result.{err_from_is_err_and}
 use Rattle.bac_print.proofs.Printed.{◌⨾◌}
 use Rattle.bac_print.proofs.Shown.{shown}
@@ -11,3 +11,9 @@ returns-in_err-finish-clause-text g c =
     (shown {A = Unit {0}} {after = c.finish.new.self.0} (Err p.0) (search rules) c.new-page.ensures.writer
     c.new-page.ensures.empty
     (c.print_ending-exit.ensures.text ⨾ c.print.ensures) c.in_err-finish.ensures.printed c.in_err-finish.ensures.failed)
+
+pub returns-clause-text : goal.returns-clause-text
+returns-clause-text g c =
+    shown {E = Unit {0}} {after = c.finish.new.self.0} (Ok c.in_ok-finish.field-0) (search rules)
+    c.new-page.ensures.writer c.new-page.ensures.empty
+    (c.print_ending-exit.ensures.text ⨾ c.print.ensures) c.in_ok-finish.ensures.printed c.in_ok-finish.ensures.failed

@@ -1,10 +1,22 @@
-use Rattle.std.proofs.Common.{◌≡◌, ◌<◌, length, List, ℕ, arith, sym, ◌∙◌, subst, rules}
+use Rattle.std.proofs.Common.{◌≡◌, ◌<◌, length, List, ℕ, arith, refl, sym, ◌∙◌, subst, rules}
 use Rattle.bac_script.specs.Inner.Feeds.{HasNoFeed}
 use Rattle.bac_script.specs.Inner.Limits.{line_room}
 use Rattle.bac_script.specs.declared.input.Reading.TheVariants.{Open}
-use Rattle.bac_print.proofs.Printed.{◌⨾◌}
+use Rattle.bac_print.proofs.Printed.{◌⨾◌, prints_nothing}
 use Rattle.bac_script.proofs.Taken.{Takes-more, read_for_line, next_at_end}
 use Rattle.bac_script.proofs.input.Chunk.next_line.Goals as goal
+
+pub loop-length-init : goal.loop-length-init
+loop-length-init g c = record {
+  given = search rules;
+  printed = prints_nothing _;
+  sound = search rules;
+  unended = refl;
+  asked = search rules;
+  needed = search rules;
+  spared = search rules;
+  room = search rules;
+}
 
 pub loop-length-preserved : goal.loop-length-preserved
 loop-length-preserved g c =
