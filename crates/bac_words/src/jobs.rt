@@ -1,5 +1,4 @@
 //! What the words ask for.
-
 use bac_device::DeviceInfo;
 use bac_text::{Call, Search};
 
