@@ -8,10 +8,10 @@ ghost use Rattle.bac_uses.specs.TwoReads.{read_of, again_unless};
 use bac_pdu::{Peer, READ_PROPERTY};
 use bac_tsm::{Client, Config, Due};
 
-/// The body that asks for the present value (85) of analog input 5.
+// The body that asks for the present value (85) of analog input 5.
 const VALUE: [u8; 7] = [0x0c, 0x00, 0x00, 0x00, 0x05, 0x19, 85];
 
-/// The body that asks for its name (77).
+// The body that asks for its name (77).
 const NAME: [u8; 7] = [0x0c, 0x00, 0x00, 0x00, 0x05, 0x19, 77];
 
 /// Asks a device for both, hands the client one datagram, whatever it is and whoever sent it, and then the time, three

@@ -11,22 +11,6 @@ use bac_device::{Device, DeviceInfo, Point};
 use bac_pdu::Peer;
 use bac_wire::{Frame, ObjectId};
 
-/// A device with one valve. None of these calls can fail, so no caller has to ask.
-#[tactic(auto, unfolding(bac_device::specs::Device::add_point, bac_device::specs::Point::description_of, bac_device::specs::Kind::kind_of))]
-fn one_valve() -> Device
-    ensures { result ≡ device_after heating (valve ∷ []) [] }
-{
-    let mut device = Device::new(DeviceInfo::new(1234, "Heating").unwrap());
-    let valve = Point {
-        id: ObjectId::new(1, 1).unwrap(),
-        name: "Valve",
-        start: 0,
-        extra: 98,
-    };
-    device.add(&valve).unwrap();
-    device
-}
-
 /// Has the device answer a datagram, whatever it is and whoever sent it: whom the reply in the frame is for, if there
 /// is one, and where the valve stands then.
 pub fn answered(from: Peer, datagram: &[u8], frame: &mut Frame) -> (Option<Peer>, u32)
@@ -41,4 +25,20 @@ pub fn answered(from: Peer, datagram: &[u8], frame: &mut Frame) -> (Option<Peer>
     let to = device.answer(from, datagram, frame);
     let valve = device.present(ObjectId::new(1, 1).unwrap()).unwrap();
     (to, valve)
+}
+
+// A device with one valve. None of these calls can fail, so no caller has to ask.
+#[tactic(auto, unfolding(bac_device::specs::Device::add_point, bac_device::specs::Point::description_of, bac_device::specs::Kind::kind_of))]
+fn one_valve() -> Device
+    ensures { result ≡ device_after heating (valve ∷ []) [] }
+{
+    let mut device = Device::new(DeviceInfo::new(1234, "Heating").unwrap());
+    let valve = Point {
+        id: ObjectId::new(1, 1).unwrap(),
+        name: "Valve",
+        start: 0,
+        extra: 98,
+    };
+    device.add(&valve).unwrap();
+    device
 }

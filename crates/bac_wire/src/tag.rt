@@ -67,6 +67,36 @@ pub fn write_tag(frame: &mut Frame, tag: Tag) -> Result<(), Full>
     frame.append(shortest(tag).as_slice())
 }
 
+/// Room for a tag, which has seven octets at most, and for eight octets behind it.
+pub(crate) type Head = ArrayVec<u8, 15>;
+
+/// The shortest spelling of the tag.
+#[tactic(auto, unfolding(crate::specs::Tag::plain_tag))]
+pub(crate) fn shortest(tag: Tag) -> Head
+    requires { tag.number < 255 }
+    ensures octets { result.items ≡ plain_tag tag }
+    ensures short { length result.items ≤ 7 }
+    // This follows from the types of the fields. It is said for the caller's proof.
+    ensures range { IsTag tag }
+{
+    let mut octets = ArrayVec::new();
+    let low = match tag.shape {
+        Shape::App(length) => length.min(5) as u8,
+        Shape::Context(length) => 8 + length.min(5) as u8,
+        Shape::Opening => 14,
+        Shape::Closing => 15,
+    };
+    octets.push(16 * tag.number.min(15) + low);
+    if tag.number >= 15 {
+        octets.push(tag.number);
+    }
+    match tag.shape {
+        Shape::App(length) | Shape::Context(length) => push_length(&mut octets, length),
+        Shape::Opening | Shape::Closing => {}
+    }
+    octets
+}
+
 // The tag's number, by the high half of the initial octet: 15 there says that the next octet holds it.
 #[tactic(auto, unfolding(crate::specs::TagReading::tag_number_at))]
 fn number_and_rest(high: u8, octets: &[u8]) -> Option<(u8, &[u8])>
@@ -127,36 +157,6 @@ fn long_length_and_rest(octets: &[u8]) -> Option<(u32, &[u8])>
         [255, b, c, d, e, rest @ ..] => Some((BigEndian::read_u32(&[*b, *c, *d, *e]), rest)),
         _ => None,
     }
-}
-
-/// Room for a tag, which has seven octets at most, and for eight octets behind it.
-pub(crate) type Head = ArrayVec<u8, 15>;
-
-/// The shortest spelling of the tag.
-#[tactic(auto, unfolding(crate::specs::Tag::plain_tag))]
-pub(crate) fn shortest(tag: Tag) -> Head
-    requires { tag.number < 255 }
-    ensures octets { result.items ≡ plain_tag tag }
-    ensures short { length result.items ≤ 7 }
-    // This follows from the types of the fields. It is said for the caller's proof.
-    ensures range { IsTag tag }
-{
-    let mut octets = ArrayVec::new();
-    let low = match tag.shape {
-        Shape::App(length) => length.min(5) as u8,
-        Shape::Context(length) => 8 + length.min(5) as u8,
-        Shape::Opening => 14,
-        Shape::Closing => 15,
-    };
-    octets.push(16 * tag.number.min(15) + low);
-    if tag.number >= 15 {
-        octets.push(tag.number);
-    }
-    match tag.shape {
-        Shape::App(length) | Shape::Context(length) => push_length(&mut octets, length),
-        Shape::Opening | Shape::Closing => {}
-    }
-    octets
 }
 
 // Puts the octets of a length behind those of the tag.
