@@ -64,7 +64,6 @@ lint: documents
 documents:
 	@tests/documents.py
 	@tests/reading.py
-	@tests/pins.py
 
 reading:
 	@tests/reading.py --write
