@@ -15,7 +15,7 @@ import shutil
 import sys
 import textwrap
 
-from sources import CLOSE, CRATES, DEFINITIONS, OPEN, PROBLEMS, SOURCES, TOKEN
+from sources import CLOSE, CRATES, DEFINITIONS, OPEN, PROBLEMS, SOURCES, TOKEN, USE
 from sources import closed, defined, match_bracket, public_calls, read_tree, uses_in
 from tree import TOP, text_of
 
@@ -222,9 +222,11 @@ def unused_or_gone():
                 yield from (f"{path} brings in {name}, which {module} hasn't" for name in gone)
 
 
-def is_said(name, tokens):
-    parts = [part for part in name.split("◌") if part.strip()]
-    return all(part in tokens for part in parts)
+def unsaid(uses, said):
+    """The names that these uses bring in, and that are not said; those that are passed on are."""
+    for module, names, alias, public in uses:
+        here = [alias or module.split(".")[-1]] if names is None else [one for _, one in names]
+        yield from (name for name in here if not public and not {*filter(str.strip, name.split("◌"))} <= said)
 
 
 def said_in(text):
@@ -236,10 +238,7 @@ def said_in(text):
 
 def unused_in_antt(path):
     text = re.sub(r"(?m)--.*$", "", text_of(path))
-    said = said_in(re.sub(r"(?ms)^ *(?:unfoldable )?(?:pub )?use [^\n{]*(?:\{.*?\}[^\n]*)?$", "", text))
-    for module, names, alias, public in uses_in(text, ghost=False):
-        here = [alias or module.split(".")[-1]] if names is None else [one for _, one in names]
-        yield from (name for name in here if not public and not is_said(name, said))
+    yield from unsaid(uses_in(text, ghost=False), said_in(USE.sub("", text)))
 
 
 def unused_in_source(crate, path):
@@ -254,9 +253,7 @@ def unused_in_source(crate, path):
         for clause in re.finditer(r"\b(?:requires|ensures|ghost)\*?(?: \w+)?\s*[:=]?\s*\{", source.code[start:end]):
             at = start + clause.end()
             said |= said_in(source.masked(at, match_bracket(source.code, at - 1)))
-        for module, names, alias, _ in uses_in(source.text[use.start() : use.end()], ghost=True):
-            here = [alias or module.split(".")[-1]] if names is None else [one for _, one in names]
-            yield from (name for name in here if not is_said(name, said))
+        yield from unsaid(uses_in(use[0], ghost=True), said)
 
 
 def main(arguments):
