@@ -2,12 +2,14 @@
 """Compares the documents with the tree and with one another. Usage: tests/documents.py; it ends with 1 where they
 differ, and says in what.
 
-- docs/CODE.md: each crate of crates.txt has a row and a heading, and stands in the drawing below the crates that it
-  rests on. The tables below a heading name each file of src/ (column Code), specs/ (Definitions) and proofs/ (Proofs),
-  and none that isn't there; lists of modules (lib.rt, Lib.antt) and the answers to single functions are left out.
-  `Beside the crates` names each other folder and file at the top, and each file of docs/, tests/ and bench/.
-- Each file of src/ begins with a line `//!` that says what it has. What the head of a library shows stands in its
-  examples; the calls that it shows stand in bac_uses.
+- docs/CODE.md: each crate of crates.txt has a row, and stands in the drawing below the crates that it rests on. Where
+  it has a heading, the tables below that name each file of src/ (column Code), specs/ (Definitions) and proofs/
+  (Proofs), and none that isn't there; lists of modules (lib.rt, Lib.antt), worked examples and the answers to single
+  functions are left out. `Beside the crates` names each other folder and file at the top, and each file of docs/,
+  tests/ and bench/.
+- Each file of src/ begins with a line `//!` that says what it has, and each of specs/ and proofs/ with one `--`, but
+  for lists of modules and answers to single functions. What the head of a library shows stands in its examples; the
+  calls that it shows stand in bac_uses.
 - docs/PROOFS.md: each name in backquotes stands in the code or is a file of it, and each law is a function; the
   headline's parts are the README's sentence.
 - Functions that have no contract: docs/PROOFS.md names those of the code, and it and README.md count them rightly.
@@ -62,14 +64,14 @@ def files(folder, ending):
         found |= {os.path.normpath(os.path.join(inside, stem)) for stem in stems}
         if folder.endswith("proofs"):
             folders.clear()
-    return found - {"lib", "Lib", "Inner"}
+    return found - {"lib", "Lib", "Inner", "examples", "Examples"}
 
 
 def map_of_crates(parts):
     below = all_crates()
     every = set(below)
     compare("the table of crates", {names(row["Crate"])[0] for row in rows(parts["The crates"])}, every)
-    compare("the headings", {name for name in parts if re.fullmatch(r"[a-z_]+", name)}, every)
+    compare("the headings", {name for name in parts if re.fullmatch(r"[a-z_]+", name)} | every, every)
     drawn = re.search(r"```\n(.*?)```", parts["The crates"], re.S)[1].splitlines()
     line_of = {name: number for number, line in enumerate(drawn) for name in line.split()}
     compare("the drawing", set(line_of), every)
@@ -99,6 +101,9 @@ def heads_of_sources():
     for file in sorted(glob.glob("crates/*/src/**/*.rt", recursive=True)):
         if not text_of(file).startswith("//! "):
             DIFFERENCES.append(f"{file}: its first line is no `//!` that says what it has")
+    for file in sorted(glob.glob("crates/*/specs/**/*.antt", recursive=True) + glob.glob("crates/*/proofs/*.antt")):
+        if not text_of(file).startswith("-- ") and not file.endswith(("/Lib.antt", "/Inner.antt")):
+            DIFFERENCES.append(f"{file}: its first line is no `--` that says what it has")
     for file in sorted(glob.glob("crates/*/src/lib.rt")):
         examples = file.replace("lib.rt", "examples.rt")
         for shown in re.findall(r"^//! ```text\n(.*?)^//! ```$", text_of(file), re.M | re.S):
