@@ -212,8 +212,7 @@ def rooms():
 def unused_or_gone():
     kinds = ("src/**/*.rt", "specs/**/*.antt", "proofs/**/*.antt")
     for path in sorted(path for kind in kinds for path in glob.glob(f"crates/*/{kind}", recursive=True)):
-        crate = path.split("/")[1]
-        names = list(unused_in_source(crate, path) if path.endswith(".rt") else unused_in_antt(path))
+        names = list((unused_in_source if path.endswith(".rt") else unused_in_antt)(path))
         if names:
             yield f"{path} brings in what it doesn't say: {', '.join(names)}"
         for module, brought, _, _ in uses_in(text_of(path), ghost=path.endswith(".rt")):
@@ -241,7 +240,7 @@ def unused_in_antt(path):
     yield from unsaid(uses_in(text, ghost=False), said_in(USE.sub("", text)))
 
 
-def unused_in_source(crate, path):
+def unused_in_source(path):
     source = next(one for one in SOURCES.values() if one.path == path)
     for use in re.finditer(r"ghost use [^;]*;", source.code):
         end, depth = use.end(), 0
