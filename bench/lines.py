@@ -1,7 +1,7 @@
 #!/usr/bin/env python3
-"""Makes a script of a million mixed lines (reads, writes, their answers, questions to the device, ticks), and tells what
-`bactool bactrace` takes over it, by what `sha256sum`, `wc -l` and `cat` take over the same file: run by turns, the least
-of so many rounds of each. Usage: bench/lines.py [ROUNDS], once the program is built; BACTOOL names another program.
+"""Makes a script of a million mixed lines (reads, writes, their answers, questions to the device, ticks), and tells
+what `bactool bactrace` takes over it, by what `sha256sum`, `wc -l` and `cat` take over the same file: run by turns, the
+least of so many rounds of each. Usage: bench/lines.py [ROUNDS], once the program is built; BACTOOL names another one.
 """
 import os
 import subprocess
