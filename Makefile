@@ -53,7 +53,7 @@ examples: program
 	@tests/program.sh $(PROGRAM)
 	@tests/lengths.py $(PROGRAM)
 	@tests/rows.py $(PROGRAM)
-	@tests/failing.sh $(PROGRAM)
+	@tests/failing.py $(PROGRAM)
 	@tests/bacsite.py $(PROGRAM)
 
 forget:
