@@ -1,10 +1,11 @@
 #!/usr/bin/env python3
-"""Refuses each request for memory that the program makes, one in each run: it has to end with `out of memory`, status 4.
-And has each call of the program to the system fail so, by each error of the table below: opening a socket, sending,
-receiving, reading, writing. Every such run has to end with status 3 and the line of its fault, after a front of what it
-prints otherwise. But where a receive fails by what is silence, it goes on as if nothing had come; a device goes on
-where it can't send a reply, too. Where none fails, the program makes the calls that are wanted, and no others.
-Usage: tests/failing.py PROGRAM; it needs cc, and says so where there is none.
+"""Refuses each request for memory that the program makes, one in each run: it has to end with `out of memory` and
+status 4. And has each call of the program to the system fail so, by each of the errors below: opening a socket,
+sending, receiving, reading, writing. Every such run has to end with status 3 and the line of its fault, after a front
+of what it prints otherwise. But where a receive fails by what is silence, it goes on as if nothing had come; a device
+goes on where it can't send a reply, too. Where none fails, the program makes the calls that are wanted, and no others.
+Usage: tests/failing.py PROGRAM [calls]; it needs cc, and says so where there is none. With `calls` no request for
+memory is refused: a program that `rt try` makes has its memory from elsewhere.
 """
 import errno
 import glob
@@ -18,9 +19,9 @@ from concurrent.futures import ThreadPoolExecutor
 
 from tree import TOP, free_port, text_of
 
-# The errors, by what a receive that fails so is: a fault; a fault to the tool that sent, since its peer refuses what was
-# sent, or no way leads there, while a device has its peers from strangers; and silence to both, an interruption or a
-# time that is over.
+# The errors, by what a receive that fails so is: a fault; a fault to the tool that sent, since its peer refuses what
+# was sent, or no way leads there, while a device has its peers from strangers; and silence to both, an interruption or
+# a time that is over.
 FAULTS = ["EIO", "EPERM", "ENOBUFS"]
 REFUSALS = ["ECONNREFUSED", "ECONNRESET", "ENETUNREACH", "EHOSTUNREACH"]
 SILENCE = ["EINTR", "EAGAIN", "ETIMEDOUT"]
@@ -127,9 +128,7 @@ def devices():
     return 5 * len(ERRORS)
 
 
-def main():
-    library = ["cc", "-O1", "-shared", "-fPIC", "-o", f"{ROOM}/fail.so", f"{TOP}/tests/fail.c"]
-    subprocess.run(library, check=True)
+def memory():
     requests = sum(refused(0, ["bactrace"], text_of(script)) for script in glob.glob(f"{TOP}/examples/*.trace"))
     bad = [[], READ[:4], [*READ, "--mac", "1.2.3"], [*WRITE[:5], "16", "-1", "4", "zz", "--mac", "127.0.0.1"]]
     for status, words in [(0, ["--help"]), (0, ["bacwp", "--help"]), *((2, words) for words in bad)]:
@@ -137,6 +136,8 @@ def main():
     requests += refused(2, ["bacwi", "1", "2", "--mac", "1.2.3"])
     print(f"tests/failing.py: {requests} requests for memory refused, each told as it is to be", flush=True)
 
+
+def calls_of_the_system():
     calls = in_turn(0, ["bactrace"], SCRIPT)
     # What stands behind the last line feed is no line where the read behind it fails: the third call, after a write.
     last = "".join(SCRIPT.partition("tick 3000")[:2])
@@ -163,7 +164,10 @@ def main():
 
 try:
     if shutil.which("cc"):
-        main()
+        library = ["cc", "-O1", "-shared", "-fPIC", "-o", f"{ROOM}/fail.so", f"{TOP}/tests/fail.c"]
+        subprocess.run(library, check=True)
+        for part in [calls_of_the_system] if sys.argv[2:] == ["calls"] else [memory, calls_of_the_system]:
+            part()
     else:
         print("tests/failing.py: left out, since it needs cc")
 finally:

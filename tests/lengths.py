@@ -31,12 +31,11 @@ def request(length):
     return datagram(length, bytes([0, 5, length % 256, 15]) + POINT)[0]
 
 
-@contextlib.contextmanager
 def local_socket():
-    with socket.socket(socket.AF_INET, socket.SOCK_DGRAM) as it:
-        it.bind(("127.0.0.1", 0))
-        it.settimeout(10)
-        yield it
+    it = socket.socket(socket.AF_INET, socket.SOCK_DGRAM)
+    it.bind(("127.0.0.1", 0))
+    it.settimeout(10)
+    return it
 
 
 @contextlib.contextmanager

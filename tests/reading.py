@@ -60,14 +60,6 @@ def size(items):
     return sum(item.lines for item in items)
 
 
-def by_file(items):
-    """The files, in the order in which they are first met, and the items of each from its top."""
-    of = collections.defaultdict(list)
-    for item in items:
-        of[item.file].append(item)
-    return ((file, sorted(there, key=lambda item: item.place)) for file, there in of.items())
-
-
 def columns(text, width=120):
     """Lines of at most so many columns, set in as the first one is."""
     start = " " * (len(text) - len(text.lstrip()))
@@ -75,10 +67,10 @@ def columns(text, width=120):
 
 
 def listed(items, told, page):
-    """The lines of a list: each file, and what is read of it."""
-    for file, there in by_file(items):
-        elsewhere = collections.defaultdict(list)
-        for item in there:
+    """The lines of a list: each file, in the order in which they are first met, and what is read of it from its top."""
+    for file in dict.fromkeys(item.file for item in items):
+        there, elsewhere = [item for item in items if item.file is file], collections.defaultdict(list)
+        for item in sorted(there, key=lambda item: item.place):
             elsewhere[told.setdefault(item, page)].append(item)
         mine = elsewhere.pop(page, [])
         head = f": {file.head}" if mine else ""
