@@ -53,7 +53,7 @@ examples: program
 	@tests/program.sh $(PROGRAM)
 	@tests/lengths.py $(PROGRAM)
 	@tests/rows.py $(PROGRAM)
-	@tests/failing.sh $(PROGRAM)
+	@tests/failing.py $(PROGRAM)
 	@tests/bacsite.py $(PROGRAM)
 
 forget:
@@ -64,7 +64,6 @@ lint: documents
 documents:
 	@tests/documents.py
 	@tests/reading.py
-	@tests/pins.py
 
 reading:
 	@tests/reading.py --write

@@ -19,7 +19,7 @@ JOBS ?= 1
 .PHONY: bench bench-loopback soak interop holes
 
 bench: bench-loopback
-	@bench/lines.sh
+	@bench/lines.py
 	@mkdir -p $(ROOM) && bench/run.sh $(ROOM)
 
 bench-loopback: program

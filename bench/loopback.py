@@ -14,7 +14,7 @@ import tempfile
 import time
 
 sys.path.insert(0, os.path.dirname(os.path.abspath(__file__)) + "/../tests")
-from tree import PROGRAM, TOP, free_port, resident
+from tree import PROGRAM, TOP, free_port, resident, text_of
 
 ROUNDS = int(sys.argv[1]) if len(sys.argv) > 1 else 15
 REPLIES, LONG_RUN, RUNS = os.environ.get("REPLIES", "20000"), "60000", 200
@@ -134,20 +134,18 @@ def script_memory():
 
 
 def show_load(when):
-    print(f"{when} {' '.join(open('/proc/loadavg', encoding='utf-8').read().split()[:3])}", end="", flush=True)
+    print(f"{when} load {' '.join(text_of('/proc/loadavg').split()[:3])} (1, 5, 15 minutes)\n", flush=True)
 
 
 try:
     subprocess.run([os.environ.get("CC", "cc"), "-O2", "-Wall", "-o", UDP, f"{TOP}/bench/udp.c"], check=True)
-    show_load(f"{os.uname().sysname} {os.uname().machine}, {os.cpu_count()} processors, load")
-    print(" (1, 5, 15 minutes)\n")
+    show_load(f"{os.uname().sysname} {os.uname().machine}, {os.cpu_count()} processors,")
     compare_servers()
     show_shares()
     compare_clients()
     row("\nresident memory, kilobytes", "early", "late", "most")
     device_memory()
     script_memory()
-    show_load("\nload at the end")
-    print()
+    show_load("\nat the end")
 finally:
     shutil.rmtree(ROOM)

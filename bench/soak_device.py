@@ -25,22 +25,12 @@ INSTANCE = 1234
 AT_MOST = 65535  # datagrams that one bacdev answers
 BATCH = 16
 ANNOUNCED = [50, 128, 206, 480, 1024, 1476] + [50] * 10
-OBJECTS = [
-    *[(8, 1234), (8, 4194303), (0, 5), (0, 35), (0, 36), (1, 1), (2, 2), (3, 3), (4, 4), (5, 5), (13, 1), (14, 1)],
-    *[(19, 1), (0, 99), (1023, 0)],
-]
-PROPERTIES = [
-    *[75, 76, 77, 79, 85, 36, 81, 111, 117, 84, 74, 87, 104, 112, 121, 120, 70, 44, 12, 28, 98, 139, 62, 107, 11, 73],
-    *[30, 155, 1, 4194303],
-]
-COMMANDS = [
-    *[((1, 1), "4441a00000"), ((2, 2), "44c1200000"), ((4, 4), "9101"), ((5, 5), "9100"), ((14, 1), "2103")],
-    *[((19, 1), "2104")],
-]
-VALUES = [
-    *["00", "10", "11", "2100", "2101", "2103", "2105", "31ff", "4441a00000", "447fc00000", "9100", "9101", "9102"],
-    *["c402000001", "7300686f", "0e21053f", ""],
-]
+OBJECTS = "8:1234 8:4194303 0:5 0:35 0:36 1:1 2:2 3:3 4:4 5:5 13:1 14:1 19:1 0:99 1023:0".split()
+PROPERTIES = """75 76 77 79 85 36 81 111 117 84 74 87 104 112 121 120 70 44 12 28 98 139 62 107 11 73 30 155 1
+    4194303""".split()
+COMMANDS = "1:1 4441a00000, 2:2 44c1200000, 4:4 9101, 5:5 9100, 14:1 2103, 19:1 2104".split(", ")
+VALUES = """00 10 11 2100 2101 2103 2105 31ff 4441a00000 447fc00000 9100 9101 9102 c402000001 7300686f
+    0e21053f""".split() + [""]
 
 
 def octets_of(number):
@@ -52,8 +42,8 @@ def parameter(tag, contents):
 
 
 def property_of(identifier, number):
-    kind, instance = identifier
-    return parameter(0, (kind << 22 | instance).to_bytes(4, "big")) + parameter(1, octets_of(number))
+    kind, instance = map(int, identifier.split(":"))
+    return parameter(0, (kind << 22 | instance).to_bytes(4, "big")) + parameter(1, octets_of(int(number)))
 
 
 def reference(dice):
@@ -73,7 +63,7 @@ def confirmed(dice):
         return head + bytes([dice.randrange(256)]) + dice.randbytes(dice.randrange(12))
     written, value = reference(dice), dice.choice(VALUES)
     if dice.random() < 0.6:
-        point, value = dice.choice(COMMANDS)
+        point, value = dice.choice(COMMANDS).split()
         written, value = property_of(point, 85), value if dice.random() < 0.7 else "00"
     body = written + b"\x3e" + bytes.fromhex(value) + b"\x3f"
     if dice.random() < 0.8:
@@ -155,32 +145,25 @@ def opened(datagram):
     """Route, whether it was sent to all, whether the reply is lost, and the APDU; None where it is ignored."""
     if len(datagram) < 4 or datagram[0] != 0x81 or int.from_bytes(datagram[2:4], "big") != len(datagram):
         return None
-    at, to_all, lost = 4, datagram[1] != 0x0A, False
-    if datagram[1] == 0x04:
-        if len(datagram) < 10:
-            return None
-        at, lost = 10, datagram[8:10] == b"\0\0"
-    elif datagram[1] not in (0x0A, 0x0B):
-        return None
-    head = datagram[at:]
-    if len(head) < 2 or head[0] != 1 or head[1] & 0x80:
+    front = {0x0A: 4, 0x0B: 4, 0x04: 10}.get(datagram[1])
+    head = datagram[front:]
+    if not front or len(head) < 2 or head[0] != 1 or head[1] & 0x80:
         return None
     at, route = 2, b""
-    if head[1] & 0x20:
-        if len(head) < at + 3 or len(head) < at + 3 + head[at + 2] or head[at : at + 2] != b"\xff\xff":
-            return None
-        at, to_all = at + 3 + head[at + 2], True
-    if head[1] & 0x08:
-        if len(head) < at + 3 or len(head) < at + 3 + head[at + 2]:
-            return None
-        if head[at : at + 2] in (b"\0\0", b"\xff\xff") or not 1 <= head[at + 2] <= 7:
-            return None
-        route, at = head[at : at + 3 + head[at + 2]], at + 3 + head[at + 2]
-    if head[1] & 0x20:
-        if len(head) < at + 1:
-            return None
-        at += 1
-    return route, to_all, lost, head[at:]
+    for bit in (0x20, 0x08):
+        if head[1] & bit:
+            if len(head) < at + 3 or len(head) < at + 3 + head[at + 2]:
+                return None
+            there, at = head[at : at + 3 + head[at + 2]], at + 3 + head[at + 2]
+            if bit == 0x20 and there[:2] != b"\xff\xff":
+                return None
+            if bit == 0x08 and (there[:2] in (b"\0\0", b"\xff\xff") or not 1 <= there[2] <= 7):
+                return None
+            route = there if bit == 0x08 else b""
+    to_all, hops = datagram[1] != 0x0A or bool(head[1] & 0x20), bool(head[1] & 0x20)
+    if len(head) < at + hops:
+        return None
+    return route, to_all, front == 10 and datagram[8:10] == b"\0\0", head[at + hops :]
 
 
 def limits(body):

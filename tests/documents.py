@@ -2,18 +2,22 @@
 """Compares the documents with the tree and with one another. Usage: tests/documents.py; it ends with 1 where they
 differ, and says in what.
 
-- docs/CODE.md: each crate of crates.txt has a row and a heading, and stands in the drawing below the crates that it
-  rests on. The tables below a heading name each file of src/ (column Code), specs/ (Definitions) and proofs/ (Proofs),
-  and none that isn't there; lists of modules (lib.rt, Lib.antt) and the answers to single functions are left out.
-  `Beside the crates` names each other folder and file at the top, and each file of docs/, tests/ and bench/.
-- Each file of src/ begins with a line `//!` that says what it has. What the head of a library shows stands in its
-  examples; the calls that it shows stand in bac_uses.
+- docs/CODE.md: each crate of crates.txt has a row, and stands in the drawing below the crates that it rests on. Where
+  it has a heading, the tables below that name each file of src/ (column Code), specs/ (Definitions) and proofs/
+  (Proofs), and none that isn't there; lists of modules (lib.rt, Lib.antt), worked examples and the answers to single
+  functions are left out. `Beside the crates` names each other folder and file at the top, and each file of docs/,
+  tests/ and bench/.
+- Each file of src/ begins with a line `//!` that says what it has, and each of specs/ and proofs/ with one `--`, but
+  for lists of modules and answers to single functions. What the head of a library shows stands in its examples; the
+  calls that it shows stand in bac_uses.
 - docs/PROOFS.md: each name in backquotes stands in the code or is a file of it, and each law is a function; the
   headline's parts are the README's sentence.
 - Functions that have no contract: docs/PROOFS.md names those of the code, and it and README.md count them rightly.
 - README.md: what it shows of a script is what examples/ has, and the rule that it shows stands so in specs/. It has at
   most 120 lines and 1,500 words.
-- docs/PROTOCOL.md: the texts of faults are those of the code.
+- docs/PROTOCOL.md: the texts of faults are those of the code. Each row of a table is read back from outside: named in
+  tests/pins.txt, once, with the worked row or example that would fail were it wrong in a definition and in the code at
+  once. What is named there stands in the document, and the text which is named for it in its file.
 - Links lead to what a package has: a document, or a file of examples/.
 - Lines have at most 120 columns, in the documents but for tables and what is printed; in scripts; and in src/, specs/
   and proofs/ but for attributes, which `rt fmt` lays out, and words that are longer.
@@ -60,14 +64,14 @@ def files(folder, ending):
         found |= {os.path.normpath(os.path.join(inside, stem)) for stem in stems}
         if folder.endswith("proofs"):
             folders.clear()
-    return found - {"lib", "Lib", "Inner"}
+    return found - {"lib", "Lib", "Inner", "examples", "Examples"}
 
 
 def map_of_crates(parts):
     below = all_crates()
     every = set(below)
     compare("the table of crates", {names(row["Crate"])[0] for row in rows(parts["The crates"])}, every)
-    compare("the headings", {name for name in parts if re.fullmatch(r"[a-z_]+", name)}, every)
+    compare("the headings", {name for name in parts if re.fullmatch(r"[a-z_]+", name)} | every, every)
     drawn = re.search(r"```\n(.*?)```", parts["The crates"], re.S)[1].splitlines()
     line_of = {name: number for number, line in enumerate(drawn) for name in line.split()}
     compare("the drawing", set(line_of), every)
@@ -97,6 +101,9 @@ def heads_of_sources():
     for file in sorted(glob.glob("crates/*/src/**/*.rt", recursive=True)):
         if not text_of(file).startswith("//! "):
             DIFFERENCES.append(f"{file}: its first line is no `//!` that says what it has")
+    for file in sorted(glob.glob("crates/*/specs/**/*.antt", recursive=True) + glob.glob("crates/*/proofs/*.antt")):
+        if not text_of(file).startswith("-- ") and not file.endswith(("/Lib.antt", "/Inner.antt")):
+            DIFFERENCES.append(f"{file}: its first line is no `--` that says what it has")
     for file in sorted(glob.glob("crates/*/src/lib.rt")):
         examples = file.replace("lib.rt", "examples.rt")
         for shown in re.findall(r"^//! ```text\n(.*?)^//! ```$", text_of(file), re.M | re.S):
@@ -186,6 +193,44 @@ def texts_of_faults(section):
         DIFFERENCES.append(f"docs/PROTOCOL.md: the fault {text} is told in one place alone")
 
 
+def on_one_line(text):
+    return " ".join(text.split())
+
+
+def pins():
+    """Each heading, the key below it, and the files and texts below the key."""
+    heading, found = "", []
+    for line in text_of("tests/pins.txt").splitlines():
+        if line.startswith("## "):
+            heading = line[3:]
+        elif line.startswith("    "):
+            found[-1][2].append(line.strip().split(": ", 1))
+        elif line and not line.startswith("#"):
+            found.append((heading, line, []))
+    return found
+
+
+def rows_are_read_back(parts):
+    """Answers how many rows there are, and how many other texts are read back."""
+    rows = [(heading, " | ".join(cells)) for heading, section in parts.items() for _, cells in tables(section)]
+    named, found = set(), pins()
+    for heading, key, places in found:
+        mine = [row for row in rows if row[0] == heading and row[1].startswith(key)]
+        if len(mine) > 1 or not mine and key not in on_one_line(parts.get(heading, "")):
+            DIFFERENCES.append(f"{heading}: {key}: it stands {len(mine)} times in docs/PROTOCOL.md")
+        if not places:
+            DIFFERENCES.append(f"{heading}: {key}: nothing is named that reads it back")
+        named.update(mine)
+        for file, text in places:
+            file = file if "/" in file else f"tests/rows/{file}"
+            if not os.path.isfile(file) or on_one_line(text) not in on_one_line(text_of(file)):
+                DIFFERENCES.append(f"{heading}: {key}: {file} has no {text}")
+    for heading, row in rows:
+        if (heading, row) not in named:
+            DIFFERENCES.append(f"{heading}: nothing in tests/pins.txt reads this row back: {row[:100]}")
+    return len(rows), len(found) - len(rows)
+
+
 def wide_lines():
     places = [f"crates/*/{folder}/**/*{ending}" for folder, ending in COLUMNS.values()]
     places += ["Makefile", "*.mk", "*.py", "crates/*/oracle/*.py", "site/bacsite"]
@@ -226,10 +271,13 @@ def main():
     proofs = sections(text_of("docs/PROOFS.md"))
     what_stands_twice(text_of("README.md"), proofs)
     functions_without_a_contract(text_of("README.md"), proofs["Functions without a clause"])
-    texts_of_faults(sections(text_of("docs/PROTOCOL.md"))["Statuses and faults"])
+    rules = sections(text_of("docs/PROTOCOL.md"))
+    texts_of_faults(rules["Statuses and faults"])
+    rows_and_texts = rows_are_read_back(rules)
     links_and_lines()
     wide_lines()
-    print("\n".join(DIFFERENCES) or "the documents agree with the tree")
+    well = "{} rows of docs/PROTOCOL.md are read back, and {} other texts of it".format(*rows_and_texts)
+    print("\n".join(DIFFERENCES) or f"{well}\nthe documents agree with the tree")
     return 1 if DIFFERENCES else 0
 
 

@@ -44,60 +44,17 @@ static int fails(const char *name)
     return 1;
 }
 
-#define NEXT(name, type) static __typeof__(type) next; if (!next) next = (__typeof__(type))dlsym(RTLD_NEXT, name)
-
-int socket(int domain, int type, int protocol)
+static int fails_to_set(int level, int name, const void *value)
 {
-    NEXT("socket", int (*)(int, int, int));
-    return fails("socket") ? -1 : next(domain, type, protocol);
-}
-
-int bind(int fd, const struct sockaddr *address, socklen_t length)
-{
-    NEXT("bind", int (*)(int, const struct sockaddr *, socklen_t));
-    return fails("bind") ? -1 : next(fd, address, length);
-}
-
-int setsockopt(int fd, int level, int name, const void *value, socklen_t length)
-{
-    NEXT("setsockopt", int (*)(int, int, int, const void *, socklen_t));
     if (fails("setsockopt"))
-        return -1;
+        return 1;
     if (getenv("EACH") && level == SOL_SOCKET && name == SO_RCVTIMEO) {
         const struct timeval *wait = value;
         char text[40];
         snprintf(text, sizeof text, "%ld ", (long)(wait->tv_sec * 1000000 + wait->tv_usec));
         say(text);
     }
-    return next(fd, level, name, value, length);
-}
-
-ssize_t sendto(int fd, const void *octets, size_t count, int flags, const struct sockaddr *to, socklen_t length)
-{
-    NEXT("sendto", ssize_t (*)(int, const void *, size_t, int, const struct sockaddr *, socklen_t));
-    if (fails("sendto"))
-        return getenv("SHORT") ? next(fd, octets, count, flags, to, length) - 1 : -1;
-    return next(fd, octets, count, flags, to, length);
-}
-
-ssize_t recvfrom(int fd, void *octets, size_t count, int flags, struct sockaddr *from, socklen_t *length)
-{
-    NEXT("recvfrom", ssize_t (*)(int, void *, size_t, int, struct sockaddr *, socklen_t *));
-    return fails("recvfrom") ? -1 : next(fd, octets, count, flags, from, length);
-}
-
-ssize_t read(int fd, void *octets, size_t count)
-{
-    NEXT("read", ssize_t (*)(int, void *, size_t));
-    if (count > 1 && getenv("ONE_OCTET"))
-        count = 1;
-    return fails("read") ? -1 : next(fd, octets, count);
-}
-
-ssize_t write(int fd, const void *octets, size_t count)
-{
-    NEXT("write", ssize_t (*)(int, const void *, size_t));
-    return fails(fd == 2 ? "tell" : "write") ? -1 : next(fd, octets, count);
+    return 0;
 }
 
 static int is_refused(void)
@@ -110,26 +67,31 @@ static int is_refused(void)
     return 1;
 }
 
-void *malloc(size_t size)
-{
-    NEXT("malloc", void *(*)(size_t));
-    return is_refused() ? NULL : next(size);
-}
+/* A call with these parameters: where it fails it answers this, and else it hands these words to the C library. */
+#define CALL(type, name, parameters, fails, failed, words) \
+    type name parameters \
+    { \
+        static type (*next) parameters; \
+        if (!next) \
+            next = (type (*) parameters)dlsym(RTLD_NEXT, #name); \
+        return fails ? failed : next words; \
+    }
 
-void *realloc(void *old, size_t size)
-{
-    NEXT("realloc", void *(*)(void *, size_t));
-    return is_refused() ? NULL : next(old, size);
-}
-
-int posix_memalign(void **place, size_t alignment, size_t size)
-{
-    NEXT("posix_memalign", int (*)(void **, size_t, size_t));
-    return is_refused() ? ENOMEM : next(place, alignment, size);
-}
-
-void *aligned_alloc(size_t alignment, size_t size)
-{
-    NEXT("aligned_alloc", void *(*)(size_t, size_t));
-    return is_refused() ? NULL : next(alignment, size);
-}
+CALL(int, socket, (int domain, int type, int protocol), fails("socket"), -1, (domain, type, protocol))
+CALL(int, bind, (int fd, const struct sockaddr *at, socklen_t length), fails("bind"), -1, (fd, at, length))
+CALL(int, setsockopt, (int fd, int level, int name, const void *value, socklen_t length),
+     fails_to_set(level, name, value), -1, (fd, level, name, value, length))
+CALL(ssize_t, sendto,
+     (int fd, const void *octets, size_t count, int flags, const struct sockaddr *to, socklen_t length),
+     fails("sendto"), getenv("SHORT") ? next(fd, octets, count, flags, to, length) - 1 : -1,
+     (fd, octets, count, flags, to, length))
+CALL(ssize_t, recvfrom, (int fd, void *octets, size_t count, int flags, struct sockaddr *from, socklen_t *length),
+     fails("recvfrom"), -1, (fd, octets, count, flags, from, length))
+CALL(ssize_t, read, (int fd, void *octets, size_t count), fails("read"), -1,
+     (fd, octets, count > 1 && getenv("ONE_OCTET") ? 1 : count))
+CALL(ssize_t, write, (int fd, const void *octets, size_t count), fails(fd == 2 ? "tell" : "write"), -1,
+     (fd, octets, count))
+CALL(void *, malloc, (size_t size), is_refused(), NULL, (size))
+CALL(void *, realloc, (void *old, size_t size), is_refused(), NULL, (old, size))
+CALL(int, posix_memalign, (void **place, size_t alignment, size_t size), is_refused(), ENOMEM, (place, alignment, size))
+CALL(void *, aligned_alloc, (size_t alignment, size_t size), is_refused(), NULL, (alignment, size))

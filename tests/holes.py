@@ -37,18 +37,6 @@ class NotTried(Exception):
     """A body that could not be tried, with what was said of it."""
 
 
-class Hole:
-    """A wrong body of a crate, with the file of the test that has to fail. Without a body it is the code as it is."""
-
-    def __init__(self, edit, test):
-        self.edit, self.test, self.name = edit, test, edit.name if edit else "without a body"
-
-    def put_in(self, room):
-        texts = self.edit.applied({}) if self.edit else {}
-        for path, text in texts.items():
-            write(f"{room}/crates/{self.edit.crate}/{path}", text)
-
-
 def write(file, text):
     with open(file, "w", encoding="utf-8") as it:
         it.write(text)
@@ -139,6 +127,7 @@ def of_program(room, test):
     """What the test says of what is not as it is to be."""
     program = built(room)
     words = [f"{ROOT}/tests/rows.py", program, test] if test.endswith(".rows") else [f"{ROOT}/{test}", program]
+    words += ["calls"] * test.endswith("/failing.py")
     ran = run(["timeout", "300", *words], ROOT)
     if ran.returncode == 124:
         return ["it does not end in five minutes"]
@@ -148,16 +137,17 @@ def of_program(room, test):
     return wrong
 
 
-def tried(hole):
-    """Whether a hole is as it is to be, and the line that tells of it."""
-    with USES[hole.test], tempfile.TemporaryDirectory(prefix="holes-") as room:
+def tried(name, edit, test):
+    """Whether the test fails with this wrong body, or passes with the code as it is, and the line that tells of it."""
+    with USES[test], tempfile.TemporaryDirectory(prefix="holes-") as room:
         try:
             copy_sources(room)
-            hole.put_in(room)
-            failed = (of_trials if TRIALS.match(hole.test) else of_program)(room, hole.test)
+            for path, text in edit.applied({}).items() if edit else ():
+                write(f"{room}/crates/{edit.crate}/{path}", text)
+            failed = (of_trials if TRIALS.match(test) else of_program)(room, test)
         except NotTried as why:
-            return False, f"{hole.name}: {hole.test}: not tried: {why}"
-    return bool(failed) == bool(hole.edit), f"{hole.name}: {hole.test}: {failed[0][:160] if failed else 'it passes'}"
+            return False, f"{name}: {test}: not tried: {why}"
+    return bool(failed) == bool(edit), f"{name}: {test}: {failed[0][:160] if failed else 'it passes'}"
 
 
 def main():
@@ -170,11 +160,12 @@ def main():
     unfit = [f"{it.name}: {it.is_unfit}" for it in edits if it.is_unfit]
     if unfit:
         sys.exit("\n".join(unfit))
-    holes = [Hole(it, it.test) for it in edits] + [Hole(None, test) for test in sorted({it.test for it in edits})]
-    holes = [it for it in holes if re.search(options.only, it.name)]
+    holes = [(it.name, it, it.test) for it in edits]
+    holes += [("without a body", None, test) for test in sorted({it.test for it in edits})]
+    holes = [it for it in holes if re.search(options.only, it[0])]
     wrong = 0
     with concurrent.futures.ThreadPoolExecutor(options.jobs) as pool:
-        for ended in concurrent.futures.as_completed([pool.submit(tried, it) for it in holes]):
+        for ended in concurrent.futures.as_completed([pool.submit(tried, *it) for it in holes]):
             is_well, said = ended.result()
             print(("" if is_well else "FAILED ") + said, flush=True)
             wrong += not is_well

@@ -2,8 +2,8 @@
 """Runs the tools and nmap against bacdev through a relay that keeps every datagram, and has tshark read them all.
 
 Usage: tests/interop.py, once the program is built. It installs nmap and tshark by apt-get where they are missing; nmap
-needs root for UDP. It prints the tables, and ends with 1 where something is not as it is to be: a tool or nmap that
-prints something else, a datagram that tshark finds malformed or reads as something else than it is.
+needs root for UDP. It ends with 1 where something is not as it is to be, and says what: a tool or nmap that prints
+something else, a datagram that tshark finds malformed or reads as something else than it is.
 """
 import os
 import re
@@ -286,30 +286,8 @@ def main():
         for text in wanted:
             if text not in briefs[at] and text not in texts[at]:
                 FAILURES.append("tshark reads %s as %s, not as %s" % (lines[at].split()[3], briefs[at], text))
-    show(lines, briefs, texts, of_nmap, written_here)
-    for failure in FAILURES:
-        print("NOT AS IT IS TO BE:", failure)
-    sys.exit(1 if FAILURES else 0)
-
-
-def show(lines, briefs, texts, of_nmap, written_here):
-    print(f"{len(lines)} datagrams, {len(written_here)} of them of the tools or the device; none of these malformed.\n")
-    print("| What tshark calls it | From the tools | From the device |\n|---|---|---|")
-    counts = {}
-    for at in written_here:
-        name = re.sub(r"\[\d+\].*| (device|\d).*", "", briefs[at]).strip()
-        counts.setdefault(name, [0, 0])[lines[at].split()[1] == DEVICE] += 1
-    for name, (ours, the_devices) in sorted(counts.items()):
-        print("| %s | %d | %d |" % (name, ours, the_devices))
-    print("\n| nmap asks (readProperty) | Answer |\n|---|---|")
-    for at in range(of_nmap, len(lines) - 1):
-        if lines[at].split()[2] == DEVICE and lines[at + 1].split()[1] == DEVICE:
-            error = " ".join(re.findall(r"Error C(?:lass|ode): (\S+ \(\d+\))", texts[at + 1]))
-            answer = re.sub(r"readProperty\[\d+\] ?", "", briefs[at + 1]) + error
-            print("| %s | %s |" % (briefs[at].split("] ")[-1], answer))
-    print("\n| nmap shows | |\n|---|---|")
-    for name, value in NMAP:
-        print("| %s | %s |" % (name, value))
+    print(f"{len(lines)} datagrams, {len(written_here)} of them of the tools or the device, {len(FAILURES)} failures")
+    sys.exit("\n".join(f"NOT AS IT IS TO BE: {failure}" for failure in FAILURES) or None)
 
 
 main()

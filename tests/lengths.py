@@ -12,6 +12,8 @@ import subprocess
 import sys
 import time
 
+from tree import free_port
+
 LONGEST = 2047
 POINT = bytes.fromhex("0c004000011955")  # analog-output 1, its present value
 # The lengths about which a room of the system's, or one of the code's, may end.
@@ -29,12 +31,11 @@ def request(length):
     return datagram(length, bytes([0, 5, length % 256, 15]) + POINT)[0]
 
 
-@contextlib.contextmanager
 def local_socket():
-    with socket.socket(socket.AF_INET, socket.SOCK_DGRAM) as it:
-        it.bind(("127.0.0.1", 0))
-        it.settimeout(10)
-        yield it
+    it = socket.socket(socket.AF_INET, socket.SOCK_DGRAM)
+    it.bind(("127.0.0.1", 0))
+    it.settimeout(10)
+    return it
 
 
 @contextlib.contextmanager
@@ -62,10 +63,9 @@ def answered(desk, lengths):
 
 
 def heard_by_a_device(program):
-    with local_socket() as free:
-        there = free.getsockname()
-    with running(program, "bacdev", "1234", "--port", str(there[1])), local_socket() as desk:
-        desk.connect(there)
+    port = free_port()
+    with running(program, "bacdev", "1234", "--port", str(port)), local_socket() as desk:
+        desk.connect(("127.0.0.1", port))
         for length in range(1000, LONGEST + 1):
             heard = answered(desk, [LONGEST + 1, length])
             if heard != bytes.fromhex(f"810a000d010050{length % 256:02x}0f91029109"):

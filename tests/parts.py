@@ -127,8 +127,8 @@ class Work:
         """Says what came of it, behind the end of what it said where it failed."""
         passed, failed = self.counts()
         if failed:
-            with open(self.log, encoding="utf-8", errors="replace") as log:
-                print("".join(f"    {line}" for line in log.readlines()[-40:]), end="")
+            self.lines.seek(0)
+            print("".join(f"    {line}" for line in self.lines.readlines()[-40:]), end="")
         how = f"FAILED, see {self.log}" if failed else "ended well"
         self.clock.say(f"{self.part.name} {how}: {passed} passed, {failed} failed")
         return passed, failed

@@ -15,7 +15,7 @@ import shutil
 import sys
 import textwrap
 
-from sources import CLOSE, CRATES, DEFINITIONS, OPEN, PROBLEMS, SOURCES, TOKEN
+from sources import CLOSE, CRATES, DEFINITIONS, OPEN, PROBLEMS, SOURCES, TOKEN, USE
 from sources import closed, defined, match_bracket, public_calls, read_tree, uses_in
 from tree import TOP, text_of
 
@@ -60,14 +60,6 @@ def size(items):
     return sum(item.lines for item in items)
 
 
-def by_file(items):
-    """The files, in the order in which they are first met, and the items of each from its top."""
-    of = collections.defaultdict(list)
-    for item in items:
-        of[item.file].append(item)
-    return ((file, sorted(there, key=lambda item: item.place)) for file, there in of.items())
-
-
 def columns(text, width=120):
     """Lines of at most so many columns, set in as the first one is."""
     start = " " * (len(text) - len(text.lstrip()))
@@ -75,10 +67,10 @@ def columns(text, width=120):
 
 
 def listed(items, told, page):
-    """The lines of a list: each file, and what is read of it."""
-    for file, there in by_file(items):
-        elsewhere = collections.defaultdict(list)
-        for item in there:
+    """The lines of a list: each file, in the order in which they are first met, and what is read of it from its top."""
+    for file in dict.fromkeys(item.file for item in items):
+        there, elsewhere = [item for item in items if item.file is file], collections.defaultdict(list)
+        for item in sorted(there, key=lambda item: item.place):
             elsewhere[told.setdefault(item, page)].append(item)
         mine = elsewhere.pop(page, [])
         head = f": {file.head}" if mine else ""
@@ -212,8 +204,7 @@ def rooms():
 def unused_or_gone():
     kinds = ("src/**/*.rt", "specs/**/*.antt", "proofs/**/*.antt")
     for path in sorted(path for kind in kinds for path in glob.glob(f"crates/*/{kind}", recursive=True)):
-        crate = path.split("/")[1]
-        names = list(unused_in_source(crate, path) if path.endswith(".rt") else unused_in_antt(path))
+        names = list((unused_in_source if path.endswith(".rt") else unused_in_antt)(path))
         if names:
             yield f"{path} brings in what it doesn't say: {', '.join(names)}"
         for module, brought, _, _ in uses_in(text_of(path), ghost=path.endswith(".rt")):
@@ -222,9 +213,11 @@ def unused_or_gone():
                 yield from (f"{path} brings in {name}, which {module} hasn't" for name in gone)
 
 
-def is_said(name, tokens):
-    parts = [part for part in name.split("◌") if part.strip()]
-    return all(part in tokens for part in parts)
+def unsaid(uses, said):
+    """The names that these uses bring in, and that are not said; those that are passed on are."""
+    for module, names, alias, public in uses:
+        here = [alias or module.split(".")[-1]] if names is None else [one for _, one in names]
+        yield from (name for name in here if not public and not {*filter(str.strip, name.split("◌"))} <= said)
 
 
 def said_in(text):
@@ -236,13 +229,10 @@ def said_in(text):
 
 def unused_in_antt(path):
     text = re.sub(r"(?m)--.*$", "", text_of(path))
-    said = said_in(re.sub(r"(?ms)^ *(?:unfoldable )?(?:pub )?use [^\n{]*(?:\{.*?\}[^\n]*)?$", "", text))
-    for module, names, alias, public in uses_in(text, ghost=False):
-        here = [alias or module.split(".")[-1]] if names is None else [one for _, one in names]
-        yield from (name for name in here if not public and not is_said(name, said))
+    yield from unsaid(uses_in(text, ghost=False), said_in(USE.sub("", text)))
 
 
-def unused_in_source(crate, path):
+def unused_in_source(path):
     source = next(one for one in SOURCES.values() if one.path == path)
     for use in re.finditer(r"ghost use [^;]*;", source.code):
         end, depth = use.end(), 0
@@ -254,9 +244,7 @@ def unused_in_source(crate, path):
         for clause in re.finditer(r"\b(?:requires|ensures|ghost)\*?(?: \w+)?\s*[:=]?\s*\{", source.code[start:end]):
             at = start + clause.end()
             said |= said_in(source.masked(at, match_bracket(source.code, at - 1)))
-        for module, names, alias, _ in uses_in(source.text[use.start() : use.end()], ghost=True):
-            here = [alias or module.split(".")[-1]] if names is None else [one for _, one in names]
-            yield from (name for name in here if not is_said(name, said))
+        yield from unsaid(uses_in(use[0], ghost=True), said)
 
 
 def main(arguments):

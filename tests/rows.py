@@ -27,6 +27,7 @@ answers, {93*x} for 93 times x, [0100..] for the datagram whose link header has 
 """
 import glob
 import os
+import pathlib
 import re
 import shutil
 import subprocess
@@ -35,9 +36,8 @@ import tempfile
 from collections import namedtuple
 from concurrent.futures import ThreadPoolExecutor
 
-from tree import free_port
+from tree import TOP, free_port
 
-HERE = os.path.dirname(os.path.abspath(__file__))
 LETTERS = {
     "P": "127.0.0.1:47808",
     "Q": "127.0.0.1:50000",
@@ -72,8 +72,7 @@ def words_of(line):
 
 def blocks(path):
     """Each row as its place and its lines by their marks."""
-    with open(path, encoding="ascii") as file:
-        text = file.read()
+    text = pathlib.Path(path).read_text(encoding="ascii")
     for block in re.finditer(r"(?:.+\n?)+", text):
         place = "%s:%d" % (path, text.count("\n", 0, block.start()) + 1)
         row = {}
@@ -246,7 +245,7 @@ def tell(case, ending, how):
 
 
 def main(program, files):
-    paths = files or sorted(glob.glob(os.path.relpath(HERE) + "/rows/*.rows"))
+    paths = files or sorted(glob.glob(os.path.relpath(TOP + "/tests/rows") + "/*.rows"))
     rows = [case for path in paths for case in row_cases(path)]
     made = [*answers_under_each_number(), *damaged_answers(), *full_tables()]
     made += [errors_under_other_tags(), open_number(), retries()]
@@ -259,7 +258,7 @@ def main(program, files):
         runs = [(case, None, "") for case in cases]
         if shutil.which("cc"):
             library = os.path.join(room, "fail.so")
-            subprocess.run(["cc", "-O1", "-shared", "-fPIC", "-o", library, os.path.join(HERE, "fail.c")], check=True)
+            subprocess.run(["cc", "-O1", "-shared", "-fPIC", "-o", library, f"{TOP}/tests/fail.c"], check=True)
             runs += [(case, library, ", one octet at a read") for case in scripts]
         else:
             print("tests/rows.py: one octet at a read is left out, since it needs cc")

@@ -76,6 +76,9 @@ BINDER = re.compile("|".join(BINDERS), re.M)
 LABEL = re.compile(r"([{;]\s*)[^\s={;]+ =(?=\s)")  # a field, or an argument by its name
 
 
+USE = re.compile(r"(?ms)^ *(?:unfoldable )?(?:pub )?use [^\n{]*(?:\{.*?\}[^\n]*)?$")  # a use line of antt
+
+
 class Names(dict):
     """What is in scope: under each name a function that finds what its path, behind the name, stands for."""
 
@@ -160,8 +163,7 @@ class Specs:
         self.items, self.constructors, self.names = {}, {}, brought_in(self.text, ghost=False)
         passed_on = ((module, names or ()) for module, names, _, public in uses_in(self.text, False) if public)
         self.passes_on = {here: (module, name) for module, names in passed_on for name, here in names}
-        text = re.sub(r"(?ms)^(?:unfoldable )?(?:pub )?use [^\n{]*(?:\{.*?\}[^\n]*)?$", "", self.text)
-        for comment, modules, lines in list(self.blocks(text)):
+        for comment, modules, lines in list(self.blocks(USE.sub("", self.text))):
             self.define(" ".join(comment), modules, lines)
 
     def blocks(self, text):

@@ -28,7 +28,7 @@ cmp -s "$room/listed" "$room/told" || wrong 'make is not make help'
 # shellcheck disable=SC2013  # words
 for target in $(sed -n 's/^\.PHONY: //p' Makefile packaging.mk measuring.mk); do
     case $target in
-        documents | kit | trial*) continue ;; # parts of others
+        documents | kit) continue ;; # parts of others
     esac
     grep -qE "^(make, )?make $target\b" "$room/listed" || wrong "make help does not list $target"
 done

@@ -396,11 +396,6 @@ def strays():
     return sorted(it for it in files if it.split("/")[-3] not in crates_below() or not it.endswith((".edit", ".md")))
 
 
-def usual_jobs():
-    """As many checks at a time as there are processors, and memory for."""
-    return max(1, min(processors(), free_memory() // CHECK_MEMORY))
-
-
 def main():
     parser = argparse.ArgumentParser(description=__doc__, formatter_class=argparse.RawDescriptionHelpFormatter)
     flag, word = functools.partial(parser.add_argument, action="store_true"), parser.add_argument
@@ -409,7 +404,8 @@ def main():
     flag("--clauses", help="print the clauses of public functions that no body leaves open")
     flag("--sample", help=f"take {SAMPLE} of each crate that one check holds, those of must-fail first, without twins")
     word("--only", default="", metavar="PATTERN", help="take the bodies whose CRATE/NAME the pattern is found in")
-    word("--jobs", type=int, default=usual_jobs(), metavar="N", help="the checks at a time (%(default)s here)")
+    jobs = max(1, min(processors(), free_memory() // CHECK_MEMORY))
+    word("--jobs", type=int, default=jobs, metavar="N", help="the checks at a time (%(default)s here)")
     word("crates", nargs="*", help="take these crates alone")
     options = parser.parse_args()
     crates = [it for it in crates_below() if not options.crates or it in options.crates]
