@@ -234,13 +234,6 @@ def rounds_of(edits, are_alone):
     return alone + [(texts, group) for texts, _, group in rounds if group]
 
 
-def beside(edits):
-    """These edits, each beside its function where it may stand there."""
-    for number, it in enumerate(edits):
-        it.stand_beside(number)
-    return edits
-
-
 def sample_of(edits):
     """The first of these edits that one round holds."""
     round = ({}, set(), [])
@@ -382,12 +375,14 @@ def try_all(crates, jobs):
 def edits_of(crate, options):
     files = (it for part in ("must-fail", "wrong") for it in sorted(glob.glob(f"{ROOT}/crates/{crate}/{part}/*.edit")))
     edits = [it for it in (Body(crate, file) for file in files) if re.search(options.only, it.name)]
-    if options.sample and edits and not any(it.is_unfit for it in edits):
-        return sample_of(beside([it for it in edits if not it.is_wide]))
-    for it in edits:
+    if options.sample:
+        edits = [it for it in edits if it.is_unfit or not it.is_wide]
+    for it in edits if not options.sample else ():
         it.twin = Body(crate, it.file, is_twin=True) if it.has_twin else None
     edits += [it.twin for it in edits if it.twin]
-    return beside(edits)
+    for number, it in enumerate(edits):
+        it.stand_beside(number)
+    return sample_of(edits) if options.sample and not any(it.is_unfit for it in edits) else edits
 
 
 def strays():
