@@ -16,7 +16,7 @@ import sys
 import textwrap
 
 from sources import CLOSE, CRATES, DEFINITIONS, OPEN, PROBLEMS, SOURCES, TOKEN
-from sources import closed, defined, match_bracket, public_calls, read_tree, uses_in
+from sources import closed, defined, match_bracket, public_calls, read_tree, uses_in, without_uses
 from tree import TOP, text_of
 
 FOLDER = "docs/reading"
@@ -236,7 +236,7 @@ def said_in(text):
 
 def unused_in_antt(path):
     text = re.sub(r"(?m)--.*$", "", text_of(path))
-    said = said_in(re.sub(r"(?ms)^ *(?:unfoldable )?(?:pub )?use [^\n{]*(?:\{.*?\}[^\n]*)?$", "", text))
+    said = said_in(without_uses(text))
     for module, names, alias, public in uses_in(text, ghost=False):
         here = [alias or module.split(".")[-1]] if names is None else [one for _, one in names]
         yield from (name for name in here if not public and not is_said(name, said))
