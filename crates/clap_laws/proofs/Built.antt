@@ -1,16 +1,16 @@
 -- A command grows by one argument or one tool, and stays the one that the rules say.
-use Rattle.std.proofs.Common.{◌≡◌, ◌∙◌, ◌||◌, ap, ap₂, subst, refl, map, List, [], ◌∷◌, false, true, Option}
-use Rattle.std.proofs.lemmas.Bool.{or_parts}
-use Rattle.clap.specs.declared.builder.command.Command.TheViews.{out-Command}
-use Rattle.clap.specs.declared.builder.command.Command.TheOpen.{Command-F}
-use Rattle.clap.specs.Simple.{app_of_fields}
-use Rattle.std.specs.Borrow.{Bor}
-use Rattle.clap.specs.Walk.{Text}
-use Rattle.clap.specs.Words.{AddsArg, AddsInTurn, AddsSubcommand, App, rule_of, with_rule, with_subcommand}
-use Rattle.clap.specs.declared.builder.arg.Arg.{Arg}
-use Rattle.clap.specs.declared.builder.command.Command.{Command}
+use Rattle.std.{
+  proofs.{Common.{◌≡◌, ◌∙◌, ◌||◌, ap, ap₂, subst, refl, map, List, [], ◌∷◌, false, true, Option}, lemmas.Bool.or_parts},
+  specs.{Borrow.Bor, List.{fold, list_any}},
+}
+use Rattle.clap.specs.{
+  declared.builder.command.{Command.TheViews.out-Command, Command.TheOpen.Command-F, Command.Command},
+  Simple.app_of_fields,
+  Walk.Text,
+  Words.{AddsArg, AddsInTurn, AddsSubcommand, App, rule_of, with_rule, with_subcommand},
+  declared.builder.arg.Arg.Arg,
+}
 use Rattle.clap_laws.specs.Commands.{IsCommand, wanting}
-use Rattle.std.specs.List.{fold, list_any}
 
 pub with_tool : {app tool : App} (old new sub : Command) → IsCommand old app → IsCommand sub tool
     → AddsSubcommand old sub new

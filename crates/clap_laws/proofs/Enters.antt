@@ -1,15 +1,16 @@
 -- Where `clap` takes the words of a program that wants a tool, the words name one other than `help`, and it takes the
 -- words after it.
-use Rattle.std.proofs.Common.{arith, ◌≡◌, ◌∙◌, ap, ◌&&◌, Bool, true, false, not, refl, List, [], Option, Some, None}
-use Rattle.std.proofs.Common.{is_some, IfSome}
-use Rattle.std.specs.List.{find}
-use Rattle.clap.specs.Walk.{finished, settled, Text, answers_to, nothing_held, walk, walk_from, stop_after}
-use Rattle.clap.specs.Simple.{App, Shape, argument_words, built, entered, label_of, names_of, rows_at}
-use Rattle.clap.specs.Kinds.{check_kinds}
-use Rattle.clap.specs.Faults.{check_fault, defaults_fault, entered_fault, fault_of, level_fault}
-use Rattle.std.specs.Option.{option_map, option_map_or}
-use Rattle.clap_laws.specs.Entering.{Enters}
-use Rattle.clap_laws.proofs.Rows.{asks, none_fails, walk_goes}
+use Rattle.std.proofs.{
+  Common.{arith, ◌≡◌, ◌∙◌, ap, ◌&&◌, Bool, true, false, not, refl, List, [], Option, Some, None, is_some, IfSome},
+}
+use Rattle.std.specs.{List.find, Option.{option_map, option_map_or}}
+use Rattle.clap.specs.{
+  Walk.{finished, settled, Text, answers_to, nothing_held, walk, walk_from, stop_after},
+  Simple.{App, Shape, argument_words, built, entered, label_of, names_of, rows_at},
+  Kinds.check_kinds,
+  Faults.{check_fault, defaults_fault, entered_fault, fault_of, level_fault},
+}
+use Rattle.clap_laws.{specs.Entering.Enters, proofs.Rows.{asks, none_fails, walk_goes}}
 
 enters_by : (a : App) (words : List Text) (stop : Option (Text × List Text))
     → stop_after (built a).top.rules (names_of (built a)) (argument_words a words) ≡ stop

@@ -1,40 +1,42 @@
 -- What a command of one level leaves in its matches, where `clap` takes the words: each value passed
 -- the parser of its argument, and each argument that has an entry has a value.
-use Rattle.std.proofs.Common.{◌≡◌, ◌∙◌, ◌<◌, ◌&&◌, ◌||◌, ℕ, Bool, cond, true, false, not, zero, suc, refl, sym, ap}
-use Rattle.std.proofs.Common.{subst, arith, List, [], ◌∷◌, ◌++◌, length, drop, Option, Some, None, is_some, IfSome}
-use Rattle.std.proofs.Common.{encode_utf8, slice_get, length-append, codes, if◌then◌else◌}
-use Rattle.std.specs.List.{AllByRecursion, find, fold, list_all, list_any}
-use Rattle.std.specs.Str.{bytes_eq, chars}
-use Rattle.std.specs.Prelude.{nat_lt}
-use Rattle.std.proofs.lemmas.Slice.Eq.{bytes_eq-Decides}
-use Rattle.std.proofs.lemmas.Bool.{or_parts}
-use Rattle.std.proofs.lemmas.List.Folds.{list_all-append}
-use Rattle.clap.specs.Lexer.{long_of, short_of}
-use Rattle.clap.specs.Facts.{unwrap_or_range}
-use Rattle.clap.specs.Values.{is_request}
-use Rattle.clap.specs.Kinds.{Kinds, check_kinds, or_else, range_kinds}
-use Rattle.std.specs.Option.{option_map_or}
-use Rattle.clap.specs.Walk.{Held, has_row, bundle_step, flag_met, has_short, has_long, most_values, Names, Outcome, Row}
-use Rattle.clap.specs.Walk.{Rule, Step, Text, Waiting, Walk, action_of, after_flag, after_step, arg_by_id, arg_by_index}
-use Rattle.clap.specs.Walk.{arg_by_long, arg_by_short, at_row, attached_value, bundle, bundle_met, default_rows, done}
-use Rattle.clap.specs.Walk.{finished, is_empty, long_met, long_or_other, more_values, nothing_held, option_met, plain}
-use Rattle.clap.specs.Walk.{plain_word, reacted, reading_by, settled, short_met, short_or_plain, subcommand_met}
-use Rattle.clap.specs.Walk.{subcommand_or_other, takes_values, to_positional, used, used_as, values_or_missing, walk}
-use Rattle.clap.specs.Walk.{rows_after, walk_from, walked, walked_from, with_default, with_values, word_met}
+use Rattle.std.proofs.{
+  Common.{◌≡◌, ◌∙◌, ◌<◌, ◌&&◌, ◌||◌, ℕ, Bool, cond, true, false, not, zero, suc, refl, sym, ap, subst, arith, List, []},
+  Common.{◌∷◌, ◌++◌, length, drop, Option, Some, None, is_some, IfSome, encode_utf8, slice_get, length-append, codes},
+  Common.if◌then◌else◌,
+  lemmas.{Slice.Eq.bytes_eq-Decides, Bool.or_parts, List.Folds.list_all-append},
+}
+use Rattle.std.specs.{
+  List.{AllByRecursion, find, fold, list_all, list_any},
+  Str.{bytes_eq, chars},
+  Prelude.nat_lt,
+  Option.option_map_or,
+}
+use Rattle.clap.specs.{
+  Lexer.{long_of, short_of},
+  Facts.unwrap_or_range,
+  Values.is_request,
+  Kinds.{Kinds, check_kinds, or_else, range_kinds},
+  Walk.{Held, has_row, bundle_step, flag_met, has_short, has_long, most_values, Names, Outcome, Row, Rule, Step, Text},
+  Walk.{Waiting, Walk, action_of, after_flag, after_step, arg_by_id, arg_by_index, arg_by_long, arg_by_short, at_row},
+  Walk.{attached_value, bundle, bundle_met, default_rows, done, finished, is_empty, long_met, long_or_other},
+  Walk.{more_values, nothing_held, option_met, plain, plain_word, reacted, reading_by, settled, short_met},
+  Walk.{short_or_plain, subcommand_met, subcommand_or_other, takes_values, to_positional, used, used_as},
+  Walk.{values_or_missing, walk, rows_after, walk_from, walked, walked_from, with_default, with_values, word_met},
+  Simple.Shape,
+  Takes.{value_passes, values_pass, is_given},
+  Faults.{action_fault, check_fault, defaults_fault, stray_fault, bundle_fault, bundle_step_fault, flag_word_fault},
+  Faults.{flags_fault, long_fault, option_fault, other_fault, positional_fault, react_fault, settle_fault, short_fault},
+  Faults.{step_fault, use_fault, values_fault, walk_fault, level_fault, word_fault},
+  declared.{builder.action.ArgAction.ArgAction, parser.matches.ValueSource.TheVariants.CommandLine},
+}
+use Rattle.clap.proofs.{WalkLemmas.both, SimpleLemmas.is_false}
+use Rattle.clap_laws.specs.{
+  Passes.{IsTaken, RowPasses},
+  Entering.{keeps_values, is_plain_rule, has_distinct_ids, IsPlainLevel},
+}
 use Rattle.clap.specs.Walk as w
-use Rattle.clap.specs.Simple.{Shape}
-use Rattle.clap.specs.Takes.{value_passes, values_pass, is_given}
-use Rattle.clap.specs.Faults.{action_fault, check_fault, defaults_fault, stray_fault, bundle_fault, bundle_step_fault}
-use Rattle.clap.specs.Faults.{flag_word_fault, flags_fault, long_fault, option_fault, other_fault, positional_fault}
-use Rattle.clap.specs.Faults.{react_fault, settle_fault, short_fault, step_fault, use_fault, values_fault, walk_fault}
-use Rattle.clap.specs.Faults.{level_fault, word_fault}
-use Rattle.clap.specs.declared.builder.action.ArgAction.{ArgAction}
 use Rattle.clap.specs.declared.builder.action.ArgAction.TheVariants as action
-use Rattle.clap.specs.declared.parser.matches.ValueSource.TheVariants.{CommandLine}
-use Rattle.clap.proofs.WalkLemmas.{both}
-use Rattle.clap.proofs.SimpleLemmas.{is_false}
-use Rattle.clap_laws.specs.Passes.{IsTaken, RowPasses}
-use Rattle.clap_laws.specs.Entering.{keeps_values, is_plain_rule, has_distinct_ids, IsPlainLevel}
 
 -- What holds of the element that a search finds, by induction over the list.
 pub when_found : {X : Type 0} (p : X → Bool) (P : List X → Type 0) (a : X) → ((xs : List X) → p a ≡ true → P (a ∷ xs))
