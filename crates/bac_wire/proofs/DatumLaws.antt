@@ -25,7 +25,7 @@ use Rattle.bac_wire.proofs.{
 
 pub within_again : (most : ℕ) (contents : List ℕ) → 1 ≤ length contents → length contents ≤ most
     → number_within most contents ≡ Some (big_number (length contents) contents)
-within_again most contents low high = rw (lt-ltb 0 _ low, le-ltb _ _ high) refl
+within_again _ _ low high = rw (lt-ltb 0 _ low, le-ltb _ _ high) refl
 
 pub same_identifier : (n : ℕ) (id : Identifier) → id.instance < 2 ^ 22 → n ≡ number_of id → identifier_of n ≡ id
 same_identifier n id low e =
@@ -35,16 +35,16 @@ same_identifier n id low e =
 
 bits_again : (contents : List ℕ) (unused : ℕ) (x : List ℕ) → StandsFor contents (bit_string unused x)
     → bits_of contents ≡ Some (bit_string unused x)
-bits_again contents unused [] h = let none = h.1.empty refl in rw (h.0, eq-eqb _ 0 none) refl
-bits_again contents unused (b ∷ x) h = rw (h.0, le-ltb 7 _ h.1.most) refl
+bits_again _ _ [] h = let none = h.1.empty refl in rw (h.0, eq-eqb _ 0 none) refl
+bits_again _ _ (b ∷ x) h = rw (h.0, le-ltb 7 _ h.1.most) refl
 
 contents_again : (contents : List ℕ) (value : Datum) → (tag_number value ≡ 1 → ⊥) → StandsFor contents value
     → contents_of (tag_number value) contents ≡ Some value
 unfolding contents_of
-contents_again contents (boolean b) other h = absurd (other refl)
-contents_again contents (bit_string unused x) other h = bits_again _ _ x h
-contents_again contents (object id) other h = rw (eq-eqb _ 4 h.0, same_identifier _ _ h.1 h.2) refl
-contents_again contents value other h = grind (arith, common_steps)
+contents_again _ (boolean b) other h = absurd (other refl)
+contents_again _ (bit_string unused x) _ h = bits_again _ _ x h
+contents_again _ (object id) other h = rw (eq-eqb _ 4 h.0, same_identifier _ _ h.1 h.2) refl
+contents_again _ _ other h = grind (arith, common_steps)
 
 -- ---- what is read are the contents of the value
 
@@ -54,7 +54,7 @@ Holding number contents value = (tag_number value ≡ number) × StandsFor conte
 
 pub within_takes : (most : ℕ) (contents : List ℕ) (n : ℕ) → number_within most contents ≡ Some n → (1 ≤ length contents)
     × (length contents ≤ most) × (n ≡ big_number (length contents) contents)
-within_takes most contents n e = (grind (arith, common_steps), grind (arith, common_steps), grind (arith, common_steps))
+within_takes _ _ n e = (grind (arith, common_steps), grind (arith, common_steps), grind (arith, common_steps))
 
 -- the value under a function that was mapped
 mapped : {A B : Type 0} (f : A → B) (o : Option A) (y : B) → option_map f o ≡ Some y → (x : A) × (o ≡ Some x)
@@ -67,7 +67,7 @@ number_takes : (number most : ℕ) (make : List ℕ → ℕ → Datum)
     × (n ≡ big_number (length contents) contents) → Holding number contents (make contents n))
     → (contents : List ℕ) (value : Datum) → option_map (make contents) (number_within most contents) ≡ Some value
     → Holding number contents value
-number_takes number most make holds contents value e =
+number_takes _ _ _ holds _ _ e =
     let m = mapped _ _ _ e in
     rw (← m.2) (holds _ _ (within_takes _ _ _ m.1))
 
@@ -75,55 +75,53 @@ exact_takes : (number count : ℕ) (make : List ℕ → Datum)
     → ((contents : List ℕ) → length contents ≡ count → Holding number contents (make contents))
     → (contents : List ℕ) (value : Datum) → option_map make (exactly count contents) ≡ Some value
     → Holding number contents value
-exact_takes number count make holds contents value e =
+exact_takes _ _ _ holds _ _ e =
     let m = mapped _ _ _ e in
     let taken = cond_some _ _ _ m.1 in
     rw (← m.2, ← taken.1) (holds _ (eqb-true _ _ taken.0))
 
 chars_takes : (contents : List ℕ) (value : Datum) → chars_of contents ≡ Some value → Holding 7 contents value
-chars_takes [] value e = absurd cc
-chars_takes (set ∷ x) value e = rw (← same_Some _ _ e) (refl, refl)
+chars_takes [] _ e = absurd cc
+chars_takes (set ∷ x) _ e = rw (← same_Some _ _ e) (refl, refl)
 
 bits_takes : (contents : List ℕ) (value : Datum) → bits_of contents ≡ Some value → Holding 8 contents value
-bits_takes [] value e = absurd cc
-bits_takes (unused ∷ []) value e =
+bits_takes [] _ e = absurd cc
+bits_takes (unused ∷ []) _ e =
     let t = cond_some _ _ _ e in
     let none = eqb-true unused 0 t.0 in
     rw (← t.1) (refl, (refl, record { most = omega arith; empty = λ _. none }))
-bits_takes (unused ∷ b ∷ x) value e =
+bits_takes (unused ∷ b ∷ x) _ e =
     let t = unless (ltb 7 unused) e in
     rw (← same_Some _ _ t.1) (refl, (refl, record { most = ltb-false 7 _ t.0; empty = λ empty. absurd cc }))
 
 contents_take : (number : ℕ) (contents : List ℕ) (value : Datum) → contents_of number contents ≡ Some value
     → Holding number contents value
 unfolding contents_of
-contents_take zero contents value e = exact_takes 0 0 (λ _. null) (λ c h. (refl, nil_from_length c h)) _ _ e
-contents_take (suc (suc zero)) contents value e = number_takes 2 8 (λ c n. unsigned n) (λ c n h. (refl, h)) _ _ e
-contents_take (suc (suc (suc zero))) contents value e =
+contents_take zero _ _ e = exact_takes 0 0 (λ _. null) (λ c h. (refl, nil_from_length c h)) _ _ e
+contents_take (suc (suc zero)) _ _ e = number_takes 2 8 (λ c n. unsigned n) (λ c n h. (refl, h)) _ _ e
+contents_take (suc (suc (suc zero))) _ _ e =
     number_takes 3 8 (λ c n. signed _) (λ c n h. (refl, (h.0, h.1, ap (twos_complement _) h.2))) _ _ e
-contents_take (suc (suc (suc (suc zero)))) contents value e = exact_takes 4 4 real (λ c h. (refl, (h, refl))) _ _ e
-contents_take (suc (suc (suc (suc (suc zero))))) contents value e =
-    exact_takes 5 8 double (λ c h. (refl, (h, refl))) _ _ e
-contents_take (suc (suc (suc (suc (suc (suc zero)))))) contents value e =
-    rw (← same_Some (octet_string _) _ e) (refl, refl)
-contents_take (suc (suc (suc (suc (suc (suc (suc zero))))))) contents value e = chars_takes _ _ e
-contents_take (suc (suc (suc (suc (suc (suc (suc (suc zero)))))))) contents value e = bits_takes _ _ e
-contents_take (suc (suc (suc (suc (suc (suc (suc (suc (suc zero))))))))) contents value e =
+contents_take (suc (suc (suc (suc zero)))) _ _ e = exact_takes 4 4 real (λ c h. (refl, (h, refl))) _ _ e
+contents_take (suc (suc (suc (suc (suc zero))))) _ _ e = exact_takes 5 8 double (λ c h. (refl, (h, refl))) _ _ e
+contents_take (suc (suc (suc (suc (suc (suc zero)))))) _ _ e = rw (← same_Some (octet_string _) _ e) (refl, refl)
+contents_take (suc (suc (suc (suc (suc (suc (suc zero))))))) _ _ e = chars_takes _ _ e
+contents_take (suc (suc (suc (suc (suc (suc (suc (suc zero)))))))) _ _ e = bits_takes _ _ e
+contents_take (suc (suc (suc (suc (suc (suc (suc (suc (suc zero))))))))) _ _ e =
     number_takes 9 4 (λ c n. enumerated n) (λ c n h. (refl, h)) _ _ e
-contents_take (suc (suc (suc (suc (suc (suc (suc (suc (suc (suc zero)))))))))) contents value e =
+contents_take (suc (suc (suc (suc (suc (suc (suc (suc (suc (suc zero)))))))))) _ _ e =
     exact_takes 10 4 date (λ c h. (refl, (h, refl))) _ _ e
-contents_take (suc (suc (suc (suc (suc (suc (suc (suc (suc (suc (suc zero))))))))))) contents value e =
+contents_take (suc (suc (suc (suc (suc (suc (suc (suc (suc (suc (suc zero))))))))))) _ _ e =
     exact_takes 11 4 time (λ c h. (refl, (h, refl))) _ _ e
-contents_take (suc (suc (suc (suc (suc (suc (suc (suc (suc (suc (suc (suc zero)))))))))))) contents value e =
+contents_take (suc (suc (suc (suc (suc (suc (suc (suc (suc (suc (suc (suc zero)))))))))))) contents _ e =
     exact_takes 12 4 _ (λ contents e. (refl, (e, omega arith, omega arith))) _ _ e
-contents_take number contents value e = absurd (none-some value (grind (arith, common_steps)))
+contents_take _ _ value e = absurd (none-some value (grind (arith, common_steps)))
 
 -- ---- a value
 
 shaped_again : (value : Datum) (contents rest : List ℕ) → StandsFor contents value
     → behind_at (tag_number value) (shape_number value (length contents)) (contents ++ rest) ≡ found_at value rest
-shaped_again (boolean true) contents rest h = rw h refl
-shaped_again (boolean false) contents rest h = rw h refl
+shaped_again (boolean true) _ _ h = rw h refl
+shaped_again (boolean false) _ _ h = rw h refl
 shaped_again value contents rest h =
     let long : ltb (length (contents ++ rest)) (length contents) ≡ false =
     le-ltb _ _ (omega (arith, length-append contents rest)) in
@@ -137,7 +135,7 @@ shaped_again value contents rest h =
 value_again : (front : List ℕ) (value : Datum) (rest : List ℕ) → Spells front value
     → value_at (front ++ rest) ≡ Some (value, rest)
 unfolding value_at
-value_again front value rest s =
+value_again _ _ rest s =
     let t = s.tagged in
     let tag = tag_reader.again _ _ (s.contents ++ rest) t.spelled in
     let shaped = shaped_again _ _ rest s.held in
@@ -145,14 +143,14 @@ value_again front value rest s =
 
 boolean_takes : (n : ℕ) (value : Datum) → boolean_of n ≡ Some value → (b : Bool) × (value ≡ boolean b)
     × (n ≡ cond b 1 0)
-boolean_takes zero value e = (false, sym (same_Some _ _ e), refl)
-boolean_takes (suc zero) value e = (true, sym (same_Some _ _ e), refl)
+boolean_takes zero _ e = (false, sym (same_Some _ _ e), refl)
+boolean_takes (suc zero) _ e = (true, sym (same_Some _ _ e), refl)
 boolean_takes n value e = absurd (none-some value (grind (arith, common_steps)))
 
 -- the number in the tag of contents that hold a value of another kind
 shape_number_is : (value : Datum) (n : ℕ) → (tag_number value ≡ 1 → ⊥) → shape_number value n ≡ n
 shape_number_is (boolean b) n other = absurd (other refl)
-shape_number_is _ n other = refl
+shape_number_is _ n _ = refl
 
 -- contents behind a tag, and the value that they hold with it
 abbrev Behind : ℕ → ℕ → List ℕ → Datum → List ℕ → Type 0
@@ -184,19 +182,19 @@ shape_takes : (number : ℕ) (shape : Shape) (tag after : List ℕ) (value : Dat
     → SpellsTag tag (record { number = number; shape = shape })
     → with_shape (record { number = number; shape = shape }) shape after ≡ found_at value rest
     → Took Spells (tag ++ after) value rest
-shape_takes number (App n) tag after value rest s e =
+shape_takes _ (App n) tag _ value _ s e =
     let taken = behind_takes _ n _ _ _ e in
     let tagged : SpellsTag tag (tag_before value (length taken.0)) = rw (taken.1, taken.2) s in (
       tag ++ taken.0,
       record { contents = taken.0; tagged = record { front = tag; spelled = tagged; whole = refl }; held = taken.3 },
       ap (λ (w : List ℕ). tag ++ w) taken.4 ∙ sym (append_assoc tag _ _),
     )
-shape_takes number _ tag after value rest s e = absurd cc
+shape_takes _ _ _ _ _ _ s e = absurd cc
 
 value_takes : (spelling : List ℕ) (value : Datum) (rest : List ℕ) → value_at spelling ≡ found_at value rest
     → Took Spells spelling value rest
 unfolding value_at
-value_takes spelling value rest e =
+value_takes _ value rest e =
     let bound = bind_some _ _ (value, rest) e in
     let first = tag_reader.takes _ _ _ bound.1 in
     let taken = shape_takes _ _ _ _ _ _ first.spelled bound.2 in
@@ -211,5 +209,5 @@ one_value = one_front _ _ value_reader
 
 -- what contents stand for is sound
 pub held_sound : (contents : List ℕ) (value : Datum) → StandsFor contents value → IsSound value
-held_sound contents (bit_string unused x) h = h.1
-held_sound contents _ h = tt
+held_sound _ (bit_string unused x) h = h.1
+held_sound _ _ h = tt

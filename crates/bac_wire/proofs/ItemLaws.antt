@@ -33,7 +33,7 @@ left_again = grind (arith, items_again)
 -- whole items leave one rest, whatever depth is allowed
 pub one_left : (depth other : ℕ) (octets rest another : List ℕ) → LeavesRest depth octets rest
     → LeavesRest other octets another → rest ≡ another
-one_left depth other octets rest another l m =
+one_left depth other octets rest _ l m =
     let count = suc (length octets) in
     same_Some rest _ (sym (left_again count depth _ _ rest (omega arith) (omega arith) l)
     ∙ left_again count other (depth + other) _ _ (omega arith) (omega arith) m)
@@ -46,7 +46,7 @@ region_leaves = grind arith
 pub item_read : (count depth top : ℕ) (octets item rest : List ℕ) → depth ≤ top → length octets < suc count
     → IsItem depth item
     → octets ≡ item ++ rest → item_at (behind_items count) top octets ≡ Some rest
-item_read count depth top octets item rest le short i e = ap (item_at _ top) e
+item_read _ _ top _ _ _ le short i e = ap (item_at _ top) e
     ∙ item_again _ _ _ _ _ _ (items_again _) le (rw e at short) i
 
 -- no item begins another, whatever depth is allowed to either
@@ -71,7 +71,7 @@ item_opens = grind arith
 
 pub one_region : (depth other number another : ℕ) (octets a b : List ℕ) → IsClosedRegion depth number octets a
     → IsClosedRegion other another octets b → (a ≡ b) × (number ≡ another)
-one_region depth other number another octets a b r s =
+one_region _ _ number _ _ a b r s =
     let same = one_left _ _ _ _ _ (region_leaves _ _ _ a r) (region_leaves _ _ _ b s) in
     let tags = some_pair_parts _ _ _ _
     (sym (closing_read _ _ _ r.closed) ∙ ap tag_at same ∙ closing_read _ _ _ s.closed) in
@@ -81,25 +81,23 @@ one_region depth other number another octets a b r s =
 inside_of : (count depth number : ℕ) (after next : List ℕ)
     → behind_item (behind_items count) depth (opening_tag number) Opening after ≡ Some next
     → (below : ℕ) × (depth ≡ suc below) × (mid : List ℕ) × LeavesRest below after mid
-inside_of count zero number after next e = cc
-inside_of count (suc depth) number after next e =
+inside_of _ zero _ _ _ e = cc
+inside_of _ (suc depth) _ _ _ e =
     let a = bind_some _ _ _ e in
     (depth, refl, a.0, items_take _ _ _ _ a.1)
 
 opens_within : (depth count : ℕ) (front region tail rest : List ℕ) → Opens count front
     → IsSequence (IsItem depth) region → HasEnded tail → region ++ tail ≡ front ++ rest → count ≤ depth
-opens_within depth count front region tail rest here s ended e = omega arith
-opens_within depth count front region tail rest (past {rest = others} other item i o) none ended e =
+opens_within _ _ _ _ _ _ here s ended e = omega arith
+opens_within _ _ _ _ tail rest (past {rest = others} other item i o) none ended e =
     absurd (item_ended other tail item _ ended i (e ∙ append_assoc item _ rest))
-opens_within depth count front region tail rest (past {rest = others} other item i o) (more {first} {rest = after} j s)
-    ended e =
+opens_within depth count _ _ tail rest (past {rest = others} other item i o) (more {first} {rest = after} j s) ended e =
     let line : first ++ (after ++ tail) ≡ item ++ (others ++ rest) = grind (arith, append_assoc) in
     let same = one_item depth other first item _ _ j i line in
     let next = append_cancel_left first _ _ (line ∙ ap (λ w. w ++ (others ++ rest)) (sym same)) in
     opens_within depth count _ after tail rest o s ended next
-opens_within depth count front region tail rest (into {opening} {rest = others} number t o) none ended e =
-    grind arith
-opens_within depth count front region tail rest (into {count = fewer} {opening} {rest = others} number t o)
+opens_within _ _ _ _ _ _ (into {opening} {rest = others} number t o) none ended e = grind arith
+opens_within depth _ _ region tail rest (into {count = fewer} {opening} {rest = others} number t o)
     (more {first} {rest = after} j s) ended e =
     let octets = opening ++ _ in
     let line : octets ≡ first ++ (after ++ tail) =
@@ -111,7 +109,7 @@ opens_within depth count front region tail rest (into {count = fewer} {opening} 
 
 pub nesting : (depth count : ℕ) (octets front rest : List ℕ) → IsRegion depth octets → Opens count front
     → octets ≡ front ++ rest → count ≤ depth
-nesting depth count octets front rest r o e = opens_within _ _ _ _ [] _ o r (inl refl) (append-nil _ ∙ e)
+nesting _ _ _ _ _ r o e = opens_within _ _ _ _ [] _ o r (inl refl) (append-nil _ ∙ e)
 
 -- ---- what is read is what is found
 
@@ -126,9 +124,9 @@ finds_by (Some rest) reads = reads.takes _ refl
 
 pub found_by : {IsRest : List ℕ → Type 0} (read found : Option (List ℕ)) → Reads IsRest read → Finds IsRest found
     → read ≡ found
-found_by None None reads finds = refl
+found_by None None _ _ = refl
 found_by (Some rest) None reads finds = absurd (finds _ (reads.takes _ refl))
-found_by read (Some rest) reads finds = reads.again _ finds
+found_by _ (Some rest) reads finds = reads.again _ finds
 
 pub closing_reads : (number : ℕ) (octets : List ℕ) → Reads (IsClosedBy number octets) (behind_closing number octets)
 closing_reads = search (arith, closed_takes, closed_again)
@@ -138,14 +136,14 @@ count_reads = grind arith
 
 item_reads : (count depth : ℕ) (octets : List ℕ) → length octets < suc count
     → Reads (LeavesBehind depth octets) (item_at (behind_items count) depth octets)
-item_reads count depth octets short = record {
+item_reads _ _ _ short = record {
   takes = λ rest e. item_at_takes _ _ _ _ (items_take _) e;
   again = λ rest l. item_read _ _ _ _ _ _ (omega arith) short l.item l.whole;
 }
 
 items_read : (count depth : ℕ) (octets : List ℕ) → length octets < count
     → Reads (LeavesRest depth octets) (behind_items count depth octets)
-items_read count depth octets short = record {
+items_read _ _ _ short = record {
   takes = items_take _ _ _;
   again = λ rest l. left_again _ _ _ _ _ (omega arith) short l;
 }
@@ -153,7 +151,7 @@ items_read count depth octets short = record {
 -- the function and the relation say the same
 pub items_is : (depth : ℕ) (octets rest : List ℕ)
     → (behind_items (length octets + 1) depth octets ≡ Some rest) ↔ LeavesRest depth octets rest
-items_is depth octets rest =
+items_is _ _ _ =
     let reads = items_read _ _ _ (omega arith) in
     (reads.takes _, reads.again _)
 
@@ -166,7 +164,7 @@ region_whole = grind (arith, append-nil)
 -- a region leaves nothing
 pub whole_is : (depth : ℕ) (octets : List ℕ)
     → (behind_items (length octets + 1) depth octets ≡ Some []) ↔ IsRegion depth octets
-whole_is depth octets = (
+whole_is _ _ = (
   λ e. whole_region _ _ [] ((items_is _ _ []).0 e) refl,
   λ r. (items_is _ _ []).1 (region_whole _ _ r),
 )
@@ -184,20 +182,20 @@ rest_found = grind (arith, finds_by, items_read)
 -- no tag, and so no rest
 pub rest_none : (depth : ℕ) (octets : List ℕ) → None ≡ tag_at octets → (octets ≡ [] → ⊥) → rest_of depth octets ≡ None
 unfolding behind_items
-rest_none depth [] e some = absurd (some refl)
-rest_none depth (x ∷ xs) e some = cc
+rest_none _ [] e some = absurd (some refl)
+rest_none _ (x ∷ xs) e some = cc
 
 pub behind_shorter : (depth : ℕ) (octets rest : List ℕ) → LeavesBehind depth octets rest → length rest < length octets
-behind_shorter depth octets rest l = rw l.whole (item_shorter _ _ _ l.item)
+behind_shorter _ _ _ l = rw l.whole (item_shorter _ _ _ l.item)
 
 -- an item was found, or none
 pub rest_step : (depth : ℕ) (octets : List ℕ) (tag : Tag) (after : List ℕ) (found : Option (List ℕ))
     → found_at tag after ≡ tag_at octets
     → (tag.shape ≡ Closing → ⊥) → Finds (LeavesBehind depth octets) found
     → rest_of depth octets ≡ (found >>= rest_of depth)
-rest_step depth octets tag after None e going finds =
+rest_step _ octets _ _ None e going finds =
     one_step _ _ _ _ _ (sym e) going ∙ rw (found_by _ None (item_reads (length octets) _ _ (omega arith)) finds) refl
-rest_step depth octets tag after (Some next) e going finds =
+rest_step _ octets _ _ (Some next) e going finds =
     let reads = items_read _ _ _ (behind_shorter _ _ _ finds) in
     one_step _ _ _ _ _ (sym e) going ∙ rw (found_by _ (Some _) (item_reads (length octets) _ _ (omega arith)) finds)
     (found_by _ _ reads (rest_found _ _ _ refl))
@@ -207,7 +205,7 @@ pub item_found : (depth : ℕ) (octets : List ℕ) (tag : Tag) (shape : Shape) (
     → found_at tag after ≡ tag_at octets → tag.shape ≡ shape
     → behind_item (behind_items (length octets)) depth tag shape after ≡ found
     → Finds (LeavesBehind depth octets) found
-item_found depth octets tag shape after found e is f =
+item_found depth octets tag _ after found e is f =
     let here = subst (λ s. behind_item (behind_items (length octets)) depth tag s after ≡ found) (sym is) f in
     let read : item_at (behind_items (length octets)) depth octets ≡ found = cc in
     subst (Finds _) read (finds_by _ (item_reads (length octets) depth octets (omega arith)))
@@ -217,7 +215,7 @@ pub opening_found : (depth below : ℕ) (octets : List ℕ) (tag : Tag) (after :
     → depth ≡ suc below
     → found_at tag after ≡ tag_at octets → tag.shape ≡ Opening → Finds (LeavesRest below after) inside
     → (inside >>= behind_closing tag.number) ≡ found → Finds (LeavesBehind depth octets) found
-opening_found depth below octets tag after inside found deeper e is finds f =
+opening_found _ _ _ _ _ _ _ deeper e is finds f =
     let within = found_by _ _ (items_read _ _ _ (after_shorter _ _ _ (sym e))) finds in
     item_found _ _ _ _ _ _ e is cc
 
@@ -227,7 +225,7 @@ opening_found depth below octets tag after inside found deeper e is finds f =
 region_again : (number : ℕ) (octets region : List ℕ) (r : IsClosedRegion 32 number octets region)
     → region_at number octets ≡ found_at region r.rest
 unfolding region_at
-region_again number octets region r =
+region_again _ octets region r =
     let l = region_leaves 32 _ _ _ r in
     rw (
       left_again (suc (length octets)) 32 32 _ _ (omega arith) (omega arith) l,
@@ -267,7 +265,7 @@ closed_line number front region rest s =
     }
 
 pub region_reader : (number : ℕ) → IsReader (SpellsClosed number) (region_at number)
-region_reader number = record {
+region_reader _ = record {
   takes = λ octets region rest e.
       let t = region_takes _ _ _ _ e in
       let c = t.0.closed in
@@ -284,16 +282,16 @@ region_reader number = record {
 -- where no region was found none is read
 none_read : (number : ℕ) (octets : List ℕ) (read : Option (List ℕ × List ℕ)) → region_at number octets ≡ read
     → FindsRegion 32 number octets None → None ≡ read
-none_read number octets None e finds = refl
-none_read number octets (Some x) e finds = absurd (none-some _ (finds.all _ (region_takes _ _ _ _ e).0))
+none_read _ _ None e _ = refl
+none_read _ _ (Some x) e finds = absurd (none-some _ (finds.all _ (region_takes _ _ _ _ e).0))
 
 pub no_region : (number : ℕ) (octets : List ℕ) → FindsRegion 32 number octets None → None ≡ region_at number octets
-no_region number octets = none_read _ _ _ refl
+no_region _ _ = none_read _ _ _ refl
 
 -- a region that was found is read, and the octets behind its closing tag
 pub region_found : (number k : ℕ) (octets front back : List ℕ) → front ≡ take k octets → back ≡ drop k octets
     → FindsRegion 32 number octets (Some k) → region_at number octets ≡ (behind_closing number back >>= found_at front)
-region_found number k octets front back f b finds =
+region_found _ k _ _ back f b finds =
     let r = subst (IsClosedRegion 32 _ _) (sym f) finds.found in
     let same : back ≡ r.behind = b ∙ ap (drop k) r.whole
     ∙ drop_at _ _ k (ap length f ∙ length-take-le k _ finds.within) in
@@ -303,14 +301,14 @@ region_found number k octets front back f b finds =
 pub region_finds : (depth number : ℕ) (octets rest : List ℕ) (behind : Option (List ℕ)) → LeavesRest depth octets rest
     → Finds (IsClosedBy number rest) behind
     → FindsRegion depth number octets (option_map (λ _. length octets - length rest) behind)
-region_finds depth number octets rest None l h = record {
+region_finds _ _ _ rest None l h = record {
   within = tt;
   found = tt;
   all = λ front r.
       let same = one_left _ _ _ _ rest (region_leaves _ _ _ _ r) l in
       absurd (h _ (subst (λ w. IsClosedBy _ w r.rest) same r.closed));
 }
-region_finds depth number octets rest (Some after) l h = record {
+region_finds _ _ octets rest (Some after) l h = record {
   within = omega arith;
   found = rw (take_front _ _ rest l.whole).2
       (record { behind = rest; rest = after; region = l.region; whole = l.whole; closed = h });

@@ -39,7 +39,7 @@ counted_takes : (number : ℕ) (octets : List ℕ) (tag : Tag) (shape : Shape) (
     → tag_at octets ≡ found_at tag after → tag.shape ≡ shape
     → counted_of number tag shape after ≡ found_at contents rest
     → (front : List ℕ) × SpellsContext number front contents × (octets ≡ front ++ rest)
-counted_takes number octets tag (Context n) after contents rest e is f =
+counted_takes number _ tag (Context n) after contents rest e is f =
     let same = only_if _ f in
     let room = unless _ same.1 in
     let parts = some_pair_parts _ _ _ _ room.1 in
@@ -54,7 +54,7 @@ counted_takes number octets tag (Context n) after contents rest e is f =
       here,
       taken.whole ∙ ap (λ (w : List ℕ). taken.front ++ w) after_is ∙ sym (append_assoc _ _ rest),
     )
-counted_takes number octets tag _ after contents rest e is f = absurd (none-some (contents, rest) f)
+counted_takes _ _ _ _ _ contents rest e is f = absurd (none-some (contents, rest) f)
 
 counted_again : (number : ℕ) (contents rest : List ℕ)
     → counted_of number (context_tag number (length contents)) (Context (length contents)) (contents ++ rest)
@@ -71,14 +71,14 @@ counted_again number contents rest =
 context_takes : (number : ℕ) (octets contents rest : List ℕ) → context_at number octets ≡ found_at contents rest
     → (front : List ℕ) × SpellsContext number front contents × (octets ≡ front ++ rest)
 unfolding context_at
-context_takes number octets contents rest e =
+context_takes _ _ contents rest e =
     let a = bind_some _ _ (contents, rest) e in
     counted_takes _ _ _ _ _ _ _ a.1 refl a.2
 
 context_again : (number : ℕ) (front contents rest : List ℕ) → SpellsContext number front contents
     → context_at number (front ++ rest) ≡ found_at contents rest
 unfolding context_at
-context_again number front contents rest s = rw (tag_again _ _ _ _ _ s.whole s.spelled) (counted_again _ _ _)
+context_again _ _ _ _ s = rw (tag_again _ _ _ _ _ s.whole s.spelled) (counted_again _ _ _)
 
 -- ---- numbers and objects
 
@@ -87,7 +87,7 @@ in_reader : {A : Type 0} (kind : A → Datum) (of : List ℕ → Option A)
     → ((contents : List ℕ) (x : A) → StandsFor contents (kind x) → of contents ≡ Some x)
     → (number : ℕ) → IsReader (SpellsIn kind number)
     (λ octets. context_at number octets >>= (λ c. of c.0 >>= (λ a. found_at a c.1)))
-in_reader kind of taken_as again_as number = record {
+in_reader _ of taken_as again_as _ = record {
   takes = λ octets x rest e.
       let a = bind_some (context_at _ _) _ (x, rest) e in
       let b = bind_some _ _ (x, rest) a.2 in
@@ -115,30 +115,30 @@ object_reader = in_reader _ _
     (λ contents id s. rw (eq-eqb _ 4 s.0) (ap Some (same_identifier _ _ s.1 s.2)))
 
 pub context_reader : (number : ℕ) → IsReader (SpellsContext number) (context_at number)
-context_reader number = reader_of _ _ (context_takes _) (context_again _)
+context_reader _ = reader_of _ _ (context_takes _) (context_again _)
 
 -- where there are no octets nothing is read
 pub no_number : (number : ℕ) → number_at number [] ≡ None
 unfolding number_at context_at
-no_number number = rw no_octets refl
+no_number _ = rw no_octets refl
 
 pub no_object : (number : ℕ) → object_at number [] ≡ None
 unfolding object_at context_at
-no_object number = rw no_octets refl
+no_object _ = rw no_octets refl
 
 -- ---- items between two tags
 
 opening_takes : (number : ℕ) (tag : Tag) (shape : Shape) (after rest : List ℕ)
     → opening_of number tag shape after ≡ Some rest → (shape ≡ Opening) × (tag.number ≡ number) × (after ≡ rest)
-opening_takes number tag Opening after rest e =
+opening_takes _ _ Opening _ _ e =
     let same = cond_some _ _ _ e in
     (refl, eqb-true _ _ same.0, same.1)
-opening_takes number tag _ after rest e = absurd (none-some _ e)
+opening_takes _ _ _ _ _ e = absurd (none-some _ e)
 
 enclosed_takes : (number : ℕ) (octets region rest : List ℕ) → enclosed_at number octets ≡ found_at region rest
     → (front : List ℕ) × SpellsEnclosed number front region × (octets ≡ front ++ rest)
 unfolding enclosed_at behind_opening
-enclosed_takes number octets region rest e =
+enclosed_takes _ _ region rest e =
     let a = bind_some _ _ (region, rest) e in
     let o = bind_some _ _ a.0 a.1 in
     let same = opening_takes _ o.0.0 _ _ a.0 o.2 in
@@ -162,7 +162,7 @@ enclosed_takes number octets region rest e =
 
 pub enclosed_reader : (number : ℕ) → IsReader (SpellsEnclosed number) (enclosed_at number)
 unfolding enclosed_at behind_opening
-enclosed_reader number =
+enclosed_reader _ =
     reader_of _ _ (enclosed_takes _) (λ front region rest s.
     let o = s.opened in
     rw (tag_again _ _ _ _ _ o.whole o.spelled, eq-eqb _ _ refl)
@@ -172,7 +172,7 @@ enclosed_reader number =
 pub enclosed_no_number : (number other : ℕ) (octets front region rest : List ℕ) → SpellsEnclosed other front region
     → octets ≡ front ++ rest → number_at number octets ≡ None
 unfolding number_at context_at
-enclosed_no_number number other octets front region rest s e =
+enclosed_no_number _ _ _ _ _ _ s e =
     let o = s.opened in
     rw (e, tag_again _ _ _ _ _ o.whole o.spelled) refl
 
@@ -190,7 +190,7 @@ kind_step : {A : Type 0} (made : A → Datum) (in_kind : Datum → Option A)
     → ((value : Datum) (x : A) → in_kind value ≡ Some x → value ≡ made x) → ((x : A) → in_kind (made x) ≡ Some x)
     → IsStep Spells made (kind_at in_kind)
 unfolding kind_at
-kind_step made in_kind takes again = record {
+kind_step made _ takes again = record {
   takes = λ octets x rest e.
       let a = bind_some _ _ (x, rest) e in
       let b = bind_some _ _ (x, rest) a.2 in
@@ -217,14 +217,14 @@ object_step = kind_step _ _ (λ value x e. grind arith) (λ id. refl)
 
 pub context_spells : (number : ℕ) (contents : List ℕ) → number < 255 → length contents < 2 ^ 32
     → SpellsContext number (context_octets number contents) contents
-context_spells number contents low short = record {
+context_spells number _ low short = record {
   front = plain_tag _;
   spelled = plain_tag_spells _ (record { number = low; count = short });
   whole = refl;
 }
 
 pub number_spells : (number n : ℕ) → number < 255 → n < 2 ^ 32 → SpellsIn enumerated number (number_octets number n) n
-number_spells number n low fits =
+number_spells _ n low fits =
     let contents = big_bytes _ n in
     let long : length contents ≡ octet_count n = length-bytes_high_first _ n in
     let least = count_low n in
@@ -237,7 +237,7 @@ number_spells number n low fits =
 
 pub object_spells : (number : ℕ) (id : Identifier) → number < 255 → IsIdentifier id
     → SpellsIn values.object number (object_octets number id) id
-object_spells number id low h =
+object_spells _ id low h =
     let kind = h.kind in
     let instance = h.instance in
     let contents = big_bytes 4 _ in
@@ -249,7 +249,7 @@ object_spells number id low h =
 
 pub enclosed_spells : (number : ℕ) (region : List ℕ) → number < 255 → IsRegion 32 region
     → SpellsEnclosed number (enclosed_octets number region) region
-enclosed_spells number region low items = record {
+enclosed_spells number _ low items = record {
   closing = plain_tag _;
   opened = record {
     front = plain_tag _;

@@ -65,7 +65,7 @@ number_back k n fits =
 
 -- The first octets of a list that begins with the octets of a number are these octets.
 pub bytes_taken : (k n : ℕ) (rest : List ℕ) → take k (big_bytes k n ++ rest) ++ [] ≡ big_bytes k n
-bytes_taken k n rest = append-nil _ ∙ take_at _ _ k (length-bytes_high_first k n)
+bytes_taken k n _ = append-nil _ ∙ take_at _ _ k (length-bytes_high_first k n)
 
 -- ---- two's complement
 
@@ -135,7 +135,7 @@ plain_holds _ h = search arith
 tag_fits : (value : Datum) → IsDatum value → IsTag (tag_before value (length (plain_contents value)))
 tag_fits (boolean true) h = record { number = omega arith; count = omega arith }
 tag_fits (boolean false) h = record { number = omega arith; count = omega arith }
-tag_fits value h = record { number = omega arith; count = h.short }
+tag_fits _ h = record { number = omega arith; count = h.short }
 
 pub plain_spells : (value : Datum) → IsDatum value → Spells (plain value) value
 unfolding plain
@@ -161,13 +161,13 @@ short_tagged number contents low short =
 pub four_tagged : (number : ℕ) (contents : List ℕ) → number < 15 → length contents ≡ 4
     → (16 * number + 4) ∷ slice_index_or contents 0 0 ∷ slice_index_or contents 1 0 ∷ slice_index_or contents 2 0
     ∷ slice_index_or contents 3 0 ∷ [] ≡ tagged number contents
-four_tagged number (a ∷ b ∷ c ∷ d ∷ []) low four = sym (short_tagged _ _ low (omega arith))
-four_tagged number _ low four = absurd (omega (arith, four))
+four_tagged _ (a ∷ b ∷ c ∷ d ∷ []) low four = sym (short_tagged _ _ low (omega arith))
+four_tagged _ _ low four = absurd (omega (arith, four))
 
 -- the tag of a number in one octet, and the number
 pub one_tagged : (number n : ℕ) → number < 15 → n < 256
     → tagged number (big_bytes (octet_count n) n) ≡ (16 * number + 1) ∷ n ∷ []
-one_tagged number n low one =
+one_tagged _ n low one =
     let contents : big_bytes (octet_count n) n ≡ n ∷ [] =
     rw (lt-ltb n 256 one) (ap (λ (octet : ℕ). octet ∷ []) (omega arith)) in
     ap (tagged _) contents ∙ short_tagged _ _ low (omega arith)

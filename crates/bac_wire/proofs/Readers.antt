@@ -18,7 +18,7 @@ found_at x rest = Some (x, rest)
 -- a front that was taken whole
 pub took : {A : Type 0} (Spells : List ℕ → A → Type 0) (front : List ℕ) (x y : A) (after rest : List ℕ)
     → found_at x after ≡ found_at y rest → Spells front x → Took Spells (front ++ after) y rest
-took Spells front x y after rest e s =
+took Spells front x y _ _ e s =
     let same = some_pair_parts x y _ _ e in
     (front, subst (Spells _) same.0 s, ap (λ (w : List ℕ). front ++ w) same.1)
 
@@ -27,7 +27,7 @@ pub took_as : {A B : Type 0} (As : List ℕ → A → Type 0) (Spells : List ℕ
     (x y : B) (after rest : List ℕ)
     → Took As octets a after → found_at x after ≡ found_at y rest → ((front : List ℕ) → As front a → Spells front x)
     → Took Spells octets y rest
-took_as As Spells octets a x y after rest t e to = rw t.2 (took Spells _ x y _ _ e (to _ t.1))
+took_as As Spells _ a x y _ _ t e to = rw t.2 (took Spells _ x y _ _ e (to _ t.1))
 
 pub reader_of : {A : Type 0} (Spells : List ℕ → A → Type 0) (at : List ℕ → Option (A × List ℕ))
     → ((octets : List ℕ) (x : A) (rest : List ℕ) → at octets ≡ Some (x, rest) → Took Spells octets x rest)
@@ -92,7 +92,7 @@ module _ {A : Type 0} (Spells : List ℕ → A → Type 0) (at : List ℕ → Op
 
     -- where nothing was read nothing stands at the front
     pub none_front : (octets : List ℕ) → None ≡ at octets → FindsFront Spells octets None
-    none_front octets e = record {
+    none_front _ e = record {
       spelled = tt;
       all = λ other after y t parts. let nothing : None ≡ found_at y after = e ∙ ap at parts
           ∙ reader.again _ y _ t in absurd cc;
@@ -101,4 +101,4 @@ module _ {A : Type 0} (Spells : List ℕ → A → Type 0) (at : List ℕ → Op
 -- a spelling is read back, whatever follows it
 pub spelled_back : {A : Type 0} (Spells : List ℕ → A → Type 0) (front : List ℕ) (x : A) → Spells front x
     → IsReadBack Spells front x
-spelled_back Spells front x s = λ rest found finds. finds.all _ _ x s refl
+spelled_back Spells _ x s = λ rest found finds. finds.all _ _ x s refl

@@ -26,23 +26,23 @@ no_octets = refl
 -- a tag has an octet at least
 pub tag_shorter : (spelling others front rest : List ℕ) (tag : Tag) → SpellsTag spelling tag
     → front ≡ spelling ++ others → length rest < length (front ++ rest)
-tag_shorter spelling others front rest tag s e =
+tag_shorter spelling others front rest _ s e =
     omega (arith, ap length e, ap length s.whole, length-append front rest, length-append spelling others)
 
 pub after_shorter : (octets : List ℕ) (tag : Tag) (after : List ℕ) → tag_at octets ≡ found_at tag after
     → length after < length octets
-after_shorter octets tag after e =
+after_shorter _ _ after e =
     let taken = tag_reader.takes _ _ _ e in
     omega (arith, ap length taken.whole, length-append taken.front after, ap length taken.spelled.whole)
 
 pub tag_parts : (tag : Tag) (number : ℕ) (shape : Shape) → tag.shape ≡ shape → tag.number ≡ number
     → tag ≡ record { number = number; shape = shape }
-tag_parts tag number shape e f = rw (← e, ← f) refl
+tag_parts _ _ _ e f = rw (← e, ← f) refl
 
 -- a tag and what stands behind it, in front of a rest
 pub tag_again : (front spelling others rest : List ℕ) (tag : Tag) → front ≡ spelling ++ others → SpellsTag spelling tag
     → tag_at (front ++ rest) ≡ found_at tag (others ++ rest)
-tag_again front spelling others rest tag e s = ap (λ (w : List ℕ). tag_at (w ++ rest)) e
+tag_again _ _ _ rest _ e s = ap (λ (w : List ℕ). tag_at (w ++ rest)) e
     ∙ ap tag_at (append_assoc _ _ rest) ∙ tag_reader.again _ _ _ s
 
 -- ---- a closing tag
@@ -53,11 +53,11 @@ IsClosedBy number octets rest = Begins SpellsTag octets (closing_tag number) res
 
 pub closing_read : (number : ℕ) (octets rest : List ℕ) → IsClosedBy number octets rest
     → tag_at octets ≡ found_at (closing_tag number) rest
-closing_read number octets rest c = ap tag_at c.whole ∙ tag_reader.again _ _ _ c.spelled
+closing_read _ _ _ c = ap tag_at c.whole ∙ tag_reader.again _ _ _ c.spelled
 
 closed_since : (tag : Tag) (number : ℕ) (octets rest : List ℕ) → tag_at octets ≡ found_at tag rest → tag.shape ≡ Closing
     → tag.number ≡ number → IsClosedBy number octets rest
-closed_since tag number octets rest e shape same =
+closed_since _ _ _ _ e shape same =
     let taken = tag_reader.takes _ _ _ e in
     record {
       front = taken.front;
@@ -67,19 +67,19 @@ closed_since tag number octets rest e shape same =
 
 pub ended_since : (tag : Tag) (octets rest : List ℕ) → tag_at octets ≡ found_at tag rest → tag.shape ≡ Closing
     → HasEnded octets
-ended_since tag octets rest e shape = inr (tag.number, rest, closed_since _ _ _ _ e shape refl)
+ended_since tag _ rest e shape = inr (tag.number, rest, closed_since _ _ _ _ e shape refl)
 
 closing_takes : (number : ℕ) (tag : Tag) (shape : Shape) (after rest : List ℕ)
     → closing_of number tag shape after ≡ Some rest → (shape ≡ Closing) × (tag.number ≡ number) × (after ≡ rest)
-closing_takes number tag Closing after rest e =
+closing_takes _ _ Closing _ _ e =
     let same = cond_some _ _ _ e in
     (refl, eqb-true _ _ same.0, same.1)
-closing_takes number tag _ after rest e = absurd (none-some _ e)
+closing_takes _ _ _ _ _ e = absurd (none-some _ e)
 
 pub closed_takes : (number : ℕ) (octets rest : List ℕ) → behind_closing number octets ≡ Some rest
     → IsClosedBy number octets rest
 unfolding behind_closing
-closed_takes number octets rest e =
+closed_takes _ _ _ e =
     let a = bind_some _ _ _ e in
     let same = closing_takes _ a.0.0 _ _ _ a.2 in
     closed_since _ _ _ _ (a.1 ∙ ap (found_at _) same.2) same.0 same.1
@@ -87,7 +87,7 @@ closed_takes number octets rest e =
 pub closed_again : (number : ℕ) (octets rest : List ℕ) → IsClosedBy number octets rest
     → behind_closing number octets ≡ Some rest
 unfolding behind_closing
-closed_again number octets rest c = rw (closing_read _ _ _ c, eq-eqb _ _ refl) refl
+closed_again _ _ _ c = rw (closing_read _ _ _ c, eq-eqb _ _ refl) refl
 
 -- ---- one step
 
@@ -97,13 +97,13 @@ item_at items depth octets = tag_at octets >>= λ t. behind_item items depth t.0
 
 tag_found : (items : ℕ → List ℕ → Option (List ℕ)) (depth : ℕ) (octets : List ℕ) (t : Tag × List ℕ)
     → behind_tag_found items depth octets (Some t) ≡ behind_tag items depth octets t.0 t.0.shape t.1
-tag_found items depth [] t = refl
-tag_found items depth _ t = refl
+tag_found _ _ [] t = refl
+tag_found _ _ _ t = refl
 
 pub ended_again : (count depth : ℕ) (octets : List ℕ) → HasEnded octets
     → behind_items (suc count) depth octets ≡ Some octets
 unfolding behind_items
-ended_again count depth octets ended = elim ended [
+ended_again count depth _ ended = elim ended [
   | inl empty ↦ rw (empty, no_octets) refl
   | inr closed ↦ rw (closing_read _ _ _ closed.2)
       (tag_found (behind_items count) depth _ (closing_tag closed.0, closed.1))
@@ -113,15 +113,15 @@ going_on : (items : ℕ → List ℕ → Option (List ℕ)) (depth : ℕ) (octet
     (after : List ℕ)
     → (shape ≡ Closing → ⊥)
     → behind_tag items depth octets tag shape after ≡ (behind_item items depth tag shape after >>= items depth)
-going_on items depth octets tag Closing after going = absurd (going refl)
-going_on items depth octets tag _ after going = refl
+going_on _ _ _ _ Closing _ going = absurd (going refl)
+going_on _ _ _ _ _ _ _ = refl
 
 -- at a tag that is no closing one, the first item, and then the others
 pub one_step : (count depth : ℕ) (octets : List ℕ) (tag : Tag) (after : List ℕ) → tag_at octets ≡ found_at tag after
     → (tag.shape ≡ Closing → ⊥)
     → behind_items (suc count) depth octets ≡ (item_at (behind_items count) depth octets >>= behind_items count depth)
 unfolding behind_items
-one_step count depth octets tag after e going =
+one_step _ depth _ tag after e going =
     rw e (tag_found (behind_items _) _ _ (tag, after) ∙ going_on _ depth _ _ _ _ going)
 
 -- ---- what is read is there
@@ -131,13 +131,13 @@ abbrev Takes : (ℕ → List ℕ → Option (List ℕ)) → Type 0
 Takes items = (depth : ℕ) (octets rest : List ℕ) → items depth octets ≡ Some rest → LeavesRest depth octets rest
 
 primitive_item : (depth : ℕ) (item : List ℕ) → IsPrimitive item → IsItem depth item
-primitive_item zero item p = p
-primitive_item (suc depth) item p = inl p
+primitive_item zero _ p = p
+primitive_item (suc depth) _ p = inl p
 
 counted_behind : (depth : ℕ) (octets : List ℕ) (tag : Tag) (contents rest : List ℕ)
     → tag_at octets ≡ found_at tag (contents ++ rest)
     → Counts tag.number tag.shape (length contents) → LeavesBehind depth octets rest
-counted_behind depth octets tag contents rest e counted =
+counted_behind _ _ tag contents rest e counted =
     let taken = tag_reader.takes _ _ _ e in
     let item : IsPrimitive (taken.front ++ contents) =
     record {
@@ -157,7 +157,7 @@ count_behind : (depth count : ℕ) (octets : List ℕ) (tag : Tag) (after rest :
     → tag_at octets ≡ found_at tag after
     → ((n : ℕ) → n ≡ count → Counts tag.number tag.shape n) → behind_count count after ≡ Some rest
     → LeavesBehind depth octets rest
-count_behind depth count octets tag after rest e counts f =
+count_behind _ count _ _ after rest e counts f =
     let room = unless _ f in
     let line : after ≡ take count after ++ rest = sym (take-append-drop _ _)
     ∙ ap (λ (w : List ℕ). take count after ++ w) (same_Some _ _ room.1) in
@@ -168,13 +168,12 @@ item_takes : (items : ℕ → List ℕ → Option (List ℕ)) (depth : ℕ) (oct
     → Takes items → tag_at octets ≡ found_at tag after → tag.shape ≡ shape
     → behind_item items depth tag shape after ≡ Some rest
     → LeavesBehind depth octets rest
-item_takes items depth octets tag (App n) after rest takes e is f = elim (chosen (eqb tag.number 1) _ _ _ f) [
+item_takes _ _ _ tag (App n) _ _ takes e is f = elim (chosen (eqb tag.number 1) _ _ _ f) [
   | inl one ↦ counted_behind _ _ _ [] _ (e ∙ ap (found_at _) (same_Some _ _ one.1)) (rw (is, one.0) refl)
   | inr other ↦ count_behind _ n _ _ _ _ e (λ m same. rw (is, other.0) same) other.1
 ]
-item_takes items depth octets tag (Context n) after rest takes e is f =
-    count_behind _ n _ _ _ _ e (λ m same. rw is same) f
-item_takes items (suc depth) octets tag Opening after rest takes e is f =
+item_takes _ _ _ _ (Context n) _ _ takes e is f = count_behind _ n _ _ _ _ e (λ m same. rw is same) f
+item_takes _ (suc depth) octets tag Opening _ rest takes e is f =
     let inside = bind_some _ _ _ f in
     let l = takes _ _ _ inside.1 in
     let c = closed_takes _ _ _ inside.2 in
@@ -196,17 +195,17 @@ item_takes items (suc depth) octets tag Opening after rest takes e is f =
       );
       whole = line;
     }
-item_takes items _ octets tag _ after rest takes e is f = absurd (none-some _ f)
+item_takes _ _ _ _ _ _ _ _ e is f = absurd (none-some _ f)
 
 pub item_at_takes : (items : ℕ → List ℕ → Option (List ℕ)) (depth : ℕ) (octets rest : List ℕ) → Takes items
     → item_at items depth octets ≡ Some rest → LeavesBehind depth octets rest
-item_at_takes items depth octets rest takes e =
+item_at_takes _ _ _ _ takes e =
     let a = bind_some _ _ _ e in
     item_takes _ _ _ _ _ _ _ takes a.1 refl a.2
 
 ended_leaves : (depth : ℕ) (octets rest : List ℕ) → HasEnded octets
     → ◌≡◌ {A = Option (List ℕ)} (Some octets) (Some rest) → LeavesRest depth octets rest
-ended_leaves depth octets rest ended e =
+ended_leaves _ _ _ ended e =
     let same = same_Some _ _ e in
     record { front = []; region = none; whole = same; ended = subst HasEnded same ended }
 
@@ -216,8 +215,8 @@ more_takes : (items : ℕ → List ℕ → Option (List ℕ)) (depth : ℕ) (oct
     → Takes items → tag_at octets ≡ found_at tag after → tag.shape ≡ shape
     → behind_tag items depth octets tag shape after ≡ Some rest
     → LeavesRest depth octets rest
-more_takes items depth octets tag Closing after rest takes e is f = ended_leaves _ _ _ (ended_since tag _ _ e is) f
-more_takes items depth octets tag shape after rest takes e is f =
+more_takes _ _ _ tag Closing _ _ _ e is f = ended_leaves _ _ _ (ended_since tag _ _ e is) f
+more_takes _ _ _ tag _ _ rest takes e is f =
     let a = bind_some _ _ _ f in
     let i = item_takes _ _ _ tag _ _ a.0 takes e is a.1 in
     let l = takes _ a.0 _ a.2 in
@@ -232,15 +231,15 @@ found_takes : (items : ℕ → List ℕ → Option (List ℕ)) (depth : ℕ) (oc
     (rest : List ℕ)
     → Takes items → tag_at octets ≡ read → behind_tag_found items depth octets read ≡ Some rest
     → LeavesRest depth octets rest
-found_takes items depth [] None rest takes e f = ended_leaves _ [] _ (inl refl) f
-found_takes items depth (x ∷ xs) None rest takes e f = absurd (none-some _ f)
-found_takes items depth octets (Some t) rest takes e f = more_takes _ _ _ _ _ _ _ takes e refl f
+found_takes _ _ [] None _ _ e f = ended_leaves _ [] _ (inl refl) f
+found_takes _ _ (x ∷ xs) None _ _ e f = absurd (none-some _ f)
+found_takes _ _ _ (Some t) _ takes e f = more_takes _ _ _ _ _ _ _ takes e refl f
 
 pub items_take : (count depth : ℕ) (octets rest : List ℕ) → behind_items count depth octets ≡ Some rest
     → LeavesRest depth octets rest
 unfolding behind_items
-items_take zero depth octets rest e = absurd (none-some _ e)
-items_take (suc count) depth octets rest e = found_takes _ _ _ _ _ (items_take count) refl e
+items_take zero _ _ _ e = absurd (none-some _ e)
+items_take (suc count) _ _ _ e = found_takes _ _ _ _ _ (items_take count) refl e
 
 -- ---- what is there is read
 
@@ -259,25 +258,25 @@ count_again count contents rest e =
 
 boolean_again : (b : Bool) (n : ℕ) (contents rest : List ℕ) → length contents ≡ cond b 0 n
     → cond b (Some (contents ++ rest)) (behind_count n (contents ++ rest)) ≡ Some rest
-boolean_again true n contents rest e = rw (nil_from_length _ e) refl
-boolean_again false n contents rest e = count_again n _ _ e
+boolean_again true n _ _ e = rw (nil_from_length _ e) refl
+boolean_again false n _ _ e = count_again n _ _ e
 
 counted_again : (items : ℕ → List ℕ → Option (List ℕ)) (top : ℕ) (tag : Tag) (shape : Shape) (contents rest : List ℕ)
     → Counts tag.number shape (length contents) → behind_item items top tag shape (contents ++ rest) ≡ Some rest
-counted_again items top tag (App n) contents rest counted = boolean_again _ n _ _ counted
-counted_again items top tag (Context n) contents rest counted = count_again n _ _ counted
-counted_again items top tag _ contents rest counted = absurd counted
+counted_again _ _ _ (App n) _ _ counted = boolean_again _ n _ _ counted
+counted_again _ _ _ (Context n) _ _ counted = count_again n _ _ counted
+counted_again _ _ _ _ _ _ counted = absurd counted
 
 primitive_again : (items : ℕ → List ℕ → Option (List ℕ)) (top : ℕ) (item rest : List ℕ) → IsPrimitive item
     → item_at items top (item ++ rest) ≡ Some rest
-primitive_again items top item rest p =
+primitive_again _ top _ _ p =
     rw (tag_again _ _ _ _ _ p.tagged.whole p.tagged.spelled) (counted_again _ top _ _ _ _ p.counted)
 
 bracket_again : (items : ℕ → List ℕ → Option (List ℕ)) (most depth top number : ℕ) (item inside rest : List ℕ)
     → Again items most → depth ≤ top
     → length (item ++ rest) < suc most → IsBracketed (IsItem depth) number item inside
     → item_at items (suc top) (item ++ rest) ≡ Some rest
-bracket_again items most depth top number item inside rest again le short b =
+bracket_again _ _ _ top number _ inside rest again le short b =
     let read = tag_again _ _ _ rest _ b.opened.whole b.opened.spelled in
     let line = append_assoc inside b.closing rest in
     let c : IsClosedBy number (b.closing ++ rest) rest =
@@ -292,17 +291,17 @@ bracket_again items most depth top number item inside rest again le short b =
 pub item_again : (items : ℕ → List ℕ → Option (List ℕ)) (most depth top : ℕ) (item rest : List ℕ) → Again items most
     → depth ≤ top
     → length (item ++ rest) < suc most → IsItem depth item → item_at items top (item ++ rest) ≡ Some rest
-item_again items most zero top item rest again le short p = primitive_again _ top _ _ p
-item_again items most (suc depth) zero item rest again le short i = absurd (omega arith)
-item_again items most (suc depth) (suc top) item rest again le short i =
+item_again _ _ zero top _ _ _ le _ p = primitive_again _ top _ _ p
+item_again _ _ (suc depth) zero _ _ again le short i = absurd (omega arith)
+item_again items _ (suc depth) (suc top) _ _ again le short i =
     elim i [
       | inl p ↦ primitive_again items (suc _) _ _ p
       | inr b ↦ bracket_again items _ _ top b.0 _ b.1 _ again (omega arith) short b.2
     ]
 
 pub item_shorter : (depth : ℕ) (item rest : List ℕ) → IsItem depth item → length rest < length (item ++ rest)
-item_shorter zero item rest p = tag_shorter _ _ _ _ _ p.tagged.spelled p.tagged.whole
-item_shorter (suc depth) item rest i =
+item_shorter zero _ _ p = tag_shorter _ _ _ _ _ p.tagged.spelled p.tagged.whole
+item_shorter (suc depth) _ _ i =
     elim i [
       | inl p ↦ tag_shorter _ _ _ _ _ p.tagged.spelled p.tagged.whole
       | inr b ↦ tag_shorter _ _ _ _ _ b.2.opened.spelled b.2.opened.whole
@@ -311,16 +310,16 @@ item_shorter (suc depth) item rest i =
 -- behind an item the others are read
 pub more_again : (count top : ℕ) (octets next : List ℕ) → item_at (behind_items count) top octets ≡ Some next
     → behind_items (suc count) top octets ≡ behind_items count top next
-more_again count top octets next e =
+more_again count top _ _ e =
     let a = bind_some _ _ _ e in
     one_step _ _ _ _ _ a.1 (λ closing. none-some _ (rw closing at a.2))
     ∙ ap (λ (r : Option (List ℕ)). r >>= behind_items count top) e
 
 pub items_again : (count depth top : ℕ) (front rest : List ℕ) → depth ≤ top → length (front ++ rest) < count
     → IsRegion depth front → HasEnded rest → behind_items count top (front ++ rest) ≡ Some rest
-items_again zero depth top front rest le short r ended = absurd (omega arith)
-items_again (suc count) depth top front rest le short none ended = ended_again _ top rest ended
-items_again (suc count) depth top front rest le short (more {first} {rest = others} i s) ended =
+items_again zero _ _ _ _ le short r ended = absurd (omega arith)
+items_again (suc count) _ top _ rest le _ none ended = ended_again _ top rest ended
+items_again (suc count) depth top _ rest le short (more {first} {rest = others} i s) ended =
     let line = append_assoc first others rest in
     let shorter = item_shorter _ _ (others ++ rest) i in
     let read = item_again _ _ _ top _ _ (items_again count) le (rw line at short) i in

@@ -20,7 +20,7 @@ use Rattle.bac_wire.{
 -- ---- the fewest octets of a number
 
 cases_least : (k n : ℕ) → 1 ≤ k → n < 256 ^ k → count_by_cases n ≤ k
-cases_least (suc (suc (suc (suc (suc (suc (suc (suc zero)))))))) n low fits = cases_high n
+cases_least (suc (suc (suc (suc (suc (suc (suc (suc zero)))))))) n _ _ = cases_high n
 cases_least k n low fits = grind (arith, common_steps, cases_high)
 
 pub octet_count_least : (k n : ℕ) → 1 ≤ k → n < 256 ^ k → octet_count n ≤ k
@@ -55,11 +55,11 @@ unsigned_least contents n fit low e =
 
 contents_least : (contents : List ℕ) (value : Datum) → AreOctets contents → StandsFor contents value
     → length (plain_contents value) ≤ length contents
-contents_least contents (unsigned n) fit h = unsigned_least _ n fit h.0 h.2
-contents_least contents (signed z) fit h =
+contents_least _ (unsigned n) fit h = unsigned_least _ n fit h.0 h.2
+contents_least _ (signed z) fit h =
     rw (length-bytes_high_first _ _) (signed_count_least _ _ z h.0 (big_from-lt 0 _ _ fit) h.2)
-contents_least contents (enumerated n) fit h = unsigned_least _ n fit h.0 h.2
-contents_least contents _ fit h = grind (arith, common_steps)
+contents_least _ (enumerated n) fit h = unsigned_least _ n fit h.0 h.2
+contents_least _ _ fit h = grind (arith, common_steps)
 
 -- ---- the tag before them
 
@@ -85,13 +85,13 @@ shape_number_grows _ m n le = le
 -- ---- the whole
 
 pub ahead : (front rest : List ℕ) → AreOctets (front ++ rest) → AreOctets front
-ahead [] rest fit = λ i. omega arith
-ahead (x ∷ front) rest fit = elim [ zero ↦ fit zero | suc i ↦ ahead front _ (λ j. fit (suc j)) i ]
+ahead [] _ fit = λ i. omega arith
+ahead (x ∷ front) _ fit = elim [ zero ↦ fit zero | suc i ↦ ahead front _ (λ j. fit (suc j)) i ]
 
 value_least : (other : List ℕ) (value : Datum) → AreOctets other → Spells other value
     → length (plain value) ≤ length other
 unfolding plain
-value_least other value fit s =
+value_least _ value fit s =
     let t = s.tagged in
     let fits : AreOctets (t.front ++ s.contents) = subst AreOctets t.whole fit in
     let contents = contents_least _ _ (behind _ _ fits) s.held in
@@ -106,12 +106,12 @@ value_least other value fit s =
     )
 
 pub plain_shortest : (value : Datum) → IsDatum value → IsShortest Spells (plain value) value
-plain_shortest value h = record { spelled = plain_spells _ h; shortest = λ other fit s. value_least _ _ fit s }
+plain_shortest _ h = record { spelled = plain_spells _ h; shortest = λ other fit s. value_least _ _ fit s }
 
 -- a value whose octets fit a frame has a spelling
 pub written_datum : (value : Datum) (before : ℕ) → InRange value → before + length (plain value) ≤ 1497 → IsDatum value
 unfolding plain
-written_datum value before range fits = record {
+written_datum value _ range fits = record {
   range = range;
   short = omega (
     arith,

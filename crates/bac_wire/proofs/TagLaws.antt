@@ -19,36 +19,36 @@ use Rattle.bac_wire.proofs.Readers.{IsReader, Took, took, took_as, reader_of, fo
 number_again : (high : ℕ) (front : List ℕ) (n : ℕ) (rest : List ℕ) → SpellsNumber high front n
     → tag_number_at high (front ++ rest) ≡ Some (n, rest)
 unfolding tag_number_at
-number_again high (octet ∷ []) n rest s = grind (arith, common_steps)
-number_again high _ n rest s = grind (arith, common_steps)
+number_again _ (octet ∷ []) n _ s = grind (arith, common_steps)
+number_again _ _ n _ s = grind (arith, common_steps)
 
 length_again : (low : ℕ) (front : List ℕ) (n : ℕ) (rest : List ℕ) → SpellsLength low front n
     → length_at low (front ++ rest) ≡ Some (n, rest)
 unfolding length_at long_length_at
-length_again low (a ∷ b ∷ c ∷ d ∷ e ∷ []) n rest s = cc
-length_again low _ n rest s = grind (arith, common_steps)
+length_again _ (a ∷ b ∷ c ∷ d ∷ e ∷ []) n _ s = cc
+length_again _ _ n _ s = grind (arith, common_steps)
 
 low_small : (low : ℕ) (front : List ℕ) (n : ℕ) → SpellsLength low front n → low < 6
-low_small low (a ∷ b ∷ c ∷ d ∷ e ∷ []) n s = omega arith
-low_small low _ n s = omega arith
+low_small _ (a ∷ b ∷ c ∷ d ∷ e ∷ []) n s = omega arith
+low_small _ _ n s = omega arith
 
 shape_again : (low : ℕ) (front : List ℕ) (shape : Shape) (rest : List ℕ) → SpellsShape low front shape
     → shape_at low (front ++ rest) ≡ Some (shape, rest)
 unfolding shape_at
-shape_again low front (App n) rest s =
+shape_again _ _ (App n) rest s =
     let small = low_small _ _ n s in
     let read = length_again _ _ n rest s in
     grind (arith, common_steps)
-shape_again low front (Context n) rest s =
+shape_again _ _ (Context n) rest s =
     let small = low_small _ _ n s.1 in
     let read = length_again _ _ n rest s.1 in
     grind (arith, common_steps)
-shape_again low front _ rest s = cc
+shape_again _ _ _ _ s = cc
 
 tag_again : (front : List ℕ) (tag : Tag) (rest : List ℕ) → SpellsTag front tag
     → tag_at (front ++ rest) ≡ Some (tag, rest)
 unfolding tag_at
-tag_again front tag rest s =
+tag_again _ _ rest s =
     let number = number_again _ _ _ (s.length_octets ++ rest) s.number in
     let shape = shape_again _ _ _ rest s.shape in
     rw (s.whole, append_assoc _ _ _, number, shape) refl
@@ -62,15 +62,15 @@ bind_some (Some x) f y e = search
 
 next_takes : (high : ℕ) (octets : List ℕ) (n : ℕ) (rest : List ℕ) → high ≡ 15 → extended_number octets ≡ found_at n rest
     → Took (SpellsNumber high) octets n rest
-next_takes high [] n rest is e = cc
-next_takes high (octet ∷ octets) n rest is e =
+next_takes _ [] n _ is e = cc
+next_takes _ (octet ∷ octets) n _ is e =
     let here = only_if _ e in
     took (SpellsNumber _) (octet ∷ []) _ n _ _ here.1 (is, ltb-true _ 255 here.0, refl)
 
 number_takes : (high : ℕ) (octets : List ℕ) (n : ℕ) (rest : List ℕ) → tag_number_at high octets ≡ found_at n rest
     → Took (SpellsNumber high) octets n rest
 unfolding tag_number_at
-number_takes high octets n rest e =
+number_takes high _ n _ e =
     elim (chosen (ltb high 15) _ _ _ e) [
       | inl here ↦ took (SpellsNumber _) [] _ n _ _ here.1 (ltb-true _ 15 here.0, refl)
       | inr there ↦ let more = only_if _ there.1 in
@@ -79,20 +79,20 @@ number_takes high octets n rest e =
 
 two_takes : (a : ℕ) (octets : List ℕ) (n : ℕ) (rest : List ℕ) → a ≡ 254 → two_at octets ≡ found_at n rest
     → Took (SpellsLength 5) (a ∷ octets) n rest
-two_takes a (b ∷ c ∷ octets) n rest is e = took (SpellsLength 5) (a ∷ b ∷ c ∷ []) _ n _ _ e (refl, is, refl)
-two_takes a _ n rest is e = cc
+two_takes a (b ∷ c ∷ octets) n _ is e = took (SpellsLength 5) (a ∷ b ∷ c ∷ []) _ n _ _ e (refl, is, refl)
+two_takes a _ n _ is e = cc
 
 four_takes : (a : ℕ) (octets : List ℕ) (n : ℕ) (rest : List ℕ) → a ≡ 255 → four_at octets ≡ found_at n rest
     → Took (SpellsLength 5) (a ∷ octets) n rest
-four_takes a (b ∷ c ∷ d ∷ f ∷ octets) n rest is e =
+four_takes a (b ∷ c ∷ d ∷ f ∷ octets) n _ is e =
     took (SpellsLength 5) (a ∷ b ∷ c ∷ d ∷ f ∷ []) _ n _ _ e (refl, is, refl)
-four_takes a _ n rest is e = cc
+four_takes a _ n _ is e = cc
 
 long_length_takes : (octets : List ℕ) (n : ℕ) (rest : List ℕ) → long_length_at octets ≡ found_at n rest
     → Took (SpellsLength 5) octets n rest
 unfolding long_length_at
-long_length_takes [] n rest e = cc
-long_length_takes (a ∷ octets) n rest e =
+long_length_takes [] n _ e = cc
+long_length_takes (a ∷ octets) n _ e =
     elim (chosen (ltb a 254) _ _ _ e) [
       | inl here ↦ took (SpellsLength 5) (a ∷ []) a n _ _ here.1 (refl, ltb-true a 254 here.0, refl)
       | inr more ↦ elim (chosen (eqb a 254) _ _ _ more.1) [
@@ -104,7 +104,7 @@ long_length_takes (a ∷ octets) n rest e =
 length_takes : (low : ℕ) (octets : List ℕ) (n : ℕ) (rest : List ℕ) → length_at low octets ≡ found_at n rest
     → Took (SpellsLength low) octets n rest
 unfolding length_at
-length_takes low octets n rest e =
+length_takes low _ n _ e =
     elim (chosen (ltb low 5) _ _ _ e) [
       | inl here ↦ took (SpellsLength _) [] _ n _ _ here.1 (ltb-true _ 5 here.0, refl)
       | inr more ↦ let here = only_if _ more.1 in
@@ -114,7 +114,7 @@ length_takes low octets n rest e =
 shape_takes : (low : ℕ) (octets : List ℕ) (shape : Shape) (rest : List ℕ) → shape_at low octets ≡ found_at shape rest
     → Took (SpellsShape low) octets shape rest
 unfolding shape_at
-shape_takes low octets shape rest e =
+shape_takes low _ shape rest e =
     elim (chosen (ltb low 8) _ _ _ e) [
       | inl here ↦
           let parts = bind_some _ _ (shape, rest) here.1 in
@@ -137,7 +137,7 @@ tag_of number shape = record { number = number; shape = shape }
 tag_takes : (octets : List ℕ) (tag : Tag) (rest : List ℕ) → tag_at octets ≡ found_at tag rest
     → Took SpellsTag octets tag rest
 unfolding tag_at
-tag_takes [] tag rest e = cc
+tag_takes [] _ _ e = cc
 tag_takes (initial ∷ octets) tag rest e =
     let first = bind_some _ _ (tag, rest) e in
     let second = bind_some _ _ (tag, rest) first.2 in
@@ -183,13 +183,13 @@ low_half_below _ = omega arith
 
 shape_octets_spell : (shape : Shape) (tag : Tag) → tag.shape ≡ shape → IsTag tag
     → SpellsShape (low_half shape) (plain_length (count_of shape)) shape
-shape_octets_spell (App n) tag e fits = let limit : n < 2 ^ 32 = rw e at fits.count in plain_length_spells n limit
-shape_octets_spell (Context n) tag e fits =
+shape_octets_spell (App n) _ e fits = let limit : n < 2 ^ 32 = rw e at fits.count in plain_length_spells n limit
+shape_octets_spell (Context n) _ e fits =
     let limit : n < 2 ^ 32 = rw e at fits.count in
     let low : (8 + min n 5) - 8 ≡ min n 5 = omega arith in
     (omega arith, rw low (plain_length_spells n limit))
-shape_octets_spell Opening tag e fits = search
-shape_octets_spell Closing tag e fits = search
+shape_octets_spell Opening _ e fits = search
+shape_octets_spell Closing _ e fits = search
 
 pub plain_tag_spells : (tag : Tag) → IsTag tag → SpellsTag (plain_tag tag) tag
 unfolding plain_tag
@@ -212,29 +212,29 @@ plain_tag_spells tag fits =
 
 number_least : (high : ℕ) (octets : List ℕ) (n : ℕ) → SpellsNumber high octets n
     → length (plain_number n) ≤ length octets
-number_least high [] n s = grind (arith, common_steps)
-number_least high _ n s = grind (arith, common_steps)
+number_least _ [] n s = grind (arith, common_steps)
+number_least _ _ n s = grind (arith, common_steps)
 
 length_least : (low : ℕ) (octets : List ℕ) (n : ℕ) → AreOctets octets → SpellsLength low octets n
     → length (plain_length n) ≤ length octets
-length_least low (a ∷ b ∷ c ∷ []) n fit s = let first = fit 1 in let second = fit 2 in grind (arith, common_steps)
-length_least low (a ∷ b ∷ c ∷ d ∷ e ∷ []) n fit s = grind (arith, common_steps)
-length_least low _ n fit s = grind (arith, common_steps)
+length_least _ (a ∷ b ∷ c ∷ []) n fit s = let first = fit 1 in let second = fit 2 in grind (arith, common_steps)
+length_least _ (a ∷ b ∷ c ∷ d ∷ e ∷ []) n fit s = grind (arith, common_steps)
+length_least _ _ n fit s = grind (arith, common_steps)
 
 shape_least : (low : ℕ) (octets : List ℕ) (shape : Shape) → AreOctets octets → SpellsShape low octets shape
     → length (plain_length (count_of shape)) ≤ length octets
-shape_least low octets (App n) fit s = length_least _ _ n fit s
-shape_least low octets (Context n) fit s = length_least _ _ n fit s.1
-shape_least low octets _ fit s = omega arith
+shape_least _ _ (App n) fit s = length_least _ _ n fit s
+shape_least _ _ (Context n) fit s = length_least _ _ n fit s.1
+shape_least _ _ _ fit s = omega arith
 
 pub behind : (front rest : List ℕ) → AreOctets (front ++ rest) → AreOctets rest
-behind [] rest fit = fit
-behind (a ∷ front) rest fit = behind front _ (λ i. fit (suc i))
+behind [] _ fit = fit
+behind (a ∷ front) _ fit = behind front _ (λ i. fit (suc i))
 
 pub tag_least : (octets : List ℕ) (tag : Tag) → AreOctets octets → SpellsTag octets tag
     → length (plain_tag tag) ≤ length octets
 unfolding plain_tag
-tag_least octets tag fit s =
+tag_least _ tag fit s =
     let number = number_least _ _ _ s.number in
     let later : AreOctets s.length_octets = behind (s.initial ∷ s.number_octets) _ (subst AreOctets s.whole fit) in
     let shape = shape_least _ _ _ later s.shape in
@@ -248,5 +248,4 @@ tag_least octets tag fit s =
     )
 
 pub plain_tag_shortest : (tag : Tag) → IsTag tag → IsShortest SpellsTag (plain_tag tag) tag
-plain_tag_shortest tag fits =
-    record { spelled = plain_tag_spells _ fits; shortest = λ other fit s. tag_least _ _ fit s }
+plain_tag_shortest _ fits = record { spelled = plain_tag_spells _ fits; shortest = λ other fit s. tag_least _ _ fit s }

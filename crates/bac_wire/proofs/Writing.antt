@@ -55,7 +55,7 @@ then_appends {old} {first} {mid} {second} {new} {r = Err f} v w =
 -- where the first writer has no room, there is none for both
 pub stops : {A B E F : Type 0} {old first new : List ℕ} {e : E} {r : Result B F} (second : List ℕ) → IsErr r
     → AppendsFront {A = A} old first new (Err e) → AppendsFront old (first ++ second) new r
-stops {r = Ok y} second failed w = absurd cc
+stops {r = Ok y} _ failed w = absurd cc
 stops {first} {r = Err f} second failed w =
     record {
       ok = tt;
@@ -67,7 +67,7 @@ stops {first} {r = Err f} second failed w =
 
 pub stops_whole : {A B E F : Type 0} {old first new : List ℕ} {e : E} {r : Result B F} (second : List ℕ) → IsErr r
     → Appends {A = A} old first new (Err e) → Appends old (first ++ second) new r
-stops_whole {r = Ok y} second failed w = absurd cc
+stops_whole {r = Ok y} _ failed w = absurd cc
 stops_whole {first} {r = Err f} second failed w =
     record { ok = tt; fits = tt; full = omega (arith, w.full, length-append first second); err = w.err }
 
