@@ -1,7 +1,7 @@
 -- What the reader of values takes is spelled so, and what is spelled so is taken, whatever follows.
 use Rattle.std.proofs.{
-  Common.{◌≡◌, ℕ, zero, suc, ◌^◌, ◌/◌, ◌%◌, ◌<◌, ◌≤◌, Bool, true, false, cond, ltb, eqb, List, [], ◌∷◌, ◌++◌, length},
-  Common.{take, Option, Some, None, refl, sym, ap, subst, ◌∙◌, append_assoc, arith, inl, inr},
+  Common.{◌≡◌, ℕ, zero, suc, ◌^◌, ◌<◌, ◌≤◌, Bool, true, false, cond, ltb, eqb, List, [], ◌++◌, length, take, Option},
+  Common.{Some, refl, sym, ap, subst, ◌∙◌, append_assoc, arith, inl, inr},
   lemmas.{Option.{same_Some, some_pair_parts, none-some, cond_some}, Grind.common_steps},
   lemmas.Bool.{ltb-false, eqb-true, lt-ltb, le-ltb, eq-eqb, eqb-false},
   lemmas.List.{length-append, take_at, drop_at, take-append-drop, nil_from_length, length-take-le},
@@ -28,15 +28,11 @@ pub within_again : (most : ℕ) (contents : List ℕ) → 1 ≤ length contents 
 within_again _ _ low high = rw (lt-ltb 0 _ low, le-ltb _ _ high) refl
 
 pub same_identifier : (n : ℕ) (id : Identifier) → id.instance < 2 ^ 22 → n ≡ number_of id → identifier_of n ≡ id
-same_identifier n id low e =
-    let high_is : n / 2 ^ 22 ≡ id.kind = omega arith in
-    let low_is : n % 2 ^ 22 ≡ id.instance = omega arith in
-    rw (high_is, low_is) refl
+same_identifier = grind arith
 
 bits_again : (contents : List ℕ) (unused : ℕ) (x : List ℕ) → StandsFor contents (bit_string unused x)
     → bits_of contents ≡ Some (bit_string unused x)
-bits_again _ _ [] h = let none = h.1.empty refl in rw (h.0, eq-eqb _ 0 none) refl
-bits_again _ _ (b ∷ x) h = rw (h.0, le-ltb 7 _ h.1.most) refl
+bits_again = grind arith
 
 contents_again : (contents : List ℕ) (value : Datum) → (tag_number value ≡ 1 → ⊥) → StandsFor contents value
     → contents_of (tag_number value) contents ≡ Some value
@@ -54,13 +50,12 @@ Holding number contents value = (tag_number value ≡ number) × StandsFor conte
 
 pub within_takes : (most : ℕ) (contents : List ℕ) (n : ℕ) → number_within most contents ≡ Some n → (1 ≤ length contents)
     × (length contents ≤ most) × (n ≡ big_number (length contents) contents)
-within_takes _ _ n e = (grind (arith, common_steps), grind (arith, common_steps), grind (arith, common_steps))
+within_takes = grind (arith, common_steps)
 
 -- the value under a function that was mapped
 mapped : {A B : Type 0} (f : A → B) (o : Option A) (y : B) → option_map f o ≡ Some y → (x : A) × (o ≡ Some x)
     × (f x ≡ y)
-mapped f None y e = absurd cc
-mapped f (Some x) y e = (x, refl, same_Some _ y e)
+mapped = grind arith
 
 number_takes : (number most : ℕ) (make : List ℕ → ℕ → Datum)
     → ((contents : List ℕ) (n : ℕ) → (1 ≤ length contents) × (length contents ≤ most)
@@ -75,24 +70,13 @@ exact_takes : (number count : ℕ) (make : List ℕ → Datum)
     → ((contents : List ℕ) → length contents ≡ count → Holding number contents (make contents))
     → (contents : List ℕ) (value : Datum) → option_map make (exactly count contents) ≡ Some value
     → Holding number contents value
-exact_takes _ _ _ holds _ _ e =
-    let m = mapped _ _ _ e in
-    let taken = cond_some _ _ _ m.1 in
-    rw (← m.2, ← taken.1) (holds _ (eqb-true _ _ taken.0))
+exact_takes = grind (arith, mapped, cond_some, eqb-true)
 
 chars_takes : (contents : List ℕ) (value : Datum) → chars_of contents ≡ Some value → Holding 7 contents value
-chars_takes [] _ e = absurd cc
-chars_takes (set ∷ x) _ e = rw (← same_Some _ _ e) (refl, refl)
+chars_takes = grind arith
 
 bits_takes : (contents : List ℕ) (value : Datum) → bits_of contents ≡ Some value → Holding 8 contents value
-bits_takes [] _ e = absurd cc
-bits_takes (unused ∷ []) _ e =
-    let t = cond_some _ _ _ e in
-    let none = eqb-true unused 0 t.0 in
-    rw (← t.1) (refl, (refl, record { most = omega arith; empty = λ _. none }))
-bits_takes (unused ∷ b ∷ x) _ e =
-    let t = unless (ltb 7 unused) e in
-    rw (← same_Some _ _ t.1) (refl, (refl, record { most = ltb-false 7 _ t.0; empty = λ empty. absurd cc }))
+bits_takes = grind arith
 
 contents_take : (number : ℕ) (contents : List ℕ) (value : Datum) → contents_of number contents ≡ Some value
     → Holding number contents value
@@ -143,9 +127,7 @@ value_again _ _ rest s =
 
 boolean_takes : (n : ℕ) (value : Datum) → boolean_of n ≡ Some value → (b : Bool) × (value ≡ boolean b)
     × (n ≡ cond b 1 0)
-boolean_takes zero _ e = (false, sym (same_Some _ _ e), refl)
-boolean_takes (suc zero) _ e = (true, sym (same_Some _ _ e), refl)
-boolean_takes n value e = absurd (none-some value (grind (arith, common_steps)))
+boolean_takes = grind arith
 
 -- the number in the tag of contents that hold a value of another kind
 shape_number_is : (value : Datum) (n : ℕ) → (tag_number value ≡ 1 → ⊥) → shape_number value n ≡ n

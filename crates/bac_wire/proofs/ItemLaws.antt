@@ -1,8 +1,8 @@
 -- Whole items leave one rest, no item begins another, a region is no deeper than allowed, and what reads items finds
 -- what the relations say.
 use Rattle.std.proofs.{
-  Common.{◌≡◌, ℕ, zero, suc, ◌+◌, ◌-◌, ◌<◌, ◌≤◌, List, [], ◌∷◌, ◌++◌, length, take, drop, Option, Some, None, refl},
-  Common.{sym, ap, subst, ◌∙◌, append_assoc, arith, inl, ◌↔◌},
+  Common.{◌≡◌, ℕ, suc, ◌+◌, ◌-◌, ◌<◌, ◌≤◌, List, [], ◌∷◌, ◌++◌, length, take, drop, Option, Some, None, refl, sym, ap},
+  Common.{subst, ◌∙◌, append_assoc, arith, inl, ◌↔◌},
   lemmas.List.{append_cancel_left, append_cancel_right, append-nil, drop_at, length-take-le},
   lemmas.Option.{none-some, some_pair_parts, same_Some},
 }
@@ -81,10 +81,7 @@ one_region _ _ number _ _ a b r s =
 inside_of : (count depth number : ℕ) (after next : List ℕ)
     → behind_item (behind_items count) depth (opening_tag number) Opening after ≡ Some next
     → (below : ℕ) × (depth ≡ suc below) × (mid : List ℕ) × LeavesRest below after mid
-inside_of _ zero _ _ _ e = cc
-inside_of _ (suc depth) _ _ _ e =
-    let a = bind_some _ _ _ e in
-    (depth, refl, a.0, items_take _ _ _ _ a.1)
+inside_of = grind (arith, bind_some, items_take)
 
 opens_within : (depth count : ℕ) (front region tail rest : List ℕ) → Opens count front
     → IsSequence (IsItem depth) region → HasEnded tail → region ++ tail ≡ front ++ rest → count ≤ depth
@@ -119,8 +116,7 @@ pub record Reads (IsRest : List ℕ → Type 0) (read : Option (List ℕ)) : Typ
   pub again : (rest : List ℕ) → IsRest rest → read ≡ Some rest
 
 pub finds_by : {IsRest : List ℕ → Type 0} (read : Option (List ℕ)) → Reads IsRest read → Finds IsRest read
-finds_by None reads = λ rest is. none-some _ (reads.again _ is)
-finds_by (Some rest) reads = reads.takes _ refl
+finds_by = grind arith
 
 pub found_by : {IsRest : List ℕ → Type 0} (read found : Option (List ℕ)) → Reads IsRest read → Finds IsRest found
     → read ≡ found
@@ -136,10 +132,7 @@ count_reads = grind arith
 
 item_reads : (count depth : ℕ) (octets : List ℕ) → length octets < suc count
     → Reads (LeavesBehind depth octets) (item_at (behind_items count) depth octets)
-item_reads _ _ _ short = record {
-  takes = λ rest e. item_at_takes _ _ _ _ (items_take _) e;
-  again = λ rest l. item_read _ _ _ _ _ _ (omega arith) short l.item l.whole;
-}
+item_reads = grind (arith, item_at_takes, items_take, item_read)
 
 items_read : (count depth : ℕ) (octets : List ℕ) → length octets < count
     → Reads (LeavesRest depth octets) (behind_items count depth octets)
@@ -164,10 +157,7 @@ region_whole = grind (arith, append-nil)
 -- a region leaves nothing
 pub whole_is : (depth : ℕ) (octets : List ℕ)
     → (behind_items (length octets + 1) depth octets ≡ Some []) ↔ IsRegion depth octets
-whole_is _ _ = (
-  λ e. whole_region _ _ [] ((items_is _ _ []).0 e) refl,
-  λ r. (items_is _ _ []).1 (region_whole _ _ r),
-)
+whole_is = grind (arith, whole_region, items_is, region_whole)
 
 -- ---- the items of the code
 

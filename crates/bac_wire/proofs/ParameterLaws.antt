@@ -1,22 +1,21 @@
 -- Reading a parameter, or a value of one kind, finds what its relation says, and what is written of one is a spelling
 -- of it.
 use Rattle.std.proofs.{
-  Common.{◌≡◌, ℕ, ◌^◌, ◌<◌, ◌≤◌, List, [], ◌++◌, length, drop, Option, Some, None, refl, sym, ap, subst, ◌∙◌},
-  Common.{append_assoc, arith},
+  Common.{◌≡◌, ℕ, ◌^◌, ◌<◌, List, [], ◌++◌, length, drop, Option, Some, None, refl, sym, ap, subst, ◌∙◌, append_assoc},
+  Common.arith,
   lemmas.Bool.{eqb-true, eq-eqb, ltb-false, le-ltb},
   lemmas.List.{take_at, drop_at, take-append-drop, length-append, length-take-le},
   lemmas.Option.{none-some, some_pair_parts, cond_some},
 }
-use Rattle.byteorder.specs.{Endian.big_bytes, Numbers.length-bytes_high_first}
 use Rattle.bac_wire.specs.{
   declared.tag.{Shape.Shape, Shape.TheVariants.{Context, Opening}, Tag.Tag},
   Front.{IsReader, Begins},
   Identifier.{Identifier, IsIdentifier},
-  Tag.{SpellsTag, plain_tag},
+  Tag.SpellsTag,
   Steps.◌>>=◌,
   TagReading.tag_at,
   Region.IsRegion,
-  Datum.{Datum, Spells, StandsFor, unsigned, enumerated, octet_count},
+  Datum.{Datum, Spells, StandsFor, unsigned, enumerated},
   DatumReading.value_at,
   Parameter.{context_tag, SpellsContext, SpellsIn, SpellsEnclosed, context_octets, number_octets, object_octets},
   Parameter.enclosed_octets,
@@ -59,21 +58,12 @@ counted_takes _ _ _ _ _ contents rest e is f = absurd (none-some (contents, rest
 counted_again : (number : ℕ) (contents rest : List ℕ)
     → counted_of number (context_tag number (length contents)) (Context (length contents)) (contents ++ rest)
     ≡ found_at contents rest
-counted_again number contents rest =
-    let fits : length contents ≤ length (contents ++ rest) = omega (arith, length-append contents rest) in
-    rw (
-      eq-eqb number number refl,
-      le-ltb _ _ fits,
-      take_at contents rest (length contents) refl,
-      drop_at contents rest (length contents) refl,
-    ) refl
+counted_again = grind (arith, length-append, eq-eqb, le-ltb, take_at, drop_at)
 
 context_takes : (number : ℕ) (octets contents rest : List ℕ) → context_at number octets ≡ found_at contents rest
     → (front : List ℕ) × SpellsContext number front contents × (octets ≡ front ++ rest)
 unfolding context_at
-context_takes _ _ contents rest e =
-    let a = bind_some _ _ (contents, rest) e in
-    counted_takes _ _ _ _ _ _ _ a.1 refl a.2
+context_takes = grind (arith, bind_some, counted_takes)
 
 context_again : (number : ℕ) (front contents rest : List ℕ) → SpellsContext number front contents
     → context_at number (front ++ rest) ≡ found_at contents rest
@@ -130,10 +120,7 @@ no_object _ = rw no_octets refl
 
 opening_takes : (number : ℕ) (tag : Tag) (shape : Shape) (after rest : List ℕ)
     → opening_of number tag shape after ≡ Some rest → (shape ≡ Opening) × (tag.number ≡ number) × (after ≡ rest)
-opening_takes _ _ Opening _ _ e =
-    let same = cond_some _ _ _ e in
-    (refl, eqb-true _ _ same.0, same.1)
-opening_takes _ _ _ _ _ e = absurd (none-some _ e)
+opening_takes = grind arith
 
 enclosed_takes : (number : ℕ) (octets region rest : List ℕ) → enclosed_at number octets ≡ found_at region rest
     → (front : List ℕ) × SpellsEnclosed number front region × (octets ≡ front ++ rest)
@@ -217,45 +204,15 @@ object_step = kind_step _ _ (λ value x e. grind arith) (λ id. refl)
 
 pub context_spells : (number : ℕ) (contents : List ℕ) → number < 255 → length contents < 2 ^ 32
     → SpellsContext number (context_octets number contents) contents
-context_spells number _ low short = record {
-  front = plain_tag _;
-  spelled = plain_tag_spells _ (record { number = low; count = short });
-  whole = refl;
-}
+context_spells = grind (arith, plain_tag_spells)
 
 pub number_spells : (number n : ℕ) → number < 255 → n < 2 ^ 32 → SpellsIn enumerated number (number_octets number n) n
-number_spells _ n low fits =
-    let contents = big_bytes _ n in
-    let long : length contents ≡ octet_count n = length-bytes_high_first _ n in
-    let least = count_low n in
-    let most = count_four n fits in
-    record {
-      contents = contents;
-      context = context_spells _ _ low (omega arith);
-      stands = (omega arith, omega arith, number_back _ n (count_fits n (omega arith)));
-    }
+number_spells = grind (arith, count_low, count_four, context_spells, number_back, count_fits)
 
 pub object_spells : (number : ℕ) (id : Identifier) → number < 255 → IsIdentifier id
     → SpellsIn values.object number (object_octets number id) id
-object_spells _ id low h =
-    let kind = h.kind in
-    let instance = h.instance in
-    let contents = big_bytes 4 _ in
-    record {
-      contents = contents;
-      context = context_spells _ _ low (omega arith);
-      stands = (refl, instance, sym (number_back 4 _ (omega arith)));
-    }
+object_spells = grind (arith, context_spells, number_back)
 
 pub enclosed_spells : (number : ℕ) (region : List ℕ) → number < 255 → IsRegion 32 region
     → SpellsEnclosed number (enclosed_octets number region) region
-enclosed_spells number _ low items = record {
-  closing = plain_tag _;
-  opened = record {
-    front = plain_tag _;
-    spelled = plain_tag_spells _ (record { number = low; count = omega arith });
-    whole = refl;
-  };
-  parts = items;
-  closed = plain_tag_spells _ (record { number = low; count = omega arith });
-}
+enclosed_spells = grind (arith, plain_tag_spells)

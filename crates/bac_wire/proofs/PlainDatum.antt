@@ -12,8 +12,8 @@ use Rattle.byteorder.specs.{
 }
 use Rattle.bac_wire.{
   specs.Tag.{IsTag, plain_tag},
-  specs.Datum.{Datum, boolean, unsigned, signed, enumerated, object, StandsFor, tag_before, Spells, octet_count},
-  specs.{Datum.{plain_contents, plain, InRange, IsDatum}, Inner.Datum.tagged},
+  specs.Datum.{Datum, signed, StandsFor, tag_before, Spells, octet_count, plain_contents, plain, InRange, IsDatum},
+  specs.Inner.Datum.tagged,
   proofs.TagLaws.plain_tag_spells,
 }
 
@@ -115,47 +115,20 @@ signed_holds (negsuc n) h =
 -- ---- the contents
 
 plain_holds : (value : Datum) → InRange value → StandsFor (plain_contents value) value
-plain_holds (unsigned n) h = (
-  rw (length-bytes_high_first _ n) (count_low n),
-  rw (length-bytes_high_first _ n) (count_high n),
-  number_back _ n (count_fits n h),
-)
-plain_holds (signed z) h = signed_holds z h
-plain_holds (enumerated n) h = (
-  rw (length-bytes_high_first _ n) (count_low n),
-  rw (length-bytes_high_first _ n) (count_four n h),
-  number_back _ n (count_fits n (omega arith)),
-)
-plain_holds (object id) h =
-    let low = h.kind in
-    let limit = h.instance in
-    (refl, h.instance, big_number-reads_back 4 _ [] (omega arith))
-plain_holds _ h = search arith
+plain_holds = grind (arith, count_low, count_high, number_back, count_fits, signed_holds, count_four)
 
 tag_fits : (value : Datum) → IsDatum value → IsTag (tag_before value (length (plain_contents value)))
-tag_fits (boolean true) h = record { number = omega arith; count = omega arith }
-tag_fits (boolean false) h = record { number = omega arith; count = omega arith }
-tag_fits _ h = record { number = omega arith; count = h.short }
+tag_fits = grind arith
 
 pub plain_spells : (value : Datum) → IsDatum value → Spells (plain value) value
 unfolding plain
-plain_spells value h = record {
-  contents = plain_contents value;
-  tagged = record {
-    front = plain_tag _;
-    spelled = plain_tag_spells _ (tag_fits _ h);
-    whole = refl;
-  };
-  held = plain_holds _ h.range;
-}
+plain_spells = grind (arith, plain_tag_spells, tag_fits, plain_holds)
 
 -- a tag with a number below 15 and a count below 5 is one octet
 pub short_tagged : (number : ℕ) (contents : List ℕ) → number < 15 → length contents < 5
     → tagged number contents ≡ (16 * number + length contents) ∷ contents
 unfolding tagged plain_tag
-short_tagged number contents low short =
-    let same : 16 * min number 15 + min (length contents) 5 ≡ 16 * number + length contents = omega arith in
-    rw (lt-ltb _ 15 low, lt-ltb _ 5 short) (ap (λ (first : ℕ). first ∷ contents) same)
+short_tagged = grind (arith, min, lt-ltb)
 
 -- the tag of four octets, and these
 pub four_tagged : (number : ℕ) (contents : List ℕ) → number < 15 → length contents ≡ 4
@@ -167,7 +140,4 @@ four_tagged _ _ low four = absurd (omega (arith, four))
 -- the tag of a number in one octet, and the number
 pub one_tagged : (number n : ℕ) → number < 15 → n < 256
     → tagged number (big_bytes (octet_count n) n) ≡ (16 * number + 1) ∷ n ∷ []
-one_tagged _ n low one =
-    let contents : big_bytes (octet_count n) n ≡ n ∷ [] =
-    rw (lt-ltb n 256 one) (ap (λ (octet : ℕ). octet ∷ []) (omega arith)) in
-    ap (tagged _) contents ∙ short_tagged _ _ low (omega arith)
+one_tagged = grind (arith, lt-ltb, short_tagged)

@@ -1,7 +1,7 @@
 -- A reader on lists that takes what is spelled, and finds again what is spelled.
 use Rattle.std.proofs.{
   Common.{Bool, true, false, cond, inl, inr, ◌≡◌, ℕ, ◌-◌, ◌≤◌, List, ◌++◌, length, take, Option, Some, None, refl, sym},
-  Common.{ap, subst, ◌∙◌, arith, length-append},
+  Common.{ap, ◌∙◌, arith, length-append},
   lemmas.{List.{take_at, append_cancel_right}, Option.some_pair_parts},
 }
 use Rattle.std.specs.Prelude.{◌⊎◌}
@@ -18,9 +18,7 @@ found_at x rest = Some (x, rest)
 -- a front that was taken whole
 pub took : {A : Type 0} (Spells : List ℕ → A → Type 0) (front : List ℕ) (x y : A) (after rest : List ℕ)
     → found_at x after ≡ found_at y rest → Spells front x → Took Spells (front ++ after) y rest
-took Spells front x y _ _ e s =
-    let same = some_pair_parts x y _ _ e in
-    (front, subst (Spells _) same.0 s, ap (λ (w : List ℕ). front ++ w) same.1)
+took = grind (arith, some_pair_parts)
 
 -- a front that was taken as one thing, and spells another one
 pub took_as : {A B : Type 0} (As : List ℕ → A → Type 0) (Spells : List ℕ → B → Type 0) (octets : List ℕ) (a : A)
@@ -33,21 +31,13 @@ pub reader_of : {A : Type 0} (Spells : List ℕ → A → Type 0) (at : List ℕ
     → ((octets : List ℕ) (x : A) (rest : List ℕ) → at octets ≡ Some (x, rest) → Took Spells octets x rest)
     → ((front : List ℕ) (x : A) (rest : List ℕ) → Spells front x → at (front ++ rest) ≡ Some (x, rest))
     → IsReader Spells at
-reader_of Spells at takes again = record {
-  takes = λ octets x rest e. let t = takes _ x _ e in record { front = t.0; spelled = t.1; whole = t.2 };
-  again = again;
-}
+reader_of = grind arith
 
 -- a front, by the length of what stands behind it
 pub take_front : (octets front rest : List ℕ) → octets ≡ front ++ rest
     → (length rest ≤ length octets) × (length octets - length rest ≡ length front)
     × (take (length octets - length rest) octets ≡ front)
-take_front octets front rest e =
-    let long : length octets - length rest ≡ length front = omega (arith, ap length e, length-append front rest) in (
-      omega (arith, ap length e, length-append front rest),
-      long,
-      ap (λ (k : ℕ). take k octets) long ∙ rw e (take_at _ _ _ refl),
-    )
+take_front = grind (arith, length-append, take_at)
 
 -- the branch that a test took
 pub chosen : {A : Type 0} (b : Bool) (x y z : A) → cond b x y ≡ z → ((b ≡ true) × (x ≡ z)) ⊎ ((b ≡ false) × (y ≡ z))
@@ -92,11 +82,7 @@ module _ {A : Type 0} (Spells : List ℕ → A → Type 0) (at : List ℕ → Op
 
     -- where nothing was read nothing stands at the front
     pub none_front : (octets : List ℕ) → None ≡ at octets → FindsFront Spells octets None
-    none_front _ e = record {
-      spelled = tt;
-      all = λ other after y t parts. let nothing : None ≡ found_at y after = e ∙ ap at parts
-          ∙ reader.again _ y _ t in absurd cc;
-    }
+    none_front = grind arith
 
 -- a spelling is read back, whatever follows it
 pub spelled_back : {A : Type 0} (Spells : List ℕ → A → Type 0) (front : List ℕ) (x : A) → Spells front x

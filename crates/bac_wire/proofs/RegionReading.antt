@@ -1,11 +1,11 @@
 -- Reading items from left to right takes whole items, and finds again those that there are, whatever greater depth is
 -- allowed.
 use Rattle.std.proofs.{
-  Common.{◌≡◌, ℕ, zero, suc, ◌<◌, ◌≤◌, eqb, List, [], ◌∷◌, ◌++◌, length, take, Option, Some, None, refl, sym, ap},
-  Common.{subst, ◌∙◌, append_assoc, arith, inl, inr, Bool, true, false, cond},
-  lemmas.Bool.{le-ltb, ltb-false, eqb-true, eq-eqb},
+  Common.{◌≡◌, ℕ, zero, suc, ◌<◌, ◌≤◌, eqb, List, [], ◌++◌, length, take, Option, Some, None, refl, sym, ap, subst},
+  Common.{◌∙◌, append_assoc, arith, inl, inr, Bool, true, false, cond},
+  lemmas.Bool.{le-ltb, ltb-false, eq-eqb},
   lemmas.List.{drop_at, length-append, nil_from_length, take-append-drop, length-take-le},
-  lemmas.Option.{none-some, same_Some, cond_some},
+  lemmas.Option.{none-some, same_Some},
 }
 use Rattle.bac_wire.specs.{
   declared.tag.{Shape.Shape, Shape.TheVariants.{App, Context, Opening, Closing}, Tag.Tag},
@@ -26,8 +26,7 @@ no_octets = refl
 -- a tag has an octet at least
 pub tag_shorter : (spelling others front rest : List ℕ) (tag : Tag) → SpellsTag spelling tag
     → front ≡ spelling ++ others → length rest < length (front ++ rest)
-tag_shorter spelling others front rest _ s e =
-    omega (arith, ap length e, ap length s.whole, length-append front rest, length-append spelling others)
+tag_shorter = grind (arith, length-append)
 
 pub after_shorter : (octets : List ℕ) (tag : Tag) (after : List ℕ) → tag_at octets ≡ found_at tag after
     → length after < length octets
@@ -71,10 +70,7 @@ ended_since tag _ rest e shape = inr (tag.number, rest, closed_since _ _ _ _ e s
 
 closing_takes : (number : ℕ) (tag : Tag) (shape : Shape) (after rest : List ℕ)
     → closing_of number tag shape after ≡ Some rest → (shape ≡ Closing) × (tag.number ≡ number) × (after ≡ rest)
-closing_takes _ _ Closing _ _ e =
-    let same = cond_some _ _ _ e in
-    (refl, eqb-true _ _ same.0, same.1)
-closing_takes _ _ _ _ _ e = absurd (none-some _ e)
+closing_takes = grind arith
 
 pub closed_takes : (number : ℕ) (octets rest : List ℕ) → behind_closing number octets ≡ Some rest
     → IsClosedBy number octets rest
@@ -113,16 +109,14 @@ going_on : (items : ℕ → List ℕ → Option (List ℕ)) (depth : ℕ) (octet
     (after : List ℕ)
     → (shape ≡ Closing → ⊥)
     → behind_tag items depth octets tag shape after ≡ (behind_item items depth tag shape after >>= items depth)
-going_on _ _ _ _ Closing _ going = absurd (going refl)
-going_on _ _ _ _ _ _ _ = refl
+going_on = grind arith
 
 -- at a tag that is no closing one, the first item, and then the others
 pub one_step : (count depth : ℕ) (octets : List ℕ) (tag : Tag) (after : List ℕ) → tag_at octets ≡ found_at tag after
     → (tag.shape ≡ Closing → ⊥)
     → behind_items (suc count) depth octets ≡ (item_at (behind_items count) depth octets >>= behind_items count depth)
 unfolding behind_items
-one_step _ depth _ tag after e going =
-    rw e (tag_found (behind_items _) _ _ (tag, after) ∙ going_on _ depth _ _ _ _ going)
+one_step = grind (arith, tag_found, going_on)
 
 -- ---- what is read is there
 
@@ -231,9 +225,7 @@ found_takes : (items : ℕ → List ℕ → Option (List ℕ)) (depth : ℕ) (oc
     (rest : List ℕ)
     → Takes items → tag_at octets ≡ read → behind_tag_found items depth octets read ≡ Some rest
     → LeavesRest depth octets rest
-found_takes _ _ [] None _ _ e f = ended_leaves _ [] _ (inl refl) f
-found_takes _ _ (x ∷ xs) None _ _ e f = absurd (none-some _ f)
-found_takes _ _ _ (Some t) _ takes e f = more_takes _ _ _ _ _ _ _ takes e refl f
+found_takes = grind (arith, ended_leaves, none-some, more_takes)
 
 pub items_take : (count depth : ℕ) (octets rest : List ℕ) → behind_items count depth octets ≡ Some rest
     → LeavesRest depth octets rest
@@ -250,11 +242,7 @@ Again items most = (depth top : ℕ) (front rest : List ℕ) → depth ≤ top �
 
 count_again : (count : ℕ) (contents rest : List ℕ) → length contents ≡ count
     → behind_count count (contents ++ rest) ≡ Some rest
-count_again count contents rest e =
-    rw (
-      le-ltb (length (contents ++ rest)) count (omega (arith, e, length-append contents rest)),
-      drop_at _ _ _ e,
-    ) refl
+count_again = grind (arith, le-ltb, length-append, drop_at)
 
 boolean_again : (b : Bool) (n : ℕ) (contents rest : List ℕ) → length contents ≡ cond b 0 n
     → cond b (Some (contents ++ rest)) (behind_count n (contents ++ rest)) ≡ Some rest
@@ -263,9 +251,7 @@ boolean_again false n _ _ e = count_again n _ _ e
 
 counted_again : (items : ℕ → List ℕ → Option (List ℕ)) (top : ℕ) (tag : Tag) (shape : Shape) (contents rest : List ℕ)
     → Counts tag.number shape (length contents) → behind_item items top tag shape (contents ++ rest) ≡ Some rest
-counted_again _ _ _ (App n) _ _ counted = boolean_again _ n _ _ counted
-counted_again _ _ _ (Context n) _ _ counted = count_again n _ _ counted
-counted_again _ _ _ _ _ _ counted = absurd counted
+counted_again = grind (arith, boolean_again, count_again)
 
 primitive_again : (items : ℕ → List ℕ → Option (List ℕ)) (top : ℕ) (item rest : List ℕ) → IsPrimitive item
     → item_at items top (item ++ rest) ≡ Some rest

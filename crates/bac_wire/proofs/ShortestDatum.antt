@@ -10,8 +10,7 @@ use Rattle.byteorder.{
   specs.{Endian.{big_number, big_bytes, twos_complement}, Numbers.{big_from-lt, length-bytes_high_first}},
 }
 use Rattle.bac_wire.{
-  specs.{declared.tag.Shape.TheVariants.App, Front.{AreOctets, IsShortest}},
-  specs.Tag.{plain_number, plain_length, plain_tag},
+  specs.{declared.tag.Shape.TheVariants.App, Front.{AreOctets, IsShortest}, Tag.{plain_length, plain_tag}},
   specs.Datum.{Datum, boolean, unsigned, signed, enumerated, tag_number, StandsFor, shape_number, tag_before, Spells},
   specs.Datum.{octet_count, signed_count, plain_contents, plain, InRange, IsDatum},
   proofs.{TagLaws.{tag_least, behind}, PlainDatum.{count_by_cases, count_is, cases_high, plain_spells}},
@@ -70,13 +69,7 @@ tag_grows : (number m n : ℕ) → m ≤ n
     → length (plain_tag (record { number = number; shape = App m })) ≤ length
     (plain_tag (record { number = number; shape = App n }))
 unfolding plain_tag
-tag_grows number m n le =
-    let grows = plain_length_grows m n le in
-    omega (
-      arith,
-      length-append (plain_number number) (plain_length m),
-      length-append (plain_number number) (plain_length n),
-    )
+tag_grows = grind (arith, plain_length_grows, length-append)
 
 shape_number_grows : (value : Datum) (m n : ℕ) → m ≤ n → shape_number value m ≤ shape_number value n
 shape_number_grows (boolean b) m n le = omega arith
@@ -111,10 +104,4 @@ plain_shortest _ h = record { spelled = plain_spells _ h; shortest = λ other fi
 -- a value whose octets fit a frame has a spelling
 pub written_datum : (value : Datum) (before : ℕ) → InRange value → before + length (plain value) ≤ 1497 → IsDatum value
 unfolding plain
-written_datum value _ range fits = record {
-  range = range;
-  short = omega (
-    arith,
-    length-append (plain_tag (tag_before value (length (plain_contents value)))) (plain_contents value),
-  );
-}
+written_datum = grind (arith, length-append)

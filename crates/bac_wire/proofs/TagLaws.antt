@@ -1,11 +1,11 @@
 -- What the reader of tags takes is spelled so, what is spelled so is taken, and the plain spelling is the shortest.
 use Rattle.std.proofs.{
-  Common.{◌≡◌, ℕ, ◌-◌, ◌/◌, ◌%◌, ◌<◌, ltb, eqb, List, [], ◌∷◌, ◌++◌, Option, Some, None, refl, sym, ap, ◌∙◌},
-  Common.{append_assoc, arith, inl, inr, suc, ◌+◌, ◌*◌, ◌^◌, ◌≤◌, min, cond, length, subst},
+  Common.{◌≡◌, ℕ, ◌<◌, ltb, eqb, List, [], ◌∷◌, ◌++◌, Option, Some, None, refl, sym, ap, ◌∙◌, append_assoc, arith, inl},
+  Common.{inr, suc, ◌≤◌, min, cond, length, subst},
   lemmas.{Grind.common_steps, Bool.{ltb-true, ltb-false, eqb-true, cond_both}, List.length-append},
 }
 use Rattle.bac_wire.specs.{
-  declared.tag.{Shape.Shape, Shape.TheVariants.{App, Context, Opening, Closing}, Tag.Tag},
+  declared.tag.{Shape.Shape, Shape.TheVariants.App, Tag.Tag},
   Tag.{SpellsNumber, SpellsLength, SpellsShape, SpellsTag, IsTag, plain_number, plain_length, low_half, count_of},
   Tag.plain_tag,
   Steps.◌>>=◌,
@@ -19,39 +19,25 @@ use Rattle.bac_wire.proofs.Readers.{IsReader, Took, took, took_as, reader_of, fo
 number_again : (high : ℕ) (front : List ℕ) (n : ℕ) (rest : List ℕ) → SpellsNumber high front n
     → tag_number_at high (front ++ rest) ≡ Some (n, rest)
 unfolding tag_number_at
-number_again _ (octet ∷ []) n _ s = grind (arith, common_steps)
-number_again _ _ n _ s = grind (arith, common_steps)
+number_again = grind arith
 
 length_again : (low : ℕ) (front : List ℕ) (n : ℕ) (rest : List ℕ) → SpellsLength low front n
     → length_at low (front ++ rest) ≡ Some (n, rest)
 unfolding length_at long_length_at
-length_again _ (a ∷ b ∷ c ∷ d ∷ e ∷ []) n _ s = cc
-length_again _ _ n _ s = grind (arith, common_steps)
+length_again = grind arith
 
 low_small : (low : ℕ) (front : List ℕ) (n : ℕ) → SpellsLength low front n → low < 6
-low_small _ (a ∷ b ∷ c ∷ d ∷ e ∷ []) n s = omega arith
-low_small _ _ n s = omega arith
+low_small = grind arith
 
 shape_again : (low : ℕ) (front : List ℕ) (shape : Shape) (rest : List ℕ) → SpellsShape low front shape
     → shape_at low (front ++ rest) ≡ Some (shape, rest)
 unfolding shape_at
-shape_again _ _ (App n) rest s =
-    let small = low_small _ _ n s in
-    let read = length_again _ _ n rest s in
-    grind (arith, common_steps)
-shape_again _ _ (Context n) rest s =
-    let small = low_small _ _ n s.1 in
-    let read = length_again _ _ n rest s.1 in
-    grind (arith, common_steps)
-shape_again _ _ _ _ s = cc
+shape_again = grind (arith, low_small, length_again, common_steps)
 
 tag_again : (front : List ℕ) (tag : Tag) (rest : List ℕ) → SpellsTag front tag
     → tag_at (front ++ rest) ≡ Some (tag, rest)
 unfolding tag_at
-tag_again _ _ rest s =
-    let number = number_again _ _ _ (s.length_octets ++ rest) s.number in
-    let shape = shape_again _ _ _ rest s.shape in
-    rw (s.whole, append_assoc _ _ _, number, shape) refl
+tag_again = grind (arith, number_again, shape_again, append_assoc)
 
 -- ---- what is read is spelled
 
@@ -171,49 +157,23 @@ one_tag = one_front _ _ tag_reader
 by_test : {A : Type 0} (P : A → Type 0) (m n : ℕ) {x y : A} → (m < n → P x) → (n ≤ m → P y) → P (cond (ltb m n) x y)
 by_test P m n below above = cond_both _ _ _ P (λ e. below (ltb-true m n e)) (λ e. above (ltb-false m n e))
 
-plain_length_spells : (n : ℕ) → n < 2 ^ 32 → SpellsLength (min n 5) (plain_length n) n
-plain_length_spells n fits =
-    let Spelled : List ℕ → Type 0 = λ octets. SpellsLength (min n 5) octets n in
-    by_test Spelled n 5 (omega arith) (λ more.
-    by_test Spelled n 254 (omega arith) (λ most. by_test Spelled n 65536 (omega arith) (omega arith)))
-
 low_half_below : (shape : Shape) → low_half shape < 16
 low_half_below (App n) = omega arith
 low_half_below _ = omega arith
 
 shape_octets_spell : (shape : Shape) (tag : Tag) → tag.shape ≡ shape → IsTag tag
     → SpellsShape (low_half shape) (plain_length (count_of shape)) shape
-shape_octets_spell (App n) _ e fits = let limit : n < 2 ^ 32 = rw e at fits.count in plain_length_spells n limit
-shape_octets_spell (Context n) _ e fits =
-    let limit : n < 2 ^ 32 = rw e at fits.count in
-    let low : (8 + min n 5) - 8 ≡ min n 5 = omega arith in
-    (omega arith, rw low (plain_length_spells n limit))
-shape_octets_spell Opening _ e fits = search
-shape_octets_spell Closing _ e fits = search
+shape_octets_spell = grind arith
 
 pub plain_tag_spells : (tag : Tag) → IsTag tag → SpellsTag (plain_tag tag) tag
 unfolding plain_tag
-plain_tag_spells tag fits =
-    let low = low_half_below tag.shape in
-    let first : ℕ = 16 * min tag.number 15 + low_half tag.shape in
-    let high_is : first / 16 ≡ min tag.number 15 = omega arith in
-    let low_is : first % 16 ≡ low_half tag.shape = omega arith in
-    record {
-      initial = first;
-      number_octets = plain_number _;
-      length_octets = plain_length (count_of tag.shape);
-      whole = refl;
-      number = rw high_is (by_test (λ octets. SpellsNumber (min tag.number 15) octets tag.number) tag.number 15
-          (omega arith) (omega arith));
-      shape = rw low_is (shape_octets_spell _ _ refl fits);
-    }
+plain_tag_spells = grind (arith, low_half_below, min, by_test, shape_octets_spell)
 
 -- ---- no spelling is shorter
 
 number_least : (high : ℕ) (octets : List ℕ) (n : ℕ) → SpellsNumber high octets n
     → length (plain_number n) ≤ length octets
-number_least _ [] n s = grind (arith, common_steps)
-number_least _ _ n s = grind (arith, common_steps)
+number_least = grind arith
 
 length_least : (low : ℕ) (octets : List ℕ) (n : ℕ) → AreOctets octets → SpellsLength low octets n
     → length (plain_length n) ≤ length octets
@@ -223,9 +183,7 @@ length_least _ _ n fit s = grind (arith, common_steps)
 
 shape_least : (low : ℕ) (octets : List ℕ) (shape : Shape) → AreOctets octets → SpellsShape low octets shape
     → length (plain_length (count_of shape)) ≤ length octets
-shape_least _ _ (App n) fit s = length_least _ _ n fit s
-shape_least _ _ (Context n) fit s = length_least _ _ n fit s.1
-shape_least _ _ _ fit s = omega arith
+shape_least = grind (arith, length_least)
 
 pub behind : (front rest : List ℕ) → AreOctets (front ++ rest) → AreOctets rest
 behind [] _ fit = fit
