@@ -1,13 +1,13 @@
 -- What is read of a header or a datagram is what it carries, and what is written is carried back.
 use Rattle.std.proofs.{
   Common.{◌≡◌, ℕ, ◌/◌, ◌%◌, ◌<◌, ◌≤◌, Bool, true, false, eqb, List, [], ◌∷◌, ◌++◌, length, drop, Option, Some, None},
-  Common.{refl, sym, ap, ◌∙◌, append_assoc, arith, slice_index_or, ◌+◌, cond, ◌||◌, ◌&&◌, subst, inl, inr},
+  Common.{refl, sym, ap, ◌∙◌, append_assoc, arith, slice_index_or, ◌+◌, cond, ◌||◌, ◌&&◌, inl, inr},
   lemmas.Bool.{and_parts, eqb-true, ltb-false, le-ltb, eq-eqb},
   lemmas.List.{take_at, drop_at, take-append-drop, length-append, length-take-le, nil_from_length},
   lemmas.{Option.{none-some, some_pair_parts, cond_some}, Grind.common_steps},
 }
-use Rattle.std.specs.Prelude.{IfSome, ◌↔◌, is_some, OnOk, Result, Ok, Err}
-use Rattle.byteorder.specs.{Endian.{big_number, big_bytes}, Numbers.big_number-reads_back}
+use Rattle.std.specs.Prelude.{IfSome, ◌↔◌, is_some, OnOk, Result}
+use Rattle.byteorder.specs.{Endian.big_number, Numbers.big_number-reads_back}
 use Rattle.bac_wire.{
   proofs.{Readers.{IsReader, Took, took, took_as, reader_of, found_at, only_if, unless, chosen}, TagLaws.bind_some},
   specs.Front.IsSingle,
@@ -26,23 +26,10 @@ use Rattle.bac_pdu.specs.{
 
 count_takes : (count : ℕ) (octets address rest : List ℕ) → counted_at (count ∷ octets) ≡ found_at address rest
     → (octets ≡ address ++ rest) × (count ≡ length address)
-count_takes count octets address _ e =
-    let room = unless _ e in
-    let parts = some_pair_parts _ _ _ _ room.1 in
-    let fits : count ≤ length octets = ltb-false _ _ room.0 in (
-      sym (take-append-drop _ _) ∙ ap (λ (w : List ℕ). w ++ drop count octets) parts.0
-          ∙ ap (λ (w : List ℕ). address ++ w) parts.1,
-      sym (length-take-le _ _ fits) ∙ ap length parts.0,
-    )
+count_takes = grind (arith, unless, some_pair_parts, ltb-false, take-append-drop, length-take-le)
 
 count_again : (address rest : List ℕ) → counted_at (length address ∷ (address ++ rest)) ≡ found_at address rest
-count_again address rest =
-    let fits : length address ≤ length (address ++ rest) = omega (arith, length-append address rest) in
-    rw (
-      le-ltb _ _ fits,
-      take_at _ _ _ refl,
-      drop_at _ _ _ refl,
-    ) refl
+count_again = grind (arith, length-append, le-ltb, take_at, drop_at)
 
 address_takes : (octets : List ℕ) (station : NetworkAddress) (rest : List ℕ) → address_at octets ≡ found_at station rest
     → Took SpellsAddress octets station rest
@@ -60,7 +47,7 @@ address_takes _ station rest e = absurd (none-some (station, rest) e)
 address_again : (front : List ℕ) (station : NetworkAddress) (rest : List ℕ) → SpellsAddress front station
     → address_at (front ++ rest) ≡ found_at station rest
 unfolding address_at
-address_again _ station _ s = rw (s.whole, count_again station.address _, ← s.number) refl
+address_again = grind (arith, count_again)
 
 -- ---- the network header
 
@@ -73,10 +60,7 @@ announced_takes true _ _ _ e =
 
 announced_again : (b : Bool) (front : List ℕ) (station : Option NetworkAddress) (rest : List ℕ)
     → SpellsAnnounced b front station → announced_at b (front ++ rest) ≡ found_at station rest
-announced_again false _ None _ s = rw s refl
-announced_again false _ (Some station) _ s = absurd s
-announced_again true _ None _ s = absurd s
-announced_again true _ (Some station) _ s = rw (address_again _ _ _ s) refl
+announced_again = grind (arith, address_again)
 
 -- one octet where there is a hop count, and none where there is none
 abbrev SpellsHops : Bool → List ℕ → Type 0
@@ -130,31 +114,16 @@ control_takes control octets header rest carries e =
 header_takes : (octets : List ℕ) (header : NetworkHeader) (rest : List ℕ) → header_at octets ≡ found_at header rest
     → Took SpellsHeader octets header rest
 unfolding header_at
-header_takes (version ∷ control ∷ octets) _ _ e =
-    let one = only_if _ e in
-    let carries = unless _ one.1 in
-    let taken = control_takes _ _ _ _ carries.0 carries.1 in
-    (taken.0, taken.1, ap (λ (v : ℕ). v ∷ control ∷ octets) (eqb-true _ 1 one.0) ∙ taken.2)
-header_takes _ header rest e = absurd (none-some (header, rest) e)
+header_takes = grind (arith, only_if, unless, control_takes, eqb-true, none-some)
 
 pub header_reader : IsReader SpellsHeader header_at
 unfolding header_at
-header_reader = reader_of _ _ header_takes
-    (λ front header rest s. rw (
-      s.whole,
-      behind_all _ _ _ _,
-      s.carries,
-      announced_again _ _ _ _ s.destined,
-      announced_again _ _ _ _ s.sent,
-      hops_again _ _ _ s.hopped,
-    ) refl)
+header_reader = grind (arith, reader_of, header_takes, behind_all, announced_again, hops_again)
 
 -- ---- the header that is written
 
 address_spells : (station : NetworkAddress) → station.network < 65536 → SpellsAddress (address_octets station) station
-address_spells station fits =
-    let n : ℕ = station.network in
-    record { high = n / 256 % 256; low = n % 256; whole = refl; number = sym (big_number-reads_back 2 n [] fits) }
+address_spells = grind arith
 
 -- a header that was written, and that it says whether a reply is expected
 pub record IsWrittenHeader (to : Option NetworkAddress) (expect : Bool) : Type 0 where
@@ -196,23 +165,13 @@ header_written (Some station) false routable =
 -- ---- which headers are ignored
 
 routable : (to : NetworkAddress) → (is_routable to ≡ true) ↔ IsRoutable to
-routable to = (
-  λ e. record {
-    local = grind (arith, common_steps);
-    global = grind (arith, common_steps);
-    shortest = grind (arith, common_steps);
-    longest = grind (arith, common_steps);
-  },
-  λ h. grind (arith, common_steps),
-)
+routable = grind (arith, common_steps)
 
 destined : (to : Option NetworkAddress) → (is_for_all to ≡ true) ↔ IfSome to (λ t. t.network ≡ 65535)
-destined None = (λ e. tt, λ h. refl)
-destined (Some to) = (eqb-true _ 65535, eq-eqb _ 65535)
+destined = grind arith
 
 answerable : (source : Option NetworkAddress) → (is_answerable source ≡ true) ↔ IfSome source IsRoutable
-answerable None = (λ e. tt, λ h. refl)
-answerable (Some source) = routable _
+answerable = grind arith
 
 -- ---- the link header
 
@@ -245,9 +204,7 @@ origin_takes function from octets x rest e =
 origin_again : (from : Station) (function : ℕ) (front : List ℕ) (sender : Station) (to_all : Bool) (rest : List ℕ)
     → SpellsOrigin from function front sender to_all
     → origin_at function from (front ++ rest) ≡ found_at (sender, to_all) rest
-origin_again _ _ _ _ _ _ unicast = refl
-origin_again _ _ _ _ _ _ broadcast = refl
-origin_again _ _ _ _ _ _ (forwarded a b c d e f) = refl
+origin_again = grind arith
 
 -- ---- the datagram
 
@@ -272,12 +229,7 @@ record IsHeeded (header : NetworkHeader) : Type 0 where
 
 heeded_takes : (sender : Station) (to_all : Bool) (header : NetworkHeader) (apdu : List ℕ) (d : Delivery)
     → heeded_as sender to_all header apdu ≡ Some d → IsHeeded header × (delivered_as sender to_all header apdu ≡ d)
-heeded_takes _ _ _ _ d e =
-    let heeded = cond_some _ _ d e in
-    let each = and_parts _ _ heeded.0 in (
-      record { destined = (destined _).0 each.0; answerable = (answerable _).0 each.1 },
-      heeded.1,
-    )
+heeded_takes = grind (arith, cond_some, and_parts, destined, answerable)
 
 carried_takes : (from : Station) (datagram : List ℕ) (d : Delivery) → carried from datagram ≡ Some d
     → Carries from datagram d
@@ -330,13 +282,7 @@ carried_again_at _ _ _ _ _ _ _ _ _ _ counted sent headed heeded =
 
 carried_again : (from : Station) (datagram : List ℕ) (d : Delivery) → Carries from datagram d
     → carried from datagram ≡ Some d
-carried_again _ _ d c =
-    let counted : big_number 2 (c.high ∷ c.low ∷ []) ≡ 4 + length (c.origin ++ (c.header ++ d.apdu)) = c.counted
-    ∙ ap length c.whole ∙ omega arith in
-    let same : ◌≡◌ {A = Delivery} (delivered_as c.sender c.to_all c.network d.apdu) d =
-    rw (← c.peer, ← c.broadcast) refl in
-    let heeded : IsHeeded c.network = record { destined = c.destined; answerable = c.answerable } in
-    ap (carried _) c.whole ∙ carried_again_at _ _ _ _ _ _ _ _ _ _ counted c.sent c.headed heeded ∙ ap Some same
+carried_again = grind (arith, destined, answerable, carried_again_at)
 
 pub carried_is : (from : Station) (datagram : List ℕ) (d : Delivery)
     → (carried from datagram ≡ Some d) ↔ Carries from datagram d
@@ -367,23 +313,13 @@ wrapped_takes to expect apdu routable fits =
 pub wrapped_short : (to : Option NetworkAddress) (expect : Bool) (apdu : List ℕ) → IfSome to IsRoutable
     → length (wrapped to expect apdu) ≤ 17 + length apdu
 unfolding wrapped
-wrapped_short None _ _ routable = omega arith
-wrapped_short (Some station) _ apdu routable =
-    omega (
-      arith,
-      routable.longest,
-      length-append (station.address ++ 255 ∷ []) apdu,
-      length-append station.address (255 ∷ []),
-    )
+wrapped_short = grind (arith, length-append)
 
 -- the front and the APDU are the datagram
 pub front_before : (to : Option NetworkAddress) (expect : Bool) (apdu : List ℕ)
     → front_octets to expect (length apdu) ++ apdu ≡ wrapped to expect apdu
 unfolding front_octets wrapped
-front_before to _ apdu =
-    let header = plain_header to _ in
-    ap (λ (rest : List ℕ). 129 ∷ 10 ∷ rest) (append_assoc (big_bytes 2 _) _ apdu
-    ∙ ap (λ (n : ℕ). big_bytes 2 (4 + n) ++ (header ++ apdu)) (sym (length-append _ apdu)))
+front_before = grind (arith, append_assoc, length-append)
 
 pub length_wrapped : (to : Option NetworkAddress) (expect : Bool) (apdu : List ℕ)
     → length (wrapped to expect apdu) ≡ length (front_octets to expect (length apdu)) + length apdu
@@ -393,28 +329,23 @@ length_wrapped to _ _ = sym (ap length (front_before _ _ _)) ∙ length-append _
 pub length_front : (to : Option NetworkAddress) (expect : Bool) (size : ℕ)
     → length (front_octets to expect size) ≡ front_count to
 unfolding front_octets
-length_front None _ _ = refl
-length_front (Some station) _ _ = omega (arith, length-append station.address (255 ∷ []))
+length_front = grind (arith, length-append)
 
 pub count_wrapped : (to : Option NetworkAddress) (expect : Bool) (apdu : List ℕ)
     → length (wrapped to expect apdu) ≡ front_count to + length apdu
-count_wrapped to _ apdu = length_wrapped _ _ _ ∙ ap (λ (n : ℕ). n + length apdu) (length_front _ _ _)
+count_wrapped = grind (arith, length_wrapped, length_front)
 
 -- the six octets before an APDU for a station of this network
 pub local_front : (expect : Bool) (size : ℕ) (header : List ℕ) → size ≤ 1497 → header ≡ plain_header None expect
     → 129 ∷ 10 ∷ (6 + size) / 256 ∷ (6 + size) % 256 ∷ slice_index_or header 0 0 ∷ slice_index_or header 1 0 ∷ []
     ≡ front_octets None expect size
 unfolding front_octets
-local_front _ size _ few is =
-    let high : (6 + size) / 256 ≡ (4 + (2 + size)) / 256 % 256 = omega arith in
-    let low : (6 + size) % 256 ≡ (4 + (2 + size)) % 256 = omega arith in
-    rw (is, high, low) refl
+local_front = grind arith
 
 -- octets of which each spelling is read back spell one thing
 pub single : {A : Type 0} (Spells : List ℕ → A → Type 0) (read : List ℕ → Option A)
     → ((octets : List ℕ) (x : A) → Spells octets x → read octets ≡ Some x) → IsSingle Spells
-single Spells _ again octets x y s t =
-    let same : ◌≡◌ {A = Option _} (Some x) (Some y) = sym (again _ x s) ∙ again _ y t in cc
+single = grind arith
 
 -- an APDU behind its front takes it to the station
 pub put_front_takes : {T E : Type 0} (result : Result T E) (to : Option NetworkAddress) (expect : Bool) (apdu : List ℕ)
@@ -422,13 +353,7 @@ pub put_front_takes : {T E : Type 0} (result : Result T E) (to : Option NetworkA
     → IfSome to IsRoutable → size ≡ length apdu → front ≡ front_octets to expect size
     → OnOk result (frame ≡ front ++ apdu)
     → OnOk result (length front + length apdu ≤ 1497) → OnOk result (Takes to expect apdu frame)
-put_front_takes (Ok x) to expect apdu size _ frame routable all is e fits =
-    let same : frame ≡ wrapped to expect apdu = e
-    ∙ ap (λ (f : List ℕ). f ++ apdu) (is ∙ ap (front_octets _ _) all) ∙ front_before _ _ _ in
-    let short : length (wrapped to expect apdu) < 65536 =
-    omega (arith, count_wrapped to expect apdu, length_front to expect size, ap length is, fits) in
-    subst (Takes _ _ _) (sym same) (wrapped_takes _ _ _ routable short)
-put_front_takes (Err x) to _ _ _ _ _ _ _ is e _ = tt
+put_front_takes = grind (arith, front_before, count_wrapped, length_front, wrapped_takes, routable)
 
 -- what takes an APDU to a station of this network is carried to it
 pub taken_carries : (from : Station) (expect : Bool) (apdu datagram : List ℕ) → Takes None expect apdu datagram

@@ -24,8 +24,11 @@ range_of body =
 who_is_takes : (body : List ℕ) (w : WhoIs) → who_is_of body ≡ Some w → IsWhoIsBody body w
 unfolding who_is_of
 who_is_takes [] w e = let same : limits.All ≡ w = cc in subst (IsWhoIsBody []) same refl
-who_is_takes (x ∷ xs) w e = let a = bind_some _ _ _ e in let b = bind_some _ _ _ a.2 in let end = whole_ended
-    (limits.Range _ _) w _ b.2 in subst (IsWhoIsBody _) end.1
+who_is_takes (x ∷ xs) w e =
+    let a = bind_some _ _ _ e in
+    let b = bind_some _ _ _ a.2 in
+    let end = whole_ended (limits.Range _ _) w _ b.2 in
+    subst (IsWhoIsBody _) end.1
     (a.0.1, (numbered_step 0).takes _ _ _ a.1, (b.0.1, (numbered_step 1).takes _ _ _ b.1, end.0))
 
 who_is_again : (body : List ℕ) (w : WhoIs) → IsWhoIsBody body w → who_is_of body ≡ Some w
@@ -80,7 +83,10 @@ error_again _ x s = rw (enumerated_step.again _ _ _ s.1.1, enumerated_step.again
 pub error_is : (body : List ℕ) (x : ℕ × ℕ) → (error_of body ≡ Some x) ↔ IsErrorBody body x
 unfolding error_of
 error_is _ x = (
-  λ e. let a = then_takes enumerated_step _ _ _ e in let b = then_takes enumerated_step _ _ _ a.3 in let
-      same : ◌≡◌ {A = ℕ × ℕ} (a.0, b.0) x = cc (b.3) in subst (IsErrorBody _) same (b.1, (a.1, a.2, (b.1, b.2, refl))),
+  λ e.
+      let a = then_takes enumerated_step _ _ _ e in
+      let b = then_takes enumerated_step _ _ _ a.3 in
+      let same : ◌≡◌ {A = ℕ × ℕ} (a.0, b.0) x = cc (b.3) in
+      subst (IsErrorBody _) same (b.1, (a.1, a.2, (b.1, b.2, refl))),
   error_again _ x,
 )

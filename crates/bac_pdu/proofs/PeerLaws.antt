@@ -1,6 +1,6 @@
 -- `==` on peers compares the stations.
 use Rattle.std.proofs.{
-  Common.{◌≡◌, ℕ, ◌-◌, true, List, ◌++◌, length, take, drop, Option, Some, None, refl, sym, ap, ◌∙◌, arith},
+  Common.{◌≡◌, ℕ, ◌-◌, true, List, ◌++◌, length, take, drop, Option, refl, sym, ap, ◌∙◌, arith},
   lemmas.Bool.{and_parts, eqb-true, eq-eqb, false≢true},
   lemmas.{List.{take-append-drop, length-take-le, length-drop, length-replicate}, Option.{none-some, same_Some}},
 }
@@ -55,22 +55,8 @@ route_decides a b = (
 
 routes_decide : (a b : Option Route)
     → (option_eq route_eq.it a b ≡ true) ↔ (option_map network_address a ≡ option_map network_address b)
-routes_decide None None = ((λ e. refl), (λ e. refl))
-routes_decide None (Some b) = ((λ e. absurd (false≢true e)), (λ e. absurd (none-some _ e)))
-routes_decide (Some a) None = ((λ e. absurd (false≢true e)), (λ e. absurd (none-some _ (sym e))))
-routes_decide (Some a) (Some b) =
-    let decides = route_decides a b in
-    ((λ e. ap Some (decides.0 e)), (λ e. decides.1 (same_Some _ _ e)))
+routes_decide = grind (arith, false≢true, none-some, route_decides, same_Some)
 
 -- peers are equal just where they are the same station
 pub peer_decides : (p q : Peer) → (peer_eq.it p q ≡ true) ↔ (station p ≡ station q)
-peer_decides p q =
-    let routes = routes_decide p.route q.route in (
-      (λ e.
-          let first = and_parts _ _ e in
-          let second = and_parts _ _ first.1 in
-          rw (eqb-true p.ip q.ip first.0, eqb-true p.port q.port second.0, routes.0 second.1) refl),
-      (λ e.
-          rw (eq-eqb p.ip q.ip (ap (λ s. s.ip) e), eq-eqb p.port q.port (ap (λ s. s.port) e))
-          (routes.1 (ap (λ s. s.route) e))),
-    )
+peer_decides = grind (arith, routes_decide, and_parts, eqb-true, eq-eqb)

@@ -107,17 +107,18 @@ read_fault body _ e =
 read_judge : IsJudge IsReadBody ReadFault read_of
 unfolding read_of reference_at
 read_judge = record {
-  takes = λ body r e. let a = and_then_ok _ _ _ e in let end = ended_ok _ _ _ a.2 in subst (IsReadBody _) end.1
-      (rw end.0 at (reference_takes _ _ a.1));
+  takes = λ body r e.
+      let a = and_then_ok _ _ _ e in
+      let end = ended_ok _ _ _ a.2 in
+      subst (IsReadBody _) end.1 (rw end.0 at (reference_takes _ _ a.1));
   again = read_again;
   fault = read_fault;
   range = λ body. absurd;
-  late = λ body reason h e. let b = h.2 in let s = from_front _ _ _ _ (reference_parameters _) b.whole b.spelled in inl
-      (ended_err _ _ _ (rw (
-        step_ok object_step (no_object 0) _ _ _ s.1,
-        step_ok (numbered_step 1) (no_number 1) _ _ _
-            s.2.1,
-      ) at e)).0;
+  late = λ body reason h e.
+      let b = h.2 in
+      let s = from_front _ _ _ _ (reference_parameters _) b.whole b.spelled in
+      inl (ended_err _ _ _
+      (rw (step_ok object_step (no_object 0) _ _ _ s.1, step_ok (numbered_step 1) (no_number 1) _ _ _ s.2.1) at e)).0;
   missing = λ body lacks. rw (reference_lacks _ lacks) refl;
   invalid = λ body. tt;
   unknown = λ body h. h;
@@ -169,8 +170,12 @@ value_there _ x = needs_ok _ _ x (λ empty. ap (enclosed_at 3) empty ∙ no_valu
 pub ack_is : (body : List ℕ) (a : Answer) → (ack_of body ≡ Some a) ↔ IsAckBody body a
 unfolding ack_of
 ack_is _ a = (
-  λ e. let a = and_then_ok _ _ _ (ok_found _ _ e) in let b = and_then_ok _ _ _ a.2 in let end = ended_ok _ _
-      _ b.2 in rw (← end.1) (value_takes _ _ _ _ [] _ [] a.1 (needs_takes _ _ _ b.1) end.0),
-  λ s. let t = value_again _ _
-      [] _ [] s in rw (t.2, step_ok value_step no_value _ _ _ t.3, t.4) refl,
+  λ e.
+      let a = and_then_ok _ _ _ (ok_found _ _ e) in
+      let b = and_then_ok _ _ _ a.2 in
+      let end = ended_ok _ _ _ b.2 in
+      rw (← end.1) (value_takes _ _ _ _ [] _ [] a.1 (needs_takes _ _ _ b.1) end.0),
+  λ s.
+      let t = value_again _ _ [] _ [] s in
+      rw (t.2, step_ok value_step no_value _ _ _ t.3, t.4) refl,
 )

@@ -102,8 +102,7 @@ module _ {A : Type 0} {IsWhole : List ℕ → A → Type 0} {HasFault : List ℕ
   rejected OutOfRange e = inl (judge.fault _ _ e, refl)
   rejected TooMany e =
       inr (
-        λ h. let two = one_reason _ _ _ (judge.range _ h) e in
-            cc,
+        λ h. let two = one_reason _ _ _ (judge.range _ h) e in cc,
         inl (judge.fault _ _ e, refl),
       )
   rejected MissingParameter e =

@@ -1,21 +1,14 @@
 -- Tags of one octet: of a number below 15, before at most four octets.
 use Rattle.std.proofs.{
-  Common.{◌≡◌, ℕ, ◌+◌, ◌*◌, ◌<◌, List, [], ◌∷◌, length, slice_index_or, sym, ap, ◌∙◌, arith},
+  Common.{◌≡◌, ℕ, ◌+◌, ◌*◌, ◌<◌, List, [], ◌∷◌, length, slice_index_or, sym, arith},
   lemmas.Bool.lt-ltb,
 }
-use Rattle.byteorder.specs.Endian.{big_bytes}
-use Rattle.bac_wire.specs.{
-  Tag.plain_tag,
-  Region.{opening_tag, closing_tag},
-  Datum.octet_count,
-  Parameter.{context_octets, number_octets},
-}
+use Rattle.bac_wire.specs.{Tag.plain_tag, Region.{opening_tag, closing_tag}, Parameter.{context_octets, number_octets}}
 
 pub short_context : (number : ℕ) (contents : List ℕ) → number < 15 → length contents < 5
     → context_octets number contents ≡ (16 * number + (8 + length contents)) ∷ contents
 unfolding plain_tag
-short_context _ contents low short =
-    rw (lt-ltb _ 15 low, lt-ltb _ 5 short) (ap (λ first. first ∷ contents) (omega arith))
+short_context = grind (arith, lt-ltb)
 
 -- four octets
 pub four_context : (number : ℕ) (contents : List ℕ) → number < 15 → length contents ≡ 4
@@ -26,14 +19,12 @@ four_context _ _ low four = cc
 
 -- a number in one octet
 pub one_number : (number n : ℕ) → number < 15 → n < 256 → number_octets number n ≡ (16 * number + 9) ∷ n ∷ []
-one_number _ n low one =
-    let contents : big_bytes (octet_count n) n ≡ n ∷ [] = search arith in
-    ap (context_octets _) contents ∙ short_context _ (n ∷ []) low (omega arith)
+one_number = grind (arith, short_context)
 
 pub opening_octet : (number : ℕ) → number < 15 → plain_tag (opening_tag number) ≡ (16 * number + 14) ∷ []
 unfolding plain_tag
-opening_octet _ low = rw (lt-ltb _ 15 low) (ap (λ first. first ∷ []) (omega arith))
+opening_octet = grind (arith, lt-ltb)
 
 pub closing_octet : (number : ℕ) → number < 15 → plain_tag (closing_tag number) ≡ (16 * number + 15) ∷ []
 unfolding plain_tag
-closing_octet _ low = rw (lt-ltb _ 15 low) (ap (λ first. first ∷ []) (omega arith))
+closing_octet = grind (arith, lt-ltb)

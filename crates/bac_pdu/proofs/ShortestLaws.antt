@@ -1,7 +1,7 @@
 -- What is written of a body spells it, no other spelling has fewer octets, and it is read back.
 use Rattle.std.{
   proofs.Common.{◌≡◌, ℕ, ◌+◌, ◌^◌, ◌<◌, ◌≤◌, List, [], ◌∷◌, ◌++◌, length, Option, Some, None, Ok, refl, sym, ap, subst},
-  proofs.{Common.{◌∙◌, append_assoc, arith}, lemmas.List.{append-nil, length-append}},
+  proofs.{Common.{append_assoc, arith}, lemmas.List.{append-nil, length-append}},
   specs.{Prelude.IfSome, List.{AllByRecursion, flat_map}},
 }
 use Rattle.byteorder.specs.{Endian.big_bytes, Numbers.big_from-lt}
@@ -22,7 +22,7 @@ use Rattle.bac_wire.proofs.{
 }
 use Rattle.bac_pdu.specs.{
   declared.discovery.WhoIs.WhoIs,
-  Parameter.{Parameter, object, numbered, value, IsParameter, SpellsParameter, plain_parameter},
+  Parameter.{Parameter, numbered, IsParameter, SpellsParameter, plain_parameter},
   Inner.{Parameter.{optional, optional_octets}, Discovery.HasLimits},
   Property.{Reference, Answer, Order, reference_parameters, answer_parameters, order_parameters, IsPriority},
   Property.{IsReadBody, IsAckBody, IsWriteBody, read_octets, ack_octets, write_octets},
@@ -50,8 +50,7 @@ plain_append (p ∷ ps) qs = cc (plain_append ps _, append_assoc _ _ _)
 optional_plain : (made : ℕ → Parameter) (number : ℕ) → ((n : ℕ) → plain_parameter (made n) ≡ number_octets number n)
     → (i : Option ℕ)
     → flat_map plain_parameter (optional made i) ≡ optional_octets number i
-optional_plain _ _ is None = refl
-optional_plain _ _ is (Some n) = append-nil _ ∙ is n
+optional_plain = grind (arith, append-nil)
 
 pub read_written : (r : Reference)
     → object_octets 0 r.object ++ (number_octets 1 r.property ++ optional_octets 2 r.index) ≡ read_octets r
@@ -69,13 +68,11 @@ write_written o = sym (cc (plain_append _ _, optional_plain _ 4 (λ n. refl) _))
 
 pub optional_is : (number : ℕ → Parameter) (i : Option ℕ) → ((n : ℕ) → n < 2 ^ 32 → IsParameter (number n))
     → IfSome i (λ n. n < 2 ^ 32) → AllByRecursion IsParameter (optional number i)
-optional_is _ None is h = tt
-optional_is _ (Some n) is h = (is n h, tt)
+optional_is = grind arith
 
 pub reference_known : (r : Reference) → IsIdentifier r.object → r.property < 2 ^ 32 → IfSome r.index (λ n. n < 2 ^ 32)
     → AllByRecursion IsParameter (reference_parameters r)
-reference_known r is fits index_fits =
-    (is, ((omega arith, fits), optional_is _ _ (λ n less. (omega arith, less)) index_fits))
+reference_known = grind (arith, optional_is)
 
 -- ---- a parameter
 
@@ -88,17 +85,7 @@ short_tag _ _ short = search arith
 context_least : (number : ℕ) (octets contents least : List ℕ) → AreOctets octets → SpellsContext number octets contents
     → length contents < 5
     → length least ≤ length contents → length (context_octets number least) ≤ length octets
-context_least number _ contents least fit s short le =
-    let tags = tag_least _ _ (ahead _ contents (search arith)) s.spelled in
-    let one = short_tag number _ short in
-    let other = short_tag number (length least) (omega arith) in
-    omega (
-      arith,
-      ap length s.whole,
-      length-append s.front contents,
-      length-append
-          (plain_tag (context_tag number (length least))) least,
-    )
+context_least = grind (arith, tag_least, ahead, short_tag, length-append)
 
 number_shortest : (number n : ℕ) (octets : List ℕ) → AreOctets octets → SpellsIn enumerated number octets n
     → length (number_octets number n) ≤ length octets
@@ -129,17 +116,8 @@ enclosed_shortest number region _ fit s =
 
 parameter_shortest : (p : Parameter) → IsParameter p → IsShortest SpellsParameter (plain_parameter p) p
 unfolding plain_parameter
-parameter_shortest (object id) h =
-    record {
-      spelled = object_spells 0 _ (omega arith) h;
-      shortest = object_shortest 0 _;
-    }
-parameter_shortest (numbered tag n) h = record { spelled = number_spells _ n h.0 h.1; shortest = number_shortest _ n }
-parameter_shortest (value region) h =
-    record {
-      spelled = enclosed_spells 3 _ (omega arith) h;
-      shortest = enclosed_shortest 3 _;
-    }
+parameter_shortest =
+    grind (arith, object_spells, object_shortest, number_spells, number_shortest, enclosed_spells, enclosed_shortest)
 
 -- ---- one after the other
 
@@ -159,10 +137,7 @@ module _ {A : Type 0} (Spells : List ℕ → A → Type 0) (plain : A → List �
 
   all_shortest : (xs : List A) → AllByRecursion Is xs
       → IsShortest (SpellsAll Spells) (flat_map plain xs) xs
-  all_shortest xs h = record {
-    spelled = whole_spell _ _ _ (λ x is. (each x is).spelled) _ h;
-    shortest = λ octets fit s. let all = all_least _ _ [] h fit s in omega arith;
-  }
+  all_shortest = grind (arith, whole_spell, all_least)
 
 parameters_shortest : (ps : List Parameter) → AllByRecursion IsParameter ps
     → IsShortest (SpellsAll SpellsParameter) (flat_map plain_parameter ps) ps
@@ -208,9 +183,9 @@ write_back o h urgent = write_again _ o (write_shortest o h urgent).spelled
 pub who_is_shortest : (w : WhoIs) → HasLimits w → IsShortest IsWhoIsBody (who_is_octets w) w
 unfolding plain_parameter
 who_is_shortest limits.All h = record { spelled = refl; shortest = λ other fit s. omega arith }
-who_is_shortest (limits.Range low high) h = let all = parameters_shortest (numbered 0 _ ∷ numbered 1 _ ∷ [])
-    ((omega arith, h.0), ((omega arith, h.1), tt)) in rw (← append-nil (number_octets 1 _))
-    (record { spelled = all.spelled; shortest = all.shortest })
+who_is_shortest (limits.Range low high) h =
+    let all = parameters_shortest (numbered 0 _ ∷ numbered 1 _ ∷ []) ((omega arith, h.0), ((omega arith, h.1), tt)) in
+    rw (← append-nil (number_octets 1 _)) (record { spelled = all.spelled; shortest = all.shortest })
 
 pub limits_back : (w : WhoIs) → HasLimits w → who_is_of (who_is_octets w) ≡ Some w
 limits_back w h = (who_is_is _ w).1 (who_is_shortest w h).spelled
@@ -283,9 +258,7 @@ urgent_is (Some n) h = omega arith
 
 pub order_known : (o : Order) → AllByRecursion IsParameter (reference_parameters o.reference) → IsRegion 32 o.value
     → IfSome o.priority IsPriority → AllByRecursion IsParameter (order_parameters o)
-order_known o named region urgent =
-    all_append _ (reference_parameters _) _ named
-    (region, optional_is _ _ (λ n fits. (omega arith, fits)) (urgent_is _ urgent))
+order_known = grind (arith, all_append, optional_is, urgent_is)
 
 -- what is written of an order
 pub order_is_written : (o : Order) → AllByRecursion IsParameter (reference_parameters o.reference) → IsRegion 32 o.value

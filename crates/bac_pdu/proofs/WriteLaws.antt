@@ -1,7 +1,7 @@
 -- Reading the body of a WriteProperty finds what it orders, or the first fault that it has.
 use Rattle.std.{
-  proofs.Common.{◌≡◌, ℕ, Bool, true, false, cond, List, [], ◌∷◌, ◌++◌, Option, Some, None, Result, Ok, Err, refl, ◌∙◌},
-  proofs.{Common.{arith, inl, inr}, lemmas.Bool.{false_from_ne_true, iff_false}},
+  proofs.Common.{◌≡◌, ℕ, Bool, true, false, cond, List, [], ◌∷◌, ◌++◌, Option, None, Result, Ok, Err, refl, ◌∙◌, arith},
+  proofs.{Common.{inl, inr}, lemmas.Bool.{false_from_ne_true, iff_false}},
   specs.Prelude.{◌↔◌, ◌⊎◌, IfSome},
 }
 use Rattle.bac_wire.{specs.{Front.SpellsAll, ParameterReading.enclosed_at}, proofs.ParameterLaws.no_number}
@@ -34,8 +34,7 @@ write_again_at _ o s =
     ) refl
 
 priority_is : (p : Option ℕ) → (is_priority p ≡ true) ↔ IfSome p IsPriority
-priority_is None = (λ e. tt, λ h. refl)
-priority_is (Some n) = (λ e. (grind arith, grind arith), λ h. grind arith)
+priority_is = grind arith
 
 pub write_again : (body : List ℕ) (o : Order) → IsWriteBody body o → write_of body ≡ Ok o
 write_again _ o s = write_again_at _ _ s.spelled ∙ rw ((priority_is _).1 s.urgent) refl
@@ -54,8 +53,7 @@ in_range false o x e = cc
 
 out_of_range : (b : Bool) (o : Order) (reason : RejectReason) → cond b (Ok o) (Err OutOfRange) ≡ Err reason
     → (b ≡ false) × (reason ≡ OutOfRange)
-out_of_range true o _ e = cc
-out_of_range false o _ e = (refl, cc)
+out_of_range = grind arith
 
 -- what was read, with nothing behind the priority
 order_takes : (body x v rest : List ℕ) (r : Reference) (p : Option ℕ) → reference_at body ≡ Ok (r, x)
@@ -86,8 +84,7 @@ write_more _ x v rest r named valued left =
     let some : rest ≡ [] → ⊥ = λ empty. left (cc (empty, no_number 4)) in (
       record { reference = r; value = v; priority = None },
       rest,
-      record
-          { front = t.0; spelled = record { spelled = t.1; urgent = tt }; whole = t.2 },
+      record { front = t.0; spelled = record { spelled = t.1; urgent = tt }; whole = t.2 },
       some,
     )
 
@@ -142,8 +139,7 @@ write_judge = record {
   late = write_late;
   missing = λ body h. elim h [
     | inl lacks ↦ rw (reference_lacks _ lacks) refl
-    | inr r ↦ rw
-        (reference_again _ _ [] r.1 (λ none. no_number 2)) refl
+    | inr r ↦ rw (reference_again _ _ [] r.1 (λ none. no_number 2)) refl
   ];
   invalid = λ body. tt;
   unknown = λ body h. h;
