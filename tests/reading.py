@@ -15,8 +15,8 @@ import shutil
 import sys
 import textwrap
 
-from sources import CLOSE, CRATES, DEFINITIONS, OPEN, PROBLEMS, SOURCES, TOKEN, USE
-from sources import closed, defined, match_bracket, public_calls, read_tree, uses_in
+from sources import CLOSE, CRATES, DEFINITIONS, OPEN, PROBLEMS, SOURCES, TOKEN
+from sources import closed, defined, match_bracket, public_calls, read_tree, uses_in, without_uses
 from tree import TOP, text_of
 
 FOLDER = "docs/reading"
@@ -229,7 +229,7 @@ def said_in(text):
 
 def unused_in_antt(path):
     text = re.sub(r"(?m)--.*$", "", text_of(path))
-    yield from unsaid(uses_in(text, ghost=False), said_in(USE.sub("", text)))
+    yield from unsaid(uses_in(text, ghost=False), said_in(without_uses(text)))
 
 
 def unused_in_source(path):

@@ -76,7 +76,6 @@ BINDER = re.compile("|".join(BINDERS), re.M)
 LABEL = re.compile(r"([{;]\s*)[^\s={;]+ =(?=\s)")  # a field, or an argument by its name
 
 
-USE = re.compile(r"(?ms)^ *(?:unfoldable )?(?:pub )?use [^\n{]*(?:\{.*?\}[^\n]*)?$")  # a use line of antt
 
 
 class Names(dict):
@@ -118,14 +117,24 @@ def say(needs, scopes, text, bound, pattern=""):
     return bound
 
 
+USED = r"(?:Rattle\.)?([^\s{;]+?)(?:\.(\{.*?\}))?(?: as ([\w◌]+))?;?$"  # the end of a use line, which may take several
+
+
 def uses_in(text, ghost):
-    """(module, names, alias, is public) of each use line: names are (name, its name here); a module has none."""
+    """(module, names, alias, is public) for each module of a use line: names are (name, its name here), or None."""
     start = r"ghost use" if ghost else r"(?:unfoldable )?(?:pub )?use"
-    line = rf"^ *({start}) (?:Rattle\.)?([^\s{{;]+?)(?:\.\{{(.*?)\}})?(?: as ([\w◌]+))?;?$"
-    for use in re.finditer(line, text, re.M | re.S):
-        brought = (" ".join(part.split()) for part in (use[3] or "").split(","))
-        names = None if use[3] is None else [tuple((one.split(" as ") * 2)[:2]) for one in brought if one]
-        yield use[2].replace("«", "").replace("»", ""), names, use[4], "pub " in use[1]
+    for use in re.finditer(rf"^ *({start}) {USED}", text, re.M | re.S):
+        path, modules = use[2].replace("«", "").replace("»", ""), {}
+        for one in leaves(f"{path}.{use[3]}") if use[3] else ():
+            name, _, here = one.partition(" as ")
+            module, _, name = name.rpartition(".")
+            modules.setdefault(module, []).append((name, here or name))
+        for module, names in modules.items() if use[3] else [(path, None)]:
+            yield module, names, use[4], "pub " in use[1]
+
+
+def without_uses(text):
+    return re.sub(rf"(?ms)^ *(?:unfoldable )?(?:pub )?use {USED}", "", text)
 
 
 def brought_in(text, ghost):
@@ -163,7 +172,7 @@ class Specs:
         self.items, self.constructors, self.names = {}, {}, brought_in(self.text, ghost=False)
         passed_on = ((module, names or ()) for module, names, _, public in uses_in(self.text, False) if public)
         self.passes_on = {here: (module, name) for module, names in passed_on for name, here in names}
-        for comment, modules, lines in list(self.blocks(USE.sub("", self.text))):
+        for comment, modules, lines in list(self.blocks(without_uses(self.text))):
             self.define(" ".join(comment), modules, lines)
 
     def blocks(self, text):
@@ -254,8 +263,7 @@ STD = NUMBERS | set("""Option Some None Result Ok Err Vec String Box Drop Copy C
     FnOnce FnMut Fn From Into Sized PartialEq Eq PartialOrd Ord Send Sync AsRef ToOwned TryFrom TryInto
     HostRuntime""".split())
 BRACED = ("struct", "enum", "trait", "impl", "mod")
-CLAUSE = re.compile(r"\b(requires|ensures|ghost)\*? ?(\w*):? $")
-IMPL = re.compile(r"⟦<([\w:]+)[^⟧]*? as (\w+)[^⟧]*>⟧\.(\w+)")
+CLAIMPL = re.compile(r"⟦<([\w:]+)[^⟧]*? as (\w+)[^⟧]*>⟧\.(\w+)")
 
 
 def blank(text, *patterns):

@@ -1,51 +1,50 @@
 -- Reading a parameter of ReadProperty or WriteProperty finds what its relation says.
 use Rattle.std.proofs.Common.{◌≡◌, ℕ, List, Option, Some, None, refl, ap, ◌∙◌}
-use Rattle.bac_wire.specs.Front.{IsReader, SpellsTo}
-use Rattle.bac_wire.specs.ParameterReading.{number_at, object_at, enclosed_at}
-use Rattle.bac_wire.proofs.ParameterLaws.{number_reader, object_reader, enclosed_reader, IsStep}
-use Rattle.bac_pdu.specs.Parameter.{Parameter, object, numbered, value, SpellsParameter}
-use Rattle.bac_pdu.specs.Inner.Parameter.{optional}
-use Rattle.bac_pdu.specs.PropertyReading.{or_none, optional_at}
+use Rattle.bac_wire.{
+  specs.{Front.{IsReader, SpellsTo}, ParameterReading.{number_at, object_at, enclosed_at}},
+  proofs.ParameterLaws.{number_reader, object_reader, enclosed_reader, IsStep},
+}
+use Rattle.bac_pdu.specs.{
+  Parameter.{Parameter, object, numbered, value, SpellsParameter},
+  Inner.Parameter.optional,
+  PropertyReading.{or_none, optional_at},
+}
 
 -- a reader of things of one kind, as a step of what reads such things among others
 pub reader_step : {A P : Type 0} {Spells : List ℕ → P → Type 0} {Kind : List ℕ → A → Type 0}
     {at : List ℕ → Option (A × List ℕ)} (made : A → P) → IsReader Kind at
     → ((front : List ℕ) (x : A) → Kind front x → Spells front (made x))
     → ((front : List ℕ) (x : A) → Spells front (made x) → Kind front x) → IsStep Spells made at
-reader_step {at = at} made reader to from = record {
-  takes = λ octets x rest e. let t = reader.takes octets x rest e in
-      record { front = t.front; spelled = to t.front x t.spelled; whole = t.whole };
-  again = λ octets x rest b. ap at b.whole ∙ reader.again b.front x rest (from b.front x b.spelled);
+reader_step {at} _ reader to from = record {
+  takes = λ octets x rest e. let t = reader.takes _ x _ e in
+      record { front = t.front; spelled = to _ x t.spelled; whole = t.whole };
+  again = λ octets x rest b. ap at b.whole ∙ reader.again _ x _ (from _ x b.spelled);
 }
 
 pub object_step : IsStep SpellsParameter object (object_at 0)
-object_step = reader_step object (object_reader 0) (λ front x s. s) (λ front x s. s)
+object_step = reader_step _ (object_reader 0) (λ front x s. s) (λ front x s. s)
 
 pub numbered_step : (number : ℕ) → IsStep SpellsParameter (numbered number) (number_at number)
-numbered_step number =
-    reader_step (numbered number) (number_reader number) (λ front x s. s) (λ front x s. s)
+numbered_step _ = reader_step _ (number_reader _) (λ front x s. s) (λ front x s. s)
 
 pub value_step : IsStep SpellsParameter value (enclosed_at 3)
-value_step = reader_step value (enclosed_reader 3) (λ front x s. s) (λ front x s. s)
+value_step = reader_step _ (enclosed_reader 3) (λ front x s. s) (λ front x s. s)
 
 -- ---- a number that may be there
 
-optional_begins_at : (number : ℕ) (made : ℕ → Parameter) → IsStep SpellsParameter made (number_at number)
-    → (octets : List ℕ) (read : Option (ℕ × List ℕ)) → number_at number octets ≡ read
-    → SpellsTo SpellsParameter octets (optional made (or_none octets read).0) (or_none octets read).1
-optional_begins_at number made step octets None e = refl
-optional_begins_at number made step octets (Some x) e = (x.1, step.takes octets x.0 x.1 e, refl)
+module _ (number : ℕ) (made : ℕ → Parameter) (step : IsStep SpellsParameter made (number_at number)) where
+  optional_begins_at : (octets : List ℕ) (read : Option (ℕ × List ℕ)) → number_at number octets ≡ read
+      → SpellsTo SpellsParameter octets (optional made (or_none octets read).0) (or_none octets read).1
+  optional_begins_at _ None e = refl
+  optional_begins_at _ (Some x) e = (x.1, step.takes _ _ _ e, refl)
 
--- what was read of a number that may be there is spelled
-pub optional_begins : (number : ℕ) (made : ℕ → Parameter) → IsStep SpellsParameter made (number_at number)
-    → (octets : List ℕ)
-    → SpellsTo SpellsParameter octets (optional made (optional_at number octets).0) (optional_at number octets).1
-optional_begins number made step octets = optional_begins_at number made step octets (number_at number octets) refl
+  -- what was read of a number that may be there is spelled
+  pub optional_begins : (octets : List ℕ)
+      → SpellsTo SpellsParameter octets (optional made (optional_at number octets).0) (optional_at number octets).1
+  optional_begins _ = optional_begins_at _ _ refl
 
-pub optional_read : (number : ℕ) (made : ℕ → Parameter) → IsStep SpellsParameter made (number_at number)
-    → (octets : List ℕ) (i : Option ℕ) (rest : List ℕ) → SpellsTo SpellsParameter octets (optional made i) rest
-    → (i ≡ None → number_at number rest ≡ None) → optional_at number octets ≡ (i, rest)
-optional_read number made step octets None rest s none =
-    rw (ap (number_at number) s ∙ none refl) (ap (λ (w : List ℕ). (None, w)) s)
-optional_read number made step octets (Some n) rest s none =
-    rw (step.again octets n s.0 s.1) (ap (λ (w : List ℕ). (Some n, w)) s.2)
+  pub optional_read : (octets : List ℕ) (i : Option ℕ) (rest : List ℕ)
+      → SpellsTo SpellsParameter octets (optional made i) rest
+      → (i ≡ None → number_at number rest ≡ None) → optional_at number octets ≡ (i, rest)
+  optional_read _ None _ s none = rw (ap (number_at _) s ∙ none refl) (cc)
+  optional_read _ (Some n) _ s none = rw (step.again _ n _ s.1) (cc)

@@ -1,17 +1,15 @@
 -- `==` on peers compares the stations.
-use Rattle.std.proofs.Common.{◌≡◌, ℕ, ◌-◌, true, List, ◌++◌, length, take, drop, Option, Some, None, refl, sym, ap, ◌∙◌}
-use Rattle.std.proofs.Common.{arith}
-use Rattle.std.specs.Prelude.{◌↔◌, replicate}
-use Rattle.std.specs.Option.{option_map, option_eq}
-use Rattle.std.specs.Cmp.Lexicographic.{bytes_decides}
-use Rattle.std.proofs.lemmas.Bool.{and_parts, eqb-true, eq-eqb, false≢true}
-use Rattle.std.proofs.lemmas.List.{take-append-drop, length-take-le, length-drop, length-replicate}
-use Rattle.std.proofs.lemmas.Option.{none-some, same_Some}
-use Rattle.bac_pdu.specs.declared.route.Route.{Route}
-use Rattle.bac_pdu.specs.declared.peer.Peer.{Peer}
-use Rattle.bac_pdu.specs.contracts.route.RoutePartialEq.TheImpl.{eq-value as route_eq}
-use Rattle.bac_pdu.specs.contracts.peer.PeerPartialEq.TheImpl.{eq-value as peer_eq}
-use Rattle.bac_pdu.specs.Peer.{NetworkAddress, network_address, station}
+use Rattle.std.proofs.{
+  Common.{◌≡◌, ℕ, ◌-◌, true, List, ◌++◌, length, take, drop, Option, refl, sym, ap, ◌∙◌, arith},
+  lemmas.Bool.{and_parts, eqb-true, eq-eqb, false≢true},
+  lemmas.{List.{take-append-drop, length-take-le, length-drop, length-replicate}, Option.{none-some, same_Some}},
+}
+use Rattle.std.specs.{Prelude.{◌↔◌, replicate}, Option.{option_map, option_eq}, Cmp.Lexicographic.bytes_decides}
+use Rattle.bac_pdu.specs.{
+  declared.{route.Route.Route, peer.Peer.Peer},
+  contracts.{route.RoutePartialEq.TheImpl.eq-value as route_eq, peer.PeerPartialEq.TheImpl.eq-value as peer_eq},
+  Peer.{NetworkAddress, network_address, station},
+}
 
 -- a route keeps its address in eight octets
 room : (r : Route) → length r.octets ≡ 8
@@ -37,8 +35,8 @@ same_octets a b e =
     let behind : drop a.count a.octets ≡ drop b.count b.octets = a.unused ∙ ap (λ (n : ℕ). replicate (8 - n) 0) count
     ∙ sym b.unused in (
       count,
-      sym (take-append-drop a.count a.octets) ∙ ap (λ (l : List ℕ). l ++ drop a.count a.octets) address
-          ∙ ap (λ (l : List ℕ). take b.count b.octets ++ l) behind ∙ take-append-drop b.count b.octets,
+      sym (take-append-drop _ _) ∙ ap (λ (l : List ℕ). l ++ drop a.count a.octets) address
+          ∙ ap (λ (l : List ℕ). take b.count b.octets ++ l) behind ∙ take-append-drop _ _,
     )
 
 -- routes are equal just where they lead to the same station
@@ -48,31 +46,17 @@ route_decides a b = (
       let first = and_parts _ _ e in
       let second = and_parts _ _ first.1 in
       let octets = (bytes_decides a.octets b.octets).0 second.1 in
-      rw (eqb-true a.network b.network first.0, eqb-true a.count b.count second.0, octets) refl),
+      rw (eqb-true _ _ first.0, eqb-true a.count b.count second.0, octets) refl),
   (λ e.
       let same = same_octets a b e in
-      rw (eq-eqb a.network b.network (ap (λ (n : NetworkAddress). n.network) e), eq-eqb a.count b.count same.0)
+      rw (eq-eqb _ b.network (ap (λ (n : NetworkAddress). n.network) e), eq-eqb a.count b.count same.0)
       ((bytes_decides a.octets b.octets).1 same.1)),
 )
 
 routes_decide : (a b : Option Route)
     → (option_eq route_eq.it a b ≡ true) ↔ (option_map network_address a ≡ option_map network_address b)
-routes_decide None None = ((λ e. refl), (λ e. refl))
-routes_decide None (Some b) = ((λ e. absurd (false≢true e)), (λ e. absurd (none-some (network_address b) e)))
-routes_decide (Some a) None = ((λ e. absurd (false≢true e)), (λ e. absurd (none-some (network_address a) (sym e))))
-routes_decide (Some a) (Some b) =
-    let decides = route_decides a b in
-    ((λ e. ap Some (decides.0 e)), (λ e. decides.1 (same_Some (network_address a) (network_address b) e)))
+routes_decide = grind (arith, false≢true, none-some, route_decides, same_Some)
 
 -- peers are equal just where they are the same station
 pub peer_decides : (p q : Peer) → (peer_eq.it p q ≡ true) ↔ (station p ≡ station q)
-peer_decides p q =
-    let routes = routes_decide p.route q.route in (
-      (λ e.
-          let first = and_parts _ _ e in
-          let second = and_parts _ _ first.1 in
-          rw (eqb-true p.ip q.ip first.0, eqb-true p.port q.port second.0, routes.0 second.1) refl),
-      (λ e.
-          rw (eq-eqb p.ip q.ip (ap (λ s. s.ip) e), eq-eqb p.port q.port (ap (λ s. s.port) e))
-          (routes.1 (ap (λ s. s.route) e))),
-    )
+peer_decides = grind (arith, routes_decide, and_parts, eqb-true, eq-eqb)

@@ -1,47 +1,48 @@
 -- Things that are spelled one after the other.
-use Rattle.std.proofs.Common.{◌≡◌, ℕ, List, [], ◌∷◌, ◌++◌, Some, refl, sym, ap, subst, ◌∙◌, append_assoc}
-use Rattle.std.specs.List.{AllByRecursion, flat_map}
-use Rattle.std.proofs.lemmas.List.{append-nil}
-use Rattle.std.proofs.lemmas.Option.{none-some}
+use Rattle.std.{
+  proofs.Common.{◌≡◌, ℕ, List, [], ◌∷◌, ◌++◌, Option, Some, refl, sym, ap, subst, ◌∙◌, append_assoc},
+  specs.List.{AllByRecursion, flat_map},
+  proofs.lemmas.{List.append-nil, Option.none-some},
+}
 use Rattle.bac_wire.specs.Front.{SpellsTo, SpellsAll}
 use Rattle.bac_pdu.specs.PropertyReading.{whole_of}
 
 -- ---- one after the other
 
-pub then_to : {A : Type 0} (Spells : List ℕ → A → Type 0) (octets mid rest : List ℕ) (xs ys : List A)
-    → SpellsTo Spells octets xs mid
-    → SpellsTo Spells mid ys rest → SpellsTo Spells octets (xs ++ ys) rest
-then_to Spells octets mid rest [] ys s t = subst (λ (w : List ℕ). SpellsTo Spells w ys rest) (sym s) t
-then_to Spells octets mid rest (x ∷ xs) ys s t = (s.0, s.1, then_to Spells s.0 mid rest xs ys s.2 t)
+module _ {A : Type 0} (Spells : List ℕ → A → Type 0) where
+  pub then_to : (octets mid rest : List ℕ) (xs ys : List A)
+      → SpellsTo Spells octets xs mid
+      → SpellsTo Spells mid ys rest → SpellsTo Spells octets (xs ++ ys) rest
+  then_to _ _ rest [] ys s t = subst (λ (w : List ℕ). SpellsTo Spells w ys rest) (sym s) t
+  then_to _ _ _ (x ∷ xs) ys s t = (s.0, s.1, then_to s.0 _ _ xs _ s.2 t)
 
-pub split_to : {A : Type 0} (Spells : List ℕ → A → Type 0) (octets rest : List ℕ) (xs ys : List A)
-    → SpellsTo Spells octets (xs ++ ys) rest
-    → (mid : List ℕ) × SpellsTo Spells octets xs mid × SpellsTo Spells mid ys rest
-split_to Spells octets rest [] ys s = (octets, refl, s)
-split_to Spells octets rest (x ∷ xs) ys s = let t = split_to Spells s.0 rest xs ys s.2 in (t.0, (s.0, s.1, t.1), t.2)
+  pub split_to : (octets rest : List ℕ) (xs ys : List A)
+      → SpellsTo Spells octets (xs ++ ys) rest
+      → (mid : List ℕ) × SpellsTo Spells octets xs mid × SpellsTo Spells mid ys rest
+  split_to octets _ [] ys s = (octets, refl, s)
+  split_to _ _ (x ∷ xs) ys s = let t = split_to s.0 _ xs _ s.2 in (t.0, (s.0, s.1, t.1), t.2)
 
--- what is spelled in front of a rest
-pub to_front : {A : Type 0} (Spells : List ℕ → A → Type 0) (octets rest : List ℕ) (xs : List A)
-    → SpellsTo Spells octets xs rest
-    → (front : List ℕ) × SpellsAll Spells front xs × (octets ≡ front ++ rest)
-to_front Spells octets rest [] s = ([], refl, s)
-to_front Spells octets rest (x ∷ xs) s =
-    let t = to_front Spells s.0 rest xs s.2 in (
-      s.1.front ++ t.0,
-      (t.0, record { front = s.1.front; spelled = s.1.spelled; whole = refl }, t.1),
-      s.1.whole
-          ∙ ap (λ (w : List ℕ). s.1.front ++ w) t.2 ∙ sym (append_assoc s.1.front t.0 rest),
-    )
+  -- what is spelled in front of a rest
+  pub to_front : (octets rest : List ℕ) (xs : List A)
+      → SpellsTo Spells octets xs rest
+      → (front : List ℕ) × SpellsAll Spells front xs × (octets ≡ front ++ rest)
+  to_front _ _ [] s = ([], refl, s)
+  to_front _ _ (x ∷ xs) s =
+      let t = to_front s.0 _ xs s.2 in (
+        s.1.front ++ t.0,
+        (t.0, record { front = s.1.front; spelled = s.1.spelled; whole = refl }, t.1),
+        s.1.whole ∙ ap (λ (w : List ℕ). s.1.front ++ w) t.2 ∙ sym (append_assoc _ t.0 _),
+      )
 
-pub from_front : {A : Type 0} (Spells : List ℕ → A → Type 0) (octets front rest : List ℕ) (xs : List A)
-    → octets ≡ front ++ rest → SpellsAll Spells front xs → SpellsTo Spells octets xs rest
-from_front Spells octets front rest [] e s = e ∙ ap (λ (w : List ℕ). w ++ rest) s
-from_front Spells octets front rest (x ∷ xs) e s =
-    let line = e ∙ ap (λ (w : List ℕ). w ++ rest) s.1.whole ∙ append_assoc s.1.front s.0 rest in (
-      s.0 ++ rest,
-      record { front = s.1.front; spelled = s.1.spelled; whole = line },
-      from_front Spells (s.0 ++ rest) s.0 rest xs refl s.2,
-    )
+  pub from_front : (octets front rest : List ℕ) (xs : List A)
+      → octets ≡ front ++ rest → SpellsAll Spells front xs → SpellsTo Spells octets xs rest
+  from_front _ _ rest [] e s = e ∙ ap (λ (w : List ℕ). w ++ rest) s
+  from_front _ front rest (x ∷ xs) e s =
+      let line = e ∙ ap (λ (w : List ℕ). w ++ rest) s.1.whole ∙ append_assoc _ s.0 _ in (
+        s.0 ++ rest,
+        record { front = s.1.front; spelled = s.1.spelled; whole = line },
+        from_front (s.0 ++ rest) s.0 _ xs refl s.2,
+      )
 
 -- ---- a whole body
 
@@ -52,20 +53,18 @@ whole_ended x y (a ∷ rest) e = absurd (none-some y e)
 
 -- ---- what is written
 
--- the spellings of these things, and then this rest
-pub all_spell : {A : Type 0} (Spells : List ℕ → A → Type 0) (plain : A → List ℕ) (Is : A → Type 0)
-    → ((x : A) → Is x → Spells (plain x) x)
-    → (xs : List A) (rest : List ℕ) → AllByRecursion Is xs → SpellsTo Spells (flat_map plain xs ++ rest) xs rest
-all_spell Spells plain Is spell [] rest h = refl
-all_spell Spells plain Is spell (x ∷ xs) rest h = (
-  flat_map plain xs ++ rest,
-  record { front = plain x; spelled = spell x h.0; whole = append_assoc (plain x) (flat_map plain xs) rest },
-  all_spell _ _ _ spell xs rest h.1,
-)
+module _ {A : Type 0} (Spells : List ℕ → A → Type 0) (plain : A → List ℕ) (Is : A → Type 0)
+    (spell : (x : A) → Is x → Spells (plain x) x) where
+  -- the spellings of these things, and then this rest
+  pub all_spell : (xs : List A) (rest : List ℕ) → AllByRecursion Is xs
+      → SpellsTo Spells (flat_map plain xs ++ rest) xs rest
+  all_spell [] _ h = refl
+  all_spell (x ∷ xs) rest h = (
+    flat_map _ xs ++ rest,
+    record { front = plain x; spelled = spell x h.0; whole = append_assoc _ _ rest },
+    all_spell xs rest h.1,
+  )
 
--- what is written of these things spells them
-pub whole_spell : {A : Type 0} (Spells : List ℕ → A → Type 0) (plain : A → List ℕ) (Is : A → Type 0)
-    → ((x : A) → Is x → Spells (plain x) x)
-    → (xs : List A) → AllByRecursion Is xs → SpellsAll Spells (flat_map plain xs) xs
-whole_spell Spells plain Is spell xs h =
-    subst (λ (w : List ℕ). SpellsTo Spells w xs []) (append-nil (flat_map plain xs)) (all_spell _ _ _ spell xs [] h)
+  -- what is written of these things spells them
+  pub whole_spell : (xs : List A) → AllByRecursion Is xs → SpellsAll Spells (flat_map plain xs) xs
+  whole_spell xs h = subst (λ (w : List ℕ). SpellsTo Spells w xs []) (append-nil _) (all_spell _ [] h)

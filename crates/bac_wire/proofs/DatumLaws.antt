@@ -1,51 +1,46 @@
 -- What the reader of values takes is spelled so, and what is spelled so is taken, whatever follows.
-use Rattle.std.proofs.Common.{◌≡◌, ℕ, zero, suc, ◌^◌, ◌/◌, ◌%◌, ◌<◌, ◌≤◌, Bool, true, false, cond, ltb, eqb, List, []}
-use Rattle.std.proofs.Common.{◌∷◌, ◌++◌, length, take, drop, Option, Some, None, refl, sym, ap, subst, ◌∙◌}
-use Rattle.std.proofs.Common.{append_assoc, arith, inl, inr}
+use Rattle.std.proofs.{
+  Common.{◌≡◌, ℕ, zero, suc, ◌^◌, ◌<◌, ◌≤◌, Bool, true, false, cond, ltb, eqb, List, [], ◌++◌, length, take, Option},
+  Common.{Some, refl, sym, ap, subst, ◌∙◌, append_assoc, arith, inl, inr},
+  lemmas.{Option.{same_Some, some_pair_parts, none-some, cond_some}, Grind.common_steps},
+  lemmas.Bool.{ltb-false, eqb-true, lt-ltb, le-ltb, eq-eqb, eqb-false},
+  lemmas.List.{length-append, take_at, drop_at, take-append-drop, nil_from_length, length-take-le},
+}
 use Rattle.std.specs.Option.{option_map}
-use Rattle.std.proofs.lemmas.Option.{same_Some, some_pair_parts, none-some, cond_some}
-use Rattle.std.proofs.lemmas.Grind.{common_steps}
-use Rattle.std.proofs.lemmas.Bool.{ltb-false, eqb-true, lt-ltb, le-ltb, eq-eqb, eqb-false}
-use Rattle.std.proofs.lemmas.List.{length-append, take_at, drop_at, take-append-drop, nil_from_length, length-take-le}
 use Rattle.byteorder.specs.Endian.{big_number, twos_complement}
-use Rattle.bac_wire.specs.declared.tag.Shape.{Shape}
-use Rattle.bac_wire.specs.declared.tag.Shape.TheVariants.{App}
-use Rattle.bac_wire.specs.Identifier.{Identifier, number_of, identifier_of}
-use Rattle.bac_wire.specs.Tag.{SpellsTag}
-use Rattle.bac_wire.specs.TagReading.{tag_at}
-use Rattle.bac_wire.specs.Datum.{Datum, null, boolean, unsigned, signed, real, double, octet_string, char_string}
-use Rattle.bac_wire.specs.Datum.{bit_string, enumerated, date, time, object, tag_number, StandsFor, shape_number}
-use Rattle.bac_wire.specs.Datum.{tag_before, Spells, IsSound}
-use Rattle.bac_wire.specs.DatumReading.{exactly, number_within, chars_of, bits_of, contents_of, boolean_of, behind_at}
-use Rattle.bac_wire.specs.DatumReading.{with_shape, value_at}
-use Rattle.bac_wire.proofs.Readers.{IsReader, Took, reader_of, found_at, chosen, unless, one_front}
-use Rattle.bac_wire.proofs.TagLaws.{bind_some, tag_reader}
+use Rattle.bac_wire.specs.{
+  declared.tag.{Shape.Shape, Shape.TheVariants.App},
+  Identifier.{Identifier, number_of, identifier_of},
+  Tag.SpellsTag,
+  Datum.{Datum, null, boolean, unsigned, signed, real, double, octet_string, bit_string, enumerated, date, time},
+  Datum.{object, tag_number, StandsFor, shape_number, tag_before, Spells, IsSound},
+  DatumReading.{exactly, number_within, chars_of, bits_of, contents_of, boolean_of, behind_at, with_shape, value_at},
+}
+use Rattle.bac_wire.proofs.{
+  Readers.{IsReader, Took, reader_of, found_at, chosen, unless, one_front},
+  TagLaws.{bind_some, tag_reader},
+}
 
 -- ---- the contents of a value are read again
 
 pub within_again : (most : ℕ) (contents : List ℕ) → 1 ≤ length contents → length contents ≤ most
     → number_within most contents ≡ Some (big_number (length contents) contents)
-within_again most contents low high = rw (lt-ltb 0 (length contents) low, le-ltb most (length contents) high) refl
+within_again _ _ low high = rw (lt-ltb 0 _ low, le-ltb _ _ high) refl
 
 pub same_identifier : (n : ℕ) (id : Identifier) → id.instance < 2 ^ 22 → n ≡ number_of id → identifier_of n ≡ id
-same_identifier n id low e =
-    let high_is : n / 2 ^ 22 ≡ id.kind = omega arith in
-    let low_is : n % 2 ^ 22 ≡ id.instance = omega arith in
-    rw (high_is, low_is) refl
+same_identifier = grind arith
 
 bits_again : (contents : List ℕ) (unused : ℕ) (x : List ℕ) → StandsFor contents (bit_string unused x)
     → bits_of contents ≡ Some (bit_string unused x)
-bits_again contents unused [] h = let none = h.1.empty refl in rw (h.0, eq-eqb unused 0 none) refl
-bits_again contents unused (b ∷ x) h = rw (h.0, le-ltb 7 unused h.1.most) refl
+bits_again = grind arith
 
 contents_again : (contents : List ℕ) (value : Datum) → (tag_number value ≡ 1 → ⊥) → StandsFor contents value
     → contents_of (tag_number value) contents ≡ Some value
 unfolding contents_of
-contents_again contents (boolean b) other h = absurd (other refl)
-contents_again contents (bit_string unused x) other h = bits_again contents unused x h
-contents_again contents (object id) other h =
-    rw (eq-eqb (length contents) 4 h.0, same_identifier (big_number 4 contents) id h.1 h.2) refl
-contents_again contents value other h = grind (arith, common_steps)
+contents_again _ (boolean b) other h = absurd (other refl)
+contents_again _ (bit_string unused x) _ h = bits_again _ _ x h
+contents_again _ (object id) other h = rw (eq-eqb _ 4 h.0, same_identifier _ _ h.1 h.2) refl
+contents_again _ _ other h = grind (arith, common_steps)
 
 -- ---- what is read are the contents of the value
 
@@ -55,113 +50,89 @@ Holding number contents value = (tag_number value ≡ number) × StandsFor conte
 
 pub within_takes : (most : ℕ) (contents : List ℕ) (n : ℕ) → number_within most contents ≡ Some n → (1 ≤ length contents)
     × (length contents ≤ most) × (n ≡ big_number (length contents) contents)
-within_takes most contents n e = (grind (arith, common_steps), grind (arith, common_steps), grind (arith, common_steps))
+within_takes = grind (arith, common_steps)
 
 -- the value under a function that was mapped
 mapped : {A B : Type 0} (f : A → B) (o : Option A) (y : B) → option_map f o ≡ Some y → (x : A) × (o ≡ Some x)
     × (f x ≡ y)
-mapped f None y e = absurd cc
-mapped f (Some x) y e = (x, refl, same_Some (f x) y e)
+mapped = grind arith
 
 number_takes : (number most : ℕ) (make : List ℕ → ℕ → Datum)
     → ((contents : List ℕ) (n : ℕ) → (1 ≤ length contents) × (length contents ≤ most)
     × (n ≡ big_number (length contents) contents) → Holding number contents (make contents n))
     → (contents : List ℕ) (value : Datum) → option_map (make contents) (number_within most contents) ≡ Some value
     → Holding number contents value
-number_takes number most make holds contents value e =
-    let m = mapped (make contents) (number_within most contents) value e in
-    rw (← m.2) (holds contents m.0 (within_takes most contents m.0 m.1))
+number_takes _ _ _ holds _ _ e =
+    let m = mapped _ _ _ e in
+    rw (← m.2) (holds _ _ (within_takes _ _ _ m.1))
 
 exact_takes : (number count : ℕ) (make : List ℕ → Datum)
     → ((contents : List ℕ) → length contents ≡ count → Holding number contents (make contents))
     → (contents : List ℕ) (value : Datum) → option_map make (exactly count contents) ≡ Some value
     → Holding number contents value
-exact_takes number count make holds contents value e =
-    let m = mapped make (exactly count contents) value e in
-    let taken = cond_some (eqb (length contents) count) contents m.0 m.1 in
-    rw (← m.2, ← taken.1) (holds contents (eqb-true (length contents) count taken.0))
+exact_takes = grind (arith, mapped, cond_some, eqb-true)
 
 chars_takes : (contents : List ℕ) (value : Datum) → chars_of contents ≡ Some value → Holding 7 contents value
-chars_takes [] value e = absurd cc
-chars_takes (set ∷ x) value e = rw (← same_Some (char_string set x) value e) (refl, refl)
+chars_takes = grind arith
 
 bits_takes : (contents : List ℕ) (value : Datum) → bits_of contents ≡ Some value → Holding 8 contents value
-bits_takes [] value e = absurd cc
-bits_takes (unused ∷ []) value e =
-    let t = cond_some (eqb unused 0) (bit_string unused []) value e in
-    let none = eqb-true unused 0 t.0 in
-    rw (← t.1) (refl, (refl, record { most = omega arith; empty = λ _. none }))
-bits_takes (unused ∷ b ∷ x) value e =
-    let t = unless (ltb 7 unused) e in
-    rw (← same_Some (bit_string unused (b ∷ x)) value t.1)
-    (refl, (refl, record { most = ltb-false 7 unused t.0; empty = λ empty. absurd cc }))
-
-object_holds : (contents : List ℕ) → length contents ≡ 4
-    → Holding 12 contents (object (identifier_of (big_number 4 contents)))
-object_holds contents e = (refl, (e, omega arith, omega arith))
+bits_takes = grind arith
 
 contents_take : (number : ℕ) (contents : List ℕ) (value : Datum) → contents_of number contents ≡ Some value
     → Holding number contents value
 unfolding contents_of
-contents_take zero contents value e = exact_takes 0 0 (λ _. null) (λ c h. (refl, nil_from_length c h)) contents value e
-contents_take (suc (suc zero)) contents value e =
-    number_takes 2 8 (λ c n. unsigned n) (λ c n h. (refl, h)) contents value e
-contents_take (suc (suc (suc zero))) contents value e =
-    number_takes 3 8 (λ c n. signed (twos_complement (length c) n))
-    (λ c n h. (refl, (h.0, h.1, ap (twos_complement (length c)) h.2))) contents value e
-contents_take (suc (suc (suc (suc zero)))) contents value e =
-    exact_takes 4 4 real (λ c h. (refl, (h, refl))) contents value e
-contents_take (suc (suc (suc (suc (suc zero))))) contents value e =
-    exact_takes 5 8 double (λ c h. (refl, (h, refl))) contents value e
-contents_take (suc (suc (suc (suc (suc (suc zero)))))) contents value e =
-    rw (← same_Some (octet_string contents) value e) (refl, refl)
-contents_take (suc (suc (suc (suc (suc (suc (suc zero))))))) contents value e = chars_takes contents value e
-contents_take (suc (suc (suc (suc (suc (suc (suc (suc zero)))))))) contents value e = bits_takes contents value e
-contents_take (suc (suc (suc (suc (suc (suc (suc (suc (suc zero))))))))) contents value e =
-    number_takes 9 4 (λ c n. enumerated n) (λ c n h. (refl, h)) contents value e
-contents_take (suc (suc (suc (suc (suc (suc (suc (suc (suc (suc zero)))))))))) contents value e =
-    exact_takes 10 4 date (λ c h. (refl, (h, refl))) contents value e
-contents_take (suc (suc (suc (suc (suc (suc (suc (suc (suc (suc (suc zero))))))))))) contents value e =
-    exact_takes 11 4 time (λ c h. (refl, (h, refl))) contents value e
-contents_take (suc (suc (suc (suc (suc (suc (suc (suc (suc (suc (suc (suc zero)))))))))))) contents value e =
-    exact_takes 12 4 (λ c. object (identifier_of (big_number 4 c))) object_holds contents value e
-contents_take number contents value e = absurd (none-some value (grind (arith, common_steps)))
+contents_take zero _ _ e = exact_takes 0 0 (λ _. null) (λ c h. (refl, nil_from_length c h)) _ _ e
+contents_take (suc (suc zero)) _ _ e = number_takes 2 8 (λ c n. unsigned n) (λ c n h. (refl, h)) _ _ e
+contents_take (suc (suc (suc zero))) _ _ e =
+    number_takes 3 8 (λ c n. signed _) (λ c n h. (refl, (h.0, h.1, ap (twos_complement _) h.2))) _ _ e
+contents_take (suc (suc (suc (suc zero)))) _ _ e = exact_takes 4 4 real (λ c h. (refl, (h, refl))) _ _ e
+contents_take (suc (suc (suc (suc (suc zero))))) _ _ e = exact_takes 5 8 double (λ c h. (refl, (h, refl))) _ _ e
+contents_take (suc (suc (suc (suc (suc (suc zero)))))) _ _ e = rw (← same_Some (octet_string _) _ e) (refl, refl)
+contents_take (suc (suc (suc (suc (suc (suc (suc zero))))))) _ _ e = chars_takes _ _ e
+contents_take (suc (suc (suc (suc (suc (suc (suc (suc zero)))))))) _ _ e = bits_takes _ _ e
+contents_take (suc (suc (suc (suc (suc (suc (suc (suc (suc zero))))))))) _ _ e =
+    number_takes 9 4 (λ c n. enumerated n) (λ c n h. (refl, h)) _ _ e
+contents_take (suc (suc (suc (suc (suc (suc (suc (suc (suc (suc zero)))))))))) _ _ e =
+    exact_takes 10 4 date (λ c h. (refl, (h, refl))) _ _ e
+contents_take (suc (suc (suc (suc (suc (suc (suc (suc (suc (suc (suc zero))))))))))) _ _ e =
+    exact_takes 11 4 time (λ c h. (refl, (h, refl))) _ _ e
+contents_take (suc (suc (suc (suc (suc (suc (suc (suc (suc (suc (suc (suc zero)))))))))))) contents _ e =
+    exact_takes 12 4 _ (λ contents e. (refl, (e, omega arith, omega arith))) _ _ e
+contents_take _ _ value e = absurd (none-some value (grind (arith, common_steps)))
 
 -- ---- a value
 
 shaped_again : (value : Datum) (contents rest : List ℕ) → StandsFor contents value
     → behind_at (tag_number value) (shape_number value (length contents)) (contents ++ rest) ≡ found_at value rest
-shaped_again (boolean true) contents rest h = rw h refl
-shaped_again (boolean false) contents rest h = rw h refl
+shaped_again (boolean true) _ _ h = rw h refl
+shaped_again (boolean false) _ _ h = rw h refl
 shaped_again value contents rest h =
     let long : ltb (length (contents ++ rest)) (length contents) ≡ false =
     le-ltb _ _ (omega (arith, length-append contents rest)) in
     rw (
       long,
-      take_at contents rest (length contents) refl,
-      drop_at contents rest (length contents) refl,
-      contents_again contents value (λ e. cc) h,
+      take_at _ _ _ refl,
+      drop_at _ _ _ refl,
+      contents_again _ value (λ e. cc) h,
     ) refl
 
 value_again : (front : List ℕ) (value : Datum) (rest : List ℕ) → Spells front value
     → value_at (front ++ rest) ≡ Some (value, rest)
 unfolding value_at
-value_again front value rest s =
+value_again _ _ rest s =
     let t = s.tagged in
-    let tag = tag_reader.again t.front (tag_before value (length s.contents)) (s.contents ++ rest) t.spelled in
-    let shaped = shaped_again value s.contents rest s.held in
-    rw (t.whole, append_assoc t.front s.contents rest, tag, shaped) refl
+    let tag = tag_reader.again _ _ (s.contents ++ rest) t.spelled in
+    let shaped = shaped_again _ _ rest s.held in
+    rw (t.whole, append_assoc _ _ _, tag, shaped) refl
 
 boolean_takes : (n : ℕ) (value : Datum) → boolean_of n ≡ Some value → (b : Bool) × (value ≡ boolean b)
     × (n ≡ cond b 1 0)
-boolean_takes zero value e = (false, sym (same_Some (boolean false) value e), refl)
-boolean_takes (suc zero) value e = (true, sym (same_Some (boolean true) value e), refl)
-boolean_takes n value e = absurd (none-some value (grind (arith, common_steps)))
+boolean_takes = grind arith
 
 -- the number in the tag of contents that hold a value of another kind
 shape_number_is : (value : Datum) (n : ℕ) → (tag_number value ≡ 1 → ⊥) → shape_number value n ≡ n
 shape_number_is (boolean b) n other = absurd (other refl)
-shape_number_is _ n other = refl
+shape_number_is _ n _ = refl
 
 -- contents behind a tag, and the value that they hold with it
 abbrev Behind : ℕ → ℕ → List ℕ → Datum → List ℕ → Type 0
@@ -173,54 +144,52 @@ behind_takes : (number n : ℕ) (after : List ℕ) (value : Datum) (rest : List 
 behind_takes number n after value rest e =
     elim (chosen (eqb number 1) _ _ _ e) [
       | inl here ↦
-          let bound = bind_some (boolean_of n) (λ v. Some (v, after)) (value, rest) here.1 in
-          let same = some_pair_parts bound.0 value after rest bound.2 in
-          let taken = boolean_takes n bound.0 bound.1 in
-          rw (sym same.0 ∙ taken.1) ([], sym (eqb-true number 1 here.0), sym taken.2, refl, same.1)
+          let bound = bind_some _ _ (value, rest) here.1 in
+          let same = some_pair_parts _ _ _ _ bound.2 in
+          let taken = boolean_takes n _ bound.1 in
+          rw (sym same.0 ∙ taken.1) ([], sym (eqb-true _ 1 here.0), sym taken.2, refl, same.1)
       | inr other ↦
-          let here = unless (ltb (length after) n) other.1 in
-          let bound = bind_some (contents_of number (take n after)) (λ v. Some (v, drop n after)) (value, rest)
-          here.1 in
-          let same = some_pair_parts bound.0 value (drop n after) rest bound.2 in
-          let taken = contents_take number (take n after) bound.0 bound.1 in
-          let long : length (take n after) ≡ n = length-take-le n after (ltb-false (length after) n here.0) in
-          let count = shape_number_is bound.0 (length (take n after))
-          (λ one. eqb-false number 1 other.0 (sym taken.0 ∙ one)) ∙ long in
-          let whole : after ≡ take n after ++ rest = sym (take-append-drop n after)
+          let here = unless _ other.1 in
+          let bound = bind_some _ _ (value, rest) here.1 in
+          let same = some_pair_parts _ _ _ _ bound.2 in
+          let taken = contents_take _ _ _ bound.1 in
+          let long : length (take n after) ≡ n = length-take-le n _ (ltb-false _ n here.0) in
+          let count = shape_number_is _ _ (λ one. eqb-false _ 1 other.0 (sym taken.0 ∙ one)) ∙ long in
+          let whole : after ≡ take n after ++ rest = sym (take-append-drop n _)
           ∙ ap (λ (w : List ℕ). take n after ++ w) same.1 in
-          rw (← same.0) (take n after, taken.0, count, taken.1, whole)
+          rw (← same.0) (take n _, taken.0, count, taken.1, whole)
     ]
 
 shape_takes : (number : ℕ) (shape : Shape) (tag after : List ℕ) (value : Datum) (rest : List ℕ)
     → SpellsTag tag (record { number = number; shape = shape })
     → with_shape (record { number = number; shape = shape }) shape after ≡ found_at value rest
     → Took Spells (tag ++ after) value rest
-shape_takes number (App n) tag after value rest s e =
-    let taken = behind_takes number n after value rest e in
+shape_takes _ (App n) tag _ value _ s e =
+    let taken = behind_takes _ n _ _ _ e in
     let tagged : SpellsTag tag (tag_before value (length taken.0)) = rw (taken.1, taken.2) s in (
       tag ++ taken.0,
       record { contents = taken.0; tagged = record { front = tag; spelled = tagged; whole = refl }; held = taken.3 },
-      ap (λ (w : List ℕ). tag ++ w) taken.4 ∙ sym (append_assoc tag taken.0 rest),
+      ap (λ (w : List ℕ). tag ++ w) taken.4 ∙ sym (append_assoc tag _ _),
     )
-shape_takes number _ tag after value rest s e = absurd cc
+shape_takes _ _ _ _ _ _ s e = absurd cc
 
 value_takes : (spelling : List ℕ) (value : Datum) (rest : List ℕ) → value_at spelling ≡ found_at value rest
     → Took Spells spelling value rest
 unfolding value_at
-value_takes spelling value rest e =
-    let bound = bind_some (tag_at spelling) (λ tag. with_shape tag.0 tag.0.shape tag.1) (value, rest) e in
-    let first = tag_reader.takes spelling bound.0.0 bound.0.1 bound.1 in
-    let taken = shape_takes bound.0.0.number bound.0.0.shape first.front bound.0.1 value rest first.spelled bound.2 in
+value_takes _ value rest e =
+    let bound = bind_some _ _ (value, rest) e in
+    let first = tag_reader.takes _ _ _ bound.1 in
+    let taken = shape_takes _ _ _ _ _ _ first.spelled bound.2 in
     subst (λ (w : List ℕ). Took Spells w value rest) (sym first.whole) taken
 
 pub value_reader : IsReader Spells value_at
-value_reader = reader_of Spells value_at value_takes value_again
+value_reader = reader_of _ _ value_takes value_again
 
 -- no spelling of a value begins another
 pub one_value : (a b u v : List ℕ) (x y : Datum) → Spells a x → Spells b y → a ++ u ≡ b ++ v → (a ≡ b) × (x ≡ y)
-one_value = one_front Spells value_at value_reader
+one_value = one_front _ _ value_reader
 
 -- what contents stand for is sound
 pub held_sound : (contents : List ℕ) (value : Datum) → StandsFor contents value → IsSound value
-held_sound contents (bit_string unused x) h = h.1
-held_sound contents _ h = tt
+held_sound _ (bit_string unused x) h = h.1
+held_sound _ _ h = tt

@@ -1,130 +1,112 @@
 -- Whole items leave one rest, no item begins another, a region is no deeper than allowed, and what reads items finds
 -- what the relations say.
-use Rattle.std.proofs.Common.{◌≡◌, ℕ, zero, suc, ◌+◌, ◌-◌, ◌<◌, ◌≤◌, List, [], ◌∷◌, ◌++◌, length, take, drop}
-use Rattle.std.proofs.Common.{Option, Some, None, refl, sym, ap, subst, ◌∙◌, append_assoc, arith, inl, inr, ◌↔◌}
+use Rattle.std.proofs.{
+  Common.{◌≡◌, ℕ, suc, ◌+◌, ◌-◌, ◌<◌, ◌≤◌, List, [], ◌∷◌, ◌++◌, length, take, drop, Option, Some, None, refl, sym, ap},
+  Common.{subst, ◌∙◌, append_assoc, arith, inl, ◌↔◌},
+  lemmas.List.{append_cancel_left, append_cancel_right, append-nil, drop_at, length-take-le},
+  lemmas.Option.{none-some, some_pair_parts, same_Some},
+}
 use Rattle.std.specs.Option.{option_map}
-use Rattle.std.proofs.lemmas.List.{append_cancel_left, append_cancel_right, append-nil, drop_at, length-take-le}
-use Rattle.std.proofs.lemmas.Option.{none-some, some_pair_parts, same_Some}
-use Rattle.bac_wire.specs.declared.tag.Shape.{Shape}
-use Rattle.bac_wire.specs.declared.tag.Shape.TheVariants.{Opening, Closing}
-use Rattle.bac_wire.specs.declared.tag.Tag.{Tag}
-use Rattle.bac_wire.specs.Inner.Front.{Finds}
-use Rattle.bac_wire.specs.Tag.{SpellsTag}
-use Rattle.bac_wire.specs.Steps.{◌>>=◌}
-use Rattle.bac_wire.specs.TagReading.{tag_at}
-use Rattle.bac_wire.specs.Region.{opening_tag, closing_tag, IsSequence, none, more, IsItem, IsRegion, HasEnded}
-use Rattle.bac_wire.specs.Region.{LeavesRest, IsClosedRegion, FindsRegion, SpellsClosed, Opens, here, past, into}
-use Rattle.bac_wire.specs.Inner.Region.{CountsBehind, LeavesBehind}
-use Rattle.bac_wire.specs.ItemReading.{behind_count, behind_closing, behind_item, behind_items, region_at}
-use Rattle.bac_wire.proofs.Readers.{IsReader, found_at, take_front}
-use Rattle.bac_wire.proofs.TagLaws.{tag_reader, bind_some}
-use Rattle.bac_wire.proofs.RegionReading.{no_octets, closing_read, after_shorter, item_shorter, item_at}
-use Rattle.bac_wire.proofs.RegionReading.{one_step, closed_takes, closed_again, item_at_takes, items_take, item_again}
-use Rattle.bac_wire.proofs.RegionReading.{items_again, IsClosedBy}
+use Rattle.bac_wire.specs.{
+  declared.tag.{Shape.Shape, Shape.TheVariants.{Opening, Closing}, Tag.Tag},
+  Inner.{Front.Finds, Region.{CountsBehind, LeavesBehind}},
+  Tag.SpellsTag,
+  Steps.◌>>=◌,
+  TagReading.tag_at,
+  Region.{opening_tag, closing_tag, IsSequence, none, more, IsItem, IsRegion, HasEnded, LeavesRest, IsClosedRegion},
+  Region.{FindsRegion, SpellsClosed, Opens, here, past, into},
+  ItemReading.{behind_count, behind_closing, behind_item, behind_items, region_at},
+}
+use Rattle.bac_wire.proofs.{
+  Readers.{IsReader, found_at, take_front},
+  TagLaws.{tag_reader, bind_some},
+  RegionReading.{closing_read, after_shorter, item_shorter, item_at, one_step, closed_takes, closed_again},
+  RegionReading.{item_at_takes, items_take, item_again, items_again, IsClosedBy},
+}
 
 -- ---- one rest, and one item
 
 left_again : (count depth top : ℕ) (octets rest : List ℕ) → depth ≤ top → length octets < count
     → LeavesRest depth octets rest → behind_items count top octets ≡ Some rest
-left_again count depth top octets rest le short l = grind (arith, items_again)
+left_again = grind (arith, items_again)
 
 -- whole items leave one rest, whatever depth is allowed
 pub one_left : (depth other : ℕ) (octets rest another : List ℕ) → LeavesRest depth octets rest
     → LeavesRest other octets another → rest ≡ another
-one_left depth other octets rest another l m =
+one_left depth other octets rest _ l m =
     let count = suc (length octets) in
-    same_Some rest another
-    (sym (left_again count depth (depth + other) octets rest (omega arith) (omega arith) l)
-    ∙ left_again count other (depth + other) octets another (omega arith) (omega arith) m)
+    same_Some rest _ (sym (left_again count depth _ _ rest (omega arith) (omega arith) l)
+    ∙ left_again count other (depth + other) _ _ (omega arith) (omega arith) m)
 
 pub region_leaves : (depth number : ℕ) (octets front : List ℕ) (r : IsClosedRegion depth number octets front)
     → LeavesRest depth octets r.behind
-region_leaves depth number octets front r = grind arith
+region_leaves = grind arith
 
 -- an item in front of a rest is read, where as many octets are allowed
 pub item_read : (count depth top : ℕ) (octets item rest : List ℕ) → depth ≤ top → length octets < suc count
     → IsItem depth item
     → octets ≡ item ++ rest → item_at (behind_items count) top octets ≡ Some rest
-item_read count depth top octets item rest le short i e = ap (item_at (behind_items count) top) e
-    ∙ item_again (behind_items count) count depth top item rest (items_again count) le (rw e at short) i
+item_read _ _ top _ _ _ le short i e = ap (item_at _ top) e
+    ∙ item_again _ _ _ _ _ _ (items_again _) le (rw e at short) i
 
 -- no item begins another, whatever depth is allowed to either
 pub one_item : (depth other : ℕ) (a b u v : List ℕ) → IsItem depth a → IsItem other b → a ++ u ≡ b ++ v → a ≡ b
 one_item depth other a b u v i j e =
     let count = length (a ++ u) in
-    let first = item_read count depth (depth + other) (a ++ u) a u (omega arith) (omega arith) i refl in
+    let first = item_read _ depth _ _ a u (omega arith) (omega arith) i refl in
     let same = same_Some u v
-    (sym first ∙ item_read count other (depth + other) (a ++ u) b v (omega arith) (omega arith) j e) in
+    (sym first ∙ item_read count other (depth + other) _ b v (omega arith) (omega arith) j e) in
     append_cancel_right a b v (ap (λ (w : List ℕ). a ++ w) (sym same) ∙ e)
 
 -- no item stands where the items have ended, and none begins with a closing tag
 pub item_ended : (depth : ℕ) (octets item rest : List ℕ) → HasEnded octets → IsItem depth item → octets ≡ item ++ rest
     → ⊥
-item_ended depth octets item rest ended i e = grind arith
+item_ended = grind arith
 
 pub item_opens : (depth number : ℕ) (item closing u v : List ℕ) → IsItem depth item
     → SpellsTag closing (closing_tag number) → item ++ u ≡ closing ++ v → ⊥
-item_opens depth number item closing u v i s e = grind arith
+item_opens = grind arith
 
 -- ---- one region, and how deep it is
 
 pub one_region : (depth other number another : ℕ) (octets a b : List ℕ) → IsClosedRegion depth number octets a
     → IsClosedRegion other another octets b → (a ≡ b) × (number ≡ another)
-one_region depth other number another octets a b r s =
-    let same = one_left depth other octets r.behind s.behind (region_leaves _ _ _ a r) (region_leaves _ _ _ b s) in
-    let tags = some_pair_parts (closing_tag number) (closing_tag another) r.rest s.rest
+one_region _ _ number _ _ a b r s =
+    let same = one_left _ _ _ _ _ (region_leaves _ _ _ a r) (region_leaves _ _ _ b s) in
+    let tags = some_pair_parts _ _ _ _
     (sym (closing_read _ _ _ r.closed) ∙ ap tag_at same ∙ closing_read _ _ _ s.closed) in
     (grind (arith, append_cancel_right), ap (λ t. t.number) tags.0)
-
--- items have not ended where an opening tag stands
-no_ended_opening : (octets : List ℕ) (number : ℕ) (after : List ℕ) → tag_at octets ≡ Some (opening_tag number, after)
-    → HasEnded octets → ⊥
-no_ended_opening octets number after e ended = elim ended [
-  | inl empty ↦ none-some (opening_tag number, after) (sym (ap tag_at empty ∙ no_octets) ∙ e)
-  | inr closed ↦
-      let tags = some_pair_parts (opening_tag number) (closing_tag closed.0) _ _
-      (sym e ∙ closing_read _ _ _ closed.2) in
-      let shapes : ◌≡◌ {A = Shape} Opening Closing = ap (λ t. t.shape) tags.0 in
-      absurd cc
-]
 
 -- the items inside of an item
 inside_of : (count depth number : ℕ) (after next : List ℕ)
     → behind_item (behind_items count) depth (opening_tag number) Opening after ≡ Some next
     → (below : ℕ) × (depth ≡ suc below) × (mid : List ℕ) × LeavesRest below after mid
-inside_of count zero number after next e = cc
-inside_of count (suc depth) number after next e =
-    let a = bind_some (behind_items count depth after) _ next e in
-    (depth, refl, a.0, items_take count depth after a.0 a.1)
+inside_of = grind (arith, bind_some, items_take)
 
 opens_within : (depth count : ℕ) (front region tail rest : List ℕ) → Opens count front
     → IsSequence (IsItem depth) region → HasEnded tail → region ++ tail ≡ front ++ rest → count ≤ depth
-opens_within depth count front region tail rest here s ended e = omega arith
-opens_within depth count front region tail rest (past {rest = others} other item i o) none ended e =
+opens_within _ _ _ _ _ _ here s ended e = omega arith
+opens_within _ _ _ _ tail rest (past {rest = others} other item i o) none ended e =
     absurd (item_ended other tail item _ ended i (e ∙ append_assoc item _ rest))
-opens_within depth count front region tail rest (past {rest = others} other item i o) (more {first} {rest = after} j s)
-    ended e =
+opens_within depth count _ _ tail rest (past {rest = others} other item i o) (more {first} {rest = after} j s) ended e =
     let line : first ++ (after ++ tail) ≡ item ++ (others ++ rest) = grind (arith, append_assoc) in
     let same = one_item depth other first item _ _ j i line in
-    let next = append_cancel_left first (after ++ tail) (others ++ rest)
-    (line ∙ ap (λ w. w ++ (others ++ rest)) (sym same)) in
-    opens_within depth count others after tail rest o s ended next
-opens_within depth count front region tail rest (into {opening} {rest = others} number t o) none ended e =
-    grind arith
-opens_within depth count front region tail rest (into {count = fewer} {opening} {rest = others} number t o)
+    let next = append_cancel_left first _ _ (line ∙ ap (λ w. w ++ (others ++ rest)) (sym same)) in
+    opens_within depth count _ after tail rest o s ended next
+opens_within _ _ _ _ _ _ (into {opening} {rest = others} number t o) none ended e = grind arith
+opens_within depth _ _ region tail rest (into {count = fewer} {opening} {rest = others} number t o)
     (more {first} {rest = after} j s) ended e =
-    let octets = opening ++ (others ++ rest) in
+    let octets = opening ++ _ in
     let line : octets ≡ first ++ (after ++ tail) =
-    sym (sym (append_assoc first after tail) ∙ e ∙ append_assoc opening others rest) in
+    sym (sym (append_assoc first after tail) ∙ e ∙ append_assoc _ others rest) in
     let read = item_read (length octets) depth depth octets first _ (omega arith) (omega arith) j line in
     let inside = inside_of _ depth number _ _ (rw (tag_reader.again _ _ _ t) at read) in
-    let within = opens_within inside.0 fewer others inside.3.front inside.2 rest o inside.3.region inside.3.ended cc in
+    let within = opens_within inside.0 fewer others _ _ rest o inside.3.region inside.3.ended cc in
     omega arith
 
 pub nesting : (depth count : ℕ) (octets front rest : List ℕ) → IsRegion depth octets → Opens count front
     → octets ≡ front ++ rest → count ≤ depth
-nesting depth count octets front rest r o e =
-    opens_within depth count front octets [] rest o r (inl refl) (append-nil octets ∙ e)
+nesting _ _ _ _ _ r o e = opens_within _ _ _ _ [] _ o r (inl refl) (append-nil _ ∙ e)
 
 -- ---- what is read is what is found
 
@@ -134,55 +116,48 @@ pub record Reads (IsRest : List ℕ → Type 0) (read : Option (List ℕ)) : Typ
   pub again : (rest : List ℕ) → IsRest rest → read ≡ Some rest
 
 pub finds_by : {IsRest : List ℕ → Type 0} (read : Option (List ℕ)) → Reads IsRest read → Finds IsRest read
-finds_by None reads = λ rest is. none-some rest (reads.again rest is)
-finds_by (Some rest) reads = reads.takes rest refl
+finds_by = grind arith
 
 pub found_by : {IsRest : List ℕ → Type 0} (read found : Option (List ℕ)) → Reads IsRest read → Finds IsRest found
     → read ≡ found
-found_by None None reads finds = refl
-found_by (Some rest) None reads finds = absurd (finds rest (reads.takes rest refl))
-found_by read (Some rest) reads finds = reads.again rest finds
+found_by None None _ _ = refl
+found_by (Some rest) None reads finds = absurd (finds _ (reads.takes _ refl))
+found_by _ (Some rest) reads finds = reads.again _ finds
 
 pub closing_reads : (number : ℕ) (octets : List ℕ) → Reads (IsClosedBy number octets) (behind_closing number octets)
-closing_reads number octets = search (arith, closed_takes, closed_again)
+closing_reads = search (arith, closed_takes, closed_again)
 
 pub count_reads : (count : ℕ) (octets : List ℕ) → Reads (CountsBehind count octets) (behind_count count octets)
-count_reads count octets = grind arith
+count_reads = grind arith
 
 item_reads : (count depth : ℕ) (octets : List ℕ) → length octets < suc count
     → Reads (LeavesBehind depth octets) (item_at (behind_items count) depth octets)
-item_reads count depth octets short = record {
-  takes = λ rest e. item_at_takes _ _ _ rest (items_take count) e;
-  again = λ rest l. item_read count depth depth octets l.front rest (omega arith) short l.item l.whole;
-}
+item_reads = grind (arith, item_at_takes, items_take, item_read)
 
 items_read : (count depth : ℕ) (octets : List ℕ) → length octets < count
     → Reads (LeavesRest depth octets) (behind_items count depth octets)
-items_read count depth octets short = record {
-  takes = items_take count depth octets;
-  again = λ rest l. left_again count depth depth octets rest (omega arith) short l;
+items_read _ _ _ short = record {
+  takes = items_take _ _ _;
+  again = λ rest l. left_again _ _ _ _ _ (omega arith) short l;
 }
 
 -- the function and the relation say the same
 pub items_is : (depth : ℕ) (octets rest : List ℕ)
     → (behind_items (length octets + 1) depth octets ≡ Some rest) ↔ LeavesRest depth octets rest
-items_is depth octets rest =
-    let reads = items_read (length octets + 1) depth octets (omega arith) in
-    (reads.takes rest, reads.again rest)
+items_is _ _ _ =
+    let reads = items_read _ _ _ (omega arith) in
+    (reads.takes _, reads.again _)
 
 pub whole_region : (depth : ℕ) (octets rest : List ℕ) → LeavesRest depth octets rest → rest ≡ [] → IsRegion depth octets
-whole_region depth octets rest l e = grind (arith, append-nil)
+whole_region = grind (arith, append-nil)
 
 pub region_whole : (depth : ℕ) (octets : List ℕ) → IsRegion depth octets → LeavesRest depth octets []
-region_whole depth octets r = grind (arith, append-nil)
+region_whole = grind (arith, append-nil)
 
 -- a region leaves nothing
 pub whole_is : (depth : ℕ) (octets : List ℕ)
     → (behind_items (length octets + 1) depth octets ≡ Some []) ↔ IsRegion depth octets
-whole_is depth octets = (
-  λ e. whole_region depth octets [] ((items_is depth octets []).0 e) refl,
-  λ r. (items_is depth octets []).1 (region_whole depth octets r),
-)
+whole_is = grind (arith, whole_region, items_is, region_whole)
 
 -- ---- the items of the code
 
@@ -192,51 +167,47 @@ rest_of depth octets = behind_items (suc (length octets)) depth octets
 
 pub rest_found : (depth : ℕ) (octets : List ℕ) (found : Option (List ℕ)) → rest_of depth octets ≡ found
     → Finds (LeavesRest depth octets) found
-rest_found depth octets found e = grind (arith, finds_by, items_read)
+rest_found = grind (arith, finds_by, items_read)
 
 -- no tag, and so no rest
 pub rest_none : (depth : ℕ) (octets : List ℕ) → None ≡ tag_at octets → (octets ≡ [] → ⊥) → rest_of depth octets ≡ None
 unfolding behind_items
-rest_none depth [] e some = absurd (some refl)
-rest_none depth (x ∷ xs) e some = cc
+rest_none _ [] e some = absurd (some refl)
+rest_none _ (x ∷ xs) e some = cc
 
 pub behind_shorter : (depth : ℕ) (octets rest : List ℕ) → LeavesBehind depth octets rest → length rest < length octets
-behind_shorter depth octets rest l = rw l.whole (item_shorter _ _ rest l.item)
+behind_shorter _ _ _ l = rw l.whole (item_shorter _ _ _ l.item)
 
 -- an item was found, or none
 pub rest_step : (depth : ℕ) (octets : List ℕ) (tag : Tag) (after : List ℕ) (found : Option (List ℕ))
     → found_at tag after ≡ tag_at octets
     → (tag.shape ≡ Closing → ⊥) → Finds (LeavesBehind depth octets) found
     → rest_of depth octets ≡ (found >>= rest_of depth)
-rest_step depth octets tag after None e going finds =
-    one_step _ _ _ tag _ (sym e) going
-    ∙ rw (found_by _ None (item_reads (length octets) depth octets (omega arith)) finds) refl
-rest_step depth octets tag after (Some next) e going finds =
-    let reads = items_read (length octets) depth next (behind_shorter depth octets next finds) in
-    one_step _ _ _ tag _ (sym e) going
-    ∙ rw (found_by _ (Some next) (item_reads (length octets) depth octets (omega arith)) finds)
-    (found_by _ _ reads (rest_found depth next _ refl))
+rest_step _ octets _ _ None e going finds =
+    one_step _ _ _ _ _ (sym e) going ∙ rw (found_by _ None (item_reads (length octets) _ _ (omega arith)) finds) refl
+rest_step _ octets _ _ (Some next) e going finds =
+    let reads = items_read _ _ _ (behind_shorter _ _ _ finds) in
+    one_step _ _ _ _ _ (sym e) going ∙ rw (found_by _ (Some _) (item_reads (length octets) _ _ (omega arith)) finds)
+    (found_by _ _ reads (rest_found _ _ _ refl))
 
 -- what the tag leaves, as it is read
 pub item_found : (depth : ℕ) (octets : List ℕ) (tag : Tag) (shape : Shape) (after : List ℕ) (found : Option (List ℕ))
     → found_at tag after ≡ tag_at octets → tag.shape ≡ shape
     → behind_item (behind_items (length octets)) depth tag shape after ≡ found
     → Finds (LeavesBehind depth octets) found
-item_found depth octets tag shape after found e is f =
+item_found depth octets tag _ after found e is f =
     let here = subst (λ s. behind_item (behind_items (length octets)) depth tag s after ≡ found) (sym is) f in
     let read : item_at (behind_items (length octets)) depth octets ≡ found = cc in
-    subst (Finds (LeavesBehind depth octets)) read
-    (finds_by _ (item_reads (length octets) depth octets (omega arith)))
+    subst (Finds _) read (finds_by _ (item_reads (length octets) depth octets (omega arith)))
 
 -- the items inside of an item were found, or none
 pub opening_found : (depth below : ℕ) (octets : List ℕ) (tag : Tag) (after : List ℕ) (inside found : Option (List ℕ))
     → depth ≡ suc below
     → found_at tag after ≡ tag_at octets → tag.shape ≡ Opening → Finds (LeavesRest below after) inside
     → (inside >>= behind_closing tag.number) ≡ found → Finds (LeavesBehind depth octets) found
-opening_found depth below octets tag after inside found deeper e is finds f =
-    let within = found_by _ inside
-    (items_read (length octets) below after (after_shorter octets tag after (sym e))) finds in
-    item_found depth octets tag Opening after found e is cc
+opening_found _ _ _ _ _ _ _ deeper e is finds f =
+    let within = found_by _ _ (items_read _ _ _ (after_shorter _ _ _ (sym e))) finds in
+    item_found _ _ _ _ _ _ e is cc
 
 -- ---- a region
 
@@ -244,30 +215,30 @@ opening_found depth below octets tag after inside found deeper e is finds f =
 region_again : (number : ℕ) (octets region : List ℕ) (r : IsClosedRegion 32 number octets region)
     → region_at number octets ≡ found_at region r.rest
 unfolding region_at
-region_again number octets region r =
-    let l = region_leaves 32 number octets region r in
+region_again _ octets region r =
+    let l = region_leaves 32 _ _ _ r in
     rw (
-      left_again (suc (length octets)) 32 32 octets r.behind (omega arith) (omega arith) l,
-      closed_again number r.behind r.rest r.closed,
-      (take_front octets region r.behind r.whole).2,
+      left_again (suc (length octets)) 32 32 _ _ (omega arith) (omega arith) l,
+      closed_again _ _ _ r.closed,
+      (take_front _ region _ r.whole).2,
     ) refl
 
 region_takes : (number : ℕ) (octets region rest : List ℕ) → region_at number octets ≡ found_at region rest
     → (r : IsClosedRegion 32 number octets region) × (r.rest ≡ rest)
 unfolding region_at
 region_takes number octets region rest e =
-    let a = bind_some (behind_items (suc (length octets)) 32 octets) _ (region, rest) e in
-    let b = bind_some (behind_closing number a.0) _ (region, rest) a.2 in
-    let parts = some_pair_parts _ region b.0 rest b.2 in
-    let l = items_take _ 32 octets a.0 a.1 in
-    let same : l.front ≡ region = sym (take_front octets l.front a.0 l.whole).2 ∙ parts.0 in
+    let a = bind_some _ _ (region, rest) e in
+    let b = bind_some _ _ (region, rest) a.2 in
+    let parts = some_pair_parts _ _ _ _ b.2 in
+    let l = items_take _ 32 _ _ a.1 in
+    let same : l.front ≡ region = sym (take_front _ _ _ l.whole).2 ∙ parts.0 in
     let r : IsClosedRegion 32 number octets l.front =
     record {
       behind = a.0;
       rest = b.0;
       region = l.region;
       whole = l.whole;
-      closed = closed_takes number a.0 b.0 b.1;
+      closed = closed_takes _ _ _ b.1;
     } in
     subst (λ w. (r : IsClosedRegion 32 number octets w) × (r.rest ≡ rest)) same (r, parts.1)
 
@@ -284,55 +255,54 @@ closed_line number front region rest s =
     }
 
 pub region_reader : (number : ℕ) → IsReader (SpellsClosed number) (region_at number)
-region_reader number = record {
+region_reader _ = record {
   takes = λ octets region rest e.
-      let t = region_takes number octets region rest e in
+      let t = region_takes _ _ _ _ e in
       let c = t.0.closed in
       let line = t.0.whole ∙ ap (λ w. region ++ w) (c.whole ∙ ap (λ w. c.front ++ w) t.1)
-      ∙ sym (append_assoc region c.front rest) in
+      ∙ sym (append_assoc _ _ rest) in
       record {
         front = region ++ c.front;
         spelled = grind arith;
         whole = line;
       };
-  again = λ front region rest s. region_again number _ region (closed_line number front region rest s);
+  again = λ front region rest s. region_again _ _ _ (closed_line _ _ _ rest s);
 }
 
 -- where no region was found none is read
 none_read : (number : ℕ) (octets : List ℕ) (read : Option (List ℕ × List ℕ)) → region_at number octets ≡ read
     → FindsRegion 32 number octets None → None ≡ read
-none_read number octets None e finds = refl
-none_read number octets (Some x) e finds =
-    absurd (none-some (length x.0) (finds.all x.0 (region_takes number octets x.0 x.1 e).0))
+none_read _ _ None e _ = refl
+none_read _ _ (Some x) e finds = absurd (none-some _ (finds.all _ (region_takes _ _ _ _ e).0))
 
 pub no_region : (number : ℕ) (octets : List ℕ) → FindsRegion 32 number octets None → None ≡ region_at number octets
-no_region number octets finds = none_read number octets (region_at number octets) refl finds
+no_region _ _ = none_read _ _ _ refl
 
 -- a region that was found is read, and the octets behind its closing tag
 pub region_found : (number k : ℕ) (octets front back : List ℕ) → front ≡ take k octets → back ≡ drop k octets
     → FindsRegion 32 number octets (Some k) → region_at number octets ≡ (behind_closing number back >>= found_at front)
-region_found number k octets front back f b finds =
-    let r = subst (IsClosedRegion 32 number octets) (sym f) finds.found in
+region_found _ k _ _ back f b finds =
+    let r = subst (IsClosedRegion 32 _ _) (sym f) finds.found in
     let same : back ≡ r.behind = b ∙ ap (drop k) r.whole
-    ∙ drop_at front r.behind k (ap length f ∙ length-take-le k octets finds.within) in
-    region_again number octets front r ∙ sym (rw (same, closed_again _ _ _ r.closed) refl)
+    ∙ drop_at _ _ k (ap length f ∙ length-take-le k _ finds.within) in
+    region_again _ _ _ r ∙ sym (rw (same, closed_again _ _ _ r.closed) refl)
 
 -- a region is found where a closing tag stands behind whole items, and not where none stands there
 pub region_finds : (depth number : ℕ) (octets rest : List ℕ) (behind : Option (List ℕ)) → LeavesRest depth octets rest
     → Finds (IsClosedBy number rest) behind
     → FindsRegion depth number octets (option_map (λ _. length octets - length rest) behind)
-region_finds depth number octets rest None l h = record {
+region_finds _ _ _ rest None l h = record {
   within = tt;
   found = tt;
   all = λ front r.
-      let same = one_left depth depth octets r.behind rest (region_leaves depth number octets front r) l in
-      absurd (h r.rest (subst (λ w. IsClosedBy number w r.rest) same r.closed));
+      let same = one_left _ _ _ _ rest (region_leaves _ _ _ _ r) l in
+      absurd (h _ (subst (λ w. IsClosedBy _ w r.rest) same r.closed));
 }
-region_finds depth number octets rest (Some after) l h = record {
+region_finds _ _ octets rest (Some after) l h = record {
   within = omega arith;
-  found = rw (take_front octets l.front rest l.whole).2
+  found = rw (take_front _ _ rest l.whole).2
       (record { behind = rest; rest = after; region = l.region; whole = l.whole; closed = h });
   all = λ front r.
-      let same = one_left depth depth octets rest r.behind l (region_leaves depth number octets front r) in
-      ap Some (ap (λ w. length octets - length w) same ∙ (take_front octets front r.behind r.whole).1);
+      let same = one_left _ _ _ rest _ l (region_leaves _ _ _ _ r) in
+      ap Some (ap (λ w. length octets - length w) same ∙ (take_front _ _ _ r.whole).1);
 }

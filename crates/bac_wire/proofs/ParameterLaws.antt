@@ -1,36 +1,36 @@
 -- Reading a parameter, or a value of one kind, finds what its relation says, and what is written of one is a spelling
 -- of it.
-use Rattle.std.proofs.Common.{◌≡◌, ℕ, ◌^◌, ◌<◌, ◌≤◌, eqb, ltb, List, [], ◌++◌, length, take, drop, Option, Some, None}
-use Rattle.std.proofs.Common.{refl, sym, ap, subst, ◌∙◌, append_assoc, arith}
-use Rattle.std.proofs.lemmas.Bool.{eqb-true, eq-eqb, ltb-false, le-ltb}
-use Rattle.std.proofs.lemmas.List.{take_at, drop_at, take-append-drop, length-append, length-take-le}
-use Rattle.std.proofs.lemmas.Option.{none-some, some_pair_parts, cond_some}
-use Rattle.byteorder.specs.Endian.{big_number, big_bytes}
-use Rattle.byteorder.specs.Numbers.{length-bytes_high_first}
-use Rattle.bac_wire.specs.declared.tag.Shape.{Shape}
-use Rattle.bac_wire.specs.declared.tag.Shape.TheVariants.{Context, Opening}
-use Rattle.bac_wire.specs.declared.tag.Tag.{Tag}
-use Rattle.bac_wire.specs.Front.{IsReader, Begins}
-use Rattle.bac_wire.specs.Identifier.{Identifier, IsIdentifier, identifier_of, number_of}
-use Rattle.bac_wire.specs.Tag.{SpellsTag, plain_tag}
-use Rattle.bac_wire.specs.Steps.{◌>>=◌}
-use Rattle.bac_wire.specs.TagReading.{tag_at}
-use Rattle.bac_wire.specs.Region.{IsRegion, opening_tag, closing_tag}
-use Rattle.bac_wire.specs.Datum.{Datum, Spells, StandsFor, unsigned, enumerated, octet_count}
+use Rattle.std.proofs.{
+  Common.{◌≡◌, ℕ, ◌^◌, ◌<◌, List, [], ◌++◌, length, drop, Option, Some, None, refl, sym, ap, subst, ◌∙◌, append_assoc},
+  Common.arith,
+  lemmas.Bool.{eqb-true, eq-eqb, ltb-false, le-ltb},
+  lemmas.List.{take_at, drop_at, take-append-drop, length-append, length-take-le},
+  lemmas.Option.{none-some, some_pair_parts, cond_some},
+}
+use Rattle.bac_wire.specs.{
+  declared.tag.{Shape.Shape, Shape.TheVariants.{Context, Opening}, Tag.Tag},
+  Front.{IsReader, Begins},
+  Identifier.{Identifier, IsIdentifier},
+  Tag.SpellsTag,
+  Steps.◌>>=◌,
+  TagReading.tag_at,
+  Region.IsRegion,
+  Datum.{Datum, Spells, StandsFor, unsigned, enumerated},
+  DatumReading.value_at,
+  Parameter.{context_tag, SpellsContext, SpellsIn, SpellsEnclosed, context_octets, number_octets, object_octets},
+  Parameter.enclosed_octets,
+  ParameterReading.{counted_of, context_at, number_at, object_at, opening_of, behind_opening, enclosed_at, unsigned_in},
+  ParameterReading.{enumerated_in, object_in, kind_at},
+}
+use Rattle.bac_wire.proofs.{
+  Readers.{reader_of, found_at, only_if, unless},
+  TagLaws.{tag_reader, bind_some, plain_tag_spells},
+  DatumLaws.{within_again, same_identifier, within_takes, value_reader},
+  PlainDatum.{count_low, count_four, count_fits, number_back},
+  RegionReading.{no_octets, tag_parts, tag_again},
+  ItemLaws.region_reader,
+}
 use Rattle.bac_wire.specs.Datum as values
-use Rattle.bac_wire.specs.DatumReading.{number_within, value_at}
-use Rattle.bac_wire.specs.ItemReading.{region_at}
-use Rattle.bac_wire.specs.Parameter.{context_tag, SpellsContext, SpellsIn, SpellsEnclosed}
-use Rattle.bac_wire.specs.Parameter.{context_octets, number_octets, object_octets, enclosed_octets}
-use Rattle.bac_wire.specs.ParameterReading.{counted_of, context_at, object_of_contents, number_at}
-use Rattle.bac_wire.specs.ParameterReading.{object_at, opening_of, behind_opening, enclosed_at, unsigned_in}
-use Rattle.bac_wire.specs.ParameterReading.{enumerated_in, object_in, kind_at}
-use Rattle.bac_wire.proofs.Readers.{reader_of, found_at, only_if, unless}
-use Rattle.bac_wire.proofs.TagLaws.{tag_reader, bind_some, plain_tag_spells}
-use Rattle.bac_wire.proofs.DatumLaws.{within_again, same_identifier, within_takes, value_reader}
-use Rattle.bac_wire.proofs.PlainDatum.{count_low, count_four, count_fits, number_back}
-use Rattle.bac_wire.proofs.RegionReading.{no_octets, tag_parts, tag_again}
-use Rattle.bac_wire.proofs.ItemLaws.{region_reader}
 
 -- ---- the contents under a context tag
 
@@ -38,65 +38,37 @@ counted_takes : (number : ℕ) (octets : List ℕ) (tag : Tag) (shape : Shape) (
     → tag_at octets ≡ found_at tag after → tag.shape ≡ shape
     → counted_of number tag shape after ≡ found_at contents rest
     → (front : List ℕ) × SpellsContext number front contents × (octets ≡ front ++ rest)
-counted_takes number octets tag (Context n) after contents rest e is f =
-    let same = only_if (eqb tag.number number) f in
-    let room = unless (ltb (length after) n) same.1 in
-    let parts = some_pair_parts (take n after) contents (drop n after) rest room.1 in
-    let long : n ≡ length contents = sym (length-take-le n after (ltb-false (length after) n room.0))
-    ∙ ap length parts.0 in
-    let tag_here = tag_parts tag number (Context (length contents)) (is ∙ ap Context long)
-    (eqb-true tag.number number same.0) in
-    let taken = tag_reader.takes octets tag after e in
-    let after_is : after ≡ contents ++ rest = sym (take-append-drop n after)
+counted_takes number _ tag (Context n) after contents rest e is f =
+    let same = only_if _ f in
+    let room = unless _ same.1 in
+    let parts = some_pair_parts _ _ _ _ room.1 in
+    let long : n ≡ length contents = sym (length-take-le n _ (ltb-false _ n room.0)) ∙ ap length parts.0 in
+    let tag_here = tag_parts tag _ _ (is ∙ ap Context long) (eqb-true _ _ same.0) in
+    let taken = tag_reader.takes _ tag _ e in
+    let after_is : after ≡ contents ++ rest = sym (take-append-drop n _)
     ∙ ap (λ (w : List ℕ). w ++ drop n after) parts.0 ∙ ap (λ (w : List ℕ). contents ++ w) parts.1 in
     let here : SpellsContext number (taken.front ++ contents) contents =
-    record { front = taken.front; spelled = subst (SpellsTag taken.front) tag_here taken.spelled; whole = refl } in (
+    record { front = taken.front; spelled = subst (SpellsTag _) tag_here taken.spelled; whole = refl } in (
       taken.front ++ contents,
       here,
-      taken.whole ∙ ap (λ (w : List ℕ). taken.front ++ w) after_is
-          ∙ sym (append_assoc taken.front contents rest),
+      taken.whole ∙ ap (λ (w : List ℕ). taken.front ++ w) after_is ∙ sym (append_assoc _ _ rest),
     )
-counted_takes number octets tag _ after contents rest e is f = absurd (none-some (contents, rest) f)
+counted_takes _ _ _ _ _ contents rest e is f = absurd (none-some (contents, rest) f)
 
 counted_again : (number : ℕ) (contents rest : List ℕ)
     → counted_of number (context_tag number (length contents)) (Context (length contents)) (contents ++ rest)
     ≡ found_at contents rest
-counted_again number contents rest =
-    let fits : length contents ≤ length (contents ++ rest) = omega (arith, length-append contents rest) in
-    rw (
-      eq-eqb number number refl,
-      le-ltb (length (contents ++ rest)) (length contents) fits,
-      take_at contents rest (length contents) refl,
-      drop_at contents rest (length contents) refl,
-    ) refl
+counted_again = grind (arith, length-append, eq-eqb, le-ltb, take_at, drop_at)
 
 context_takes : (number : ℕ) (octets contents rest : List ℕ) → context_at number octets ≡ found_at contents rest
     → (front : List ℕ) × SpellsContext number front contents × (octets ≡ front ++ rest)
 unfolding context_at
-context_takes number octets contents rest e =
-    let a = bind_some (tag_at octets) (λ x. counted_of number x.0 x.0.shape x.1) (contents, rest) e in
-    counted_takes number octets a.0.0 a.0.0.shape a.0.1 contents rest a.1 refl a.2
+context_takes = grind (arith, bind_some, counted_takes)
 
 context_again : (number : ℕ) (front contents rest : List ℕ) → SpellsContext number front contents
     → context_at number (front ++ rest) ≡ found_at contents rest
 unfolding context_at
-context_again number front contents rest s =
-    rw (tag_again front s.front contents rest (context_tag number (length contents)) s.whole s.spelled)
-    (counted_again number contents rest)
-
--- ---- what the contents stand for
-
-object_takes : (contents : List ℕ) (id : Identifier) → object_of_contents contents ≡ Some id
-    → StandsFor contents (values.object id)
-object_takes contents id e =
-    let four = cond_some (eqb (length contents) 4) (identifier_of (big_number 4 contents)) id e in
-    subst (λ (o : Identifier). StandsFor contents (values.object o)) four.1
-    (eqb-true (length contents) 4 four.0, omega arith, omega arith)
-
-object_again : (contents : List ℕ) (id : Identifier) → StandsFor contents (values.object id)
-    → object_of_contents contents ≡ Some id
-object_again contents id s =
-    rw (eq-eqb (length contents) 4 s.0) (ap Some (same_identifier (big_number 4 contents) id s.1 s.2))
+context_again _ _ _ _ s = rw (tag_again _ _ _ _ _ s.whole s.spelled) (counted_again _ _ _)
 
 -- ---- numbers and objects
 
@@ -105,66 +77,62 @@ in_reader : {A : Type 0} (kind : A → Datum) (of : List ℕ → Option A)
     → ((contents : List ℕ) (x : A) → StandsFor contents (kind x) → of contents ≡ Some x)
     → (number : ℕ) → IsReader (SpellsIn kind number)
     (λ octets. context_at number octets >>= (λ c. of c.0 >>= (λ a. found_at a c.1)))
-in_reader kind of taken_as again_as number = record {
+in_reader _ of taken_as again_as _ = record {
   takes = λ octets x rest e.
-      let a = bind_some (context_at number octets) (λ c. of c.0 >>= (λ a. found_at a c.1)) (x, rest) e in
-      let b = bind_some (of a.0.0) (λ y. found_at y a.0.1) (x, rest) a.2 in
-      let parts = some_pair_parts b.0 x a.0.1 rest b.2 in
-      let taken = context_takes number octets a.0.0 a.0.1 a.1 in
+      let a = bind_some (context_at _ _) _ (x, rest) e in
+      let b = bind_some _ _ (x, rest) a.2 in
+      let parts = some_pair_parts _ x _ _ b.2 in
+      let taken = context_takes _ _ _ _ a.1 in
       record {
         front = taken.0;
-        spelled = record { contents = a.0.0; context = taken.1; stands = rw parts.0 at (taken_as a.0.0 b.0 b.1) };
+        spelled = record { contents = a.0.0; context = taken.1; stands = rw parts.0 at (taken_as _ _ b.1) };
         whole = taken.2 ∙ ap (λ (w : List ℕ). taken.0 ++ w) parts.1;
       };
-  again = λ front x rest s.
-      rw (context_again number front s.contents rest s.context, again_as s.contents x s.stands) refl;
+  again = λ front x rest s. rw (context_again _ _ _ _ s.context, again_as _ x s.stands) refl;
 }
 
 pub number_reader : (number : ℕ) → IsReader (SpellsIn enumerated number) (number_at number)
 unfolding number_at
-number_reader number =
-    in_reader enumerated (number_within 4) (within_takes 4)
-    (λ contents n s. within_again 4 contents s.0 s.1 ∙ ap Some (sym s.2)) number
+number_reader = in_reader _ _ (within_takes 4) (λ contents n s. within_again 4 _ s.0 s.1 ∙ ap Some (sym s.2))
 
 pub object_reader : (number : ℕ) → IsReader (SpellsIn values.object number) (object_at number)
 unfolding object_at
-object_reader number = in_reader values.object object_of_contents object_takes object_again number
+object_reader = in_reader _ _
+    (λ contents id e.
+    let four = cond_some _ _ _ e in
+    subst (λ (o : Identifier). StandsFor contents (values.object o)) four.1
+    (eqb-true _ 4 four.0, omega arith, omega arith))
+    (λ contents id s. rw (eq-eqb _ 4 s.0) (ap Some (same_identifier _ _ s.1 s.2)))
 
 pub context_reader : (number : ℕ) → IsReader (SpellsContext number) (context_at number)
-context_reader number =
-    reader_of (SpellsContext number) (context_at number) (context_takes number) (context_again number)
+context_reader _ = reader_of _ _ (context_takes _) (context_again _)
 
 -- where there are no octets nothing is read
 pub no_number : (number : ℕ) → number_at number [] ≡ None
 unfolding number_at context_at
-no_number number = rw no_octets refl
+no_number _ = rw no_octets refl
 
 pub no_object : (number : ℕ) → object_at number [] ≡ None
 unfolding object_at context_at
-no_object number = rw no_octets refl
+no_object _ = rw no_octets refl
 
 -- ---- items between two tags
 
 opening_takes : (number : ℕ) (tag : Tag) (shape : Shape) (after rest : List ℕ)
     → opening_of number tag shape after ≡ Some rest → (shape ≡ Opening) × (tag.number ≡ number) × (after ≡ rest)
-opening_takes number tag Opening after rest e =
-    let same = cond_some (eqb tag.number number) after rest e in
-    (refl, eqb-true tag.number number same.0, same.1)
-opening_takes number tag _ after rest e = absurd (none-some rest e)
+opening_takes = grind arith
 
 enclosed_takes : (number : ℕ) (octets region rest : List ℕ) → enclosed_at number octets ≡ found_at region rest
     → (front : List ℕ) × SpellsEnclosed number front region × (octets ≡ front ++ rest)
 unfolding enclosed_at behind_opening
-enclosed_takes number octets region rest e =
-    let a = bind_some (tag_at octets >>= λ x. opening_of number x.0 x.0.shape x.1) (region_at number) (region, rest)
-    e in
-    let o = bind_some (tag_at octets) (λ x. opening_of number x.0 x.0.shape x.1) a.0 a.1 in
-    let same = opening_takes number o.0.0 o.0.0.shape o.0.1 a.0 o.2 in
-    let t = tag_reader.takes octets o.0.0 o.0.1 o.1 in
-    let b = (region_reader number).takes a.0 region rest a.2 in
-    let opened = subst (SpellsTag t.front) (tag_parts o.0.0 number Opening same.0 same.1) t.spelled in
-    let line = t.whole ∙ ap (λ (w : List ℕ). t.front ++ w) (same.2 ∙ b.whole)
-    ∙ sym (append_assoc t.front b.front rest) in (
+enclosed_takes _ _ region rest e =
+    let a = bind_some _ _ (region, rest) e in
+    let o = bind_some _ _ a.0 a.1 in
+    let same = opening_takes _ o.0.0 _ _ a.0 o.2 in
+    let t = tag_reader.takes _ _ _ o.1 in
+    let b = (region_reader _).takes a.0 _ _ a.2 in
+    let opened = subst (SpellsTag _) (tag_parts _ _ _ same.0 same.1) t.spelled in
+    let line = t.whole ∙ ap (λ (w : List ℕ). t.front ++ w) (same.2 ∙ b.whole) ∙ sym (append_assoc _ _ rest) in (
       t.front ++ b.front,
       record {
         closing = b.spelled.closing;
@@ -179,29 +147,21 @@ enclosed_takes number octets region rest e =
       line,
     )
 
-enclosed_again : (number : ℕ) (front region rest : List ℕ) → SpellsEnclosed number front region
-    → enclosed_at number (front ++ rest) ≡ found_at region rest
-unfolding enclosed_at behind_opening
-enclosed_again number front region rest s =
-    let o = s.opened in
-    rw (
-      tag_again front o.front (region ++ s.closing) rest (opening_tag number) o.whole o.spelled,
-      eq-eqb number number refl,
-    )
-    ((region_reader number).again (region ++ s.closing) region rest
-    (record { closing = s.closing; whole = refl; items = s.parts; closed = s.closed }))
-
 pub enclosed_reader : (number : ℕ) → IsReader (SpellsEnclosed number) (enclosed_at number)
-enclosed_reader number =
-    reader_of (SpellsEnclosed number) (enclosed_at number) (enclosed_takes number) (enclosed_again number)
+unfolding enclosed_at behind_opening
+enclosed_reader _ =
+    reader_of _ _ (enclosed_takes _) (λ front region rest s.
+    let o = s.opened in
+    rw (tag_again _ _ _ _ _ o.whole o.spelled, eq-eqb _ _ refl)
+    ((region_reader _).again _ _ _ (record { closing = s.closing; whole = refl; items = s.parts; closed = s.closed })))
 
 -- items between tags are no number
 pub enclosed_no_number : (number other : ℕ) (octets front region rest : List ℕ) → SpellsEnclosed other front region
     → octets ≡ front ++ rest → number_at number octets ≡ None
 unfolding number_at context_at
-enclosed_no_number number other octets front region rest s e =
+enclosed_no_number _ _ _ _ _ _ s e =
     let o = s.opened in
-    rw (e, tag_again front o.front (region ++ s.closing) rest (opening_tag other) o.whole o.spelled) refl
+    rw (e, tag_again _ _ _ _ _ o.whole o.spelled) refl
 
 -- ---- values of one kind
 
@@ -217,73 +177,42 @@ kind_step : {A : Type 0} (made : A → Datum) (in_kind : Datum → Option A)
     → ((value : Datum) (x : A) → in_kind value ≡ Some x → value ≡ made x) → ((x : A) → in_kind (made x) ≡ Some x)
     → IsStep Spells made (kind_at in_kind)
 unfolding kind_at
-kind_step made in_kind takes again = record {
+kind_step made _ takes again = record {
   takes = λ octets x rest e.
-      let a = bind_some (value_at octets) (λ v. in_kind v.0 >>= λ y. found_at y v.1) (x, rest) e in
-      let b = bind_some (in_kind a.0.0) (λ y. found_at y a.0.1) (x, rest) a.2 in
-      let parts = some_pair_parts b.0 x a.0.1 rest b.2 in
-      let taken = value_reader.takes octets a.0.0 a.0.1 a.1 in
+      let a = bind_some _ _ (x, rest) e in
+      let b = bind_some _ _ (x, rest) a.2 in
+      let parts = some_pair_parts _ x _ _ b.2 in
+      let taken = value_reader.takes _ _ _ a.1 in
       record {
         front = taken.front;
-        spelled = subst (Spells taken.front) (takes a.0.0 b.0 b.1 ∙ ap made parts.0) taken.spelled;
+        spelled = subst (Spells _) (takes _ _ b.1 ∙ ap made parts.0) taken.spelled;
         whole = taken.whole ∙ ap (λ (w : List ℕ). taken.front ++ w) parts.1;
       };
-  again = λ octets x rest b.
-      rw (ap value_at b.whole ∙ value_reader.again b.front (made x) rest b.spelled, again x) refl;
+  again = λ octets x rest b. rw (ap value_at b.whole ∙ value_reader.again _ _ _ b.spelled, again x) refl;
 }
 
 pub unsigned_step : IsStep Spells unsigned (kind_at unsigned_in)
-unsigned_step = kind_step unsigned unsigned_in (λ value x e. grind arith) (λ n. refl)
+unsigned_step = kind_step _ _ (λ value x e. grind arith) (λ n. refl)
 
 pub enumerated_step : IsStep Spells enumerated (kind_at enumerated_in)
-enumerated_step = kind_step enumerated enumerated_in (λ value x e. grind arith) (λ n. refl)
+enumerated_step = kind_step _ _ (λ value x e. grind arith) (λ n. refl)
 
 pub object_step : IsStep Spells values.object (kind_at object_in)
-object_step = kind_step values.object object_in (λ value x e. grind arith) (λ id. refl)
+object_step = kind_step _ _ (λ value x e. grind arith) (λ id. refl)
 
 -- ---- what is written is a spelling
 
 pub context_spells : (number : ℕ) (contents : List ℕ) → number < 255 → length contents < 2 ^ 32
     → SpellsContext number (context_octets number contents) contents
-context_spells number contents low short = record {
-  front = plain_tag (context_tag number (length contents));
-  spelled = plain_tag_spells (context_tag number (length contents)) (record { number = low; count = short });
-  whole = refl;
-}
+context_spells = grind (arith, plain_tag_spells)
 
 pub number_spells : (number n : ℕ) → number < 255 → n < 2 ^ 32 → SpellsIn enumerated number (number_octets number n) n
-number_spells number n low fits =
-    let contents = big_bytes (octet_count n) n in
-    let long : length contents ≡ octet_count n = length-bytes_high_first (octet_count n) n in
-    let least = count_low n in
-    let most = count_four n fits in
-    record {
-      contents = contents;
-      context = context_spells number contents low (omega arith);
-      stands = (omega arith, omega arith, number_back (octet_count n) n (count_fits n (omega arith)));
-    }
+number_spells = grind (arith, count_low, count_four, context_spells, number_back, count_fits)
 
 pub object_spells : (number : ℕ) (id : Identifier) → number < 255 → IsIdentifier id
     → SpellsIn values.object number (object_octets number id) id
-object_spells number id low h =
-    let kind = h.kind in
-    let instance = h.instance in
-    let contents = big_bytes 4 (number_of id) in
-    record {
-      contents = contents;
-      context = context_spells number contents low (omega arith);
-      stands = (refl, instance, sym (number_back 4 (number_of id) (omega arith)));
-    }
+object_spells = grind (arith, context_spells, number_back)
 
 pub enclosed_spells : (number : ℕ) (region : List ℕ) → number < 255 → IsRegion 32 region
     → SpellsEnclosed number (enclosed_octets number region) region
-enclosed_spells number region low items = record {
-  closing = plain_tag (closing_tag number);
-  opened = record {
-    front = plain_tag (opening_tag number);
-    spelled = plain_tag_spells (opening_tag number) (record { number = low; count = omega arith });
-    whole = refl;
-  };
-  parts = items;
-  closed = plain_tag_spells (closing_tag number) (record { number = low; count = omega arith });
-}
+enclosed_spells = grind (arith, plain_tag_spells)

@@ -1,21 +1,21 @@
 -- The shortest spelling of a value is a spelling.
-use Rattle.std.proofs.Common.{◌≡◌, ℕ, ℤ, pos, negsuc, suc, slice_index_or, ◌+◌, ◌-◌, ◌*◌, ◌^◌, ◌%◌, ◌<◌, ◌≤◌, min, zero}
-use Rattle.std.proofs.Common.{Bool, true, false, cond, ltb, List, [], ◌∷◌, ◌++◌, length, take, refl, sym, ap}
-use Rattle.std.proofs.Common.{subst, ◌∙◌, arith, unwrap_or, Option, Some, None}
-use Rattle.std.specs.Prelude.{FitsSigned}
-use Rattle.std.specs.Int.{w64}
-use Rattle.std.proofs.lemmas.Int.{ints}
-use Rattle.std.proofs.lemmas.Bool.{lt-ltb, le-ltb}
-use Rattle.std.proofs.lemmas.Grind.{common_steps}
-use Rattle.std.proofs.lemmas.List.{append-nil, take_at}
-use Rattle.byteorder.specs.Endian.{big_number, big_bytes, twos_complement, low_bytes}
-use Rattle.byteorder.specs.Numbers.{big_number-reads_back, length-bytes_high_first}
-use Rattle.bac_wire.specs.Identifier.{number_of}
-use Rattle.bac_wire.specs.Tag.{IsTag, plain_tag}
-use Rattle.bac_wire.specs.Datum.{Datum, boolean, unsigned, signed, enumerated, object, StandsFor, tag_before, Spells}
-use Rattle.bac_wire.specs.Datum.{octet_count, plain_contents, plain, InRange, IsDatum}
-use Rattle.bac_wire.specs.Inner.Datum.{tagged}
-use Rattle.bac_wire.proofs.TagLaws.{plain_tag_spells}
+use Rattle.std.proofs.{
+  Common.{◌≡◌, ℕ, ℤ, pos, negsuc, suc, slice_index_or, ◌+◌, ◌-◌, ◌*◌, ◌^◌, ◌%◌, ◌<◌, ◌≤◌, min, zero, Bool, true, false},
+  Common.{cond, ltb, List, [], ◌∷◌, ◌++◌, length, take, refl, sym, ap, subst, ◌∙◌, arith, unwrap_or, Option, Some},
+  Common.None,
+  lemmas.{Int.ints, Bool.{lt-ltb, le-ltb}, Grind.common_steps, List.{append-nil, take_at}},
+}
+use Rattle.std.specs.{Prelude.FitsSigned, Int.w64}
+use Rattle.byteorder.specs.{
+  Endian.{big_number, big_bytes, twos_complement, low_bytes},
+  Numbers.{big_number-reads_back, length-bytes_high_first},
+}
+use Rattle.bac_wire.{
+  specs.Tag.{IsTag, plain_tag},
+  specs.Datum.{Datum, signed, StandsFor, tag_before, Spells, octet_count, plain_contents, plain, InRange, IsDatum},
+  specs.Inner.Datum.tagged,
+  proofs.TagLaws.plain_tag_spells,
+}
 
 -- the same count, case by case
 abbrev pub count_by_cases : ℕ → ℕ
@@ -28,9 +28,7 @@ abbrev pub or_eight : Option ℕ → ℕ
 or_eight found = unwrap_or found 8
 
 pub count_is : (n : ℕ) → octet_count n ≡ count_by_cases n
-count_is n =
-    go (ltb n (256 ^ 1)) (ltb n (256 ^ 2)) (ltb n (256 ^ 3)) (ltb n (256 ^ 4)) (ltb n (256 ^ 5)) (ltb n (256 ^ 6))
-    (ltb n (256 ^ 7))
+count_is n = go _ _ _ _ _ _ _
   where
     go : (a b c d e f g : Bool)
         → or_eight (cond a (Some 1) (cond b (Some 2) (cond c (Some 3) (cond d (Some 4) (cond e (Some 5)
@@ -45,49 +43,38 @@ count_is n =
     go false false false false false false true = refl
     go false false false false false false false = refl
 
-cases_low : (n : ℕ) → 1 ≤ count_by_cases n
-cases_low n = grind (arith, common_steps)
-
 pub count_low : (n : ℕ) → 1 ≤ octet_count n
-count_low n = subst (λ (k : ℕ). 1 ≤ k) (sym (count_is n)) (cases_low n)
+count_low n = subst (λ (k : ℕ). 1 ≤ k) (sym (count_is n)) (grind (arith, common_steps))
 
 pub cases_high : (n : ℕ) → count_by_cases n ≤ 8
-cases_high n = grind (arith, common_steps)
+cases_high = grind (arith, common_steps)
 
 pub count_high : (n : ℕ) → octet_count n ≤ 8
 count_high n = subst (λ (k : ℕ). k ≤ 8) (sym (count_is n)) (cases_high n)
 
-cases_fit : (n : ℕ) → n < 2 ^ 64 → n < 256 ^ count_by_cases n
-cases_fit n fits = grind (arith, common_steps)
-
 pub count_fits : (n : ℕ) → n < 2 ^ 64 → n < 256 ^ octet_count n
-count_fits n fits = subst (λ (k : ℕ). n < 256 ^ k) (sym (count_is n)) (cases_fit n fits)
-
-cases_four : (n : ℕ) → n < 2 ^ 32 → count_by_cases n ≤ 4
-cases_four n fits = grind (arith, common_steps)
+count_fits n fits = subst (λ (k : ℕ). n < 256 ^ k) (sym (count_is n)) (grind (arith, common_steps))
 
 pub count_four : (n : ℕ) → n < 2 ^ 32 → octet_count n ≤ 4
-count_four n fits = subst (λ (k : ℕ). k ≤ 4) (sym (count_is n)) (cases_four n fits)
+count_four n fits = subst (λ (k : ℕ). k ≤ 4) (sym (count_is n)) (grind (arith, common_steps))
 
 -- the octets of a number give it back
 pub number_back : (k n : ℕ) → n < 256 ^ k → n ≡ big_number (length (big_bytes k n)) (big_bytes k n)
 number_back k n fits =
-    rw (length-bytes_high_first k n)
-    (sym (ap (big_number k) (sym (append-nil (big_bytes k n))) ∙ big_number-reads_back k n [] fits))
+    rw (length-bytes_high_first k n) (sym (ap (big_number k) (sym (append-nil _)) ∙ big_number-reads_back k n [] fits))
 
 -- The first octets of a list that begins with the octets of a number are these octets.
 pub bytes_taken : (k n : ℕ) (rest : List ℕ) → take k (big_bytes k n ++ rest) ++ [] ≡ big_bytes k n
-bytes_taken k n rest =
-    append-nil (take k (big_bytes k n ++ rest)) ∙ take_at (big_bytes k n) rest k (length-bytes_high_first k n)
+bytes_taken k n _ = append-nil _ ∙ take_at _ _ k (length-bytes_high_first k n)
 
 -- ---- two's complement
 
 not_negative : (k n : ℕ) → n < 2 ^ (8 * k - 1) → n % 2 ^ (8 * k) ≡ n → twos_complement k (n % 2 ^ (8 * k)) ≡ pos n
-not_negative k n low same = rw (same, lt-ltb n (2 ^ (8 * k - 1)) low) refl
+not_negative k n low same = rw (same, lt-ltb n _ low) refl
 
 negative : (k n x : ℕ) → x ≡ 2 ^ (8 * k) - suc n → 2 ^ (8 * k - 1) ≤ x → suc n ≤ 2 ^ (8 * k)
     → twos_complement k x ≡ negsuc n
-negative k n x e high fits = rw (le-ltb x (2 ^ (8 * k - 1)) high, e) (omega (arith, ints))
+negative k n x e high fits = rw (le-ltb x _ high, e) (omega (arith, ints))
 
 signed_back : (k n : ℕ) → 1 ≤ k → k ≤ 8 → 2 * n < 256 ^ k → (twos_complement k (low_bytes w64 k (pos n)) ≡ pos n)
     × (twos_complement k (low_bytes w64 k (negsuc n)) ≡ negsuc n)
@@ -118,69 +105,39 @@ signed_parts k z low high e =
 signed_holds : (z : ℤ) → FitsSigned w64 z → StandsFor (plain_contents (signed z)) (signed z)
 signed_holds (pos n) h =
     let k : ℕ = octet_count (2 * n) in
-    signed_parts k (pos n) (count_low (2 * n)) (count_high (2 * n))
-    (sym (signed_back k n (count_low (2 * n)) (count_high (2 * n)) (count_fits (2 * n) (omega (arith, h)))).0)
+    signed_parts k _ (count_low (2 * n)) (count_high (2 * n))
+    (sym (signed_back k n (count_low (2 * n)) (count_high (2 * n)) (count_fits _ (omega (arith, h)))).0)
 signed_holds (negsuc n) h =
     let k : ℕ = octet_count (2 * n) in
-    signed_parts k (negsuc n) (count_low (2 * n)) (count_high (2 * n))
-    (sym (signed_back k n (count_low (2 * n)) (count_high (2 * n)) (count_fits (2 * n) (omega (arith, h)))).1)
+    signed_parts k _ (count_low (2 * n)) (count_high (2 * n))
+    (sym (signed_back k n (count_low (2 * n)) (count_high (2 * n)) (count_fits _ (omega (arith, h)))).1)
 
 -- ---- the contents
 
 plain_holds : (value : Datum) → InRange value → StandsFor (plain_contents value) value
-plain_holds (unsigned n) h = (
-  rw (length-bytes_high_first (octet_count n) n) (count_low n),
-  rw (length-bytes_high_first (octet_count n) n) (count_high n),
-  number_back (octet_count n) n (count_fits n h),
-)
-plain_holds (signed z) h = signed_holds z h
-plain_holds (enumerated n) h = (
-  rw (length-bytes_high_first (octet_count n) n) (count_low n),
-  rw (length-bytes_high_first (octet_count n) n) (count_four n h),
-  number_back (octet_count n) n (count_fits n (omega arith)),
-)
-plain_holds (object id) h =
-    let low = h.kind in
-    let limit = h.instance in
-    (refl, h.instance, big_number-reads_back 4 (number_of id) [] (omega arith))
-plain_holds _ h = search arith
+plain_holds = grind (arith, count_low, count_high, number_back, count_fits, signed_holds, count_four)
 
 tag_fits : (value : Datum) → IsDatum value → IsTag (tag_before value (length (plain_contents value)))
-tag_fits (boolean true) h = record { number = omega arith; count = omega arith }
-tag_fits (boolean false) h = record { number = omega arith; count = omega arith }
-tag_fits value h = record { number = omega arith; count = h.short }
+tag_fits = grind arith
 
 pub plain_spells : (value : Datum) → IsDatum value → Spells (plain value) value
 unfolding plain
-plain_spells value h = record {
-  contents = plain_contents value;
-  tagged = record {
-    front = plain_tag (tag_before value (length (plain_contents value)));
-    spelled = plain_tag_spells (tag_before value (length (plain_contents value))) (tag_fits value h);
-    whole = refl;
-  };
-  held = plain_holds value h.range;
-}
+plain_spells = grind (arith, plain_tag_spells, tag_fits, plain_holds)
 
 -- a tag with a number below 15 and a count below 5 is one octet
 pub short_tagged : (number : ℕ) (contents : List ℕ) → number < 15 → length contents < 5
     → tagged number contents ≡ (16 * number + length contents) ∷ contents
 unfolding tagged plain_tag
-short_tagged number contents low short =
-    let same : 16 * min number 15 + min (length contents) 5 ≡ 16 * number + length contents = omega arith in
-    rw (lt-ltb number 15 low, lt-ltb (length contents) 5 short) (ap (λ (first : ℕ). first ∷ contents) same)
+short_tagged = grind (arith, min, lt-ltb)
 
 -- the tag of four octets, and these
 pub four_tagged : (number : ℕ) (contents : List ℕ) → number < 15 → length contents ≡ 4
     → (16 * number + 4) ∷ slice_index_or contents 0 0 ∷ slice_index_or contents 1 0 ∷ slice_index_or contents 2 0
     ∷ slice_index_or contents 3 0 ∷ [] ≡ tagged number contents
-four_tagged number (a ∷ b ∷ c ∷ d ∷ []) low four = sym (short_tagged number (a ∷ b ∷ c ∷ d ∷ []) low (omega arith))
-four_tagged number _ low four = absurd (omega (arith, four))
+four_tagged _ (a ∷ b ∷ c ∷ d ∷ []) low four = sym (short_tagged _ _ low (omega arith))
+four_tagged _ _ low four = absurd (omega (arith, four))
 
 -- the tag of a number in one octet, and the number
 pub one_tagged : (number n : ℕ) → number < 15 → n < 256
     → tagged number (big_bytes (octet_count n) n) ≡ (16 * number + 1) ∷ n ∷ []
-one_tagged number n low one =
-    let contents : big_bytes (octet_count n) n ≡ n ∷ [] =
-    rw (lt-ltb n 256 one) (ap (λ (octet : ℕ). octet ∷ []) (omega arith)) in
-    ap (tagged number) contents ∙ short_tagged number (n ∷ []) low (omega arith)
+one_tagged = grind (arith, lt-ltb, short_tagged)

@@ -1,11 +1,11 @@
 -- What `read_value` finds of what `write_value` appended, as an equation: for a crate above, which knows it by
 -- `IsReadBack` and `FindsFront`.
-use Rattle.std.proofs.Common.{◌≡◌, ℕ, List, [], ◌++◌, length, Option, Some, None, ap, refl, sym, subst, ◌∙◌, append-nil}
-use Rattle.std.proofs.lemmas.Option.{none-some, same_Some}
-use Rattle.std.specs.Option.{option_map}
-use Rattle.bac_wire.specs.declared.value.Value.{Value}
-use Rattle.bac_wire.specs.Front.{FindsFront, IsReadBack}
-use Rattle.bac_wire.specs.Datum.{Datum, Spells, datum}
+use Rattle.std.{
+  proofs.Common.{◌≡◌, ℕ, List, [], ◌++◌, length, Option, Some, None, ap, refl, sym, subst, ◌∙◌, append-nil},
+  proofs.lemmas.Option.{none-some, same_Some},
+  specs.Option.option_map,
+}
+use Rattle.bac_wire.specs.{declared.value.Value.Value, Front.{FindsFront, IsReadBack}, Datum.{Datum, Spells, datum}}
 
 -- what was found, without where its octets lie
 abbrev pub found_seen : Option (Value × ℕ) → Option (Datum × ℕ)
@@ -25,15 +25,14 @@ found_as (Some y) x count e =
 -- the octets begin with what was written
 pub value_back : (plain rest octets : List ℕ) (x : Datum) (found : Option (Value × ℕ)) → IsReadBack Spells plain x
     → octets ≡ plain ++ rest → FindsFront Spells octets (found_seen found) → IsFound found x (length plain)
-value_back plain rest octets x found back whole finds =
-    found_as found x (length plain)
-    (back rest (found_seen found) (subst (λ (w : List ℕ). FindsFront Spells w (found_seen found)) whole finds))
+value_back _ rest _ x found back whole finds =
+    found_as _ x _ (back rest _ (subst (λ (w : List ℕ). FindsFront Spells w (found_seen found)) whole finds))
 
 -- the octets are what was written, behind nothing
 pub value_alone : (first plain octets : List ℕ) (x : Datum) (found : Option (Value × ℕ)) → first ≡ []
     → octets ≡ first ++ plain → IsReadBack Spells plain x → FindsFront Spells octets (found_seen found)
     → IsFound found x (length octets)
-value_alone first plain octets x found nothing whole back finds =
+value_alone _ plain octets x found nothing whole back finds =
     let same : octets ≡ plain = rw nothing at whole in
     subst (λ (w : List ℕ). IsFound found x (length w)) (sym same)
-    (value_back plain [] octets x found back (same ∙ sym (append-nil plain)) finds)
+    (value_back _ [] _ _ _ back (same ∙ sym (append-nil _)) finds)

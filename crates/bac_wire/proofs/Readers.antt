@@ -1,9 +1,10 @@
 -- A reader on lists that takes what is spelled, and finds again what is spelled.
-use Rattle.std.proofs.Common.{Bool, true, false, cond, inl, inr, ◌≡◌, ℕ, ◌-◌, ◌≤◌, List, ◌++◌, length, take, Option}
-use Rattle.std.proofs.Common.{Some, None, refl, sym, ap, subst, ◌∙◌, arith, length-append}
+use Rattle.std.proofs.{
+  Common.{Bool, true, false, cond, inl, inr, ◌≡◌, ℕ, ◌-◌, ◌≤◌, List, ◌++◌, length, take, Option, Some, None, refl, sym},
+  Common.{ap, ◌∙◌, arith, length-append},
+  lemmas.{List.{take_at, append_cancel_right}, Option.some_pair_parts},
+}
 use Rattle.std.specs.Prelude.{◌⊎◌}
-use Rattle.std.proofs.lemmas.List.{take_at, append_cancel_right}
-use Rattle.std.proofs.lemmas.Option.{some_pair_parts}
 use Rattle.bac_wire.specs.Front.{FindsFront, IsReadBack}
 pub use Rattle.bac_wire.specs.Front.{IsReader, Begins}
 
@@ -17,37 +18,26 @@ found_at x rest = Some (x, rest)
 -- a front that was taken whole
 pub took : {A : Type 0} (Spells : List ℕ → A → Type 0) (front : List ℕ) (x y : A) (after rest : List ℕ)
     → found_at x after ≡ found_at y rest → Spells front x → Took Spells (front ++ after) y rest
-took Spells front x y after rest e s =
-    let same = some_pair_parts x y after rest e in
-    (front, subst (Spells front) same.0 s, ap (λ (w : List ℕ). front ++ w) same.1)
+took = grind (arith, some_pair_parts)
 
 -- a front that was taken as one thing, and spells another one
 pub took_as : {A B : Type 0} (As : List ℕ → A → Type 0) (Spells : List ℕ → B → Type 0) (octets : List ℕ) (a : A)
     (x y : B) (after rest : List ℕ)
     → Took As octets a after → found_at x after ≡ found_at y rest → ((front : List ℕ) → As front a → Spells front x)
     → Took Spells octets y rest
-took_as As Spells octets a x y after rest t e to = rw t.2 (took Spells t.0 x y after rest e (to t.0 t.1))
+took_as As Spells _ a x y _ _ t e to = rw t.2 (took Spells _ x y _ _ e (to _ t.1))
 
 pub reader_of : {A : Type 0} (Spells : List ℕ → A → Type 0) (at : List ℕ → Option (A × List ℕ))
     → ((octets : List ℕ) (x : A) (rest : List ℕ) → at octets ≡ Some (x, rest) → Took Spells octets x rest)
     → ((front : List ℕ) (x : A) (rest : List ℕ) → Spells front x → at (front ++ rest) ≡ Some (x, rest))
     → IsReader Spells at
-reader_of Spells at takes again = record {
-  takes = λ octets x rest e. let t = takes octets x rest e in record { front = t.0; spelled = t.1; whole = t.2 };
-  again = again;
-}
+reader_of = grind arith
 
 -- a front, by the length of what stands behind it
 pub take_front : (octets front rest : List ℕ) → octets ≡ front ++ rest
     → (length rest ≤ length octets) × (length octets - length rest ≡ length front)
     × (take (length octets - length rest) octets ≡ front)
-take_front octets front rest e =
-    let long : length octets - length rest ≡ length front = omega (arith, ap length e, length-append front rest) in (
-      omega (arith, ap length e, length-append front rest),
-      long,
-      ap (λ (k : ℕ). take k octets) long
-          ∙ rw e (take_at front rest (length front) refl),
-    )
+take_front = grind (arith, length-append, take_at)
 
 -- the branch that a test took
 pub chosen : {A : Type 0} (b : Bool) (x y z : A) → cond b x y ≡ z → ((b ≡ true) × (x ≡ z)) ⊎ ((b ≡ false) × (y ≡ z))
@@ -66,48 +56,43 @@ unless false e = (refl, e)
 
 pub begins : {A : Type 0} (Spells : List ℕ → A → Type 0) (at : List ℕ → Option (A × List ℕ)) → IsReader Spells at
     → (octets : List ℕ) (x : A) (rest : List ℕ) → at octets ≡ found_at x rest → Begins Spells octets x rest
-begins Spells at reader octets x rest e = reader.takes octets x rest e
+begins Spells at reader _ x _ e = reader.takes _ x _ e
 
 pub begins_read : {A : Type 0} (Spells : List ℕ → A → Type 0) (at : List ℕ → Option (A × List ℕ)) → IsReader Spells at
     → (octets : List ℕ) (x : A) (rest : List ℕ) → Begins Spells octets x rest → at octets ≡ found_at x rest
-begins_read Spells at reader octets x rest b = ap at b.whole ∙ reader.again b.front x rest b.spelled
+begins_read Spells at reader _ x _ b = ap at b.whole ∙ reader.again _ x _ b.spelled
 
--- no spelling begins another
-pub one_front : {A : Type 0} (Spells : List ℕ → A → Type 0) (at : List ℕ → Option (A × List ℕ)) → IsReader Spells at
-    → (a b u v : List ℕ) (x y : A) → Spells a x → Spells b y → a ++ u ≡ b ++ v → (a ≡ b) × (x ≡ y)
-one_front Spells at reader a b u v x y s t e =
-    let both = some_pair_parts x y u v (sym (reader.again a x u s) ∙ ap at e ∙ reader.again b y v t) in
-    let same : a ++ v ≡ b ++ v = ap (λ (w : List ℕ). a ++ w) (sym both.1) ∙ e in
-    (append_cancel_right a b v same, both.0)
+module _ {A : Type 0} (Spells : List ℕ → A → Type 0) (at : List ℕ → Option (A × List ℕ)) (reader : IsReader Spells at)
+  where
+    -- no spelling begins another
+    pub one_front : (a b u v : List ℕ) (x y : A) → Spells a x → Spells b y → a ++ u ≡ b ++ v → (a ≡ b) × (x ≡ y)
+    one_front a b u v x y s t e =
+        let both = some_pair_parts x y u v (sym (reader.again a x u s) ∙ ap at e ∙ reader.again b y v t) in
+        let same : a ++ v ≡ b ++ v = ap (λ (w : List ℕ). a ++ w) (sym both.1) ∙ e in
+        (append_cancel_right a b v same, both.0)
 
--- what was read is what stands at the front
-pub found_front : {A : Type 0} (Spells : List ℕ → A → Type 0) (at : List ℕ → Option (A × List ℕ)) → IsReader Spells at
-    → (octets : List ℕ) (x : A) (rest : List ℕ) → found_at x rest ≡ at octets
-    → (length rest ≤ length octets) × FindsFront Spells octets (Some (x, length octets - length rest))
-found_front {A} Spells at reader octets x rest e =
-    let taken = reader.takes octets x rest (sym e) in
-    let here = take_front octets taken.front rest taken.whole in
-    let spelled : Spells (take (length octets - length rest) octets) x = rw here.2 taken.spelled in
-    let all : (other after : List ℕ) (y : A) → Spells other y → octets ≡ other ++ after
-    → ◌≡◌ {A = Option (A × ℕ)} (Some (x, length octets - length rest)) (Some (y, length other)) =
-    λ other after y t parts.
-    let both = some_pair_parts x y rest after (e ∙ ap at parts ∙ reader.again other y after t) in
-    let there = take_front octets other after parts in
-    let same : length octets - length rest ≡ length other = ap (λ (w : List ℕ). length octets - length w) both.1
-    ∙ there.1 in
-    rw (both.0, same) refl in
-    (here.0, record { spelled = (omega arith, spelled); all = all })
+    -- what was read is what stands at the front
+    pub found_front : (octets : List ℕ) (x : A) (rest : List ℕ) → found_at x rest ≡ at octets
+        → (length rest ≤ length octets) × FindsFront Spells octets (Some (x, length octets - length rest))
+    found_front octets x rest e =
+        let taken = reader.takes _ x _ (sym e) in
+        let here = take_front _ _ _ taken.whole in
+        let spelled : Spells (take (length octets - length rest) octets) x = rw here.2 taken.spelled in
+        let all : (other after : List ℕ) (y : A) → Spells other y → octets ≡ other ++ after → ◌≡◌ {A = Option (A × ℕ)}
+        (Some (x, length octets - length rest)) (Some (y, length other)) =
+        λ other after y t parts.
+        let both = some_pair_parts x y _ _ (e ∙ ap at parts ∙ reader.again _ y _ t) in
+        let there = take_front _ _ _ parts in
+        let same : length octets - length rest ≡ length other = ap (λ (w : List ℕ). length octets - length w) both.1
+        ∙ there.1 in
+        rw (both.0, same) refl in
+        (here.0, record { spelled = (omega arith, spelled); all = all })
 
--- where nothing was read nothing stands at the front
-pub none_front : {A : Type 0} (Spells : List ℕ → A → Type 0) (at : List ℕ → Option (A × List ℕ)) → IsReader Spells at
-    → (octets : List ℕ) → None ≡ at octets → FindsFront Spells octets None
-none_front {A} Spells at reader octets e = record {
-  spelled = tt;
-  all = λ other after y t parts. let nothing : None ≡ found_at y after = e ∙ ap at parts
-      ∙ reader.again other y after t in absurd cc;
-}
+    -- where nothing was read nothing stands at the front
+    pub none_front : (octets : List ℕ) → None ≡ at octets → FindsFront Spells octets None
+    none_front = grind arith
 
 -- a spelling is read back, whatever follows it
 pub spelled_back : {A : Type 0} (Spells : List ℕ → A → Type 0) (front : List ℕ) (x : A) → Spells front x
     → IsReadBack Spells front x
-spelled_back Spells front x s = λ rest found finds. finds.all front rest x s refl
+spelled_back Spells _ x s = λ rest found finds. finds.all _ _ x s refl

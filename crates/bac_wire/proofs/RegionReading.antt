@@ -1,25 +1,23 @@
 -- Reading items from left to right takes whole items, and finds again those that there are, whatever greater depth is
 -- allowed.
-use Rattle.std.proofs.Common.{◌≡◌, ℕ, zero, suc, ◌<◌, ◌≤◌, eqb, ltb, List, [], ◌∷◌, ◌++◌, length, take, drop, Option}
-use Rattle.std.proofs.Common.{Some, None, refl, sym, ap, subst, ◌∙◌, append_assoc, arith, inl, inr, Bool, true, false}
-use Rattle.std.proofs.Common.{cond}
-use Rattle.std.proofs.lemmas.Bool.{le-ltb, ltb-false, eqb-true, eq-eqb}
-use Rattle.std.proofs.lemmas.List.{drop_at, length-append, nil_from_length, take-append-drop, length-take-le}
-use Rattle.std.proofs.lemmas.Option.{none-some, same_Some, cond_some}
-use Rattle.bac_wire.specs.declared.tag.Shape.{Shape}
-use Rattle.bac_wire.specs.declared.tag.Shape.TheVariants.{App, Context, Opening, Closing}
-use Rattle.bac_wire.specs.declared.tag.Tag.{Tag}
-use Rattle.bac_wire.specs.Tag.{SpellsTag}
-use Rattle.bac_wire.specs.Steps.{◌>>=◌}
-use Rattle.bac_wire.specs.TagReading.{tag_at}
-use Rattle.bac_wire.specs.ItemReading.{behind_count, closing_of, behind_closing, behind_item, behind_tag}
-use Rattle.bac_wire.specs.ItemReading.{behind_tag_found, behind_items}
-use Rattle.bac_wire.specs.Front.{Begins}
-use Rattle.bac_wire.specs.Region.{opening_tag, closing_tag, Counts, IsPrimitive, none, more, IsBracketed, IsItem}
-use Rattle.bac_wire.specs.Region.{IsRegion, HasEnded, LeavesRest}
-use Rattle.bac_wire.specs.Inner.Region.{LeavesBehind}
-use Rattle.bac_wire.proofs.Readers.{found_at, chosen, unless}
-use Rattle.bac_wire.proofs.TagLaws.{tag_reader, bind_some}
+use Rattle.std.proofs.{
+  Common.{◌≡◌, ℕ, zero, suc, ◌<◌, ◌≤◌, eqb, List, [], ◌++◌, length, take, Option, Some, None, refl, sym, ap, subst},
+  Common.{◌∙◌, append_assoc, arith, inl, inr, Bool, true, false, cond},
+  lemmas.Bool.{le-ltb, ltb-false, eq-eqb},
+  lemmas.List.{drop_at, length-append, nil_from_length, take-append-drop, length-take-le},
+  lemmas.Option.{none-some, same_Some},
+}
+use Rattle.bac_wire.specs.{
+  declared.tag.{Shape.Shape, Shape.TheVariants.{App, Context, Opening, Closing}, Tag.Tag},
+  Tag.SpellsTag,
+  Steps.◌>>=◌,
+  TagReading.tag_at,
+  ItemReading.{behind_count, closing_of, behind_closing, behind_item, behind_tag, behind_tag_found, behind_items},
+  Front.Begins,
+  Region.{closing_tag, Counts, IsPrimitive, none, more, IsBracketed, IsItem, IsRegion, HasEnded, LeavesRest},
+  Inner.Region.LeavesBehind,
+}
+use Rattle.bac_wire.proofs.{Readers.{found_at, chosen, unless}, TagLaws.{tag_reader, bind_some}}
 
 pub no_octets : tag_at [] ≡ None
 unfolding tag_at
@@ -28,24 +26,23 @@ no_octets = refl
 -- a tag has an octet at least
 pub tag_shorter : (spelling others front rest : List ℕ) (tag : Tag) → SpellsTag spelling tag
     → front ≡ spelling ++ others → length rest < length (front ++ rest)
-tag_shorter spelling others front rest tag s e =
-    omega (arith, ap length e, ap length s.whole, length-append front rest, length-append spelling others)
+tag_shorter = grind (arith, length-append)
 
 pub after_shorter : (octets : List ℕ) (tag : Tag) (after : List ℕ) → tag_at octets ≡ found_at tag after
     → length after < length octets
-after_shorter octets tag after e =
-    let taken = tag_reader.takes octets tag after e in
+after_shorter _ _ after e =
+    let taken = tag_reader.takes _ _ _ e in
     omega (arith, ap length taken.whole, length-append taken.front after, ap length taken.spelled.whole)
 
 pub tag_parts : (tag : Tag) (number : ℕ) (shape : Shape) → tag.shape ≡ shape → tag.number ≡ number
     → tag ≡ record { number = number; shape = shape }
-tag_parts tag number shape e f = rw (← e, ← f) refl
+tag_parts _ _ _ e f = rw (← e, ← f) refl
 
 -- a tag and what stands behind it, in front of a rest
 pub tag_again : (front spelling others rest : List ℕ) (tag : Tag) → front ≡ spelling ++ others → SpellsTag spelling tag
     → tag_at (front ++ rest) ≡ found_at tag (others ++ rest)
-tag_again front spelling others rest tag e s = ap (λ (w : List ℕ). tag_at (w ++ rest)) e
-    ∙ ap tag_at (append_assoc spelling others rest) ∙ tag_reader.again spelling tag (others ++ rest) s
+tag_again _ _ _ rest _ e s = ap (λ (w : List ℕ). tag_at (w ++ rest)) e
+    ∙ ap tag_at (append_assoc _ _ rest) ∙ tag_reader.again _ _ _ s
 
 -- ---- a closing tag
 
@@ -55,41 +52,38 @@ IsClosedBy number octets rest = Begins SpellsTag octets (closing_tag number) res
 
 pub closing_read : (number : ℕ) (octets rest : List ℕ) → IsClosedBy number octets rest
     → tag_at octets ≡ found_at (closing_tag number) rest
-closing_read number octets rest c = ap tag_at c.whole ∙ tag_reader.again c.front (closing_tag number) rest c.spelled
+closing_read _ _ _ c = ap tag_at c.whole ∙ tag_reader.again _ _ _ c.spelled
 
 closed_since : (tag : Tag) (number : ℕ) (octets rest : List ℕ) → tag_at octets ≡ found_at tag rest → tag.shape ≡ Closing
     → tag.number ≡ number → IsClosedBy number octets rest
-closed_since tag number octets rest e shape same =
-    let taken = tag_reader.takes octets tag rest e in
+closed_since _ _ _ _ e shape same =
+    let taken = tag_reader.takes _ _ _ e in
     record {
       front = taken.front;
-      spelled = subst (SpellsTag taken.front) (tag_parts tag number Closing shape same) taken.spelled;
+      spelled = subst (SpellsTag _) (tag_parts _ _ _ shape same) taken.spelled;
       whole = taken.whole;
     }
 
 pub ended_since : (tag : Tag) (octets rest : List ℕ) → tag_at octets ≡ found_at tag rest → tag.shape ≡ Closing
     → HasEnded octets
-ended_since tag octets rest e shape = inr (tag.number, rest, closed_since tag tag.number octets rest e shape refl)
+ended_since tag _ rest e shape = inr (tag.number, rest, closed_since _ _ _ _ e shape refl)
 
 closing_takes : (number : ℕ) (tag : Tag) (shape : Shape) (after rest : List ℕ)
     → closing_of number tag shape after ≡ Some rest → (shape ≡ Closing) × (tag.number ≡ number) × (after ≡ rest)
-closing_takes number tag Closing after rest e =
-    let same = cond_some (eqb tag.number number) after rest e in
-    (refl, eqb-true tag.number number same.0, same.1)
-closing_takes number tag _ after rest e = absurd (none-some rest e)
+closing_takes = grind arith
 
 pub closed_takes : (number : ℕ) (octets rest : List ℕ) → behind_closing number octets ≡ Some rest
     → IsClosedBy number octets rest
 unfolding behind_closing
-closed_takes number octets rest e =
-    let a = bind_some (tag_at octets) (λ x. closing_of number x.0 x.0.shape x.1) rest e in
-    let same = closing_takes number a.0.0 a.0.0.shape a.0.1 rest a.2 in
-    closed_since a.0.0 number octets rest (a.1 ∙ ap (found_at a.0.0) same.2) same.0 same.1
+closed_takes _ _ _ e =
+    let a = bind_some _ _ _ e in
+    let same = closing_takes _ a.0.0 _ _ _ a.2 in
+    closed_since _ _ _ _ (a.1 ∙ ap (found_at _) same.2) same.0 same.1
 
 pub closed_again : (number : ℕ) (octets rest : List ℕ) → IsClosedBy number octets rest
     → behind_closing number octets ≡ Some rest
 unfolding behind_closing
-closed_again number octets rest c = rw (closing_read number octets rest c, eq-eqb number number refl) refl
+closed_again _ _ _ c = rw (closing_read _ _ _ c, eq-eqb _ _ refl) refl
 
 -- ---- one step
 
@@ -97,43 +91,32 @@ closed_again number octets rest c = rw (closing_read number octets rest c, eq-eq
 abbrev pub item_at : (ℕ → List ℕ → Option (List ℕ)) → ℕ → List ℕ → Option (List ℕ)
 item_at items depth octets = tag_at octets >>= λ t. behind_item items depth t.0 t.0.shape t.1
 
--- no item stands where the items have ended
-pub ended_none : (items : ℕ → List ℕ → Option (List ℕ)) (depth : ℕ) (octets : List ℕ) → HasEnded octets
-    → item_at items depth octets ≡ None
-ended_none items depth octets ended = elim ended [
-  | inl empty ↦ rw (empty, no_octets) refl
-  | inr closed ↦ rw (closing_read closed.0 octets closed.1 closed.2) refl
-]
-
 tag_found : (items : ℕ → List ℕ → Option (List ℕ)) (depth : ℕ) (octets : List ℕ) (t : Tag × List ℕ)
     → behind_tag_found items depth octets (Some t) ≡ behind_tag items depth octets t.0 t.0.shape t.1
-tag_found items depth [] t = refl
-tag_found items depth _ t = refl
+tag_found _ _ [] t = refl
+tag_found _ _ _ t = refl
 
 pub ended_again : (count depth : ℕ) (octets : List ℕ) → HasEnded octets
     → behind_items (suc count) depth octets ≡ Some octets
 unfolding behind_items
-ended_again count depth octets ended = elim ended [
+ended_again count depth _ ended = elim ended [
   | inl empty ↦ rw (empty, no_octets) refl
-  | inr closed ↦ rw (closing_read closed.0 octets closed.1 closed.2)
-      (tag_found (behind_items count) depth octets (closing_tag closed.0, closed.1))
+  | inr closed ↦ rw (closing_read _ _ _ closed.2)
+      (tag_found (behind_items count) depth _ (closing_tag closed.0, closed.1))
 ]
 
 going_on : (items : ℕ → List ℕ → Option (List ℕ)) (depth : ℕ) (octets : List ℕ) (tag : Tag) (shape : Shape)
     (after : List ℕ)
     → (shape ≡ Closing → ⊥)
     → behind_tag items depth octets tag shape after ≡ (behind_item items depth tag shape after >>= items depth)
-going_on items depth octets tag Closing after going = absurd (going refl)
-going_on items depth octets tag _ after going = refl
+going_on = grind arith
 
 -- at a tag that is no closing one, the first item, and then the others
 pub one_step : (count depth : ℕ) (octets : List ℕ) (tag : Tag) (after : List ℕ) → tag_at octets ≡ found_at tag after
     → (tag.shape ≡ Closing → ⊥)
     → behind_items (suc count) depth octets ≡ (item_at (behind_items count) depth octets >>= behind_items count depth)
 unfolding behind_items
-one_step count depth octets tag after e going =
-    rw e (tag_found (behind_items count) depth octets (tag, after)
-    ∙ going_on (behind_items count) depth octets tag tag.shape after going)
+one_step = grind (arith, tag_found, going_on)
 
 -- ---- what is read is there
 
@@ -142,14 +125,14 @@ abbrev Takes : (ℕ → List ℕ → Option (List ℕ)) → Type 0
 Takes items = (depth : ℕ) (octets rest : List ℕ) → items depth octets ≡ Some rest → LeavesRest depth octets rest
 
 primitive_item : (depth : ℕ) (item : List ℕ) → IsPrimitive item → IsItem depth item
-primitive_item zero item p = p
-primitive_item (suc depth) item p = inl p
+primitive_item zero _ p = p
+primitive_item (suc depth) _ p = inl p
 
 counted_behind : (depth : ℕ) (octets : List ℕ) (tag : Tag) (contents rest : List ℕ)
     → tag_at octets ≡ found_at tag (contents ++ rest)
     → Counts tag.number tag.shape (length contents) → LeavesBehind depth octets rest
-counted_behind depth octets tag contents rest e counted =
-    let taken = tag_reader.takes octets tag (contents ++ rest) e in
+counted_behind _ _ tag contents rest e counted =
+    let taken = tag_reader.takes _ _ _ e in
     let item : IsPrimitive (taken.front ++ contents) =
     record {
       tag = tag;
@@ -159,8 +142,8 @@ counted_behind depth octets tag contents rest e counted =
     } in
     record {
       front = taken.front ++ contents;
-      item = primitive_item depth (taken.front ++ contents) item;
-      whole = taken.whole ∙ sym (append_assoc taken.front contents rest);
+      item = primitive_item _ _ item;
+      whole = taken.whole ∙ sym (append_assoc _ _ rest);
     }
 
 -- so many octets behind the tag
@@ -168,36 +151,32 @@ count_behind : (depth count : ℕ) (octets : List ℕ) (tag : Tag) (after rest :
     → tag_at octets ≡ found_at tag after
     → ((n : ℕ) → n ≡ count → Counts tag.number tag.shape n) → behind_count count after ≡ Some rest
     → LeavesBehind depth octets rest
-count_behind depth count octets tag after rest e counts f =
-    let room = unless (ltb (length after) count) f in
-    let line : after ≡ take count after ++ rest = sym (take-append-drop count after)
-    ∙ ap (λ (w : List ℕ). take count after ++ w) (same_Some (drop count after) rest room.1) in
-    counted_behind depth octets tag (take count after) rest (e ∙ ap (found_at tag) line)
-    (counts (length (take count after)) (length-take-le count after (ltb-false (length after) count room.0)))
+count_behind _ count _ _ after rest e counts f =
+    let room = unless _ f in
+    let line : after ≡ take count after ++ rest = sym (take-append-drop _ _)
+    ∙ ap (λ (w : List ℕ). take count after ++ w) (same_Some _ _ room.1) in
+    counted_behind _ _ _ _ _ (e ∙ ap (found_at _) line) (counts _ (length-take-le _ _ (ltb-false _ _ room.0)))
 
 item_takes : (items : ℕ → List ℕ → Option (List ℕ)) (depth : ℕ) (octets : List ℕ) (tag : Tag) (shape : Shape)
     (after rest : List ℕ)
     → Takes items → tag_at octets ≡ found_at tag after → tag.shape ≡ shape
     → behind_item items depth tag shape after ≡ Some rest
     → LeavesBehind depth octets rest
-item_takes items depth octets tag (App n) after rest takes e is f = elim (chosen (eqb tag.number 1) _ _ _ f) [
-  | inl one ↦ counted_behind depth octets tag [] rest (e ∙ ap (found_at tag) (same_Some after rest one.1))
-      (rw (is, one.0) refl)
-  | inr other ↦ count_behind depth n octets tag after rest e (λ m same. rw (is, other.0) same) other.1
+item_takes _ _ _ tag (App n) _ _ takes e is f = elim (chosen (eqb tag.number 1) _ _ _ f) [
+  | inl one ↦ counted_behind _ _ _ [] _ (e ∙ ap (found_at _) (same_Some _ _ one.1)) (rw (is, one.0) refl)
+  | inr other ↦ count_behind _ n _ _ _ _ e (λ m same. rw (is, other.0) same) other.1
 ]
-item_takes items depth octets tag (Context n) after rest takes e is f =
-    count_behind depth n octets tag after rest e (λ m same. rw is same) f
-item_takes items (suc depth) octets tag Opening after rest takes e is f =
-    let inside = bind_some (items depth after) (behind_closing tag.number) rest f in
-    let l = takes depth after inside.0 inside.1 in
-    let c = closed_takes tag.number inside.0 rest inside.2 in
-    let taken = tag_reader.takes octets tag after e in
-    let opened = subst (SpellsTag taken.front) (tag_parts tag tag.number Opening is refl) taken.spelled in
+item_takes _ _ _ _ (Context n) _ _ takes e is f = count_behind _ n _ _ _ _ e (λ m same. rw is same) f
+item_takes _ (suc depth) octets tag Opening _ rest takes e is f =
+    let inside = bind_some _ _ _ f in
+    let l = takes _ _ _ inside.1 in
+    let c = closed_takes _ _ _ inside.2 in
+    let taken = tag_reader.takes _ _ _ e in
+    let opened = subst (SpellsTag _) (tag_parts _ _ _ is refl) taken.spelled in
     let line : octets ≡ (taken.front ++ (l.front ++ c.front)) ++ rest = taken.whole
-    ∙ ap (λ (w : List ℕ). taken.front ++ w) (l.whole ∙ ap (λ (w : List ℕ). l.front ++ w) c.whole)
-    ∙ simp append_assoc in
+    ∙ ap (λ (w : List ℕ). taken.front ++ w) (l.whole ∙ ap (λ (w : List ℕ). l.front ++ w) c.whole) ∙ simp append_assoc in
     record {
-      front = taken.front ++ (l.front ++ c.front);
+      front = taken.front ++ _;
       item = inr (
         tag.number,
         l.front,
@@ -210,18 +189,18 @@ item_takes items (suc depth) octets tag Opening after rest takes e is f =
       );
       whole = line;
     }
-item_takes items _ octets tag _ after rest takes e is f = absurd (none-some rest f)
+item_takes _ _ _ _ _ _ _ _ e is f = absurd (none-some _ f)
 
 pub item_at_takes : (items : ℕ → List ℕ → Option (List ℕ)) (depth : ℕ) (octets rest : List ℕ) → Takes items
     → item_at items depth octets ≡ Some rest → LeavesBehind depth octets rest
-item_at_takes items depth octets rest takes e =
-    let a = bind_some (tag_at octets) (λ t. behind_item items depth t.0 t.0.shape t.1) rest e in
-    item_takes items depth octets a.0.0 a.0.0.shape a.0.1 rest takes a.1 refl a.2
+item_at_takes _ _ _ _ takes e =
+    let a = bind_some _ _ _ e in
+    item_takes _ _ _ _ _ _ _ takes a.1 refl a.2
 
 ended_leaves : (depth : ℕ) (octets rest : List ℕ) → HasEnded octets
     → ◌≡◌ {A = Option (List ℕ)} (Some octets) (Some rest) → LeavesRest depth octets rest
-ended_leaves depth octets rest ended e =
-    let same = same_Some octets rest e in
+ended_leaves _ _ _ ended e =
+    let same = same_Some _ _ e in
     record { front = []; region = none; whole = same; ended = subst HasEnded same ended }
 
 -- the items behind the first one
@@ -230,17 +209,15 @@ more_takes : (items : ℕ → List ℕ → Option (List ℕ)) (depth : ℕ) (oct
     → Takes items → tag_at octets ≡ found_at tag after → tag.shape ≡ shape
     → behind_tag items depth octets tag shape after ≡ Some rest
     → LeavesRest depth octets rest
-more_takes items depth octets tag Closing after rest takes e is f =
-    ended_leaves depth octets rest (ended_since tag octets after e is) f
-more_takes items depth octets tag shape after rest takes e is f =
-    let a = bind_some (behind_item items depth tag shape after) (items depth) rest f in
-    let i = item_takes items depth octets tag shape after a.0 takes e is a.1 in
-    let l = takes depth a.0 rest a.2 in
+more_takes _ _ _ tag Closing _ _ _ e is f = ended_leaves _ _ _ (ended_since tag _ _ e is) f
+more_takes _ _ _ tag _ _ rest takes e is f =
+    let a = bind_some _ _ _ f in
+    let i = item_takes _ _ _ tag _ _ a.0 takes e is a.1 in
+    let l = takes _ a.0 _ a.2 in
     record {
       front = i.front ++ l.front;
       region = more i.item l.region;
-      whole = i.whole
-          ∙ ap (λ (w : List ℕ). i.front ++ w) l.whole ∙ sym (append_assoc i.front l.front rest);
+      whole = i.whole ∙ ap (λ (w : List ℕ). i.front ++ w) l.whole ∙ sym (append_assoc _ _ rest);
       ended = l.ended;
     }
 
@@ -248,17 +225,13 @@ found_takes : (items : ℕ → List ℕ → Option (List ℕ)) (depth : ℕ) (oc
     (rest : List ℕ)
     → Takes items → tag_at octets ≡ read → behind_tag_found items depth octets read ≡ Some rest
     → LeavesRest depth octets rest
-found_takes items depth [] None rest takes e f = ended_leaves depth [] rest (inl refl) f
-found_takes items depth (x ∷ xs) None rest takes e f = absurd (none-some rest f)
-found_takes items depth octets (Some t) rest takes e f =
-    more_takes items depth octets t.0 t.0.shape t.1 rest takes e refl f
+found_takes = grind (arith, ended_leaves, none-some, more_takes)
 
 pub items_take : (count depth : ℕ) (octets rest : List ℕ) → behind_items count depth octets ≡ Some rest
     → LeavesRest depth octets rest
 unfolding behind_items
-items_take zero depth octets rest e = absurd (none-some rest e)
-items_take (suc count) depth octets rest e =
-    found_takes (behind_items count) depth octets (tag_at octets) rest (items_take count) refl e
+items_take zero _ _ _ e = absurd (none-some _ e)
+items_take (suc count) _ _ _ e = found_takes _ _ _ _ _ (items_take count) refl e
 
 -- ---- what is there is read
 
@@ -269,85 +242,71 @@ Again items most = (depth top : ℕ) (front rest : List ℕ) → depth ≤ top �
 
 count_again : (count : ℕ) (contents rest : List ℕ) → length contents ≡ count
     → behind_count count (contents ++ rest) ≡ Some rest
-count_again count contents rest e =
-    rw (
-      le-ltb (length (contents ++ rest)) count (omega (arith, e, length-append contents rest)),
-      drop_at contents rest count e,
-    ) refl
+count_again = grind (arith, le-ltb, length-append, drop_at)
 
 boolean_again : (b : Bool) (n : ℕ) (contents rest : List ℕ) → length contents ≡ cond b 0 n
     → cond b (Some (contents ++ rest)) (behind_count n (contents ++ rest)) ≡ Some rest
-boolean_again true n contents rest e = rw (nil_from_length contents e) refl
-boolean_again false n contents rest e = count_again n contents rest e
+boolean_again true n _ _ e = rw (nil_from_length _ e) refl
+boolean_again false n _ _ e = count_again n _ _ e
 
 counted_again : (items : ℕ → List ℕ → Option (List ℕ)) (top : ℕ) (tag : Tag) (shape : Shape) (contents rest : List ℕ)
     → Counts tag.number shape (length contents) → behind_item items top tag shape (contents ++ rest) ≡ Some rest
-counted_again items top tag (App n) contents rest counted = boolean_again (eqb tag.number 1) n contents rest counted
-counted_again items top tag (Context n) contents rest counted = count_again n contents rest counted
-counted_again items top tag _ contents rest counted = absurd counted
+counted_again = grind (arith, boolean_again, count_again)
 
 primitive_again : (items : ℕ → List ℕ → Option (List ℕ)) (top : ℕ) (item rest : List ℕ) → IsPrimitive item
     → item_at items top (item ++ rest) ≡ Some rest
-primitive_again items top item rest p =
-    rw (tag_again item p.tagged.front p.contents rest p.tag p.tagged.whole p.tagged.spelled)
-    (counted_again items top p.tag p.tag.shape p.contents rest p.counted)
+primitive_again _ top _ _ p =
+    rw (tag_again _ _ _ _ _ p.tagged.whole p.tagged.spelled) (counted_again _ top _ _ _ _ p.counted)
 
 bracket_again : (items : ℕ → List ℕ → Option (List ℕ)) (most depth top number : ℕ) (item inside rest : List ℕ)
     → Again items most → depth ≤ top
     → length (item ++ rest) < suc most → IsBracketed (IsItem depth) number item inside
     → item_at items (suc top) (item ++ rest) ≡ Some rest
-bracket_again items most depth top number item inside rest again le short b =
-    let read = tag_again item b.opened.front (inside ++ b.closing) rest (opening_tag number) b.opened.whole
-    b.opened.spelled in
+bracket_again _ _ _ top number _ inside rest again le short b =
+    let read = tag_again _ _ _ rest _ b.opened.whole b.opened.spelled in
     let line = append_assoc inside b.closing rest in
     let c : IsClosedBy number (b.closing ++ rest) rest =
     record { front = b.closing; spelled = b.closed; whole = refl } in
-    let within = again depth top inside (b.closing ++ rest) le
-    (omega (
+    let within = again _ top _ _ le (omega (
       arith,
-      after_shorter (item ++ rest) (opening_tag number) ((inside ++ b.closing) ++ rest) read,
+      after_shorter _ _ _ read,
       ap length line,
     )) b.parts (inr (number, rest, c)) in
-    rw (read, line, within, closed_again number (b.closing ++ rest) rest c) refl
+    rw (read, line, within, closed_again _ _ rest c) refl
 
 pub item_again : (items : ℕ → List ℕ → Option (List ℕ)) (most depth top : ℕ) (item rest : List ℕ) → Again items most
     → depth ≤ top
     → length (item ++ rest) < suc most → IsItem depth item → item_at items top (item ++ rest) ≡ Some rest
-item_again items most zero top item rest again le short p = primitive_again items top item rest p
-item_again items most (suc depth) zero item rest again le short i = absurd (omega arith)
-item_again items most (suc depth) (suc top) item rest again le short i =
+item_again _ _ zero top _ _ _ le _ p = primitive_again _ top _ _ p
+item_again _ _ (suc depth) zero _ _ again le short i = absurd (omega arith)
+item_again items _ (suc depth) (suc top) _ _ again le short i =
     elim i [
-      | inl p ↦ primitive_again items (suc top) item rest p
-      | inr b ↦
-          bracket_again items most depth top b.0 item b.1 rest again (omega arith) short b.2
+      | inl p ↦ primitive_again items (suc _) _ _ p
+      | inr b ↦ bracket_again items _ _ top b.0 _ b.1 _ again (omega arith) short b.2
     ]
 
 pub item_shorter : (depth : ℕ) (item rest : List ℕ) → IsItem depth item → length rest < length (item ++ rest)
-item_shorter zero item rest p = tag_shorter p.tagged.front p.contents item rest p.tag p.tagged.spelled p.tagged.whole
-item_shorter (suc depth) item rest i =
+item_shorter zero _ _ p = tag_shorter _ _ _ _ _ p.tagged.spelled p.tagged.whole
+item_shorter (suc depth) _ _ i =
     elim i [
-      | inl p ↦ tag_shorter p.tagged.front p.contents item rest p.tag p.tagged.spelled p.tagged.whole
-      | inr b ↦
-          tag_shorter b.2.opened.front (b.1 ++ b.2.closing) item rest (opening_tag b.0) b.2.opened.spelled
-          b.2.opened.whole
+      | inl p ↦ tag_shorter _ _ _ _ _ p.tagged.spelled p.tagged.whole
+      | inr b ↦ tag_shorter _ _ _ _ _ b.2.opened.spelled b.2.opened.whole
     ]
 
 -- behind an item the others are read
 pub more_again : (count top : ℕ) (octets next : List ℕ) → item_at (behind_items count) top octets ≡ Some next
     → behind_items (suc count) top octets ≡ behind_items count top next
-more_again count top octets next e =
-    let a = bind_some (tag_at octets) (λ t. behind_item (behind_items count) top t.0 t.0.shape t.1) next e in
-    one_step count top octets a.0.0 a.0.1 a.1 (λ closing. none-some next (rw closing at a.2))
+more_again count top _ _ e =
+    let a = bind_some _ _ _ e in
+    one_step _ _ _ _ _ a.1 (λ closing. none-some _ (rw closing at a.2))
     ∙ ap (λ (r : Option (List ℕ)). r >>= behind_items count top) e
 
 pub items_again : (count depth top : ℕ) (front rest : List ℕ) → depth ≤ top → length (front ++ rest) < count
     → IsRegion depth front → HasEnded rest → behind_items count top (front ++ rest) ≡ Some rest
-items_again zero depth top front rest le short r ended = absurd (omega arith)
-items_again (suc count) depth top front rest le short none ended = ended_again count top rest ended
-items_again (suc count) depth top front rest le short (more {first} {rest = others} i s) ended =
+items_again zero _ _ _ _ le short r ended = absurd (omega arith)
+items_again (suc count) _ top _ rest le _ none ended = ended_again _ top rest ended
+items_again (suc count) depth top _ rest le short (more {first} {rest = others} i s) ended =
     let line = append_assoc first others rest in
-    let shorter = item_shorter depth first (others ++ rest) i in
-    let read = item_again (behind_items count) count depth top first (others ++ rest) (items_again count) le
-    (rw line at short) i in
-    rw line (more_again count top (first ++ (others ++ rest)) (others ++ rest) read
-    ∙ items_again count depth top others rest le (omega (arith, ap length line)) s ended)
+    let shorter = item_shorter _ _ (others ++ rest) i in
+    let read = item_again _ _ _ top _ _ (items_again count) le (rw line at short) i in
+    rw line (more_again _ top _ _ read ∙ items_again count depth top _ rest le (omega (arith, ap length line)) s ended)

@@ -1,21 +1,21 @@
 -- A command grows by one argument or one tool, and stays the one that the rules say.
-use Rattle.std.proofs.Common.{◌≡◌, ◌∙◌, ◌||◌, ap, ap₂, subst, refl, map, List, [], ◌∷◌, false, true, Option}
-use Rattle.std.proofs.lemmas.Bool.{or_parts}
-use Rattle.clap.specs.declared.builder.command.Command.TheViews.{out-Command}
-use Rattle.clap.specs.declared.builder.command.Command.TheOpen.{Command-F}
-use Rattle.clap.specs.Simple.{app_of_fields}
-use Rattle.std.specs.Borrow.{Bor}
-use Rattle.clap.specs.Walk.{Text}
-use Rattle.clap.specs.Words.{AddsArg, AddsInTurn, AddsSubcommand, App, rule_of, with_rule, with_subcommand}
-use Rattle.clap.specs.declared.builder.arg.Arg.{Arg}
-use Rattle.clap.specs.declared.builder.command.Command.{Command}
+use Rattle.std.{
+  proofs.{Common.{◌≡◌, ◌∙◌, ◌||◌, ap, ap₂, subst, refl, map, List, [], ◌∷◌, false, true, Option}, lemmas.Bool.or_parts},
+  specs.{Borrow.Bor, List.{fold, list_any}},
+}
+use Rattle.clap.specs.{
+  declared.builder.command.{Command.TheViews.out-Command, Command.TheOpen.Command-F, Command.Command},
+  Simple.app_of_fields,
+  Walk.Text,
+  Words.{AddsArg, AddsInTurn, AddsSubcommand, App, rule_of, with_rule, with_subcommand},
+  declared.builder.arg.Arg.Arg,
+}
 use Rattle.clap_laws.specs.Commands.{IsCommand, wanting}
-use Rattle.std.specs.List.{fold, list_any}
 
 pub with_tool : {app tool : App} (old new sub : Command) → IsCommand old app → IsCommand sub tool
     → AddsSubcommand old sub new
     → IsCommand new (with_subcommand app tool.top)
-with_tool old new sub is tool_is added = record {
+with_tool _ _ _ is tool_is added = record {
   shape = added.shape tool_is.local ∙ ap₂ with_subcommand is.shape (ap (λ (a : App). a.top) tool_is.shape);
   local = added.globals ∙ ap₂ (λ x y. x || y) is.local tool_is.local;
 }
@@ -24,20 +24,20 @@ with_tool old new sub is tool_is added = record {
 pub in_turn : (args : List Arg) (app : App) (old new : Command) → IsCommand old app
     → list_any (λ a. a.global) args ≡ false → AddsInTurn AddsArg old args new
     → IsCommand new (fold with_rule app (map rule_of args))
-in_turn [] app old new is local same = subst (λ c. IsCommand c app) same is
-in_turn (a ∷ rest) app old new is local chain =
-    let parts = or_parts a.global (list_any (λ a. a.global) rest) local in
+in_turn [] app _ _ is _ same = subst (λ c. IsCommand c app) same is
+in_turn (a ∷ rest) app _ _ is local chain =
+    let parts = or_parts _ _ local in
     let next : IsCommand chain.0 (with_rule app (rule_of a)) = record {
       shape = chain.1.shape parts.0 ∙ ap (λ (app : App). with_rule app (rule_of a)) is.shape;
       local = chain.1.globals ∙ rw (is.local, parts.0) refl;
     } in
-    in_turn rest (with_rule app (rule_of a)) chain.0 new next parts.1 chain.2
+    in_turn rest _ _ _ next parts.1 chain.2
 
 -- help leaves the rules as they are
 pub helped : {app : App} {about after : Option (Bor Text)} (first second third : Command) → IsCommand first app
     → out-Command second ≡ record (out-Command first) { about = about }
     → out-Command third ≡ record (out-Command second) { after_help = after } → IsCommand third app
-helped first second third is about after = record {
+helped _ _ _ is about after = record {
   shape = ap app_of_fields after ∙ ap app_of_fields about ∙ is.shape;
   local = ap (λ (f : Command-F Command). f.has_globals) after ∙ ap (λ (f : Command-F Command). f.has_globals) about
       ∙ is.local;
@@ -47,7 +47,7 @@ helped first second third is about after = record {
 pub wanting_is : {app : App} (old new : Command) → IsCommand old app
     → out-Command new ≡ record (out-Command old) { subcommand_required = true }
     → IsCommand new (wanting app)
-wanting_is old new is same = record {
+wanting_is _ _ is same = record {
   shape = ap app_of_fields same ∙ ap wanting is.shape;
   local = ap (λ (f : Command-F Command). f.has_globals) same ∙ is.local;
 }

@@ -1,23 +1,22 @@
 -- Where `clap` takes the words of a program that wants a tool, the words name one other than `help`, and it takes the
 -- words after it.
-use Rattle.std.proofs.Common.{arith, ◌≡◌, ◌∙◌, ap, ◌&&◌, Bool, true, false, not, refl, List, [], Option, Some, None}
-use Rattle.std.proofs.Common.{is_some, IfSome}
-use Rattle.std.specs.List.{find}
-use Rattle.clap.specs.Walk.{finished, settled, Text, answers_to, nothing_held, walk, walk_from, stop_after}
-use Rattle.clap.specs.Simple.{App, Shape, argument_words, built, entered, label_of, names_of, rows_at}
-use Rattle.clap.specs.Kinds.{check_kinds}
-use Rattle.clap.specs.Faults.{check_fault, defaults_fault, entered_fault, fault_of, level_fault}
-use Rattle.std.specs.Option.{option_map, option_map_or}
-use Rattle.clap_laws.specs.Entering.{Enters}
-use Rattle.clap_laws.proofs.Rows.{asks, none_fails, walk_goes}
+use Rattle.std.{
+  proofs.Common.{arith, ◌≡◌, ◌∙◌, ap, true, false, refl, List, [], Option, Some, None, is_some, IfSome},
+  specs.{List.find, Option.{option_map, option_map_or}},
+}
+use Rattle.clap.specs.{
+  Walk.{finished, settled, Text, answers_to, nothing_held, walk, walk_from, stop_after},
+  Simple.{App, Shape, argument_words, built, entered, label_of, names_of, rows_at},
+  Faults.{check_fault, defaults_fault, entered_fault, fault_of, level_fault},
+}
+use Rattle.clap_laws.{specs.Entering.Enters, proofs.Rows.{asks, none_fails, walk_goes}}
 
 enters_by : (a : App) (words : List Text) (stop : Option (Text × List Text))
     → stop_after (built a).top.rules (names_of (built a)) (argument_words a words) ≡ stop
     → is_some (entered (built a) stop) ≡ true → entered_fault (built a) stop ≡ []
     → IfSome stop (λ p. asks (built a).top p.0 ≡ false) → Enters a words
-enters_by a words None is there none else = cc
-enters_by a words (Some p) is there none else =
-    go (find (λ s. answers_to p.0 (label_of s)) (built a).subs) refl there none
+enters_by a _ None is there none else = cc
+enters_by a words (Some p) is there none else = go _ refl there none
   where
     go : (o : Option Shape) → find (λ s. answers_to p.0 (label_of s)) (built a).subs ≡ o
         → is_some (option_map (λ s. rows_at s p.1) o) ≡ true
@@ -35,10 +34,6 @@ enters_by a words (Some p) is there none else =
           passes = none;
         }
 
-has_tool : (wants_help there wants_argument wanted : Bool) → wanted ≡ true
-    → check_kinds wants_help (not there && wanted) wants_argument ≡ [] → there ≡ true
-has_tool wants_help there wants_argument wanted is none = grind arith
-
 pub enters : (a : App) (words : List Text) → (built a).top.subcommand_required ≡ true → fault_of a words ≡ []
     → Enters a words
 enters a words wanted none =
@@ -53,4 +48,4 @@ enters a words wanted none =
     (check_fault (built a).top rows there) settle.1 in
     let else = (walk_goes (built a).top (names_of (built a)) (walk_from nothing_held) (argument_words a words) all.0
     ((λ level. tt), tt)).1 in
-    enters_by a words stop refl (has_tool _ there _ (built a).top.subcommand_required wanted defaults.1) below.0 else
+    enters_by a words stop refl (grind arith) below.0 else

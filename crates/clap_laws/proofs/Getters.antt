@@ -1,38 +1,40 @@
 -- From the rules that the words passed to what the getters of the matches read.
-use Rattle.std.proofs.Common.{◌≡◌, ◌∙◌, ◌<◌, ◌&&◌, ℕ, pos, true, false, not, refl, sym, ap, subst, arith, List, [], ◌∷◌}
-use Rattle.std.proofs.Common.{length, Option, Some, None, Result, is_some, IfSome, slice_get}
-use Rattle.std.specs.List.{find, list_all}
-use Rattle.std.specs.Option.{option_and_then, option_map, option_map_or}
-use Rattle.std.specs.Str.{bytes_eq}
-use Rattle.std.specs.Str.Parse.{ExplainsUnsignedError, HasUnsignedDigitsIfOk, ParsesUnsigned}
-use Rattle.std.specs.declared.num.ParseIntError.{ParseIntError}
-use Rattle.std.proofs.lemmas.Bool.{not-false}
-use Rattle.std.proofs.lemmas.Slice.Eq.{bytes_eq-Decides}
-use Rattle.clap.specs.Facts.{explicit_source, parser_of_value}
-use Rattle.clap.specs.Values.{Accepts, read_as, reading_of}
-use Rattle.clap.specs.ValueTests.{accepts}
-use Rattle.clap.specs.Matches.{ReadsOne, one_text}
-use Rattle.clap.specs.Walk.{Row, Rule, Text, arg_by_id, one_of, reading_by, row_text, rows_of}
-use Rattle.clap.specs.Takes.{is_given, value_passes}
-use Rattle.clap.specs.declared.parser.matches.Found.{Found}
-use Rattle.clap.specs.declared.builder.value_parser.ValueParser.{ValueParser}
+use Rattle.std.proofs.{
+  Common.{◌≡◌, ◌∙◌, ◌<◌, ◌&&◌, ℕ, pos, true, false, not, refl, sym, ap, subst, arith, List, [], ◌∷◌, length, Option},
+  Common.{Some, None, Result, is_some, IfSome, slice_get},
+  lemmas.{Bool.not-false, Slice.Eq.bytes_eq-Decides},
+}
+use Rattle.std.specs.{
+  List.{find, list_all},
+  Option.{option_and_then, option_map, option_map_or},
+  Str.bytes_eq,
+  Str.Parse.{ExplainsUnsignedError, HasUnsignedDigitsIfOk, ParsesUnsigned},
+  declared.num.ParseIntError.ParseIntError,
+}
+use Rattle.clap.specs.{
+  Facts.{explicit_source, parser_of_value},
+  Values.{Accepts, read_as, reading_of},
+  ValueTests.accepts,
+  Matches.{ReadsOne, one_text},
+  Walk.{Row, Rule, Text, arg_by_id, one_of, reading_by, row_text, rows_of},
+  Takes.{is_given, value_passes},
+  declared.{parser.matches.Found.Found, builder.value_parser.ValueParser.ValueParser},
+}
+use Rattle.clap.proofs.{CallerReads.signed_reads, ValueTestLemmas.accepts-Accepts, WalkLemmas.{both, one_text-rows}}
+use Rattle.clap_laws.{
+  specs.{Passes.{IsTaken, RowPasses}, Numbers.number_of},
+  specs.Inner.Numbers.{FitsWord, IsWithin, bounds_by, bounds_in, decimal, is_needed},
+  proofs.Rows.{RowsPass, any_not, when_found},
+}
 use Rattle.clap.specs.declared.builder.value_parser.ValueParser.TheVariants as vp
-use Rattle.clap.proofs.CallerReads.{signed_reads}
-use Rattle.clap.proofs.ValueTestLemmas.{accepts-Accepts}
-use Rattle.clap.proofs.WalkLemmas.{both, one_text-rows}
-use Rattle.clap_laws.specs.Passes.{IsTaken, RowPasses}
-use Rattle.clap_laws.specs.Numbers.{number_of}
-use Rattle.clap_laws.specs.Inner.Numbers.{FitsWord, IsWithin, bounds_by, bounds_in, decimal, is_needed}
-use Rattle.clap_laws.proofs.Rows.{RowsPass, any_not, when_found}
 
 -- the entry of an id passed
 entry : (c : List Rule) (id : Text) (rows : List Row) (r : Row) → RowsPass c rows
     → find (λ r. bytes_eq r.id id) rows ≡ Some r
     → (r.id ≡ id) × RowPasses c r
 entry c id rows r h is =
-    when_found (λ r. bytes_eq r.id id) (λ rows. RowsPass c rows → (r.id ≡ id) × RowPasses c r) r
-    (λ xs passes h. ((bytes_eq-Decides r.id id).0 passes, h.0))
-    (λ x xs fails is rest h. rest h.1) rows is h
+    when_found _ (λ rows. RowsPass c rows → (r.id ≡ id) × RowPasses c r) r
+    (λ xs passes h. ((bytes_eq-Decides _ _).0 passes, h.0)) (λ x xs fails is rest h. rest h.1) _ is h
 
 -- the text of an argument is that of a value that passed
 record IsText (a : Rule) (text : Text) : Type 0 where
@@ -44,25 +46,25 @@ head_text : (a : Rule) (r : Row) (vs : List Text) → r.reading ≡ reading_by a
     → 0 < length vs
     → (t : Text) × (option_map (read_as r.reading) (slice_get vs 0) ≡ Some t) × IsText a t
 head_text a r [] how all filled = absurd (omega arith)
-head_text a r (v ∷ vs) how all filled = (
-  read_as r.reading v,
+head_text a r (v ∷ vs) how all _ = (
+  read_as _ v,
   refl,
-  record { given = v; read = ap (λ how. read_as how v) how; passed = (both (value_passes a v) _ all).0 },
+  record { given = v; read = ap (λ how. read_as how v) how; passed = (both _ _ all).0 },
 )
 
 -- such is the text of an argument, if it has one, and an argument that is given has one
 text_of : (c : List Rule) (a : Rule) (id : Text) (rows : List Row) → RowsPass c rows → arg_by_id c id ≡ Some a
     → IfSome (one_of id rows) (IsText a) × (is_given id rows ≡ true → is_some (one_of id rows) ≡ true)
-text_of c a id rows h is = go (find (λ r. bytes_eq r.id id) rows) refl
+text_of c a id rows h is = go _ refl
   where
     go : (o : Option Row) → find (λ r. bytes_eq r.id id) rows ≡ o → IfSome (option_and_then row_text o) (IsText a)
         × (option_map_or (λ r. explicit_source r.source) o false ≡ true → is_some (option_and_then row_text o) ≡ true)
     go None found = (tt, λ given. given)
     go (Some r) found =
-        let at = entry c id rows r h found in
+        let at = entry _ _ _ _ h found in
         let there : Some at.1.rule ≡ Some a = sym at.1.own ∙ ap (arg_by_id c) at.0 ∙ is in
         let rule : at.1.rule ≡ a = cc in
-        let head = head_text a r r.values (at.1.reading ∙ ap reading_by rule) (rw (← rule) at.1.passed) at.1.filled in
+        let head = head_text a r _ (at.1.reading ∙ ap reading_by rule) (rw (← rule) at.1.passed) at.1.filled in
         rw head.1 (head.2, λ given. refl {a = true})
 
 -- what the getter of a `u32` reads a text by
@@ -74,28 +76,28 @@ number_text : (a : Rule) (t : Text) (r : Option ℕ) (p : ValueParser) → parse
     → (r ≡ Some (decimal t)) × IfSome r (IsWithin (bounds_by p))
 number_text a t r (vp.Signed (pos low) (pos high)) parser fits text reads =
     let accepted : Accepts a.ignore_case (vp.Signed (pos low) (pos high)) text.given =
-    accepts-Accepts a.ignore_case (vp.Signed (pos low) (pos high)) text.given
+    accepts-Accepts a.ignore_case (vp.Signed _ _) text.given
     (subst (λ (p : ValueParser). accepts a.ignore_case p text.given ≡ true) parser text.passed) in
     let how : t ≡ read_as (reading_of (vp.Signed (pos low) (pos high))) text.given = text.read
     ∙ ap (λ (p : ValueParser). read_as (reading_of p) text.given) parser in
-    let got = signed_reads ParseIntError Parses 32 low high text.given r
+    let got = signed_reads _ Parses 32 _ _ text.given r
     (subst (λ (u : Text). ReadsOne Parses u r) how reads) (λ u x g. g.0) fits accepted in
     let value : ReadsOne Parses t (Some got.0) = subst (λ (o : Option ℕ). ReadsOne Parses t o) got.1 reads in
     (got.1 ∙ ap Some value.0.1, subst (λ o. IfSome o (IsWithin (Some (low, high)))) (sym got.1) (got.2, got.3))
-number_text a t r _ parser fits text reads = absurd fits
+number_text a t r _ parser fits _ _ = absurd fits
 
 -- the number of an argument is that of the words, and within its bounds
 pub getter : (c : List Rule) (id : Text) (f : Found) (r : Option ℕ) → IsTaken c (rows_of f) → FitsWord (bounds_in c id)
     → (one_text f id ≡ None → r ≡ None) → ((t : Text) → one_text f id ≡ Some t → ReadsOne Parses t r)
     → (r ≡ number_of id (rows_of f)) × IfSome r (IsWithin (bounds_in c id))
-getter c id f r taken fits none value = at_rule (arg_by_id c id) refl fits
+getter c id f r taken fits none value = at_rule _ refl fits
   where
     at_text : (a : Rule) (o : Option Text) → one_of id (rows_of f) ≡ o → IfSome o (IsText a)
         → FitsWord (bounds_by (parser_of_value a.parser))
         → (r ≡ option_map decimal o) × IfSome r (IsWithin (bounds_by (parser_of_value a.parser)))
     at_text a None e text fits = rw (none (one_text-rows f id ∙ e)) (refl, tt)
     at_text a (Some t) e text fits =
-        number_text a t r (parser_of_value a.parser) refl fits text (value t (one_text-rows f id ∙ e))
+        number_text _ _ _ _ refl fits text (value t (one_text-rows f id ∙ e))
 
     at_rule : (o : Option Rule) → arg_by_id c id ≡ o
         → FitsWord (option_and_then (λ a. bounds_by (parser_of_value a.parser)) o)
@@ -103,12 +105,12 @@ getter c id f r taken fits none value = at_rule (arg_by_id c id) refl fits
         × IfSome r (IsWithin (option_and_then (λ a. bounds_by (parser_of_value a.parser)) o))
     at_rule None is fits = absurd fits
     at_rule (Some a) is fits =
-        at_text a (one_of id (rows_of f)) refl (text_of c a id (rows_of f) taken.entries is).0 fits
+        at_text a _ refl (text_of _ _ _ _ taken.entries is).0 fits
 
 -- of an argument that has to be given there is one
 pub needed : (c : List Rule) (id : Text) (rows : List Row) → IsTaken c rows → is_needed c id ≡ true
     → is_some (number_of id rows) ≡ true
-needed c id rows taken is = at_rule (arg_by_id c id) refl is
+needed c id rows taken is = at_rule _ refl is
   where
     some_number : (o : Option Text) → is_some o ≡ true → is_some (option_map decimal o) ≡ true
     some_number o e = grind (arith, e)
@@ -118,7 +120,7 @@ needed c id rows taken is = at_rule (arg_by_id c id) refl is
     at_rule None found is = cc
     at_rule (Some a) found is =
         let parts = both a.required (bytes_eq a.id id) is in
-        let missing = any_not (λ a. a.required && not (is_given a.id rows)) (λ a. bytes_eq a.id id) c a taken.complete
+        let missing = any_not (λ a. a.required && not (is_given a.id rows)) (λ a. bytes_eq a.id id) _ _ taken.complete
         found in
         let given : is_given a.id rows ≡ true = not-false _ (rw parts.0 at missing) in
         some_number (one_of id rows) ((text_of c a id rows taken.entries found).1

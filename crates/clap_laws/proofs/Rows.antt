@@ -1,47 +1,47 @@
 -- What a command of one level leaves in its matches, where `clap` takes the words: each value passed
 -- the parser of its argument, and each argument that has an entry has a value.
-use Rattle.std.proofs.Common.{◌≡◌, ◌∙◌, ◌<◌, ◌&&◌, ◌||◌, ℕ, Bool, cond, true, false, not, zero, suc, refl, sym, ap}
-use Rattle.std.proofs.Common.{subst, arith, List, [], ◌∷◌, ◌++◌, length, drop, Option, Some, None, is_some, IfSome}
-use Rattle.std.proofs.Common.{encode_utf8, slice_get, length-append, codes, if◌then◌else◌}
-use Rattle.std.specs.List.{AllByRecursion, find, fold, list_all, list_any}
-use Rattle.std.specs.Str.{bytes_eq, chars}
-use Rattle.std.specs.Prelude.{nat_lt}
-use Rattle.std.proofs.lemmas.Slice.Eq.{bytes_eq-Decides}
-use Rattle.std.proofs.lemmas.Bool.{or_parts}
-use Rattle.std.proofs.lemmas.List.Folds.{list_all-append}
-use Rattle.clap.specs.Lexer.{long_of, short_of}
-use Rattle.clap.specs.Facts.{unwrap_or_range}
-use Rattle.clap.specs.Values.{is_request}
-use Rattle.clap.specs.Kinds.{Kinds, check_kinds, or_else, range_kinds}
-use Rattle.std.specs.Option.{option_map_or}
-use Rattle.clap.specs.Walk.{Held, has_row, bundle_step, flag_met, has_short, has_long, most_values, Names, Outcome, Row}
-use Rattle.clap.specs.Walk.{Rule, Step, Text, Waiting, Walk, action_of, after_flag, after_step, arg_by_id, arg_by_index}
-use Rattle.clap.specs.Walk.{arg_by_long, arg_by_short, at_row, attached_value, bundle, bundle_met, default_rows, done}
-use Rattle.clap.specs.Walk.{finished, is_empty, long_met, long_or_other, more_values, nothing_held, option_met, plain}
-use Rattle.clap.specs.Walk.{plain_word, reacted, reading_by, settled, short_met, short_or_plain, subcommand_met}
-use Rattle.clap.specs.Walk.{subcommand_or_other, takes_values, to_positional, used, used_as, values_or_missing, walk}
-use Rattle.clap.specs.Walk.{rows_after, walk_from, walked, walked_from, with_default, with_values, word_met}
+use Rattle.std.proofs.{
+  Common.{◌≡◌, ◌∙◌, ◌<◌, ◌&&◌, ◌||◌, ℕ, Bool, cond, true, false, not, zero, suc, refl, sym, ap, subst, arith, List, []},
+  Common.{◌∷◌, ◌++◌, length, drop, Option, Some, None, is_some, IfSome, encode_utf8, length-append, codes},
+  Common.if◌then◌else◌,
+  lemmas.{Slice.Eq.bytes_eq-Decides, Bool.or_parts, List.Folds.list_all-append},
+}
+use Rattle.std.specs.{
+  List.{AllByRecursion, find, fold, list_all, list_any},
+  Str.bytes_eq,
+  Prelude.nat_lt,
+  Option.option_map_or,
+}
+use Rattle.clap.specs.{
+  Facts.unwrap_or_range,
+  Values.is_request,
+  Kinds.{Kinds, check_kinds, or_else, range_kinds},
+  Walk.{Held, bundle_step, has_short, Names, Outcome, Row, Rule, Step, Text, Waiting, Walk, after_flag, after_step},
+  Walk.{arg_by_id, arg_by_short, at_row, bundle_met, default_rows, done, finished, is_empty, long_met, long_or_other},
+  Walk.{more_values, nothing_held, option_met, plain, plain_word, reacted, reading_by, settled, short_met},
+  Walk.{short_or_plain, subcommand_or_other, takes_values, to_positional, used, used_as, values_or_missing, walk},
+  Walk.{rows_after, walked, walked_from, with_default, with_values, word_met},
+  Simple.Shape,
+  Takes.{values_pass, is_given},
+  Faults.{action_fault, stray_fault, bundle_fault, bundle_step_fault, flag_word_fault, flags_fault, long_fault},
+  Faults.{option_fault, other_fault, positional_fault, react_fault, settle_fault, short_fault, step_fault, use_fault},
+  Faults.{values_fault, walk_fault, level_fault, word_fault},
+  declared.{builder.action.ArgAction.ArgAction, parser.matches.ValueSource.TheVariants.CommandLine},
+}
+use Rattle.clap.proofs.{WalkLemmas.both, SimpleLemmas.is_false}
+use Rattle.clap_laws.specs.{
+  Passes.{IsTaken, RowPasses},
+  Entering.{keeps_values, is_plain_rule, has_distinct_ids, IsPlainLevel},
+}
 use Rattle.clap.specs.Walk as w
-use Rattle.clap.specs.Simple.{Shape}
-use Rattle.clap.specs.Takes.{value_passes, values_pass, is_given}
-use Rattle.clap.specs.Faults.{action_fault, check_fault, defaults_fault, stray_fault, bundle_fault, bundle_step_fault}
-use Rattle.clap.specs.Faults.{flag_word_fault, flags_fault, long_fault, option_fault, other_fault, positional_fault}
-use Rattle.clap.specs.Faults.{react_fault, settle_fault, short_fault, step_fault, use_fault, values_fault, walk_fault}
-use Rattle.clap.specs.Faults.{level_fault, word_fault}
-use Rattle.clap.specs.declared.builder.action.ArgAction.{ArgAction}
 use Rattle.clap.specs.declared.builder.action.ArgAction.TheVariants as action
-use Rattle.clap.specs.declared.parser.matches.ValueSource.TheVariants.{CommandLine}
-use Rattle.clap.proofs.WalkLemmas.{both}
-use Rattle.clap.proofs.SimpleLemmas.{is_false}
-use Rattle.clap_laws.specs.Passes.{IsTaken, RowPasses}
-use Rattle.clap_laws.specs.Entering.{keeps_values, is_plain_rule, has_distinct_ids, IsPlainLevel}
 
 -- What holds of the element that a search finds, by induction over the list.
 pub when_found : {X : Type 0} (p : X → Bool) (P : List X → Type 0) (a : X) → ((xs : List X) → p a ≡ true → P (a ∷ xs))
     → ((x : X) (xs : List X) → p x ≡ false → find p xs ≡ Some a → P xs → P (x ∷ xs)) → (xs : List X)
     → find p xs ≡ Some a → P xs
 when_found p P a here later [] is = cc
-when_found {X} p P a here later (x ∷ xs) is = go (p x) refl (when_found p P a here later xs) is
+when_found {X} p P a here later (x ∷ xs) is = go _ refl (when_found p P a here later _) is
   where
     go : (b : Bool) → p x ≡ b → (find p xs ≡ Some a → P xs) → cond b (Some x) (find p xs) ≡ Some a → P (x ∷ xs)
     go true passes rest is =
@@ -58,8 +58,8 @@ none_fails a b e = grind (arith, e)
 
 pub any_not : (q p : Rule → Bool) (c : List Rule) (a : Rule) → list_any q c ≡ false → find p c ≡ Some a → q a ≡ false
 any_not q p c a none is =
-    when_found p (λ c. list_any q c ≡ false → q a ≡ false) a (λ xs passes none. (or_parts (q a) (list_any q xs) none).0)
-    (λ x xs fails is rest none. rest (or_parts (q x) (list_any q xs) none).1) c is none
+    when_found p (λ c. list_any q c ≡ false → q a ≡ false) a (λ xs passes none. (or_parts _ _ none).0)
+    (λ x xs fails is rest none. rest (or_parts _ _ none).1) c is none
 
 -- a plain rule, and the one of its id
 record IsOwn (c : List Rule) (a : Rule) : Type 0 where
@@ -72,12 +72,11 @@ owned : (p : Rule → Bool) (c : List Rule) (a : Rule) → find p c ≡ Some a �
 owned p c a is =
     when_found p (λ c. list_all is_plain_rule c ≡ true → has_distinct_ids c ≡ true → IsOwn c a) a
     (λ xs passes plain distinct.
-    let self : bytes_eq a.id a.id ≡ true = (bytes_eq-Decides a.id a.id).1 refl in
-    record { own = rw self refl; plain = (both (is_plain_rule a) _ plain).0 })
-    (λ x xs fails is rest plain distinct.
-    let parts = both (not (list_any (λ b. bytes_eq x.id b.id) xs)) (has_distinct_ids xs) distinct in
-    let other = any_not (λ b. bytes_eq x.id b.id) p xs a (is_false _ parts.0) is in
-    let later = rest (both (is_plain_rule x) _ plain).1 parts.1 in
+    let self : bytes_eq a.id a.id ≡ true = (bytes_eq-Decides _ a.id).1 refl in
+    record { own = rw self refl; plain = (both _ _ plain).0 }) (λ x xs fails is rest plain distinct.
+    let parts = both _ _ distinct in
+    let other = any_not _ p xs a (is_false _ parts.0) is in
+    let later = rest (both _ _ plain).1 parts.1 in
     record { own = rw other later.own; plain = later.plain }) c is
 
 -- ---- rows
@@ -87,17 +86,17 @@ RowsPass rules rows = AllByRecursion (RowPasses rules) rows
 
 append_pass : (c : List Rule) (xs ys : List Row) → RowsPass c xs → RowsPass c ys → RowsPass c (xs ++ ys)
 append_pass c [] ys h k = k
-append_pass c (x ∷ xs) ys h k = (h.0, append_pass c xs ys h.1 k)
+append_pass c (x ∷ xs) ys h k = (h.0, append_pass c xs _ h.1 k)
 
 -- the row of an id is changed, or a row is added
 at_row_pass : (c : List Rule) (id : Text) (change : Row → List Row) (missing : List Row)
     → ((r : Row) → bytes_eq r.id id ≡ true → RowPasses c r → RowsPass c (change r)) → RowsPass c missing
     → (rows : List Row) → RowsPass c rows → RowsPass c (at_row id change missing rows)
-at_row_pass c id change missing changed added [] h = added
-at_row_pass c id change missing changed added (r ∷ rs) h =
+at_row_pass c id _ _ _ added [] h = added
+at_row_pass c id change _ changed added (r ∷ rs) h =
     grind (
       arith,
-      at_row_pass c id change missing changed added rs h.1,
+      at_row_pass c _ _ _ changed added rs h.1,
       changed r,
       append_pass c (change r) rs,
       h.0,
@@ -107,13 +106,13 @@ at_row_pass c id change missing changed added (r ∷ rs) h =
 with_values_pass : (c : List Rule) (a : Rule) (vs : List Text) (rows : List Row) → arg_by_id c a.id ≡ Some a
     → values_pass a vs ≡ true → 0 < length vs
     → RowsPass c rows → RowsPass c (with_values a.id (reading_by a) CommandLine vs rows)
-with_values_pass c a vs rows is passed filled h =
-    at_row_pass c a.id (more_values CommandLine vs) _ more
-    (record { rule = a; own = is; reading = refl; filled = filled; passed = passed }, tt) rows h
+with_values_pass c a vs _ is passed filled h =
+    at_row_pass c _ (more_values _ _) _ more
+    (record { rule = a; own = is; reading = refl; filled = filled; passed = passed }, tt) _ h
   where
     more : (r : Row) → bytes_eq r.id a.id ≡ true → RowPasses c r → RowsPass c (more_values CommandLine vs r)
     more r same h =
-        let there : Some h.rule ≡ Some a = sym h.own ∙ ap (arg_by_id c) ((bytes_eq-Decides r.id a.id).0 same) ∙ is in
+        let there : Some h.rule ≡ Some a = sym h.own ∙ ap (arg_by_id c) ((bytes_eq-Decides _ _).0 same) ∙ is in
         let rule : h.rule ≡ a = cc in
         let added : values_pass h.rule vs ≡ true = rw rule passed in (
           record {
@@ -121,7 +120,7 @@ with_values_pass c a vs rows is passed filled h =
             own = h.own;
             reading = h.reading;
             filled = omega (arith, length-append r.values vs);
-            passed = list_all-append (value_passes h.rule) r.values vs ∙ rw (h.passed, added) refl;
+            passed = list_all-append _ r.values _ ∙ rw (h.passed, added) refl;
           },
           tt,
         )
@@ -138,17 +137,17 @@ used_as_pass : (c : List Rule) (a : Rule) (again : Bool) (x : ArgAction) (wants 
     → (is_request x || (keeps_values x && wants)) ≡ true → (wants ≡ true → 0 < length vs)
     → action_fault x again a vs rows ≡ [] → RowsPass c rows
     → RowsPass c (used_as x a.id (reading_by a) vs rows)
-used_as_pass c a again action.Set wants vs rows is kept filled none h =
-    with_values_pass c a vs _ is (values_taken a vs (none_fails _ _ none).1) (filled kept)
-    (at_row_pass c a.id (λ _. []) [] (λ r same h. tt) tt rows h)
-used_as_pass c a again action.Append wants vs rows is kept filled none h =
-    with_values_pass c a vs rows is (values_taken a vs none) (filled kept) h
-used_as_pass c a again _ wants vs rows is kept filled none h = grind (arith, h)
+used_as_pass c a _ action.Set _ vs _ is kept filled none h =
+    with_values_pass c a _ _ is (values_taken a _ (none_fails _ _ none).1) (filled kept)
+    (at_row_pass c _ (λ _. []) [] _ tt _ h)
+used_as_pass c a _ action.Append _ vs _ is kept filled none h =
+    with_values_pass c a _ _ is (values_taken a _ none) (filled kept) h
+used_as_pass c a _ _ _ vs _ is kept filled none h = grind (arith, h)
 
 filled_by : (a : Rule) (least most : ℕ) (values : List Text) → range_kinds least most (length values) ≡ []
     → nat_lt 0 least ≡ true
     → 0 < length (values_or_missing a values)
-filled_by a least most values none wants = grind (arith, none, wants)
+filled_by a _ _ _ none wants = grind (arith, none, wants)
 
 -- ---- a level: its rules, and whether a second use replaces the first
 
@@ -160,46 +159,42 @@ module _ (c : List Rule) (level : IsPlainLevel c) (again : Bool) where
   used_pass : (a : Rule) (values : List Text) (rows : List Row) → IsOwn c a → use_fault again a values rows ≡ []
       → RowsPass c rows
       → RowsPass c (used a values rows)
-  used_pass a values rows is none h =
+  used_pass a _ _ is none h =
       let parts = none_fails _ _ none in
-      used_as_pass c a again (action_of a) (nat_lt 0 (unwrap_or_range a.range).start_inclusive)
-      (values_or_missing a values) rows is.own
-      (both (is_empty a.defaults) _ is.plain).1
-      (filled_by a (unwrap_or_range a.range).start_inclusive (most_values a) values parts.0) parts.1 h
+      used_as_pass c a _ _ _ _ _ is.own (both _ _ is.plain).1
+      (filled_by a (unwrap_or_range a.range).start_inclusive _ _ parts.0) parts.1 h
 
   settled_pass : (h : Held) → Keeps (settle_fault c again h) h (settled c h)
   settled_pass h none rows = grind (arith, none, rows, owned, used_pass, level.plain, level.distinct)
 
   reacted_pass : (a : Rule) (values : List Text) (h : Held) → IsOwn c a
       → Keeps (react_fault c again a values h) h (reacted c a values h)
-  reacted_pass a values h is none rows =
+  reacted_pass a _ h is none rows =
       let parts = none_fails _ _ none in
-      used_pass a values (settled c h).rows is parts.1 (settled_pass h parts.0 rows)
+      used_pass a _ (settled c h).rows is parts.1 (settled_pass h parts.0 rows)
 
   -- a use as an option with this value, or what else the word comes to
   option_or : (a : Rule) (v : Option Text) (h : Held) (fault : Kinds) (other : Held × Outcome) → IsOwn c a
       → Keeps fault h other.0
       → Keeps (cond (takes_values a) (option_fault c again a v h) fault) h
       (cond (takes_values a) (option_met c a v h) other).0
-  option_or a v h fault other is keeps none rows =
+  option_or a v h _ _ is keeps none rows =
       grind (arith, settled_pass h, λ (word : Text). reacted_pass a (word ∷ []) h is)
 
   long_pass : (o : Option Rule) (v : Option Text) (h : Held) → IfSome o (IsOwn c)
       → Keeps (long_fault c again o v h) h (long_met c o v h).0
   long_pass None v h is none rows = rows
-  long_pass (Some a) None h is none rows =
-      option_or a None h _ (flag_met c a None h) is (reacted_pass a [] h is) none rows
-  long_pass (Some a) (Some v) h is none rows =
-      option_or a (Some v) h _ (flag_met c a (Some v) h) is (λ _ _. rows) none rows
+  long_pass (Some a) None h is none rows = option_or a None h _ _ is (reacted_pass a [] h is) none rows
+  long_pass (Some a) (Some v) h is none rows = option_or a (Some v) h _ _ is (λ _ _. rows) none rows
 
   short_pass : (o : Option Rule) (rest : Text) (h : Held) (next : Held → Held × Outcome) (fault : Held → Kinds)
       → ((k : Held) → Keeps (fault k) k (next k).0) → IfSome o (IsOwn c)
       → Keeps (short_fault c again o rest h fault) h (short_met c o rest h next).0
-  short_pass None rest h next fault goes is = λ none rows. rows
-  short_pass (Some a) rest h next fault goes is =
-      option_or a (attached_value rest) h _ (next (reacted c a [] h)) is (λ none rows.
+  short_pass None _ h _ _ _ is = λ none rows. rows
+  short_pass (Some a) _ h _ _ goes is =
+      option_or a _ h _ _ is (λ none rows.
       let parts = none_fails _ _ none in
-      goes (reacted c a [] h) parts.1 (reacted_pass a [] h is parts.0 rows))
+      goes _ parts.1 (reacted_pass a [] h is parts.0 rows))
 
   found_own : (p : Rule → Bool) → IfSome (find p c) (IsOwn c)
   found_own p = grind (arith, owned p c, level.plain, level.distinct)
@@ -207,8 +202,8 @@ module _ (c : List Rule) (level : IsPlainLevel c) (again : Bool) where
   bundle_pass : (k : ℕ) (flags : Text) (skip : ℕ) (so_far : Outcome) (h : Held)
       → Keeps (flags_fault c again k flags skip h) h (bundle_met c k flags skip so_far h).0
   unfolding bundle_met flags_fault
-  bundle_pass zero flags skip so_far h none rows = rows
-  bundle_pass (suc k) flags skip so_far h none rows = go (slice_get (chars flags) 0) skip none (bundle_pass k)
+  bundle_pass zero _ _ _ h none rows = rows
+  bundle_pass (suc k) flags skip so_far h none rows = go _ _ none (bundle_pass k)
     where
       go : (o : Option ℕ) (skip : ℕ) → bundle_step_fault c again o flags skip h (flags_fault c again k) ≡ []
           → ((flags : Text) (skip : ℕ) (so_far : Outcome) (h : Held)
@@ -231,13 +226,13 @@ IsElsewhere P _ = Unit {0}
 
 plain_keeps : (c : List Rule) (waiting : Waiting) (word : Text) (h : Held) (P : Text → Type 0)
     → ((plain_word c waiting word h).0.rows ≡ h.rows) × IsElsewhere P (plain_word c waiting word h).1
-plain_keeps c waiting word h P = grind arith
+plain_keeps = grind arith
 
 flag_keeps : (c : List Rule) (waiting : Waiting) (word : Text) (h : Held) (o : Outcome) (P : Text → Type 0)
     → ((after_flag c waiting word h o).0.rows ≡ h.rows) × IsElsewhere P (after_flag c waiting word h o).1
-flag_keeps c waiting word h w.done P = (refl, tt)
-flag_keeps c waiting word h (w.waits id) P = (refl, tt)
-flag_keeps c waiting word h _ P = plain_keeps c waiting word h P
+flag_keeps c _ _ h w.done P = (refl, tt)
+flag_keeps c _ _ h (w.waits id) P = (refl, tt)
+flag_keeps c _ _ h _ P = plain_keeps c _ _ h P
 
 -- the name asks for help
 abbrev pub asks : Shape → Text → Bool
@@ -252,51 +247,40 @@ module _ (s : Shape) where
 
   either : (b : Bool) (fault : Kinds) (h : Held) (met other : Held × Step) → Goes [] h met → Goes fault h other
       → Goes (if b then [] else fault) h (if b then met else other)
-  either true fault h met other first second = first
-  either false fault h met other first second = second
-
-  plain_goes : (waiting : Waiting) (word : Text) (h : Held) → Goes [] h (plain_word s.rules waiting word h)
-  plain_goes waiting word h none =
-      let kept = plain_keeps s.rules waiting word h (λ name. asks s name ≡ false) in
-      (λ level rows. subst (RowsPass s.rules) (sym kept.0) rows, kept.1)
+  either true _ h _ _ first _ = first
+  either false _ h _ _ _ second = second
 
   flag_goes : (fault : Kinds) (waiting : Waiting) (word : Text) (h : Held) (met : Held × Outcome)
       → (IsPlainLevel s.rules → fault ≡ [] → RowsPass s.rules h.rows → RowsPass s.rules met.0.rows)
       → Goes fault h (after_flag s.rules waiting word met.0 met.1)
-  flag_goes fault waiting word h met passes none =
-      let kept = flag_keeps s.rules waiting word met.0 met.1 (λ name. asks s name ≡ false) in
+  flag_goes _ waiting word h met passes none =
+      let kept = flag_keeps _ waiting word met.0 met.1 _ in
       (λ level rows. subst (RowsPass s.rules) (sym kept.0) (passes level none rows), kept.1)
 
   short_goes : (waiting : Waiting) (word : Text) (o : Option Text) (h : Held)
       → Goes (option_map_or (λ flags. bundle_fault s.rules s.args_override_self flags h) o []) h
       (short_or_plain s.rules waiting word o h)
-  short_goes waiting word None h = plain_goes waiting word h
-  short_goes waiting word (Some flags) h =
-      flag_goes _ waiting word h (bundle s.rules flags h)
-      (λ level. bundle_pass s.rules level s.args_override_self (length flags) flags h.skip plain
-      (record h { skip = 0 }))
+  short_goes _ _ None h = λ none. let kept = plain_keeps _ _ _ h _ in
+      (λ level rows. subst (RowsPass _) (sym kept.0) rows, kept.1)
+  short_goes _ _ (Some flags) h = flag_goes _ _ _ h _ (λ level. bundle_pass _ level _ _ _ _ _ _)
 
   long_goes : (waiting : Waiting) (word : Text) (o : Option (Text × Option Text)) (h : Held)
       → Goes (flag_word_fault s.rules s.args_override_self o word h) h (long_or_other s.rules waiting word o h)
-  long_goes waiting word None h = short_goes waiting word (short_of word) h
-  long_goes waiting word (Some p) h =
-      flag_goes _ waiting word h (long_met s.rules (arg_by_long s.rules p.0) p.1 h)
-      (λ level. long_pass s.rules level s.args_override_self (arg_by_long s.rules p.0) p.1 h
-      (found_own s.rules level s.args_override_self (λ a. not (is_some a.index) && has_long a p.0)))
+  long_goes _ _ None h = short_goes _ _ _ h
+  long_goes _ _ (Some p) h =
+      flag_goes _ _ _ h _ (λ level. long_pass _ level _ _ _ h (found_own _ level s.args_override_self _))
 
   other_goes : (o : Option Text) (waiting : Waiting) (position : ℕ) (word : Text) (h : Held)
       → Goes (other_fault s o word h) h (subcommand_or_other s.rules o waiting position word h)
-  other_goes (Some name) waiting position word h = λ none. (λ level rows. rows, grind arith)
-  other_goes None waiting position word h =
-      either (bytes_eq word (45 ∷ 45 ∷ [])) _ h (h, w.trailing position) _ (λ none. (λ level rows. rows, tt))
-      (long_goes waiting word (long_of word) h)
+  other_goes (Some name) _ _ _ h = λ none. (λ level rows. rows, grind arith)
+  other_goes None _ _ word h =
+      either _ _ h (h, w.trailing _) _ (λ none. (λ level rows. rows, tt)) (long_goes _ word _ h)
 
   word_goes : (names : Names) (is_trailing : Bool) (waiting : Waiting) (position : ℕ) (word : Text) (h : Held)
       → Goes (word_fault s names is_trailing waiting word h) h
       (word_met s.rules names is_trailing waiting position word h)
-  word_goes names is_trailing waiting position word h =
-      either is_trailing _ h (h, w.value) _ (λ none. (λ level rows. rows, tt))
-      (other_goes (subcommand_met names waiting word) waiting position word h)
+  word_goes _ is_trailing waiting position word h =
+      either is_trailing _ h (h, w.value) _ (λ none. (λ level rows. rows, tt)) (other_goes _ waiting position word h)
 
   -- ---- the walk
 
@@ -308,10 +292,10 @@ module _ (s : Shape) where
       → IsElsewhere (λ name. asks s name ≡ false) step
       → IfSome walk.stopped (λ p. asks s p.0 ≡ false) → step_fault s walk.position h step ≡ []
       → Stands (after_step s.rules word walk h step)
-  step_goes word walk h (w.next waiting) rows kept stop none = (rows, stop)
-  step_goes word walk h (w.trailing position) rows kept stop none = (rows, stop)
-  step_goes word walk h (w.subcommand name) rows kept stop none = (rows, kept)
-  step_goes word walk h w.value rows kept stop none = go (arg_by_index s.rules walk.position) none
+  step_goes _ walk h (w.next waiting) rows _ stop none = (rows, stop)
+  step_goes _ walk h (w.trailing position) rows _ stop none = (rows, stop)
+  step_goes _ walk h (w.subcommand name) rows kept _ none = (rows, kept)
+  step_goes word walk h w.value rows kept stop none = go _ none
     where
       go : (o : Option Rule)
           → option_map_or (λ a. positional_fault s.rules s.args_override_self a h) o (stray_fault s) ≡ []
@@ -324,10 +308,10 @@ module _ (s : Shape) where
   pub walk_goes : (names : Names) (walk : Walk) (words : List Text) → walk_fault s names walk words ≡ [] → Stands walk
       → Stands (fold (walked s.rules names) walk words)
   unfolding walk_fault walked
-  walk_goes names walk [] none h = h
+  walk_goes _ walk [] none h = h
   walk_goes names walk (word ∷ rest) none h =
       let parts = none_fails _ _ none in
-      walk_goes names (walked s.rules names walk word) rest parts.1 (go walk.stopped refl parts.0)
+      walk_goes _ (walked _ _ walk word) rest parts.1 (go _ refl parts.0)
     where
       go : (o : Option (Text × List Text)) → walk.stopped ≡ o
           → (let met = word_met s.rules names walk.is_trailing walk.waiting walk.position word walk.held in
@@ -338,18 +322,17 @@ module _ (s : Shape) where
       go (Some p) is none = (h.0, rw is at h.1)
       go None is none =
           let parts = none_fails _ _ none in
-          let goes = word_goes names walk.is_trailing walk.waiting walk.position word walk.held parts.0 in
+          let goes = word_goes names _ _ walk.position word walk.held parts.0 in
           step_goes word walk _ _ (λ level. goes.0 level (h.0 level)) goes.1 h.1 parts.1
 
 -- ---- after the walk
 
 defaults_pass : (rules : List Rule) (rows : List Row) → list_all is_plain_rule rules ≡ true
     → fold with_default rows rules ≡ rows
-defaults_pass [] rows all = refl
+defaults_pass [] _ _ = refl
 defaults_pass (a ∷ rest) rows all =
-    let parts = both (is_plain_rule a) _ all in
-    ap (λ r. fold with_default r rest) (go a.defaults (has_row a.id rows) (both (is_empty a.defaults) _ parts.0).0)
-    ∙ defaults_pass rest rows parts.1
+    let parts = both _ _ all in
+    ap (λ r. fold with_default r rest) (go _ _ (both _ _ parts.0).0) ∙ defaults_pass rest _ parts.1
   where
     go : (ds : List Text) (b : Bool) → is_empty ds ≡ true
         → cond b rows (default_rows a.id (reading_by a) ds rows) ≡ rows
@@ -357,22 +340,22 @@ defaults_pass (a ∷ rest) rows all =
 
 last_check : (wants_help wants_subcommand wants_argument : Bool)
     → check_kinds wants_help wants_subcommand wants_argument ≡ [] → wants_argument ≡ false
-last_check wants_help wants_subcommand wants_argument none = grind arith
+last_check = grind arith
 
 -- a level of a command with no subcommand, of which nothing is wrong
 pub level_taken : (s : Shape) (words : List Text) → IsPlainLevel s.rules → s.subcommand_negates_reqs ≡ false
     → level_fault s [] nothing_held words false [] ≡ [] → IsTaken s.rules (rows_after s.rules [] words)
 level_taken s words level negates none =
-    let end = (walk s.rules [] nothing_held words).held in
+    let end = (walk _ [] _ words).held in
     let all = none_fails _ _ none in
     let settle = none_fails _ _ all.1 in
     let rows = finished s.rules end in
-    let defaults = none_fails (defaults_fault (settled s.rules end).rows s.rules) (check_fault s rows false) settle.1 in
+    let defaults = none_fails _ _ settle.1 in
     let missing : Bool = list_any (λ a. a.required && not (is_given a.id rows)) s.rules in
     let check : (not (s.subcommand_negates_reqs && false) && missing) ≡ false = last_check _ _ _ defaults.1 in
-    let walked = (walk_goes s [] (walk_from nothing_held) words all.0 ((λ level. tt), tt)).0 level in
+    let walked = (walk_goes s [] _ _ all.0 (_, tt)).0 level in
     record {
-      entries = subst (RowsPass s.rules) (sym (defaults_pass s.rules (settled s.rules end).rows level.plain))
-          (settled_pass s.rules level s.args_override_self end settle.0 walked);
+      entries = subst (RowsPass _) (sym (defaults_pass s.rules (settled _ end).rows level.plain))
+          (settled_pass _ level _ end settle.0 walked);
       complete = rw negates at check;
     }

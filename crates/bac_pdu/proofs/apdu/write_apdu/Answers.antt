@@ -1,8 +1,6 @@
 use Rattle.std.proofs.lemmas.Result.{on_ok_weaker}
-use Rattle.bac_pdu.specs.Apdu.{message}
 use Rattle.bac_pdu.proofs.ApduLaws.{apdu_back}
 use Rattle.bac_pdu.proofs.apdu.write_apdu.Goals as goal
 
 pub returns-clause-read_back : goal.returns-clause-read_back
-returns-clause-read_back c =
-    on_ok_weaker c.append_apdu.result (λ _. apdu_back (message c.args.apdu.now) c.requires) c.append_apdu.ensures.fits
+returns-clause-read_back c = on_ok_weaker _ (λ _. apdu_back _ c.requires) c.append_apdu.ensures.fits

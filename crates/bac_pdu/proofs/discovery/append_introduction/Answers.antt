@@ -1,7 +1,5 @@
-use Rattle.std.proofs.Common.{append-nil, sym}
-use Rattle.std.proofs.lemmas.Result.{on_ok_weaker}
+use Rattle.std.proofs.{Common.{append-nil, sym}, lemmas.Result.on_ok_weaker}
 use Rattle.bac_wire.proofs.Writing.{front, stops, then_appends, written_as}
-use Rattle.bac_pdu.specs.Discovery.{introduction}
 use Rattle.bac_pdu.proofs.ShortestLaws.{i_am_shortest}
 use Rattle.bac_pdu.proofs.discovery.append_introduction.Goals as goal
 
@@ -29,7 +27,7 @@ returns-clause-appended c =
 
 pub returns-clause-shortest : goal.returns-clause-shortest
 returns-clause-shortest c =
-    on_ok_weaker c.write_value-4.result
-    (λ vendor. i_am_shortest (introduction c.args.i_am.now) c.requires c.in_ok-write_value.ensures.shortest
-    c.in_ok-write_value-2.ensures.shortest c.in_ok-write_value-3.ensures.shortest vendor)
+    on_ok_weaker _
+    (i_am_shortest _ c.requires c.in_ok-write_value.ensures.shortest c.in_ok-write_value-2.ensures.shortest
+    c.in_ok-write_value-3.ensures.shortest)
     c.write_value-4.ensures.shortest

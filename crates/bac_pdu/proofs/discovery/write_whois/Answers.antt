@@ -4,12 +4,8 @@ use Rattle.bac_pdu.proofs.discovery.write_whois.Goals as goal
 
 pub returns-clause-shortest : goal.returns-clause-shortest
 returns-clause-shortest c =
-    rw c.whole_or_nothing.ensures.same
-    (on_ok_weaker c.append_limits-appended.result (λ known. who_is_shortest c.args.who.now known)
-    c.append_limits-appended.ensures.known)
+    rw c.whole_or_nothing.ensures.same (on_ok_weaker _ (who_is_shortest _) c.append_limits-appended.ensures.known)
 
 pub returns-clause-read_back : goal.returns-clause-read_back
 returns-clause-read_back c =
-    rw c.whole_or_nothing.ensures.same
-    (on_ok_weaker c.append_limits-appended.result (λ known. limits_back c.args.who.now known)
-    c.append_limits-appended.ensures.known)
+    rw c.whole_or_nothing.ensures.same (on_ok_weaker _ (limits_back _) c.append_limits-appended.ensures.known)

@@ -1,5 +1,4 @@
-use Rattle.std.proofs.Common.{append-nil, sym, arith}
-use Rattle.std.proofs.lemmas.Result.{on_ok_weaker}
+use Rattle.std.proofs.{Common.{append-nil, sym, arith}, lemmas.Result.on_ok_weaker}
 use Rattle.bac_wire.proofs.Writing.{front, stops_whole, then_appends, written_as}
 use Rattle.bac_pdu.proofs.ShortestLaws.{error_shortest, error_is_back}
 use Rattle.bac_pdu.proofs.failure.write_error.Goals as goal
@@ -24,14 +23,10 @@ returns-clause-appended c =
 
 pub returns-clause-shortest : goal.returns-clause-shortest
 returns-clause-shortest c =
-    rw c.whole_or_nothing.ensures.same
-    (on_ok_weaker c.write_value-appended.result
-    (λ again. error_shortest c.args.class c.args.code c.in_ok-write_value.ensures.shortest again)
+    rw c.whole_or_nothing.ensures.same (on_ok_weaker _ (error_shortest _ _ c.in_ok-write_value.ensures.shortest)
     c.write_value-appended.ensures.shortest)
 
 pub returns-clause-read_back : goal.returns-clause-read_back
 returns-clause-read_back c =
-    rw c.whole_or_nothing.ensures.same
-    (on_ok_weaker c.write_value-appended.result
-    (λ again. error_is_back c.args.class c.args.code c.in_ok-write_value.ensures.shortest again)
+    rw c.whole_or_nothing.ensures.same (on_ok_weaker _ (error_is_back _ _ c.in_ok-write_value.ensures.shortest)
     c.write_value-appended.ensures.shortest)

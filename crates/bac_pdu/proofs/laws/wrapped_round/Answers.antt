@@ -1,5 +1,4 @@
-use Rattle.bac_pdu.proofs.DatagramLaws.{wrapped_takes, wrapped_short, count_wrapped}
-use Rattle.bac_pdu.proofs.AckLaws.{ack_parts}
+use Rattle.bac_pdu.proofs.{DatagramLaws.{wrapped_takes, wrapped_short, count_wrapped}, AckLaws.ack_parts}
 use Rattle.bac_pdu.proofs.laws.wrapped_round.Goals as goal
 
 pub returns : goal.returns

@@ -1,24 +1,29 @@
 use Rattle.std.proofs.Common.{refl}
-use Rattle.bac_wire.specs.ParameterReading.{enclosed_at}
-use Rattle.bac_wire.proofs.ItemLaws.{no_region, region_found}
+use Rattle.bac_wire.{specs.ParameterReading.enclosed_at, proofs.ItemLaws.{no_region, region_found}}
 use Rattle.bac_pdu.proofs.parameter.enclosed_and_rest.Goals as goal
 
 pub returns-in_err-region : goal.returns-in_err-region
 unfolding enclosed_at
 returns-in_err-region c =
-    rw (c.from_residual-in_err-region.ensures, ← c.in_ok-inside.ensures)
-    (no_region 3 c.in_ok-inside.inside.now c.in_err-region.ensures)
+    rw (c.from_residual-in_err-region.ensures, ← c.in_ok-inside.ensures) (no_region 3 _ c.in_err-region.ensures)
 
 pub returns-in_err-rest : goal.returns-in_err-rest
 unfolding enclosed_at
 returns-in_err-rest c =
-    let read = region_found 3 _ c.in_ok-inside.inside.now c.split_at.result.0.now c.split_at.result.1.now
-    c.split_at.ensures.front c.split_at.ensures.back c.in_ok-region.ensures in
-    rw (c.from_residual-in_err-rest.ensures, ← c.in_ok-inside.ensures, read, ← c.in_err-rest.ensures) refl
+    rw (
+      c.from_residual-in_err-rest.ensures,
+      ← c.in_ok-inside.ensures,
+      region_found 3 _ _ _ _ c.split_at.ensures.front
+          c.split_at.ensures.back c.in_ok-region.ensures,
+      ← c.in_err-rest.ensures,
+    ) refl
 
 pub returns : goal.returns
 unfolding enclosed_at
 returns c =
-    let read = region_found 3 _ c.in_ok-inside.inside.now c.split_at.result.0.now c.split_at.result.1.now
-    c.split_at.ensures.front c.split_at.ensures.back c.in_ok-region.ensures in
-    rw (← c.in_ok-inside.ensures, read, ← c.in_ok-rest.ensures) refl
+    rw (
+      ← c.in_ok-inside.ensures,
+      region_found 3 _ _ _ _ c.split_at.ensures.front c.split_at.ensures.back
+          c.in_ok-region.ensures,
+      ← c.in_ok-rest.ensures,
+    ) refl

@@ -1,14 +1,11 @@
 use Rattle.bac_wire.proofs.Writing.{stops, then_appends, written_as}
-use Rattle.bac_pdu.specs.Property.{answer}
 use Rattle.bac_pdu.proofs.ShortestLaws.{ack_written}
 use Rattle.bac_pdu.proofs.property.append_ack.Goals as goal
 
 pub returns-in_err-append_reference-clause-appended : goal.returns-in_err-append_reference-clause-appended
 returns-in_err-append_reference-clause-appended c =
-    written_as (ack_written (answer c.args.ack.now))
-    (stops _ c.from_residual.ensures.0 c.in_err-append_reference.ensures.appended)
+    written_as (ack_written _) (stops _ c.from_residual.ensures.0 c.in_err-append_reference.ensures.appended)
 
 pub returns-clause-appended : goal.returns-clause-appended
 returns-clause-appended c =
-    written_as (ack_written (answer c.args.ack.now))
-    (then_appends c.in_ok-append_reference.ensures.appended c.append_enclosed.ensures)
+    written_as (ack_written _) (then_appends c.in_ok-append_reference.ensures.appended c.append_enclosed.ensures)

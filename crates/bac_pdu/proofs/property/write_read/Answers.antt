@@ -1,16 +1,11 @@
 use Rattle.std.proofs.lemmas.Result.{on_ok_weaker}
-use Rattle.bac_pdu.specs.Property.{reference}
 use Rattle.bac_pdu.proofs.ShortestLaws.{read_back, read_shortest}
 use Rattle.bac_pdu.proofs.property.write_read.Goals as goal
 
 pub returns-clause-shortest : goal.returns-clause-shortest
 returns-clause-shortest c =
-    rw c.whole_or_nothing.ensures.same
-    (on_ok_weaker c.append_reference-appended.result (λ known. read_shortest (reference c.args.request.now) known)
-    c.append_reference-appended.ensures.known)
+    rw c.whole_or_nothing.ensures.same (on_ok_weaker _ (read_shortest _) c.append_reference-appended.ensures.known)
 
 pub returns-clause-read_back : goal.returns-clause-read_back
 returns-clause-read_back c =
-    rw c.whole_or_nothing.ensures.same
-    (on_ok_weaker c.append_reference-appended.result (λ known. read_back (reference c.args.request.now) known)
-    c.append_reference-appended.ensures.known)
+    rw c.whole_or_nothing.ensures.same (on_ok_weaker _ (read_back _) c.append_reference-appended.ensures.known)

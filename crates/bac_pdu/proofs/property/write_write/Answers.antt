@@ -1,19 +1,15 @@
 use Rattle.std.proofs.lemmas.Result.{on_ok_weaker}
-use Rattle.bac_pdu.specs.Property.{order}
-use Rattle.bac_pdu.proofs.ShortestLaws.{order_is_written, order_known, write_back}
+use Rattle.bac_pdu.{specs.Property.order, proofs.ShortestLaws.{order_is_written, order_known, write_back}}
 use Rattle.bac_pdu.proofs.property.write_write.Goals as goal
 
 pub returns-clause-shortest : goal.returns-clause-shortest
 returns-clause-shortest c =
-    rw c.whole_or_nothing.ensures.same
-    (on_ok_weaker c.append_order-appended.result
+    rw c.whole_or_nothing.ensures.same (on_ok_weaker _
     (λ known. order_is_written (order c.args.request.now) known c.requires.region c.requires.priority)
     c.append_order-appended.ensures.known)
 
 pub returns-clause-read_back : goal.returns-clause-read_back
 returns-clause-read_back c =
-    rw c.whole_or_nothing.ensures.same
-    (on_ok_weaker c.append_order-appended.result
-    (λ known. write_back (order c.args.request.now)
+    rw c.whole_or_nothing.ensures.same (on_ok_weaker _ (λ known. write_back _
     (order_known (order c.args.request.now) known c.requires.region c.requires.priority) c.requires.priority)
     c.append_order-appended.ensures.known)

@@ -1,85 +1,67 @@
-use Rattle.std.proofs.Common.{◌≡◌, Some, None, sym, refl, ap, ◌∙◌, length, arith, inl}
-use Rattle.std.proofs.lemmas.Bool.{eqb-true, eqb-false, ne_eqb}
-use Rattle.std.proofs.lemmas.List.{nil_from_length}
-use Rattle.bac_wire.specs.declared.tag.Shape.TheVariants.{App, Context, Opening, Closing}
-use Rattle.bac_wire.proofs.RegionReading.{ended_again, ended_since}
-use Rattle.bac_wire.proofs.ItemLaws.{rest_found, rest_none, rest_step, behind_shorter, item_found, count_reads}
-use Rattle.bac_wire.proofs.ItemLaws.{found_by, opening_found}
+use Rattle.std.proofs.{
+  Common.{◌≡◌, Some, None, sym, refl, ap, ◌∙◌, length, arith, inl},
+  lemmas.{Bool.{eqb-true, eqb-false, ne_eqb}, List.nil_from_length},
+}
+use Rattle.bac_wire.proofs.{
+  RegionReading.{ended_again, ended_since},
+  ItemLaws.{rest_found, rest_none, rest_step, behind_shorter, item_found, count_reads, found_by, opening_found},
+}
 use Rattle.bac_wire.proofs.items.+nesting.Goals as goal
 
 pub behind_item-returns-in_err-checked_sub-in-Opening : goal.behind_item-returns-in_err-checked_sub-in-Opening
 behind_item-returns-in_err-checked_sub-in-Opening t c = λ octets e.
     let none : c.args.depth ≡ 0 = omega (arith, c.in_err-checked_sub-in-Opening.ensures) in
-    rw c.from_residual.ensures
-    (item_found c.args.depth octets c.args.tag Opening c.args.behind.now None e c.in-Opening.is (rw none refl))
+    rw c.from_residual.ensures (item_found _ _ _ _ _ None e c.in-Opening.is (rw none refl))
 
 pub behind_item-returns-in_err-rest-in-Opening : goal.behind_item-returns-in_err-rest-in-Opening
 behind_item-returns-in_err-rest-in-Opening t c = λ octets e.
-    rw c.from_residual-in_err-rest-in-Opening.ensures
-    (opening_found c.args.depth c.in_ok-checked_sub-in-Opening.field-0 octets c.args.tag c.args.behind.now None None
+    rw c.from_residual-in_err-rest-in-Opening.ensures (opening_found _ _ _ _ _ None _
     (omega (arith, c.in_ok-checked_sub-in-Opening.ensures)) e c.in-Opening.is c.in_err-rest-in-Opening.ensures refl)
 
 pub behind_item-returns-in-App : goal.behind_item-returns-in-App
-behind_item-returns-in-App t c =
-    λ octets e. item_found c.args.depth octets c.args.tag (App c.in-App.field-0) c.args.behind.now
-    (Some c.args.behind.now) e c.in-App.is (rw c.if-tag-eq1.true refl)
+behind_item-returns-in-App t c = λ octets e. item_found _ _ _ _ _ (Some _) e c.in-App.is (rw c.if-tag-eq1.true refl)
 
 pub behind_item-returns-in_ok-rest-in-Opening : goal.behind_item-returns-in_ok-rest-in-Opening
 behind_item-returns-in_ok-rest-in-Opening t c = λ octets e.
-    opening_found c.args.depth c.in_ok-checked_sub-in-Opening.field-0 octets c.args.tag c.args.behind.now
-    (Some c.in_ok-rest-in-Opening.rest.now) _ (omega (arith, c.in_ok-checked_sub-in-Opening.ensures)) e
+    opening_found _ _ _ _ _ (Some _) _ (omega (arith, c.in_ok-checked_sub-in-Opening.ensures)) e
     c.in-Opening.is c.in_ok-rest-in-Opening.ensures (sym c.behind_closing.ensures)
 
 pub behind_item-returns-in-Closing : goal.behind_item-returns-in-Closing
-behind_item-returns-in-Closing t c =
-    λ octets e. item_found c.args.depth octets c.args.tag Closing c.args.behind.now None e c.in-Closing.is refl
+behind_item-returns-in-Closing t c = λ octets e. item_found _ _ _ _ _ _ e c.in-Closing.is refl
 
 pub behind_item-returns-in-App-2 : goal.behind_item-returns-in-App-2
 behind_item-returns-in-App-2 t c = λ octets e.
-    item_found c.args.depth octets c.args.tag (App c.in-App-2.count) c.args.behind.now _ e c.in-App-2.is
-    (rw (ne_eqb c.args.tag.number 1 c.if-tag-eq1.false)
-    (found_by _ _ (count_reads c.in-App-2.count c.args.behind.now) c.behind_octets.ensures))
+    item_found _ _ _ _ _ _ e c.in-App-2.is (rw (ne_eqb _ 1 c.if-tag-eq1.false)
+    (found_by _ _ (count_reads _ _) c.behind_octets.ensures))
 
 pub behind_item-returns-in-Context : goal.behind_item-returns-in-Context
 behind_item-returns-in-Context t c = λ octets e.
-    item_found c.args.depth octets c.args.tag (Context c.in-Context.count) c.args.behind.now _ e c.in-Context.is
-    (found_by _ _ (count_reads c.in-Context.count c.args.behind.now) c.behind_octets-in-Context.ensures)
+    item_found _ _ _ _ _ _ e c.in-Context.is (found_by _ _ (count_reads _ _) c.behind_octets-in-Context.ensures)
 
 pub behind_items-returns-in-Closing : goal.behind_items-returns-in-Closing
 behind_items-returns-in-Closing t c =
-    rest_found c.args.depth c.args.octets.now _
-    (c.loop-tag.invariant
-    ∙ ended_again (length c.loop-tag.rest.now) c.args.depth c.loop-tag.rest.now
-    (ended_since c.in-Some.tag c.loop-tag.rest.now c.in-Some.behind.now (sym c.in-Some.ensures) c.in-Closing.is))
+    rest_found _ _ _ (c.loop-tag.invariant ∙ ended_again _ _ _
+    (ended_since _ _ _ (sym c.in-Some.ensures) c.in-Closing.is))
 
 pub behind_items-returns-in_err-rest : goal.behind_items-returns-in_err-rest
 behind_items-returns-in_err-rest t c =
-    rw c.from_residual.ensures (rest_found c.args.depth c.args.octets.now None (c.loop-tag.invariant
-    ∙ rest_step c.args.depth c.loop-tag.rest.now c.in-Some.tag c.in-Some.behind.now None c.in-Some.ensures
-    c.in_default-shape.not-Closing (c.in_err-rest.ensures c.loop-tag.rest.now c.in-Some.ensures)))
+    rw c.from_residual.ensures (rest_found _ _ _ (c.loop-tag.invariant ∙ rest_step _ _ _ _ None c.in-Some.ensures
+    c.in_default-shape.not-Closing (c.in_err-rest.ensures _ c.in-Some.ensures)))
 
 pub behind_items-loop-tag-smaller : goal.behind_items-loop-tag-smaller
-behind_items-loop-tag-smaller t c =
-    behind_shorter c.args.depth c.loop-tag.rest.now c.in_ok-rest.rest.now
-    (c.in_ok-rest.ensures c.loop-tag.rest.now c.in-Some.ensures)
+behind_items-loop-tag-smaller t c = behind_shorter _ _ _ (c.in_ok-rest.ensures _ c.in-Some.ensures)
 
 pub behind_items-loop-tag-preserved : goal.behind_items-loop-tag-preserved
 behind_items-loop-tag-preserved t c =
-    c.loop-tag.invariant
-    ∙ rest_step c.args.depth c.loop-tag.rest.now c.in-Some.tag c.in-Some.behind.now (Some c.in_ok-rest.rest.now)
-    c.in-Some.ensures c.in_default-shape.not-Closing (c.in_ok-rest.ensures c.loop-tag.rest.now c.in-Some.ensures)
+    c.loop-tag.invariant ∙ rest_step _ _ _ _ (Some _)
+    c.in-Some.ensures c.in_default-shape.not-Closing (c.in_ok-rest.ensures _ c.in-Some.ensures)
 
 pub behind_items-returns-then-is_empty : goal.behind_items-returns-then-is_empty
 behind_items-returns-then-is_empty t c =
-    let empty = nil_from_length c.loop-tag.rest.now
-    (eqb-true (length c.loop-tag.rest.now) 0 (sym c.is_empty.ensures ∙ c.if-is_empty.true)) in
-    rest_found c.args.depth c.args.octets.now _
-    (c.loop-tag.invariant ∙ ended_again (length c.loop-tag.rest.now) c.args.depth c.loop-tag.rest.now (inl empty))
+    let empty = nil_from_length _ (eqb-true _ 0 (sym c.is_empty.ensures ∙ c.if-is_empty.true)) in
+    rest_found _ _ _ (c.loop-tag.invariant ∙ ended_again _ _ _ (inl empty))
 
 pub behind_items-returns-else-is_empty : goal.behind_items-returns-else-is_empty
 behind_items-returns-else-is_empty t c =
-    rest_found c.args.depth c.args.octets.now None
-    (c.loop-tag.invariant
-    ∙ rest_none c.args.depth c.loop-tag.rest.now c.in_default.ensures
-    (λ empty. eqb-false (length c.loop-tag.rest.now) 0 (sym c.is_empty.ensures ∙ c.if-is_empty.false)
-    (ap length empty)))
+    rest_found _ _ _ (c.loop-tag.invariant ∙ rest_none _ _ c.in_default.ensures
+    (λ empty. eqb-false _ 0 (sym c.is_empty.ensures ∙ c.if-is_empty.false) (ap length empty)))

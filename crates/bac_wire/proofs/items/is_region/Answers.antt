@@ -1,18 +1,12 @@
-use Rattle.std.proofs.Common.{[], sym, ap, ◌∙◌, length}
-use Rattle.std.proofs.lemmas.Bool.{eqb-true, eq-eqb}
-use Rattle.std.proofs.lemmas.List.{nil_from_length}
+use Rattle.std.proofs.{Common.{[], sym, ap, ◌∙◌, length}, lemmas.{Bool.{eqb-true, eq-eqb}, List.nil_from_length}}
 use Rattle.bac_wire.proofs.ItemLaws.{whole_region, region_whole, one_left}
 use Rattle.bac_wire.proofs.items.is_region.Goals as goal
 
 pub returns-in-Some : goal.returns-in-Some
 returns-in-Some c = (
-  λ e. whole_region 32 c.args.octets.now c.in-Some.rest.now c.in-Some.ensures
-      (nil_from_length c.in-Some.rest.now (eqb-true (length c.in-Some.rest.now) 0 (sym c.is_empty.ensures ∙ e))),
-  λ r. c.is_empty.ensures
-      ∙ eq-eqb (length c.in-Some.rest.now) 0
-      (ap length (one_left 32 32 c.args.octets.now c.in-Some.rest.now [] c.in-Some.ensures
-      (region_whole 32 c.args.octets.now r))),
+  λ e. whole_region 32 _ _ c.in-Some.ensures (nil_from_length _ (eqb-true _ 0 (sym c.is_empty.ensures ∙ e))),
+  λ r. c.is_empty.ensures ∙ eq-eqb _ 0 (ap length (one_left 32 32 _ _ [] c.in-Some.ensures (region_whole 32 _ r))),
 )
 
 pub returns-in-None : goal.returns-in-None
-returns-in-None c = (λ e. absurd cc, λ r. absurd (c.in-None.ensures [] (region_whole 32 c.args.octets.now r)))
+returns-in-None c = (λ e. absurd cc, λ r. absurd (c.in-None.ensures [] (region_whole 32 _ r)))

@@ -4,20 +4,17 @@ use Rattle.bac_wire.proofs.items.region.Goals as goal
 
 pub returns-in_err-rest : goal.returns-in_err-rest
 returns-in_err-rest c =
-    rw c.from_residual.ensures
-    (record {
+    rw c.from_residual.ensures (record {
       within = tt;
       found = tt;
-      all = λ front r. absurd (c.in_err-rest.ensures r.behind (region_leaves 32 3 c.args.octets.now front r));
+      all = λ front r. absurd (c.in_err-rest.ensures _ (region_leaves 32 3 _ _ r));
     })
 
 pub returns-in_err-behind_closing : goal.returns-in_err-behind_closing
 returns-in_err-behind_closing c =
     let none = rw (← c.in_err-behind_closing.ensures) at (finds_by _ (closing_reads 3 c.in_ok-rest.rest.now)) in
-    rw c.from_residual-in_err-behind_closing.ensures
-    (region_finds 32 3 c.args.octets.now c.in_ok-rest.rest.now None c.in_ok-rest.ensures none)
+    rw c.from_residual-in_err-behind_closing.ensures (region_finds 32 3 _ _ None c.in_ok-rest.ensures none)
 
 pub returns : goal.returns
-returns c = rw (← c.in_ok-behind_closing.ensures) at
-    (region_finds 32 3 c.args.octets.now c.in_ok-rest.rest.now _ c.in_ok-rest.ensures
-    (finds_by _ (closing_reads 3 c.in_ok-rest.rest.now)))
+returns c = rw (← c.in_ok-behind_closing.ensures) at (region_finds 32 3 _ _ _ c.in_ok-rest.ensures
+    (finds_by _ (closing_reads 3 _)))

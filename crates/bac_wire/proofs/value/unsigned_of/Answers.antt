@@ -1,5 +1,4 @@
-use Rattle.std.proofs.Common.{◌^◌, ◌≤◌, length, arith}
-use Rattle.std.proofs.Math.Nat.{pow-le-pow_right}
+use Rattle.std.proofs.{Common.{◌^◌, ◌≤◌, length, arith}, Math.Nat.pow-le-pow_right}
 use Rattle.byteorder.specs.Numbers.{big_from-lt}
 use Rattle.bac_wire.proofs.value.unsigned_of.Goals as goal
 
