@@ -35,8 +35,7 @@ pub ticked : (timeout retries clock last next : ℕ) (ws : List Waiting) (now la
     (client : Client) → seen_as timeout retries clock last next ws ≡ client
     → Ticks client now answer (seen_as timeout retries later last next after)
 ticked timeout retries _ last next ws now later is answer after both _ same =
-    subst (λ old. Ticks old now answer (seen_as timeout retries later last next after)) same
-    (rw (← is) (both.0, ap (λ vs. seen_as timeout retries later last next vs) both.1))
+    rw (← same) (rw (← is) (both.0, ap (λ vs. seen_as timeout retries later last next vs) both.1))
 
 pub timely-filter : (p : Waiting → Bool) (clock next : ℕ) (ws : List Waiting) → IsTimely clock next ws
     → IsTimely clock next (filter p ws)
@@ -104,21 +103,19 @@ delivers_by : (client : Client) (peer : Station) (bytes : List ℕ) (answer : Op
     deliver (λ r. outcome_of r peer bytes) client.state.waiting ≡ record { answer = answer; waiting = waiting } →
     Delivers client peer bytes answer (with_waiting client waiting)
 delivers_by client _ _ answer waiting e =
-    (sym (ap (λ d. d.answer) e), ap (with_waiting client) (sym (ap (λ d. d.waiting) e)))
+    (cc e, ap (with_waiting client) (cc e))
 
 pub no_answer : (client : Client) (peer : Station) (bytes : List ℕ) → answer_in_datagram peer bytes ≡ None
     → Delivers client peer bytes None client
 no_answer client peer bytes e =
-    delivers_by _ _ _ _ _ (delivers_nothing _ (λ r. rw e refl) _)
+    delivers_by _ _ _ _ _ (delivers_nothing _ (λ r. rw e) _)
 
 -- At most one request, by its ticket.
 few_of_one : (ws : List Waiting) → (ended : Option ℕ) → option_to_list ended ≡ map ticket_in ws → (outcome : Outcome) →
     (length ws ≤ 1) × (option_map (ended_with outcome) (slice_get ws 0) ≡ option_map (λ t. (t, outcome)) ended)
 few_of_one [] None _ _ = (omega arith, refl)
-few_of_one [] (Some t) told _ = cc
-few_of_one (w ∷ ws) None told _ = cc
-few_of_one (w ∷ v ∷ ws) (Some t) told _ = cc
 few_of_one (w ∷ []) (Some t) told _ = (omega arith, cc)
+few_of_one _ _ told _ = grind arith
 
 module _ (timeout retries clock last next : ℕ) (ws : List Waiting) (peer : Station) (bytes : List ℕ)
     (answer : Answer) (carried : answer_in_datagram peer bytes ≡ Some answer) where
@@ -131,9 +128,4 @@ module _ (timeout retries clock last next : ℕ) (ws : List Waiting) (peer : Sta
   closed _ same ended after told left =
       let p = λ (w : Waiting). is_answer_to w.request answer in
       let few = few_of_one _ _ told _ in
-      subst (λ (old : Client).
-      Delivers old peer bytes (option_map (λ t. (t, answer.outcome)) ended)
-      (seen_as timeout retries clock last next after)) same
-      (delivers_by _ _ _ _ _
-      (delivers_one _ _ _ (λ r. rw carried refl) ws few.0
-      ∙ (λ i. record { answer = few.1 i; waiting = sym left i })))
+      rw (← same) (delivers_by _ _ _ _ _ (delivers_one _ _ _ (λ r. rw carried refl) ws few.0 ∙ (λ i. record { answer = few.1 i; waiting = sym left i })))

@@ -18,14 +18,13 @@ use Rattle.std.proofs.lemmas.Bool.Decides.{nat_tests}
 module _ {A : Type 0} (key : A → ℕ) where
   pub times-append : (n : ℕ) (xs ys : List A) → times key n (xs ++ ys) ≡ times key n xs + times key n ys
   times-append n xs ys =
-      ap length (filter-append _ xs ys)
-      ∙ length-append _ _
+      cc (filter-append _ xs ys, length-append _ _)
 
   pub times_one : (n : ℕ) (x : A) → key x ≡ n → times key n (x ∷ []) ≡ 1
-  times_one n x e = rw (eq-eqb _ n e) refl
+  times_one n x e = rw (eq-eqb _ n e)
 
   pub times_other : (n : ℕ) (x : A) → (key x ≡ n → ⊥) → times key n (x ∷ []) ≡ 0
-  times_other n x e = rw (ne_eqb _ n e) refl
+  times_other n x e = rw (ne_eqb _ n e)
 
   pub times-remove : (n : ℕ) (xs : List A) (i : ℕ) (d : A) → i < length xs →
       times key n (remove xs i) + times key n (get_or xs i d ∷ []) ≡ times key n xs
@@ -105,7 +104,7 @@ map-remove f xs i =
 
 pub held_got : (slots : List Waiting) (order : List ℕ) (i slot : ℕ) → i < length order → get_or order i 0 ≡ slot →
     get_or (held_at slots order) i nothing ≡ get_or slots slot nothing
-held_got slots order i _ lt is = get_or-map _ _ i 0 _ lt ∙ ap (at_slot _) is
+held_got slots order i _ lt is = cc (get_or-map _ _ i 0 _ lt, is)
 
 pub same_turn : (order : List ℕ) (i slot : ℕ) → i < length order → slot ≡ get_or order i slot
     → slot ≡ get_or order i 0

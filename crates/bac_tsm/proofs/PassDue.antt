@@ -52,7 +52,7 @@ module _ {slots : List Waiting} {numbers : List (Option ℕ)} {order tickets sen
 
   some : 0 < times_of_slot slot (open_slots order tickets)
   some =
-      omega (arith, subst (λ (k : ℕ). 0 < times_of_slot k sends) first.1 (times_got itself sends 0 0 first.0), q.same slot)
+      omega (arith, rw first.1 at (times_got itself sends 0 0 first.0), q.same slot)
 
   pub front_below : slot < table_size
   front_below = open_below t ws view _ some
@@ -66,10 +66,7 @@ module _ {slots : List Waiting} {numbers : List (Option ℕ)} {order tickets sen
 
     none_due : is_due rules clock w ≡ false → All (λ v. is_due rules clock v ≡ false) ws
     none_due young =
-        subst (All (λ v. is_due rules clock v ≡ false)) view
-        (all_opened q (λ v. is_due rules clock v ≡ false) (λ k e lt.
-        younger _ _ (get_or (held_at _ sends) 0 e).base (get_or _ k e).base
-        (rw (here e) young) (later k e lt)))
+        rw view at (all_opened q (λ v. is_due rules clock v ≡ false) (λ k e lt. younger _ _ (get_or (held_at _ sends) 0 e).base (get_or _ k e).base (rw (here e) young) (later k e lt)))
       where
         here : (e : Waiting) → get_or (held_at slots sends) 0 e ≡ w
         here e = get_or_default (held_at _ sends) 0 e _ (rw length-map first.0)
@@ -84,7 +81,7 @@ module _ {slots : List Waiting} {numbers : List (Option ℕ)} {order tickets sen
       | inl due ↦ due ∙ sym
           (list_any_at _ ws i _ (turn_lt t ws _ _ _)
           (ap (is_due rules _) (sym read) ∙ due))
-      | inr young ↦ young ∙ sym (list_any_none _ ws (none_due young))
+      | inr young ↦ cc (young, list_any_none _ ws (none_due young))
     ]
 
     pub not_found : (ticket : ℕ) → due_entry rules w ≡ Expired ticket → IsRankOf ticket ws None → ⊥
@@ -93,7 +90,7 @@ module _ {slots : List Waiting} {numbers : List (Option ℕ)} {order tickets sen
 
     module _ (due : list_any (is_due rules clock) ws ≡ true) where
       due_there : is_due rules clock (get_or ws i nothing) ≡ true
-      due_there = ap (is_due rules _) (sym read) ∙ some_due ∙ due
+      due_there = cc (read, some_due, due)
 
       pub sent_again : All (λ v. v.base ≤ clock) ws → (ticket : ℕ) → due_entry rules w ≡ Resend ticket
           → (changed : List Waiting) (rest after : List ℕ) →
@@ -111,21 +108,20 @@ module _ {slots : List Waiting} {numbers : List (Option ℕ)} {order tickets sen
             ap (λ u. nat_lt u.count rules.retries) (sym read)
                 ∙ is_again rules clock w _ again,
           )
-          (ap (λ u. sent_at clock u ∷ []) (open_read t ws view slot some)) in
+          (cc (open_read t ws view slot some)) in
           rw (is, back) (
             (
               i,
               lt,
               due_there,
               ap (due_entry rules) read,
-              moved.0 ∙ set_split ws i v lt
-                  ∙ ap (λ xs. take i ws ++ (xs ++ drop (suc i) ws)) kept_now,
+              cc (moved.0, set_split ws i v lt, kept_now),
             ),
             moved.1,
             queue-again q slot rest (0, first.0, first.1, out) v
                 (omega (arith, t.all_slots, front_below))
                 (omega (arith, times_split t slot (length tickets)))
-                (subst (All (λ u. u.base ≤ clock)) (sym view) past),
+                (rw view past),
           )
 
       pub ended : (ticket j : ℕ) → due_entry rules w ≡ Expired ticket → IsRankOf ticket ws (Some j)
@@ -134,14 +130,12 @@ module _ {slots : List Waiting} {numbers : List (Option ℕ)} {order tickets sen
       ended ticket j over its _ to =
           let gone = is_over rules clock w _ over in
           let same_turn =
-          one_turn t ws view j i its.0 (turn_lt t ws _ _ _) (its.1 ∙ sym gone.1 ∙ ap ticket_in read) in
+          one_turn t ws view j i its.0 (turn_lt t ws _ _ _) (cc (its.1, gone.1, read)) in
           let none : kept rules _ _ ≡ [] =
-          rw (due_there, ap (λ u. nat_lt u.count rules.retries) (sym read) ∙ gone.0) refl in (
+          rw (due_there, ap (λ u. nat_lt u.count rules.retries) (sym read) ∙ gone.0) in (
             i,
             turn_lt t ws _ _ _,
             due_there,
-            sym over ∙ ap (due_entry rules) read,
-            to
-                ∙ ap (remove ws) same_turn
-                ∙ ap (λ xs. take i ws ++ (xs ++ drop (suc i) ws)) (sym none),
+            cc (over, read),
+            (cc (to, same_turn)) ∙ ap (λ xs. take i ws ++ (xs ++ drop (suc i) ws)) (sym none),
           )

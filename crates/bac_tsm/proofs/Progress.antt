@@ -38,9 +38,7 @@ module _ (rules : Rules) (events : List Event) where
       IsSomeAnd (due rules events a (suc k)) (λ e. e ≤ j)
   due_again a k d i j is le lt waited =
       let within = waited_within i j waited in
-      subst (λ o. IsSomeAnd o (λ e. e ≤ j)) (sym (due_next rules _ a k d is))
-      (found_by _ _ (length events - suc d) j (omega arith) (omega arith)
-      (grind (arith, clock_rises events (suc d) (suc i) (omega arith))))
+      rw (due_next rules _ a k d is) (found_by _ _ (length events - suc d) j (omega arith) (omega arith) (grind (arith, clock_rises events (suc d) (suc i) (omega arith))))
 
   pub due_in_turn : (a k n d i : ℕ) (ticks : List ℕ) → n ≡ k + length ticks → due rules events a k ≡ Some d → d ≤ i →
       TimeoutsPass rules events i ticks → IsSomeAnd (due rules events a n) (λ e. e ≤ last_of i ticks)

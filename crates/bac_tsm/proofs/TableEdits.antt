@@ -80,7 +80,7 @@ module _ {slots : List Waiting} {opened sends : List ℕ} (q : AreBySend slots o
     by_send_out : AllPairs IsEarlier (held_at slots rest)
     by_send_out =
         subst (AllPairs IsEarlier)
-        (sym (ap (held_at _) out.3 ∙ map-remove _ _ _))
+        (cc (out.3, map-remove _ _ _))
         (all_pairs_remove IsEarlier _ out.0 (rw length-map out.1) q.by_send)
 
     -- A request ends.
@@ -168,7 +168,7 @@ module _ {slots : List Waiting} {numbers : List (Option ℕ)} {order tickets : L
       → w.request ≡ (get_or slots slot nothing).request →
       (waiting_in (set slots slot w) order tickets ≡ set ws i w) × IsTable (set slots slot w) numbers order tickets
   changed_by i lt slot is w same = (
-    changed_view ∙ ap (λ vs. set vs i w) view,
+    cc (changed_view, view),
     record {
       all_slots = length-set _ _ w ∙ t.all_slots;
       all_ranks = t.all_ranks;
@@ -204,7 +204,7 @@ module _ {slots : List Waiting} {numbers : List (Option ℕ)} {order tickets : L
           )
 
       same_number : (other : ℕ) → number_at (set slots slot w) other ≡ number_at slots other
-      same_number other = ap (λ r. r.number) (same_request _)
+      same_number other = cc (same_request _)
 
       still : (number : ℕ)
           → times number_in number (held_at (set slots slot w) opens) ≡ times number_in number (held_at slots opens)
@@ -242,23 +242,9 @@ module _ {slots : List Waiting} {numbers : List (Option ℕ)} {order tickets : L
         within = t.within;
         once = t.once;
         numbered =
-            subst (AreNamed _ _) (sym grown)
-            (named_set _ _ _ _ _ _ _
-            t.numbered (
-              more _ (omega (arith, times_one itself slot slot refl)),
-              ap number_in (get_or-set_same _ _ w _ there),
-            )
-            (omega (arith, held w.request.number, times_one number_in _ w refl, ap (times number_in w.request.number) view))
-            (λ number other. omega (arith, held number, times_other number_in _ w (λ q. other (sym q))))
-            (λ number q other some has. (
-              more q (omega arith),
-              ap number_in (get_or-set_other slots _ q w _ (elsewhere q some))
-                  ∙ has,
-            )));
+            rw grown (named_set _ _ _ _ _ _ _ t.numbered (more _ (omega (arith, times_one itself slot slot refl)), ap number_in (get_or-set_same _ _ w _ there)) (omega (arith, held w.request.number, times_one number_in _ w refl, ap (times number_in w.request.number) view)) (λ number other. omega (arith, held number, times_other number_in _ w (λ q. other (sym q)))) (λ number q other some has. (more q (omega arith), ap number_in (get_or-set_other slots _ q w _ (elsewhere q some)) ∙ has)));
         ticketed =
-            ap (map _) (ap (held_at _) grown ∙ opened_view)
-            ∙ map-append _ _ _
-            ∙ ap (λ ts. ts ++ w.request.ticket ∷ []) t.ticketed;
+            ap (map _) (ap (held_at _) grown ∙ opened_view) ∙ (cc (map-append _ _ _, t.ticketed));
         rise = all_pairs_push (λ early late. early < late) _ _ t.rise
             (λ k d lt. let rank : k < length ws = omega (arith, count t ws view) in
             let e = ticket_got t ws view k rank nothing d in
@@ -267,8 +253,7 @@ module _ {slots : List Waiting} {numbers : List (Option ℕ)} {order tickets : L
         where
           held : (number : ℕ) → times number_in number (held_at (set slots slot w) (opens ++ slot ∷ []))
               ≡ times number_in number (held_at slots opens) + times number_in number (w ∷ [])
-          held number = ap (times _ _) opened_view
-              ∙ times-append _ number _ _
+          held number = cc (opened_view, times-append _ number _ _)
 
           more : (q : ℕ) → 0 < times_of_slot q opens + times_of_slot q (slot ∷ [])
               → 0 < times_of_slot q (opens ++ slot ∷ [])
@@ -357,28 +342,15 @@ module _ {slots : List Waiting} {numbers : List (Option ℕ)} {order tickets : L
       within = λ q le. moved q ∙ t.within q le;
       once = grind (arith, moved);
       numbered =
-          subst (AreNamed _ _) (sym shrunk)
-          (named_set _ _ _ _ _ _ _ t.numbered
-          (let e = left number in let one = times_one number_in _ (get_or slots _ _) (sym has) in
-          omega arith)
-          (let e = left number in omega arith)
-          (λ n other. omega (arith, left n, times_other number_in n (get_or slots slot _) (λ q. other (sym q ∙ sym has))))
-          (λ n q other some its. (
-            grind (arith, gone),
-            its,
-          )));
+          rw shrunk (named_set _ _ _ _ _ _ _ t.numbered (let e = left number in let one = times_one number_in _ (get_or slots _ _) (sym has) in omega arith) (let e = left number in omega arith) (λ n other. omega (arith, left n, times_other number_in n (get_or slots slot _) (λ q. other (sym q ∙ sym has)))) (λ n q other some its. (grind (arith, gone), its)));
       ticketed =
-          ap (λ xs. map ticket_in (held_at slots xs)) shrunk
-          ∙ ap (map _) (map-remove _ _ i)
-          ∙ map-remove _ _ i
-          ∙ ap (λ ts. remove ts i) t.ticketed;
+          (cc (shrunk, map-remove _ _ i, map-remove _ _ i)) ∙ ap (λ ts. remove ts i) t.ticketed;
       rise = all_pairs_remove (λ early late. early < late) _ i within_tickets t.rise;
     }
 
     ended_view : waiting_in slots (remove order i ++ slot ∷ []) (remove tickets i) ≡ remove ws i
     ended_view =
-        ap (held_at _) shrunk ∙ map-remove _ _ i
-        ∙ ap (λ vs. remove vs i) view
+        ap (held_at _) shrunk ∙ (cc (map-remove _ _ i, view))
 
     unqueued : (sends left : List ℕ) → AreBySend slots opens sends → IsTakenOut slot sends left →
         AreBySend slots (open_slots (remove order i ++ slot ∷ []) (remove tickets i)) left
@@ -433,8 +405,7 @@ empty_table _ _ _ _ none all_slots blank whole within once = rw none (record {
     all_numbers = cc;
     apart = λ number. omega arith;
     named = λ number lt.
-        rw (ap (λ xs. get_or xs number None) blank
-        ∙ get_or-replicate {A = Option ℕ} 256 _ _ _ lt) refl;
+        rw (ap (λ xs. get_or xs number None) blank ∙ get_or-replicate {A = Option ℕ} 256 _ _ _ lt);
   };
   ticketed = refl;
   rise = omega arith;

@@ -45,7 +45,7 @@ found_at slot order some =
     let within = first _ some in (
       position_or_len test _,
       record {
-        found = rw (lt-ltb _ _ within) refl;
+        found = rw (lt-ltb _ _ within);
         within = within;
         there = eqb-true _ _ (passes_at_first test _ 0 within);
       },
@@ -61,7 +61,7 @@ find_rank : (t : ℕ) (ws : List Waiting) (i : ℕ) → TicketsRise ws → i < l
     → (get_or ws i nothing).request.ticket ≡ t →
     find (by_ticket t) ws ≡ Some (get_or ws i nothing)
 find_rank t [] i _ lt is = absurd (omega arith)
-find_rank t (w ∷ ws) zero _ lt is = rw (eq-eqb _ t is) refl
+find_rank t (w ∷ ws) zero _ lt is = rw (eq-eqb _ t is)
 find_rank t (w ∷ ws) (suc i) rise lt is =
     let less =
     rise 0 (suc i) nothing (omega arith) (omega arith) in
@@ -75,14 +75,12 @@ module _ {slots : List Waiting} {numbers : List (Option ℕ)} {order tickets : L
 
   pub as_many : length opened ≡ length tickets
   as_many =
-      sym (length-map _ _)
-      ∙ sym (length-map _ _) ∙ ap length t.ticketed
+      (cc (length-map _ _, length-map _ _)) ∙ ap length t.ticketed
 
   -- Those before and those after a rank of the order are the order.
   pub times_split : (slot n : ℕ)
       → times_of_slot slot order ≡ times_of_slot slot (take n order) + times_of_slot slot (drop n order)
-  times_split slot n = ap (times_of_slot _) (sym (take-append-drop n _))
-      ∙ times-append _ slot _ _
+  times_split slot n = cc (take-append-drop n _, times-append _ slot _ _)
 
   pub few : length tickets ≤ length order
   few = omega (arith, length-take (length tickets) order, as_many)
@@ -100,7 +98,7 @@ module _ {slots : List Waiting} {numbers : List (Option ℕ)} {order tickets : L
   -- A rank of the open requests.
   module _ (ws : List Waiting) (view : waiting_in slots order tickets ≡ ws) where
     pub count : length tickets ≡ length ws
-    count = sym as_many ∙ sym (length-map _ _) ∙ ap length view
+    count = (cc (as_many, length-map _ _)) ∙ ap length view
 
     pub rank_within : (i : ℕ) → i < length ws → i < length order
     rank_within i lt = omega (arith, count, few)
@@ -114,8 +112,7 @@ module _ {slots : List Waiting} {numbers : List (Option ℕ)} {order tickets : L
     pub read_held : (i slot : ℕ) → i < length ws → get_or order i 0 ≡ slot
         → get_or slots slot nothing ≡ get_or ws i nothing
     read_held i slot lt is =
-        sym (held_got _ _ i _ (turn_opened i lt) (here i _ lt is))
-        ∙ ap (λ vs. get_or vs i nothing) view
+        cc (held_got _ _ i _ (turn_opened i lt) (here i _ lt is), view)
 
     -- The first free slot, where there is one.
     pub next_free : length ws < table_size → get_or order (length tickets) 0 < table_size
@@ -154,7 +151,7 @@ module _ {slots : List Waiting} {numbers : List (Option ℕ)} {order tickets : L
         IsBinarySearchResult (λ y. nat_cmp y ticket) items r → IsRankOf ticket ws (result_ok r)
     searched_rank ticket _ are r found =
         by r (searched _ _ r
-        (subst (λ xs. IsBinarySearchResult (λ y. nat_cmp y ticket) xs r) are found) up)
+        (rw are at found) up)
       where
         up : (i j : ℕ) → i ≤ j → j < length tickets → get_or tickets i 0 ≤ get_or tickets j 0
         up i j le lt = grind (arith)
@@ -204,14 +201,13 @@ module _ {slots : List Waiting} {numbers : List (Option ℕ)} {order tickets : L
             → is_some entry ≡ list_any (λ w. nat_eq number w.request.number) (waiting_in slots order tickets)
         by None is = sym
             (any_number number _
-            ∙ ap (nat_lt 0) (subst (Names slots opened number) is (t.numbered.named number fits)))
+            ∙ ap (nat_lt 0) (rw is at (t.numbered.named number fits)))
         by (Some slot) is =
             let rank = found_at slot opened (named slot is).0 in
             let has = ap number_in (held_got slots opened rank.0 slot rank.1.within rank.1.there)
             ∙ (named slot is).1 in
             sym (any_number number _ ∙ lt-ltb 0 _
-            (subst (λ (k : ℕ). 0 < times number_in k (held_at slots opened)) has
-            (times_got _ (held_at slots opened) rank.0 nothing (rw length-map rank.1.within))))
+            (rw (← has) (times_got _ (held_at slots opened) rank.0 nothing (rw length-map rank.1.within))))
 
   -- What an answer ends.
   module _ (answer : Answer) (number : ℕ) (its : number ≡ answer.number) (fits : number < 256) (ws : List Waiting)
@@ -230,9 +226,8 @@ module _ {slots : List Waiting} {numbers : List (Option ℕ)} {order tickets : L
     pub closed_none : get_or numbers number None ≡ None → Ends [] ws
     closed_none is =
         let none = none_passes _ _ _ says ws
-        (subst (λ vs. times number_in number vs ≡ 0) view
-        (subst (Names slots _ _) is (t.numbered.named _ fits))) in
-        (sym (ap (map _) none.0), sym none.1)
+        (rw view at (subst (Names slots _ _) is (t.numbered.named _ fits))) in
+        (cc none.0, sym none.1)
 
     module _ (slot : ℕ) (is : get_or numbers number None ≡ Some slot) where
       some : 0 < times_of_slot slot opened
@@ -253,11 +248,11 @@ module _ {slots : List Waiting} {numbers : List (Option ℕ)} {order tickets : L
         found =
             rw read
             (one_passes _ _ _ says ws i _ (turn_lt ws _ _ _)
-            (ap number_in (sym (open_read ws _ _ _)) ∙ (named _ fits _ is).1)
-            (subst (λ vs. times number_in number vs ≤ 1) view (t.numbered.apart _)))
+            (cc (open_read ws _ _ _, (named _ fits _ is).1))
+            (rw (← view) (t.numbered.apart _)))
 
         pub closed_not : ends w ≡ false → Ends [] ws
-        closed_not fails = let both = rw fails at found in (sym (ap (map _) both.0), sym both.1)
+        closed_not fails = let both = rw fails at found in (cc both.0, sym both.1)
 
         module _ (ticket : ℕ) (named : ticket ≡ w.request.ticket) where
           pub closed_some_turn : IsRankOf ticket ws None → ⊥
@@ -271,8 +266,8 @@ module _ {slots : List Waiting} {numbers : List (Option ℕ)} {order tickets : L
                 named,
                 to,
                 one_turn ws view j i its.0 (turn_lt ws _ _ _)
-                    (its.1 ∙ named ∙ ap ticket_in read),
-              ) (sym (ap (map _) both.0), sym both.1)
+                    (cc (its.1, named, read)),
+              ) (cc both.0, sym both.1)
 
 -- ---- the look for a free number, one step at a time
 
@@ -304,8 +299,7 @@ module _ (last : ℕ) (ws : List Waiting) where
       → (last + d) % 256 ≡ next_invoke_id last (map number_in ws)
   unfolding next_invoke_id
   free_is d before low high free =
-      rw (first_at (is_free last _) 1 256 d low high (rw (list_any-map _ _ ws, free) refl)
-      (not_before d before)) refl
+      rw (first_at (is_free last _) 1 256 d low high (rw (list_any-map _ _ ws, free) refl) (not_before d before))
 
   -- Where all others are taken, the last one is given again.
   pub last_is : last < 256 → TakenBefore 256 → last ≡ next_invoke_id last (map number_in ws)

@@ -27,8 +27,6 @@ use Rattle.bac_tsm.proofs.CallNotes.{TicketsRise, kept_of_one, pairs_map}
 -- How many pass a test, where the first n do, and where only they may.
 module _ {A : Type 0} (p : A → Bool) (d : A) where
   at_least : (xs : List A) (n : ℕ) → n ≤ length xs → ((i : ℕ) → i < n → p (get_or xs i d) ≡ true) → n ≤ count_by p xs
-  at_least xs zero le all = omega arith
-  at_least [] (suc n) le all = absurd (omega arith)
   at_least (x ∷ xs) (suc n) le all =
       grind (
         arith,
@@ -36,6 +34,7 @@ module _ {A : Type 0} (p : A → Bool) (d : A) where
         all 0 (omega arith),
         at_least xs n (omega arith) (λ i lt. all (suc i) (omega arith)),
       )
+  at_least _ _ le all = grind arith
 
   at_most : (xs : List A) (n : ℕ) → ((i : ℕ) → n ≤ i → i < length xs → p (get_or xs i d) ≡ false) → count_by p xs ≤ n
   at_most [] n _ = omega arith

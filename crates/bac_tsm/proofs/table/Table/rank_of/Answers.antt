@@ -14,7 +14,7 @@ got : (r : Option (Bor ℕ)) (xs : List ℕ) (i ticket : ℕ) → is_some r ≡ 
     option_copied r ≡ Some ticket → slice_get xs i ≡ Some ticket
 got None xs i _ _ _ is = absurd (none-some _ is)
 got (Some x) xs i _ within there is =
-    cc (slice_get-get_or xs i x.now (ltb-true i (length xs) (sym within)), there, same_Some _ _ is)
+    cc (slice_get-get_or xs i x.now (ltb-true i _ (sym within)))
 
 pub returns-then-eq : goal.returns-then-eq
 returns-then-eq c =
