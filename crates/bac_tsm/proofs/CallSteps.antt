@@ -34,9 +34,8 @@ pub ticked : (timeout retries clock last next : ℕ) (ws : List Waiting) (now la
     × (after ≡ flat_map (kept (client_rules timeout retries) later) ws) →
     (client : Client) → seen_as timeout retries clock last next ws ≡ client
     → Ticks client now answer (seen_as timeout retries later last next after)
-ticked timeout retries clock last next ws now later is answer after both client same =
-    subst (λ (old : Client). Ticks old now answer (seen_as timeout retries later last next after)) same
-    (rw (← is) (both.0, ap (λ (vs : List Waiting). seen_as timeout retries later last next vs) both.1))
+ticked timeout retries _ last next ws now later is answer after both _ same =
+    rw (← same) (rw (← is) (both.0, ap (λ vs. seen_as timeout retries later last next vs) both.1))
 
 pub timely-filter : (p : Waiting → Bool) (clock next : ℕ) (ws : List Waiting) → IsTimely clock next ws
     → IsTimely clock next (filter p ws)
@@ -50,9 +49,9 @@ module _ (clock next : ℕ) (ws : List Waiting) (t : IsTimely clock next ws) (no
 
     pub timely-tick : (rules : Rules) (after : List Waiting) → after ≡ flat_map (kept rules later) ws
         → IsTimely later next after
-    timely-tick rules after to = rw to (
-      kept_of_all rules (λ w. w.request.ticket < next) later (λ w lt. lt) ws t.0,
-      kept_of_all rules (λ w. w.base ≤ later) later (λ w le. omega arith) ws past_later,
+    timely-tick rules _ to = rw to (
+      kept_of_all rules (λ w. w.request.ticket < next) _ (λ w lt. lt) ws t.0,
+      kept_of_all rules (λ w. w.base ≤ later) _ (λ w le. omega arith) ws past_later,
     )
 
 -- ---- what a datagram answers and leaves
@@ -66,7 +65,7 @@ module _ (p : Request → Bool) (o : Outcome) (f : Request → Option Outcome)
   delivers_none : (ws : List Waiting) → filter (λ w. p w.request) ws ≡ [] →
       (deliver f ws ≡ record { answer = None; waiting = ws }) × (filter (λ w. not (p w.request)) ws ≡ ws)
   delivers_none [] h = (refl, refl)
-  delivers_none (w ∷ ws) h = grind (arith, delivers_none ws, same w.request, h)
+  delivers_none (w ∷ ws) h = grind (arith, delivers_none ws)
 
   -- Where at most one open request passes, it is done and the others stay.
   delivers_one : (ws : List Waiting) → length (filter (λ w. p w.request) ws) ≤ 1 →
@@ -80,16 +79,14 @@ module _ (p : Request → Bool) (o : Outcome) (f : Request → Option Outcome)
         arith,
         delivers_one ws,
         delivers_none ws,
-        same w.request,
         nil_from_length (filter (λ w. p w.request) ws),
-        h,
       )
 
 -- A datagram that carries no answer changes nothing.
 delivers_nothing : (f : Request → Option Outcome) → ((r : Request) → f r ≡ None) → (ws : List Waiting) →
     deliver f ws ≡ record { answer = None; waiting = ws }
-delivers_nothing f none [] = refl
-delivers_nothing f none (w ∷ ws) = grind (arith, none w.request, delivers_nothing f none ws)
+delivers_nothing f _ [] = refl
+delivers_nothing f none (w ∷ ws) = grind (arith, delivers_nothing f none ws)
 
 -- What a datagram answers and leaves.
 abbrev Delivers : Client → Station → List ℕ → Option (ℕ × Outcome) → Client → Type 0
@@ -105,22 +102,20 @@ delivers_by : (client : Client) (peer : Station) (bytes : List ℕ) (answer : Op
     (waiting : List Waiting) →
     deliver (λ r. outcome_of r peer bytes) client.state.waiting ≡ record { answer = answer; waiting = waiting } →
     Delivers client peer bytes answer (with_waiting client waiting)
-delivers_by client peer bytes answer waiting e =
-    (sym (ap (λ (d : Delivered). d.answer) e), ap (with_waiting client) (sym (ap (λ (d : Delivered). d.waiting) e)))
+delivers_by client _ _ answer waiting e =
+    (cc e, ap (with_waiting client) (cc e))
 
 pub no_answer : (client : Client) (peer : Station) (bytes : List ℕ) → answer_in_datagram peer bytes ≡ None
     → Delivers client peer bytes None client
 no_answer client peer bytes e =
-    delivers_by client peer bytes None client.state.waiting (delivers_nothing _ (λ r. rw e refl) client.state.waiting)
+    delivers_by _ _ _ _ _ (delivers_nothing _ (λ r. rw e) _)
 
 -- At most one request, by its ticket.
 few_of_one : (ws : List Waiting) → (ended : Option ℕ) → option_to_list ended ≡ map ticket_in ws → (outcome : Outcome) →
     (length ws ≤ 1) × (option_map (ended_with outcome) (slice_get ws 0) ≡ option_map (λ t. (t, outcome)) ended)
-few_of_one [] None told outcome = (omega arith, refl)
-few_of_one [] (Some t) told outcome = cc
-few_of_one (w ∷ ws) None told outcome = cc
-few_of_one (w ∷ v ∷ ws) (Some t) told outcome = cc
-few_of_one (w ∷ []) (Some t) told outcome = (omega arith, let e : t ≡ w.request.ticket = cc in cc)
+few_of_one [] None _ _ = (omega arith, refl)
+few_of_one (w ∷ []) (Some t) told _ = (omega arith, cc)
+few_of_one _ _ told _ = grind arith
 
 module _ (timeout retries clock last next : ℕ) (ws : List Waiting) (peer : Station) (bytes : List ℕ)
     (answer : Answer) (carried : answer_in_datagram peer bytes ≡ Some answer) where
@@ -130,12 +125,7 @@ module _ (timeout retries clock last next : ℕ) (ws : List Waiting) (peer : Sta
       after ≡ filter (λ w. not (is_answer_to w.request answer)) ws →
       Delivers client peer bytes (option_map (λ t. (t, answer.outcome)) ended)
       (seen_as timeout retries clock last next after)
-  closed client same ended after told left =
+  closed _ same ended after told left =
       let p = λ (w : Waiting). is_answer_to w.request answer in
-      let few = few_of_one (filter p ws) ended told answer.outcome in
-      subst (λ (old : Client).
-      Delivers old peer bytes (option_map (λ t. (t, answer.outcome)) ended)
-      (seen_as timeout retries clock last next after)) same
-      (delivers_by (seen_as timeout retries clock last next ws) peer bytes _ _
-      (delivers_one (λ r. is_answer_to r answer) answer.outcome _ (λ r. rw carried refl) ws few.0
-      ∙ (λ i. record { answer = few.1 i; waiting = sym left i })))
+      let few = few_of_one _ _ told _ in
+      rw (← same) (delivers_by _ _ _ _ _ (delivers_one _ _ _ (λ r. rw carried refl) ws few.0 ∙ (λ i. record { answer = few.1 i; waiting = sym left i })))

@@ -28,7 +28,7 @@ opened_next : (rules : Rules) (state : State) (peer : Station) (service : ℕ) (
       after = opened state (request_of rules state.next_ticket peer service body ((state.last_number + 1) % 256));
     }
 unfolding next_invoke_id refusal_of
-opened_next rules state peer service body short room left free = grind (arith, nat_tests)
+opened_next _ _ _ _ _ short room left free = grind (arith, nat_tests)
 
 -- A request is opened under the next ticket and the next invoke id, where there is room and no open request has that
 -- id: so it is where no request is open.
@@ -43,7 +43,7 @@ pub opens : {known client after : Client} {answer : Result ℕ SubmitFault}
     ((known.state.last_number + 1) % 256))))
 opens {known} peer service body is done short room left free =
     let now = rw is at done in
-    rw (opened_next (rules_of known) known.state peer service body short room left free) at now
+    rw (opened_next (rules_of _) known.state _ _ _ short room left free) at now
 
 -- No two of these requests have one invoke id.
 abbrev pub AreApart : List Waiting → Type 0
@@ -57,12 +57,12 @@ module _ (f : Request → Option Outcome)
 
   none_answered : (a : Request) → IsSome (f a) → (ws : List Waiting)
       → list_any (nat_eq a.number) (map number_in ws) ≡ false → flat_map g ws ≡ flat_map unless_answered ws
-  none_answered a some [] free = refl
-  none_answered a some (w ∷ ws) free = grind (arith, nat_tests, by a w.request some, none_answered a some ws)
+  none_answered a _ [] _ = refl
+  none_answered a some (w ∷ ws) free = grind (arith, by a w.request some, none_answered a some ws)
 
   others : (ws : List Waiting) → AreApart ws → flat_map g (deliver f ws).waiting ≡ flat_map unless_answered ws
-  others [] apart = refl
-  others (w ∷ ws) apart = grind (arith, none_answered w.request, others ws, apart)
+  others [] _ = refl
+  others (w ∷ ws) apart = grind (arith, none_answered w.request, others ws)
 
 -- Where a datagram was heard, a tick tells of the requests to which it is no answer, as it would have told before.
 pub told_unless_answered : {known client after : Client} {told : List Entry}
@@ -73,6 +73,6 @@ pub told_unless_answered : {known client after : Client} {told : List Entry}
     (due_answer (rules_of known) (max now known.state.clock) w)) known.state.waiting
 told_unless_answered {known} from heard now is apart heard_so ticked =
     rw is at (rw heard_so at ticked)
-    ∙ others (λ request. outcome_of request from heard)
-    (λ a b. by_number known.timeout known.retries a b from heard)
-    (due_answer (rules_of known) (max now known.state.clock)) known.state.waiting apart
+    ∙ others _
+    (λ a b. by_number known.timeout known.retries a b _ _)
+    _ _ apart

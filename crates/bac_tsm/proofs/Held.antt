@@ -18,14 +18,13 @@ use Rattle.std.proofs.lemmas.Bool.Decides.{nat_tests}
 module _ {A : Type 0} (key : A → ℕ) where
   pub times-append : (n : ℕ) (xs ys : List A) → times key n (xs ++ ys) ≡ times key n xs + times key n ys
   times-append n xs ys =
-      ap length (filter-append (λ x. nat_eq (key x) n) xs ys)
-      ∙ length-append (filter (λ x. nat_eq (key x) n) xs) (filter (λ x. nat_eq (key x) n) ys)
+      cc (filter-append _ xs ys, length-append _ _)
 
   pub times_one : (n : ℕ) (x : A) → key x ≡ n → times key n (x ∷ []) ≡ 1
-  times_one n x e = rw (eq-eqb (key x) n e) refl
+  times_one n x e = rw (eq-eqb _ n e)
 
   pub times_other : (n : ℕ) (x : A) → (key x ≡ n → ⊥) → times key n (x ∷ []) ≡ 0
-  times_other n x e = rw (ne_eqb (key x) n e) refl
+  times_other n x e = rw (ne_eqb _ n e)
 
   pub times-remove : (n : ℕ) (xs : List A) (i : ℕ) (d : A) → i < length xs →
       times key n (remove xs i) + times key n (get_or xs i d ∷ []) ≡ times key n xs
@@ -42,13 +41,13 @@ module _ {A : Type 0} (key : A → ℕ) where
   pub times_got : (xs : List A) (i : ℕ) (d : A) → i < length xs → 0 < times key (key (get_or xs i d)) xs
   times_got xs i d lt =
       let e = times-remove (key (get_or xs i d)) xs i d lt in
-      let f = times_one (key (get_or xs i d)) (get_or xs i d) refl in
+      let f = times_one _ (get_or xs i d) refl in
       omega arith
 
 -- A test that only elements with one key pass, of which there is at most one.
 module _ {A : Type 0} (key : A → ℕ) (p : A → Bool) (n : ℕ) (says : (x : A) → p x ≡ true → key x ≡ n) where
   pub none_passes : (xs : List A) → times key n xs ≡ 0 → (filter p xs ≡ []) × (filter (λ x. not (p x)) xs ≡ xs)
-  none_passes [] none = (refl, refl)
+  none_passes [] _ = (refl, refl)
   none_passes (x ∷ xs) none = grind (arith, nat_tests, none_passes xs, says x)
 
   pub one_passes : (xs : List A) (i : ℕ) (d : A) → i < length xs → key (get_or xs i d) ≡ n → times key n xs ≤ 1 →
@@ -69,24 +68,24 @@ at_slot slots slot = get_or slots slot nothing
 -- A slot that is not among these can be filled with what one likes.
 held_elsewhere : (slots : List Waiting) (slot : ℕ) (w : Waiting) (order : List ℕ) → times_of_slot slot order ≡ 0 →
     held_at (set slots slot w) order ≡ held_at slots order
-held_elsewhere slots slot w [] none = refl
+held_elsewhere _ _ w [] _ = refl
 held_elsewhere slots slot w (q ∷ qs) none =
     grind (arith, nat_tests, get_or-set_other slots slot q w nothing, held_elsewhere slots slot w qs)
 
 pub held-set : (slots : List Waiting) (slot : ℕ) (w : Waiting) (order : List ℕ) (i : ℕ) → slot < length slots →
     i < length order → get_or order i 0 ≡ slot → times_of_slot slot order ≤ 1 →
     held_at (set slots slot w) order ≡ set (held_at slots order) i w
-held-set slots slot w [] i there lt is once = absurd (omega arith)
+held-set _ _ w [] i _ lt is _ = absurd (omega arith)
 held-set slots slot w (q ∷ qs) zero there lt is once =
-    grind (arith, nat_tests, get_or-set_same slots slot w nothing there, held_elsewhere slots slot w qs)
+    grind (arith, nat_tests, get_or-set_same _ _ w nothing there, held_elsewhere slots slot w qs)
 held-set slots slot w (q ∷ qs) (suc i) there lt is once =
-    let later : 0 < times_of_slot slot qs =
-    subst (λ (k : ℕ). 0 < times_of_slot k qs) is (times_got itself qs i 0 (omega arith)) in
+    let later : 0 < times_of_slot _ qs =
+    subst (λ (k : ℕ). 0 < times_of_slot k qs) is (times_got _ qs i 0 (omega arith)) in
     grind (
       arith,
       nat_tests,
       get_or-set_other slots slot q w nothing,
-      held-set slots slot w qs i there (omega arith) is,
+      held-set _ _ w qs i there (omega arith) is,
     )
 
 -- A slot that is not among these is filled, and put behind them.
@@ -94,19 +93,19 @@ pub held-push : (slots : List Waiting) (slot : ℕ) (w : Waiting) (order : List 
     → times_of_slot slot order ≡ 0 →
     held_at (set slots slot w) (order ++ slot ∷ []) ≡ held_at slots order ++ w ∷ []
 held-push slots slot w order there none =
-    map-append (at_slot (set slots slot w)) order (slot ∷ [])
-    ∙ ap₂ ◌++◌ (held_elsewhere slots slot w order none)
-    (ap (λ (v : Waiting). v ∷ []) (get_or-set_same slots slot w nothing there))
+    map-append _ _ _
+    ∙ ap₂ ◌++◌ (held_elsewhere _ _ w _ none)
+    (ap (λ (v : Waiting). v ∷ []) (get_or-set_same _ _ w _ there))
 
 pub map-remove : {A B : Type 0} (f : A → B) (xs : List A) (i : ℕ) → map f (remove xs i) ≡ remove (map f xs) i
 map-remove f xs i =
-    map-append f (take i xs) (drop (suc i) xs)
+    map-append f _ _
     ∙ ap₂ ◌++◌ (sym (take-map f i xs)) (sym (drop-map f (suc i) xs))
 
 pub held_got : (slots : List Waiting) (order : List ℕ) (i slot : ℕ) → i < length order → get_or order i 0 ≡ slot →
     get_or (held_at slots order) i nothing ≡ get_or slots slot nothing
-held_got slots order i slot lt is = get_or-map (at_slot slots) order i 0 nothing lt ∙ ap (at_slot slots) is
+held_got slots order i _ lt is = cc (get_or-map _ _ i 0 _ lt, is)
 
 pub same_turn : (order : List ℕ) (i slot : ℕ) → i < length order → slot ≡ get_or order i slot
     → slot ≡ get_or order i 0
-same_turn order i slot lt is = is ∙ get_or_default order i slot 0 lt
+same_turn order i slot lt is = is ∙ get_or_default _ i _ 0 lt

@@ -23,80 +23,74 @@ use Rattle.bac_tsm.proofs.TableEdits.{changed_by, all_opened, queue-again}
 
 younger : (timeout clock early late : ℕ) → nat_le timeout (clock - early) ≡ false → early ≤ late
     → nat_le timeout (clock - late) ≡ false
-younger timeout clock early late young le =
-    let less = leb-false timeout (clock - early) young in
-    grind (arith, nat_tests)
+younger timeout clock early _ young le =
+    grind (arith)
 
 -- Where some request is due, some was sent.
 pub some_sent : {slots : List Waiting} {numbers : List (Option ℕ)} {order tickets sends : List ℕ}
     → IsTable slots numbers order tickets →
     AreBySend slots (open_slots order tickets) sends → (ws : List Waiting) → waiting_in slots order tickets ≡ ws
     → (rules : Rules) (clock : ℕ) → list_any (is_due rules clock) ws ≡ true → 0 < length sends
-some_sent t q [] view rules clock due = absurd (false≢true due)
-some_sent t q (w ∷ ws) view rules clock due =
-    let f = q.all in let g = as_many t in let h = count t (w ∷ ws) view in omega arith
+some_sent t q [] _ _ _ due = absurd (false≢true due)
+some_sent t q (w ∷ ws) view _ _ due =
+    omega (arith, q.all, as_many t, count t (w ∷ ws) view)
 
 module _ (rules : Rules) (clock : ℕ) (w : Waiting) where
   is_again : (ticket : ℕ) → due_entry rules w ≡ Resend ticket → nat_lt w.count rules.retries ≡ true
-  is_again ticket is = grind (arith, nat_tests, is)
+  is_again _ is = grind (arith)
 
   is_over : (ticket : ℕ) → due_entry rules w ≡ Expired ticket → (nat_lt w.count rules.retries ≡ false)
       × (w.request.ticket ≡ ticket)
-  is_over ticket is = grind (arith, nat_tests, is)
+  is_over _ is = grind (arith)
 
 module _ {slots : List Waiting} {numbers : List (Option ℕ)} {order tickets sends : List ℕ}
     (t : IsTable slots numbers order tickets)
     (q : AreBySend slots (open_slots order tickets) sends) (ws : List Waiting)
     (view : waiting_in slots order tickets ≡ ws) (slot : ℕ) (front : Some slot ≡ slice_get sends 0) where
   first : (0 < length sends) × (get_or sends 0 0 ≡ slot)
-  first = (slice_get_within sends 0 slot (sym front), get_or_from_slice_get sends 0 slot 0 (sym front))
+  first = (slice_get_within _ 0 _ (sym front), get_or_from_slice_get _ 0 _ 0 (sym front))
 
   some : 0 < times_of_slot slot (open_slots order tickets)
   some =
-      let there = subst (λ (k : ℕ). 0 < times_of_slot k sends) first.1 (times_got itself sends 0 0 first.0) in
-      let e = q.same slot in
-      omega arith
+      omega (arith, rw first.1 at (times_got itself sends 0 0 first.0), q.same slot)
 
   pub front_below : slot < table_size
-  front_below = open_below t ws view slot some
+  front_below = open_below t ws view _ some
 
   abbrev i : ℕ
   i = (rank t ws view slot some).0
 
   module _ (rules : Rules) (clock : ℕ) (w : Waiting) (reads : w ≡ get_or slots slot nothing) where
     read : w ≡ get_or ws i nothing
-    read = reads ∙ open_read t ws view slot some
+    read = reads ∙ open_read t ws _ _ _
 
     none_due : is_due rules clock w ≡ false → All (λ v. is_due rules clock v ≡ false) ws
     none_due young =
-        subst (All (λ v. is_due rules clock v ≡ false)) view
-        (all_opened q (λ v. is_due rules clock v ≡ false) (λ k e lt.
-        younger rules.timeout clock (get_or (held_at slots sends) 0 e).base (get_or (held_at slots sends) k e).base
-        (rw (here e) young) (later k e lt)))
+        rw view at (all_opened q (λ v. is_due rules clock v ≡ false) (λ k e lt. younger _ _ (get_or (held_at _ sends) 0 e).base (get_or _ k e).base (rw (here e) young) (later k e lt)))
       where
         here : (e : Waiting) → get_or (held_at slots sends) 0 e ≡ w
-        here e = get_or_default (held_at slots sends) 0 e nothing (rw length-map first.0)
-            ∙ held_got slots sends 0 slot first.0 first.1 ∙ sym reads
+        here e = get_or_default (held_at _ sends) 0 e _ (rw length-map first.0)
+            ∙ held_got _ _ 0 _ first.0 first.1 ∙ sym reads
 
         later : (k : ℕ) (e : Waiting) → k < length (held_at slots sends)
             → (get_or (held_at slots sends) 0 e).base ≤ (get_or (held_at slots sends) k e).base
         later k e lt = grind (arith, q.by_send 0 k e)
 
     pub some_due : is_due rules clock w ≡ list_any (is_due rules clock) ws
-    some_due = elim (cases_Bool (is_due rules clock w)) [
+    some_due = elim (cases_Bool _) [
       | inl due ↦ due ∙ sym
-          (list_any_at (is_due rules clock) ws i nothing (turn_lt t ws view slot some)
-          (ap (is_due rules clock) (sym read) ∙ due))
-      | inr young ↦ young ∙ sym (list_any_none (is_due rules clock) ws (none_due young))
+          (list_any_at _ ws i _ (turn_lt t ws _ _ _)
+          (ap (is_due rules _) (sym read) ∙ due))
+      | inr young ↦ cc (young, list_any_none _ ws (none_due young))
     ]
 
     pub not_found : (ticket : ℕ) → due_entry rules w ≡ Expired ticket → IsRankOf ticket ws None → ⊥
     not_found ticket over none =
-        none i nothing (turn_lt t ws view slot some) (ap ticket_in (sym read) ∙ (is_over rules clock w ticket over).1)
+        none i _ (turn_lt t ws _ _ _) (ap ticket_in (sym read) ∙ (is_over rules clock w _ over).1)
 
     module _ (due : list_any (is_due rules clock) ws ≡ true) where
       due_there : is_due rules clock (get_or ws i nothing) ≡ true
-      due_there = ap (is_due rules clock) (sym read) ∙ some_due ∙ due
+      due_there = cc (read, some_due, due)
 
       pub sent_again : All (λ v. v.base ≤ clock) ws → (ticket : ℕ) → due_entry rules w ≡ Resend ticket
           → (changed : List Waiting) (rest after : List ℕ) →
@@ -104,47 +98,44 @@ module _ {slots : List Waiting} {numbers : List (Option ℕ)} {order tickets sen
           → after ≡ rest ++ slot ∷ [] →
           IsPassed rules clock ws (due_entry rules w) (waiting_in changed order tickets)
           × IsTable changed numbers order tickets × AreBySend changed (open_slots order tickets) after
-      sent_again past ticket again changed rest after is out back =
-          let v = sent_at clock (get_or slots slot nothing) in
+      sent_again past ticket again _ rest _ is out back =
+          let v = sent_at clock (get_or slots slot _) in
           let lt = turn_lt t ws view slot some in
           let moved = changed_by t ws view i lt slot (stands t ws view slot some) v refl in
           let kept_now : v ∷ [] ≡ kept rules clock (get_or ws i nothing) =
           rw (
             due_there,
-            ap (λ (u : Waiting). nat_lt u.count rules.retries) (sym read)
-                ∙ is_again rules clock w ticket again,
+            ap (λ u. nat_lt u.count rules.retries) (sym read)
+                ∙ is_again rules clock w _ again,
           )
-          (ap (λ (u : Waiting). sent_at clock u ∷ []) (open_read t ws view slot some)) in
+          (cc (open_read t ws view slot some)) in
           rw (is, back) (
             (
               i,
               lt,
               due_there,
               ap (due_entry rules) read,
-              moved.0 ∙ set_split ws i v lt
-                  ∙ ap (λ (xs : List Waiting). take i ws ++ (xs ++ drop (suc i) ws)) kept_now,
+              cc (moved.0, set_split ws i v lt, kept_now),
             ),
             moved.1,
             queue-again q slot rest (0, first.0, first.1, out) v
-                (let all = t.all_slots in let below = front_below in omega arith)
-                (let e = t.once slot in let f = times_split t slot (length tickets) in omega arith)
-                (subst (All (λ u. u.base ≤ clock)) (sym view) past),
+                (omega (arith, t.all_slots, front_below))
+                (omega (arith, times_split t slot (length tickets)))
+                (rw view past),
           )
 
       pub ended : (ticket j : ℕ) → due_entry rules w ≡ Expired ticket → IsRankOf ticket ws (Some j)
           → (after : List Waiting) → after ≡ remove ws j →
           IsPassed rules clock ws (Expired ticket) after
-      ended ticket j over its after to =
-          let gone = is_over rules clock w ticket over in
-          let same_turn : j ≡ i =
-          one_turn t ws view j i its.0 (turn_lt t ws view slot some) (its.1 ∙ sym gone.1 ∙ ap ticket_in read) in
-          let none : kept rules clock (get_or ws i nothing) ≡ [] =
-          rw (due_there, ap (λ (u : Waiting). nat_lt u.count rules.retries) (sym read) ∙ gone.0) refl in (
+      ended ticket j over its _ to =
+          let gone = is_over rules clock w _ over in
+          let same_turn =
+          one_turn t ws view j i its.0 (turn_lt t ws _ _ _) (cc (its.1, gone.1, read)) in
+          let none : kept rules _ _ ≡ [] =
+          rw (due_there, ap (λ u. nat_lt u.count rules.retries) (sym read) ∙ gone.0) in (
             i,
-            turn_lt t ws view slot some,
+            turn_lt t ws _ _ _,
             due_there,
-            sym over ∙ ap (due_entry rules) read,
-            to
-                ∙ ap (remove ws) same_turn
-                ∙ ap (λ (xs : List Waiting). take i ws ++ (xs ++ drop (suc i) ws)) (sym none),
+            cc (over, read),
+            (cc (to, same_turn)) ∙ ap (λ xs. take i ws ++ (xs ++ drop (suc i) ws)) (sym none),
           )

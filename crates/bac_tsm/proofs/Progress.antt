@@ -14,15 +14,15 @@ use Rattle.bac_tsm.proofs.Turns.{clock_quiet}
 pub clock_rises : (events : List Event) (i j : ℕ) → i ≤ j → clock events i ≤ clock events j
 clock_rises [] zero j le = omega arith
 clock_rises [] (suc i) j le = omega arith
-clock_rises (e ∷ events) zero j le = omega arith
-clock_rises (e ∷ events) (suc i) zero le = absurd (omega arith)
-clock_rises (event ∷ events) (suc i) (suc j) le = grind (arith, clock_rises events i j (omega arith))
+clock_rises (e ∷ _) zero j le = omega arith
+clock_rises (e ∷ _) (suc i) zero le = absurd (omega arith)
+clock_rises (_ ∷ events) (suc i) (suc j) le = grind (arith, clock_rises events i j (omega arith))
 
 -- The first that passes a test is no later than one that passes it.
 found_by : (test : ℕ → Bool) (i n m : ℕ) → i ≤ m → m < i + n → test m ≡ true
     → IsSomeAnd (first_within test i n) (λ j. j ≤ m)
-found_by test i zero m low high t = absurd (omega arith)
-found_by test i (suc n) m low high t = grind (arith, nat_tests, found_by test (suc i) n m, t)
+found_by _ i zero m low high t = absurd (omega arith)
+found_by test i (suc n) m low high t = grind (arith, found_by test (suc i) n m)
 
 some_with : {A : Type 0} (P : A → Type 0) (o : Option A) → IsSomeAnd o P → (x : A) × (o ≡ Some x) × P x
 some_with P None h = absurd h
@@ -31,38 +31,36 @@ some_with P (Some x) h = (x, refl, h)
 module _ (rules : Rules) (events : List Event) where
   -- A tick is one of the events.
   waited_within : (i j : ℕ) → has_waited rules events i j ≡ true → j < length events
-  waited_within i j e = grind (arith, nat_tests, slice_get_past events j, e)
+  waited_within i j e = grind (arith, slice_get_past events j)
 
   -- What is due by position i is due again by the next tick that comes a timeout later.
   due_again : (a k d i j : ℕ) → due rules events a k ≡ Some d → d ≤ i → i < j → has_waited rules events i j ≡ true →
       IsSomeAnd (due rules events a (suc k)) (λ e. e ≤ j)
   due_again a k d i j is le lt waited =
       let within = waited_within i j waited in
-      subst (λ (o : Option ℕ). IsSomeAnd o (λ e. e ≤ j)) (sym (due_next rules events a k d is))
-      (found_by (has_waited rules events d) (suc d) (length events - suc d) j (omega arith) (omega arith)
-      (grind (arith, nat_tests, waited, clock_rises events (suc d) (suc i) (omega arith))))
+      rw (due_next rules _ a k d is) (found_by _ _ (length events - suc d) j (omega arith) (omega arith) (grind (arith, clock_rises events (suc d) (suc i) (omega arith))))
 
   pub due_in_turn : (a k n d i : ℕ) (ticks : List ℕ) → n ≡ k + length ticks → due rules events a k ≡ Some d → d ≤ i →
       TimeoutsPass rules events i ticks → IsSomeAnd (due rules events a n) (λ e. e ≤ last_of i ticks)
-  due_in_turn a k n d i [] same is le pass = let e : n ≡ k = omega arith in rw e (rw is le)
+  due_in_turn a k n d i [] same is le _ = let e : n ≡ k = omega arith in rw e (rw is le)
   due_in_turn a k n d i (j ∷ later) same is le pass =
-      let next = some_with (λ e. e ≤ j) (due rules events a (suc k)) (due_again a k d i j is le pass.0 pass.1) in
-      due_in_turn a (suc k) n next.0 j later (omega arith) next.1 next.2 pass.2
+      let next = some_with _ _ (due_again a k d i j is le pass.0 pass.1) in
+      due_in_turn a (suc k) n _ j later (omega arith) next.1 next.2 pass.2
 
   pub ends_in_turn : (a : Accepted) (m : ℕ) → IsSomeAnd (due rules events a.position (suc rules.retries)) (λ j. j ≤ m) →
       IsSomeAnd (end rules events a) (λ e. e.position ≤ m)
-  ends_in_turn a m late = grind (arith, nat_tests, late)
+  ends_in_turn a m late = grind (arith)
 
   -- As long as no tick has come a timeout after position p, the clock is within a timeout of it.
   quiet_until : (p n : ℕ) → p < n → ((j : ℕ) → p < j → j < n → has_waited rules events p j ≡ false) →
       clock events n ≤ clock events (suc p) + rules.timeout
-  quiet_until p zero lt none = absurd (omega arith)
+  quiet_until p zero lt _ = absurd (omega arith)
   quiet_until p (suc n) lt none = elim (cases_lt p n) [
     | inl below ↦
-        let before : clock events n ≤ clock events (suc p) + rules.timeout =
+        let before =
         quiet_until p n below (λ j low high. none j low (omega arith)) in
-        let not_yet : has_waited rules events p n ≡ false = none n below (omega arith) in
-        grind (arith, nat_tests, not_yet, clock_quiet events n)
+        let not_yet = none n below (omega arith) in
+        grind (arith, clock_quiet events n)
     | inr above ↦ let same : n ≡ p = omega arith in rw same (omega arith)
   ]
 
@@ -72,14 +70,13 @@ module _ (rules : Rules) (events : List Event) where
       (a ≤ j) × (clock events (suc j) ≤ clock events (suc a) + k * (rules.timeout + d))
   due_soon a d steady zero j is = let same : a ≡ j = same_Some a j is in (omega arith, rw same (omega arith))
   due_soon a d steady (suc k) j is =
-      let back = step_back (λ i. first_after events (has_waited rules events i) i) (due rules events a k) j is in
+      let back = step_back _ (due rules events a k) j is in
       let before = due_soon a d steady k back.0 back.1 in
-      let behind : back.0 < j = (first_after_from events (has_waited rules events back.0) back.0 j back.2).0 in
-      let until : clock events j ≤ clock events (suc back.0) + rules.timeout =
+      let behind : back.0 < j = (first_after_from events _ back.0 j back.2).0 in
+      let until =
       quiet_until back.0 j behind
-      (λ m low high. first_least (has_waited rules events back.0) (suc back.0) (length events - suc back.0) j m back.2
+      (λ m low high. first_least _ (suc back.0) (length events - suc back.0) j m back.2
       (omega arith) high) in
-      let step : clock events (suc j) ≤ clock events j + d = steady j (omega (arith, before.0)) in
       (omega (arith, before.0), omega (arith, before.1))
 
   -- The last time due, where a later one is missing.
@@ -88,10 +85,10 @@ module _ (rules : Rules) (events : List Event) where
 
   last_due : (a k : ℕ) → due rules events a k ≡ None → LastDue a k
   last_due a zero none = absurd (none-some a (sym none))
-  last_due a (suc k) none = from (due rules events a k) refl (last_due a k) where
+  last_due a (suc k) none = from _ refl (last_due a k) where
     from : (o : Option ℕ) → due rules events a k ≡ o → (due rules events a k ≡ None → LastDue a k) → LastDue a (suc k)
-    from None is earlier = let l = earlier is in (l.0, l.1, omega (arith, l.2), l.3, l.4)
-    from (Some j) is earlier = (k, j, omega arith, is, none)
+    from None is earlier = let l = earlier is in (l.0, l.1, omega (arith), l.3, l.4)
+    from (Some j) is _ = (k, j, omega arith, is, none)
 
   -- A request that is not due once more than r times has waited no longer than this.
   pub open_soon : (a d r n : ℕ) → ((j : ℕ) → a < j → clock events (suc j) ≤ clock events j + d)
@@ -99,27 +96,18 @@ module _ (rules : Rules) (events : List Event) where
       clock events n ≤ clock events (suc a) + r * (rules.timeout + d) + rules.timeout
   open_soon a d r n steady none =
       let last = last_due a (suc r) none in
-      let soon = due_soon a d steady last.0 last.1 last.3 in
-      let over : first_after events (has_waited rules events last.1) last.1 ≡ None =
-      sym (due_next rules events a last.0 last.1 last.3) ∙ last.4 in
-      let few : last.0 * (rules.timeout + d) ≤ r * (rules.timeout + d) =
-      mul-le-mul_right (rules.timeout + d) (omega (arith, last.2)) in
-      elim (cases_lt last.1 n) [
+      let soon = due_soon a d steady last.0 _ last.3 in
+      let over =
+      sym (due_next rules _ a last.0 _ last.3) ∙ last.4 in
+      let few : last.0 * _ ≤ r * _ =
+      mul-le-mul_right (rules.timeout + d) (omega (arith)) in
+      elim (cases_lt _ n) [
         | inl behind ↦
-            let until : clock events n ≤ clock events (suc last.1) + rules.timeout =
-            quiet_until last.1 n behind (λ m low high. elim (cases_Bool (has_waited rules events last.1 m)) [
-              | inr not_yet ↦ not_yet
-              | inl enough ↦
-                  let within = waited_within last.1 m enough in
-                  none_within (has_waited rules events last.1) (suc last.1) (length events - suc last.1) m over
-                  (omega arith) (omega arith)
-            ]) in
-            omega (arith, soon.1, few)
+            omega (arith, soon.1, few, quiet_until last.1 n behind (λ m low high. elim (cases_Bool (has_waited rules events last.1 m)) [ inr not_yet ↦ not_yet | inl enough ↦ let within = waited_within last.1 m enough in none_within (has_waited rules events last.1) (suc last.1) (length events - suc last.1) m over (omega arith) (omega arith) ]))
         | inr before ↦
-            let rises : clock events n ≤ clock events (suc last.1) = clock_rises events n (suc last.1) (omega arith) in
-            omega (arith, soon.1, few)
+            omega (arith, soon.1, few, clock_rises events n (suc last.1) (omega arith))
       ]
 
   -- A request without an end is not due once more than the retries.
   pub never_due : (a : Accepted) → end rules events a ≡ None → due rules events a.position (suc rules.retries) ≡ None
-  never_due a e = grind (arith, nat_tests, e, none-some)
+  never_due a e = grind (arith)

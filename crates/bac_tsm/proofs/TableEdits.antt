@@ -37,11 +37,11 @@ all_among : (P : Waiting → Type 0) (slots : List Waiting) (xs ys : List ℕ)
     → ((slot : ℕ) → 0 < times_of_slot slot xs → 0 < times_of_slot slot ys) →
     All P (held_at slots ys) → All P (held_at slots xs)
 all_among P slots xs ys among all = λ k d lt.
-    let read = λ (slot : ℕ). get_or slots slot _ in
-    let within : k < length xs = rw length-map at lt in
+    let read = λ (slot : ℕ). get_or slots _ _ in
+    let within = rw length-map at lt in
     let there = found_at _ ys (among _ (times_got _ xs k 0 within)) in
     subst P
-    (get_or-map read ys _ 0 d there.1.within ∙ ap read there.1.there ∙ sym (get_or-map read xs k 0 d within))
+    (get_or-map _ ys _ 0 d there.1.within ∙ ap read there.1.there ∙ sym (get_or-map read xs k 0 d within))
     (all _ d (rw length-map there.1.within))
 
 -- A slot is put behind others, with a request that was sent last.
@@ -51,31 +51,28 @@ pub queue-push : (slots : List Waiting) (rest after : List ℕ) (slot : ℕ) (w 
     → times_of_slot slot after ≤ 1 →
     AllPairs IsEarlier (held_at slots rest) → All (λ v. v.base ≤ w.base) (held_at slots rest)
     → AreBySend (set slots slot w) after (rest ++ slot ∷ [])
-queue-push slots rest after slot w there long same once by_send late = record {
+queue-push _ rest _ slot w there long same once by_send late = record {
   all = grind (arith, length-append);
-  same = λ p. times-append _ p rest _ ∙ same p;
+  same = λ p. times-append _ p _ _ ∙ same p;
   by_send =
       subst (AllPairs IsEarlier)
-      (sym (held-push _ slot w rest there
-      (let e = same slot in let one = times_one itself slot slot refl in omega arith)))
+      (sym (held-push _ _ w _ there
+      (omega (arith, same slot, times_one itself slot slot refl))))
       (all_pairs_push IsEarlier _ w by_send late);
 }
 
 module _ {slots : List Waiting} {opened sends : List ℕ} (q : AreBySend slots opened sends) where
   -- What holds of the open requests holds of them in this order, and the other way round.
   pub all_sent : (P : Waiting → Type 0) → All P (held_at slots opened) → All P (held_at slots sends)
-  all_sent P = all_among P slots sends opened (omega arith)
+  all_sent P = all_among P _ _ _ (omega arith)
 
   pub all_opened : (P : Waiting → Type 0) → All P (held_at slots sends) → All P (held_at slots opened)
-  all_opened P = all_among P slots opened sends (omega arith)
+  all_opened P = all_among P _ _ _ (omega arith)
 
   module _ (slot : ℕ) (rest : List ℕ) (out : IsTakenOut slot sends rest) where
     times_out : (p : ℕ) → times_of_slot p rest + times_of_slot p (slot ∷ []) ≡ times_of_slot p sends
     times_out p =
-        let e = times-remove itself p _ _ 0 out.1 in
-        let f = ap (λ (k : ℕ). times_of_slot p (k ∷ [])) out.2 in
-        let g = ap (times_of_slot p) out.3 in
-        omega arith
+        omega (arith, times-remove itself p _ _ 0 out.1, ap (λ (k : ℕ). times_of_slot p (k ∷ [])) out.2, ap (times_of_slot p) out.3)
 
     length_out : length rest + 1 ≡ length sends
     length_out = grind (arith, length-remove)
@@ -83,15 +80,15 @@ module _ {slots : List Waiting} {opened sends : List ℕ} (q : AreBySend slots o
     by_send_out : AllPairs IsEarlier (held_at slots rest)
     by_send_out =
         subst (AllPairs IsEarlier)
-        (sym (ap (held_at slots) out.3 ∙ map-remove _ sends out.0))
+        (cc (out.3, map-remove _ _ _))
         (all_pairs_remove IsEarlier _ out.0 (rw length-map out.1) q.by_send)
 
     -- A request ends.
     pub queue-remove : (after : List ℕ) → length after + 1 ≡ length opened
         → ((p : ℕ) → times_of_slot p after + times_of_slot p (slot ∷ []) ≡ times_of_slot p opened)
         → AreBySend slots after rest
-    queue-remove after long same = record {
-      all = let e = length_out in let f = q.all in omega arith;
+    queue-remove _ long same = record {
+      all = omega (arith, length_out, q.all);
       same = grind (arith, times_out);
       by_send = by_send_out;
     }
@@ -101,14 +98,14 @@ module _ {slots : List Waiting} {opened sends : List ℕ} (q : AreBySend slots o
         → All (λ v. v.base ≤ w.base) (held_at slots opened) →
         AreBySend (set slots slot w) opened (rest ++ slot ∷ [])
     queue-again w there once late =
-        queue-push _ rest _ slot w there (length_out ∙ q.all) (λ p. times_out p ∙ q.same p) once by_send_out
-        (all_among (λ v. v.base ≤ w.base) _ rest _ (λ p some. let e = times_out p in omega arith)
+        queue-push _ _ _ _ w there (length_out ∙ q.all) (λ p. times_out p ∙ q.same p) once by_send_out
+        (all_among (λ v. v.base ≤ w.base) _ _ _ (λ p some. omega (arith, times_out p))
         (all_sent (λ v. v.base ≤ w.base) late))
 
 -- None are open at first.
 pub empty_queue : (slots : List Waiting) (order tickets sends : List ℕ) → tickets ≡ [] → sends ≡ []
     → AreBySend slots (open_slots order tickets) sends
-empty_queue slots order tickets sends none unsent =
+empty_queue _ _ _ _ none unsent =
     rw (none, unsent) (record { all = refl; same = λ slot. refl; by_send = omega arith })
 
 -- ---- the table
@@ -120,8 +117,8 @@ names_as : (slots : List Waiting) (order : List ℕ) (changed : List Waiting) (a
     ((slot : ℕ) → 0 < times_of_slot slot order → number_at slots slot ≡ number → (0 < times_of_slot slot after)
     × (number_at changed slot ≡ number)) →
     Names slots order number entry → Names changed after number entry
-names_as slots order changed after number None same still none = same ∙ none
-names_as slots order changed after number (Some slot) same still some = still slot some.0 some.1
+names_as _ _ _ _ _ None same _ none = same ∙ none
+names_as _ _ _ _ _ (Some slot) _ still some = still _ some.0 some.1
 
 -- One entry changes.
 named_set : (slots : List Waiting) (numbers : List (Option ℕ)) (order : List ℕ) (changed : List Waiting)
@@ -133,18 +130,18 @@ named_set : (slots : List Waiting) (numbers : List (Option ℕ)) (order : List �
     ((number slot : ℕ) → (number ≡ index → ⊥) → 0 < times_of_slot slot order → number_at slots slot ≡ number →
     (0 < times_of_slot slot after) × (number_at changed slot ≡ number)) →
     AreNamed changed (set numbers index entry) after
-named_set slots numbers order changed after index entry a here few same still = record {
+named_set _ _ _ _ _ _ _ a here few same still = record {
   all_numbers = length-set _ _ _ ∙ a.all_numbers;
   apart = grind arith;
-  named = grind (arith, cases_eq, get_or, set, get_or-set_same, get_or-set_other, names_as);
+  named = grind (arith, get_or-set_same, get_or-set_other);
 }
 
 -- Requests that have the same numbers are counted the same.
 same_times : (number : ℕ) (f g : ℕ → Waiting) (order : List ℕ)
     → ((slot : ℕ) → (f slot).request.number ≡ (g slot).request.number) →
     times number_in number (map f order) ≡ times number_in number (map g order)
-same_times number f g [] same = refl
-same_times number f g (q ∷ qs) same = grind (arith, nat_tests, same q, same_times number f g qs same)
+same_times _ f g [] _ = refl
+same_times number f g (q ∷ qs) same = grind (arith, same_times number f g qs same)
 
 -- One is taken out among the first ones, and another put behind all.
 take_removed : (xs ys : List ℕ) (i n : ℕ) → i ≤ n → suc n ≤ length xs
@@ -153,7 +150,7 @@ take_removed xs ys i n le lt =
     let front = take (suc n) xs in
     let long : length front ≡ suc n = rw length-take (omega arith) in
     let count = length-remove front i (omega arith) in
-    ap (λ (all : List ℕ). take n (remove all i ++ ys)) (sym (take-append-drop (suc n) xs))
+    ap (λ all. take n (remove all i ++ ys)) (sym (take-append-drop (suc n) xs))
     ∙ rw (
       remove-append_left front _ i (omega arith),
       append_assoc _ _ ys,
@@ -171,49 +168,48 @@ module _ {slots : List Waiting} {numbers : List (Option ℕ)} {order tickets : L
       → w.request ≡ (get_or slots slot nothing).request →
       (waiting_in (set slots slot w) order tickets ≡ set ws i w) × IsTable (set slots slot w) numbers order tickets
   changed_by i lt slot is w same = (
-    changed_view ∙ ap (λ (vs : List Waiting). set vs i w) view,
+    cc (changed_view, view),
     record {
-      all_slots = length-set _ slot w ∙ t.all_slots;
+      all_slots = length-set _ _ w ∙ t.all_slots;
       all_ranks = t.all_ranks;
       within = t.within;
       once = t.once;
       numbered = record {
         all_numbers = t.numbered.all_numbers;
-        apart = λ number. let e = still number in let f = t.numbered.apart number in omega arith;
+        apart = λ number. let e = still number in omega arith;
         named = λ number below.
             names_as _ _ _ _ _ _ (still _)
             (λ other some has. (some, same_number _ ∙ has)) (t.numbered.named _ below);
       };
-      ticketed = map-map ticket_in _ opens ∙ ap (λ (f : ℕ → ℕ). map f opens) (λ j other. (same_request other j).ticket)
-          ∙ sym (map-map ticket_in _ opens) ∙ t.ticketed;
+      ticketed = map-map _ _ _ ∙ ap (λ f. map f opens) (λ j other. (same_request other j).ticket)
+          ∙ sym (map-map _ _ _) ∙ t.ticketed;
       rise = t.rise;
     },
   )
     where
       listed : slot < length slots
-      listed = read_listed t i slot (rank_within t ws view i lt) is
+      listed = read_listed t i _ (rank_within t ws view i lt) is
 
       changed_view : held_at (set slots slot w) opens ≡ set (held_at slots opens) i w
-      changed_view = held-set slots slot w opens i listed (turn_opened t ws view i lt) (here t ws view i slot lt is)
-          (let e = t.once slot in let f = times_split t slot (length tickets) in omega arith)
+      changed_view = held-set _ _ w _ i listed (turn_opened t ws view i lt) (here t ws view i _ lt is)
+          (omega (arith, times_split t slot (length tickets)))
 
       same_request : (other : ℕ)
           → (get_or (set slots slot w) other nothing).request ≡ (get_or slots other nothing).request
       same_request other =
           grind (
             arith,
-            get_or-set_same slots slot w nothing listed,
+            get_or-set_same _ _ w nothing listed,
             get_or-set_other slots slot other w nothing,
-            same,
           )
 
       same_number : (other : ℕ) → number_at (set slots slot w) other ≡ number_at slots other
-      same_number other = ap (λ (r : Request). r.number) (same_request other)
+      same_number other = cc (same_request _)
 
       still : (number : ℕ)
           → times number_in number (held_at (set slots slot w) opens) ≡ times number_in number (held_at slots opens)
-      still number = same_times number (λ other. get_or (set slots slot w) other nothing)
-          (λ other. get_or slots other nothing) opens same_number
+      still number = same_times _ _
+          _ _ same_number
 
   -- The first free slot is opened, under a number that no open request has, and the greatest ticket.
   module _ (slot : ℕ) (w : Waiting) (is : slot ≡ get_or order (length tickets) 0)
@@ -227,75 +223,55 @@ module _ {slots : List Waiting} {numbers : List (Option ℕ)} {order tickets : L
       closed =
           let e = times_split t slot (length tickets + 1) in
           let f = ap (times_of_slot slot)
-          ((take_at_read _ _ 0 room).1 ∙ ap (λ (q : ℕ). opens ++ q ∷ []) (sym is)) in
+          ((take_at_read _ _ 0 room).1 ∙ ap (λ q. opens ++ q ∷ []) (sym is)) in
           let g = times-append itself slot opens (slot ∷ []) in
-          let one = times_one itself slot slot refl in
-          let once = t.once slot in
+          let one = times_one itself _ slot refl in
           omega arith
 
       there : slot < length slots
-      there = read_listed t _ slot room (sym is)
+      there = read_listed t _ _ room (sym is)
 
       opened_view : held_at (set slots slot w) (opens ++ slot ∷ []) ≡ held_at slots opens ++ w ∷ []
-      opened_view = held-push _ slot w _ there closed
+      opened_view = held-push _ _ w _ there closed
 
       opened : IsTable (set slots slot w) (set numbers w.request.number (Some slot)) order
           (tickets ++ w.request.ticket ∷ [])
       opened = record {
-        all_slots = length-set _ slot w ∙ t.all_slots;
+        all_slots = length-set _ _ w ∙ t.all_slots;
         all_ranks = t.all_ranks;
         within = t.within;
         once = t.once;
         numbered =
-            subst (AreNamed _ _) (sym grown)
-            (named_set slots numbers opens (set slots slot w) (opens ++ slot ∷ []) w.request.number (Some slot)
-            t.numbered (
-              more slot (let one = times_one itself slot slot refl in omega arith),
-              ap number_in (get_or-set_same _ slot w _ there),
-            )
-            (let e = held w.request.number in let f = times_one number_in _ w refl in
-            let g = ap (times number_in w.request.number) view in omega arith)
-            (λ number other. let e = held number in let f = times_other number_in _ w (λ q. other (sym q)) in
-            omega arith)
-            (λ number q other some has. (
-              more q (omega arith),
-              ap number_in (get_or-set_other slots slot q w _ (elsewhere q some))
-                  ∙ has,
-            )));
+            rw grown (named_set _ _ _ _ _ _ _ t.numbered (more _ (omega (arith, times_one itself slot slot refl)), ap number_in (get_or-set_same _ _ w _ there)) (omega (arith, held w.request.number, times_one number_in _ w refl, ap (times number_in w.request.number) view)) (λ number other. omega (arith, held number, times_other number_in _ w (λ q. other (sym q)))) (λ number q other some has. (more q (omega arith), ap number_in (get_or-set_other slots _ q w _ (elsewhere q some)) ∙ has)));
         ticketed =
-            ap (map ticket_in) (ap (held_at _) grown ∙ opened_view)
-            ∙ map-append ticket_in (held_at slots opens) (w ∷ [])
-            ∙ ap (λ (ts : List ℕ). ts ++ w.request.ticket ∷ []) t.ticketed;
+            ap (map _) (ap (held_at _) grown ∙ opened_view) ∙ (cc (map-append _ _ _, t.ticketed));
         rise = all_pairs_push (λ early late. early < late) _ _ t.rise
-            (λ k d lt. let rank : k < length ws = let e = count t ws view in omega arith in
+            (λ k d lt. let rank : k < length ws = omega (arith, count t ws view) in
             let e = ticket_got t ws view k rank nothing d in
-            let less = latest k nothing rank in
             omega arith);
       }
         where
           held : (number : ℕ) → times number_in number (held_at (set slots slot w) (opens ++ slot ∷ []))
               ≡ times number_in number (held_at slots opens) + times number_in number (w ∷ [])
-          held number = ap (times number_in number) opened_view
-              ∙ times-append number_in number (held_at slots opens) (w ∷ [])
+          held number = cc (opened_view, times-append _ number _ _)
 
           more : (q : ℕ) → 0 < times_of_slot q opens + times_of_slot q (slot ∷ [])
               → 0 < times_of_slot q (opens ++ slot ∷ [])
-          more q some = let e = times-append itself q opens (slot ∷ []) in omega arith
+          more q some = omega (arith, times-append itself q opens (slot ∷ []))
 
           elsewhere : (q : ℕ) → 0 < times_of_slot q opens → q ≡ slot → ⊥
           elsewhere q some e =
-              let none : times_of_slot q opens ≡ 0 = subst (λ (k : ℕ). times_of_slot k opens ≡ 0) (sym e) closed in
+              let none = subst (λ k. times_of_slot k opens ≡ 0) (sym e) closed in
               absurd (omega arith)
 
       queued : (sends : List ℕ) → AreBySend slots opens sends → All (λ v. v.base ≤ w.base) ws →
           AreBySend (set slots slot w) (open_slots order (tickets ++ w.request.ticket ∷ [])) (sends ++ slot ∷ [])
       queued sends q late =
           rw grown
-          (queue-push slots sends (opens ++ slot ∷ []) slot w there
-          (let e = length-append opens (slot ∷ []) in let f = q.all in omega arith)
-          (λ p. let e = times-append itself p opens (slot ∷ []) in let f = q.same p in omega arith)
-          (let e = times-append itself slot opens (slot ∷ []) in let one = times_one itself slot slot refl in
-          let none = closed in omega arith)
+          (queue-push _ _ _ _ w there
+          (omega (arith, length-append opens (slot ∷ []), q.all))
+          (λ p. let e = times-append itself p opens (slot ∷ []) in omega arith)
+          (omega (arith, times-append itself slot opens (slot ∷ []), times_one itself slot slot refl, closed))
           q.by_send (all_sent q (λ v. v.base ≤ w.base) (rw view late)))
 
   -- As the code makes it.
@@ -309,115 +285,88 @@ module _ {slots : List Waiting} {numbers : List (Option ℕ)} {order tickets : L
       (waiting_in changed order after ≡ ws ++ begun asked body ∷ [])
       × IsTable changed (set numbers index (Some (get_or items n 0))) order after
       × AreBySend changed (open_slots order after) sent
-  opened_by sends q room items are n is asked body unused latest past index changed after sent has made to too =
-      let new = begun asked body in
+  opened_by sends q room items are n is asked body unused latest past _ _ _ _ has made to too =
+      let new = begun _ _ in
       let slot = get_or items n 0 in
-      let here : slot ≡ get_or order (length tickets) 0 = cc in
-      let fits : length tickets < length order = grind (arith, count) in
+      let here : slot ≡ get_or order _ 0 = cc in
+      let fits : length _ < length _ = grind (arith, count) in
       rw (has, made, to, too) (
-        ap (held_at _) (grown slot new here fits unused latest)
-            ∙ opened_view slot new here fits unused latest
-            ∙ ap (λ (vs : List Waiting). vs ++ new ∷ []) view,
-        opened slot new here fits unused latest,
-        queued slot new here fits unused latest sends q past,
+        ap (held_at _) (grown _ new here fits unused latest)
+            ∙ opened_view _ new here fits unused latest
+            ∙ ap (λ vs. vs ++ new ∷ []) view,
+        opened _ new here fits unused latest,
+        queued _ new here fits unused latest _ q past,
       )
 
   -- The request at a rank ends: its slot goes behind all others.
   module _ (i slot number : ℕ) (lt : i < length ws) (is : slot ≡ get_or order i 0)
       (has : number ≡ number_at slots slot) where
     within_tickets : i < length tickets
-    within_tickets = let e = count t ws view in omega arith
+    within_tickets = omega (arith, count t ws view)
 
     shrunk : open_slots (remove order i ++ slot ∷ []) (remove tickets i) ≡ remove opens i
     shrunk =
         let e = length-remove _ i within_tickets in
-        let n : length tickets ≡ suc (length (remove tickets i)) = omega arith in
-        take_removed _ _ i _ (let f = within_tickets in omega arith)
-        (let f = few t in omega arith)
-        ∙ ap (λ (k : ℕ). remove (take k order) i) (sym n)
+        let n : length _ ≡ suc _ = omega arith in
+        take_removed _ _ i _ (omega (arith, within_tickets))
+        (omega (arith, few t))
+        ∙ ap (λ k. remove (take k order) i) (sym n)
 
     rank : i < length opens
     rank = turn_opened t ws view i lt
 
     at_rank : get_or opens i 0 ≡ slot
-    at_rank = here t ws view i slot lt (sym is)
+    at_rank = here t ws view i _ lt (sym is)
 
     within_order : i < length order
-    within_order = let e = within_tickets in let f = few t in omega arith
+    within_order = omega (arith, within_tickets, few t)
 
     moved : (q : ℕ) → times_of_slot q (remove order i ++ slot ∷ []) ≡ times_of_slot q order
     moved q =
-        let e = times-append itself q (remove order i) (slot ∷ []) in
-        let f = times-remove itself q _ i 0 within_order in
-        let g = ap (λ (k : ℕ). times_of_slot q (k ∷ [])) is in
-        omega arith
+        omega (arith, times-append itself q (remove order i) (slot ∷ []), times-remove itself q _ i 0 within_order, ap (λ (k : ℕ). times_of_slot q (k ∷ [])) is)
 
     gone : (q : ℕ) → times_of_slot q (remove opens i) + times_of_slot q (slot ∷ []) ≡ times_of_slot q opens
     gone q =
-        let e = times-remove itself q _ i 0 rank in
-        let f = ap (λ (k : ℕ). times_of_slot q (k ∷ [])) at_rank in
-        omega arith
+        omega (arith, times-remove itself q _ i 0 rank, ap (λ (k : ℕ). times_of_slot q (k ∷ [])) at_rank)
 
     left : (n : ℕ) → times number_in n (held_at slots (remove opens i))
         + times number_in n (get_or slots slot nothing ∷ []) ≡ times number_in n (held_at slots opens)
     left n =
-        let e = times-remove number_in n (held_at slots opens) i nothing (rw length-map rank) in
-        let f = ap (times number_in n) (map-remove (λ q. get_or slots q nothing) opens i) in
-        let g = ap (λ (v : Waiting). times number_in n (v ∷ [])) (held_got slots _ i slot rank at_rank) in
-        omega arith
+        omega (arith, times-remove number_in n (held_at slots opens) i nothing (rw length-map rank), ap (times number_in n) (map-remove (λ q. get_or slots q nothing) opens i), ap (λ (v : Waiting). times number_in n (v ∷ [])) (held_got slots _ i slot rank at_rank))
 
     ended : IsTable slots (set numbers number None) (remove order i ++ slot ∷ []) (remove tickets i)
     ended = record {
       all_slots = t.all_slots;
       all_ranks =
-          let e = length-append (remove order i) (slot ∷ []) in
-          let f = length-remove _ i within_order in
-          let g = t.all_ranks in
-          omega arith;
+          omega (arith, length-append (remove order i) (slot ∷ []), length-remove _ i within_order, t.all_ranks);
       within = λ q le. moved q ∙ t.within q le;
       once = grind (arith, moved);
       numbered =
-          subst (AreNamed _ _) (sym shrunk)
-          (named_set slots numbers opens slots (remove opens i) number None t.numbered
-          (let e = left number in let one = times_one number_in _ (get_or slots slot _) (sym has) in
-          let few = t.numbered.apart number in omega arith)
-          (let e = left number in let few = t.numbered.apart number in omega arith)
-          (λ n other. let e = left n in
-          let none = times_other number_in n (get_or slots slot _) (λ q. other (sym q ∙ sym has)) in
-          omega arith)
-          (λ n q other some its. (
-            grind (arith, gone, times_other),
-            its,
-          )));
+          rw shrunk (named_set _ _ _ _ _ _ _ t.numbered (let e = left number in let one = times_one number_in _ (get_or slots _ _) (sym has) in omega arith) (let e = left number in omega arith) (λ n other. omega (arith, left n, times_other number_in n (get_or slots slot _) (λ q. other (sym q ∙ sym has)))) (λ n q other some its. (grind (arith, gone), its)));
       ticketed =
-          ap (λ (xs : List ℕ). map ticket_in (held_at slots xs)) shrunk
-          ∙ ap (map ticket_in) (map-remove _ opens i)
-          ∙ map-remove ticket_in (held_at slots opens) i
-          ∙ ap (λ (ts : List ℕ). remove ts i) t.ticketed;
+          (cc (shrunk, map-remove _ _ i, map-remove _ _ i)) ∙ ap (λ ts. remove ts i) t.ticketed;
       rise = all_pairs_remove (λ early late. early < late) _ i within_tickets t.rise;
     }
 
     ended_view : waiting_in slots (remove order i ++ slot ∷ []) (remove tickets i) ≡ remove ws i
     ended_view =
-        ap (held_at slots) shrunk ∙ map-remove _ opens i
-        ∙ ap (λ (vs : List Waiting). remove vs i) view
+        ap (held_at _) shrunk ∙ (cc (map-remove _ _ i, view))
 
     unqueued : (sends left : List ℕ) → AreBySend slots opens sends → IsTakenOut slot sends left →
         AreBySend slots (open_slots (remove order i ++ slot ∷ []) (remove tickets i)) left
-    unqueued sends left q out =
-        rw shrunk (queue-remove q slot left out _ (let e = length-remove _ i rank in omega arith)
+    unqueued _ left q out =
+        rw shrunk (queue-remove q _ _ out _ (omega (arith, length-remove _ i rank))
         gone)
 
     sent : (sends : List ℕ) → AreBySend slots opens sends → 0 < times_of_slot slot sends
-    sent sends q =
-        let some = subst (λ (p : ℕ). 0 < times_of_slot p opens) at_rank (times_got _ _ i 0 rank) in
-        let e = q.same slot in
+    sent _ q =
+        let some = subst (λ p. 0 < times_of_slot p opens) at_rank (times_got _ _ i 0 rank) in
         omega arith
 
   -- As the code makes it.
   pub sent_slot : (i : ℕ) → i < length ws → (slot : ℕ) → slot ≡ get_or order i slot → (sends : List ℕ)
       → AreBySend slots opens sends → 0 < times_of_slot slot sends
-  sent_slot i lt slot got sends q = grind (arith, sent, same_turn, rank_within)
+  sent_slot i lt _ got _ q = grind (arith, sent, same_turn, rank_within)
 
   pub ended_by : (i : ℕ) → i < length ws → (slot index number : ℕ) (removed after rest : List ℕ) (w : Waiting) →
       slot ≡ get_or order i slot → w ≡ get_or slots slot nothing → number ≡ w.request.number → index ≡ number →
@@ -425,13 +374,13 @@ module _ {slots : List Waiting} {numbers : List (Option ℕ)} {order tickets : L
       (sends left : List ℕ) → AreBySend slots opens sends → IsTakenOut slot sends left →
       (waiting_in slots after rest ≡ remove ws i) × IsTable slots (set numbers index None) after rest
       × AreBySend slots (open_slots after rest) left
-  ended_by i lt slot index number removed after rest w got is has same gone to from sends left q out =
-      let first = same_turn _ i slot (rank_within t ws view i lt) got in
+  ended_by i lt slot index _ _ _ _ w got is has same gone to from _ left q out =
+      let first = same_turn _ i _ (rank_within t ws view i lt) got in
       let its : index ≡ number_at _ slot = cc in
       rw (from, to, gone) (
-        ended_view i slot _ lt first its,
-        ended i slot _ lt first its,
-        unqueued i slot _ lt first its _ left q out,
+        ended_view i _ _ lt first its,
+        ended i _ _ lt first its,
+        unqueued i _ _ lt first its _ _ q out,
       )
 
 -- The slots below one, each once.
@@ -447,7 +396,7 @@ pub empty_table : (slots : List Waiting) (numbers : List (Option ℕ)) (order ti
     → ((slot : ℕ) → table_size ≤ slot → times_of_slot slot order ≡ 0)
     → ((slot : ℕ) → times_of_slot slot order ≤ 1) →
     IsTable slots numbers order tickets
-empty_table slots numbers order tickets none all_slots blank whole within once = rw none (record {
+empty_table _ _ _ _ none all_slots blank whole within once = rw none (record {
   all_slots = all_slots;
   all_ranks = whole;
   within = within;
@@ -456,8 +405,7 @@ empty_table slots numbers order tickets none all_slots blank whole within once =
     all_numbers = cc;
     apart = λ number. omega arith;
     named = λ number lt.
-        rw (ap (λ (xs : List (Option ℕ)). get_or xs number None) blank
-        ∙ get_or-replicate {A = Option ℕ} 256 _ None None lt) refl;
+        rw (ap (λ xs. get_or xs number None) blank ∙ get_or-replicate {A = Option ℕ} 256 _ _ _ lt);
   };
   ticketed = refl;
   rise = omega arith;

@@ -30,8 +30,8 @@ use Rattle.bac_tsm.proofs.NumberCycle.{is_free, a_step}
 -- A number is found among these where one of them has it.
 pub any_number : (number : ℕ) (ws : List Waiting)
     → list_any (λ w. nat_eq number w.request.number) ws ≡ nat_lt 0 (times number_in number ws)
-any_number number [] = refl
-any_number number (w ∷ ws) = grind (arith, nat_tests, any_number number ws)
+any_number _ [] = refl
+any_number number (w ∷ ws) = grind (arith, any_number number ws)
 
 -- Where a slot is among these, it stands at a rank, and the first such rank is found.
 pub record StandsAt (slot : ℕ) (order : List ℕ) (i : ℕ) : Type 0 where
@@ -41,29 +41,29 @@ pub record StandsAt (slot : ℕ) (order : List ℕ) (i : ℕ) : Type 0 where
 
 pub found_at : (slot : ℕ) (order : List ℕ) → 0 < times_of_slot slot order → (i : ℕ) × StandsAt slot order i
 found_at slot order some =
-    let test = λ (other : ℕ). nat_eq other slot in
-    let within = first order some in (
-      position_or_len test order,
+    let test = λ (other : ℕ). nat_eq _ _ in
+    let within = first _ some in (
+      position_or_len test _,
       record {
-        found = rw (lt-ltb _ _ within) refl;
+        found = rw (lt-ltb _ _ within);
         within = within;
-        there = eqb-true _ _ (passes_at_first test order 0 within);
+        there = eqb-true _ _ (passes_at_first test _ 0 within);
       },
     )
   where
     first : (order : List ℕ) → 0 < times_of_slot slot order
         → position_or_len (λ other. nat_eq other slot) order < length order
     first [] some = absurd (omega arith)
-    first (q ∷ qs) some = grind (arith, nat_tests, first qs, some)
+    first (q ∷ qs) some = grind (arith, first qs)
 
 -- Where tickets rise, the one request with a ticket is the first with it.
 find_rank : (t : ℕ) (ws : List Waiting) (i : ℕ) → TicketsRise ws → i < length ws
     → (get_or ws i nothing).request.ticket ≡ t →
     find (by_ticket t) ws ≡ Some (get_or ws i nothing)
-find_rank t [] i rise lt is = absurd (omega arith)
-find_rank t (w ∷ ws) zero rise lt is = rw (eq-eqb w.request.ticket t is) refl
+find_rank t [] i _ lt is = absurd (omega arith)
+find_rank t (w ∷ ws) zero _ lt is = rw (eq-eqb _ t is)
 find_rank t (w ∷ ws) (suc i) rise lt is =
-    let less : w.request.ticket < (get_or ws i nothing).request.ticket =
+    let less =
     rise 0 (suc i) nothing (omega arith) (omega arith) in
     rw (ne_eqb w.request.ticket t (λ q. omega arith))
     (find_rank t ws i (pairs_tail (λ v w. v.request.ticket < w.request.ticket) w ws rise) (omega arith) is)
@@ -75,65 +75,60 @@ module _ {slots : List Waiting} {numbers : List (Option ℕ)} {order tickets : L
 
   pub as_many : length opened ≡ length tickets
   as_many =
-      sym (length-map opened (λ slot. get_or slots slot nothing))
-      ∙ sym (length-map (waiting_in slots order tickets) ticket_in) ∙ ap length t.ticketed
+      (cc (length-map _ _, length-map _ _)) ∙ ap length t.ticketed
 
   -- Those before and those after a rank of the order are the order.
   pub times_split : (slot n : ℕ)
       → times_of_slot slot order ≡ times_of_slot slot (take n order) + times_of_slot slot (drop n order)
-  times_split slot n = ap (times_of_slot slot) (sym (take-append-drop n order))
-      ∙ times-append itself slot (take n order) (drop n order)
+  times_split slot n = cc (take-append-drop n _, times-append _ slot _ _)
 
   pub few : length tickets ≤ length order
-  few = let e = length-take (length tickets) order in let f = as_many in omega arith
+  few = omega (arith, length-take (length tickets) order, as_many)
 
   -- A slot that stands at a rank of the order.
   module _ (i slot : ℕ) (lt : i < length order) (is : get_or order i 0 ≡ slot) where
     pub read_within : slot < table_size
     read_within =
-        let some = subst (λ (k : ℕ). 0 < times_of_slot k order) is (times_got itself order i 0 lt) in
-        grind (arith, t.within slot, some)
+        let some = subst (λ k. 0 < times_of_slot k order) is (times_got _ _ i 0 lt) in
+        grind (arith)
 
     pub read_listed : slot < length slots
-    read_listed = let all = t.all_slots in let below = read_within in omega arith
+    read_listed = omega (arith, t.all_slots, read_within)
 
   -- A rank of the open requests.
   module _ (ws : List Waiting) (view : waiting_in slots order tickets ≡ ws) where
     pub count : length tickets ≡ length ws
-    count = sym as_many ∙ sym (length-map opened (λ slot. get_or slots slot nothing)) ∙ ap length view
+    count = (cc (as_many, length-map _ _)) ∙ ap length view
 
     pub rank_within : (i : ℕ) → i < length ws → i < length order
-    rank_within i lt = let e = count in let g = few in omega arith
+    rank_within i lt = omega (arith, count, few)
 
     pub turn_opened : (i : ℕ) → i < length ws → i < length opened
-    turn_opened i lt = let e = count in let f = as_many in omega arith
+    turn_opened i lt = omega (arith, count, as_many)
 
     pub here : (i slot : ℕ) → i < length ws → get_or order i 0 ≡ slot → get_or opened i 0 ≡ slot
-    here i slot lt is = get_or-take (length tickets) order i 0 (let e = count in omega arith) ∙ is
+    here i _ lt is = get_or-take _ _ i 0 (omega (arith, count)) ∙ is
 
     pub read_held : (i slot : ℕ) → i < length ws → get_or order i 0 ≡ slot
         → get_or slots slot nothing ≡ get_or ws i nothing
     read_held i slot lt is =
-        sym (held_got slots opened i slot (turn_opened i lt) (here i slot lt is))
-        ∙ ap (λ (vs : List Waiting). get_or vs i nothing) view
+        cc (held_got _ _ i _ (turn_opened i lt) (here i _ lt is), view)
 
     -- The first free slot, where there is one.
     pub next_free : length ws < table_size → get_or order (length tickets) 0 < table_size
-    next_free room = read_within (length tickets) _ (let e = count in let g = t.all_ranks in omega arith) refl
+    next_free room = read_within _ _ (let e = count in omega arith) refl
 
     -- The tickets are those of the requests.
     pub ticket_got : (i : ℕ) → i < length ws → (d : Waiting) (e : ℕ)
         → get_or tickets i e ≡ (get_or ws i d).request.ticket
     ticket_got i lt d e =
-        ap (λ (ts : List ℕ). get_or ts i e) (sym t.ticketed ∙ ap (map ticket_in) view)
-        ∙ get_or-map ticket_in ws i d e lt
+        ap (λ ts. get_or ts i e) (sym t.ticketed ∙ ap (map _) view)
+        ∙ get_or-map _ ws i d e lt
 
     pub rising : TicketsRise ws
     rising i j d early late =
-        let less = t.rise i j 0 early (let e = count in omega arith) in
-        let e = ticket_got i (omega arith) d 0 in
-        let f = ticket_got j late d 0 in
-        omega arith
+        let less = t.rise i j 0 early (omega (arith, count)) in
+        omega (arith, ticket_got i (omega arith) d 0, ticket_got j late d 0)
 
     -- A ticket stands at one rank.
     pub one_turn : (i j : ℕ) → i < length ws → j < length ws
@@ -143,23 +138,23 @@ module _ {slots : List Waiting} {numbers : List (Option ℕ)} {order tickets : L
     -- A rank at which the ticket stands.
     pub likely_rank : (ticket : ℕ) (items : List ℕ) → items ≡ tickets → (i : ℕ) → slice_get items i ≡ Some ticket
         → IsRankOf ticket ws (Some i)
-    likely_rank ticket items are i there =
-        let got = ap (λ (ts : List ℕ). slice_get ts i) (sym are) ∙ there in
+    likely_rank ticket _ are i there =
+        let got = ap (λ ts. slice_get ts i) (sym are) ∙ there in
         let e = count in
-        let within = slice_get_within tickets i ticket got in
+        let within = slice_get_within _ i _ got in
         let lt : i < length ws = omega arith in
-        let has = sym (ticket_got i lt nothing 0) ∙ get_or_from_slice_get tickets i ticket 0 got in
-        (lt, has, find_rank ticket ws i rising lt has)
+        let has = sym (ticket_got i lt _ 0) ∙ get_or_from_slice_get _ i _ 0 got in
+        (lt, has, find_rank _ ws i rising lt has)
 
     -- What a search among the tickets answers.
     pub searched_rank : (ticket : ℕ) (items : List ℕ) → items ≡ tickets → (r : Result ℕ ℕ) →
         IsBinarySearchResult (λ y. nat_cmp y ticket) items r → IsRankOf ticket ws (result_ok r)
-    searched_rank ticket items are r found =
-        by r (searched tickets ticket r
-        (subst (λ (xs : List ℕ). IsBinarySearchResult (λ y. nat_cmp y ticket) xs r) are found) up)
+    searched_rank ticket _ are r found =
+        by r (searched _ _ r
+        (rw are at found) up)
       where
         up : (i j : ℕ) → i ≤ j → j < length tickets → get_or tickets i 0 ≤ get_or tickets j 0
-        up i j le lt = grind (arith, t.rise i j 0)
+        up i j le lt = grind (arith)
 
         by : (r : Result ℕ ℕ) → MatchResult r (λ i. (i < length tickets) × (get_or tickets i 0 ≡ ticket))
             (λ i. (i ≤ length tickets) × ((k : ℕ) → k < i → get_or tickets k 0 < ticket)
@@ -167,32 +162,30 @@ module _ {slots : List Waiting} {numbers : List (Option ℕ)} {order tickets : L
             IsRankOf ticket ws (result_ok r)
         by (Ok i) h =
             let e = count in
-            let lt : i < length ws = let f = h.0 in omega arith in
-            let has = sym (ticket_got i lt nothing 0) ∙ h.1 in
-            (lt, has, find_rank ticket ws i rising lt has)
+            let lt : i < length ws = omega arith in
+            let has = sym (ticket_got i lt _ 0) ∙ h.1 in
+            (lt, has, find_rank _ ws i rising lt has)
         by (Err i) h = λ k d lt same.
-            let e = count in
-            let f = ticket_got k lt d 0 in
-            grind (arith, h.1 k, h.2 k)
+            grind (arith, h.1 k, h.2 k, count, ticket_got k lt d 0)
 
   -- An open slot, and the rank of the request there.
   module _ (ws : List Waiting) (view : waiting_in slots order tickets ≡ ws) (slot : ℕ)
       (some : 0 < times_of_slot slot opened) where
     pub rank : (i : ℕ) × StandsAt slot opened i
-    rank = found_at slot opened some
+    rank = found_at _ _ some
 
     pub turn_lt : rank.0 < length ws
-    turn_lt = let e = count ws view in let f = as_many in let lt = rank.1.within in omega arith
+    turn_lt = omega (arith, count ws view, as_many, rank.1.within)
 
     pub stands : get_or order rank.0 0 ≡ slot
-    stands = sym (get_or-take (length tickets) order rank.0 0
-        (let lt = turn_lt in let e = count ws view in omega arith)) ∙ rank.1.there
+    stands = sym (get_or-take _ order _ 0
+        (omega (arith, turn_lt, count ws view))) ∙ rank.1.there
 
     pub open_below : slot < table_size
-    open_below = read_within rank.0 slot (rank_within ws view rank.0 turn_lt) stands
+    open_below = read_within _ _ (rank_within ws view _ turn_lt) stands
 
     pub open_read : get_or slots slot nothing ≡ get_or ws rank.0 nothing
-    open_read = read_held ws view rank.0 slot turn_lt stands
+    open_read = read_held ws view _ _ turn_lt stands
 
   -- The entry of a number.
   module _ (number : ℕ) (fits : number < 256) where
@@ -202,20 +195,19 @@ module _ {slots : List Waiting} {numbers : List (Option ℕ)} {order tickets : L
 
     pub taken : (index : ℕ) → index ≡ number → (ws : List Waiting) → waiting_in slots order tickets ≡ ws →
         is_some (get_or numbers index None) ≡ list_any (λ w. nat_eq number w.request.number) ws
-    taken index is ws view = rw (is, ← view) (by (get_or numbers number None) refl)
+    taken index is ws view = rw (is, ← view) (by _ refl)
       where
         by : (entry : Option ℕ) → get_or numbers number None ≡ entry
             → is_some entry ≡ list_any (λ w. nat_eq number w.request.number) (waiting_in slots order tickets)
         by None is = sym
-            (any_number number (held_at slots opened)
-            ∙ ap (nat_lt 0) (subst (Names slots opened number) is (t.numbered.named number fits)))
+            (any_number number _
+            ∙ ap (nat_lt 0) (rw is at (t.numbered.named number fits)))
         by (Some slot) is =
             let rank = found_at slot opened (named slot is).0 in
             let has = ap number_in (held_got slots opened rank.0 slot rank.1.within rank.1.there)
             ∙ (named slot is).1 in
-            sym (any_number number (held_at slots opened) ∙ lt-ltb 0 _
-            (subst (λ (k : ℕ). 0 < times number_in k (held_at slots opened)) has
-            (times_got number_in (held_at slots opened) rank.0 nothing (rw length-map rank.1.within))))
+            sym (any_number number _ ∙ lt-ltb 0 _
+            (rw (← has) (times_got _ (held_at slots opened) rank.0 nothing (rw length-map rank.1.within))))
 
   -- What an answer ends.
   module _ (answer : Answer) (number : ℕ) (its : number ≡ answer.number) (fits : number < 256) (ws : List Waiting)
@@ -233,50 +225,49 @@ module _ {slots : List Waiting} {numbers : List (Option ℕ)} {order tickets : L
 
     pub closed_none : get_or numbers number None ≡ None → Ends [] ws
     closed_none is =
-        let none = none_passes number_in ends number says ws
-        (subst (λ (vs : List Waiting). times number_in number vs ≡ 0) view
-        (subst (Names slots opened number) is (t.numbered.named number fits))) in
-        (sym (ap (map ticket_in) none.0), sym none.1)
+        let none = none_passes _ _ _ says ws
+        (rw view at (subst (Names slots _ _) is (t.numbered.named _ fits))) in
+        (cc none.0, sym none.1)
 
     module _ (slot : ℕ) (is : get_or numbers number None ≡ Some slot) where
       some : 0 < times_of_slot slot opened
-      some = (named number fits slot is).0
+      some = (named _ fits _ is).0
 
       abbrev i : ℕ
       i = (rank ws view slot some).0
 
       pub named_below : slot < table_size
-      named_below = open_below ws view slot some
+      named_below = open_below ws view _ some
 
       module _ (w : Waiting) (reads : w ≡ get_or slots slot nothing) where
         read : w ≡ get_or ws i nothing
-        read = reads ∙ open_read ws view slot some
+        read = reads ∙ open_read ws _ _ _
 
         found : (filter ends ws ≡ (if ends w then w ∷ [] else []))
             × (filter (λ v. not (ends v)) ws ≡ (if ends w then remove ws i else ws))
         found =
             rw read
-            (one_passes number_in ends number says ws i nothing (turn_lt ws view slot some)
-            (ap number_in (sym (open_read ws view slot some)) ∙ (named number fits slot is).1)
-            (subst (λ (vs : List Waiting). times number_in number vs ≤ 1) view (t.numbered.apart number)))
+            (one_passes _ _ _ says ws i _ (turn_lt ws _ _ _)
+            (cc (open_read ws _ _ _, (named _ fits _ is).1))
+            (rw (← view) (t.numbered.apart _)))
 
         pub closed_not : ends w ≡ false → Ends [] ws
-        closed_not fails = let both = rw fails at found in (sym (ap (map ticket_in) both.0), sym both.1)
+        closed_not fails = let both = rw fails at found in (cc both.0, sym both.1)
 
         module _ (ticket : ℕ) (named : ticket ≡ w.request.ticket) where
           pub closed_some_turn : IsRankOf ticket ws None → ⊥
-          closed_some_turn none = none i nothing (turn_lt ws view slot some) (sym (named ∙ ap ticket_in read))
+          closed_some_turn none = none i _ (turn_lt ws _ _ _) (sym (named ∙ ap ticket_in read))
 
           pub closed_that : ends w ≡ true → (j : ℕ) → IsRankOf ticket ws (Some j) → (after : List Waiting)
               → after ≡ remove ws j → Ends (ticket ∷ []) after
-          closed_that passes j its after to =
+          closed_that passes j its _ to =
               let both = rw passes at found in
               rw (
                 named,
                 to,
-                one_turn ws view j i its.0 (turn_lt ws view slot some)
-                    (its.1 ∙ named ∙ ap ticket_in read),
-              ) (sym (ap (map ticket_in) both.0), sym both.1)
+                one_turn ws view j i its.0 (turn_lt ws _ _ _)
+                    (cc (its.1, named, read)),
+              ) (cc both.0, sym both.1)
 
 -- ---- the look for a free number, one step at a time
 
@@ -297,38 +288,35 @@ module _ (last : ℕ) (ws : List Waiting) where
   TakenBefore d = (k : ℕ) → k < d → 1 ≤ k → is_taken k ≡ true
 
   pub taken_on : (d : ℕ) → TakenBefore d → is_taken d ≡ true → TakenBefore (d + 1)
-  taken_on d before here = below_more (λ k. 1 ≤ k → is_taken k ≡ true) d before (λ low. here)
+  taken_on d before here = below_more _ d before (λ low. here)
 
   not_before : (d : ℕ) → TakenBefore d → NotBefore d first
   not_before d before j e =
-      let found = first_from (is_free last (map number_in ws)) 1 256 j e in
-      grind (arith, nat_tests, found, list_any-map number_in (nat_eq ((last + j) % 256)) ws, before j)
+      let found = first_from (is_free last _) 1 256 j e in
+      grind (arith, list_any-map number_in (nat_eq ((last + j) % 256)) ws, before j)
 
   pub free_is : (d : ℕ) → TakenBefore d → 1 ≤ d → d < 257 → is_taken d ≡ false
       → (last + d) % 256 ≡ next_invoke_id last (map number_in ws)
   unfolding next_invoke_id
   free_is d before low high free =
-      rw (first_at (is_free last (map number_in ws)) 1 256 d low high (rw (list_any-map number_in _ ws, free) refl)
-      (not_before d before)) refl
+      rw (first_at (is_free last _) 1 256 d low high (rw (list_any-map _ _ ws, free) refl) (not_before d before))
 
   -- Where all others are taken, the last one is given again.
   pub last_is : last < 256 → TakenBefore 256 → last ≡ next_invoke_id last (map number_in ws)
   unfolding next_invoke_id
-  last_is fits before = go first refl
+  last_is fits before = go _ refl
     where
       go : (o : Option ℕ) → first ≡ o → last ≡ (last + unwrap_or o 0) % 256
       go None e = omega arith
       go (Some j) e =
-          let most = not_before 256 before j e in
-          let small = (first_from (is_free last (map number_in ws)) 1 256 j e).2 in
-          omega arith
+          omega (arith, not_before 256 before j e, (first_from (is_free last (map number_in ws)) 1 256 j e).2)
 
 -- No open request has the next number.
 pub number_unused : (last number : ℕ) (ws : List Waiting) → number ≡ next_invoke_id last (map number_in ws)
     → length ws < 256 → times number_in number ws ≡ 0
-number_unused last number ws is few =
-    let step = a_step last (map number_in ws) (rw length-map few) in
-    let n : ℕ = (last + step.0) % 256 in
-    let none = ltb-false 0 (times number_in n ws)
-    (sym (any_number n ws) ∙ sym (list_any-map number_in (nat_eq n) ws) ∙ step.1.free) in
+number_unused last _ ws is few =
+    let step = a_step last _ (rw length-map few) in
+    let n = _ % 256 in
+    let none = ltb-false 0 _
+    (sym (any_number n ws) ∙ sym (list_any-map _ _ ws) ∙ step.1.free) in
     rw (is, step.1.next) (omega arith)

@@ -27,8 +27,6 @@ use Rattle.bac_tsm.proofs.CallNotes.{TicketsRise, kept_of_one, pairs_map}
 -- How many pass a test, where the first n do, and where only they may.
 module _ {A : Type 0} (p : A → Bool) (d : A) where
   at_least : (xs : List A) (n : ℕ) → n ≤ length xs → ((i : ℕ) → i < n → p (get_or xs i d) ≡ true) → n ≤ count_by p xs
-  at_least xs zero le all = omega arith
-  at_least [] (suc n) le all = absurd (omega arith)
   at_least (x ∷ xs) (suc n) le all =
       grind (
         arith,
@@ -36,13 +34,13 @@ module _ {A : Type 0} (p : A → Bool) (d : A) where
         all 0 (omega arith),
         at_least xs n (omega arith) (λ i lt. all (suc i) (omega arith)),
       )
+  at_least _ _ le all = grind arith
 
   at_most : (xs : List A) (n : ℕ) → ((i : ℕ) → n ≤ i → i < length xs → p (get_or xs i d) ≡ false) → count_by p xs ≤ n
-  at_most [] n none = omega arith
+  at_most [] n _ = omega arith
   at_most (x ∷ xs) zero none =
       grind (
         arith,
-        sum_by-cons (λ y. if p y then 1 else 0) x xs,
         none 0 (omega arith) (omega arith),
         at_most xs zero (λ i le lt. none (suc i) (omega arith) (omega arith)),
       )
@@ -65,17 +63,16 @@ module _ {A : Type 0} (key : A → ℕ) where
       here k d lt =
           let x : A = get_or xs k d in
           let (j, within, there) = Contains-permutation xs ys x moved (Contains-get_or xs k d lt) in
-          let is : get_or ys j d ≡ x = get_or_default ys j d x within ∙ there in
-          let its = ap key is in
+          let is = get_or_default ys j d x within ∙ there in
           let lower = λ (y : A). nat_lt (key y) (key x) in
           let up_to = λ (y : A). nat_le (key y) (key x) in
           let e = at_least lower d xs k (omega arith)
-          (λ i less. let f = rise i k d less lt in grind (arith, nat_tests)) in
-          let f = at_most lower d ys j (λ i le most. let g = up j i d le most in grind (arith, nat_tests)) in
+          (λ i less. grind (arith)) in
+          let f = at_most lower d ys j (λ i le most. grind (arith)) in
           let g = at_least up_to d ys (j + 1) (omega arith)
-          (λ i less. let h = up i j d (omega arith) within in grind (arith, nat_tests)) in
+          (λ i less. grind (arith)) in
           let h = at_most up_to d xs (k + 1)
-          (λ i le most. let e = rise k i d (omega arith) most in grind (arith, nat_tests)) in
+          (λ i le most. grind (arith)) in
           let counts = sum_by-IsPermutation (λ y. if lower y then 1 else 0) xs ys moved in
           let more = sum_by-IsPermutation (λ y. if up_to y then 1 else 0) xs ys moved in
           let same : j ≡ k = omega arith in
@@ -84,9 +81,9 @@ module _ {A : Type 0} (key : A → ℕ) where
 -- A sort in slot leaves what it sorts to.
 pub refilled : (xs ys : List Entry) → length ys ≡ length xs → refill (length xs) xs ys ≡ ys
 refilled xs ys long =
-    ap (λ (zs : List Entry). take (length xs) (ys ++ zs)) (drop_all (length ys) xs (omega arith))
-    ∙ ap (take (length xs)) (append-nil ys)
-    ∙ take_all (length xs) ys (omega arith)
+    ap (λ zs. take (length xs) (ys ++ zs)) (drop_all _ xs (omega arith))
+    ∙ ap (take _) (append-nil ys)
+    ∙ take_all _ ys (omega arith)
 
 module _ (rules : Rules) (clock : ℕ) where
   abbrev pub due_of : List Waiting → List Entry
@@ -105,28 +102,28 @@ module _ (rules : Rules) (clock : ℕ) where
 
   pub nothing_due : (ws : List Waiting) → list_any (is_due rules clock) ws ≡ false → (due_of ws ≡ [])
       × (kept_of ws ≡ ws)
-  nothing_due [] young = (refl, refl)
-  nothing_due (w ∷ ws) young = grind (arith, nothing_due ws, young)
+  nothing_due [] _ = (refl, refl)
+  nothing_due (w ∷ ws) young = grind (arith, nothing_due ws)
 
   -- What was sent now is not due.
   again : 0 < rules.timeout → (w : Waiting) → is_due rules clock w ≡ true →
       (due_of (kept rules clock w) ≡ []) × (kept_of (kept rules clock w) ≡ kept rules clock w)
-  again some w due = nothing_due (kept rules clock w)
-      (list_any_none (is_due rules clock) (kept rules clock w)
-      (kept_of_one rules (λ v. is_due rules clock v ≡ false) clock w (λ young. young) (grind (arith, nat_tests))))
+  again some w due = nothing_due _
+      (list_any_none _ _
+      (kept_of_one rules (λ v. is_due rules clock v ≡ false) _ w (λ young. young) (grind (arith))))
 
   due_is : (ws : List Waiting) → due_of ws ≡ map (due_entry rules) (filter (is_due rules clock) ws)
   due_is [] = refl
   due_is (w ∷ ws) = grind (arith, due_is ws)
 
   pub few_due : (ws : List Waiting) → length (due_of ws) ≤ length ws
-  few_due ws = rw (due_is ws, length-map, length-filter) (count_by-le-length (is_due rules clock) ws)
+  few_due ws = rw (due_is ws, length-map, length-filter) (count_by-le-length _ ws)
 
   pub rise_due : (ws : List Waiting) → TicketsRise ws → Rise ticket_of (due_of ws)
   rise_due ws rise =
       rw (due_is ws)
-      (pairs_map (λ a b. ticket_of a < ticket_of b) (due_entry rules) (filter (is_due rules clock) ws) (λ i j d less lt.
-      let g = AllPairs-filter (λ v w. v.request.ticket < w.request.ticket) (is_due rules clock) ws rise i j d less lt in
+      (pairs_map (λ a b. ticket_of a < ticket_of b) _ _ (λ i j d less lt.
+      let g = AllPairs-filter (λ v w. v.request.ticket < w.request.ticket) _ ws rise i j d less lt in
       grind arith))
 
   module _ (some : 0 < rules.timeout) {all : List Entry} {kept_in_all : List Waiting} {entries : List Entry}
@@ -136,31 +133,31 @@ module _ (rules : Rules) (clock : ℕ) where
         → get_or ws rank nothing ≡ w → is_due rules clock w ≡ true → entry ≡ due_entry rules w →
         after ≡ take rank ws ++ (kept rules clock w ++ drop (suc rank) ws)
         → HasTicked all kept_in_all (entries ++ entry ∷ []) after
-    one_more entry after rank w lt here due is to = record {
+    one_more _ after rank w lt here due is to = record {
       told =
           IsPermutation-trans _ _ _ (rw told_before at h.told)
           (rw (told_after, append_assoc)
           (IsPermutation-append_right entries _ _
-          (rw is (IsPermutation-middle (due_of (take rank ws)) (due_entry rules w)
-          (due_of (drop (suc rank) ws))))));
+          (rw is (IsPermutation-middle _ _
+          _))));
       stay = simp (to, flat_map-append, (again some w due).1)
           (simp flat_map-append at (ap kept_of (sym split) ∙ h.stay));
       past =
           rw to
-          (All-append (λ v. v.base ≤ clock) (take rank ws) (kept rules clock w ++ drop (suc rank) ws)
-          (All-take (λ v. v.base ≤ clock) rank ws h.past)
-          (All-append (λ v. v.base ≤ clock) (kept rules clock w) (drop (suc rank) ws)
-          (kept_of_one rules (λ v. v.base ≤ clock) clock w (λ young. absurd (false≢true (sym young ∙ due)))
+          (All-append (λ v. v.base ≤ clock) _ _
+          (All-take (λ v. v.base ≤ clock) _ ws h.past)
+          (All-append (λ v. v.base ≤ clock) _ _
+          (kept_of_one rules (λ v. v.base ≤ clock) _ w (λ young. absurd (false≢true (sym young ∙ due)))
           (omega arith))
-          (All-drop (λ v. v.base ≤ clock) (suc rank) ws h.past)));
+          (All-drop (λ v. v.base ≤ clock) (suc _) ws h.past)));
     }
       where
         split : ws ≡ take rank ws ++ (w ∷ drop (suc rank) ws)
-        split = sym (take-append-drop rank ws)
-            ∙ ap (λ (xs : List Waiting). take rank ws ++ xs) (rw (add-one, here) at (drop_more ws rank nothing lt))
+        split = sym (take-append-drop _ ws)
+            ∙ ap (λ xs. take rank ws ++ xs) (rw (add-one, here) at (drop_more ws _ nothing lt))
 
         told_before : due_of ws ≡ due_of (take rank ws) ++ (due_entry rules w ∷ due_of (drop (suc rank) ws))
-        told_before = ap due_of split ∙ flat_map-append (due_answer rules clock) (take rank ws) (w ∷ drop (suc rank) ws)
+        told_before = ap due_of split ∙ flat_map-append _ (take rank ws) _
             ∙ rw due refl
 
         told_after : due_of after ≡ due_of (take rank ws) ++ due_of (drop (suc rank) ws)
@@ -168,14 +165,14 @@ module _ (rules : Rules) (clock : ℕ) where
 
     pub passed : (entry : Entry) (after : List Waiting) → IsPassed rules clock ws entry after
         → HasTicked all kept_in_all (entries ++ entry ∷ []) after
-    passed entry after (rank, lt, due, is, to) = one_more entry after rank (get_or ws rank nothing) lt refl due is to
+    passed entry after (rank, lt, due, is, to) = one_more _ _ _ _ lt refl due is to
 
     pub fewer : (entry : Entry) (after : List Waiting) → IsPassed rules clock ws entry after →
         (length entries < length all) × (length (due_of after) < length (due_of ws))
     fewer entry after is =
-        let now = sym (length-append entries (due_of ws)) ∙ length_permutation _ _ h.told in
-        let next = sym (length-append (entries ++ entry ∷ []) (due_of after))
-        ∙ length_permutation _ _ (passed entry after is).told in
+        let now = sym (length-append entries _) ∙ length_permutation _ _ h.told in
+        let next = sym (length-append _ (due_of after))
+        ∙ length_permutation _ _ (passed _ _ is).told in
         let one = length-append entries (entry ∷ []) in
         (omega arith, omega arith)
 

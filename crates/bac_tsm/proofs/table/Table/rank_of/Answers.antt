@@ -12,9 +12,9 @@ use Rattle.bac_tsm.proofs.table.Table.rank_of.Goals as goal
 got : (r : Option (Bor ℕ)) (xs : List ℕ) (i ticket : ℕ) → is_some r ≡ nat_lt i (length xs)
     → IfSome r (λ x. x.now ≡ get_or xs i x.now) →
     option_copied r ≡ Some ticket → slice_get xs i ≡ Some ticket
-got None xs i ticket within there is = absurd (none-some _ is)
-got (Some x) xs i ticket within there is =
-    slice_get-get_or xs i x.now (ltb-true i (length xs) (sym within)) ∙ ap Some (sym there ∙ same_Some _ _ is)
+got None xs i _ _ _ is = absurd (none-some _ is)
+got (Some x) xs i _ within there is =
+    cc (slice_get-get_or xs i x.now (ltb-true i _ (sym within)))
 
 pub returns-then-eq : goal.returns-then-eq
 returns-then-eq c =
