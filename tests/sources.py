@@ -76,8 +76,6 @@ BINDER = re.compile("|".join(BINDERS), re.M)
 LABEL = re.compile(r"([{;]\s*)[^\s={;]+ =(?=\s)")  # a field, or an argument by its name
 
 
-
-
 class Names(dict):
     """What is in scope: under each name a function that finds what its path, behind the name, stands for."""
 
@@ -263,7 +261,8 @@ STD = NUMBERS | set("""Option Some None Result Ok Err Vec String Box Drop Copy C
     FnOnce FnMut Fn From Into Sized PartialEq Eq PartialOrd Ord Send Sync AsRef ToOwned TryFrom TryInto
     HostRuntime""".split())
 BRACED = ("struct", "enum", "trait", "impl", "mod")
-CLAIMPL = re.compile(r"⟦<([\w:]+)[^⟧]*? as (\w+)[^⟧]*>⟧\.(\w+)")
+CLAUSE = re.compile(r"\b(requires|ensures|ghost)\*? ?(\w*):? $")
+IMPL = re.compile(r"⟦<([\w:]+)[^⟧]*? as (\w+)[^⟧]*>⟧\.(\w+)")
 
 
 def blank(text, *patterns):

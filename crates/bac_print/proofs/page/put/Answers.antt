@@ -1,7 +1,7 @@
 use Rattle.std.proofs.Common.{arith}
 use Rattle.std.proofs.lemmas.List.{take_rest}
 use Rattle.bac_print.proofs.Known.{Sent_more, Sent_all, unread_more}
-use Rattle.bac_text.proofs.page.put.Goals as goal
+use Rattle.bac_print.proofs.page.put.Goals as goal
 
 -- the octets that a write took were sent too
 pub loop-rest-preserved : goal.loop-rest-preserved
