@@ -4,7 +4,7 @@
 ghost use Rattle.std.specs.Prelude.{◌≡◌, ◌⊎◌, [], Err, IfOk};
 ghost use Rattle.std.specs.Process.{exit_status};
 ghost use Rattle.bac_links.specs.declared.fault.ToolFault.TheVariants.{WriteFailed};
-ghost use Rattle.bac_links.specs.Socket.{Binds};
+ghost use Rattle.bac_links.specs.Socket.{Binds, account_over};
 ghost use Rattle.bac_tools.specs.Report.{IsHelp, tool_report};
 
 use bac_tools::{
@@ -34,8 +34,9 @@ impl Network for Sockets<'_> {
     type Socket = UdpLink<SystemSocket<HostRuntime>>;
 
     ghost gives = { λ _ binding socket.
-        IfOk socket (λ link. Binds binding.at link.socket.log.calls × (link.refused ≡ binding.refused)
-        × (link.history.entries ≡ [])) };
+        IfOk socket (λ link. Binds binding.at link.socket.log.calls
+        × (⟦<UdpLink<SystemSocket<HostRuntime>> as Link>⟧.seen link
+        ≡ account_over binding.refused link.socket.log.calls [])) };
 
     fn bind(self, binding: Binding) -> Result<UdpLink<SystemSocket<HostRuntime>>, LinkFault> {
         UdpLink::bind_with(self.rt, self.rt.alloc(), binding.at, binding.refused)
