@@ -1,11 +1,11 @@
 -- A tick, and what a client keeps through each call.
-use Rattle.std.proofs.Common.{◌≡◌, ℕ, max, ◌<◌, ◌≤◌, List, Bool, All, ap, subst, arith, [], ◌∷◌, length, map, Option}
-use Rattle.std.proofs.Common.{Some, None, not, if◌then◌else◌, refl, sym, ◌∙◌}
+use Rattle.std.proofs.Common.{◌≡◌, ℕ, max, ◌<◌, ◌≤◌, List, Bool, All, ap, arith, [], ◌∷◌, length, map, Option, Some}
+use Rattle.std.proofs.Common.{None, not, if◌then◌else◌, refl, sym, ◌∙◌}
 use Rattle.std.specs.{List.filter, List.flat_map, List.slice_get, Option.option_map, Option.option_to_list}
 use Rattle.std.proofs.lemmas.List.{Elements.All-filter, Elements.All-weaker, nil_from_length}
 use Rattle.bac_tsm.specs.{declared.due.Entry.Entry, Events.Rules, Events.Request, Events.Outcome, Inner.Client.IsTimely}
 use Rattle.bac_tsm.specs.{Inner.Waiting.ticket_in}
-use Rattle.bac_tsm.specs.Machine.{Waiting, due_answer, kept, tick, Delivered, deliver, datagram}
+use Rattle.bac_tsm.specs.Machine.{Waiting, due_answer, kept, tick, deliver, datagram}
 use Rattle.bac_tsm.specs.Client.{Client, client_rules, rules_of, keeping}
 use Rattle.bac_tsm.proofs.CallNotes.{kept_of_all}
 use Rattle.bac_pdu.specs.Peer.{Station}

@@ -1,7 +1,7 @@
 -- The requests at the slots of a list, where a slot or the list changes.
-use Rattle.std.proofs.Common.{◌≡◌, ℕ, zero, suc, ◌<◌, ◌≤◌, List, [], ◌∷◌, ◌++◌, length, map, take, drop, set, get_or}
-use Rattle.std.proofs.Common.{refl, ap, ap₂, sym, subst, ◌∙◌, arith, ◌+◌, Bool, true, not, nat_eq, if◌then◌else◌}
-use Rattle.std.proofs.Common.{remove, eq-eqb, ne_eqb, get_or-set_same, get_or-set_other, length-append}
+use Rattle.std.proofs.Common.{◌≡◌, ℕ, zero, suc, ◌<◌, ◌≤◌, List, [], ◌∷◌, ◌++◌, length, map, set, get_or, refl, ap, ap₂}
+use Rattle.std.proofs.Common.{sym, subst, ◌∙◌, arith, ◌+◌, Bool, true, not, nat_eq, if◌then◌else◌, remove, eq-eqb}
+use Rattle.std.proofs.Common.{ne_eqb, get_or-set_same, get_or-set_other, length-append}
 use Rattle.std.proofs.lemmas.List.{map-append, take-map, drop-map, get_or-map, get_or_default, Sums.length-filter}
 use Rattle.std.proofs.lemmas.List.{Sums.sum_by-remove, Elements.filter-append}
 use Rattle.bac_tsm.specs.{Machine.Waiting, Table.held_at, Table.times_of_slot, Table.times, Waiting.nothing}

@@ -1,10 +1,8 @@
 -- A request that is due goes on, and where the first to have been sent is not due, none is.
 use Rattle.std.proofs.Common.{◌≡◌, ℕ, suc, ◌-◌, ◌<◌, ◌≤◌, List, [], ◌∷◌, ◌++◌, take, drop, length, set, get_or, Option}
-use Rattle.std.proofs.Common.{Some, None, true, false, nat_le, nat_lt, All, refl, ap, sym, subst, ◌∙◌, inl, inr, arith}
-use Rattle.std.proofs.Common.{remove, leb-false}
+use Rattle.std.proofs.Common.{Some, None, true, false, nat_le, nat_lt, All, refl, ap, sym, ◌∙◌, inl, inr, arith, remove}
 use Rattle.std.specs.List.{slice_get, list_any}
-use Rattle.std.proofs.lemmas.Bool.{cases_Bool, false≢true, Decides.nat_tests}
-use Rattle.std.proofs.lemmas.Option.{slice_get_within, get_or_from_slice_get}
+use Rattle.std.proofs.lemmas.{Bool.cases_Bool, Bool.false≢true, Option.slice_get_within, Option.get_or_from_slice_get}
 use Rattle.std.proofs.lemmas.List.{length-map, get_or_default, set_split, Folds.list_any_at, Folds.list_any_none}
 use Rattle.bac_tsm.specs.{Limits.table_size, Events.Rules, Waiting.nothing}
 use Rattle.bac_tsm.specs.declared.due.Entry.TheVariants.{Resend, TimedOut as Expired}

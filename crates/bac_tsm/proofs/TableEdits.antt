@@ -3,13 +3,12 @@ use Rattle.std.proofs.Common.{◌≡◌, ℕ, suc, ◌+◌, ◌<◌, ◌≤◌, 
 use Rattle.std.proofs.Common.{replicate, Option, Some, None, All, refl, ap, sym, subst, ◌∙◌, arith, remove}
 use Rattle.std.proofs.Common.{length-append, length-set, length-take, take_at, take-append-drop, append_assoc}
 use Rattle.std.proofs.Common.{get_or-set_same, get_or-set_other}
-use Rattle.std.proofs.lemmas.{Bool.cases_eq, Simd.map-map, List.Edits.length-remove, List.Edits.remove-append_left}
+use Rattle.std.proofs.lemmas.{Simd.map-map, List.Edits.length-remove, List.Edits.remove-append_left}
 use Rattle.std.proofs.lemmas.{List.Quantifiers.all_pairs_push, List.Quantifiers.all_pairs_remove, Grind.take_at_read}
-use Rattle.std.proofs.lemmas.{Bool.Decides.nat_tests}
 use Rattle.std.proofs.lemmas.List.{get_or-replicate, length-map, map-append, get_or-map}
-use Rattle.bac_tsm.specs.{Limits.table_size, declared.request.Asked.Asked, Events.Request, Machine.Waiting}
-use Rattle.bac_tsm.specs.{Inner.Table.number_at, Inner.Table.waiting_in, Inner.Table.IsTakenOut, Waiting.nothing}
-use Rattle.bac_tsm.specs.{Inner.Waiting.ticket_in, Inner.Waiting.number_in, Inner.Waiting.begun}
+use Rattle.bac_tsm.specs.{Limits.table_size, declared.request.Asked.Asked, Machine.Waiting, Inner.Table.number_at}
+use Rattle.bac_tsm.specs.{Inner.Table.waiting_in, Inner.Table.IsTakenOut, Waiting.nothing, Inner.Waiting.number_in}
+use Rattle.bac_tsm.specs.{Inner.Waiting.begun}
 use Rattle.bac_tsm.specs.Table.{times, held_at, times_of_slot, open_slots, Names, AreNamed, IsTable, AreBySend}
 use Rattle.bac_tsm.proofs.Held.{itself, held-set, held-push, map-remove, held_got, same_turn, times-append, times_one}
 use Rattle.bac_tsm.proofs.Held.{times_other, times-remove, times_got}

@@ -6,13 +6,13 @@ use Rattle.std.proofs.Common.{eqb-true, eq-eqb, ne_eqb, lt-ltb, ltb-false, lengt
 use Rattle.std.specs.List.{filter, find, list_any, slice_get, position_or_len}
 use Rattle.std.specs.{Option.is_some, Result.result_ok, Ordering.nat_cmp, List.Sorted.IsBinarySearchResult}
 use Rattle.std.proofs.lemmas.{Option.slice_get_within, Option.get_or_from_slice_get, Bool.and_parts, List.length-map}
-use Rattle.std.proofs.lemmas.{List.get_or-map, List.Sums.passes_at_first, List.Sorted.searched, Bool.Decides.nat_tests}
+use Rattle.std.proofs.lemmas.{List.get_or-map, List.Sums.passes_at_first, List.Sorted.searched}
 use Rattle.bac_tsm.specs.{Limits.table_size, Machine.Waiting, Answers.Answer, Answers.is_answer_to}
 use Rattle.bac_tsm.specs.{Inner.Table.waiting_in, Inner.Table.IsRankOf, Waiting.nothing, Inner.Waiting.ticket_in}
 use Rattle.bac_tsm.specs.{Inner.Waiting.number_in, Lookahead.first_within, Lookahead.next_invoke_id}
 use Rattle.bac_tsm.specs.Table.{times, held_at, times_of_slot, open_slots, Names, IsTable}
 use Rattle.bac_tsm.proofs.CallNotes.{TicketsRise, by_ticket, pairs_tail}
-use Rattle.bac_tsm.proofs.Held.{itself, held_got, times-append, times_got, none_passes, one_passes}
+use Rattle.bac_tsm.proofs.Held.{held_got, times-append, times_got, none_passes, one_passes}
 use Rattle.bac_tsm.proofs.RequestLife.{NotBefore, first_from, first_at}
 use Rattle.bac_tsm.proofs.NumberCycle.{is_free, a_step}
 

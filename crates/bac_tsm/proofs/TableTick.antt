@@ -6,7 +6,7 @@ use Rattle.std.specs.List.{filter, flat_map, list_any, refill, AllPairs, count_b
 use Rattle.std.specs.List.Sorted.{IsPermutation, IsNonDecreasingBy}
 use Rattle.std.proofs.lemmas.{Bool.false≢true, List.Folds.list_any_none, Grind.flat_map-append}
 use Rattle.std.proofs.lemmas.{List.Kept.AllPairs-filter, List.Sums.length-filter, List.Sums.count_by-le-length}
-use Rattle.std.proofs.lemmas.{List.Sums.sum_by-cons, Bool.Decides.nat_tests}
+use Rattle.std.proofs.lemmas.{List.Sums.sum_by-cons}
 use Rattle.std.proofs.lemmas.List.{length-map, drop_all, drop_more, get_or_default, same_lists}
 use Rattle.std.proofs.lemmas.List.Elements.{All-append, All-take, All-drop, Contains-get_or}
 use Rattle.std.proofs.lemmas.List.Sorted.{length_permutation, IsPermutation-trans, IsPermutation-append_right}
