@@ -120,9 +120,18 @@ def uses_in(text, ghost):
     start = r"ghost use" if ghost else r"(?:unfoldable )?(?:pub )?use"
     line = rf"^ *({start}) (?:Rattle\.)?([^\s{{;]+?)(?:\.\{{(.*?)\}})?(?: as ([\w◌]+))?;?$"
     for use in re.finditer(line, text, re.M | re.S):
-        brought = (" ".join(part.split()) for part in (use[3] or "").split(","))
-        names = None if use[3] is None else [tuple((one.split(" as ") * 2)[:2]) for one in brought if one]
-        yield use[2].replace("«", "").replace("»", ""), names, use[4], "pub " in use[1]
+        module, is_public = use[2].replace("«", "").replace("»", ""), "pub " in use[1]
+        if use[3] is None:
+            yield module, None, use[4], is_public
+            continue
+        inside = {}  # a name may stand behind the path of a module below
+        for one in filter(None, (" ".join(part.split()) for part in use[3].split(","))):
+            path, here = (one.split(" as ") * 2)[:2]
+            below, _, name = path.rpartition(".")
+            names = inside.setdefault(f"{module}.{below}" if below else module, [])
+            names.append((name, name if here == path else here))
+        for where, names in inside.items():
+            yield where, names, use[4], is_public
 
 
 def brought_in(text, ghost):
