@@ -25,7 +25,7 @@ IsEarlier early late = early.base ≤ late.base
 all_among : (P : Waiting → Type 0) (slots : List Waiting) (xs ys : List ℕ)
     → ((slot : ℕ) → 0 < times_of_slot slot xs → 0 < times_of_slot slot ys) →
     All P (held_at slots ys) → All P (held_at slots xs)
-all_among P slots xs ys among all = λ k d lt. let read = λ (slot : ℕ). get_or slots _ _ in
+all_among P slots xs ys among all = λ k d lt. let read = λ (slot : ℕ). get_or slots slot _ in
     let within = rw length-map at lt in
     let there = found_at _ ys (among _ (times_got _ xs k 0 within)) in
     subst P (get_or-map _ ys _ 0 d there.1.within ∙ ap read there.1.there ∙ sym (get_or-map read xs k 0 d within))

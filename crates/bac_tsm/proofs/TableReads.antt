@@ -30,7 +30,7 @@ pub record StandsAt (slot : ℕ) (order : List ℕ) (i : ℕ) : Type 0 where
 
 pub found_at : (slot : ℕ) (order : List ℕ) → 0 < times_of_slot slot order → (i : ℕ) × StandsAt slot order i
 found_at slot order some =
-    let test = λ (other : ℕ). nat_eq _ _ in
+    let test = λ (other : ℕ). nat_eq other slot in
     let within = first _ some in (
       position_or_len test _,
       record {
