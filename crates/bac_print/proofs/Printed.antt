@@ -1,20 +1,19 @@
 -- What several prints in a row come to.
-use Rattle.std.proofs.Common.{◌≡◌, ℕ, List, [], ◌∷◌, ◌++◌, Option, arith, refl, sym, ◌∙◌, ap, append_assoc, subst, inl}
-use Rattle.std.proofs.Common.{inr}
-use Rattle.std.proofs.lemmas.List.{append-nil, take-append-drop}
-use Rattle.std.proofs.lemmas.Bool.Decides.{nat_tests}
-use Rattle.std.proofs.lemmas.Bool.{cases_Bool, false≢true}
-use Rattle.bac_print.specs.declared.checked.Checked.{Checked}
-use Rattle.bac_print.specs.declared.page.Page.{Page}
-use Rattle.bac_print.specs.Checked.{has_failed}
-use Rattle.hex.specs.Hex.{encode_with, encode_lower, lower_digits}
-use Rattle.bac_print.specs.Page.{held, writer_of, Writes, Wrote, Prints}
-use Rattle.bac_print.proofs.Known.{Took-none, Took-more}
+use Rattle.std.proofs.{
+  Common.{◌≡◌, ℕ, List, [], ◌∷◌, ◌++◌, Option, arith, refl, sym, ◌∙◌, ap, append_assoc, inl, inr},
+  lemmas.{List.{append-nil, take-append-drop}, Bool.Decides.nat_tests, Bool.{cases_Bool, false≢true}},
+}
+use Rattle.bac_print.{
+  specs.declared.{checked.Checked.Checked, page.Page.Page},
+  specs.{Checked.has_failed, Page.{held, Writes, Wrote, Prints}},
+  proofs.Known.Took-more,
+}
+use Rattle.hex.specs.Hex.{encode_with, encode_lower}
 
 pub encode_with-append : (t xs ys : List ℕ) → encode_with t (xs ++ ys) ≡ encode_with t xs ++ encode_with t ys
 unfolding encode_with
 encode_with-append t [] ys = refl
-encode_with-append t (x ∷ xs) ys = rw (encode_with-append t xs ys) refl
+encode_with-append t (x ∷ xs) ys = rw (encode_with-append t xs _) refl
 
 -- All of the octets before the rest were printed in hexadecimal.
 pub record PrintsHex {W : Type 0} (contents : W → Option (List ℕ)) (before after : Page W) (octets rest : List ℕ) : Type
@@ -35,7 +34,7 @@ module _ {W : Type 0} {contents : W → Option (List ℕ)} where
             record {
               taken = first.taken;
               rest = first.rest ++ more;
-              took = let both = Took-more first.took second.took in rw (lost.1, append-nil first.taken) at both;
+              took = let both = Took-more first.took second.took in rw (lost.1, append-nil _) at both;
               whole = grind (arith, append_assoc);
               sound = λ h. absurd (false≢true (sym h ∙ ap (λ (w : Checked W). has_failed w) lost.0 ∙ bad));
               stopped = λ h. (lost.0 ∙ (first.stopped h).0, (first.stopped h).1);
@@ -62,20 +61,10 @@ module _ {W : Type 0} {contents : W → Option (List ℕ)} where
   -- Nothing printed, and nothing changed.
   pub no_print : (page : Page W) {said : List ℕ} → [] ≡ said → Prints contents page page said
   unfolding Wrote
-  no_print page none = record {
-    same = refl;
-    wrote = record {
-      taken = [];
-      rest = held page;
-      took = Took-none (writer_of page);
-      whole = rw (← none) (append-nil (held page));
-      sound = λ h. (h, refl);
-      stopped = λ h. (refl, refl);
-    };
-  }
+  no_print = grind (arith, append-nil)
 
   pub prints_nothing : (page : Page W) → Prints contents page page []
-  prints_nothing page = no_print page refl
+  prints_nothing page = no_print _ refl
 
   -- One print after another.
   infixr 9 ◌⨾◌
@@ -88,29 +77,29 @@ module _ {W : Type 0} {contents : W → Option (List ℕ)} where
   -- The text that was printed, said otherwise.
   pub printed_as : {before after : Page W} {text said : List ℕ} → Prints contents before after text → text ≡ said
       → Prints contents before after said
-  printed_as {before} {after} printed same = subst (λ (xs : List ℕ). Prints contents before after xs) same printed
+  printed_as = grind arith
 
   pub then_prints : {before middle after : Page W} {text more said : List ℕ} → Prints contents before middle text →
       Prints contents middle after more →
       text ++ more ≡ said → Prints contents before after said
-  then_prints first second same = printed_as (first ⨾ second) same
+  then_prints first second = printed_as (first ⨾ second)
 
   pub three_prints : {before middle next after : Page W} {text more last said : List ℕ}
       → Prints contents before middle text →
       Prints contents middle next more →
       Prints contents next after last → text ++ (more ++ last) ≡ said → Prints contents before after said
-  three_prints first second third same = printed_as (first ⨾ second ⨾ third) same
+  three_prints first second third = printed_as (first ⨾ second ⨾ third)
 
   pub four_prints : {before middle next last after : Page W} {text more then rest said : List ℕ}
       → Prints contents before middle text →
       Prints contents middle next more →
       Prints contents next last then → Prints contents last after rest → text ++ (more ++ (then ++ rest)) ≡ said
       → Prints contents before after said
-  four_prints first second third fourth same = printed_as (first ⨾ second ⨾ third ⨾ fourth) same
+  four_prints first second third fourth = printed_as (first ⨾ second ⨾ third ⨾ fourth)
 
   pub hex_none : (page : Page W) (octets : List ℕ) → PrintsHex contents page page octets octets
   unfolding encode_with
-  hex_none page octets = record { front = []; parts = refl; printed = prints_nothing page }
+  hex_none = grind (arith, prints_nothing)
 
   pub hex_more : {before middle after : Page W} {octets rest : List ℕ} (part later : List ℕ)
       → PrintsHex contents before middle octets rest →
@@ -118,8 +107,8 @@ module _ {W : Type 0} {contents : W → Option (List ℕ)} where
       → PrintsHex contents before after octets later
   hex_more part later so_far cut more = record {
     front = so_far.front ++ part;
-    parts = so_far.parts ∙ ap (λ (xs : List ℕ). so_far.front ++ xs) cut ∙ sym (append_assoc so_far.front part later);
-    printed = printed_as (so_far.printed ⨾ more) (sym (encode_with-append lower_digits so_far.front part));
+    parts = so_far.parts ∙ ap (λ (xs : List ℕ). so_far.front ++ xs) cut ∙ sym (append_assoc _ part later);
+    printed = printed_as (so_far.printed ⨾ more) (sym (encode_with-append _ _ part));
   }
 
 pub ruleset printing = (then_prints, three_prints, four_prints, no_print, nat_tests)

@@ -1,12 +1,13 @@
 -- What is shown on a page of its own.
-use Rattle.std.proofs.Common.{◌≡◌, ℕ, false, List, [], ◌++◌, Option, Result, Ok, Err, sym, ◌∙◌, ap, subst}
-use Rattle.std.specs.Prelude.{is_err}
-use Rattle.std.proofs.lemmas.List.{append-nil}
-use Rattle.bac_print.specs.declared.checked.Checked.{Checked}
-use Rattle.bac_print.specs.declared.page.Page.{Page}
-use Rattle.bac_print.specs.Checked.{has_failed, Took, TookOrFailed}
-use Rattle.bac_print.specs.Page.{held, writer_of, Writes, Wrote, Prints}
-use Rattle.bac_print.proofs.Printed.{writes_more}
+use Rattle.std.{
+  proofs.{Common.{◌≡◌, ℕ, false, List, [], ◌++◌, Option, Result, Ok, Err, sym, ◌∙◌, ap, subst}, lemmas.List.append-nil},
+  specs.Prelude.is_err,
+}
+use Rattle.bac_print.{
+  specs.declared.{checked.Checked.Checked, page.Page.Page},
+  specs.{Checked.{has_failed, Took, TookOrFailed}, Page.{held, writer_of, Writes, Wrote, Prints}},
+  proofs.Printed.writes_more,
+}
 
 module _ {W : Type 0} {contents : W → Option (List ℕ)} where
   -- What was printed on an empty page that was finished was written, as far as the writer didn't fail.
@@ -18,7 +19,7 @@ module _ {W : Type 0} {contents : W → Option (List ℕ)} where
   finished {writer} {after} {first} {last} {text} same empty printed gone =
       subst (λ (before : Checked W). Writes contents before after [] [] text) same
       (subst (λ (xs : List ℕ). Writes contents (writer_of first) after xs [] text) empty
-      (subst (λ (xs : List ℕ). Writes contents (writer_of first) after (held first) [] xs) (append-nil text)
+      (subst (λ (xs : List ℕ). Writes contents (writer_of first) after (held first) [] xs) (append-nil _)
       (writes_more printed.wrote gone)))
 
   -- All of it, where the writer didn't fail.
@@ -26,15 +27,15 @@ module _ {W : Type 0} {contents : W → Option (List ℕ)} where
       → has_failed after ≡ false →
       Took contents before after text
   all_written {before} {after} {text} p good =
-      let all : text ≡ p.taken = p.whole ∙ ap (λ (xs : List ℕ). p.taken ++ xs) (p.sound good).1 ∙ append-nil p.taken in
-      subst (λ (xs : List ℕ). Took contents before after xs) (sym all) p.took
+      let all : text ≡ p.taken = p.whole ∙ ap (λ (xs : List ℕ). p.taken ++ xs) (p.sound good).1 ∙ append-nil _ in
+      subst (λ (xs : List ℕ). Took contents _ _ xs) (sym all) p.took
 
   -- The text was written, or, where the writer failed, a front of it.
   pub put : {A E : Type 0} {before after : Checked W} {text : List ℕ} (answer : Result A E)
       → Writes contents before after [] [] text →
       has_failed after ≡ is_err answer → TookOrFailed contents before after text answer
   put (Ok done) written good = all_written written good
-  put (Err fault) written bad = (written.taken, written.rest, written.whole, written.took)
+  put (Err fault) written _ = (written.taken, written.rest, written.whole, written.took)
 
   -- The same of a writer that was lent to a page, and is back.
   pub shown : {A E : Type 0} {writer after : Checked W} {first last : Page W} {text : List ℕ} {back : Checked W}
@@ -42,6 +43,6 @@ module _ {W : Type 0} {contents : W → Option (List ℕ)} where
       writer_of first ≡ writer → held first ≡ [] → Prints contents first last text
       → Writes contents (writer_of last) after (held last) [] [] →
       has_failed after ≡ is_err answer → TookOrFailed contents writer back text answer
-  shown {writer = writer} {text = text} answer given same empty printed gone failed =
+  shown {writer} {text} answer given same empty printed gone failed =
       subst (λ (w : Checked W). TookOrFailed contents writer w text answer) given
-      (put answer (finished same empty printed gone) failed)
+      (put _ (finished same empty printed gone) failed)

@@ -1,40 +1,35 @@
 -- The texts of values, and of what they are made of.
-use Rattle.std.proofs.Common.{◌≡◌, ℕ, ◌+◌, ◌-◌, ◌*◌, ◌<◌, min, false, List, [], ◌∷◌, ◌++◌, length, take, get_or, Option}
-use Rattle.std.proofs.Common.{Some, None, refl, sym, ◌∙◌, ap, arith, append_assoc, length-append, decimal}
-use Rattle.std.specs.Prelude.{◌==◌, ℤ, pos, negsuc, ◌<ℤ◌, unsigned_abs, option_map, IfSome}
-use Rattle.std.specs.Fmt.{signed_decimal}
-use Rattle.std.specs.List.{flat_map}
-use Rattle.std.specs.Option.{option_map_or}
-use Rattle.std.proofs.Math.Seq.{take-append-add}
-use Rattle.std.proofs.lemmas.List.{append-nil, take_more}
-use Rattle.std.proofs.lemmas.List.Concat.{flat_map-append}
-use Rattle.std.proofs.lemmas.Option.{none-some}
-use Rattle.std.proofs.lemmas.Int.{ints, to_z-of_z}
-use Rattle.bac_wire.specs.Datum.{Datum}
-use Rattle.bac_wire.specs.DatumReading.{value_at, values_within, values_of}
-use Rattle.bac_print.specs.declared.page.Page.{Page}
-use Rattle.bac_print.specs.Page.{Prints}
-use Rattle.std.specs.Prelude.{codes}
+use Rattle.std.{
+  proofs.Common.{◌≡◌, ℕ, ◌+◌, ◌-◌, ◌*◌, ◌<◌, min, false, List, [], ◌∷◌, ◌++◌, length, take, get_or, Option, Some, None},
+  proofs.{Common.{refl, sym, ◌∙◌, ap, arith, append_assoc, length-append, decimal}, Math.Seq.take-append-add},
+  specs.{Prelude.{◌==◌, ℤ, pos, ◌<ℤ◌, unsigned_abs, option_map, IfSome, codes}, Fmt.signed_decimal, List.flat_map},
+  specs.Option.option_map_or,
+  proofs.lemmas.{List.{append-nil, take_more}, List.Concat.flat_map-append, Option.none-some, Int.{ints, to_z-of_z}},
+}
+use Rattle.bac_wire.{
+  specs.{Datum.Datum, DatumReading.{value_at, values_within, values_of}},
+  proofs.ValueLists.values-first,
+}
+use Rattle.bac_print.{
+  specs.{declared.page.Page.Page, Page.Prints, Values.{octet_bits, bits_text, datum_text, values_text, region_text}},
+  specs.Inner.Values.{joined, separator},
+  proofs.Printed.{◌⨾◌, printed_as, prints_nothing},
+}
 use Rattle.hex.specs.Hex.{encode_lower}
-use Rattle.bac_print.specs.Values.{octet_bits, bits_text, datum_text, values_text, region_text}
-use Rattle.bac_print.specs.Inner.Values.{joined, separator}
-use Rattle.bac_print.proofs.Printed.{◌⨾◌, printed_as, prints_nothing}
-use Rattle.bac_wire.proofs.ValueLists.{values-none, values-first, values-empty}
 
 -- The text of one more octet.
 pub texts_more : (text : ℕ → List ℕ) (xs : List ℕ) (i : ℕ) → i < length xs →
     flat_map text (take (i + 1) xs) ≡ flat_map text (take i xs) ++ text (get_or xs i 0)
 texts_more text xs i within =
-    ap (flat_map text) (take_more xs i 0 within) ∙ flat_map-append text (take i xs) (get_or xs i 0 ∷ [])
-    ∙ ap (λ (one : List ℕ). flat_map text (take i xs) ++ one) (append-nil (text (get_or xs i 0)))
+    ap (flat_map text) (take_more xs i 0 within) ∙ flat_map-append text _ _
+    ∙ ap (λ (one : List ℕ). flat_map text (take i xs) ++ one) (append-nil _)
 
 pub signed_negative : (z : ℤ) → z <ℤ pos 0 → 45 ∷ decimal (unsigned_abs z) ≡ signed_decimal z
-signed_negative (pos n) h = absurd (omega (arith, ints))
-signed_negative (negsuc n) h = refl
+signed_negative = grind arith
 
 length_bits : (octets : List ℕ) → length (flat_map octet_bits octets) ≡ 8 * length octets
 length_bits [] = refl
-length_bits (x ∷ xs) = omega (arith, length-append (octet_bits x) (flat_map octet_bits xs), length_bits xs)
+length_bits (x ∷ xs) = omega (arith, length_bits xs)
 
 -- The bits of octets, of which the last is known.
 pub bits_last : (others : List ℕ) (last unused : ℕ) →
@@ -43,32 +38,25 @@ bits_last others last unused =
     let front = flat_map octet_bits others in
     let count : length front + (8 - unused) ≡ 8 * length (others ++ last ∷ []) - min unused 8 =
     omega (arith, length_bits others, length-append others (last ∷ [])) in
-    sym (take-append-add front (octet_bits last) (8 - unused)) ∙ ap (λ (n : ℕ). take n (front ++ octet_bits last)) count
+    sym (take-append-add _ _ _) ∙ ap (λ (n : ℕ). take n (front ++ octet_bits last)) count
     ∙ ap (λ (bits : List ℕ). take (8 * length (others ++ last ∷ []) - min unused 8) bits)
-    (ap (λ (bits : List ℕ). front ++ bits) (sym (append-nil (octet_bits last)))
-    ∙ sym (flat_map-append octet_bits others (last ∷ [])))
+    (ap (λ (bits : List ℕ). front ++ bits) (sym (append-nil _)) ∙ sym (flat_map-append octet_bits _ _))
 
 -- One more value, and a comma where others follow.
 one_more : (first : Datum) (more : List Datum) (behind : List ℕ) → values_of behind ≡ Some more →
     joined (first ∷ more) ≡ (datum_text first ++ separator behind) ++ joined more
 unfolding values_within
-one_more first [] [] e = sym (append-nil (datum_text first ++ []) ∙ append-nil (datum_text first))
-one_more first (second ∷ more) [] e = grind arith
-one_more first [] (octet ∷ octets) e = absurd (let bad = values-empty (octet ∷ octets) e in cc)
-one_more first (second ∷ more) (octet ∷ octets) e =
-    sym (append_assoc (datum_text first) (44 ∷ []) (joined (second ∷ more)))
+one_more = grind (arith, append-nil, append_assoc)
 
 -- What stands behind the first of the values.
 behind_first : (value : Datum) (others : List Datum) (found : Option (List Datum))
     → option_map (λ more. value ∷ more) found ≡ Some others →
     (more : List Datum) × (found ≡ Some more) × (others ≡ value ∷ more)
-behind_first value others None e = absurd (none-some others e)
-behind_first value others (Some more) e = (more, refl, cc)
+behind_first = grind arith
 
 nothing_left : (rest : List ℕ) (others : List Datum) → value_at rest ≡ None → values_of rest ≡ Some others → others ≡ []
 unfolding values_within
-nothing_left [] others none e = cc
-nothing_left (octet ∷ octets) others none e = grind (arith, values-none)
+nothing_left = grind arith
 
 -- If the region is values and nothing else, the texts of those before the rest were printed.
 pub record PrintsFront {W : Type 0} (contents : W → Option (List ℕ)) (before after : Page W)
@@ -84,23 +72,22 @@ PrintsValues contents before after region =
 
 module _ {W : Type 0} {contents : W → Option (List ℕ)} where
   pub front_none : (page : Page W) (region : List ℕ) → PrintsFront contents page page region region
-  front_none page region = record { front = λ values e. ([], values, e, refl, prints_nothing page) }
+  front_none page _ = record { front = λ values e. ([], values, e, refl, prints_nothing _) }
 
   pub front_more : {before middle next after : Page W} {region rest behind : List ℕ} {value : Datum} →
       PrintsFront contents before middle region rest →
       value_at rest ≡ Some (value, behind) → Prints contents middle next (datum_text value)
       → Prints contents next after (separator behind) →
       PrintsFront contents before after region behind
-  front_more {rest = rest} {behind = behind} {value = value} so_far found first second = record {
+  front_more {rest} {behind} {value} so_far found first second = record {
     front = λ values e.
         let f = so_far.front values e in
-        let more = behind_first value f.1 (values_of behind) (sym (values-first rest value behind found) ∙ f.2) in (
+        let more = behind_first value f.1 _ (sym (values-first rest value _ found) ∙ f.2) in (
           f.0 ++ (datum_text value ++ separator behind),
           more.0,
           more.1,
           f.3 ∙ ap (λ (all : List Datum). f.0 ++ joined all) more.2
-              ∙ ap (λ (text : List ℕ). f.0 ++ text) (one_more value more.0 behind more.1)
-              ∙ sym (append_assoc f.0 (datum_text value ++ separator behind) (joined more.0)),
+              ∙ ap (λ (text : List ℕ). f.0 ++ text) (one_more value _ behind more.1) ∙ sym (append_assoc f.0 _ _),
           f.4 ⨾ first ⨾ second,
         );
   }
@@ -108,15 +95,7 @@ module _ {W : Type 0} {contents : W → Option (List ℕ)} where
   pub front_whole : {before after : Page W} {region rest : List ℕ} → PrintsFront contents before after region rest
       → value_at rest ≡ None →
       PrintsValues contents before after region
-  front_whole {before} {after} {region} {rest} so_far none = go (values_of region) refl
-    where
-      go : (found : Option (List Datum)) → values_of region ≡ found
-          → IfSome found (λ values. Prints contents before after (joined values))
-      go None e = tt
-      go (Some values) e =
-          let f = so_far.front values e in
-          printed_as f.4 (sym
-          (f.3 ∙ ap (λ (all : List Datum). f.0 ++ joined all) (nothing_left rest f.1 none f.2) ∙ append-nil f.0))
+  front_whole = grind (arith, printed_as, nothing_left, append-nil)
 
   -- None or several stand in braces.
   pub printed_in_braces : {before first second after : Page W} (region : List ℕ) (count : ℕ)
@@ -140,7 +119,7 @@ module _ {W : Type 0} {contents : W → Option (List ℕ)} where
   pub printed_octets : {before middle after : Page W} (region : List ℕ) → None ≡ option_map length (values_of region) →
       Prints contents before middle (codes "hex ") → Prints contents middle after (encode_lower region) →
       Prints contents before after (region_text region)
-  printed_octets region none first second = printed_as (first ⨾ second) (grind arith)
+  printed_octets _ none first second = printed_as (first ⨾ second) (grind arith)
 
 pub ruleset printing_values = (front_none, front_whole)
 

@@ -6,8 +6,8 @@ use seplogic.Ra.Ura.{Ura}
 use mir.Val.{Val, vstruct, vnil}
 use types.Logic.{Logic}
 use types.Kit.{Goal, Step, step, Item, fpack}
-use denote.RattleType.{RattleType, Valss}
-use denote.Struct.Struct.{Struct, within}
+use denote.RattleType.{RattleType}
+use denote.Struct.Struct.{Struct}
 pub use Rattle.std.proofs.Common.{List, [], ◌∷◌, refl}
 pub use Rattle.std.proofs.raw_atomic.Walks.{proved}
 pub use types.Kit.{‵, raw, ◌⊛◌, ◌$◌, ◌∵◌, !, qed, done, move, keep, drop, split, fjoin, feq_i, suffices}
@@ -32,6 +32,4 @@ fieldless = Struct (record { name = []; args = []; types = []; fields = [] })
 
 pub none_made : {M : Type 1} {𝓤 : Ura M} {𝓛 : Logic 𝓤} {K : Type 0} {Γ : List (Item 𝓤)} {G : Goal 𝓤 𝓛.H} → K
     → Step K 𝓛 (‵ (fieldless.own_val tt (none ∷ [])) ∷ Γ) G Γ G
-none_made t = step (λ s.
-    nothing t $ feq_i t (List Val) (none ∷ []) (none ∷ []) refl $ fjoin t $
-    fpack t (Valss []) (within (record { name = []; args = []; types = []; fields = [] }) tt (none ∷ [])) tt $ s)
+none_made t = step (λ s. nothing t $ feq_i t _ _ _ refl $ fjoin t $ fpack t _ _ tt $ s)

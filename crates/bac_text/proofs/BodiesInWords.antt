@@ -13,8 +13,8 @@ use Rattle.bac_pdu.{
   proofs.{SequenceLaws.whole_spell, ShortestLaws.order_is_written},
 }
 use Rattle.bac_text.{
-  specs.{declared.pairs.PairFault.TheVariants.TooLong, Pairs.{values_in, order_of, body_of}},
-  specs.{Inner.Pairs.{region_with, region_of}, PairsInWords.IsWritten},
+  specs.{declared.pairs.PairFault.TheVariants.TooLong, Pairs.{values_in, order_of, body_of}, Inner.Pairs.region_of},
+  specs.PairsInWords.IsWritten,
   proofs.{ValueRegions.values_are_region, WordRanges.{values_range, values_spelled}, WordValues.at_most_found},
   proofs.WriteBodies.{body_with, region_within},
 }
@@ -36,14 +36,7 @@ values_written words values said fits =
 
 -- A region that was read of words.
 pub region_written : (words : List (List ℕ)) (region : List ℕ) → region_of words ≡ Ok region → AreWritten words region
-region_written words region e = go (values_in words) refl e
-  where
-    go : (found : Result (List Datum) ℕ) → values_in words ≡ found → region_with found ≡ Ok region
-        → AreWritten words region
-    go (Err n) said e = absurd (cc)
-    go (Ok values) said e =
-        let is = at_most_found TooLong 1497 (flat_map plain values) region e in
-        subst (AreWritten words) (sym is.0) (values_written words values said is.1)
+region_written = grind (arith, at_most_found, values_written)
 
 named : (object : Identifier) (property : ℕ) (index priority : Option ℕ) (region : List ℕ) → IsIdentifier object
     → property < 2 ^ 32 → IfSome index (λ n. n < 2 ^ 32) →

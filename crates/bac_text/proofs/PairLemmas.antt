@@ -1,7 +1,7 @@
 -- The words of pairs, from their front, and the region that they write.
 use Rattle.std.proofs.{
-  Common.{◌≡◌, ℕ, ◌+◌, ◌*◌, ◌<◌, ◌≤◌, ◌-◌, Bool, true, false, List, [], ◌∷◌, ◌++◌, length, drop, Option, Some, None},
-  Common.{Result, Ok, Err, refl, sym, ◌∙◌, ap, arith, append-nil, append_assoc, length-append},
+  Common.{◌≡◌, ℕ, ◌+◌, ◌*◌, ◌<◌, ◌≤◌, ◌-◌, Bool, true, false, List, [], ◌∷◌, ◌++◌, length, drop, Some, Result, Ok, Err},
+  Common.{refl, sym, ◌∙◌, ap, arith, append-nil, append_assoc, length-append},
   lemmas.List.{drop-drop, drop_all},
 }
 use Rattle.std.specs.List.{flat_map}
@@ -97,22 +97,12 @@ progress-on {all} {left} {n} {tag} {word} {region} {new} {b} {later} value p is 
 pub progress-more : (all left : List (List ℕ)) (n : ℕ) (tag word region new : List ℕ) (b : Bool)
     → Progress all (tag ∷ word ∷ left) n region b →
     appended region (value_in tag word) ≡ Ok new → Progress all left (n + 1) new b
-progress-more all left n tag word region new b p e = go (value_in tag word) refl e
-  where
-    go : (found : Option Datum) → value_in tag word ≡ found → appended region found ≡ Ok new
-        → Progress all left (n + 1) new b
-    go None is e = absurd (cc)
-    go (Some value) is e = progress-on value p is (λ values stands. stands-more b region new values value stands e)
+progress-more = grind (arith, progress-on, stands-more)
 
 pub progress-long : (all left : List (List ℕ)) (n : ℕ) (tag word region new : List ℕ) (b : Bool)
     → Progress all (tag ∷ word ∷ left) n region b →
     appended region (value_in tag word) ≡ Err faults.TooLong → Progress all left (n + 1) new true
-progress-long all left n tag word region new b p e = go (value_in tag word) refl e
-  where
-    go : (found : Option Datum) → value_in tag word ≡ found → appended region found ≡ Err faults.TooLong
-        → Progress all left (n + 1) new true
-    go None is e = absurd (cc)
-    go (Some value) is e = progress-on value p is (λ values stands. stands-long b region values value stands e)
+progress-long = grind (arith, progress-on, stands-long)
 
 -- ---- what the region is in the end
 
@@ -130,12 +120,7 @@ none_said = grind arith
 -- No value is spelled by nothing, so where nothing was appended there was no pair.
 pub progress-none : (all left : List (List ℕ)) (n : ℕ) (region : List ℕ) → Progress all left n region false → left ≡ []
     → region ≡ [] → all ≡ []
-progress-none all _ n _ p e none = go _ (p.said ∙ said-all _ n _ e) (sym p.stands.0 ∙ none)
-  where
-    go : (values : List Datum) → pairs_from 1 all ≡ Ok values → flat_map plain values ≡ [] → all ≡ []
-    go [] said same = none_said all said
-    go (value ∷ others) said same =
-        absurd (let size = ap length same in let some = plain_some value others in omega arith)
+progress-none = grind (arith, said-all, none_said, plain_some)
 
 pub progress-empty : (all left : List (List ℕ)) (n : ℕ) (region : List ℕ) → Progress all left n region false → left ≡ []
     → region ≡ [] → region_of all ≡ Err (Bad 1)

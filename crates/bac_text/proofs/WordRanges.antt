@@ -1,13 +1,10 @@
 -- The values that words write are within the ranges of their kinds, so they have spellings.
 use Rattle.std.{
-  proofs.Common.{◌≡◌, ℕ, ◌+◌, ◌≤◌, Bool, List, [], ◌∷◌, length, Option, Result, Ok, Err, refl, sym, ◌∙◌, arith},
-  proofs.{Common.length-append, lemmas.Bool.Decides.nat_tests},
+  proofs.Common.{◌≡◌, ℕ, ◌+◌, ◌≤◌, Bool, List, [], ◌∷◌, length, Option, Result, arith, length-append},
+  proofs.lemmas.Bool.Decides.nat_tests,
   specs.{Prelude.{◌==◌, if◌then◌else◌, option_map, IfSome, IfOk}, List.{AllByRecursion, flat_map}, Result.result_ok},
 }
-use Rattle.hex.{
-  proofs.HexLemmas.{decode_of-ok, decode_sized-ok, decode_sized-twice},
-  specs.{Hex.decode_sized, declared.error.FromHexError.FromHexError},
-}
+use Rattle.hex.{proofs.HexLemmas.{decode_of-ok, decode_sized-ok, decode_sized-twice}, specs.Hex.decode_sized}
 use Rattle.bac_wire.{specs.Datum.{Datum, signed, InRange, IsDatum, plain}, proofs.ShortestDatum.written_datum}
 use Rattle.bac_text.specs.{ValueWords.{signed_in, value_under}, Pairs.{value_before, pairs_from, values_in}}
 
@@ -21,15 +18,7 @@ signed_range _ = grind (arith, nat_tests)
 
 exactly_range : (count : ℕ) (word : List ℕ)
     → IfSome (result_ok (decode_sized word count)) (λ octets. length octets ≡ count)
-exactly_range count word = go (decode_sized word count) refl
-  where
-    go : (found : Result (List ℕ) FromHexError) → decode_sized word count ≡ found
-        → IfSome (result_ok found) (λ octets. length octets ≡ count)
-    go (Err fault) is = tt
-    go (Ok octets) is =
-        let digits = decode_sized-ok word count octets is in
-        let twice = (decode_of-ok word octets (sym (decode_sized-twice word count digits) ∙ is)).2 in
-        omega (arith, digits, twice)
+exactly_range = grind (arith, decode_sized-ok, decode_of-ok, decode_sized-twice)
 
 -- ---- any word
 

@@ -1,5 +1,4 @@
-use Rattle.std.proofs.Common.{refl}
-use Rattle.std.specs.Fmt.{digits}
+use Rattle.std.{proofs.Common.refl, specs.Fmt.digits}
 use Rattle.hex.specs.Hex.{encode_with}
 use Rattle.bac_print.proofs.examples.examples_of_peers.Goals as goal
 

@@ -1,8 +1,9 @@
-use Rattle.std.proofs.Common.{refl}
-use Rattle.std.specs.Fmt.{digits}
+use Rattle.std.{proofs.Common.refl, specs.Fmt.digits}
 use Rattle.hex.specs.Hex.{encode_with}
-use Rattle.bac_wire.specs.DatumReading.{contents_of, value_at, values_within}
-use Rattle.bac_wire.specs.TagReading.{tag_number_at, long_length_at, length_at, shape_at, tag_at}
+use Rattle.bac_wire.specs.{
+  DatumReading.{contents_of, value_at, values_within},
+  TagReading.{tag_number_at, long_length_at, length_at, shape_at, tag_at},
+}
 use Rattle.bac_print.proofs.examples.examples_of_regions.Goals as goal
 
 pub returns : goal.returns

@@ -1,6 +1,7 @@
-use Rattle.std.proofs.Common.{ℕ, ◌<◌, [], ◌∷◌, get_or, refl, arith}
-use Rattle.std.proofs.lemmas.List.FromFn.{fill_by_all}
-use Rattle.std.proofs.lemmas.Simd.{length-chunk, chunk-fits, Each1-get_or}
+use Rattle.std.proofs.{
+  Common.{ℕ, ◌<◌, [], ◌∷◌, get_or, refl, arith},
+  lemmas.{List.FromFn.fill_by_all, Simd.{length-chunk, chunk-fits, Each1-get_or}},
+}
 use mir.Syntax.{w8}
 use lib.Lanes.{chunk}
 use Rattle.hex.specs.Hex.{encode_with}
@@ -14,8 +15,7 @@ returns c =
     let long = length-chunk c.args.at 8 c.args.octets.now c.requires in
     let x = λ (k : ℕ). get_or v k 0 in
     let small = λ (k : ℕ) (h : k < 8).
-    (Each1-get_or _ v k 0 (omega (arith, long, h))
-    (chunk-fits w8 c.args.at 8 c.args.octets.now c.type_inv.octets)).fits in
+    (Each1-get_or _ v k 0 (omega (arith, long, h)) (chunk-fits w8 c.args.at 8 _ c.type_inv.octets)).fits in
     let high = λ (k : ℕ) (h : k < 8). high_digit (x k) (small k h) in
     let low = λ (k : ℕ). low_digit (x k) in
     rw (fill_by_all x v 8 0 long (λ k h. refl)) (λ i.

@@ -1,35 +1,31 @@
-use Rattle.std.proofs.Common.{arith}
-use Rattle.std.proofs.lemmas.List.{take_rest}
+use Rattle.std.proofs.{Common.arith, lemmas.List.take_rest}
 use Rattle.bac_print.proofs.Known.{Sent_more, Sent_all, unread_more}
 use Rattle.bac_print.proofs.page.put.Goals as goal
 
 -- the octets that a write took were sent too
 pub loop-rest-preserved : goal.loop-rest-preserved
 loop-rest-preserved g c =
-    let sent = Sent_more c.write.new.self c.write.result c.loop-rest.invariant.sent c.loop-rest.invariant.sound
+    let sent = Sent_more c.write.new.self _ c.loop-rest.invariant.sent c.loop-rest.invariant.sound
     (grind arith) c.write.ensures.asked c.write.ensures.bytes c.write.ensures.failed c.write.ensures.passed in
     record {
       sent = rw take_rest (rw c.in-Ok.is at sent);
       sound = grind arith;
-      reads = unread_more c.args.writer.now c.loop-rest.writer c.write.new.self c.loop-rest.invariant.reads
-          c.write.ensures.reads;
+      reads = unread_more c.args.writer.now _ _ c.loop-rest.invariant.reads c.write.ensures.reads;
     }
 
 -- a write that failed was asked for all that was left
 pub returns-in_default-clause-text : goal.returns-in_default-clause-text
 returns-in_default-clause-text g c =
-    let sent = Sent_more c.write.new.self c.write.result c.loop-rest.invariant.sent c.loop-rest.invariant.sound
+    let sent = Sent_more _ _ c.loop-rest.invariant.sent c.loop-rest.invariant.sound
     (grind arith) c.write.ensures.asked c.write.ensures.bytes c.write.ensures.failed c.write.ensures.passed in
     (sent.sent, _, sent.whole, sent.took)
 
 -- so was a write that took none
 pub returns-then-taken-eq0-clause-text : goal.returns-then-taken-eq0-clause-text
 returns-then-taken-eq0-clause-text g c =
-    let sent = Sent_more c.write.new.self c.write.result c.loop-rest.invariant.sent c.loop-rest.invariant.sound
+    let sent = Sent_more _ _ c.loop-rest.invariant.sent c.loop-rest.invariant.sound
     (grind arith) c.write.ensures.asked c.write.ensures.bytes c.write.ensures.failed c.write.ensures.passed in
     (sent.sent, _, sent.whole, sent.took)
 
 pub returns-clause-text : goal.returns-clause-text
-returns-clause-text g c =
-    Sent_all g.W.Write.contents c.args.writer.now c.loop-rest.writer c.args.text.now c.loop-rest.rest.now
-    c.loop-rest.invariant.sent (grind arith)
+returns-clause-text g c = Sent_all _ _ _ _ _ c.loop-rest.invariant.sent (grind arith)

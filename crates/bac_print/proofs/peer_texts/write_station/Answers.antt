@@ -1,5 +1,7 @@
-use Rattle.std.proofs.Common.{◌≡◌, ℕ, List, ◌∷◌, ◌++◌, get_or, decimal, sym, ◌∙◌, ap, append_assoc, append-nil, arith}
-use Rattle.std.proofs.Math.ListN.{drop_of_length-le}
+use Rattle.std.proofs.{
+  Common.{◌≡◌, ℕ, List, ◌∷◌, ◌++◌, get_or, decimal, sym, ◌∙◌, ap, append_assoc, append-nil, arith},
+  Math.ListN.drop_of_length-le,
+}
 use Rattle.bac_print.proofs.peer_texts.write_station.Goals as goal
 
 -- Four octets in decimal, joined by dots, a colon and a port.
@@ -12,20 +14,17 @@ stated octets port =
 joined : (a b c d p : List ℕ)
     → a ++ 46 ∷ (b ++ 46 ∷ (c ++ 46 ∷ (d ++ 58 ∷ p))) ≡ (a ++ 46 ∷ (b ++ 46 ∷ (c ++ 46 ∷ d))) ++ 58 ∷ p
 joined a b c d p =
-    sym (append_assoc a (46 ∷ (b ++ 46 ∷ (c ++ 46 ∷ d))) (58 ∷ p)
-    ∙ ap (λ (xs : List ℕ). a ++ 46 ∷ xs)
-    (append_assoc b (46 ∷ (c ++ 46 ∷ d)) (58 ∷ p)
-    ∙ ap (λ (xs : List ℕ). b ++ 46 ∷ xs) (append_assoc c (46 ∷ d) (58 ∷ p))))
+    sym (append_assoc a _ _ ∙ ap (λ (xs : List ℕ). a ++ 46 ∷ xs) (append_assoc b _ _
+    ∙ ap (λ (xs : List ℕ). b ++ 46 ∷ xs) (append_assoc c _ _)))
 
 pub returns-clause-text : goal.returns-clause-text
 returns-clause-text c =
     let octet = λ (i : ℕ). decimal (get_or c.to_be_bytes.result i 0) in
-    let none = drop_of_length-le c.args.room.now {i = 21} (omega (arith, c.told-room)) in
+    let none = drop_of_length-le c.args.room.now {i = 21} (omega arith) in
     let port =
     c.write_digits-start.ensures.digits ∙ ap (λ (xs : List ℕ). decimal c.from.result ++ xs) none
-    ∙ append-nil (decimal c.from.result) ∙ ap decimal c.from.ensures in
-    c.write_octet.ensures.text
-    ∙ ap (λ (xs : List ℕ). octet 0 ++ 46 ∷ xs) (c.write_octet-start-3.ensures.text
+    ∙ append-nil _ ∙ ap decimal c.from.ensures in
+    c.write_octet.ensures.text ∙ ap (λ (xs : List ℕ). octet 0 ++ 46 ∷ xs) (c.write_octet-start-3.ensures.text
     ∙ ap (λ (xs : List ℕ). octet 1 ++ 46 ∷ xs) (c.write_octet-start-2.ensures.text
     ∙ ap (λ (xs : List ℕ). octet 2 ++ 46 ∷ xs) (c.write_octet-start.ensures.text
     ∙ ap (λ (xs : List ℕ). octet 3 ++ 58 ∷ xs) port)))

@@ -1,14 +1,12 @@
-use Rattle.std.proofs.Common.{◌≡◌, false, arith}
-use Rattle.std.specs.Prelude.{◌==◌}
-use Rattle.std.proofs.lemmas.Bool.Decides.{nat_tests}
+use Rattle.std.{proofs.Common.{◌≡◌, false, arith}, specs.Prelude.◌==◌}
 use Rattle.bac_print.proofs.ValueTexts.{printed_in_braces, printed_octets}
 use Rattle.bac_print.proofs.page.Page.print_region.Goals as goal
 
 pub returns-in-Some : goal.returns-in-Some
 returns-in-Some g c =
-    let several : (c.in-Some.field-0 == 1) ≡ false = grind (arith, nat_tests, c.in-Some.field-0-test) in
-    printed_in_braces c.args.region.now c.in-Some.field-0 c.in-Some.ensures several c.print.ensures
+    let several : (c.in-Some.field-0 == 1) ≡ false = grind arith in
+    printed_in_braces _ _ c.in-Some.ensures several c.print.ensures
     c.print_values-in-Some.ensures c.print-in-Some.ensures
 
 pub returns-in-None : goal.returns-in-None
-returns-in-None g c = printed_octets c.args.region.now c.in-None.ensures c.print-in-None.ensures c.print_hex.ensures
+returns-in-None g c = printed_octets _ c.in-None.ensures c.print-in-None.ensures c.print_hex.ensures

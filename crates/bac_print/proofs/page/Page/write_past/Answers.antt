@@ -1,5 +1,4 @@
-use Rattle.bac_print.specs.Page.{Wrote}
-use Rattle.bac_print.proofs.Printed.{written_past}
+use Rattle.bac_print.{specs.Page.Wrote, proofs.Printed.written_past}
 use Rattle.bac_print.proofs.page.Page.write_past.Goals as goal
 
 pub returns : goal.returns

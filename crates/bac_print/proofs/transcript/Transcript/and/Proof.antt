@@ -1,13 +1,15 @@
 -- `and` picks what the new transcript tells. A walk by hand: see the head of `Walks`.
 use Rattle.bac_print.specs.Inner.Checked.{with_call}
-use Rattle.bac_print.proofs.Walks.{[], ◌∷◌, refl, proved, ‵, raw, ◌⊛◌, ◌$◌, ◌∵◌, !, qed, done, move, keep, split, fjoin}
-use Rattle.bac_print.proofs.Walks.{suffices, agg, enter, returns, no_more, alloc_all, pass_all, free_all, look_at, sets}
-use Rattle.bac_print.proofs.Walks.{yes, RefOf, owns, plain, types_at, named, named_lft, nothing, shr_vals, shr_Tells}
-use Rattle.bac_print.proofs.Walks.{alive, says, Stays, stay_dropped, ends_at, Goes-dropped, none, none_made}
+use Rattle.bac_print.proofs.{
+  Walks.{[], ◌∷◌, refl, proved, ‵, raw, ◌⊛◌, ◌$◌, ◌∵◌, !, qed, done, move, keep, split, fjoin, suffices, agg, enter},
+  Walks.{returns, no_more, alloc_all, pass_all, free_all, look_at, sets, yes, RefOf, owns, plain, types_at, named},
+  Walks.{named_lft, nothing, shr_vals, shr_Tells, alive, says, Stays, stay_dropped, ends_at, Goes-dropped, none},
+  Walks.none_made,
+  transcript.Transcript.and.Statement.statement,
+}
 use Rattle.bac_print.specs.contracts.transcript.Transcript as Transcript
 use Rattle.bac_print.specs.contracts.transcript.Made as Made
 use Rattle.bac_print.specs.contracts.transcript.Transcript.and as f
-use Rattle.bac_print.proofs.transcript.Transcript.and.Statement.{statement}
 use Rattle.bac_print.proofs.transcript.Transcript.and.Code as code
 
 abbrev stayed : Stays f.ended.signature.params f.ended.kept

@@ -1,10 +1,11 @@
 -- `new` picks that nothing was asked. A walk by hand: see the head of `Walks`.
 use Rattle.bac_print.specs.Checked.{nothing_passed}
-use Rattle.bac_print.proofs.Walks.{[], ◌∷◌, refl, proved, raw, ◌$◌, ◌∵◌, !, qed, done, drop, fjoin, suffices, agg}
-use Rattle.bac_print.proofs.Walks.{enter, returns, no_more, alloc_all, pass_all, free_all, look_at, sets, nothing}
-use Rattle.bac_print.proofs.Walks.{on_entry, says, ends_at, none, none_made}
+use Rattle.bac_print.proofs.{
+  Walks.{[], ◌∷◌, refl, proved, raw, ◌$◌, ◌∵◌, !, qed, done, drop, fjoin, suffices, agg, enter, returns, no_more},
+  Walks.{alloc_all, pass_all, free_all, look_at, sets, nothing, on_entry, says, ends_at, none, none_made},
+  transcript.Transcript.new.Statement.statement,
+}
 use Rattle.bac_print.specs.contracts.transcript.Transcript.new as f
-use Rattle.bac_print.proofs.transcript.Transcript.new.Statement.{statement}
 use Rattle.bac_print.proofs.transcript.Transcript.new.Code as code
 
 pub new_spec : {M : Type 1} → statement M
