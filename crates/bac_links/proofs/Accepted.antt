@@ -1,29 +1,25 @@
 -- A write that a device accepts is at a priority that there is; so its replies, one after another, are those of the
 -- definition.
-use Rattle.std.proofs.Common.{◌≡◌, ◌==◌, ◌&&◌, ℕ, Bool, true, false, not, List, [], ◌∷◌, ◌++◌, Option, Some, None}
-use Rattle.std.proofs.Common.{Result, Ok, Err, IfSome, refl, ap, ◌∙◌, subst, arith, inl, inr}
-use Rattle.std.specs.Prelude.{is_some, is_none, if◌then◌else◌}
-use Rattle.std.specs.Option.{ok_or, option_and_then, option_to_list}
-use Rattle.std.specs.Result.{result_ok}
-use Rattle.std.proofs.lemmas.Bool.{cases_Bool}
-use Rattle.bac_pdu.specs.Peer.{Station}
-use Rattle.bac_pdu.specs.declared.apdu.Part.{Part}
-use Rattle.bac_pdu.specs.Apdu.{Message, confirmed}
-use Rattle.bac_pdu.specs.ApduReading.{apdu_of}
-use Rattle.bac_pdu.specs.DatagramReading.{carried}
-use Rattle.bac_pdu.specs.Property.{Order, IsPriority}
-use Rattle.bac_pdu.specs.PropertyReading.{write_of}
-use Rattle.bac_pdu.proofs.WriteLaws.{write_is}
-use Rattle.bac_pdu.specs.Steps.{◌>>=◌}
-use Rattle.bac_device.specs.Info.{Info}
-use Rattle.bac_device.specs.Point.{Description}
-use Rattle.bac_device.specs.Places.{Write, Standing, written_value}
-use Rattle.bac_device.specs.Inner.Places.{IsUrgent}
-use Rattle.bac_device.specs.Device.{DeviceState, points_of, device_after, Holds}
-use Rattle.bac_device.specs.Reply.{property_of, commanded_point, urgency, ordered_write, accepted_write, write_in_body}
-use Rattle.bac_device.specs.Reply.{write_in_request, write_in_message, write_in_apdu, write_in_datagram, reply_to}
-use Rattle.bac_device.specs.Reply.{writes_after}
-use Rattle.bac_device.specs.Turns.{Arrival, AreDefined, all_writes, replies_to}
+use Rattle.std.{
+  proofs.Common.{◌≡◌, ◌==◌, ◌&&◌, ℕ, Bool, true, false, not, List, [], ◌∷◌, ◌++◌, Option, Some, None, Result, Ok, Err},
+  proofs.{Common.{IfSome, refl, ap, ◌∙◌, subst, arith, inl, inr}, lemmas.Bool.cases_Bool},
+  specs.{Prelude.{is_some, is_none, if◌then◌else◌}, Option.{ok_or, option_and_then, option_to_list}, Result.result_ok},
+}
+use Rattle.bac_pdu.{
+  specs.{Peer.Station, declared.apdu.Part.Part, Apdu.{Message, confirmed}, ApduReading.apdu_of},
+  specs.{DatagramReading.carried, Property.{Order, IsPriority}, PropertyReading.write_of, Steps.◌>>=◌},
+  proofs.WriteLaws.write_is,
+}
+use Rattle.bac_device.specs.{
+  Info.Info,
+  Point.Description,
+  Places.{Write, Standing, written_value},
+  Inner.Places.IsUrgent,
+  Device.{DeviceState, points_of, device_after, Holds},
+  Reply.{property_of, commanded_point, urgency, ordered_write, accepted_write, write_in_body, write_in_request},
+  Reply.{write_in_message, write_in_apdu, write_in_datagram, reply_to, writes_after},
+  Turns.{Arrival, AreDefined, all_writes, replies_to},
+}
 use Rattle.bac_device.proofs.StateLaws.{points_after, write_held, after_holds}
 use Rattle.bac_links.specs.Serve.{device_next, device_behind, replies_of}
 

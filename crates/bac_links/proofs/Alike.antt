@@ -1,19 +1,17 @@
 -- Two calls that are answered alike ask alike, end alike, and print one line.
 use Rattle.std.proofs.Common.{◌≡◌, ◌≢◌, ℕ, List, [], Option, Result, Ok, Err, refl, sym, ap, ◌∙◌, subst}
-use Rattle.bac_print.specs.declared.checked.Checked.{Checked}
-use Rattle.bac_print.specs.Checked.{Took}
-use Rattle.bac_print.proofs.Known.{Took-none}
-use Rattle.bac_links.specs.History.{Account}
-use Rattle.bac_links.specs.Answered.{AskAlike, Printed, OneText}
-use Rattle.bac_links.specs.Asking.{Plays}
-use Rattle.bac_links.specs.Ending.{ending_line, exit_of}
-use Rattle.bac_links.specs.Call.{Comes, move, Calls, Tells}
-use Rattle.bac_links.specs.declared.ending.Purpose.{Purpose}
-use Rattle.bac_links.specs.declared.ending.Exit.{Exit}
-use Rattle.bac_links.specs.declared.fault.ToolFault.{ToolFault}
-use Rattle.bac_links.specs.declared.fault.ToolFault.TheVariants.{SendFailed, ReceiveFailed, TurnsSpent, WriteFailed}
-use Rattle.bac_text.specs.declared.jobs.Call.{Call}
+use Rattle.bac_print.{specs.{declared.checked.Checked.Checked, Checked.Took}, proofs.Known.Took-none}
+use Rattle.bac_links.specs.{
+  History.Account,
+  Answered.{AskAlike, Printed, OneText},
+  Asking.Plays,
+  Ending.{ending_line, exit_of},
+  Call.{Comes, move, Calls, Tells},
+  declared.{ending.Purpose.Purpose, ending.Exit.Exit, fault.ToolFault.ToolFault},
+  declared.fault.ToolFault.TheVariants.{SendFailed, ReceiveFailed, TurnsSpent, WriteFailed},
+}
 use Rattle.bac_links.proofs.Asking.{to_the_end}
+use Rattle.bac_text.specs.declared.jobs.Call.{Call}
 
 module _ (purpose : Purpose) (call : Call) where
   abbrev pub result_of : Comes → Result Exit ToolFault

@@ -1,20 +1,20 @@
 -- Who asks by his moves, and is answered alike, asks alike.
-use Rattle.std.proofs.Common.{◌≡◌, ℕ, ◌+◌, ◌<◌, ◌≤◌, List, [], ◌∷◌, ◌++◌, append_assoc, Option, Some, Result, Err}
-use Rattle.std.proofs.Common.{refl, sym, ap, ◌∙◌, subst, arith}
-use Rattle.std.proofs.lemmas.Bool.{lt-ltb, le-ltb}
-use Rattle.std.proofs.lemmas.List.{append_cancel_left, append-nil}
-use Rattle.std.specs.List.{last_or}
-use Rattle.bac_links.specs.History.{Entry, Waited, Timed, Posted, Unposted, Account}
-use Rattle.bac_links.specs.Answered.{answer_of, answers_of, GoOnAlike}
-use Rattle.bac_links.specs.Asking.{Move, Asks, Ends, ForDatagram, question_of, Follows, Plays, waits_in, times_in}
-use Rattle.bac_links.specs.Asking.{turn_after}
-use Rattle.bac_links.specs.Limits.{most_turns}
-use Rattle.bac_links.specs.declared.fault.ToolFault.{ToolFault}
-use Rattle.bac_links.specs.declared.fault.ToolFault.TheVariants.{TurnsSpent}
+use Rattle.std.{
+  proofs.Common.{◌≡◌, ℕ, ◌+◌, ◌<◌, ◌≤◌, List, [], ◌∷◌, ◌++◌, append_assoc, Option, Some, Result, Err, refl, sym, ap},
+  proofs.{Common.{◌∙◌, subst, arith}, lemmas.Bool.{lt-ltb, le-ltb}, lemmas.List.{append_cancel_left, append-nil}},
+  specs.List.last_or,
+}
+use Rattle.bac_links.specs.{
+  History.{Entry, Waited, Timed, Posted, Unposted, Account},
+  Answered.{answer_of, answers_of, GoOnAlike},
+  Asking.{Move, Asks, Ends, ForDatagram, question_of, Follows, Plays, waits_in, times_in, turn_after},
+  Limits.most_turns,
+  declared.fault.{ToolFault.ToolFault, ToolFault.TheVariants.TurnsSpent},
+}
 
 pub last_push : {A : Type 0} (o : Option A) (xs : List A) (x : A) → last_or o (xs ++ x ∷ []) ≡ Some x
 last_push o [] x = refl
-last_push o (y ∷ xs) x = last_push (Some y) xs x
+last_push o (y ∷ xs) x = last_push _ xs x
 
 pub waits_push : (more : List Entry) (x : Entry) → waits_in (more ++ x ∷ []) ≡ waits_in more + waits_in (x ∷ [])
 waits_push [] x = omega arith
@@ -35,10 +35,10 @@ module _ {X : Type 0} (wait n : ℕ) where
   turn = turn_after wait n
 
   pub turn_begins : n < most_turns → turn ≡ Asks (ForDatagram wait)
-  turn_begins within = rw (lt-ltb n most_turns within) refl
+  turn_begins within = rw (lt-ltb n _ within) refl
 
   pub turns_over : most_turns ≤ n → turn ≡ Ends (Err TurnsSpent)
-  turns_over over = rw (le-ltb n most_turns over) refl
+  turns_over over = rw (le-ltb n _ over) refl
 
 -- What was asked and what was answered make the entry.
 one_entry : (x y : Entry) → question_of x ≡ question_of y → answer_of x ≡ answer_of y → x ≡ y
@@ -55,31 +55,30 @@ asks_one m x y p q = let e = sym p ∙ q in cc
 module _ {R : Type 0} (move : List Entry → Move R) where
   pub follows_push : (before xs : List Entry) (x : Entry) → Follows move before xs
       → move (before ++ xs) ≡ Asks (question_of x) → Follows move before (xs ++ x ∷ [])
-  follows_push before [] x follows due = (ap move (sym (append-nil before)) ∙ due, tt)
-  follows_push before (y ∷ xs) x follows due = (
+  follows_push _ [] x _ due = (ap move (sym (append-nil _)) ∙ due, tt)
+  follows_push _ (y ∷ xs) x follows due = (
     follows.0,
-    follows_push (before ++ y ∷ []) xs x follows.1 (ap move (append_assoc before (y ∷ []) xs) ∙ due),
+    follows_push _ xs x follows.1 (ap move (append_assoc _ _ xs) ∙ due),
   )
 
   follows_behind : (before xs ys : List Entry) → Follows move before (xs ++ ys) → Follows move (before ++ xs) ys
-  follows_behind before [] ys follows = subst (λ (b : List Entry). Follows move b ys) (sym (append-nil before)) follows
-  follows_behind before (x ∷ xs) ys follows =
-      subst (λ (b : List Entry). Follows move b ys) (append_assoc before (x ∷ []) xs)
-      (follows_behind (before ++ x ∷ []) xs ys follows.1)
+  follows_behind _ [] ys follows = subst (λ (b : List Entry). Follows move b ys) (sym (append-nil _)) follows
+  follows_behind _ (x ∷ xs) ys follows =
+      subst (λ (b : List Entry). Follows move b ys) (append_assoc _ _ xs) (follows_behind _ xs ys follows.1)
 
   -- As far as they were answered alike they asked alike.
   pub same_so_far : (before first other rest other_rest : List Entry) → Follows move before (first ++ rest)
       → Follows move before (other ++ other_rest) → answers_of first ≡ answers_of other → first ≡ other
-  same_so_far before [] [] rest other_rest p q e = refl
+  same_so_far _ [] [] _ _ p q e = refl
   same_so_far before (x ∷ first) (y ∷ other) rest other_rest p q e =
       let answer : answer_of x ≡ answer_of y = cc in
       let later : answers_of first ≡ answers_of other = cc in
-      let same = one_entry x y (asks_one (move before) x y p.0 q.0) answer in
+      let same = one_entry x y (asks_one _ x y p.0 q.0) answer in
       let q' = subst (λ (z : Entry). Follows move (before ++ z ∷ []) (other ++ other_rest)) (sym same) q.1 in
       let all = same_so_far (before ++ x ∷ []) first other rest other_rest p.1 q' later in
       (λ i. same i ∷ all i)
-  same_so_far before [] (y ∷ other) rest other_rest p q e = cc
-  same_so_far before (x ∷ first) [] rest other_rest p q e = cc
+  same_so_far _ [] (y ∷ other) _ _ p q e = cc
+  same_so_far _ (x ∷ first) [] _ _ p q e = cc
 
   -- And so they go on.
   module _ {A : Type 0} (IsCutOff : A → Type 0) (EndAlike PrintAlike : A → A → Type 0)
@@ -90,21 +89,20 @@ module _ {R : Type 0} (move : List Entry → Move R) where
     go_on : (xs ys : List Entry) → rest ≡ xs → other_rest ≡ ys → Follows move first xs → Follows move first ys
         → GoOnAlike IsCutOff EndAlike PrintAlike r s xs ys
     go_on [] [] e f p q = ends e f
-    go_on (x ∷ xs) (y ∷ ys) e f p q = asks_one (move first) x y p.0 q.0
+    go_on (x ∷ xs) (y ∷ ys) e f p q = asks_one _ x y p.0 q.0
     go_on [] (y ∷ ys) e f p q = cut e y q.0
     go_on (x ∷ xs) [] e f p q = other_cut f x p.0
 
     pub so_far : (other : List Entry) → first ≡ other → Follows move [] (first ++ rest)
         → Follows move [] (other ++ other_rest) → GoOnAlike IsCutOff EndAlike PrintAlike r s rest other_rest
-    so_far other one p q =
-        go_on rest other_rest refl refl (follows_behind [] first rest p)
-        (subst (λ (b : List Entry). Follows move b other_rest) (sym one) (follows_behind [] other other_rest q))
+    so_far _ one p q =
+        go_on rest _ refl refl (follows_behind [] _ rest p)
+        (subst (λ (b : List Entry). Follows move b other_rest) (sym one) (follows_behind [] _ _ q))
 
 -- What was gained, by a history as it stands.
 pub played : {R : Type 0} (move : List Entry → Move R) (seen left : Account) (result : R) (gained : List Entry)
     → (plays : Plays move seen left result) → left.history ≡ seen.history ++ gained → plays.gained ≡ gained
-played move seen left result gained plays gains =
-    append_cancel_left seen.history _ _ (ap (λ (s : Account). s.history) (sym plays.gains) ∙ gains)
+played _ _ _ _ _ plays gains = append_cancel_left _ _ _ (ap (λ (s : Account). s.history) (sym plays.gains) ∙ gains)
 
 -- Two that play to their ends: they stop together.
 module _ {R A : Type 0} (move : List Entry → Move R) (EndAlike PrintAlike : A → A → Type 0)
@@ -116,22 +114,21 @@ module _ {R A : Type 0} (move : List Entry → Move R) (EndAlike PrintAlike : A 
       → other_left.history ≡ other_seen.history ++ (other ++ other_rest) → answers_of first ≡ answers_of other
       → (first ≡ other) × GoOnAlike (λ r. ⊥) EndAlike PrintAlike r s rest other_rest
   to_the_end gains other_gains same =
-      let here = played move seen left c (first ++ rest) plays gains in
+      let here = played move seen left c _ plays gains in
       let there = played move other_seen other_left d (other ++ other_rest) others other_gains in
       let p = subst (Follows move []) here plays.follows in
       let q = subst (Follows move []) there others.follows in
-      let one = same_so_far move [] first other rest other_rest p q same in
+      let one = same_so_far move [] _ _ rest _ p q same in
       let over : rest ≡ [] → move first ≡ Ends c = λ none.
-      ap move (sym (append-nil first) ∙ sym (ap (λ (xs : List Entry). first ++ xs) none) ∙ sym here) ∙ plays.over in
+      ap move (sym (append-nil _) ∙ sym (ap (λ (xs : List Entry). first ++ xs) none) ∙ sym here) ∙ plays.over in
       let other_over : other_rest ≡ [] → move first ≡ Ends d = λ none.
-      ap move (one ∙ sym (append-nil other) ∙ sym (ap (λ (xs : List Entry). other ++ xs) none) ∙ sym there)
+      ap move (one ∙ sym (append-nil _) ∙ sym (ap (λ (xs : List Entry). other ++ xs) none) ∙ sym there)
       ∙ others.over in (
         one,
-        so_far move (λ r. ⊥) EndAlike PrintAlike first rest other_rest r s
-            (λ none x asks. absurd (never c x (over none) asks))
+        so_far move (λ r. ⊥) EndAlike PrintAlike _ rest _ r s (λ none x asks. absurd (never c x (over none) asks))
             (λ none x asks. absurd (never d x (other_over none) asks))
             (λ none other_none. ends (both (over none) (other_over other_none)) here there none other_none one)
-            other one p q,
+            _ one p q,
       )
     where
       never : (e : R) (x : Entry) → move first ≡ Ends e → move first ≡ Asks (question_of x) → ⊥

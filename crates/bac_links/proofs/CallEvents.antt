@@ -1,34 +1,38 @@
 -- What the look-ahead says of the events of a call, one event after another.
-use Rattle.std.proofs.Common.{◌≡◌, ℕ, zero, suc, ◌-◌, ◌<◌, ◌≤◌, List, [], ◌∷◌, ◌++◌, flat_map, length, Option, Some}
-use Rattle.std.proofs.Common.{None, Result, Ok, slice_get, false, nat_lt, refl, sym, ap, ◌∙◌, arith, inl, inr, subst}
-use Rattle.std.proofs.lemmas.List.{append-nil, length_push, take-append-le}
-use Rattle.std.proofs.lemmas.List.Concat.{flat_map-append}
-use Rattle.std.proofs.lemmas.List.Elements.{All-nil, All-cons, All-append}
-use Rattle.std.proofs.lemmas.Option.{slice_get_within, get_or_from_slice_get}
-use Rattle.std.proofs.lemmas.Bool.{cases_eq, cases_lt}
-use Rattle.std.proofs.lemmas.Bool.Decides.{nat_tests}
-use Rattle.std.proofs.Math.Seq.{take-append_seam}
+use Rattle.std.proofs.{
+  Common.{◌≡◌, ℕ, zero, suc, ◌-◌, ◌<◌, ◌≤◌, List, [], ◌∷◌, ◌++◌, flat_map, length, Option, Some, None, Result, Ok},
+  Common.{slice_get, false, nat_lt, refl, sym, ap, ◌∙◌, arith, inl, inr, subst},
+  lemmas.{List.{append-nil, length_push, take-append-le}, List.Concat.flat_map-append},
+  lemmas.{List.Elements.{All-nil, All-cons, All-append}, Option.{slice_get_within, get_or_from_slice_get}},
+  lemmas.{Bool.{cases_eq, cases_lt}, Bool.Decides.nat_tests},
+  Math.Seq.take-append_seam,
+}
 use Rattle.std.specs.List.{All}
-use Rattle.bac_pdu.specs.Peer.{station}
-use Rattle.bac_pdu.specs.Apdu.{longest_body}
-use Rattle.bac_tsm.specs.Events.{Outcome, Event, Ask, Data, Tick, Note, Dropped, Rules, Request}
-use Rattle.bac_tsm.specs.Lookahead.{Accepted, End, accepted, accepted_at, end, end_notes, or_dropped, send_notes}
-use Rattle.bac_tsm.specs.Lookahead.{next_invoke_id, refusal_of, output, notes_on, is_tick}
-use Rattle.bac_tsm.specs.Machine.{State, Stepped, Answered, Run, step, initial, folded, submit, tick, sent}
-use Rattle.bac_tsm.specs.declared.client.SubmitFault.{SubmitFault}
-use Rattle.bac_tsm.specs.Laws.{AnswersByNumber, state_at, waiting_at}
-use Rattle.bac_tsm.specs.Client.{Client, rules_of, keeping}
-use Rattle.bac_tsm.proofs.Laws.{drop_head, one_step, run_first, run_whole, both_are, looks_back, past_unended}
-use Rattle.bac_tsm.proofs.Laws.{early_unended, early_unsent, quiet_unsent, sent_first, by_number, few_open}
-use Rattle.bac_links.specs.Call.{post_in, rules_for, service_of, asked, end_in, sent_last, IsAccepted}
-use Rattle.bac_links.specs.Inner.CallSteps.{posts, begun_at, ending_in, endings, AsksNothing, IsAlone, CarriesOn}
-use Rattle.bac_links.specs.declared.ending.Purpose.{Purpose}
+use Rattle.bac_pdu.specs.{Peer.station, Apdu.longest_body}
+use Rattle.bac_tsm.specs.{
+  Events.{Outcome, Event, Ask, Data, Tick, Note, Dropped, Rules, Request},
+  Lookahead.{Accepted, End, accepted, accepted_at, end, end_notes, or_dropped, send_notes, next_invoke_id, refusal_of},
+  Lookahead.{output, notes_on, is_tick},
+  Machine.{State, Stepped, Answered, Run, step, initial, folded, submit, tick, sent},
+  declared.client.SubmitFault.SubmitFault,
+  Laws.{AnswersByNumber, state_at, waiting_at},
+  Client.{Client, rules_of, keeping},
+}
+use Rattle.bac_tsm.proofs.{
+  Laws.{drop_head, one_step, run_first, run_whole, both_are, looks_back, past_unended, early_unended, early_unsent},
+  Laws.{quiet_unsent, sent_first, by_number, few_open},
+}
+use Rattle.bac_links.specs.{
+  Call.{post_in, rules_for, service_of, asked, end_in, sent_last, IsAccepted},
+  Inner.CallSteps.{posts, begun_at, ending_in, endings, AsksNothing, IsAlone, CarriesOn},
+  declared.ending.Purpose.Purpose,
+}
 use Rattle.bac_text.specs.declared.jobs.Call.{Call}
 
 -- ---- one more event at the end of any list
 
 slice_get-last : (events : List Event) (event : Event) → slice_get (events ++ event ∷ []) (length events) ≡ Some event
-slice_get-last [] event = refl
+slice_get-last [] _ = refl
 slice_get-last (x ∷ events) event = slice_get-last events event
 
 module _ (rules : Rules) (by_number : AnswersByNumber rules) (small : rules.most_open ≤ 255) (events : List Event)
@@ -81,7 +85,7 @@ module _ (purpose : Purpose) (call : Call) (time : ℕ) where
   accepted_is : (later : List Event) → length call.body.items ≤ longest_body → All AsksNothing later → (j : ℕ) →
       accepted (rules_for call) 0 (begun_at purpose call time later) (suc (suc j)) ≡ asked purpose call ∷ []
   unfolding refusal_of next_invoke_id
-  accepted_is later short quiet zero = rw (fitting short) refl
+  accepted_is _ short quiet zero = rw (fitting short) refl
   accepted_is later short quiet (suc j) =
       let before = accepted_is later short quiet j in
       rw (
@@ -93,24 +97,24 @@ module _ (purpose : Purpose) (call : Call) (time : ℕ) where
 -- ---- the ends and the sends among notes
 
 endings_sent : (rules : Rules) (events : List Event) (i : ℕ) (a : Accepted) → endings (send_notes rules events i a) ≡ []
-endings_sent rules events i a = grind arith
+endings_sent _ _ i a = grind arith
 
 posts_ended : (i : ℕ) (request : Request) (e : Option End) → posts (end_notes i request e) ≡ []
-posts_ended i request e = grind arith
+posts_ended i _ e = grind arith
 
 not_silent : (request : Request) (x : Option End) (y : End) → x ≡ Some y → endings (end_notes y.position request x) ≡ []
     → ⊥
-not_silent request x y e none = grind (arith, nat_tests, e, none)
+not_silent _ x y e none = grind (arith, nat_tests, e, none)
 
 none_if : (x : Option End) → ((y : End) → x ≡ Some y → ⊥) → x ≡ None
-none_if None never = refl
+none_if None _ = refl
 none_if (Some y) never = absurd (never y refl)
 
 -- And an end that is told at this position is there.
 ended_there : (i : ℕ) (request : Request) (x : Option End) (o : Option Outcome)
     → endings (end_notes i request x) ≡ o ∷ [] →
     x ≡ Some (record { position = i; outcome = o })
-ended_there i request x o e = grind (arith, nat_tests, e)
+ended_there i _ x o e = grind (arith, nat_tests, e)
 
 -- ---- what is told at a position
 
@@ -120,11 +124,11 @@ placed rules events i a = send_notes rules events i a ++ end_notes i a.request (
 
 sends_placed : (rules : Rules) (events : List Event) (i : ℕ) (a : Accepted)
     → posts (placed rules events i a) ≡ posts (send_notes rules events i a)
-sends_placed rules events i a = simp (flat_map-append, posts_ended, append-nil)
+sends_placed _ _ i a = simp (flat_map-append, posts_ended, append-nil)
 
 ends_placed : (rules : Rules) (events : List Event) (i : ℕ) (a : Accepted)
     → endings (placed rules events i a) ≡ endings (end_notes i a.request (end rules events a))
-ends_placed rules events i a = simp (flat_map-append, endings_sent)
+ends_placed _ _ i a = simp (flat_map-append, endings_sent)
 
 -- The sends and the ends that are told at position i are those that are placed there.
 record TellsPlaced (rules : Rules) (events : List Event) (a : Accepted) (i : ℕ) : Type 0 where
@@ -134,7 +138,7 @@ record TellsPlaced (rules : Rules) (events : List Event) (a : Accepted) (i : ℕ
 -- What is read of notes, where nothing is read of a dropped datagram.
 module _ {X : Type 0} (read : Note → List X) (silent : read Dropped ≡ []) where
   dropped : (notes : List Note) → flat_map read (or_dropped notes) ≡ flat_map read notes
-  dropped notes = grind (arith, silent)
+  dropped _ = grind (arith, silent)
 
   -- Where one request was accepted before, a later event tells what is placed there.
   news_told : (rules : Rules) (events : List Event) (i : ℕ) (a : Accepted) → accepted rules 0 events i ≡ a ∷ []
@@ -175,12 +179,12 @@ module _ (purpose : Purpose) (call : Call) (time : ℕ) (later : List Event)
       flat_map read (output (rules_for call) 0 all i)
       ≡ flat_map read (placed (rules_for call) all i (asked purpose call))
   unfolding refusal_of next_invoke_id
-  told_at read silent zero event e =
+  told_at _ silent zero _ e =
       rw (
         early_unsent (rules_for call) all (asked purpose call) 0 (omega arith),
         early_unended (rules_for call) all (asked purpose call) 0 (omega arith),
       ) refl
-  told_at read silent (suc zero) event e =
+  told_at _ silent (suc zero) _ e =
       rw (
         sent_first (rules_for call) all (asked purpose call),
         early_unended (rules_for call) all (asked purpose call) 1 (omega arith),
@@ -261,7 +265,7 @@ module _ (purpose : Purpose) (call : Call) (time : ℕ) (later : List Event)
         absurd (not_silent (asked purpose call).request (end_in purpose call after) x e none)
   ]
 
-module _ (purpose : Purpose) (call : Call) (time : ℕ) (later : List Event) (client : Client)
+module _ {purpose : Purpose} {call : Call} {time : ℕ} {later : List Event} {client : Client}
     (far : CarriesOn purpose call time later client) (event : Event) (news : AsksNothing event) where
   abbrev handed : Stepped
   handed = step (rules_of client) client.state event
@@ -297,7 +301,7 @@ module _ (purpose : Purpose) (call : Call) (time : ℕ) (later : List Event) (cl
   -- Without an end the call goes on.
   pub carries_on : endings handed.notes ≡ [] → (left : Client) → left ≡ keeping client handed.after
       → CarriesOn purpose call time (later ++ event ∷ []) left
-  carries_on none left e = record {
+  carries_on none _ e = record {
     short = far.short;
     quiet = quiet_after purpose call time later far.short far.quiet event news;
     unended = none_if (end_in purpose call next) (λ x e.
@@ -317,9 +321,9 @@ module _ (purpose : Purpose) (call : Call) (time : ℕ) (later : List Event) (cl
       ended_there (length begun) (asked purpose call).request (end_in purpose call next) o (sym ends_told ∙ one)
 
 -- One request is open in a call.
-pub carried_alone : (purpose : Purpose) (call : Call) (time : ℕ) (later : List Event) (client : Client)
+pub carried_alone : {purpose : Purpose} {call : Call} {time : ℕ} {later : List Event} {client : Client}
     → CarriesOn purpose call time later client → IsAlone client.state
-carried_alone purpose call time later client far = (
+carried_alone {purpose} {call} {time} {later} far = (
   waiting_at (rules_for call) (begun_at purpose call time later) (length (begun_at purpose call time later))
       (asked purpose call),
   ap (λ c. c.state.waiting) far.client_is

@@ -1,48 +1,44 @@
 -- One turn of a call; and how the call ends, or fails.
-use Rattle.std.proofs.Common.{◌≡◌, ◌≢◌, ◌⊎◌, ℕ, suc, ◌<◌, ◌≤◌, List, [], ◌∷◌, ◌++◌, length, Option, Some, None}
-use Rattle.std.proofs.Common.{Result, Ok, Err, IfOk, IfErr, true, false, nat_eq, inl, inr, refl, sym}
-use Rattle.std.proofs.Common.{ap, ◌∙◌, arith, append_assoc, subst, All}
-use Rattle.std.proofs.lemmas.Bool.{cases_Bool}
-use Rattle.std.proofs.lemmas.List.{append-nil}
-use Rattle.std.proofs.lemmas.List.Concat.{flat_map-append}
-use Rattle.std.proofs.lemmas.List.Elements.{All-nil, All-cons}
+use Rattle.std.proofs.{
+  Common.{◌≡◌, ◌≢◌, ◌⊎◌, ℕ, suc, ◌<◌, ◌≤◌, List, [], ◌∷◌, ◌++◌, length, Option, Some, None, Result, Ok, Err, IfOk},
+  Common.{IfErr, true, false, nat_eq, inl, inr, refl, sym, ap, ◌∙◌, arith, append_assoc, subst, All},
+  lemmas.{Bool.cases_Bool, List.append-nil, List.Concat.flat_map-append, List.Elements.{All-nil, All-cons}},
+}
 use Rattle.std.specs.List.{list_any}
-use Rattle.bac_pdu.specs.Peer.{Station}
-use Rattle.bac_pdu.specs.Apdu.{longest_body}
-use Rattle.bac_tsm.specs.Events.{Outcome, Event, Data, Tick, Rules}
-use Rattle.bac_tsm.specs.Lookahead.{Accepted, End, send_notes, sends}
-use Rattle.bac_tsm.specs.Machine.{State, Stepped, to_send, sent, is_due, tick, step}
-use Rattle.bac_tsm.specs.Client.{Client, rules_of, keeping}
-use Rattle.bac_print.specs.declared.checked.Checked.{Checked}
-use Rattle.bac_print.specs.Checked.{TookOrFailed}
-use Rattle.bac_links.specs.Limits.{most_turns}
-use Rattle.bac_links.specs.History.{Heard, Silence, Arrival, Failure, Entry, Waited, Timed, Posted, Unposted, Account}
-use Rattle.bac_links.specs.History.{GainsAll, Gains}
-use Rattle.bac_links.specs.Ending.{ending_line, exit_of}
-use Rattle.bac_links.specs.Asking.{Move, Asks, Ends, ForTime, ToSend, question_of, Follows, waits_in}
-use Rattle.bac_links.specs.Asking.{turn_after}
-use Rattle.bac_links.specs.Handed.{handed, handed_of}
-use Rattle.bac_links.specs.Call.{rules_for, asked, events_of, end_in, sent_last, IsAccepted, Comes}
-use Rattle.bac_links.specs.Call.{or_ended, or_sent, move_behind, move, Calls, Tells}
-use Rattle.bac_links.specs.Inner.CallSteps.{posts, wait_of, begun_at}
-use Rattle.bac_links.specs.Inner.CallSteps.{endings, GainsLost, heard_step, timeouts, AsksNothing, IsAlone, CarriesOn}
-use Rattle.bac_links.specs.Inner.CallSteps.{Underway}
-use Rattle.bac_links.specs.declared.ending.Purpose.{Purpose}
+use Rattle.bac_pdu.specs.{Peer.Station, Apdu.longest_body}
+use Rattle.bac_tsm.specs.{
+  Events.{Outcome, Event, Data, Tick, Rules},
+  Lookahead.{Accepted, End, send_notes, sends},
+  Machine.{State, Stepped, to_send, sent, is_due, tick, step},
+  Client.{Client, rules_of, keeping},
+}
+use Rattle.bac_print.specs.{declared.checked.Checked.Checked, Checked.TookOrFailed}
+use Rattle.bac_links.specs.{
+  Limits.most_turns,
+  History.{Heard, Silence, Arrival, Failure, Entry, Waited, Timed, Posted, Unposted, Account, GainsAll, Gains},
+  Ending.{ending_line, exit_of},
+  Asking.{Move, Asks, Ends, ForTime, ToSend, question_of, Follows, waits_in, turn_after},
+  Handed.{handed, handed_of},
+  Call.{rules_for, asked, events_of, end_in, sent_last, IsAccepted, Comes, or_ended, or_sent, move_behind, move, Calls},
+  Call.Tells,
+  Inner.CallSteps.{posts, wait_of, begun_at, endings, GainsLost, heard_step, timeouts, AsksNothing, IsAlone, CarriesOn},
+  Inner.CallSteps.Underway,
+  declared.{ending.Purpose.Purpose, ending.Exit.Exit, fault.ToolFault.ToolFault},
+  declared.fault.ToolFault.TheVariants.{SendFailed, ReceiveFailed, TurnsSpent, WriteFailed},
+}
+use Rattle.bac_links.proofs.{
+  Asking.{last_push, follows_push, waits_push, turn_begins, turns_over},
+  Histories.gains_both,
+  CallEvents.{is_accepted, carries_on, ends_next, sends_next, carried_alone, submitted, begins, begins_sent},
+}
 use Rattle.bac_text.specs.declared.jobs.Call.{Call}
-use Rattle.bac_links.specs.declared.ending.Exit.{Exit}
-use Rattle.bac_links.specs.declared.fault.ToolFault.{ToolFault}
-use Rattle.bac_links.specs.declared.fault.ToolFault.TheVariants.{SendFailed, ReceiveFailed, TurnsSpent, WriteFailed}
-use Rattle.bac_links.proofs.Asking.{last_push, follows_push, waits_push, turn_begins, turns_over}
-use Rattle.bac_links.proofs.Histories.{gains_both}
-use Rattle.bac_links.proofs.CallEvents.{is_accepted, carries_on, ends_next, sends_next, carried_alone}
-use Rattle.bac_links.proofs.CallEvents.{submitted, begins, begins_sent}
 
 -- ---- one open request
 
 -- An open request is one send.
 pub one_post : (state : State) (ticket : ℕ) (to : Station × List ℕ) → Some to ≡ to_send state ticket
     → posts (sent state ticket) ≡ Posted to.0 to.1 ∷ []
-one_post state ticket to e = rw (← e) refl
+one_post _ _ to e = rw (← e) refl
 
 -- Where one request is open and a tick ends it, the tick sends nothing.
 unsent_at_end : (rules : Rules) (state : State) (now : ℕ) → IsAlone state →
@@ -82,7 +78,7 @@ quiet_handed (Unposted to octets ∷ more) = quiet_handed more
 
 -- ---- one more entry that the client is handed
 
-module _ (purpose : Purpose) (call : Call) (time : ℕ) (more : List Entry) (client : Client)
+module _ {purpose : Purpose} {call : Call} {time : ℕ} (more : List Entry) {client : Client}
     (far : CarriesOn purpose call time (handed more) client) where
   module _ (x : Entry) (event : Event) (news : AsksNothing event) (one : handed_of x ≡ event ∷ []) where
     abbrev handing : Stepped
@@ -94,20 +90,20 @@ module _ (purpose : Purpose) (call : Call) (time : ℕ) (more : List Entry) (cli
     sends_so : sent_last purpose call (events_of purpose call (Timed time ∷ (more ++ x ∷ []))) ≡ posts handing.notes
     sends_so =
         ap (λ (later : List Event). sent_last purpose call (begun_at purpose call time later)) (sym pushed)
-        ∙ sends_next purpose call time (handed more) client far event news
+        ∙ sends_next far event news
 
     ends_so : (o : Option Outcome) → endings handing.notes ≡ o ∷ []
         → end_in purpose call (events_of purpose call (Timed time ∷ (more ++ x ∷ [])))
         ≡ Some (record { position = length (begun_at purpose call time (handed more)); outcome = o })
     ends_so o is =
         ap (λ (later : List Event). end_in purpose call (begun_at purpose call time later)) (sym pushed)
-        ∙ ends_next purpose call time (handed more) client far event news o is
+        ∙ ends_next far event news o is
 
     on_so : endings handing.notes ≡ [] → (left : Client) → left ≡ keeping client handing.after
         → CarriesOn purpose call time (handed (more ++ x ∷ [])) left
     on_so none left e =
         subst (λ (later : List Event). CarriesOn purpose call time later left) pushed
-        (carries_on purpose call time (handed more) client far event news none left e)
+        (carries_on far event news none left e)
 
   -- And one that it is not handed.
   same_so : (x : Entry) → handed_of x ≡ [] → CarriesOn purpose call time (handed (more ++ x ∷ [])) client
@@ -125,8 +121,8 @@ module _ (purpose : Purpose) (call : Call) (time : ℕ) (more : List Entry) (cli
       → CarriesOn purpose call time (handed (more ++ Waited wait heard ∷ [])) left
   heard_on wait (Arrival from octets) left none e =
       on_so (Waited wait (Arrival from octets)) (Data from octets) tt refl none left e
-  heard_on wait Silence left none e = rw e (same_so (Waited wait Silence) refl)
-  heard_on wait Failure left none e = rw e (same_so (Waited wait Failure) refl)
+  heard_on wait Silence _ none e = rw e (same_so (Waited wait Silence) refl)
+  heard_on wait Failure _ none e = rw e (same_so (Waited wait Failure) refl)
 
   -- An answer ends the request.
   heard_end : (wait : ℕ) (heard : Heard) (outcome : Outcome)
@@ -135,7 +131,7 @@ module _ (purpose : Purpose) (call : Call) (time : ℕ) (more : List Entry) (cli
       ≡ Some (record { position = length (begun_at purpose call time (handed more)); outcome = Some outcome })
   heard_end wait (Arrival from octets) outcome one =
       ends_so (Waited wait (Arrival from octets)) (Data from octets) tt refl (Some outcome) one
-  heard_end wait _ outcome one = cc
+  heard_end _ _ _ one = cc
 
 -- ---- the next move
 
@@ -151,9 +147,9 @@ module _ (purpose : Purpose) (call : Call) where
   behind_wait : (gained : List Entry) (wait : ℕ) (heard : Heard) → heard ≢ Failure →
       move purpose call (gained ++ Waited wait heard ∷ [])
       ≡ or_ended (end_in purpose call (events_of purpose call (gained ++ Waited wait heard ∷ []))) (Asks ForTime)
-  behind_wait gained wait Silence received = behind gained (Waited wait Silence)
-  behind_wait gained wait (Arrival from octets) received = behind gained (Waited wait (Arrival from octets))
-  behind_wait gained wait Failure received = absurd (received refl)
+  behind_wait gained wait Silence _ = behind gained (Waited wait Silence)
+  behind_wait gained wait (Arrival from octets) _ = behind gained (Waited wait (Arrival from octets))
+  behind_wait _ _ Failure received = absurd (received refl)
 
   -- Behind a time at which the request stays open it is sent where it is due, and then a turn begins.
   behind_time : (gained : List Entry) (now : ℕ)
@@ -169,62 +165,62 @@ module _ (purpose : Purpose) (call : Call) where
 
 -- ---- behind a time, with the request open
 
-module _ (purpose : Purpose) (call : Call) (seen left : Account) (time : ℕ) (more : List Entry) (client : Client)
-    (n : ℕ) (carried : CarriesOn purpose call time (handed more) client)
+module _ {purpose : Purpose} {call : Call} {time : ℕ} (more : List Entry) {client : Client} {n : ℕ}
+    (carried : CarriesOn purpose call time (handed more) client)
     (follows : Follows (move purpose call) [] (Timed time ∷ more)) (due : List Entry)
     (next : move purpose call (Timed time ∷ more) ≡ or_sent due (turn_after (wait_of call) n))
     (turns : waits_in more ≡ n) where
   follows_sent : (x : Entry) (to : Station) (octets : List ℕ) → due ≡ Posted to octets ∷ []
       → ToSend to octets ≡ question_of x → Follows (move purpose call) [] (Timed time ∷ (more ++ x ∷ []))
-  follows_sent x to octets one e =
+  follows_sent x to _ one e =
       follows_push (move purpose call) [] (Timed time ∷ more) x follows
-      (next ∙ ap (λ (d : List Entry). or_sent d (turn_after (wait_of call) n)) one
-      ∙ ap (λ q. Asks q) e)
+      (next ∙ ap (λ (d : List Entry). or_sent d (turn_after (wait_of call) n)) one ∙ ap (λ q. Asks q) e)
 
-  -- What is due was sent, or nothing is.
-  goes_on : OneOrNone due → GainsAll (Timed time ∷ (more ++ due)) seen left → Underway purpose call seen left client n
-  goes_on (inl none) gains = record {
-    time = time;
-    more = more;
-    gains = subst (λ (xs : List Entry). GainsAll (Timed time ∷ xs) seen left)
-        (ap (λ (xs : List Entry). more ++ xs) none ∙ append-nil more) gains;
-    carried = carried;
-    follows = follows;
-    next = next ∙ ap (λ (d : List Entry). or_sent d (turn_after (wait_of call) n)) none;
-    turns = turns;
-  }
-  goes_on (inr one) gains =
-      let x = Posted one.0 one.1 in
-      record {
-        time = time;
-        more = more ++ x ∷ [];
-        gains = subst (λ (xs : List Entry). GainsAll (Timed time ∷ (more ++ xs)) seen left) one.2 gains;
-        carried = same_so purpose call time more client carried x refl;
-        follows = follows_sent x one.0 one.1 one.2 refl;
-        next = behind purpose call (Timed time ∷ more) x ∙ ap (turn_after (wait_of call)) (turned x refl);
-        turns = turned x refl;
-      }
-    where
-      turned : (x : Entry) → waits_in (x ∷ []) ≡ 0 → waits_in (more ++ x ∷ []) ≡ n
-      turned x none = let e = waits_push more x in omega (arith, e, none, turns)
+  module _ {seen left : Account} where
+    -- What is due was sent, or nothing is.
+    goes_on : OneOrNone due → GainsAll (Timed time ∷ (more ++ due)) seen left → Underway purpose call seen left client n
+    goes_on (inl none) gains = record {
+      time = time;
+      more = more;
+      gains = subst (λ (xs : List Entry). GainsAll (Timed time ∷ xs) seen left)
+          (ap (λ (xs : List Entry). more ++ xs) none ∙ append-nil more) gains;
+      carried = carried;
+      follows = follows;
+      next = next ∙ ap (λ (d : List Entry). or_sent d (turn_after (wait_of call) n)) none;
+      turns = turns;
+    }
+    goes_on (inr one) gains =
+        let x = Posted one.0 one.1 in
+        record {
+          time = time;
+          more = more ++ x ∷ [];
+          gains = subst (λ (xs : List Entry). GainsAll (Timed time ∷ (more ++ xs)) seen left) one.2 gains;
+          carried = same_so more carried x refl;
+          follows = follows_sent x one.0 one.1 one.2 refl;
+          next = behind purpose call (Timed time ∷ more) x ∙ ap (turn_after (wait_of call)) (turned x refl);
+          turns = turned x refl;
+        }
+      where
+        turned : (x : Entry) → waits_in (x ∷ []) ≡ 0 → waits_in (more ++ x ∷ []) ≡ n
+        turned x none = let e = waits_push more x in omega (arith, e, none, turns)
 
-  -- What is due could not be sent.
-  loses : (to : Station) (octets : List ℕ) → due ≡ Posted to octets ∷ [] →
-      GainsAll (Timed time ∷ (more ++ Unposted to octets ∷ [])) seen left
-      → Calls purpose call seen left (Err SendFailed)
-  loses to octets one gains = record {
-    plays = record {
-      gained = Timed time ∷ (more ++ Unposted to octets ∷ []);
-      gains = gains;
-      follows = follows_sent (Unposted to octets) to octets one refl;
-      over = behind purpose call (Timed time ∷ more) (Unposted to octets);
-    };
-    request = accepted_so purpose call time more client carried (more ++ Unposted to octets ∷ []);
-  }
+    -- What is due could not be sent.
+    loses : (to : Station) (octets : List ℕ) → due ≡ Posted to octets ∷ [] →
+        GainsAll (Timed time ∷ (more ++ Unposted to octets ∷ [])) seen left
+        → Calls purpose call seen left (Err SendFailed)
+    loses to octets one gains = record {
+      plays = record {
+        gained = Timed time ∷ (more ++ Unposted to octets ∷ []);
+        gains = gains;
+        follows = follows_sent (Unposted to octets) to octets one refl;
+        over = behind purpose call (Timed time ∷ more) (Unposted to octets);
+      };
+      request = accepted_so more carried (more ++ Unposted to octets ∷ []);
+    }
 
 -- ---- a turn
 
-module _ (purpose : Purpose) (call : Call) (seen mid next : Account) (client : Client) (n : ℕ) (within : n < most_turns)
+module _ {purpose : Purpose} {call : Call} {seen mid next : Account} {client : Client} {n : ℕ} (within : n < most_turns)
     (far : Underway purpose call seen mid client n) (heard : Heard)
     (gains : Gains (Waited (wait_of call) heard) mid next) where
   abbrev waited : List Entry
@@ -242,7 +238,7 @@ module _ (purpose : Purpose) (call : Call) (seen mid next : Account) (client : C
   comes : (r : Comes) → move purpose call (Timed far.time ∷ waited) ≡ Ends r → Calls purpose call seen next r
   comes r over = record {
     plays = record { gained = Timed far.time ∷ waited; gains = gains_waited; follows = follows_waited; over = over };
-    request = accepted_so purpose call far.time far.more client far.carried waited;
+    request = accepted_so far.more far.carried waited;
   }
 
   behind_waited : heard ≢ Failure → (e : Option End)
@@ -257,9 +253,8 @@ module _ (purpose : Purpose) (call : Call) (seen mid next : Account) (client : C
       endings (heard_step (rules_of client) client.state heard).notes ≡ Some outcome ∷ []
       → Calls purpose call seen next (Ok (Some outcome))
   answered outcome received one =
-      comes (Ok (Some outcome))
-      (behind_waited received _
-      (heard_end purpose call far.time far.more client far.carried (wait_of call) heard outcome one))
+      comes (Ok (Some outcome)) (behind_waited received _
+      (heard_end far.more far.carried (wait_of call) heard outcome one))
 
   pub unheard : heard ≡ Failure → Calls purpose call seen next (Err ReceiveFailed)
   unheard failure =
@@ -267,16 +262,16 @@ module _ (purpose : Purpose) (call : Call) (seen mid next : Account) (client : C
       (ap (λ (h : Heard). move purpose call (Timed far.time ∷ (far.more ++ Waited (wait_of call) h ∷ []))) failure
       ∙ behind purpose call (Timed far.time ∷ far.more) (Waited (wait_of call) Failure))
 
-  module _ (middle : Client) (received : heard ≢ Failure)
+  module _ {middle : Client} (received : heard ≢ Failure)
       (none : endings (heard_step (rules_of client) client.state heard).notes ≡ [])
       (middle_is : middle ≡ keeping client (heard_step (rules_of client) client.state heard).after) where
     hears : CarriesOn purpose call far.time (handed waited) middle
-    hears = heard_on purpose call far.time far.more client far.carried (wait_of call) heard middle none middle_is
+    hears = heard_on far.more far.carried (wait_of call) heard middle none middle_is
 
     pub alone : IsAlone middle.state
-    alone = carried_alone purpose call far.time (handed waited) middle hears
+    alone = carried_alone hears
 
-    module _ (last : Account) (now : ℕ) where
+    module _ (now : ℕ) where
       abbrev timed : List Entry
       timed = waited ++ Timed now ∷ []
 
@@ -289,7 +284,7 @@ module _ (purpose : Purpose) (call : Call) (seen mid next : Account) (client : C
           (behind_waited received None hears.unended)
 
       due_is : sent_last purpose call (events_of purpose call (Timed far.time ∷ timed)) ≡ posts ticked.notes
-      due_is = sends_so purpose call far.time waited middle hears (Timed now) (Tick now) tt refl
+      due_is = sends_so waited hears (Timed now) (Tick now) tt refl
 
       turned : waits_in timed ≡ suc n
       turned =
@@ -297,17 +292,16 @@ module _ (purpose : Purpose) (call : Call) (seen mid next : Account) (client : C
           let two = waits_push waited (Timed now) in
           omega (arith, one, two, far.turns)
 
-      gains_timed : (rest : List Entry) → GainsAll (Timed now ∷ rest) next last
+      gains_timed : {last : Account} (rest : List Entry) → GainsAll (Timed now ∷ rest) next last
           → GainsAll (Timed far.time ∷ (timed ++ rest)) seen last
-      gains_timed rest ticks =
+      gains_timed {last} rest ticks =
           subst (λ (xs : List Entry). GainsAll (Timed far.time ∷ xs) seen last)
           (sym (append_assoc waited (Timed now ∷ []) rest))
           (gains_both (Timed far.time ∷ waited) (Timed now ∷ rest) seen next last gains_waited ticks)
 
       carried_then : endings ticked.notes ≡ [] → (after : Client) → after ≡ keeping middle ticked.after
           → CarriesOn purpose call far.time (handed timed) after
-      carried_then none_then after is =
-          on_so purpose call far.time waited middle hears (Timed now) (Tick now) tt refl none_then after is
+      carried_then none_then after is = on_so waited hears (Timed now) (Tick now) tt refl none_then after is
 
       next_then : endings ticked.notes ≡ []
           → move purpose call (Timed far.time ∷ timed)
@@ -319,50 +313,46 @@ module _ (purpose : Purpose) (call : Call) (seen mid next : Account) (client : C
           ∙ ap (λ (k : ℕ). or_sent (posts ticked.notes) (turn_after (wait_of call) k)) turned
 
       -- The call goes on.
-      pub on : (after : Client) → endings ticked.notes ≡ timeouts false → after ≡ keeping middle ticked.after →
-          GainsAll (Timed now ∷ posts ticked.notes) next last → Underway purpose call seen last after (suc n)
-      on after none_then after_is ticks =
-          goes_on purpose call seen last far.time timed after (suc n) (carried_then none_then after after_is)
+      pub on : {last : Account} {after : Client} → endings ticked.notes ≡ timeouts false
+          → after ≡ keeping middle ticked.after → GainsAll (Timed now ∷ posts ticked.notes) next last
+          → Underway purpose call seen last after (suc n)
+      on none_then after_is ticks =
+          goes_on timed (carried_then none_then _ after_is)
           follows_timed (posts ticked.notes) (next_then none_then) turned
           (subst OneOrNone due_is (one_or_none (rules_for call) (events_of purpose call (Timed far.time ∷ timed)) _
-          (asked purpose call)))
-          (gains_timed (posts ticked.notes) ticks)
+          (asked purpose call))) (gains_timed (posts ticked.notes) ticks)
 
       -- The time runs out.
-      pub timed_out : endings ticked.notes ≡ timeouts true → GainsAll (Timed now ∷ posts ticked.notes) next last
-          → Calls purpose call seen last (Ok None)
-      timed_out one ticks = record {
+      pub timed_out : {last : Account} → endings ticked.notes ≡ timeouts true
+          → GainsAll (Timed now ∷ posts ticked.notes) next last → Calls purpose call seen last (Ok None)
+      timed_out {last} one ticks = record {
         plays = record {
           gained = Timed far.time ∷ timed;
           gains = subst (λ (xs : List Entry). GainsAll (Timed far.time ∷ xs) seen last)
               (ap (λ (xs : List Entry). timed ++ xs) (unsent_at_end (rules_of middle) middle.state now alone one)
-              ∙ append-nil timed)
-              (gains_timed (posts ticked.notes) ticks);
+              ∙ append-nil timed) (gains_timed (posts ticked.notes) ticks);
           follows = follows_timed;
-          over = behind purpose call (Timed far.time ∷ waited) (Timed now)
-              ∙ ap (λ (e : Option End). or_ended e
+          over = behind purpose call (Timed far.time ∷ waited) (Timed now) ∙ ap (λ (e : Option End). or_ended e
               (or_sent (sent_last purpose call (events_of purpose call (Timed far.time ∷ timed)))
               (turn_after (wait_of call) (waits_in timed))))
-              (ends_so purpose call far.time waited middle hears (Timed now) (Tick now) tt refl None one);
+              (ends_so waited hears (Timed now) (Tick now) tt refl None one);
         };
-        request = accepted_so purpose call far.time waited middle hears timed;
+        request = accepted_so waited hears timed;
       }
 
       -- The request could not be sent again.
-      pub unsent : endings ticked.notes ≡ [] → GainsLost ticked.notes (Timed now ∷ []) next last
+      pub unsent : {last : Account} → endings ticked.notes ≡ [] → GainsLost ticked.notes (Timed now ∷ []) next last
           → Calls purpose call seen last (Err SendFailed)
       unsent none_then lost =
-          loses purpose call seen last far.time timed (keeping middle ticked.after) (suc n)
-          (carried_then none_then (keeping middle ticked.after) refl)
+          loses timed (carried_then none_then (keeping middle ticked.after) refl)
           follows_timed (posts ticked.notes) (next_then none_then) turned lost.0 lost.1 lost.2
           (gains_timed (Unposted lost.0 lost.1 ∷ []) lost.3)
 
 -- ---- the beginning
 
 -- A call begins with its request sent, or with one that could not be sent.
-module _ (purpose : Purpose) (call : Call) (seen left : Account) (time : ℕ)
-    (short : length call.body.items ≤ longest_body)
-    (client : Client) (client_is : client ≡ record {
+module _ (purpose : Purpose) (call : Call) (time : ℕ) (short : length call.body.items ≤ longest_body)
+    {client : Client} (client_is : client ≡ record {
       timeout = call.timeout;
       retries = call.retries;
       state = (submitted purpose call time short).after;
@@ -383,49 +373,46 @@ module _ (purpose : Purpose) (call : Call) (seen left : Account) (time : ℕ)
       (begins_sent purpose call time short ∙ ap (λ (c : Client). posts (sent c.state 0)) (sym client_is))
       (one_or_none (rules_for call) (begun_at purpose call time []) _ (asked purpose call))
 
-  pub begun : GainsAll (Timed time ∷ posts (sent client.state 0)) seen left
+  pub begun : {seen left : Account} → GainsAll (Timed time ∷ posts (sent client.state 0)) seen left
       → Underway purpose call seen left client 0
-  begun gains =
-      goes_on purpose call seen left time [] client 0 carried_first (refl, tt) (posts (sent client.state 0)) next_first
-      refl due_first gains
+  begun gains = goes_on [] carried_first (refl, tt) (posts (sent client.state 0)) next_first refl due_first gains
 
-  pub unbegun : GainsLost (sent client.state 0) (Timed time ∷ []) seen left
+  pub unbegun : {seen left : Account} → GainsLost (sent client.state 0) (Timed time ∷ []) seen left
       → Calls purpose call seen left (Err SendFailed)
   unbegun lost =
-      loses purpose call seen left time [] client 0 carried_first (refl, tt) (posts (sent client.state 0)) next_first
-      refl lost.0 lost.1 lost.2 lost.3
+      loses [] carried_first (refl, tt) (posts (sent client.state 0)) next_first refl lost.0 lost.1 lost.2 lost.3
 
 -- ---- the end
 
 -- All turns went by.
-pub spent : (purpose : Purpose) (call : Call) (seen left : Account) (client : Client) (n : ℕ) → n ≡ most_turns
+pub spent : {purpose : Purpose} {call : Call} {seen left : Account} {client : Client} (n : ℕ) → n ≡ most_turns
     → Underway purpose call seen left client n → Calls purpose call seen left (Err TurnsSpent)
-spent purpose call seen left client n all far = record {
+spent {call} n all far = record {
   plays = record {
     gained = Timed far.time ∷ far.more;
     gains = far.gains;
     follows = far.follows;
     over = far.next ∙ turns_over (wait_of call) n (omega (arith, all));
   };
-  request = accepted_so purpose call far.time far.more client far.carried far.more;
+  request = accepted_so far.more far.carried far.more;
 }
 
-module _ {W : Type 0} (purpose : Purpose) (call : Call) (contents : W → Option (List ℕ)) (before after : Checked W)
-    (seen left : Account) where
+module _ {W : Type 0} {purpose : Purpose} {call : Call} (contents : W → Option (List ℕ)) (before after : Checked W)
+    {seen left : Account} where
   -- A call that fails so tells it.
   pub fails_so : (fault : ToolFault) → fault ≢ WriteFailed → after ≡ before → Calls purpose call seen left (Err fault)
       → Tells purpose call contents before after seen left (Err fault)
-  fails_so WriteFailed other unprinted failed = absurd (other refl)
-  fails_so SendFailed other unprinted failed = (unprinted, failed)
-  fails_so ReceiveFailed other unprinted failed = (unprinted, failed)
-  fails_so TurnsSpent other unprinted failed = (unprinted, failed)
+  fails_so WriteFailed other _ _ = absurd (other refl)
+  fails_so SendFailed _ unprinted failed = (unprinted, failed)
+  fails_so ReceiveFailed _ unprinted failed = (unprinted, failed)
+  fails_so TurnsSpent _ unprinted failed = (unprinted, failed)
 
   -- What is shown of an end is what the call tells.
   pub shown_so : (ending : Option Outcome) (result : Result Exit ToolFault)
       → TookOrFailed contents before after (ending_line purpose ending) result →
       IfOk result (λ exit. exit ≡ exit_of purpose ending) → IfErr result (λ fault. fault ≡ WriteFailed) →
       Calls purpose call seen left (Ok ending) → Tells purpose call contents before after seen left result
-  shown_so ending (Ok exit) puts good bad ends = (ending, good, puts, ends)
-  shown_so ending (Err fault) puts good bad ends =
+  shown_so ending (Ok exit) puts good _ ends = (ending, good, puts, ends)
+  shown_so ending (Err fault) puts _ bad ends =
       subst (λ (fault : ToolFault). Tells purpose call contents before after seen left (Err fault)) (sym bad)
       (ending, puts, ends)

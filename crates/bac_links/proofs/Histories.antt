@@ -1,6 +1,5 @@
 -- A history that goes on.
-use Rattle.std.proofs.Common.{List, [], ◌++◌, append_assoc, sym, ap, ◌∙◌}
-use Rattle.std.proofs.lemmas.List.{append-nil}
+use Rattle.std.proofs.{Common.{List, [], ◌++◌, append_assoc, sym, ap, ◌∙◌}, lemmas.List.append-nil}
 use Rattle.bac_links.specs.History.{Entry, Account, GainsAll}
 
 -- An account with this history.

@@ -1,49 +1,50 @@
 -- A link in memory goes on as its scenes say.
-use Rattle.std.proofs.Common.{◌≡◌, ℕ, zero, suc, ◌+◌, ◌-◌, ◌^◌, ◌<◌, ◌≤◌, min, List, [], ◌∷◌, ◌++◌, append_assoc}
-use Rattle.std.proofs.Common.{length, slice_get, Option, Some, None, Result, Ok, Err, OnOk, OnErr, refl, sym, ap, ◌∙◌}
-use Rattle.std.proofs.Common.{subst, arith}
-use Rattle.std.proofs.Math.Logic.{∥∥₁_elim}
-use Rattle.std.proofs.Math.Seq.{drop-nil}
-use Rattle.std.proofs.lemmas.List.{append-nil}
-use Rattle.std.proofs.lemmas.Option.{none-some, slice_get_within}
-use Rattle.std.specs.Coded.{Coded, Coded-set, coded_ℕ, coded_list, coded×, coded_option, code_by, ×_prop, Unit-prop}
-use Rattle.std.specs.Option.{option_to_list}
-use Rattle.std.specs.Prelude.{drop, unwrap_or}
+use Rattle.std.proofs.{
+  Common.{◌≡◌, ℕ, zero, suc, ◌+◌, ◌-◌, ◌^◌, ◌<◌, ◌≤◌, min, List, [], ◌∷◌, ◌++◌, append_assoc, length, slice_get},
+  Common.{Option, Some, None, Result, Ok, Err, OnOk, OnErr, refl, sym, ap, ◌∙◌, subst, arith},
+  Math.{Logic.∥∥₁_elim, Seq.drop-nil},
+  lemmas.{List.append-nil, Option.{none-some, slice_get_within}},
+}
+use Rattle.std.specs.{
+  Coded.{Coded, Coded-set, coded_ℕ, coded_list, coded×, coded_option, code_by, ×_prop, Unit-prop},
+  Option.option_to_list,
+  Prelude.{drop, unwrap_or},
+}
 use Rattle.bac_pdu.specs.Peer.{NetworkAddress, Station}
-use Rattle.bac_links.specs.History.{Heard, Silence, Arrival, Failure, Entry, Waited, Timed, Posted, Unposted, posted}
-use Rattle.bac_links.specs.History.{Scene}
-use Rattle.bac_links.specs.Played.{Stage, at_first, heard_next, behind_wait, behind, IsPlayed, ArePlayed, Sending}
-use Rattle.bac_links.specs.Played.{sending_in, sendings}
-use Rattle.bac_links.specs.Stands.{behind_all, Stands}
+use Rattle.bac_links.specs.{
+  History.{Heard, Silence, Arrival, Failure, Entry, Waited, Timed, Posted, Unposted, posted, Scene},
+  Played.{Stage, at_first, heard_next, behind_wait, behind, IsPlayed, ArePlayed, Sending, sending_in, sendings},
+  Stands.{behind_all, Stands},
+}
 
 -- ---- one entry more
 
 behind_more : (stage : Stage) (xs : List Entry) (x : Entry)
     → behind_all stage (xs ++ x ∷ []) ≡ behind (behind_all stage xs) x
-behind_more stage [] x = refl
+behind_more _ [] x = refl
 behind_more stage (y ∷ xs) x = behind_more (behind stage y) xs x
 
 played_more : (stage : Stage) (xs : List Entry) (x : Entry) → ArePlayed stage xs → IsPlayed (behind_all stage xs) x
     → ArePlayed stage (xs ++ x ∷ [])
-played_more stage [] x played last = (last, tt)
+played_more _ [] x _ last = (last, tt)
 played_more stage (y ∷ xs) x played last = (played.0, played_more (behind stage y) xs x played.1 last)
 
 sendings_more : (stage : Stage) (xs : List Entry) (x : Entry)
     → sendings stage (xs ++ x ∷ []) ≡ sendings stage xs ++ sending_in (behind_all stage xs).time x
-sendings_more stage [] x = append-nil (sending_in stage.time x)
+sendings_more _ [] x = append-nil _
 sendings_more stage (y ∷ xs) x =
     ap (λ (later : List Sending). sending_in stage.time y ++ later) (sendings_more (behind stage y) xs x)
-    ∙ sym (append_assoc (sending_in stage.time y) _ _)
+    ∙ sym (append_assoc (sending_in _ y) _ _)
 
 drop_one : (scene : Scene) (ss : List Scene) (n : ℕ) → slice_get ss n ≡ Some scene
     → drop n ss ≡ scene ∷ drop (suc n) ss
-drop_one scene [] n e = absurd (none-some scene e)
-drop_one scene (s ∷ ss) zero e = ap (λ (o : Option Scene). unwrap_or o s ∷ ss) e
-drop_one scene (s ∷ ss) (suc n) e = drop_one scene ss n e
+drop_one _ [] n e = absurd (none-some _ e)
+drop_one _ (s ∷ ss) zero e = ap (λ (o : Option Scene). unwrap_or o s ∷ ss) e
+drop_one _ (s ∷ ss) (suc n) e = drop_one _ ss n e
 
 drop_past : (ss : List Scene) (n m : ℕ) → slice_get ss n ≡ None → n ≤ m → drop m ss ≡ []
-drop_past [] n m e within = drop-nil m
-drop_past (s ∷ ss) zero m e within = absurd (none-some s (sym e))
+drop_past [] n m e _ = drop-nil m
+drop_past (s ∷ ss) zero m e _ = absurd (none-some s (sym e))
 drop_past (s ∷ ss) (suc n) (suc m) e within = drop_past ss n m e (omega (arith, within))
 drop_past (s ∷ ss) (suc n) zero e within = absurd (omega (arith, within))
 
@@ -55,14 +56,12 @@ module _ (scenes : List Scene) (xs : List Entry) (next time : ℕ) (sent : List 
   goes_on : (x : Entry) (next' time' : ℕ) (sent' : List Sending) → IsPlayed here x
       → behind here x ≡ record { scenes = drop next' scenes; time = time' } → sent' ≡ sent ++ sending_in time x
       → Stands scenes (xs ++ x ∷ []) next' time' sent'
-  goes_on x next' time' sent' played there adds = record {
+  goes_on x _ _ _ played there adds = record {
     played = played_more (at_first scenes) xs x stands.played
         (subst (λ (stage : Stage). IsPlayed stage x) (sym stands.stage) played);
-    stage = behind_more (at_first scenes) xs x ∙ ap (λ (stage : Stage). behind stage x) stands.stage ∙ there;
+    stage = behind_more _ xs x ∙ ap (λ (stage : Stage). behind stage x) stands.stage ∙ there;
     sendings =
-        adds
-        ∙ ap (λ (before : List Sending). before ++ sending_in time x) stands.sendings
-        ∙ sym (sendings_more (at_first scenes) xs x
+        adds ∙ ap (λ (before : List Sending). before ++ sending_in time x) stands.sendings ∙ sym (sendings_more _ xs x
         ∙ ap (λ (stage : Stage). sendings (at_first scenes) xs ++ sending_in stage.time x) stands.stage);
   }
 
@@ -72,8 +71,8 @@ module _ (scenes : List Scene) (xs : List Entry) (next time : ℕ) (sent : List 
   pub stands_sent : {A E : Type 0} (result : Result A E) (to : Station) (octets : List ℕ) (sent' : List Sending)
       → OnOk result (sent' ≡ sent ++ record { time = time; to = to; octets = octets } ∷ [])
       → OnErr result (sent' ≡ sent) → Stands scenes (xs ++ posted result to octets ∷ []) next time sent'
-  stands_sent (Ok x) to octets sent' more same = goes_on (Posted to octets) next time sent' tt refl more
-  stands_sent (Err e) to octets sent' more same =
+  stands_sent (Ok x) to octets sent' more _ = goes_on (Posted to octets) next time sent' tt refl more
+  stands_sent (Err e) to octets sent' _ same =
       goes_on (Unposted to octets) next time sent' tt refl (same ∙ sym (append-nil sent))
 
   -- A wait, where this scene is next, or none.
@@ -82,21 +81,17 @@ module _ (scenes : List Scene) (xs : List Entry) (next time : ℕ) (sent : List 
       → time' ≡ (behind_wait wait (option_to_list scene) time).time → length scenes < 2 ^ 64 → next < 2 ^ 64
       → next' ≡ min (next + 1) (2 ^ 64 - 1) → Stands scenes (xs ++ Waited wait heard ∷ []) next' time' sent
   stands_waited (Some scene) wait heard next' time' comes hears passes few small goes =
-      let left = drop_one scene scenes next comes in
-      let more : next' ≡ suc next = omega (arith, goes, few, slice_get_within scenes next scene comes) in
-      goes_on (Waited wait heard) next' time' sent
-      (hears ∙ sym (ap heard_next left))
+      let left = drop_one _ _ next comes in
+      let more : next' ≡ suc next = omega (arith, goes, few, slice_get_within _ next _ comes) in
+      goes_on (Waited wait heard) next' time' sent (hears ∙ sym (ap heard_next left))
       (ap (λ (ss : List Scene). behind_wait wait ss time) left
-      ∙ (λ i. record { scenes = drop (sym more i) scenes; time = sym passes i }))
-      (sym (append-nil sent))
+      ∙ (λ i. record { scenes = drop (sym more i) scenes; time = sym passes i })) (sym (append-nil sent))
   stands_waited None wait heard next' time' spent hears passes few small goes =
-      let left = drop_past scenes next next spent (omega arith) in
+      let left = drop_past _ next next spent (omega arith) in
       let within : next ≤ next' = omega (arith, goes, small) in
-      goes_on (Waited wait heard) next' time' sent
-      (hears ∙ sym (ap heard_next left))
+      goes_on (Waited wait heard) next' time' sent (hears ∙ sym (ap heard_next left))
       (ap (λ (ss : List Scene). behind_wait wait ss time) left
-      ∙ (λ i. record { scenes = sym (drop_past scenes next next' spent within) i; time = sym passes i }))
-      (sym (append-nil sent))
+      ∙ (λ i. record { scenes = sym (drop_past _ next _ spent within) i; time = sym passes i })) (sym (append-nil sent))
 
 -- ---- one proof at most
 
@@ -129,16 +124,16 @@ back_to_heard (Arrival from octets) = refl
 
 coded_heard : Coded Heard
 coded_heard = code_by (Option (Option (Station × List ℕ)))
-    (coded_option (coded_option (coded× coded_station (coded_list coded_ℕ)))) from_heard to_heard back_to_heard
+    (coded_option (coded_option (coded× coded_station (coded_list coded_ℕ)))) _ to_heard back_to_heard
 
 IsPlayed-prop : (stage : Stage) (x : Entry) → IsProp (IsPlayed stage x)
-IsPlayed-prop stage (Waited wait heard) = Coded-set coded_heard _ _
-IsPlayed-prop stage (Timed time) = Coded-set coded_ℕ _ _
-IsPlayed-prop stage (Posted to octets) = Unit-prop
-IsPlayed-prop stage (Unposted to octets) = Unit-prop
+IsPlayed-prop _ (Waited wait heard) = Coded-set coded_heard _ _
+IsPlayed-prop _ (Timed time) = Coded-set coded_ℕ _ _
+IsPlayed-prop _ (Posted to octets) = Unit-prop
+IsPlayed-prop _ (Unposted to octets) = Unit-prop
 
 ArePlayed-prop : (stage : Stage) (xs : List Entry) → IsProp (ArePlayed stage xs)
-ArePlayed-prop stage [] = Unit-prop
+ArePlayed-prop _ [] = Unit-prop
 ArePlayed-prop stage (x ∷ xs) = ×_prop (IsPlayed-prop stage x) (ArePlayed-prop (behind stage x) xs)
 
 -- What was kept as sent is what the history says.

@@ -1,32 +1,31 @@
 -- A call whose waits are prompt ends in time.
-use Rattle.std.proofs.Common.{◌≡◌, ℕ, suc, ◌+◌, ◌*◌, ◌<◌, ◌≤◌, max, List, [], ◌∷◌, ◌++◌, length, Option, Some}
-use Rattle.std.proofs.Common.{None, Result, subst, arith, ap, sym, ◌∙◌, inl, inr, refl}
-use Rattle.std.proofs.lemmas.List.{take_all, take-append-le, append-nil}
-use Rattle.std.proofs.lemmas.Bool.{cases_lt}
+use Rattle.std.proofs.{
+  Common.{◌≡◌, ℕ, suc, ◌+◌, ◌*◌, ◌<◌, ◌≤◌, max, List, [], ◌∷◌, ◌++◌, length, Option, Some, None, Result, subst, arith},
+  Common.{ap, sym, ◌∙◌, inl, inr, refl},
+  lemmas.{List.{take_all, take-append-le, append-nil}, Bool.cases_lt},
+}
 use Rattle.std.specs.List.{last_or}
 use Rattle.bac_pdu.specs.Peer.{Station}
-use Rattle.bac_tsm.specs.Positions.{greatest_tick}
-use Rattle.bac_tsm.specs.Events.{Event, Tick}
-use Rattle.bac_tsm.specs.Lookahead.{End, clock}
-use Rattle.bac_tsm.proofs.Progress.{clock_rises, open_soon, never_due}
+use Rattle.bac_tsm.{
+  specs.{Positions.greatest_tick, Events.{Event, Tick}, Lookahead.{End, clock}},
+  proofs.Progress.{clock_rises, open_soon, never_due},
+}
 use Rattle.bac_print.specs.declared.checked.Checked.{Checked}
-use Rattle.bac_links.specs.History.{Heard, Silence, Arrival, Failure, Entry, Waited, Timed, Posted, Unposted, Account}
-use Rattle.bac_links.specs.Asking.{Move, Asks, Question, ForDatagram, ForTime, question_of, Follows, waits_in}
-use Rattle.bac_links.specs.Handed.{handed_of}
-use Rattle.bac_links.specs.Call.{rules_for, asked, end_in, events_of, Comes, or_ended, move_behind, move, Tells}
-use Rattle.bac_links.specs.Progress.{AreTold, ArePrompt}
-use Rattle.bac_links.specs.declared.ending.Purpose.{Purpose}
-use Rattle.bac_links.specs.declared.ending.Exit.{Exit}
-use Rattle.bac_links.specs.declared.fault.ToolFault.{ToolFault}
+use Rattle.bac_links.specs.{
+  History.{Heard, Silence, Arrival, Failure, Entry, Waited, Timed, Posted, Unposted, Account},
+  Asking.{Move, Asks, Question, ForDatagram, ForTime, question_of, Follows, waits_in},
+  Handed.handed_of,
+  Call.{rules_for, asked, end_in, events_of, Comes, or_ended, move_behind, move, Tells},
+  Progress.{AreTold, ArePrompt},
+  declared.{ending.Purpose.Purpose, ending.Exit.Exit, fault.ToolFault.ToolFault},
+}
+use Rattle.bac_links.proofs.{Alike.went, Asking.{last_push, played}, CallTurns.handed_push}
 use Rattle.bac_text.specs.declared.jobs.Call.{Call}
-use Rattle.bac_links.proofs.Alike.{went}
-use Rattle.bac_links.proofs.Asking.{last_push, played}
-use Rattle.bac_links.proofs.CallTurns.{handed_push}
 
 -- ---- the clock over some events
 
 all_by : (events : List Event) (j : ℕ) → length events ≤ j → clock events j ≡ greatest_tick events
-all_by events j le = ap greatest_tick (take_all j events le)
+all_by _ j le = ap greatest_tick (take_all j _ le)
 
 -- Where no event moves the clock by more than d, further events that do not are added.
 steady_more : (d : ℕ) (first next : List Event) → ((j : ℕ) → 1 < j → clock first (suc j) ≤ clock first j + d) →
@@ -38,7 +37,7 @@ steady_more d first next before bound j lt = elim (cases_lt j (length first)) [
       let ago = ap greatest_tick (take-append-le j first next (omega arith)) in
       omega (arith, before j lt, here, ago)
   | inr past ↦
-      let low = clock_rises (first ++ next) (length first) j past in
+      let low = clock_rises (first ++ next) _ j past in
       let front = ap greatest_tick (take-append-le (length first) first next (omega arith)) in
       let whole = all_by first (length first) (omega arith) in
       let high = clock_rises (first ++ next) (suc j) (suc j + length (first ++ next)) (omega arith) in
@@ -48,7 +47,7 @@ steady_more d first next before bound j lt = elim (cases_lt j (length first)) [
 
 greatest_tick-append : (first next : List Event)
     → greatest_tick (first ++ next) ≡ max (greatest_tick first) (greatest_tick next)
-greatest_tick-append [] next = omega arith
+greatest_tick-append [] _ = omega arith
 greatest_tick-append (Tick now ∷ first) next =
     let h : greatest_tick (first ++ next) ≡ max (greatest_tick first) (greatest_tick next) =
     greatest_tick-append first next in omega arith
@@ -57,8 +56,8 @@ greatest_tick-append (_ ∷ first) next = greatest_tick-append first next
 -- ---- a send and a wait are asked for while the request is open
 
 open_still : (x : Option End) (other : Move Comes) (question : Question) → or_ended x other ≡ Asks question → x ≡ None
-open_still None other question e = refl
-open_still (Some x) other question e = cc
+open_still None _ _ e = refl
+open_still (Some x) _ _ e = cc
 
 -- Behind these entries the time was told since the last wait.
 abbrev IsTimely : Entry → Type 0
@@ -71,19 +70,19 @@ module _ (purpose : Purpose) (call : Call) where
   IsOpen gained = end_in purpose call (events_of purpose call gained) ≡ None
 
   for_time : (x : Option End) (question : Question) → or_ended x (Asks ForTime) ≡ Asks question → question ≡ ForTime
-  for_time None question e = cc
-  for_time (Some x) question e = cc
+  for_time None _ e = cc
+  for_time (Some x) _ e = cc
 
   -- What is asked but the time is asked once the time was told, of a call whose request is open.
   ready : (gained : List Entry) (last : Entry) (question : Question) → (question ≡ ForTime → ⊥)
       → ((to : Station) (octets : List ℕ) → last ≡ Posted to octets → IsOpen gained)
       → move_behind purpose call gained (Some last) ≡ Asks question → IsTimely last × IsOpen gained
-  ready gained (Timed time) question other sent e = (tt, open_still _ _ question e)
-  ready gained (Posted to octets) question other sent e = (tt, sent to octets refl)
-  ready gained (Unposted to octets) question other sent e = cc
-  ready gained (Waited wait Failure) question other sent e = cc
-  ready gained (Waited wait Silence) question other sent e = absurd (other (for_time _ question e))
-  ready gained (Waited wait (Arrival from octets)) question other sent e = absurd (other (for_time _ question e))
+  ready _ (Timed time) _ _ _ e = (tt, open_still _ _ _ e)
+  ready _ (Posted to octets) _ _ sent e = (tt, sent to _ refl)
+  ready _ (Unposted to octets) _ other sent e = cc
+  ready _ (Waited wait Failure) _ other sent e = cc
+  ready _ (Waited wait Silence) _ other _ e = absurd (other (for_time _ _ e))
+  ready _ (Waited wait (Arrival from octets)) _ other _ e = absurd (other (for_time _ _ e))
 
   -- ---- one entry after another
 
@@ -108,20 +107,20 @@ module _ (purpose : Purpose) (call : Call) where
     further : (before : List Entry) (x : Entry) (now next : ℕ) → IsSteady (events before) now
         → greatest_tick (handed_of x) ≤ now + longest → next ≤ max now (greatest_tick (handed_of x))
         → IsSteady (events (before ++ x ∷ [])) next
-    further before x now next is small big =
+    further before x _ next is small big =
         let both = greatest_tick-append (events before) (handed_of x) in
         subst (λ (all : List Event). IsSteady all next) (events_push before x) (record {
-          steady = steady_more longest (events before) (handed_of x) is.steady (omega (arith, both, small, is.reached));
+          steady = steady_more _ _ _ is.steady (omega (arith, both, small, is.reached));
           reached = omega (arith, both, big, is.reached);
         })
 
     -- While the request is open no more time has passed than this.
     open_in_time : (before : List Entry) (now : ℕ) → IsSteady (events before) now → IsOpen (Timed first ∷ before)
         → now ≤ open_bound
-    open_in_time before now is still =
+    open_in_time before _ is still =
         let all = events before in
         let soon : clock all (length all) ≤ clock all 2 + call.retries * (call.timeout + longest) + call.timeout =
-        open_soon (rules_for call) all 1 longest call.retries (length all) is.steady
+        open_soon (rules_for call) all 1 _ _ (length all) is.steady
         (never_due (rules_for call) all (asked purpose call) (grind (arith, still))) in
         omega (arith, is.reached, all_by all (length all) (omega arith), soon)
 
@@ -145,10 +144,9 @@ module _ (purpose : Purpose) (call : Call) where
         let asked = ready (Timed first ∷ before) last (question_of x) other is.sent
         (ap (move_behind purpose call (Timed first ∷ before)) (sym is.came_last) ∙ asks) in
         let same : events before ≡ events (before ++ x ∷ []) =
-        sym (append-nil (events before)) ∙ ap (λ (es : List Event). events before ++ es) (sym none)
-        ∙ events_push before x in
+        sym (append-nil _) ∙ ap (λ (es : List Event). events before ++ es) (sym none) ∙ events_push before x in
         record {
-          came_last = last_push (Some (Timed first)) before x;
+          came_last = last_push _ before x;
           steady = subst (λ (all : List Event). IsSteady all now) same is.steady;
           near = is.near;
           within = is.within;
@@ -181,7 +179,7 @@ module _ (purpose : Purpose) (call : Call) where
 
     at_time : (before : List Entry) (last : Entry) (n now : ℕ) → IsAt before last n now
         → IsAt (before ++ Timed (time_behind n) ∷ []) (Timed (time_behind n)) n (time_behind n)
-    at_time before last n now is = record {
+    at_time before _ n now is = record {
       came_last = last_push (Some (Timed first)) before (Timed (time_behind n));
       steady = further before (Timed (time_behind n)) now (time_behind n) is.steady (omega (arith, is.near))
           (omega arith);
@@ -195,8 +193,7 @@ module _ (purpose : Purpose) (call : Call) where
         → Goes before rest → AreTold time_behind n rest
         → ((k : ℕ) → k < n + waits_in rest → time_behind (suc k) ≤ time_behind k + longest)
         → time_behind (n + waits_in rest) ≤ bound
-    in_bound before last n now [] is goes told prompt =
-        subst (λ (k : ℕ). time_behind k ≤ bound) (omega arith) is.within
+    in_bound _ _ n _ [] is goes told prompt = subst (λ (k : ℕ). time_behind k ≤ bound) (omega arith) is.within
     in_bound before last n now (Waited wait heard ∷ rest) is goes told prompt =
         let more : suc n + waits_in rest ≡ n + suc (waits_in rest) = omega arith in
         subst (λ (k : ℕ). time_behind k ≤ bound) more
@@ -205,7 +202,7 @@ module _ (purpose : Purpose) (call : Call) where
         (λ k less. prompt k (omega (arith, less, more))))
     in_bound before last n now (Timed time ∷ rest) is goes told prompt =
         in_bound (before ++ Timed time ∷ []) (Timed time) n time rest
-        (subst (λ (t : ℕ). IsAt (before ++ Timed t ∷ []) (Timed t) n t) (sym told.0) (at_time before last n now is))
+        (subst (λ (t : ℕ). IsAt (before ++ Timed t ∷ []) (Timed t) n t) (sym told.0) (at_time _ last n now is))
         goes.1 told.1 prompt
     in_bound before last n now (Posted to octets ∷ rest) is goes told prompt =
         in_bound (before ++ Posted to octets ∷ []) (Posted to octets) n now rest
@@ -233,16 +230,16 @@ module _ (purpose : Purpose) (call : Call) where
   in_time : (time_behind : ℕ → ℕ) (longest : ℕ) (gained : List Entry) → Follows (move purpose call) [] gained
       → AreTold time_behind 0 gained → ArePrompt time_behind longest (waits_in gained)
       → time_behind (waits_in gained) ≤ time_behind 0 + suc call.retries * (call.timeout + longest)
-  in_time time_behind longest [] follows told prompt = omega arith
+  in_time _ _ [] follows told prompt = omega arith
   in_time time_behind longest (Timed time ∷ more) follows told prompt =
       let all : 0 + waits_in more ≡ waits_in more = omega arith in
       subst (λ (t : ℕ). time_behind (waits_in more) ≤ t + suc call.retries * (call.timeout + longest)) told.0
       (subst (λ (n : ℕ). time_behind n ≤ time + suc call.retries * (call.timeout + longest)) all
       (in_bound time_behind longest time [] (Timed time) 0 time more (begun time_behind longest time told.0) follows.1
       told.1 (λ n less. prompt n (omega (arith, less, all)))))
-  in_time time_behind longest (Waited wait heard ∷ more) follows told prompt = let asks = follows.0 in cc
-  in_time time_behind longest (Posted to octets ∷ more) follows told prompt = let asks = follows.0 in cc
-  in_time time_behind longest (Unposted to octets ∷ more) follows told prompt = let asks = follows.0 in cc
+  in_time _ _ (Waited wait heard ∷ more) follows told prompt = let asks = follows.0 in cc
+  in_time _ _ (Posted to octets ∷ more) follows told prompt = let asks = follows.0 in cc
+  in_time _ _ (Unposted to octets ∷ more) follows told prompt = let asks = follows.0 in cc
 
 pub told_in_time : {W : Type 0} (contents : W → Option (List ℕ)) (purpose : Purpose) (call : Call)
     (before after : Checked W) (seen left : Account) (result : Result Exit ToolFault) (gained : List Entry)
@@ -252,6 +249,5 @@ pub told_in_time : {W : Type 0} (contents : W → Option (List ℕ)) (purpose : 
     → time_behind (waits_in gained) ≤ time_behind 0 + suc call.retries * (call.timeout + longest)
 told_in_time contents purpose call before after seen left result gained time_behind longest tells gains =
     let it = went purpose call contents before after seen left result tells in
-    in_time purpose call time_behind longest gained
-    (subst (Follows (move purpose call) []) (played (move purpose call) seen left it.comes gained it.plays gains)
+    in_time purpose call time_behind longest gained (subst (Follows _ []) (played _ seen left _ _ it.plays gains)
     it.plays.follows)

@@ -1,29 +1,26 @@
 -- A search, turn by turn.
-use Rattle.std.proofs.Common.{◌≡◌, ◌≢◌, ℕ, suc, ◌-◌, ◌<◌, ◌≤◌, max, List, [], ◌∷◌, ◌++◌, Option, Some, None}
-use Rattle.std.proofs.Common.{Ok, Err, Bool, false, ◌||◌, if◌then◌else◌, refl, sym, ap, ◌∙◌, arith}
-use Rattle.std.proofs.Common.{subst}
-use Rattle.std.proofs.lemmas.List.{append-nil}
-use Rattle.std.proofs.lemmas.Bool.{le-leb, lt-leb}
-use Rattle.std.proofs.lemmas.Bool.Decides.{nat_tests}
-use Rattle.std.proofs.lemmas.List.Concat.{flat_map-append}
-use Rattle.bac_print.specs.declared.checked.Checked.{Checked}
-use Rattle.bac_print.specs.Checked.{Took}
-use Rattle.bac_print.proofs.Known.{Took-none, Took-more}
-use Rattle.bac_links.specs.Limits.{most_turns}
+use Rattle.std.proofs.{
+  Common.{◌≡◌, ◌≢◌, ℕ, suc, ◌-◌, ◌<◌, ◌≤◌, max, List, [], ◌∷◌, ◌++◌, Option, Some, None, Ok, Err, Bool, false, ◌||◌},
+  Common.{if◌then◌else◌, refl, sym, ap, ◌∙◌, arith, subst},
+  lemmas.{List.append-nil, Bool.{le-leb, lt-leb}, Bool.Decides.nat_tests, List.Concat.flat_map-append},
+}
+use Rattle.bac_print.{specs.{declared.checked.Checked.Checked, Checked.Took}, proofs.Known.{Took-none, Took-more}}
+use Rattle.bac_links.specs.{
+  Limits.most_turns,
+  History.{Heard, Silence, Arrival, Failure, Entry, Waited, Timed, Posted, Unposted, Account, GainsAll, Gains},
+  Asking.{Asks, Ends, ForTime, Follows, waits_in, times_in, turn_after},
+  Search.{Found, found_by, found_line, greatest_of, passed_in, who_is_to, found_of_entry, found_in, behind_time},
+  Search.{search_behind, search_move, Searched},
+  declared.{ending.Exit.Exit, ending.Exit.TheVariants.{Good, Bad}, fault.ToolFault.ToolFault},
+  declared.fault.ToolFault.TheVariants.{SendFailed, ReceiveFailed, TurnsSpent, WriteFailed},
+  Inner.SearchSteps.{search_wait, found_lines, has_found, Listens},
+}
+use Rattle.bac_links.proofs.{
+  Asking.{last_push, follows_push, waits_push, times_push, turn_begins, turns_over},
+  Histories.gains_both,
+}
 use Rattle.bac_pdu.specs.Peer.{station}
-use Rattle.bac_links.specs.History.{Heard, Silence, Arrival, Failure, Entry, Waited, Timed, Posted, Unposted, Account}
-use Rattle.bac_links.specs.History.{GainsAll, Gains}
-use Rattle.bac_links.specs.Asking.{Asks, Ends, ForTime, Follows, waits_in, times_in, turn_after}
-use Rattle.bac_links.specs.Search.{Found, found_by, found_line, greatest_of, passed_in, who_is_to, found_of_entry}
-use Rattle.bac_links.specs.Search.{found_in, behind_time, search_behind, search_move, Searched}
-use Rattle.bac_links.specs.declared.ending.Exit.{Exit}
-use Rattle.bac_links.specs.declared.ending.Exit.TheVariants.{Good, Bad}
-use Rattle.bac_links.proofs.Asking.{last_push, follows_push, waits_push, times_push, turn_begins, turns_over}
-use Rattle.bac_links.proofs.Histories.{gains_both}
-use Rattle.bac_links.specs.Inner.SearchSteps.{search_wait, found_lines, has_found, Listens}
 use Rattle.bac_text.specs.declared.jobs.Search.{Search}
-use Rattle.bac_links.specs.declared.fault.ToolFault.{ToolFault}
-use Rattle.bac_links.specs.declared.fault.ToolFault.TheVariants.{SendFailed, ReceiveFailed, TurnsSpent, WriteFailed}
 
 -- What a search begins with, and then this.
 abbrev pub searched : Search → ℕ → List Entry → List Entry
@@ -49,7 +46,7 @@ has_found-append (x ∷ xs) ys = grind (arith, nat_tests)
 
 greatest-push : (greatest : ℕ) (times : List ℕ) (time : ℕ)
     → greatest_of greatest (times ++ time ∷ []) ≡ max (greatest_of greatest times) time
-greatest-push greatest [] time = refl
+greatest-push _ [] _ = refl
 greatest-push greatest (x ∷ times) time = greatest-push (max greatest x) times time
 
 found-push : (search : Search) (more : List Entry) (x : Entry)
@@ -66,15 +63,15 @@ pub behind_wait : (search : Search) (gained : List Entry) (wait : ℕ) (heard : 
     → search_move search (gained ++ Waited wait heard ∷ []) ≡ Asks ForTime
 behind_wait search gained wait Silence received = behind search gained (Waited wait Silence)
 behind_wait search gained wait (Arrival from octets) received = behind search gained (Waited wait (Arrival from octets))
-behind_wait search gained wait Failure received = absurd (received refl)
+behind_wait _ _ _ Failure received = absurd (received refl)
 
 -- ---- a turn
 
-module _ {W : Type 0} (search : Search) (contents : W → Option (List ℕ)) (before middle after : Checked W)
-    (seen mid left : Account) (first greatest : ℕ) (any : Bool) (n : ℕ)
+module _ {W : Type 0} {search : Search} {contents : W → Option (List ℕ)} {before middle : Checked W}
+    {seen mid : Account} {first greatest : ℕ} {any : Bool} {n : ℕ}
     (goes : SearchGoes search contents before middle seen mid first greatest any n) (within : n < most_turns) where
   -- One wait more.
-  module _ (heard : Heard) (hears : Gains (Waited (search_wait search) heard) mid left) where
+  module _ {left : Account} (heard : Heard) (hears : Gains (Waited (search_wait search) heard) mid left) where
     abbrev waited : List Entry
     waited = goes.more ++ Waited (search_wait search) heard ∷ []
 
@@ -89,8 +86,9 @@ module _ {W : Type 0} (search : Search) (contents : W → Option (List ℕ)) (be
         goes.follows (goes.next ∙ turn_begins (search_wait search) n within)
 
   -- A wait that goes well, and the time after it.
-  module _ (some : Bool) (listens : Listens search.who (search_wait search) contents middle after mid left (Ok some))
-      (now : ℕ) (last : Account) (asks : Gains (Timed now) left last) where
+  module _ {after : Checked W} {left : Account} {some : Bool}
+      (listens : Listens search.who (search_wait search) contents middle after mid left (Ok some))
+      (now : ℕ) {last : Account} (asks : Gains (Timed now) left last) where
     abbrev heard : Heard
     heard = listens.0
 
@@ -166,7 +164,7 @@ module _ {W : Type 0} (search : Search) (contents : W → Option (List ℕ)) (be
 
     pub ended : (exit : Exit) → exit ≡ (if any || some then Good else Bad)
         → search.timeout ≤ max greatest now - first → Searched search contents before after seen last (Ok exit)
-    ended exit exit_is over = record {
+    ended _ exit_is over = record {
       plays = record {
         gained = all;
         gains = gains_timed;
@@ -178,10 +176,10 @@ module _ {W : Type 0} (search : Search) (contents : W → Option (List ℕ)) (be
     }
 
   -- A wait that fails.
-  pub fails : (fault : ToolFault) (wait : ℕ) → wait ≡ search_wait search
+  pub fails : (after : Checked W) (left : Account) (fault : ToolFault) {wait : ℕ} → wait ≡ search_wait search
       → Listens search.who wait contents middle after mid left (Err fault) →
       Searched search contents before after seen left (Err fault)
-  fails ReceiveFailed wait same listens =
+  fails after _ ReceiveFailed same listens =
       let gains = rw same at listens.0 in
       record {
         plays = record {
@@ -190,13 +188,11 @@ module _ {W : Type 0} (search : Search) (contents : W → Option (List ℕ)) (be
           follows = follows_waited Failure gains;
           over = behind search (searched search first goes.more) (Waited (search_wait search) Failure);
         };
-        printed = subst (Took contents before after)
-            (append-nil (found_lines (found_in search goes.more))
+        printed = subst (Took contents before after) (append-nil (found_lines (found_in search goes.more))
             ∙ ap found_lines (sym (found-push search goes.more (Waited (search_wait search) Failure)
-            ∙ append-nil (found_in search goes.more))))
-            (Took-more goes.printed listens.1);
+            ∙ append-nil (found_in search goes.more)))) (Took-more goes.printed listens.1);
       }
-  fails WriteFailed wait same listens =
+  fails _ _ WriteFailed same listens =
       let gains = rw same at listens.1 in
       record {
         earlier = searched search first goes.more;
@@ -211,14 +207,14 @@ module _ {W : Type 0} (search : Search) (contents : W → Option (List ℕ)) (be
         line = listens.6;
         printed = Took-more goes.printed listens.7;
       }
-  fails _ wait same listens = absurd listens
+  fails _ _ _ _ listens = absurd listens
 
 -- A search begins with its Who-Is sent.
-pub begun : {W : Type 0} (search : Search) (contents : W → Option (List ℕ)) (before : Checked W)
-    (seen mid link : Account) (first : ℕ) → Gains (Timed first) seen mid →
+pub begun : {W : Type 0} (search : Search) {contents : W → Option (List ℕ)} {before : Checked W}
+    {seen mid link : Account} (first : ℕ) → Gains (Timed first) seen mid →
     Gains (Posted (station search.to) (who_is_to search)) mid link
     → SearchGoes search contents before before seen link first first false 0
-begun search contents before seen mid link first asks sends = record {
+begun _ {before} {seen} {mid} {link} first asks sends = record {
   more = [];
   gains = gains_both (Timed first ∷ []) _ seen mid link asks sends;
   follows = (refl, (refl, tt));
@@ -230,11 +226,11 @@ begun search contents before seen mid link first asks sends = record {
 }
 
 -- Or with one that could not be sent.
-pub unbegun : {W : Type 0} (search : Search) (contents : W → Option (List ℕ)) (before : Checked W)
-    (seen mid link : Account) (first : ℕ) → Gains (Timed first) seen mid →
+pub unbegun : {W : Type 0} (search : Search) {contents : W → Option (List ℕ)} {before : Checked W}
+    {seen mid link : Account} (first : ℕ) → Gains (Timed first) seen mid →
     Gains (Unposted (station search.to) (who_is_to search)) mid link
     → Searched search contents before before seen link (Err SendFailed)
-unbegun search contents before seen mid link first asks sends = record {
+unbegun search {before} {seen} {mid} {link} first asks sends = record {
   plays = record {
     gained = Timed first ∷ Unposted (station search.to) (who_is_to search) ∷ [];
     gains = gains_both (Timed first ∷ []) _ seen mid link asks sends;
@@ -244,11 +240,11 @@ unbegun search contents before seen mid link first asks sends = record {
   printed = Took-none before;
 }
 
-pub spent : {W : Type 0} (search : Search) (contents : W → Option (List ℕ)) (before after : Checked W)
-    (seen link : Account) (first greatest : ℕ) (any : Bool) (n : ℕ) → n ≡ most_turns →
+pub spent : {W : Type 0} {search : Search} {contents : W → Option (List ℕ)} {before after : Checked W}
+    {seen link : Account} {first greatest : ℕ} {any : Bool} (n : ℕ) → n ≡ most_turns →
     SearchGoes search contents before after seen link first greatest any n
     → Searched search contents before after seen link (Err TurnsSpent)
-spent search contents before after seen link first greatest any n all goes = record {
+spent {search} {first} n all goes = record {
   plays = record {
     gained = searched search first goes.more;
     gains = goes.gains;

@@ -1,35 +1,32 @@
 -- Two searches that are answered alike ask alike, end alike, and print one text.
-use Rattle.std.proofs.Common.{◌≡◌, ◌⊎◌, ℕ, List, [], ◌∷◌, ◌++◌, append_assoc, Option, Result, Ok, Err, refl, sym}
-use Rattle.std.proofs.Common.{ap, ◌∙◌, subst, flat_map, inl, inr}
-use Rattle.std.proofs.lemmas.List.{append_cancel_left, append-nil}
-use Rattle.std.proofs.lemmas.List.Concat.{flat_map-append}
-use Rattle.bac_print.specs.declared.checked.Checked.{Checked}
-use Rattle.bac_print.specs.Checked.{TakesFront}
-use Rattle.bac_links.specs.History.{Entry, Waited, Account}
-use Rattle.bac_links.specs.Answered.{AskAlike, Printed, OneText}
-use Rattle.bac_links.specs.Asking.{Asks, Ends, ForTime, question_of, Follows}
-use Rattle.bac_links.specs.Search.{found_by, found_line, found_of_entry, found_in, search_move, IsWhole, IsCutOff}
-use Rattle.bac_links.specs.Search.{Searched}
-use Rattle.bac_links.specs.declared.ending.Exit.{Exit}
-use Rattle.bac_links.specs.declared.fault.ToolFault.{ToolFault}
-use Rattle.bac_links.specs.declared.fault.ToolFault.TheVariants.{SendFailed, ReceiveFailed, TurnsSpent, WriteFailed}
+use Rattle.std.proofs.{
+  Common.{◌≡◌, ◌⊎◌, ℕ, List, [], ◌∷◌, ◌++◌, append_assoc, Option, Result, Ok, Err, refl, sym, ap, ◌∙◌, subst, flat_map},
+  Common.{inl, inr},
+  lemmas.{List.{append_cancel_left, append-nil}, List.Concat.flat_map-append},
+}
+use Rattle.bac_print.specs.{declared.checked.Checked.Checked, Checked.TakesFront}
+use Rattle.bac_links.specs.{
+  History.{Entry, Waited, Account},
+  Answered.{AskAlike, Printed, OneText},
+  Asking.{Asks, Ends, ForTime, question_of, Follows},
+  Search.{found_by, found_line, found_in, search_move, IsWhole, IsCutOff, Searched},
+  declared.ending.Exit.Exit,
+  declared.fault.{ToolFault.ToolFault, ToolFault.TheVariants.{SendFailed, ReceiveFailed, TurnsSpent, WriteFailed}},
+}
+use Rattle.bac_links.proofs.{Asking.{played, same_so_far, so_far}, Searches.behind_wait}
 use Rattle.bac_text.specs.declared.jobs.Search.{Search}
-use Rattle.bac_links.proofs.Asking.{played, same_so_far, so_far}
-use Rattle.bac_links.proofs.Searches.{behind_wait}
 
 module _ (search : Search) where
   abbrev lines_in : List Entry → List ℕ
   lines_in gained = flat_map found_line (found_in search gained)
 
   lines-append : (xs ys : List Entry) → lines_in (xs ++ ys) ≡ lines_in xs ++ lines_in ys
-  lines-append xs ys =
-      ap (flat_map found_line) (flat_map-append (found_of_entry search) xs ys)
-      ∙ flat_map-append found_line (found_in search xs) (found_in search ys)
+  lines-append xs ys = ap (flat_map found_line) (flat_map-append _ xs ys) ∙ flat_map-append found_line _ _
 
   module _ {W : Type 0} (contents : W → Option (List ℕ)) (before after : Checked W) where
     extended : (xs ys : List ℕ) → TakesFront contents before after xs → TakesFront contents before after (xs ++ ys)
     extended xs ys (taken, rest, e, took) =
-        (taken, rest ++ ys, ap (λ (zs : List ℕ). zs ++ ys) e ∙ append_assoc taken rest ys, took)
+        (taken, rest ++ ys, ap (λ (zs : List ℕ). zs ++ ys) e ∙ append_assoc _ rest ys, took)
 
     -- After these entries it is over, or it was cut off behind a wait; and their lines were printed.
     record Stops (result : Result Exit ToolFault) (gained : List Entry) : Type 0 where
@@ -41,7 +38,7 @@ module _ (search : Search) where
     module _ (seen left : Account) where
       whole : (result : Result Exit ToolFault) (it : IsWhole search contents before after seen left result)
           → Printed contents before after (lines_in it.plays.gained) result → Stops result it.plays.gained
-      whole result it printed = record { follows = it.plays.follows; over = inl it.plays.over; printed = printed }
+      whole _ it printed = record { follows = it.plays.follows; over = inl it.plays.over; printed = printed }
 
       cut : (it : IsCutOff search contents before after seen left)
           → Stops (Err WriteFailed) (it.earlier ++ Waited it.wait it.heard ∷ [])
@@ -50,17 +47,15 @@ module _ (search : Search) where
         over = inr (
           refl,
           behind_wait search it.earlier it.wait it.heard (λ e.
-              let none = ap (found_by search.who) (sym e) ∙ it.finds in
+              let none = ap (found_by _) (sym e) ∙ it.finds in
               cc),
         );
         printed = (
-          flat_map found_line (found_in search it.earlier) ++ it.taken,
+          lines_in it.earlier ++ it.taken,
           it.rest,
-          lines-append it.earlier (Waited it.wait it.heard ∷ [])
-              ∙ ap (λ (xs : List ℕ). lines_in it.earlier ++ xs)
-              (ap (flat_map found_line) (append-nil (found_by search.who it.heard) ∙ it.finds)
-              ∙ append-nil (found_line it.last) ∙ it.line)
-              ∙ sym (append_assoc (lines_in it.earlier) it.taken it.rest),
+          lines-append it.earlier _ ∙ ap (λ (xs : List ℕ). lines_in it.earlier ++ xs)
+              (ap (flat_map found_line) (append-nil _ ∙ it.finds) ∙ append-nil _ ∙ it.line)
+              ∙ sym (append_assoc _ it.taken it.rest),
           it.printed,
         );
       }
@@ -80,7 +75,7 @@ module _ (search : Search) where
       stops (Err TurnsSpent) gained it gains =
           subst (Stops (Err TurnsSpent)) (played (search_move search) seen left _ gained it.plays gains)
           (whole (Err TurnsSpent) it it.printed)
-      stops (Err WriteFailed) gained it gains =
+      stops (Err WriteFailed) _ it gains =
           subst (Stops (Err WriteFailed))
           (append_cancel_left seen.history _ _ (ap (λ (s : Account). s.history) (sym it.gains) ∙ gains)) (cut it)
 
@@ -90,18 +85,16 @@ module _ {V W : Type 0} (contents : V → Option (List ℕ)) (contents' : W → 
   abbrev PrintAlike : Result Exit ToolFault → Result Exit ToolFault → Type 0
   PrintAlike = OneText contents before after contents' before' after'
 
-  module _ (result result' : Result Exit ToolFault) (first rest first' rest' : List Entry)
+  module _ {result result' : Result Exit ToolFault} {first : List Entry} (rest : List Entry) {first' : List Entry}
+      (rest' : List Entry)
       (a : Stops search contents before after result (first ++ rest))
       (b : Stops search contents' before' after' result' (first' ++ rest')) (one : first ≡ first') where
     here : rest ≡ [] → Stops search contents before after result first
-    here none =
-        subst (Stops search contents before after result)
-        (ap (λ (xs : List Entry). first ++ xs) none ∙ append-nil first) a
+    here none = subst (Stops search contents _ _ _) (ap (λ (xs : List Entry). first ++ xs) none ∙ append-nil _) a
 
     there : rest' ≡ [] → Stops search contents' before' after' result' first
     there none =
-        subst (Stops search contents' before' after' result')
-        (ap (λ (xs : List Entry). first' ++ xs) none ∙ append-nil first' ∙ sym one) b
+        subst (Stops search contents' _ _ _) (ap (λ (xs : List Entry). first' ++ xs) none ∙ append-nil _ ∙ sym one) b
 
     cut_here : rest ≡ [] → (x : Entry) → search_move search first ≡ Asks (question_of x)
         → (result ≡ Err WriteFailed) × PrintAlike result result'
@@ -165,12 +158,11 @@ module _ {V W : Type 0} (contents : V → Option (List ℕ)) (contents' : W → 
   pub searches_so_far : AskAlike (Searched search contents before after) (Searched search contents' before' after')
       (λ result. result ≡ Err WriteFailed) (λ result other. result ≡ other) PrintAlike
   searches_so_far seen left seen' left' result result' first rest first' rest' tells tells' gains gains' same =
-      let a = stops search contents before after seen left result (first ++ rest) tells gains in
+      let a = stops search contents _ _ seen left _ _ tells gains in
       let b = stops search contents' before' after' seen' left' result' (first' ++ rest') tells' gains' in
       let one = same_so_far (search_move search) [] first first' rest rest' a.follows b.follows same in (
         one,
         so_far (search_move search) (λ r. r ≡ Err WriteFailed) (λ r s. r ≡ s) PrintAlike first rest rest' result result'
-            (cut_here result result' first rest first' rest' a b one)
-            (cut_there result result' first rest first' rest' a b one)
-            (ends result result' first rest first' rest' a b one) first' one a.follows b.follows,
+            (cut_here rest rest' a b one) (cut_there rest rest' a b one)
+            (ends rest rest' a b one) _ one a.follows b.follows,
       )

@@ -1,26 +1,26 @@
 -- A device that serves, wait by wait.
-use Rattle.std.proofs.Common.{◌≡◌, ◌≢◌, ℕ, suc, ◌+◌, ◌<◌, List, [], ◌∷◌, ◌++◌, length, length-append, Option, Some}
-use Rattle.std.proofs.Common.{None, Result, Ok, Err, refl, sym, ap, ◌∙◌, arith, append_assoc, subst}
+use Rattle.std.proofs.{
+  Common.{◌≡◌, ◌≢◌, ℕ, suc, ◌+◌, ◌<◌, List, [], ◌∷◌, ◌++◌, length, length-append, Option, Some, None, Result, Ok, Err},
+  Common.{refl, sym, ap, ◌∙◌, arith, append_assoc, subst},
+  lemmas.{List.append-nil, List.Concat.flat_map-append, Bool.{le-leb, lt-leb}},
+}
 use Rattle.std.specs.List.{last_or}
-use Rattle.std.proofs.lemmas.List.{append-nil}
-use Rattle.std.proofs.lemmas.List.Concat.{flat_map-append}
-use Rattle.std.proofs.lemmas.Bool.{le-leb, lt-leb}
 use Rattle.bac_pdu.specs.Peer.{Station}
-use Rattle.bac_device.specs.Device.{DeviceState}
-use Rattle.bac_device.specs.Turns.{Arrival as Came}
-use Rattle.bac_device.specs.Reply.{reply_of}
-use Rattle.bac_links.specs.Limits.{most_turns, serve_wait}
-use Rattle.bac_links.specs.History.{Heard, Silence, Arrival, Failure, Entry, Waited, Posted, Unposted, Account}
-use Rattle.bac_links.specs.History.{GainsAll}
-use Rattle.bac_links.specs.Asking.{Asks, Ends, ToSend, question_of, Follows, waits_in, turn_after}
-use Rattle.bac_links.specs.Serve.{came_by, came_of_entry, arrivals_in, device_next, device_behind, replies_of}
-use Rattle.bac_links.specs.Serve.{reply_count, or_reply, serve_next, serve_behind, serve_move, Serves}
-use Rattle.bac_links.specs.Inner.ServeSteps.{came_in, replied_in, sends_of, LeavesDevice, ServesOne}
-use Rattle.bac_links.specs.declared.serving.Brought.{Brought}
-use Rattle.bac_links.specs.declared.fault.ToolFault.{ToolFault}
-use Rattle.bac_links.specs.declared.fault.ToolFault.TheVariants.{SendFailed, ReceiveFailed, TurnsSpent}
-use Rattle.bac_links.proofs.Asking.{last_push, follows_push, waits_push, turn_begins, turns_over}
-use Rattle.bac_links.proofs.Histories.{gains_both, gains_none}
+use Rattle.bac_device.specs.{Device.DeviceState, Turns.Arrival as Came, Reply.reply_of}
+use Rattle.bac_links.specs.{
+  Limits.{most_turns, serve_wait},
+  History.{Heard, Silence, Arrival, Failure, Entry, Waited, Posted, Unposted, Account, GainsAll},
+  Asking.{Asks, Ends, ToSend, question_of, Follows, waits_in, turn_after},
+  Serve.{came_by, came_of_entry, arrivals_in, device_next, device_behind, replies_of, reply_count, or_reply},
+  Serve.{serve_next, serve_behind, serve_move, Serves},
+  Inner.ServeSteps.{came_in, replied_in, sends_of, LeavesDevice, ServesOne},
+  declared.serving.Brought.Brought,
+  declared.fault.{ToolFault.ToolFault, ToolFault.TheVariants.{SendFailed, ReceiveFailed, TurnsSpent}},
+}
+use Rattle.bac_links.proofs.{
+  Asking.{last_push, follows_push, waits_push, turn_begins, turns_over},
+  Histories.{gains_both, gains_none},
+}
 
 abbrev Reply : Type 0
 Reply = Option (Station × List ℕ)
@@ -31,20 +31,20 @@ AtMostOne (r ∷ []) = Unit {0}
 AtMostOne (r ∷ s ∷ rs) = ⊥
 
 one_at_most : (device : DeviceState) (heard : Heard) → AtMostOne (replies_of device (came_by heard))
-one_at_most device (Arrival from octets) = tt
-one_at_most device Silence = tt
-one_at_most device Failure = tt
+one_at_most _ (Arrival from octets) = tt
+one_at_most _ Silence = tt
+one_at_most _ Failure = tt
 
 -- ---- datagrams one after another
 
 behind-append : (device : DeviceState) (xs ys : List Came)
     → device_behind device (xs ++ ys) ≡ device_behind (device_behind device xs) ys
-behind-append device [] ys = refl
+behind-append _ [] ys = refl
 behind-append device (x ∷ xs) ys = behind-append (device_next device x) xs ys
 
 replies-append : (device : DeviceState) (xs ys : List Came)
     → replies_of device (xs ++ ys) ≡ replies_of device xs ++ replies_of (device_behind device xs) ys
-replies-append device [] ys = refl
+replies-append _ [] ys = refl
 replies-append device (x ∷ xs) ys =
     ap (λ (rs : List Reply). reply_of device x.from x.datagram ∷ rs) (replies-append (device_next device x) xs ys)
 
@@ -53,9 +53,6 @@ arrivals-push : (gained : List Entry) (x : Entry)
 arrivals-push gained x =
     flat_map-append came_of_entry gained (x ∷ [])
     ∙ ap (λ (cs : List Came). arrivals_in gained ++ cs) (append-nil (came_of_entry x))
-
-count-append : (rs ss : List Reply) → reply_count (rs ++ ss) ≡ reply_count rs + reply_count ss
-count-append rs ss = simp (flat_map-append, length-append)
 
 -- ---- the next move
 
@@ -68,25 +65,22 @@ module _ (count : ℕ) (before : DeviceState) where
   replies-push : (gained : List Entry) (device : DeviceState) → device ≡ device_behind before (arrivals_in gained)
       → (x : Entry) → replies_of before (arrivals_in (gained ++ x ∷ []))
       ≡ replies_of before (arrivals_in gained) ++ replies_of device (came_of_entry x)
-  replies-push gained device is x =
-      ap (replies_of before) (arrivals-push gained x)
-      ∙ replies-append before (arrivals_in gained) (came_of_entry x)
+  replies-push gained _ is x =
+      ap (replies_of before) (arrivals-push gained x) ∙ replies-append before (arrivals_in gained) (came_of_entry x)
       ∙ ap (λ (d : DeviceState). replies_of before (arrivals_in gained) ++ replies_of d (came_of_entry x)) (sym is)
 
   behind_wait : (gained : List Entry) (device : DeviceState) → device ≡ device_behind before (arrivals_in gained)
       → (heard : Heard) → heard ≢ Failure → (rs : List Reply) → replies_of device (came_by heard) ≡ rs →
       serve_move count before (gained ++ Waited serve_wait heard ∷ [])
       ≡ or_reply (last_or None rs) (serve_next count before (gained ++ Waited serve_wait heard ∷ []))
-  behind_wait gained device is Failure received rs e = absurd (received refl)
-  behind_wait gained device is Silence received rs e =
-      behind gained (Waited serve_wait Silence)
-      ∙ ap (λ (rs : List Reply). or_reply (last_or None rs)
+  behind_wait _ _ is Failure received rs e = absurd (received refl)
+  behind_wait gained _ is Silence _ rs e =
+      behind gained (Waited serve_wait Silence) ∙ ap (λ (rs : List Reply). or_reply (last_or None rs)
       (serve_next count before (gained ++ Waited serve_wait Silence ∷ []))) e
-  behind_wait gained device is (Arrival from octets) received rs e =
+  behind_wait gained device is (Arrival from octets) _ rs e =
       let x = Waited serve_wait (Arrival from octets) in
       let next = serve_next count before (gained ++ x ∷ []) in
-      behind gained x
-      ∙ ap (λ (rs : List Reply). or_reply (last_or None rs) next) (replies-push gained device is x)
+      behind gained x ∙ ap (λ (rs : List Reply). or_reply (last_or None rs) next) (replies-push gained device is x)
       ∙ ap (λ (o : Option Reply). or_reply o next)
       (last_push None (replies_of before (arrivals_in gained)) (reply_of device from octets))
       ∙ ap (λ (rs : List Reply). or_reply (last_or None rs) next) e
@@ -102,8 +96,8 @@ pub record ServeGoes (before device : DeviceState) (seen link : Account) (count 
   pub came_is : came ≡ length (arrivals_in gained)
   pub replied_is : replied ≡ reply_count (replies_of before (arrivals_in gained))
 
-pub serves_none : (device : DeviceState) (seen : Account) (count : ℕ) → ServeGoes device device seen seen count 0 0 0
-serves_none device seen count = record {
+pub serves_none : {device : DeviceState} {seen : Account} {count : ℕ} → ServeGoes device device seen seen count 0 0 0
+serves_none {seen} = record {
   gained = [];
   gains = gains_none seen;
   follows = tt;
@@ -114,12 +108,12 @@ serves_none device seen count = record {
   replied_is = refl;
 }
 
-module _ (before device : DeviceState) (seen mid : Account) (count came replied n : ℕ)
+module _ {before device : DeviceState} {seen mid : Account} {count came replied n : ℕ}
     (goes : ServeGoes before device seen mid count came replied n) where
   -- How it ends.
   served : (result : Result ℕ ToolFault) → serve_move count before goes.gained ≡ Ends result
       → Serves count before device seen mid result
-  served result over = record {
+  served _ over = record {
     plays = record { gained = goes.gained; gains = goes.gains; follows = goes.follows; over = over };
     device = goes.device_is;
   }
@@ -140,24 +134,19 @@ module _ (before device : DeviceState) (seen mid : Account) (count came replied 
       served (Err TurnsSpent) (turn_so fewer ∙ turns_over serve_wait n (omega (arith, all)))
 
   -- One wait more.
-  module _ (after : DeviceState) (left : Account) (within : n < most_turns) (fewer : came < count) (heard : Heard) where
+  module _ (heard : Heard) where
     abbrev waited : List Entry
     waited = goes.gained ++ Waited serve_wait heard ∷ []
 
-    follows_waited : Follows (serve_move count before) [] waited
-    follows_waited =
-        follows_push (serve_move count before) [] goes.gained (Waited serve_wait heard) goes.follows
-        (turn_so fewer ∙ turn_begins serve_wait n within)
-
-    gains_waited : (rest : List Entry) → GainsAll (Waited serve_wait heard ∷ rest) mid left
+    gains_waited : {left : Account} (rest : List Entry) → GainsAll (Waited serve_wait heard ∷ rest) mid left
         → GainsAll (waited ++ rest) seen left
-    gains_waited rest more =
+    gains_waited {left} rest more =
         subst (λ (xs : List Entry). GainsAll xs seen left)
         (sym (append_assoc goes.gained (Waited serve_wait heard ∷ []) rest))
         (gains_both goes.gained (Waited serve_wait heard ∷ rest) seen mid left goes.gains more)
 
-    gains_one : GainsAll (Waited serve_wait heard ∷ []) mid left → GainsAll waited seen left
-    gains_one more = gains_both goes.gained (Waited serve_wait heard ∷ []) seen mid left goes.gains more
+    gains_one : {left : Account} → GainsAll (Waited serve_wait heard ∷ []) mid left → GainsAll waited seen left
+    gains_one more = gains_both goes.gained (Waited serve_wait heard ∷ []) seen mid _ goes.gains more
 
     -- What holds of these entries behind the wait, where they are no further waits.
     record IsBehind (gained : List Entry) : Type 0 where
@@ -177,7 +166,8 @@ module _ (before device : DeviceState) (seen mid : Account) (count came replied 
       waits = let one = waits_push waited x in let two = behind_waited.waits in omega (arith, one, two, still);
     }
 
-    module _ (leaves : LeavesDevice device heard after) (gained : List Entry) (is : IsBehind gained) where
+    module _ {after : DeviceState} (leaves : LeavesDevice device heard after) (gained : List Entry)
+        (is : IsBehind gained) where
       replies_are : replies_of before (arrivals_in gained)
           ≡ replies_of before (arrivals_in goes.gained) ++ replies_of device (came_by heard)
       replies_are =
@@ -191,12 +181,12 @@ module _ (before device : DeviceState) (seen mid : Account) (count came replied 
           ∙ sym (behind-append before (arrivals_in goes.gained) (came_by heard))
           ∙ ap (device_behind before) (sym is.brought)
 
-      on_with : (brings : Brought) → came_in brings ≡ length (came_by heard)
+      on_with : {left : Account} (brings : Brought) → came_in brings ≡ length (came_by heard)
           → replied_in brings ≡ reply_count (replies_of device (came_by heard)) → GainsAll gained seen left
           → Follows (serve_move count before) [] gained
           → serve_move count before gained ≡ serve_next count before gained
           → ServeGoes before after seen left count (came + came_in brings) (replied + replied_in brings) (suc n)
-      on_with brings came_so replied_so gains follows next = record {
+      on_with _ came_so replied_so gains follows next = record {
         gained = gained;
         gains = gains;
         follows = follows;
@@ -205,76 +195,72 @@ module _ (before device : DeviceState) (seen mid : Account) (count came replied 
         device_is = device_is;
         came_is = rw (is.brought, goes.came_is, came_so)
             (sym (length-append (arrivals_in goes.gained) (came_by heard)));
-        replied_is = rw (replies_are, goes.replied_is, replied_so)
-            (sym (count-append (replies_of before (arrivals_in goes.gained)) (replies_of device (came_by heard))));
+        replied_is = rw (replies_are, goes.replied_is, replied_so) (sym (simp (flat_map-append, length-append)));
       }
 
-      fails_with : (result : Result ℕ ToolFault) → GainsAll gained seen left
+      fails_with : {left : Account} (result : Result ℕ ToolFault) → GainsAll gained seen left
           → Follows (serve_move count before) [] gained → serve_move count before gained ≡ Ends result
           → Serves count before after seen left result
-      fails_with result gains follows over = record {
+      fails_with _ gains follows over = record {
         plays = record { gained = gained; gains = gains; follows = follows; over = over };
         device = device_is;
       }
 
-    module _ (received : heard ≢ Failure) where
-      follows_sent : (x : Entry) (reply : Station × List ℕ) → replies_of device (came_by heard) ≡ Some reply ∷ []
-          → ToSend reply.0 reply.1 ≡ question_of x → Follows (serve_move count before) [] (waited ++ x ∷ [])
-      follows_sent x reply e asks =
+    module _ (within : n < most_turns) (fewer : came < count) where
+      follows_waited : Follows (serve_move count before) [] waited
+      follows_waited =
+          follows_push (serve_move count before) [] goes.gained (Waited serve_wait heard) goes.follows
+          (turn_so fewer ∙ turn_begins serve_wait n within)
+
+      follows_sent : heard ≢ Failure → (x : Entry) (reply : Station × List ℕ)
+          → replies_of device (came_by heard) ≡ Some reply ∷ [] → ToSend reply.0 reply.1 ≡ question_of x
+          → Follows (serve_move count before) [] (waited ++ x ∷ [])
+      follows_sent received x reply e asks =
           follows_push (serve_move count before) [] waited x follows_waited
           (behind_wait count before goes.gained device goes.device_is heard received (Some reply ∷ []) e
           ∙ ap (λ q. Asks q) asks)
 
-      next_silent : (rs : List Reply) → replies_of device (came_by heard) ≡ rs → AtMostOne rs → sends_of rs ≡ []
-          → serve_move count before waited ≡ serve_next count before waited
-      next_silent [] e few none =
-          behind_wait count before goes.gained device goes.device_is heard received [] e
-      next_silent (None ∷ []) e few none =
-          behind_wait count before goes.gained device goes.device_is heard received (None ∷ []) e
-      next_silent (Some reply ∷ []) e few none = cc
-      next_silent (r ∷ s ∷ rs) e few none = absurd few
+    next_silent : heard ≢ Failure → (rs : List Reply) → replies_of device (came_by heard) ≡ rs → AtMostOne rs
+        → sends_of rs ≡ [] → serve_move count before waited ≡ serve_next count before waited
+    next_silent received [] e _ none = behind_wait count before goes.gained device goes.device_is heard received [] e
+    next_silent received (None ∷ []) e _ none =
+        behind_wait count before goes.gained device goes.device_is heard received (None ∷ []) e
+    next_silent received (Some reply ∷ []) e few none = cc
+    next_silent _ (r ∷ s ∷ rs) e few none = absurd few
 
-  pub serve_on : (after : DeviceState) (left : Account) → n < most_turns → came < count → (brings : Brought)
-      → ServesOne device after mid left (Ok brings) →
-      ServeGoes before after seen left count (came + came_in brings) (replied + replied_in brings) (suc n)
-  serve_on after left within fewer brings (heard, leaves, received, came_so, replied_so, gains) =
-      go (replies_of device (came_by heard)) refl (one_at_most device heard) gains
-    where
-      silent : (rs : List Reply) → replies_of device (came_by heard) ≡ rs → AtMostOne rs → sends_of rs ≡ []
-          → GainsAll (Waited serve_wait heard ∷ []) mid left →
-          ServeGoes before after seen left count (came + came_in brings) (replied + replied_in brings) (suc n)
-      silent rs e few none more =
-          on_with after left within fewer heard leaves (waited after left within fewer heard)
-          (behind_waited after left within fewer heard) brings came_so replied_so
-          (gains_one after left within fewer heard more) (follows_waited after left within fewer heard)
-          (next_silent after left within fewer heard received rs e few none)
+  module _ {after : DeviceState} {left : Account} (within : n < most_turns) (fewer : came < count) where
+    pub serve_on : (brings : Brought) → ServesOne device after mid left (Ok brings) →
+        ServeGoes before after seen left count (came + came_in brings) (replied + replied_in brings) (suc n)
+    serve_on brings (heard, leaves, received, came_so, replied_so, gains) =
+        go (replies_of device (came_by heard)) refl (one_at_most device heard) gains
+      where
+        silent : (rs : List Reply) → replies_of device (came_by heard) ≡ rs → AtMostOne rs → sends_of rs ≡ []
+            → GainsAll (Waited serve_wait heard ∷ []) mid left →
+            ServeGoes before after seen left count (came + came_in brings) (replied + replied_in brings) (suc n)
+        silent rs e few none more =
+            on_with heard leaves (waited heard) (behind_waited heard) brings came_so replied_so (gains_one heard more)
+            (follows_waited heard within fewer) (next_silent heard received rs e few none)
 
-      go : (rs : List Reply) → replies_of device (came_by heard) ≡ rs → AtMostOne rs
-          → GainsAll (Waited serve_wait heard ∷ sends_of rs) mid left →
-          ServeGoes before after seen left count (came + came_in brings) (replied + replied_in brings) (suc n)
-      go [] e few more = silent [] e few refl more
-      go (None ∷ []) e few more = silent (None ∷ []) e few refl more
-      go (Some reply ∷ []) e few more =
-          let x = Posted reply.0 reply.1 in
-          on_with after left within fewer heard leaves (waited after left within fewer heard ++ x ∷ [])
-          (behind_sent after left within fewer heard x refl refl) brings came_so replied_so
-          (gains_waited after left within fewer heard (x ∷ []) more)
-          (follows_sent after left within fewer heard received x reply e refl)
-          (behind count before (waited after left within fewer heard) x)
-      go (r ∷ s ∷ rs) e few more = absurd few
+        go : (rs : List Reply) → replies_of device (came_by heard) ≡ rs → AtMostOne rs
+            → GainsAll (Waited serve_wait heard ∷ sends_of rs) mid left →
+            ServeGoes before after seen left count (came + came_in brings) (replied + replied_in brings) (suc n)
+        go [] e few more = silent [] e few refl more
+        go (None ∷ []) e few more = silent (None ∷ []) e few refl more
+        go (Some reply ∷ []) e few more =
+            let x = Posted reply.0 reply.1 in
+            on_with heard leaves (waited heard ++ x ∷ []) (behind_sent heard x refl refl) brings came_so replied_so
+            (gains_waited heard (x ∷ []) more) (follows_sent heard within fewer received x reply e refl)
+            (behind count before (waited heard) x)
+        go (r ∷ s ∷ rs) e few more = absurd few
 
-  pub serve_fails : (after : DeviceState) (left : Account) → n < most_turns → came < count → (fault : ToolFault)
-      → ServesOne device after mid left (Err fault) → Serves count before after seen left (Err fault)
-  serve_fails after left within fewer SendFailed (heard, reply, leaves, received, e, gains) =
-      let x = Unposted reply.0 reply.1 in
-      fails_with after left within fewer heard leaves (waited after left within fewer heard ++ x ∷ [])
-      (behind_sent after left within fewer heard x refl refl) (Err SendFailed)
-      (gains_waited after left within fewer heard (x ∷ []) gains)
-      (follows_sent after left within fewer heard received x reply e refl)
-      (behind count before (waited after left within fewer heard) x)
-  serve_fails after left within fewer ReceiveFailed (same, gains) =
-      fails_with after left within fewer Failure same (waited after left within fewer Failure)
-      (behind_waited after left within fewer Failure) (Err ReceiveFailed)
-      (gains_one after left within fewer Failure gains) (follows_waited after left within fewer Failure)
-      (behind count before goes.gained (Waited serve_wait Failure))
-  serve_fails after left within fewer _ one = absurd one
+    pub serve_fails : (fault : ToolFault) → ServesOne device after mid left (Err fault)
+        → Serves count before after seen left (Err fault)
+    serve_fails SendFailed (heard, reply, leaves, received, e, gains) =
+        let x = Unposted reply.0 reply.1 in
+        fails_with heard leaves (waited heard ++ x ∷ []) (behind_sent heard x refl refl) (Err SendFailed)
+        (gains_waited heard (x ∷ []) gains) (follows_sent heard within fewer received x reply e refl)
+        (behind count before (waited heard) x)
+    serve_fails ReceiveFailed (same, gains) =
+        fails_with Failure same (waited Failure) (behind_waited Failure) (Err ReceiveFailed) (gains_one Failure gains)
+        (follows_waited Failure within fewer) (behind count before goes.gained (Waited serve_wait Failure))
+    serve_fails _ one = absurd one

@@ -1,9 +1,8 @@
-use Rattle.std.proofs.Common.{◌≡◌, [], ◌∷◌, refl}
-use Rattle.std.proofs.lemmas.Result.{err_from_is_err_and}
-use Rattle.bac_links.specs.History.{Timed}
-use Rattle.bac_links.proofs.Histories.{gains_both}
-use Rattle.bac_links.proofs.CallEvents.{submitted_is}
-use Rattle.bac_links.proofs.CallTurns.{begun, unbegun}
+use Rattle.std.proofs.{Common.{◌≡◌, [], ◌∷◌, refl}, lemmas.Result.err_from_is_err_and}
+use Rattle.bac_links.{
+  specs.History.Timed,
+  proofs.{Histories.gains_both, CallEvents.submitted_is, CallTurns.{begun, unbegun}},
+}
 use Rattle.bac_links.proofs.call.begin.Goals as goal
 
 pub unwrap-ticket-requires : goal.unwrap-ticket-requires
@@ -32,7 +31,7 @@ returns-clause-ok g c =
     let client = rw (c.tick.ensures.1, c.new-client.ensures, c.service.ensures, c.as_slice.ensures.value) at
     c.submit.ensures.1 in
     let sends = rw first at c.in_ok-send_request.ensures.ok in
-    begun c.args.purpose c.args.call.now _ _ c.now.result short c.submit.new.self client
+    begun c.args.purpose c.args.call.now c.now.result short client
     (gains_both (Timed c.now.result ∷ []) _ _ _ _ c.now.ensures.told sends)
 
 pub returns-in_err-send_request-clause-err : goal.returns-in_err-send_request-clause-err
@@ -53,6 +52,6 @@ returns-in_err-send_request-clause-err g c =
     let lost = rw first at failed.1 in
     rw (p.1, p.2) (
       failed.0,
-      unbegun c.args.purpose c.args.call.now _ _ c.now.result short c.submit.new.self client
+      unbegun c.args.purpose c.args.call.now c.now.result short client
           (lost.0, lost.1, lost.2, gains_both (Timed c.now.result ∷ []) _ _ _ _ c.now.ensures.told lost.3),
     )

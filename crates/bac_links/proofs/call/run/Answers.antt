@@ -1,7 +1,5 @@
-use Rattle.std.proofs.Common.{arith, add-one, refl}
-use Rattle.std.proofs.lemmas.Result.{err_from_is_err_and}
-use Rattle.bac_links.specs.Inner.Ending.{ending_seen}
-use Rattle.bac_links.proofs.CallTurns.{fails_so, shown_so, spent}
+use Rattle.std.proofs.{Common.{arith, add-one, refl}, lemmas.Result.err_from_is_err_and}
+use Rattle.bac_links.{specs.Inner.Ending.ending_seen, proofs.CallTurns.{fails_so, shown_so, spent}}
 use Rattle.bac_links.proofs.call.run.Goals as goal
 
 pub returns-in_err-client-clause-told : goal.returns-in_err-client-clause-told
@@ -12,9 +10,7 @@ returns-in_err-client-clause-told g c =
 pub returns-in_err-ending-clause-told : goal.returns-in_err-ending-clause-told
 returns-in_err-ending-clause-told g c =
     let p = err_from_is_err_and c.from_residual-in_err-ending.result c.from_residual-in_err-ending.ensures.1 in
-    rw (p.1, p.2)
-    (fails_so c.args.purpose c.args.call.now _ _ _ _ _ _ c.in_err-ending.ensures.err.0
-    c.loop-turn.invariant.unwritten
+    rw (p.1, p.2) (fails_so _ _ _ _ c.in_err-ending.ensures.err.0 c.loop-turn.invariant.unwritten
     (c.in_err-ending.ensures.err.1 c.args.purpose c.args.call.now _ _ c.turn_wait-wait_ms.ensures
     (rw c.most_turns-turn-end.ensures at c.loop-turn-test.true) c.loop-turn.invariant.so_far))
 
@@ -23,8 +19,7 @@ returns-in-Some-clause-told g c =
     let ended = rw c.in-Some.is at
     (c.in_ok-ending.ensures.ok c.args.purpose c.args.call.now _ _ c.turn_wait-wait_ms.ensures
     (rw c.most_turns-turn-end.ensures at c.loop-turn-test.true) c.loop-turn.invariant.so_far) in
-    rw (← c.loop-turn.invariant.unwritten)
-    (shown_so c.args.purpose c.args.call.now _ _ _ _ _ (ending_seen c.in-Some.ending) c.show_ending.result
+    rw (← c.loop-turn.invariant.unwritten) (shown_so _ _ _ (ending_seen c.in-Some.ending) c.show_ending.result
     c.show_ending.ensures.text c.show_ending.ensures.exit c.show_ending.ensures.fault ended)
 
 pub loop-turn-preserved : goal.loop-turn-preserved
@@ -40,5 +35,5 @@ loop-turn-preserved g c = record {
 pub returns-clause-told : goal.returns-clause-told
 returns-clause-told g c = (
   c.loop-turn.invariant.unwritten,
-  spent c.args.purpose c.args.call.now _ _ _ c.loop-turn._turn (omega arith) c.loop-turn.invariant.so_far,
+  spent c.loop-turn._turn (omega arith) c.loop-turn.invariant.so_far,
 )

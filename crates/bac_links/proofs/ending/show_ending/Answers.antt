@@ -1,7 +1,5 @@
-use Rattle.std.proofs.Common.{rules, Ok, Err}
-use Rattle.std.proofs.lemmas.Result.{err_from_is_err_and}
-use Rattle.bac_print.proofs.Printed.{◌⨾◌}
-use Rattle.bac_print.proofs.Shown.{shown}
+use Rattle.std.proofs.{Common.{rules, Ok, Err}, lemmas.Result.err_from_is_err_and}
+use Rattle.bac_print.proofs.{Printed.◌⨾◌, Shown.shown}
 use Rattle.bac_links.proofs.ending.show_ending.Goals as goal
 
 pub returns-in_err-finish-clause-text : goal.returns-in_err-finish-clause-text

@@ -1,10 +1,7 @@
-use Rattle.std.proofs.Common.{refl}
-use Rattle.std.proofs.lemmas.List.{append-nil}
-use Rattle.std.proofs.lemmas.Result.{err_from_is_err_and}
+use Rattle.std.proofs.{Common.refl, lemmas.{List.append-nil, Result.err_from_is_err_and}}
 use Rattle.bac_print.proofs.Known.{Took-none}
 use Rattle.bac_pdu.specs.Peer.{station}
-use Rattle.bac_links.specs.History.{Arrival}
-use Rattle.bac_links.specs.Inner.Search.{found_seen}
+use Rattle.bac_links.specs.{History.Arrival, Inner.Search.found_seen}
 use Rattle.bac_links.proofs.search.listen.Goals as goal
 
 pub returns-in_ok-show_found-in-Some-clause-told : goal.returns-in_ok-show_found-in-Some-clause-told

@@ -1,46 +1,45 @@
-use Rattle.std.proofs.Common.{arith, add-one, refl, ◌∙◌}
-use Rattle.std.proofs.lemmas.Result.{err_from_is_err_and}
-use Rattle.bac_links.specs.declared.ending.Exit.TheVariants.{Good, Bad}
-use Rattle.bac_links.proofs.Searches.{begun, unbegun, goes_on, ended, fails, spent}
+use Rattle.std.proofs.{Common.{arith, add-one, refl, ◌∙◌}, lemmas.Result.err_from_is_err_and}
+use Rattle.bac_links.{
+  specs.declared.ending.Exit.TheVariants.{Good, Bad},
+  proofs.Searches.{begun, unbegun, goes_on, ended, fails, spent},
+}
 use Rattle.bac_links.proofs.search.run_whois.Goals as goal
 
 pub returns-in_err-ask-clause-told : goal.returns-in_err-ask-clause-told
 returns-in_err-ask-clause-told g c =
     let p = err_from_is_err_and c.from_residual.result c.from_residual.ensures.1 in
     rw (p.1, p.2, c.in_err-ask.ensures.err)
-    (unbegun c.args.search.now _ _ _ _ _ c.now-first.result c.now-first.ensures.told c.in_err-ask.ensures.told)
+    (unbegun c.args.search.now c.now-first.result c.now-first.ensures.told c.in_err-ask.ensures.told)
 
 pub loop-turn-init : goal.loop-turn-init
 loop-turn-init g c = record {
   sound = c.in_ok-ask.ensures.fault;
   unfailed = c.requires.writer;
   later = omega arith;
-  goes = begun c.args.search.now _ _ _ _ _ c.now-first.result c.now-first.ensures.told
-      c.in_ok-ask.ensures.told;
+  goes = begun c.args.search.now c.now-first.result c.now-first.ensures.told c.in_ok-ask.ensures.told;
 }
 
 pub returns-in_err-any-clause-told : goal.returns-in_err-any-clause-told
 returns-in_err-any-clause-told g c =
     let p = err_from_is_err_and c.from_residual-in_err-any.result c.from_residual-in_err-any.ensures.1 in
-    rw (p.1, p.2)
-    (fails c.args.search.now _ _ _ _ _ _ _ _ _ _ _ c.loop-turn.invariant.goes
-    (rw c.most_turns-turn-end.ensures at c.loop-turn-test.true) _ _ c.turn_wait-wait_ms.ensures
+    rw (p.1, p.2) (fails c.loop-turn.invariant.goes
+    (rw c.most_turns-turn-end.ensures at c.loop-turn-test.true) _ _ _ c.turn_wait-wait_ms.ensures
     c.in_err-any.ensures.told)
 
 pub returns-then-any-clause-told : goal.returns-then-any-clause-told
 returns-then-any-clause-told g c =
     let told = rw c.turn_wait-wait_ms.ensures at c.in_ok-any.ensures.told in
     let over = rw (c.from.ensures, c.max-greatest.ensures) at c.if-greatest-first.true in
-    ended c.args.search.now _ _ _ _ _ _ _ _ _ _ _ c.loop-turn.invariant.goes
-    (rw c.most_turns-turn-end.ensures at c.loop-turn-test.true) _ told _ _ c.now.ensures.told Good
+    ended c.loop-turn.invariant.goes
+    (rw c.most_turns-turn-end.ensures at c.loop-turn-test.true) told _ c.now.ensures.told Good
     (rw c.if-any.true refl) over
 
 pub returns-else-any-clause-told : goal.returns-else-any-clause-told
 returns-else-any-clause-told g c =
     let told = rw c.turn_wait-wait_ms.ensures at c.in_ok-any.ensures.told in
     let over = rw (c.from.ensures, c.max-greatest.ensures) at c.if-greatest-first.true in
-    ended c.args.search.now _ _ _ _ _ _ _ _ _ _ _ c.loop-turn.invariant.goes
-    (rw c.most_turns-turn-end.ensures at c.loop-turn-test.true) _ told _ _ c.now.ensures.told Bad
+    ended c.loop-turn.invariant.goes
+    (rw c.most_turns-turn-end.ensures at c.loop-turn-test.true) told _ c.now.ensures.told Bad
     (rw c.if-any.false refl) over
 
 pub loop-turn-preserved : goal.loop-turn-preserved
@@ -52,11 +51,9 @@ loop-turn-preserved g c =
       unfailed = c.in_ok-any.ensures.write_fault;
       later = omega (arith, c.loop-turn.invariant.later, c.max-greatest.ensures);
       goes =
-          rw (c.max-greatest.ensures, add-one)
-          (goes_on c.args.search.now _ _ _ _ _ _ _ _ _ _ _ c.loop-turn.invariant.goes
-          (rw c.most_turns-turn-end.ensures at c.loop-turn-test.true) _ told _ _ c.now.ensures.told in_time);
+          rw (c.max-greatest.ensures, add-one) (goes_on c.loop-turn.invariant.goes
+          (rw c.most_turns-turn-end.ensures at c.loop-turn-test.true) told _ c.now.ensures.told in_time);
     }
 
 pub returns-clause-told : goal.returns-clause-told
-returns-clause-told g c =
-    spent c.args.search.now _ _ _ _ _ _ _ _ c.loop-turn._turn (omega arith) c.loop-turn.invariant.goes
+returns-clause-told g c = spent c.loop-turn._turn (omega arith) c.loop-turn.invariant.goes

@@ -1,5 +1,4 @@
-use Rattle.std.proofs.Common.{rules, Ok, Err}
-use Rattle.std.proofs.lemmas.Result.{err_from_is_err_and}
+use Rattle.std.proofs.{Common.{rules, Ok, Err}, lemmas.Result.err_from_is_err_and}
 use Rattle.bac_print.proofs.Shown.{shown}
 use Rattle.bac_links.proofs.search.show_found.Goals as goal
 

@@ -1,20 +1,20 @@
-use Rattle.std.proofs.Common.{◌≡◌, ℕ, ◌<◌, ◌≤◌, List, ◌∷◌, [], ◌++◌, length, length-append, None, Result, Ok, Err, OnOk}
-use Rattle.std.proofs.Common.{OnErr, false, refl, arith, ap, ◌∙◌}
-use Rattle.bac_wire.specs.Tag.{plain_tag}
-use Rattle.bac_wire.specs.Parameter.{number_octets, object_octets}
-use Rattle.bac_pdu.specs.declared.discovery.WhoIs.{WhoIs}
+use Rattle.std.proofs.{
+  Common.{◌≡◌, ℕ, ◌<◌, ◌≤◌, List, ◌∷◌, [], ◌++◌, length, length-append, None, Result, Ok, Err, OnOk, OnErr, refl},
+  Common.{arith, ap, ◌∙◌},
+}
+use Rattle.bac_wire.specs.{Tag.plain_tag, Parameter.{number_octets, object_octets}}
+use Rattle.bac_pdu.{
+  specs.{declared.discovery.WhoIs.WhoIs, Parameter.plain_parameter, Peer.station, Datagram.wrapped},
+  specs.Discovery.who_is_octets,
+  proofs.LengthLaws.read_octets_short,
+}
 use Rattle.bac_pdu.specs.declared.discovery.WhoIs.TheVariants as limits
-use Rattle.bac_pdu.specs.Parameter.{plain_parameter}
-use Rattle.bac_pdu.proofs.LengthLaws.{read_octets_short}
-use Rattle.bac_pdu.specs.Peer.{station}
-use Rattle.bac_pdu.specs.Datagram.{wrapped}
-use Rattle.bac_pdu.specs.Discovery.{who_is_octets}
 use Rattle.bac_links.proofs.search.who_is.Goals as goal
 
 has_room : {T E : Type 0} (result : Result T E) (P : Type 0) (most octets : ℕ) → OnOk result P
     → OnErr result (most < octets) → octets ≤ most → P
-has_room (Ok x) P most octets ok full le = ok
-has_room (Err e) P most octets ok full le = absurd (omega (arith, full))
+has_room (Ok x) P _ _ ok _ le = ok
+has_room (Err e) P _ _ ok full le = absurd (omega (arith, full))
 
 -- A property is named in as many octets as a limit.
 limit_short : (n : ℕ) → length (number_octets 1 n) ≤ 45
@@ -36,13 +36,10 @@ pub returns : goal.returns
 returns c =
     let short = who_is_short c.args.who in
     let front : c.write_apdu.new.frame ≡ 16 ∷ 8 ∷ [] =
-    has_room c.write_apdu.result _ 1497 _ c.write_apdu.ensures.appended.ok c.write_apdu.ensures.appended.full
-    (rw c.new-frame.ensures (omega arith))
-    ∙ rw c.new-frame.ensures refl in
+    has_room _ _ 1497 _ c.write_apdu.ensures.appended.ok c.write_apdu.ensures.appended.full
+    (rw c.new-frame.ensures (omega arith)) ∙ rw c.new-frame.ensures refl in
     let apdu : c.write_whois.new.frame ≡ 16 ∷ 8 ∷ who_is_octets c.args.who =
-    has_room c.write_whois.result _ 1497 _ c.write_whois.ensures.appended.ok c.write_whois.ensures.appended.full
-    (rw front (omega (arith, short)))
-    ∙ ap (λ (xs : List ℕ). xs ++ who_is_octets c.args.who) front in
-    has_room c.wrap_within.result _ 1480 _ c.wrap_within.ensures.ok c.wrap_within.ensures.room
-    (rw apdu (omega (arith, short)))
-    ∙ ap (wrapped (station c.args.to).route false) apdu
+    has_room _ _ 1497 _ c.write_whois.ensures.appended.ok c.write_whois.ensures.appended.full
+    (rw front (omega (arith, short))) ∙ ap (λ (xs : List ℕ). xs ++ who_is_octets c.args.who) front in
+    has_room _ _ 1480 _ c.wrap_within.ensures.ok c.wrap_within.ensures.room (rw apdu (omega (arith, short)))
+    ∙ ap (wrapped (station c.args.to).route _) apdu

@@ -1,19 +1,16 @@
-use Rattle.std.proofs.Common.{arith, add-one, sym}
-use Rattle.std.proofs.lemmas.Result.{err_from_is_err_and}
+use Rattle.std.proofs.{Common.{arith, add-one, sym}, lemmas.Result.err_from_is_err_and}
 use Rattle.bac_links.proofs.Servings.{serves_none, serve_done, serve_spent, serve_on, serve_fails}
 use Rattle.bac_links.proofs.serving.serve.Goals as goal
 
 pub returns-then-count-eq0-clause-told : goal.returns-then-count-eq0-clause-told
-returns-then-count-eq0-clause-told g c =
-    serve_done c.args.device.now c.args.device.now _ _ c.args.count 0 0 0 (serves_none c.args.device.now _ c.args.count)
-    (sym c.if-count-eq0.true)
+returns-then-count-eq0-clause-told g c = serve_done serves_none (sym c.if-count-eq0.true)
 
 pub loop-turn-init : goal.loop-turn-init
 loop-turn-init g c = record {
   sound = c.requires;
   fewer = omega (arith, c.if-count-eq0.false);
   one_a_turn = omega arith;
-  goes = serves_none c.args.device.now _ c.args.count;
+  goes = serves_none;
 }
 
 pub returns-in_err-brought-clause-told : goal.returns-in_err-brought-clause-told
@@ -21,17 +18,15 @@ returns-in_err-brought-clause-told g c =
     let p = err_from_is_err_and c.from_residual.result c.from_residual.ensures.1 in
     let all = c.loop-turn.invariant in
     rw (p.1, p.2)
-    (serve_fails c.args.device.now _ _ _ c.args.count _ _ _ all.goes _ _
-    (rw c.most_turns-turn-end.ensures at c.loop-turn-test.true) all.fewer _ c.in_err-brought.ensures.told)
+    (serve_fails all.goes (rw c.most_turns-turn-end.ensures at c.loop-turn-test.true) all.fewer _
+    c.in_err-brought.ensures.told)
 
 pub returns-then-came-count-clause-told : goal.returns-then-came-count-clause-told
 returns-then-came-count-clause-told g c =
     let all = c.loop-turn.invariant in
-    let goes = serve_on c.args.device.now _ _ _ c.args.count _ _ _ all.goes _ _
-    (rw c.most_turns-turn-end.ensures at c.loop-turn-test.true) all.fewer _ c.in_ok-brought.ensures.told in
-    rw c.replied-replied.ensures.value
-    (serve_done c.args.device.now _ _ _ c.args.count _ _ _ goes
-    (rw c.came-came.ensures.value at c.if-came-count.true))
+    let goes = serve_on all.goes (rw c.most_turns-turn-end.ensures at c.loop-turn-test.true) all.fewer _
+    c.in_ok-brought.ensures.told in
+    rw c.replied-replied.ensures.value (serve_done goes (rw c.came-came.ensures.value at c.if-came-count.true))
 
 pub loop-turn-preserved : goal.loop-turn-preserved
 loop-turn-preserved g c =
@@ -42,11 +37,11 @@ loop-turn-preserved g c =
       one_a_turn = omega (arith, all.one_a_turn, c.replied-replied.ensures.few);
       goes =
           rw (c.came-came.ensures.value, c.replied-replied.ensures.value, add-one)
-          (serve_on c.args.device.now _ _ _ c.args.count _ _ _ all.goes _ _
-          (rw c.most_turns-turn-end.ensures at c.loop-turn-test.true) all.fewer _ c.in_ok-brought.ensures.told);
+          (serve_on all.goes (rw c.most_turns-turn-end.ensures at c.loop-turn-test.true) all.fewer _
+          c.in_ok-brought.ensures.told);
     }
 
 pub returns-clause-told : goal.returns-clause-told
 returns-clause-told g c =
     let all = c.loop-turn.invariant in
-    serve_spent c.args.device.now _ _ _ c.args.count _ _ c.loop-turn._turn all.goes (omega arith) all.fewer
+    serve_spent all.goes (omega arith) all.fewer

@@ -1,8 +1,6 @@
 use Rattle.std.proofs.Common.{[], ◌∷◌, refl}
 use Rattle.bac_pdu.specs.Peer.{station}
-use Rattle.bac_links.specs.History.{Silence, Arrival, Waited}
-use Rattle.bac_links.specs.Limits.{serve_wait}
-use Rattle.bac_links.proofs.Histories.{gains_both}
+use Rattle.bac_links.{specs.{History.{Silence, Arrival, Waited}, Limits.serve_wait}, proofs.Histories.gains_both}
 use Rattle.bac_links.proofs.serving.serve_turn.Goals as goal
 
 pub returns-in-Ok-None-clause-told : goal.returns-in-Ok-None-clause-told

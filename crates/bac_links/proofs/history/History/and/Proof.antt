@@ -28,11 +28,10 @@ use denote.Triple.Spec.{Meets, triple_of}
 use denote.Triple.Table.{entered}
 use denote.Triple.Walked.{says, Stays, stay_dropped, walk_of, ends_at, walk_Meets, Goes-dropped}
 use Rattle.bac_print.proofs.Walks.{none, none_made}
+use Rattle.bac_links.specs.{Inner.Note.noted, contracts.history.History.and.Key.name as #self}
 use Rattle.bac_links.specs.contracts.history.History as History
 use Rattle.bac_links.specs.contracts.history.Note as Note
-use Rattle.bac_links.specs.Inner.Note.{noted}
 use Rattle.bac_links.specs.contracts.history.History.and as F
-use Rattle.bac_links.specs.contracts.history.History.and.Key.{name as #self}
 use Rattle.bac_links.proofs.history.History.and.Statement as stated
 use Rattle.bac_links.proofs.history.History.and.Code as code
 

@@ -24,9 +24,9 @@ use denote.Triple.Spec.{Meets, triple_of}
 use denote.Triple.Table.{entered}
 use denote.Triple.Walked.{says, Stays, walk_of, ends_at, walk_Meets}
 use Rattle.bac_print.proofs.Walks.{none, none_made}
+use Rattle.bac_links.specs.contracts.history.History.new.Key.{name as #self}
 use Rattle.bac_links.specs.contracts.history.History as History
 use Rattle.bac_links.specs.contracts.history.History.new as F
-use Rattle.bac_links.specs.contracts.history.History.new.Key.{name as #self}
 use Rattle.bac_links.proofs.history.History.new.Statement as stated
 use Rattle.bac_links.proofs.history.History.new.Code as code
 

@@ -28,11 +28,10 @@ use denote.Triple.Spec.{Meets, triple_of}
 use denote.Triple.Table.{entered}
 use denote.Triple.Walked.{says, Stays, stay_dropped, walk_of, ends_at, walk_Meets, Goes-dropped}
 use Rattle.bac_print.proofs.Walks.{none, none_made}
+use Rattle.bac_links.specs.{Log.logged, contracts.log.Log.and.Key.name as #self}
 use Rattle.bac_links.specs.contracts.log.Log as Log
 use Rattle.bac_links.specs.contracts.log.CallNote as Note
-use Rattle.bac_links.specs.Log.{logged}
 use Rattle.bac_links.specs.contracts.log.Log.and as F
-use Rattle.bac_links.specs.contracts.log.Log.and.Key.{name as #self}
 use Rattle.bac_links.proofs.log.Log.and.Statement as stated
 use Rattle.bac_links.proofs.log.Log.and.Code as code
 

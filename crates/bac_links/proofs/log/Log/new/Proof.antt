@@ -24,9 +24,9 @@ use denote.Triple.Spec.{Meets, triple_of}
 use denote.Triple.Table.{entered}
 use denote.Triple.Walked.{says, Stays, walk_of, ends_at, walk_Meets}
 use Rattle.bac_print.proofs.Walks.{none, none_made}
+use Rattle.bac_links.specs.contracts.log.Log.new.Key.{name as #self}
 use Rattle.bac_links.specs.contracts.log.Log as Log
 use Rattle.bac_links.specs.contracts.log.Log.new as F
-use Rattle.bac_links.specs.contracts.log.Log.new.Key.{name as #self}
 use Rattle.bac_links.proofs.log.Log.new.Statement as stated
 use Rattle.bac_links.proofs.log.Log.new.Code as code
 
