@@ -12,7 +12,7 @@ unwrap-ticket-requires g c =
     let answer = rw (
       c.tick.ensures.1,
       c.new-client.ensures,
-      c.service.ensures,
+      c.service_of.ensures,
       c.as_slice.ensures.value,
       submitted_is c.args.purpose c.args.call.now c.now.result short,
     ) at c.submit.ensures.0 in
@@ -24,12 +24,12 @@ returns-clause-ok g c =
     let answer = rw (
       c.tick.ensures.1,
       c.new-client.ensures,
-      c.service.ensures,
+      c.service_of.ensures,
       c.as_slice.ensures.value,
       submitted_is c.args.purpose c.args.call.now c.now.result short,
     ) at c.submit.ensures.0 in
     let first : c.unwrap-ticket.result ≡ 0 = cc in
-    let client = rw (c.tick.ensures.1, c.new-client.ensures, c.service.ensures, c.as_slice.ensures.value) at
+    let client = rw (c.tick.ensures.1, c.new-client.ensures, c.service_of.ensures, c.as_slice.ensures.value) at
     c.submit.ensures.1 in
     let sends = rw first at c.in_ok-send_request.ensures.ok in
     begun c.args.purpose c.args.call.now _ _ c.now.result short c.submit.new.self client
@@ -43,12 +43,12 @@ returns-in_err-send_request-clause-err g c =
     let answer = rw (
       c.tick.ensures.1,
       c.new-client.ensures,
-      c.service.ensures,
+      c.service_of.ensures,
       c.as_slice.ensures.value,
       submitted_is c.args.purpose c.args.call.now c.now.result short,
     ) at c.submit.ensures.0 in
     let first : c.unwrap-ticket.result ≡ 0 = cc in
-    let client = rw (c.tick.ensures.1, c.new-client.ensures, c.service.ensures, c.as_slice.ensures.value) at
+    let client = rw (c.tick.ensures.1, c.new-client.ensures, c.service_of.ensures, c.as_slice.ensures.value) at
     c.submit.ensures.1 in
     let lost = rw first at failed.1 in
     rw (p.1, p.2) (
