@@ -9,24 +9,70 @@ ghost use Rattle.bac_links.specs.Limits.{most_turns, turn_wait};
 ghost use Rattle.bac_links.specs.History.{Heard, Failure, Waited, Timed, Account, GainsAll, Gains};
 ghost use Rattle.bac_links.specs.Fault.{is_link_fault, is_write_fault};
 ghost use Rattle.bac_links.specs.Inner.Ending.{ending_seen};
-ghost use Rattle.bac_links.specs.Call.{Calls, Tells};
+ghost use Rattle.bac_links.specs.Call.{Calls, Tells, service_of};
 ghost use Rattle.bac_links.specs.Inner.CallSteps.{posts, wait_of, endings, GainsLost, heard_step, IsAlone, timeouts};
 ghost use Rattle.bac_links.specs.Inner.CallSteps.{answers, Underway};
 ghost use Rattle.bac_links.specs.declared.ending.Purpose.{Purpose};
 ghost use Rattle.bac_links.specs.declared.ending.Purpose.TheVariants.{Reading, Writing};
-ghost use Rattle.bac_text.specs.declared.jobs.Call.{Call as Asked};
+ghost use Rattle.bac_text.specs.declared.jobs.Call.{Call};
 
 use crate::datagram::Datagram;
 use crate::ending::{Ending, Exit, Purpose, show_ending};
 use crate::fault::ToolFault;
 use crate::link::Link;
+use bac_pdu::{READ_PROPERTY, WRITE_PROPERTY};
 use bac_print::Checked;
 use bac_text::Call;
 use bac_tsm::{Client, Config, Entry, Outcome};
 use std::io::Write;
 
-/// The longest wait of a turn, in milliseconds.
+// The longest wait of a turn, in milliseconds.
 const LONGEST_WAIT: u32 = 50;
+
+/// Reads a property (clause 15.5): sends the request, waits for how it ends, and prints that in a line, as `4290999a`,
+/// `error 2 32` or `timeout`. It is good to have read a value. What the answer says of the object and the property is
+/// not compared with what was asked.
+///
+/// # Errors
+///
+/// `SendFailed` and `ReceiveFailed` where the link failed so, and `TurnsSpent` where the request is open after 65,536
+/// turns; nothing was printed then. `WriteFailed` where the writer failed or took no octet; a front of the line was
+/// printed then.
+pub fn run_read<L: Link, W: Write>(
+    call: &Call,
+    link: &mut L,
+    writer: &mut Checked<W>,
+) -> Result<Exit, ToolFault>
+    requires link { L.has_failed link.old ≡ false }
+    requires writer { has_failed writer.old ≡ false }
+    requires timeout { 0 < call.now.timeout }
+    ensures link_fault { L.has_failed link.new ≡ is_link_fault result }
+    ensures write_fault { has_failed writer.new ≡ is_write_fault result }
+    ensures told { Tells Reading call.now W.contents writer.old writer.new (L.seen link.old) (L.seen link.new) result }
+{
+    run(Purpose::Reading, call, link, writer)
+}
+
+/// Writes a property (clause 15.9): sends the request, waits for how it ends, and prints that in a line, as `ok`,
+/// `error 2 40` or `timeout`. `ok` is good: the property was written.
+///
+/// # Errors
+///
+/// Those of `run_read`.
+pub fn run_write<L: Link, W: Write>(
+    call: &Call,
+    link: &mut L,
+    writer: &mut Checked<W>,
+) -> Result<Exit, ToolFault>
+    requires link { L.has_failed link.old ≡ false }
+    requires writer { has_failed writer.old ≡ false }
+    requires timeout { 0 < call.now.timeout }
+    ensures link_fault { L.has_failed link.new ≡ is_link_fault result }
+    ensures write_fault { has_failed writer.new ≡ is_write_fault result }
+    ensures told { Tells Writing call.now W.contents writer.old writer.new (L.seen link.old) (L.seen link.new) result }
+{
+    run(Purpose::Writing, call, link, writer)
+}
 
 /// The turns after which a tool gives up. A function and no constant, so that its clause says the number.
 pub(crate) const fn most_turns() -> u32
@@ -42,20 +88,92 @@ pub(crate) fn turn_wait(timeout: u32) -> u32
     timeout.min(LONGEST_WAIT)
 }
 
-// Sends the datagram of an open request.
-fn send_request<L: Link>(client: &Client, ticket: u64, link: &mut L) -> Result<(), ToolFault>
-    requires { L.has_failed link.old ≡ false }
-    ensures fault { L.has_failed link.new ≡ is_link_fault result }
-    ensures ok { OnOk result (GainsAll (posts (sent client.now.state ticket)) (L.seen link.old) (L.seen link.new)) }
-    ensures err { IfErr result (λ fault. (fault ≡ ToolFault.SendFailed)
-        × GainsLost (sent client.now.state ticket) [] (L.seen link.old) (L.seen link.new)) }
+// Makes the call's request, waits for its end, and prints how it ended.
+fn run<L: Link, W: Write>(
+    purpose: Purpose,
+    call: &Call,
+    link: &mut L,
+    writer: &mut Checked<W>,
+) -> Result<Exit, ToolFault>
+    requires link { L.has_failed link.old ≡ false }
+    requires writer { has_failed writer.old ≡ false }
+    requires timeout { 0 < call.now.timeout }
+    ensures link_fault { L.has_failed link.new ≡ is_link_fault result }
+    ensures write_fault { has_failed writer.new ≡ is_write_fault result }
+    ensures told { Tells purpose call.now W.contents writer.old writer.new (L.seen link.old) (L.seen link.new) result }
 {
-    if let Some((to, octets)) = client.to_send(ticket) {
-        if link.send(to, octets).is_err() {
-            return Err(ToolFault::SendFailed);
+    let mut client = begin(purpose, call, link)?;
+    let wait_ms = turn_wait(call.timeout);
+    let mut datagram = Datagram::new();
+    for _turn in 0..most_turns() {
+        if let Some(ending) = turn(&mut client, link, wait_ms, &mut datagram)? {
+            return show_ending(purpose, ending, writer);
         }
     }
-    Ok(())
+    Err(ToolFault::TurnsSpent)
+}
+
+// Asks for what the call is for.
+fn begin<L: Link>(purpose: Purpose, call: &Call, link: &mut L) -> Result<Client, ToolFault>
+    requires sound { L.has_failed link.old ≡ false }
+    requires timeout { 0 < call.now.timeout }
+    ensures fault { L.has_failed link.new ≡ is_link_fault result }
+    ensures ok { IfOk result
+        (λ client. Underway purpose call.now (L.seen link.old) (L.seen link.new) client 0) }
+    ensures err { IfErr result (λ fault. (fault ≡ ToolFault.SendFailed)
+        × Calls purpose call.now (L.seen link.old) (L.seen link.new) (Err ToolFault.SendFailed)) }
+{
+    let config = Config {
+        timeout: call.timeout,
+        retries: call.retries,
+    };
+    let mut client = Client::new(config, 0);
+    let _ = client.tick(link.now());
+    let ticket = client
+        .submit(call.to, service_of(purpose), call.body.as_slice())
+        .unwrap();
+    send_request(&client, ticket, link)?;
+    Ok(client)
+}
+
+// The service of the request.
+fn service_of(purpose: Purpose) -> u8
+    ensures { result ≡ service_of purpose }
+{
+    match purpose {
+        Purpose::Reading => READ_PROPERTY,
+        Purpose::Writing => WRITE_PROPERTY,
+    }
+}
+
+// One turn of a call: how the request ended, if it did. After an answer the time is not asked for.
+fn turn<'d, L: Link>(
+    client: &mut Client,
+    link: &mut L,
+    wait_ms: u32,
+    datagram: &'d mut Datagram,
+) -> Result<Option<Ending<'d>>, ToolFault>
+    requires { L.has_failed link.old ≡ false }
+    ensures fault { L.has_failed link.new ≡ is_link_fault result }
+    ensures ok { IfOk result
+        (λ ending. (purpose : Purpose) (call : Call) (seen : Account) (n : ℕ) → wait_ms ≡ wait_of call
+        → n < most_turns → Underway purpose call seen (L.seen link.old) client.old n →
+        MatchOption ending (Underway purpose call seen (L.seen link.new) client.new (suc n))
+        (λ end. Calls purpose call seen (L.seen link.new) (Ok (ending_seen end)))) }
+    ensures err { IfErr result (λ fault. (fault ≢ ToolFault.WriteFailed)
+        × ((purpose : Purpose) (call : Call) (seen : Account) (n : ℕ) → wait_ms ≡ wait_of call
+        → n < most_turns → Underway purpose call seen (L.seen link.old) client.old n →
+        Calls purpose call seen (L.seen link.new) (Err fault))) }
+{
+    match hear(client, link, wait_ms, datagram) {
+        Ok(Some(outcome)) => Ok(Some(Ending::Answered(outcome))),
+        Ok(None) => match pass_time(client, link) {
+            Ok(true) => Ok(Some(Ending::TimedOut)),
+            Ok(false) => Ok(None),
+            Err(fault) => Err(fault),
+        },
+        Err(fault) => Err(fault),
+    }
 }
 
 // Hands the client what the link hears. What an answer ends the request with lends octets of the datagram.
@@ -110,125 +228,18 @@ fn pass_time<L: Link>(client: &mut Client, link: &mut L) -> Result<bool, ToolFau
     }
 }
 
-// One turn of a call: how the request ended, if it did. After an answer the time is not asked for.
-fn turn<'d, L: Link>(
-    client: &mut Client,
-    link: &mut L,
-    wait_ms: u32,
-    datagram: &'d mut Datagram,
-) -> Result<Option<Ending<'d>>, ToolFault>
+// Sends the datagram of an open request.
+fn send_request<L: Link>(client: &Client, ticket: u64, link: &mut L) -> Result<(), ToolFault>
     requires { L.has_failed link.old ≡ false }
     ensures fault { L.has_failed link.new ≡ is_link_fault result }
-    ensures ok { IfOk result
-        (λ ending. (purpose : Purpose) (call : Asked) (seen : Account) (n : ℕ) → wait_ms ≡ wait_of call
-        → n < most_turns → Underway purpose call seen (L.seen link.old) client.old n →
-        MatchOption ending (Underway purpose call seen (L.seen link.new) client.new (suc n))
-        (λ end. Calls purpose call seen (L.seen link.new) (Ok (ending_seen end)))) }
-    ensures err { IfErr result (λ fault. (fault ≢ ToolFault.WriteFailed)
-        × ((purpose : Purpose) (call : Asked) (seen : Account) (n : ℕ) → wait_ms ≡ wait_of call
-        → n < most_turns → Underway purpose call seen (L.seen link.old) client.old n →
-        Calls purpose call seen (L.seen link.new) (Err fault))) }
-{
-    match hear(client, link, wait_ms, datagram) {
-        Ok(Some(outcome)) => Ok(Some(Ending::Answered(outcome))),
-        Ok(None) => match pass_time(client, link) {
-            Ok(true) => Ok(Some(Ending::TimedOut)),
-            Ok(false) => Ok(None),
-            Err(fault) => Err(fault),
-        },
-        Err(fault) => Err(fault),
-    }
-}
-
-// Asks for what the call is for.
-fn begin<L: Link>(purpose: Purpose, call: &Call, link: &mut L) -> Result<Client, ToolFault>
-    requires sound { L.has_failed link.old ≡ false }
-    requires timeout { 0 < call.now.timeout }
-    ensures fault { L.has_failed link.new ≡ is_link_fault result }
-    ensures ok { IfOk result
-        (λ client. Underway purpose call.now (L.seen link.old) (L.seen link.new) client 0) }
+    ensures ok { OnOk result (GainsAll (posts (sent client.now.state ticket)) (L.seen link.old) (L.seen link.new)) }
     ensures err { IfErr result (λ fault. (fault ≡ ToolFault.SendFailed)
-        × Calls purpose call.now (L.seen link.old) (L.seen link.new) (Err ToolFault.SendFailed)) }
+        × GainsLost (sent client.now.state ticket) [] (L.seen link.old) (L.seen link.new)) }
 {
-    let config = Config {
-        timeout: call.timeout,
-        retries: call.retries,
-    };
-    let mut client = Client::new(config, 0);
-    let _ = client.tick(link.now());
-    let ticket = client
-        .submit(call.to, purpose.service(), call.body.as_slice())
-        .unwrap();
-    send_request(&client, ticket, link)?;
-    Ok(client)
-}
-
-// Makes the call's request, waits for its end, and prints how it ended.
-fn run<L: Link, W: Write>(
-    purpose: Purpose,
-    call: &Call,
-    link: &mut L,
-    writer: &mut Checked<W>,
-) -> Result<Exit, ToolFault>
-    requires link { L.has_failed link.old ≡ false }
-    requires writer { has_failed writer.old ≡ false }
-    requires timeout { 0 < call.now.timeout }
-    ensures link_fault { L.has_failed link.new ≡ is_link_fault result }
-    ensures write_fault { has_failed writer.new ≡ is_write_fault result }
-    ensures told { Tells purpose call.now W.contents writer.old writer.new (L.seen link.old) (L.seen link.new) result }
-{
-    let mut client = begin(purpose, call, link)?;
-    let wait_ms = turn_wait(call.timeout);
-    let mut datagram = Datagram::new();
-    for _turn in 0..most_turns() {
-        if let Some(ending) = turn(&mut client, link, wait_ms, &mut datagram)? {
-            return show_ending(purpose, ending, writer);
+    if let Some((to, octets)) = client.to_send(ticket) {
+        if link.send(to, octets).is_err() {
+            return Err(ToolFault::SendFailed);
         }
     }
-    Err(ToolFault::TurnsSpent)
-}
-
-/// Reads a property (clause 15.5): sends the request, waits for how it ends, and prints that in a line, as `4290999a`,
-/// `error 2 32` or `timeout`. It is good to have read a value. What the answer says of the object and the property is
-/// not compared with what was asked.
-///
-/// # Errors
-///
-/// `SendFailed` and `ReceiveFailed` where the link failed so, and `TurnsSpent` where the request is open after 65,536
-/// turns; nothing was printed then. `WriteFailed` where the writer failed or took no octet; a front of the line was
-/// printed then.
-pub fn run_read<L: Link, W: Write>(
-    call: &Call,
-    link: &mut L,
-    writer: &mut Checked<W>,
-) -> Result<Exit, ToolFault>
-    requires link { L.has_failed link.old ≡ false }
-    requires writer { has_failed writer.old ≡ false }
-    requires timeout { 0 < call.now.timeout }
-    ensures link_fault { L.has_failed link.new ≡ is_link_fault result }
-    ensures write_fault { has_failed writer.new ≡ is_write_fault result }
-    ensures told { Tells Reading call.now W.contents writer.old writer.new (L.seen link.old) (L.seen link.new) result }
-{
-    run(Purpose::Reading, call, link, writer)
-}
-
-/// Writes a property (clause 15.9): sends the request, waits for how it ends, and prints that in a line, as `ok`,
-/// `error 2 40` or `timeout`. `ok` is good: the property was written.
-///
-/// # Errors
-///
-/// Those of `run_read`.
-pub fn run_write<L: Link, W: Write>(
-    call: &Call,
-    link: &mut L,
-    writer: &mut Checked<W>,
-) -> Result<Exit, ToolFault>
-    requires link { L.has_failed link.old ≡ false }
-    requires writer { has_failed writer.old ≡ false }
-    requires timeout { 0 < call.now.timeout }
-    ensures link_fault { L.has_failed link.new ≡ is_link_fault result }
-    ensures write_fault { has_failed writer.new ≡ is_write_fault result }
-    ensures told { Tells Writing call.now W.contents writer.old writer.new (L.seen link.old) (L.seen link.new) result }
-{
-    run(Purpose::Writing, call, link, writer)
+    Ok(())
 }

@@ -4,14 +4,13 @@ ghost use Rattle.std.specs.Option.{option_map_or};
 ghost use Rattle.bac_print.specs.Checked.{has_failed, TookOrFailed};
 ghost use Rattle.bac_print.specs.Page.{Prints};
 ghost use Rattle.bac_print.specs.Values.{region_text};
-ghost use Rattle.bac_links.specs.Call.{service_of};
 ghost use Rattle.bac_pdu.specs.Property.{Answer};
 ghost use Rattle.bac_pdu.specs.PropertyReading.{ack_of};
 ghost use Rattle.bac_links.specs.Ending.{ending_text, ending_line, exit_of, status_of};
 ghost use Rattle.bac_links.specs.Inner.Ending.{ending_seen};
 
 use crate::fault::ToolFault;
-use bac_pdu::{READ_PROPERTY, WRITE_PROPERTY, read_ack};
+use bac_pdu::read_ack;
 use bac_print::{Checked, Page, print_outcome};
 use bac_tsm::Outcome;
 use std::io::Write;
@@ -41,18 +40,6 @@ pub(crate) enum Ending<'d> {
     TimedOut,
 }
 
-impl Purpose {
-    /// The service of the request.
-    pub(crate) fn service(self) -> u8
-        ensures { result ≡ service_of self }
-    {
-        match self {
-            Purpose::Reading => READ_PROPERTY,
-            Purpose::Writing => WRITE_PROPERTY,
-        }
-    }
-}
-
 /// Prints the line that tells how the request ended.
 pub(crate) fn show_ending<W: Write>(
     purpose: Purpose,
@@ -71,6 +58,17 @@ pub(crate) fn show_ending<W: Write>(
     page.print(b"\n");
     page.finish()?;
     Ok(exit)
+}
+
+/// The status with which the program ends: 0 where it is good, 1 where it is not, 3 after a fault.
+pub fn status(answer: &Result<Exit, ToolFault>) -> u8
+    ensures { result ≡ status_of answer.now }
+{
+    match answer {
+        Ok(Exit::Good) => 0,
+        Ok(Exit::Bad) => 1,
+        Err(_) => 3,
+    }
 }
 
 // Prints how the request ended, and tells whether that is good.
@@ -108,16 +106,5 @@ fn print_value<W: Write>(page: &mut Page<'_, W>, body: &[u8]) -> Exit
             page.print(b"bad-ack");
             Exit::Bad
         }
-    }
-}
-
-/// The status with which the program ends: 0 where it is good, 1 where it is not, 3 after a fault.
-pub fn status(answer: &Result<Exit, ToolFault>) -> u8
-    ensures { result ≡ status_of answer.now }
-{
-    match answer {
-        Ok(Exit::Good) => 0,
-        Ok(Exit::Bad) => 1,
-        Err(_) => 3,
     }
 }

@@ -1,6 +1,6 @@
 //! Why a tool could not go on.
 ghost use Rattle.std.specs.Prelude.{◌≡◌};
-ghost use Rattle.bac_links.specs.declared.fault.ToolFault.TheVariants as faults;
+ghost use Rattle.bac_links.specs.declared.fault.ToolFault.TheVariants.{WriteFailed};
 
 use bac_print::WriteFailed as NotWritten;
 use thiserror::Error;
@@ -23,7 +23,7 @@ pub enum ToolFault {
 }
 
 impl From<NotWritten> for ToolFault {
-    ghost from_gives = { λ _ fault. fault ≡ faults.WriteFailed };
+    ghost from_gives = { λ _ fault. fault ≡ WriteFailed };
 
     fn from(_: NotWritten) -> Self {
         ToolFault::WriteFailed

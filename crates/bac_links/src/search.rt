@@ -24,11 +24,63 @@ use bac_text::Search;
 use bac_wire::Frame;
 use std::io::Write;
 
-/// A device that introduced itself, and where it is.
+// A device that introduced itself, and where it is.
 #[derive(Clone, Copy)]
 struct Found {
     peer: Peer,
     device: IAm,
+}
+
+/// Asks a station which devices there are (Who-Is, clause 16.10), and prints a line of each that introduces itself
+/// until the timeout has gone by: its instance, its peer, the longest APDU that it takes, its segmentation and its
+/// vendor. It is good to have heard a device. Each line is written before the next wait.
+///
+/// # Errors
+///
+/// `SendFailed` and `ReceiveFailed` where the link failed so, and `TurnsSpent` where there is time left after 65,536
+/// turns; the lines of the turns before were printed then. `WriteFailed` where the writer failed or took no octet; the
+/// lines before and a front of the last were printed then.
+pub fn run_whois<L: Link, W: Write>(
+    search: &Search,
+    link: &mut L,
+    writer: &mut Checked<W>,
+) -> Result<Exit, ToolFault>
+    requires link { L.has_failed link.old ≡ false }
+    requires writer { has_failed writer.old ≡ false }
+    requires timeout { 0 < search.now.timeout }
+    ensures link_fault { L.has_failed link.new ≡ is_link_fault result }
+    ensures write_fault { has_failed writer.new ≡ is_write_fault result }
+    ensures told { Searched search.now W.contents writer.old writer.new (L.seen link.old) (L.seen link.new) result }
+{
+    let first = link.now();
+    ask(search, link)?;
+    let wait_ms = turn_wait(search.timeout);
+    let mut datagram = Datagram::new();
+    let mut greatest = first;
+    let mut any = false;
+    for _turn in 0..most_turns() {
+        any |= listen(search.who, link, wait_ms, &mut datagram, writer)?;
+        greatest = greatest.max(link.now());
+        if greatest - first >= u64::from(search.timeout) {
+            return Ok(if any { Exit::Good } else { Exit::Bad });
+        }
+    }
+    Err(ToolFault::TurnsSpent)
+}
+
+// Sends the Who-Is.
+fn ask<L: Link>(search: &Search, link: &mut L) -> Result<(), ToolFault>
+    requires { L.has_failed link.old ≡ false }
+    ensures fault { L.has_failed link.new ≡ is_link_fault result }
+    ensures told { Gains (posted result (station search.now.to) (who_is_to search.now)) (L.seen link.old)
+        (L.seen link.new) }
+    ensures err { IfErr result (λ fault. fault ≡ ToolFault.SendFailed) }
+{
+    let datagram = who_is(search.to, search.who);
+    match link.send(search.to, datagram.as_slice()) {
+        Ok(()) => Ok(()),
+        Err(_) => Err(ToolFault::SendFailed),
+    }
 }
 
 // The datagram of a Who-Is. There is always room for it.
@@ -46,6 +98,34 @@ fn who_is(to: Peer, who: WhoIs) -> Frame
     let _ = write_whois(&mut frame, &who);
     let _ = wrap_within(to, false, &mut frame);
     frame
+}
+
+// Waits for a datagram, and prints the device that introduces itself in it. True where there is one. No page is open
+// during the wait, since an open page holds the writer.
+fn listen<L: Link, W: Write>(
+    who: WhoIs,
+    link: &mut L,
+    wait_ms: u32,
+    datagram: &mut Datagram,
+    writer: &mut Checked<W>,
+) -> Result<bool, ToolFault>
+    requires link { L.has_failed link.old ≡ false }
+    requires writer { has_failed writer.old ≡ false }
+    ensures link_fault { L.has_failed link.new ≡ is_link_fault result }
+    ensures write_fault { has_failed writer.new ≡ is_write_fault result }
+    ensures told { Listens who wait_ms W.contents writer.old writer.new (L.seen link.old) (L.seen link.new) result }
+{
+    match link.receive(wait_ms, datagram) {
+        Ok(Some(from)) => match read_found(who, from, datagram.as_slice()) {
+            Some(found) => {
+                show_found(found, writer)?;
+                Ok(true)
+            }
+            None => Ok(false),
+        },
+        Ok(None) => Ok(false),
+        Err(_) => Err(ToolFault::ReceiveFailed),
+    }
 }
 
 // The device that introduces itself in a datagram, where it is one that is asked.
@@ -99,84 +179,4 @@ fn print_found<W: Write>(page: &mut Page<'_, W>, found: Found)
     page.print(b" ");
     page.print_number(device.vendor);
     page.print(b"\n");
-}
-
-// Sends the Who-Is.
-fn ask<L: Link>(search: &Search, link: &mut L) -> Result<(), ToolFault>
-    requires { L.has_failed link.old ≡ false }
-    ensures fault { L.has_failed link.new ≡ is_link_fault result }
-    ensures told { Gains (posted result (station search.now.to) (who_is_to search.now)) (L.seen link.old)
-        (L.seen link.new) }
-    ensures err { IfErr result (λ fault. fault ≡ ToolFault.SendFailed) }
-{
-    let datagram = who_is(search.to, search.who);
-    match link.send(search.to, datagram.as_slice()) {
-        Ok(()) => Ok(()),
-        Err(_) => Err(ToolFault::SendFailed),
-    }
-}
-
-// Waits for a datagram, and prints the device that introduces itself in it. True where there is one. No page is open
-// during the wait, since an open page holds the writer.
-fn listen<L: Link, W: Write>(
-    who: WhoIs,
-    link: &mut L,
-    wait_ms: u32,
-    datagram: &mut Datagram,
-    writer: &mut Checked<W>,
-) -> Result<bool, ToolFault>
-    requires link { L.has_failed link.old ≡ false }
-    requires writer { has_failed writer.old ≡ false }
-    ensures link_fault { L.has_failed link.new ≡ is_link_fault result }
-    ensures write_fault { has_failed writer.new ≡ is_write_fault result }
-    ensures told { Listens who wait_ms W.contents writer.old writer.new (L.seen link.old) (L.seen link.new) result }
-{
-    match link.receive(wait_ms, datagram) {
-        Ok(Some(from)) => match read_found(who, from, datagram.as_slice()) {
-            Some(found) => {
-                show_found(found, writer)?;
-                Ok(true)
-            }
-            None => Ok(false),
-        },
-        Ok(None) => Ok(false),
-        Err(_) => Err(ToolFault::ReceiveFailed),
-    }
-}
-
-/// Asks a station which devices there are (Who-Is, clause 16.10), and prints a line of each that introduces itself
-/// until the timeout has gone by: its instance, its peer, the longest APDU that it takes, its segmentation and its
-/// vendor. It is good to have heard a device. Each line is written before the next wait.
-///
-/// # Errors
-///
-/// `SendFailed` and `ReceiveFailed` where the link failed so, and `TurnsSpent` where there is time left after 65,536
-/// turns; the lines of the turns before were printed then. `WriteFailed` where the writer failed or took no octet; the
-/// lines before and a front of the last were printed then.
-pub fn run_whois<L: Link, W: Write>(
-    search: &Search,
-    link: &mut L,
-    writer: &mut Checked<W>,
-) -> Result<Exit, ToolFault>
-    requires link { L.has_failed link.old ≡ false }
-    requires writer { has_failed writer.old ≡ false }
-    requires timeout { 0 < search.now.timeout }
-    ensures link_fault { L.has_failed link.new ≡ is_link_fault result }
-    ensures write_fault { has_failed writer.new ≡ is_write_fault result }
-    ensures told { Searched search.now W.contents writer.old writer.new (L.seen link.old) (L.seen link.new) result }
-{
-    let first = link.now();
-    ask(search, link)?;
-    let wait_ms = turn_wait(search.timeout);
-    let mut datagram = Datagram::new();
-    let mut greatest = first;
-    let mut any = false;
-    for _turn in 0..most_turns() {
-        any |= listen(search.who, link, wait_ms, &mut datagram, writer)?;
-        greatest = greatest.max(link.now());
-        if greatest - first >= u64::from(search.timeout) {
-            return Ok(if any { Exit::Good } else { Exit::Bad });
-        }
-    }
-    Err(ToolFault::TurnsSpent)
 }

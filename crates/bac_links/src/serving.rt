@@ -11,67 +11,8 @@ use crate::link::Link;
 use bac_device::Device;
 use bac_wire::Frame;
 
-/// How long a server waits for a datagram, in milliseconds.
+// How long a server waits for a datagram, in milliseconds.
 const SERVE_WAIT: u32 = 1_000;
-
-/// What one wait of a server brought.
-#[derive(Clone, Copy)]
-enum Brought {
-    Nothing,
-    /// A datagram to which the device is silent.
-    Ignored,
-    /// A datagram to which a reply was sent.
-    Answered,
-}
-
-impl Brought {
-    // How many datagrams came.
-    fn came(self) -> u32
-        ensures value { result ≡ came_in self }
-        ensures few { result ≤ 1 }
-    {
-        match self {
-            Brought::Nothing => 0,
-            Brought::Ignored | Brought::Answered => 1,
-        }
-    }
-
-    // How many replies were sent.
-    fn replied(self) -> u32
-        ensures value { result ≡ replied_in self }
-        ensures few { result ≤ 1 }
-    {
-        match self {
-            Brought::Nothing | Brought::Ignored => 0,
-            Brought::Answered => 1,
-        }
-    }
-}
-
-// Answers the next datagram, if one comes.
-fn serve_turn<L: Link>(
-    link: &mut L,
-    device: &mut Device,
-    datagram: &mut Datagram,
-) -> Result<Brought, ToolFault>
-    requires { L.has_failed link.old ≡ false }
-    ensures fault { L.has_failed link.new ≡ is_link_fault result }
-    ensures told { ServesOne device.old device.new (L.seen link.old) (L.seen link.new) result }
-{
-    let from = match link.receive(SERVE_WAIT, datagram) {
-        Ok(Some(from)) => from,
-        Ok(None) => return Ok(Brought::Nothing),
-        Err(_) => return Err(ToolFault::ReceiveFailed),
-    };
-    let mut frame = Frame::new();
-    let Some(to) = device.answer(from, datagram.as_slice(), &mut frame) else {
-        return Ok(Brought::Ignored);
-    };
-    match link.send(to, frame.as_slice()) {
-        Ok(()) => Ok(Brought::Answered),
-        Err(_) => Err(ToolFault::SendFailed),
-    }
-}
 
 /// Answers datagrams until `count` of them came, and says how many replies that made.
 ///
@@ -99,4 +40,63 @@ pub fn serve<L: Link>(link: &mut L, device: &mut Device, count: u32) -> Result<u
         }
     }
     Err(ToolFault::TurnsSpent)
+}
+
+// Answers the next datagram, if one comes.
+fn serve_turn<L: Link>(
+    link: &mut L,
+    device: &mut Device,
+    datagram: &mut Datagram,
+) -> Result<Brought, ToolFault>
+    requires { L.has_failed link.old ≡ false }
+    ensures fault { L.has_failed link.new ≡ is_link_fault result }
+    ensures told { ServesOne device.old device.new (L.seen link.old) (L.seen link.new) result }
+{
+    let from = match link.receive(SERVE_WAIT, datagram) {
+        Ok(Some(from)) => from,
+        Ok(None) => return Ok(Brought::Nothing),
+        Err(_) => return Err(ToolFault::ReceiveFailed),
+    };
+    let mut frame = Frame::new();
+    let Some(to) = device.answer(from, datagram.as_slice(), &mut frame) else {
+        return Ok(Brought::Ignored);
+    };
+    match link.send(to, frame.as_slice()) {
+        Ok(()) => Ok(Brought::Answered),
+        Err(_) => Err(ToolFault::SendFailed),
+    }
+}
+
+// What one wait of a server brought.
+#[derive(Clone, Copy)]
+enum Brought {
+    Nothing,
+    // A datagram to which the device is silent.
+    Ignored,
+    // A datagram to which a reply was sent.
+    Answered,
+}
+
+impl Brought {
+    // How many datagrams came.
+    fn came(self) -> u32
+        ensures value { result ≡ came_in self }
+        ensures few { result ≤ 1 }
+    {
+        match self {
+            Brought::Nothing => 0,
+            Brought::Ignored | Brought::Answered => 1,
+        }
+    }
+
+    // How many replies were sent.
+    fn replied(self) -> u32
+        ensures value { result ≡ replied_in self }
+        ensures few { result ≤ 1 }
+    {
+        match self {
+            Brought::Nothing | Brought::Ignored => 0,
+            Brought::Answered => 1,
+        }
+    }
 }

@@ -5,7 +5,7 @@ ghost use Rattle.bac_print.specs.Inner.Examples.{IsPrinted, device, far_device};
 ghost use Rattle.bac_print.specs.PeerTexts.{peer_text};
 ghost use Rattle.bac_print.specs.Values.{region_text};
 
-/// A value of each kind (ANSI/ASHRAE 135, 20.2), and the text of its octets.
+// A value of each kind (ANSI/ASHRAE 135, 20.2), and the text of its octets.
 #[tactic(none)]
 fn examples_of_values()
     ensures null { IsPrinted (0x00 ∷ []) "null" }
@@ -25,7 +25,7 @@ fn examples_of_values()
     ensures object { IsPrinted (0xc4 ∷ 0x00 ∷ 0xc0 ∷ 0x00 ∷ 0x0f ∷ []) "3:15" }
 {}
 
-/// What is printed of a region of no value, of several, of what is no value, and of texts that can't stand as they are.
+// What is printed of a region of no value, of several, of what is no value, and of texts that can't stand as they are.
 #[tactic(none)]
 fn examples_of_regions()
     ensures empty { region_text [] ≡ codes "{}" }
@@ -36,7 +36,7 @@ fn examples_of_regions()
     ensures other_set { region_text (0x72 ∷ 0x05 ∷ 0xff ∷ []) ≡ codes "5:\"\\xff\"" }
 {}
 
-/// The port of a peer is always printed, and its route behind it.
+// The port of a peer is always printed, and its route behind it.
 #[tactic(none)]
 fn examples_of_peers()
     ensures plain { peer_text device ≡ codes "127.0.0.1:47808" }

@@ -5,7 +5,7 @@ ghost use Rattle.hex.specs.Hex.{encode_lower};
 
 use std::simd::prelude::*;
 
-/// The octets that are taken at a time.
+// The octets that are taken at a time.
 const OCTETS: usize = 8;
 
 /// Writes the digits of the octets, in lower case, into room for just these.

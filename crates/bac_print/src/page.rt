@@ -9,13 +9,13 @@ use crate::hex_lanes::write_hex;
 use arrayvec::ArrayVec;
 use std::io::Write;
 
-/// The octets that a page holds before they go to the writer.
+// The octets that a page holds before they go to the writer.
 const PAGE_ROOM: usize = 16_384;
 
-/// The octets that are turned into hexadecimal at a time.
+// The octets that are turned into hexadecimal at a time.
 const HEX_PART: usize = 32;
 
-/// The digits of the longest number.
+// The digits of the longest number.
 const LONGEST_NUMBER: usize = 20;
 
 /// Text on its way to a writer. It is gathered in fixed room, and goes to the writer when the room is full or the page
@@ -24,57 +24,6 @@ const LONGEST_NUMBER: usize = 20;
 pub struct Page<'w, W> {
     writer: &'w mut Checked<W>,
     held: ArrayVec<u8, PAGE_ROOM>,
-}
-
-// Writes the decimal digits of a number before a position of the room, and says where they begin.
-#[tactic(auto, using(std::proofs::lemmas::Fmt::decimal_nonempty))]
-pub(crate) fn write_digits(number: u64, room: &mut [u8], end: usize) -> usize
-    requires within { end ≤ length room.old }
-    requires fits { length (decimal number) ≤ end }
-    ensures digits { drop result room.new ≡ decimal number ++ drop end room.old }
-    ensures start { result + length (decimal number) ≡ end }
-    ensures size { length room.new ≡ length room.old }
-{
-    let mut start = end;
-    let mut rest = number;
-    while rest >= 10 {
-        start -= 1;
-        room[start] = b'0' + (rest % 10) as u8;
-        rest /= 10;
-    }
-    start -= 1;
-    room[start] = b'0' + rest as u8;
-    start
-}
-
-// Writes the whole text, or fails after a front of it. It stands apart from what `Checked` keeps, so a writer fails by
-// nothing but its own writes.
-fn put<W: Write>(writer: &mut Checked<W>, text: &[u8]) -> Result<(), WriteFailed>
-    requires { has_failed writer.old ≡ false }
-    ensures text { TookOrFailed W.contents writer.old writer.new text.now result }
-    ensures failed { has_failed writer.new ≡ is_err result }
-    ensures reads { HasNotRead writer.old writer.new }
-{
-    let mut rest = text;
-    while !rest.is_empty() {
-        let Ok(taken) = writer.write(rest) else {
-            return Err(WriteFailed);
-        };
-        if taken == 0 {
-            return Err(WriteFailed);
-        }
-        rest = &rest[taken..];
-    }
-    Ok(())
-}
-
-// Writes the whole text, or nothing where the writer has failed before.
-fn write_on<W: Write>(writer: &mut Checked<W>, text: &[u8])
-    ensures { Writes W.contents writer.old writer.new [] [] text.now }
-{
-    if !writer.failed() {
-        let _ = put(writer, text);
-    }
 }
 
 impl<'w, W: Write> Page<'w, W> {
@@ -197,4 +146,55 @@ impl<W: Write> Page<'_, W> {
         write_hex(octets, digits);
         self.print(digits);
     }
+}
+
+/// Writes the decimal digits of a number before a position of the room, and says where they begin.
+#[tactic(auto, using(std::proofs::lemmas::Fmt::decimal_nonempty))]
+pub(crate) fn write_digits(number: u64, room: &mut [u8], end: usize) -> usize
+    requires within { end ≤ length room.old }
+    requires fits { length (decimal number) ≤ end }
+    ensures digits { drop result room.new ≡ decimal number ++ drop end room.old }
+    ensures start { result + length (decimal number) ≡ end }
+    ensures size { length room.new ≡ length room.old }
+{
+    let mut start = end;
+    let mut rest = number;
+    while rest >= 10 {
+        start -= 1;
+        room[start] = b'0' + (rest % 10) as u8;
+        rest /= 10;
+    }
+    start -= 1;
+    room[start] = b'0' + rest as u8;
+    start
+}
+
+// Writes the whole text, or nothing where the writer has failed before.
+fn write_on<W: Write>(writer: &mut Checked<W>, text: &[u8])
+    ensures { Writes W.contents writer.old writer.new [] [] text.now }
+{
+    if !writer.failed() {
+        let _ = put(writer, text);
+    }
+}
+
+// Writes the whole text, or fails after a front of it. It stands apart from what `Checked` keeps, so a writer fails by
+// nothing but its own writes.
+fn put<W: Write>(writer: &mut Checked<W>, text: &[u8]) -> Result<(), WriteFailed>
+    requires { has_failed writer.old ≡ false }
+    ensures text { TookOrFailed W.contents writer.old writer.new text.now result }
+    ensures failed { has_failed writer.new ≡ is_err result }
+    ensures reads { HasNotRead writer.old writer.new }
+{
+    let mut rest = text;
+    while !rest.is_empty() {
+        let Ok(taken) = writer.write(rest) else {
+            return Err(WriteFailed);
+        };
+        if taken == 0 {
+            return Err(WriteFailed);
+        }
+        rest = &rest[taken..];
+    }
+    Ok(())
 }

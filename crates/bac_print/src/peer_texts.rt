@@ -9,7 +9,7 @@ use crate::page::{Page, write_digits};
 use bac_pdu::{Peer, Route};
 use std::io::Write;
 
-/// The octets of the longest address and port.
+// The octets of the longest address and port.
 const LONGEST_STATION: usize = 21;
 
 impl<W: Write> Page<'_, W> {

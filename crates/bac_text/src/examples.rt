@@ -6,7 +6,7 @@ ghost use Rattle.bac_text.specs.Address.{peer_of};
 ghost use Rattle.bac_text.specs.Inner.Examples.{IsWritten, device, far_device, body_with_words};
 ghost use Rattle.bac_text.specs.Words.{words_of};
 
-/// A value of each kind: the number of its tag and a word, and the octets that they write (ANSI/ASHRAE 135, 20.2).
+// A value of each kind: the number of its tag and a word, and the octets that they write (ANSI/ASHRAE 135, 20.2).
 #[tactic(none)]
 fn examples_of_values()
     ensures null { IsWritten "0" "any" (0x00 ∷ []) }
@@ -26,7 +26,7 @@ fn examples_of_values()
     ensures object { IsWritten "12" "3:15" (0xc4 ∷ 0x00 ∷ 0xc0 ∷ 0x00 ∷ 0x0f ∷ []) }
 {}
 
-/// What the words of a line write.
+// What the words of a line write.
 #[tactic(none)]
 fn examples_of_words()
     ensures words { words_of (codes " tick\t 5 ") ≡ codes "tick" ∷ codes "5" ∷ [] }

@@ -9,10 +9,10 @@ ghost use Rattle.bac_text.specs.Inner.HexLanes.{octets_by_lanes};
 use crate::search::first_set;
 use std::simd::prelude::*;
 
-/// The octets that are taken at a time.
+// The octets that are taken at a time.
 const OCTETS: usize = 8;
 
-/// The digits of so many octets.
+// The digits of so many octets.
 const DIGITS: usize = 16;
 
 /// Puts the octets that the digits write into room for just these, where they are digits.

@@ -1,4 +1,5 @@
-//! Words of BACnet: those of a line or a command as numbers, octets, peers and values.
+//! Words that are read, of a line of a script or of a command line: numbers, octets, peers, values, and the service
+//! bodies that are made of these. What is printed is in `bac_print`.
 //!
 //! [`Words`] takes a line apart, and [`read_number`], [`read_datagram`] and [`peer_in`] read its words. [`BodyRoom`]
 //! makes service bodies of them. `specs/ValueWords.antt` says which value a word writes. [`Job`] is what the words of a
@@ -11,6 +12,9 @@
 //! ensures real { IsWritten "4" "4290999A" (0x44 ∷ 0x42 ∷ 0x90 ∷ 0x99 ∷ 0x9a ∷ []) }
 //! ensures octet_string { IsWritten "6" "1234ff" (0x63 ∷ 0x12 ∷ 0x34 ∷ 0xff ∷ []) }
 //! ```
+//!
+//! The caller keeps to this: the priority of a write is 1 to 16, and [`priority_from`] is given at most 16. Words and
+//! texts may be any.
 #![tactic(auto)]
 
 mod bodies;

@@ -15,6 +15,22 @@ pub fn read_number(word: &[u8], most: u64) -> Option<u64>
     Some(number)
 }
 
+/// The number that the first digits write, of which no more than so many are looked at; and how many these are.
+#[inline(always)]
+#[tactic(auto, using(crate::proofs::LeadingDigits::leading_numbers))]
+pub(crate) fn leading_number(text: &[u8], most: usize) -> (u32, usize)
+    requires { most ≤ 5 }
+    ensures { IsLeading text.now most result.0 result.1 }
+{
+    let mut number = 0;
+    let mut count = 0;
+    while count < most && count < text.len() && text[count].is_ascii_digit() {
+        number = number * 10 + u32::from(text[count] - b'0');
+        count += 1;
+    }
+    (number, count)
+}
+
 #[tactic(auto, using(crate::proofs::NumberLemmas::plain_numbers))]
 fn plain_number(word: &[u8]) -> Option<u64>
     ensures { result ≡ number_up_to (2 ^ 64 - 1) word.now }
@@ -32,20 +48,4 @@ fn plain_number(word: &[u8]) -> Option<u64>
             .checked_add(u64::from(*digit - b'0'))?;
     }
     Some(number)
-}
-
-// The number that the first digits write, of which no more than so many are looked at; and how many these are.
-#[inline(always)]
-#[tactic(auto, using(crate::proofs::LeadingDigits::leading_numbers))]
-pub(crate) fn leading_number(text: &[u8], most: usize) -> (u32, usize)
-    requires { most ≤ 5 }
-    ensures { IsLeading text.now most result.0 result.1 }
-{
-    let mut number = 0;
-    let mut count = 0;
-    while count < most && count < text.len() && text[count].is_ascii_digit() {
-        number = number * 10 + u32::from(text[count] - b'0');
-        count += 1;
-    }
-    (number, count)
 }

@@ -11,7 +11,7 @@ use crate::numbers::{leading_number, read_number};
 use crate::search::{End, position_of_end};
 use bac_pdu::{ADDRESS_OCTETS, Peer, Route};
 
-/// The port of BACnet/IP where none is written (Annex J.1.2).
+// The port of BACnet/IP where none is written (Annex J.1.2).
 const USUAL_PORT: u16 = 47_808;
 
 /// The peer that a text names, as `127.0.0.1`, `127.0.0.1:47808` or `127.0.0.1:47808/5/07`: the last is the station
@@ -59,6 +59,15 @@ pub fn plain_peer_in(text: &[u8]) -> Option<Peer>
         port,
         route: None,
     })
+}
+
+/// What stands before and after the first such octet.
+#[tactic(auto, using(std::proofs::lemmas::List::take_rest))]
+pub(crate) fn cut(text: &[u8], octet: u8) -> Option<(&[u8], &[u8])>
+    ensures { option_map (λ parts. (parts.0.now, parts.1.now)) result ≡ cut_at octet text.now }
+{
+    let position = position_of_end(text, End::At(octet))?;
+    Some((&text[..position], &text[position + 1..]))
 }
 
 fn read_address(text: &[u8]) -> Option<u32>
@@ -138,13 +147,4 @@ fn short_number(text: &[u8], digits: usize, limit: u32) -> Option<u32>
         return None;
     }
     Some(number)
-}
-
-/// What stands before and after the first such octet.
-#[tactic(auto, using(std::proofs::lemmas::List::take_rest))]
-pub(crate) fn cut(text: &[u8], octet: u8) -> Option<(&[u8], &[u8])>
-    ensures { option_map (λ parts. (parts.0.now, parts.1.now)) result ≡ cut_at octet text.now }
-{
-    let position = position_of_end(text, End::At(octet))?;
-    Some((&text[..position], &text[position + 1..]))
 }

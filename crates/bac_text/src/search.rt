@@ -6,7 +6,7 @@ ghost use Rattle.bac_text.specs.Inner.Search.{first_set, IsRunIn};
 use crate::words::is_blank;
 use std::simd::prelude::*;
 
-/// The octets that are compared at a time, and fewer for a short text.
+// The octets that are compared at a time, and fewer for a short text.
 const LANES: usize = 16;
 
 const FEW_LANES: usize = 8;
@@ -43,6 +43,18 @@ pub fn position_of_end(octets: &[u8], end: End) -> Option<usize>
         start = at + LANES;
     }
     None
+}
+
+/// The position of the lowest bit that is set, or the number of lanes where none is.
+#[inline(always)]
+pub(crate) fn first_set(mask: u64, lanes: usize) -> usize
+    ensures { result ≡ first_set mask lanes }
+{
+    if mask == 0 {
+        lanes
+    } else {
+        mask.trailing_zeros() as usize
+    }
 }
 
 // The same of a short text, which one or two small loads take.
@@ -89,16 +101,4 @@ fn run_before<const N: usize>(octets: &[u8], at: usize, end: End) -> usize
         End::PastAscii => loaded.simd_gt(Simd::splat(127)).to_bitmask(),
     };
     first_set(ends, N)
-}
-
-// The position of the lowest bit that is set, or the number of lanes where none is.
-#[inline(always)]
-pub(crate) fn first_set(mask: u64, lanes: usize) -> usize
-    ensures { result ≡ first_set mask lanes }
-{
-    if mask == 0 {
-        lanes
-    } else {
-        mask.trailing_zeros() as usize
-    }
 }

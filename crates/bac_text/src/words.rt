@@ -95,6 +95,12 @@ impl<'a> WordSource<'a> for Words<'a> {
     }
 }
 
+pub(crate) fn is_blank(octet: u8) -> bool
+    ensures { result ≡ is_blank octet }
+{
+    octet == b' ' || octet == b'\t'
+}
+
 // The first word and what follows it.
 #[tactic(auto, using(crate::proofs::WordLemmas::first_words))]
 fn first_word(text: &[u8]) -> Option<(&[u8], &[u8])>
@@ -125,10 +131,4 @@ fn word_start(text: &[u8]) -> Option<usize>
     ensures { result ≡ position (λ octet. not (is_blank octet)) text.now }
 {
     text.iter().position(|octet| !is_blank(*octet))
-}
-
-pub(crate) fn is_blank(octet: u8) -> bool
-    ensures { result ≡ is_blank octet }
-{
-    octet == b' ' || octet == b'\t'
 }

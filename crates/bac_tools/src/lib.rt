@@ -21,8 +21,8 @@ pub use bac_links::{
     DATAGRAM_OCTETS, Datagram, Exit, Link, LinkFault, MemoryLink, Refused, Socket, Step,
     SystemSocket, ToolFault, UdpLink, run_read, run_whois, run_write, serve, status,
 };
-pub use bac_script::{TraceEnd, TraceFault, show_outcome, show_value, trace, trace_status};
 pub use bac_print::Checked;
+pub use bac_script::{TraceEnd, TraceFault, show_outcome, show_value, trace, trace_status};
 pub use bac_text::{Call, Search, read_peer};
 pub use bac_words::{Job, Serve, UsageFault, parse_words, usage_status, words_of};
 pub use binding::{Binding, binding_for};

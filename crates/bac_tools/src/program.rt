@@ -5,10 +5,10 @@ ghost use Rattle.std.specs.String.{string_bytes};
 ghost use Rattle.std.specs.declared.io.ErrorKind.TheVariants.{OutOfMemory};
 ghost use Rattle.clap.specs.Walk.{texts};
 ghost use Rattle.bac_print.specs.Checked.{fresh, has_failed};
-ghost use Rattle.bac_links.specs.declared.link.LinkFault.{LinkFault as Unbound};
+ghost use Rattle.bac_links.specs.declared.link.LinkFault.{LinkFault};
 ghost use Rattle.bac_tools.specs.Program.{IsCalled, Program, texts_of};
 ghost use Rattle.bac_tools.specs.Report.{IsStatusOf};
-ghost use Rattle.bac_tools.specs.declared.binding.Binding.{Binding as Asked};
+ghost use Rattle.bac_tools.specs.declared.binding.Binding.{Binding};
 
 use crate::binding::{Binding, binding_for};
 use crate::report::Report;
@@ -25,7 +25,7 @@ pub trait Network {
     type Socket: Link + Drop;
 
     // What may come of asking for such a socket.
-    ghost gives: { Self → Asked → Result Self.Socket Unbound → Type 0 };
+    ghost gives: { Self → Binding → Result Self.Socket LinkFault → Type 0 };
 
     /// A socket at this address, which has not failed. The network is given up for it, so no second one is asked for.
     ///
@@ -47,16 +47,38 @@ pub struct Ran<N: Drop, L: Drop> {
     pub unasked: Option<N>,
 }
 
-impl<N: Drop, L: Drop> Ran<N, L> {
-    // Nothing was done but this to report.
-    fn only(report: Report, network: N) -> Self
-        ensures { result ≡ record { report = report; socket = None; unasked = Some network } }
-    {
-        Ran {
-            report,
-            socket: None,
-            unasked: Some(network),
-        }
+/// How the program ended, and its reader and its writer afterwards.
+#[derive(Drop)]
+pub struct Ended<N: Drop, L: Drop, R: Drop, W: Drop> {
+    pub ran: Ran<N, L>,
+    pub reader: Checked<R>,
+    pub writer: Checked<W>,
+}
+
+/// Runs the program: the words that it was called with, or why they could not be had.
+///
+/// The network, the reader and the writer are all that it has of the world.
+pub fn run_program<N: Network + Drop, R: Read + Drop, W: Write + Drop>(
+    alloc: Global,
+    typed: io::Result<env::Args>,
+    network: N,
+    reader: R,
+    writer: W,
+) -> Ended<N, N::Socket, R, W>
+    ensures { IsCalled N.gives
+        record { seen = N.Socket.seen; failed = N.Socket.has_failed; remaining = R.remaining; contents = W.contents }
+        network (fresh reader) result.reader (fresh writer) result.writer result.ran (texts_of typed) }
+{
+    let mut reader = Checked::new(reader);
+    let mut writer = Checked::new(writer);
+    let ran = match kept(alloc, typed) {
+        Ok(typed) => run_typed(alloc, &typed, network, &mut reader, &mut writer),
+        Err(error) => Ran::only(Report::from(error), network),
+    };
+    Ended {
+        ran,
+        reader,
+        writer,
     }
 }
 
@@ -96,41 +118,6 @@ pub fn run_words<N: Network + Drop, R: Read, W: Write>(
     }
 }
 
-/// How the program ended, and its reader and its writer afterwards.
-#[derive(Drop)]
-pub struct Ended<N: Drop, L: Drop, R: Drop, W: Drop> {
-    pub ran: Ran<N, L>,
-    pub reader: Checked<R>,
-    pub writer: Checked<W>,
-}
-
-/// Runs the program: the words that it was called with, or why they could not be had.
-///
-/// The network, the reader and the writer are all that it has of the world.
-pub fn run_program<N: Network + Drop, R: Read + Drop, W: Write + Drop>(
-    alloc: Global,
-    typed: io::Result<env::Args>,
-    network: N,
-    reader: R,
-    writer: W,
-) -> Ended<N, N::Socket, R, W>
-    ensures { IsCalled N.gives
-        record { seen = N.Socket.seen; failed = N.Socket.has_failed; remaining = R.remaining; contents = W.contents }
-        network (fresh reader) result.reader (fresh writer) result.writer result.ran (texts_of typed) }
-{
-    let mut reader = Checked::new(reader);
-    let mut writer = Checked::new(writer);
-    let ran = match kept(alloc, typed) {
-        Ok(typed) => run_typed(alloc, &typed, network, &mut reader, &mut writer),
-        Err(error) => Ran::only(Report::from(error), network),
-    };
-    Ended {
-        ran,
-        reader,
-        writer,
-    }
-}
-
 // The words as they were typed, in their order.
 fn kept(alloc: Global, typed: io::Result<env::Args>) -> io::Result<Vec<String>>
     ensures ok { IfOk result (λ words. texts_of typed ≡ Ok (map string_bytes words.items)) }
@@ -160,5 +147,18 @@ fn run_typed<N: Network + Drop, R: Read, W: Write>(
     match words_of(alloc, typed) {
         Ok(words) => run_words(alloc, &words, network, reader, writer),
         Err(error) => Ran::only(Report::from(UsageFault::from(error)), network),
+    }
+}
+
+impl<N: Drop, L: Drop> Ran<N, L> {
+    // Nothing was done but this to report.
+    fn only(report: Report, network: N) -> Self
+        ensures { result ≡ record { report = report; socket = None; unasked = Some network } }
+    {
+        Ran {
+            report,
+            socket: None,
+            unasked: Some(network),
+        }
     }
 }

@@ -10,8 +10,8 @@ ghost use Rattle.bac_tools.specs.Runs.{DevicePlays, ToolRuns, Runs};
 use crate::report::Report;
 use bac_device::demo;
 use bac_links::{Exit, Link, LinkFault, ToolFault, run_read, run_whois, run_write, serve};
-use bac_script::trace;
 use bac_print::Checked;
+use bac_script::trace;
 use bac_words::{Job, Serve};
 use std::io::{Read, Write};
 

@@ -11,7 +11,7 @@ unwrap-ticket-requires g c =
     let answer = rw (
       c.tick.ensures.1,
       c.new-client.ensures,
-      c.service.ensures,
+      c.service_of.ensures,
       c.as_slice.ensures.value,
       submitted_is c.args.purpose c.args.call.now c.now.result short,
     ) at c.submit.ensures.0 in
@@ -23,12 +23,12 @@ returns-clause-ok g c =
     let answer = rw (
       c.tick.ensures.1,
       c.new-client.ensures,
-      c.service.ensures,
+      c.service_of.ensures,
       c.as_slice.ensures.value,
       submitted_is c.args.purpose c.args.call.now c.now.result short,
     ) at c.submit.ensures.0 in
     let first : c.unwrap-ticket.result ≡ 0 = cc in
-    let client = rw (c.tick.ensures.1, c.new-client.ensures, c.service.ensures, c.as_slice.ensures.value) at
+    let client = rw (c.tick.ensures.1, c.new-client.ensures, c.service_of.ensures, c.as_slice.ensures.value) at
     c.submit.ensures.1 in
     let sends = rw first at c.in_ok-send_request.ensures.ok in
     begun c.args.purpose c.args.call.now c.now.result short client
@@ -42,12 +42,12 @@ returns-in_err-send_request-clause-err g c =
     let answer = rw (
       c.tick.ensures.1,
       c.new-client.ensures,
-      c.service.ensures,
+      c.service_of.ensures,
       c.as_slice.ensures.value,
       submitted_is c.args.purpose c.args.call.now c.now.result short,
     ) at c.submit.ensures.0 in
     let first : c.unwrap-ticket.result ≡ 0 = cc in
-    let client = rw (c.tick.ensures.1, c.new-client.ensures, c.service.ensures, c.as_slice.ensures.value) at
+    let client = rw (c.tick.ensures.1, c.new-client.ensures, c.service_of.ensures, c.as_slice.ensures.value) at
     c.submit.ensures.1 in
     let lost = rw first at failed.1 in
     rw (p.1, p.2) (
