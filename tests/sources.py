@@ -65,7 +65,7 @@ class Needs:
 TOKEN = re.compile(r'"(?:\\.|[^"\\])*"|\[\]|λ|[(){}\[\],;]|[^\s(){}\[\],;λ"]+')
 OPEN, CLOSE = "({[", ")}]"
 BUILT_IN = set("""→ × ¬ ⊥ = : | ↦ ← λ _ . , ; ( ) { } [ ] in let do elim Unit tt absurd Type record unfold open use as
-    where pub""".split())
+    where pub ∥ ∥₁""".split())
 VALUES = {"true", "false", "zero", "suc", "pos", "negsuc", "[]", "∷", "tt"}  # std's constructors in small letters
 NUMBER = re.compile(r"\d[\w_]*$|0x[\w_]+$")
 WORD = re.compile(r"[^\W\d][\w'-]*$")

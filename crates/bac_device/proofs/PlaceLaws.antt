@@ -1,8 +1,7 @@
 -- The places of a point after writes, and after one more.
 use Rattle.std.proofs.Common.{◌≡◌, ℕ, zero, suc, ◌-◌, ◌<◌, ◌≤◌, ◌==◌, ◌&&◌, Bool, true, false, if◌then◌else◌, List, []}
 use Rattle.std.proofs.Common.{◌∷◌, ◌++◌, map, filter, slice_set, Option, Some, None, refl, sym, ap, ◌∙◌, arith}
-use Rattle.std.specs.List.{last_or}
-use Rattle.std.specs.Option.{option_and_then}
+use Rattle.std.specs.{List.last_or, Option.option_and_then}
 use Rattle.std.proofs.lemmas.Grind.{common_steps}
 use Rattle.bac_wire.specs.Identifier.{Identifier}
 use Rattle.bac_device.specs.Point.{Description, same_object}
@@ -49,14 +48,10 @@ set_place f (suc i) value most least =
         refl,
         (
           refl,
-          (
-            refl,
-            (refl, (refl, (refl, (refl, (refl, (refl, (refl, (refl, (refl, (refl, (refl, (refl, tt)))))))))))),
-          ),
+          (refl, (refl, (refl, (refl, (refl, (refl, (refl, (refl, (refl, (refl, (refl, (refl, (refl, tt))))))))))))),
         ),
       ),
-    )
-    (omega arith)
+    ) (omega arith)
 
 -- a write to an object leaves a point as it is, or puts its value at its priority
 pub put_after : (writes : List Write) (write : Write) (point : Description) → 1 ≤ write.priority → write.priority ≤ 16
@@ -84,8 +79,8 @@ put_after writes write point most least =
 
 none_chosen : (writes : List Write) (object : Identifier) (priority : ℕ) → NoneTo object writes
     → filter (is_to object priority) writes ≡ []
-none_chosen [] object priority none = refl
-none_chosen (write ∷ writes) object priority none = rw none.0 (none_chosen writes object priority none.1)
+none_chosen [] _ _ _ = refl
+none_chosen (_ ∷ writes) object priority none = rw none.0 (none_chosen writes object priority none.1)
 
 -- where no write is to the object its places are NULL
 pub place_none : (writes : List Write) (object : Identifier) (priority : ℕ) → NoneTo object writes

@@ -1,34 +1,25 @@
 -- How long replies are: each to a confirmed request fits the announced size, or is the stated Abort.
 use Rattle.std.proofs.Common.{◌≡◌, ℕ, ◌≤◌, Bool, true, false, List, [], ◌∷◌, length, Option, Some, None, refl, sym, ap}
-use Rattle.std.proofs.Common.{subst, arith, inl, inr, nat_le, nat_eq}
-use Rattle.std.specs.Prelude.{◌⊎◌, IfSome, if◌then◌else◌}
+use Rattle.std.proofs.Common.{subst, arith, inl, inr, nat_le, nat_eq, ◌⊎◌, IfSome, if◌then◌else◌, leb-true}
 use Rattle.std.specs.Option.{option_map, option_and_then, ForSome}
-use Rattle.std.proofs.lemmas.Bool.{cond_both, leb-true}
-use Rattle.std.proofs.lemmas.Option.{none-some, some_pair_parts}
-use Rattle.bac_wire.specs.Datum.{plain}
-use Rattle.bac_wire.specs.Tag.{plain_tag}
-use Rattle.bac_pdu.specs.declared.peer.Peer.{Peer}
-use Rattle.bac_pdu.specs.declared.discovery.WhoIs.{WhoIs}
+use Rattle.std.proofs.lemmas.{Bool.cond_both, Option.none-some, Option.some_pair_parts}
+use Rattle.bac_wire.specs.{Datum.plain, Tag.plain_tag}
+use Rattle.bac_pdu.specs.{declared.peer.Peer.Peer, declared.discovery.WhoIs.WhoIs, Discovery.asks}
+use Rattle.bac_pdu.specs.{ValueReading.who_is_of}
 use Rattle.bac_pdu.specs.Peer.{Station, NetworkAddress, IsRoutable, station}
 use Rattle.bac_pdu.specs.Datagram.{Delivery, Carries, Takes, wrapped}
 use Rattle.bac_pdu.specs.Apdu.{Message, IsLaidOut, confirmed, unconfirmed, laid_out, announced_size}
-use Rattle.bac_pdu.specs.Discovery.{asks}
-use Rattle.bac_pdu.specs.ValueReading.{who_is_of}
 use Rattle.bac_pdu.proofs.DatagramLaws.{carried_is, wrapped_takes, wrapped_short}
 use Rattle.bac_pdu.proofs.ApduLaws.{apdu_is, announced_most}
-use Rattle.bac_device.specs.Info.{Info}
-use Rattle.bac_device.specs.Point.{Description}
-use Rattle.bac_device.specs.Places.{Write}
-use Rattle.bac_device.specs.Device.{DeviceState, device_after}
+use Rattle.bac_device.specs.{Info.Info, Point.Description, Places.Write, Device.DeviceState, Device.device_after}
+use Rattle.bac_device.specs.{Size.FitsRequest, Size.ReplyFits, Size.RepliesFit, Turns.Arrival, Turns.replies_to}
 use Rattle.bac_device.specs.Reply.{refused, fitting, full_reply, i_am, reply_message, reply_apdu, reply_of}
 use Rattle.bac_device.specs.Reply.{who_is_reply, writes_after}
-use Rattle.bac_device.specs.Size.{FitsRequest, ReplyFits, RepliesFit}
-use Rattle.bac_device.specs.Turns.{Arrival, replies_to}
 
 -- a route leads to whom a datagram is from
 pub carried_routable : (from : Station) (datagram : List ℕ) (delivery : Delivery) → Carries from datagram delivery
     → IfSome delivery.peer.route IsRoutable
-carried_routable from datagram delivery carries =
+carried_routable _ _ _ carries =
     subst (λ (r : Option NetworkAddress). IfSome r IsRoutable) (sym (ap (λ (s : Station). s.route) carries.peer))
     carries.answerable
 
@@ -40,8 +31,7 @@ sent d reply = option_map (λ apdu. (d.peer, wrapped d.peer.route false apdu)) (
 reply_takes : (device : DeviceState) (from to : Station) (datagram reply : List ℕ) (d : Delivery) (m : Message)
     (P : Message → Type 0) → Carries from datagram d → IsLaidOut d.apdu m
     → ((x : Message) → P x → length (laid_out x) ≤ 1476) → IfSome (reply_message device d.broadcast m) P
-    → reply_of device from datagram ≡ Some (to, reply)
-    → (x : Message) × P x × Takes to.route false (laid_out x) reply
+    → reply_of device from datagram ≡ Some (to, reply) → (x : Message) × P x × Takes to.route false (laid_out x) reply
 unfolding reply_of reply_apdu
 reply_takes device from to datagram reply d m P carries laid short all e =
     go (reply_message device d.broadcast m) all
@@ -73,7 +63,7 @@ no_longer code id m (inr abort) = omega (arith, ap length abort)
 
 unless_broadcast : (b : Bool) (code id : ℕ) (full : Message)
     → IfSome (if b then None else Some (fitting code id full)) (Short code id)
-unless_broadcast true code id full = tt
+unless_broadcast true _ id _ = tt
 unless_broadcast false code id full =
     cond_both (nat_le (length (laid_out full)) (announced_size code)) full (refused id) (Short code id)
     (λ e. inl (leb-true _ _ e)) (λ e. inr refl)
@@ -82,13 +72,13 @@ unless_broadcast false code id full =
 
 pub length_i_am : (info : Info) → length (laid_out (i_am info)) ≡ 15
 unfolding plain plain_tag
-length_i_am info = refl
+length_i_am _ = refl
 
 where_asked : (b : Bool) (who : Option WhoIs) (info : Info)
     → IfSome (if b then option_and_then (λ who. if asks who info.instance then Some (i_am info) else None) who else
     None) (λ m. length (laid_out m) ≡ 15)
-where_asked false who info = tt
-where_asked true None info = tt
+where_asked false _ _ = tt
+where_asked true None _ = tt
 where_asked true (Some who) info =
     elim (asks who info.instance) as (λ b.
     IfSome (if b then Some (i_am info) else None) (λ m. length (laid_out m) ≡ 15))
@@ -109,18 +99,15 @@ message_fits : (device : DeviceState) (broadcast : Bool) (request : Message)
 unfolding who_is_reply
 message_fits device broadcast (confirmed part code id service body) =
     unless_broadcast broadcast code id (full_reply device part id service body)
-message_fits device broadcast (unconfirmed service body) =
-    where_asked (nat_eq service 8) (who_is_of body) device.info
-message_fits device broadcast _ = tt
+message_fits device _ (unconfirmed service body) = where_asked (nat_eq service 8) (who_is_of body) device.info
+message_fits _ _ _ = tt
 
 pub reply_fits : (device : DeviceState) (from : Station) (datagram : List ℕ)
     → ForSome (reply_of device from datagram) (ReplyFits from datagram)
 reply_fits device from datagram =
-    λ reply e delivery request carries laid.
-    let all = message_fits device delivery.broadcast request in
+    λ reply e delivery request carries laid. let all = message_fits device delivery.broadcast request in
     let t = reply_takes device from reply.0 datagram reply.1 delivery request (Fits request) carries laid
-    (short request) all e in
-    (laid_out t.0, t.2, t.1)
+    (short request) all e in (laid_out t.0, t.2, t.1)
 
 -- ---- the code's reply
 
@@ -129,13 +116,13 @@ pub of_reply : (P : Station × List ℕ → Type 0) (result : Option Peer) (fram
     (defined : Option (Station × List ℕ))
     → option_map (λ peer. (station peer, frame)) result ≡ defined → ForSome defined P
     → IfSome result (λ peer. P (station peer, frame))
-of_reply P None frame defined e f = tt
-of_reply P (Some peer) frame defined e f = f (station peer, frame) (sym e)
+of_reply P None _ _ e f = tt
+of_reply P (Some peer) frame _ e f = f (station peer, frame) (sym e)
 
 -- The replies to any datagrams fit, one after the other.
 pub replies_fit : (info : Info) (points : List Description) (writes : List Write) (xs : List Arrival)
     → RepliesFit xs (replies_to info points writes xs)
-replies_fit info points writes [] = refl
+replies_fit _ _ _ [] = refl
 replies_fit info points writes (x ∷ xs) = (
   reply_fits (device_after info points writes) x.from x.datagram,
   replies_fit info points (writes_after info points writes x.from x.datagram) xs,

@@ -1,25 +1,21 @@
 -- A device whose places are those after some writes.
 use Rattle.std.proofs.Common.{◌≡◌, ℕ, Bool, true, false, cond, List, [], ◌∷◌, ◌++◌, map, find, Option, Some, None, refl}
 use Rattle.std.proofs.Common.{IfSome, sym, ap, subst, ◌∙◌, append-nil, arith}
-use Rattle.std.proofs.lemmas.Grind.{common_steps}
-use Rattle.std.proofs.lemmas.Option.{none-some, same_Some}
-use Rattle.std.proofs.lemmas.Simd.{map-map}
+use Rattle.std.proofs.lemmas.{Grind.common_steps, Option.none-some, Option.same_Some, Simd.map-map}
 use Rattle.std.specs.Option.{option_map, option_and_then, option_to_list}
 use Rattle.bac_pdu.specs.Peer.{Station}
 use Rattle.bac_wire.specs.Identifier.{Identifier}
-use Rattle.bac_device.specs.Info.{Info}
+use Rattle.bac_device.specs.{Info.Info, Inner.Places.IsUrgent, Reply.with_write, Reply.reply_to, Reply.writes_after}
 use Rattle.bac_device.specs.Point.{Given, Description, same_object, description_of}
 use Rattle.bac_device.specs.Places.{Write, Standing, NoneTo, priorities, standing_after, present, place_at, put}
-use Rattle.bac_device.specs.Inner.Places.{IsUrgent}
 use Rattle.bac_device.specs.Device.{DeviceState, points_of, device_after, Holds, with_point, standing_at, point_at}
 use Rattle.bac_device.specs.Device.{present_after, place_after}
-use Rattle.bac_device.specs.Reply.{with_write, reply_to, writes_after}
 use Rattle.bac_device.specs.Turns.{Arrival, Replies, RepliesInTurn, AreDefined}
 use Rattle.bac_device.proofs.PlaceLaws.{map_same, place_none, put_after}
 
 find_map : {A B : Type 0} (f : A → B) (test : B → Bool) (xs : List A)
     → find test (map f xs) ≡ option_map f (find (λ x. test (f x)) xs)
-find_map f test [] = refl
+find_map f _ [] = refl
 find_map f test (x ∷ xs) =
     let rest = find_map f test xs in
     elim (test (f x)) as (λ b. cond b (Some (f x)) (find test (map f xs))
@@ -49,7 +45,7 @@ place_held device writes object priority holds =
 pub points_after : (info : Info) (points : List Description) (writes : List Write)
     → points_of (device_after info points writes) ≡ points
 unfolding standing_after
-points_after info [] writes = refl
+points_after _ [] _ = refl
 points_after info (point ∷ points) writes =
     ap (λ (rest : List Description). point ∷ rest) (points_after info points writes)
 
@@ -57,7 +53,7 @@ points_after info (point ∷ points) writes =
 pub write_held : (device : DeviceState) (writes : List Write) (write : Option Write) → Holds device writes
     → IfSome write IsUrgent
     → with_write device write ≡ device_after device.info (points_of device) (writes ++ option_to_list write)
-write_held device writes None holds urgent = holds
+write_held device writes None holds _ = holds
     ∙ ap (device_after device.info (points_of device)) (sym (append-nil writes))
 write_held device writes (Some write) holds urgent =
     let before : device.standings ≡ map (standing_after writes) (points_of device) =
@@ -103,8 +99,7 @@ added_held device standing point writes made holds none = go (description_of poi
     go None at is = absurd (none-some standing is)
     go (Some d) at is =
         subst (λ (s : Standing). Holds (record { info = device.info; standings = device.standings ++ s ∷ [] }) writes)
-        (same_Some _ _ is)
-        (more_held device d writes holds
+        (same_Some _ _ is) (more_held device d writes holds
         (subst (λ (o : Identifier). NoneTo o writes) (sym (described_object point d at)) none))
 
 -- a device after some writes holds them
@@ -141,11 +136,10 @@ present_now info points writes {object = object} made answered is =
 pub answers : (device : DeviceState) (arrival : Arrival) (reply : Option (Station × List ℕ)) (after : DeviceState)
     → ((writes : List Write) → Holds device writes
     → reply ≡ reply_to device.info (points_of device) writes arrival.from arrival.datagram)
-    → ((writes : List Write) → Holds device writes
-    → after ≡ device_after device.info (points_of device)
+    → ((writes : List Write) → Holds device writes → after ≡ device_after device.info (points_of device)
     (writes_after device.info (points_of device) writes arrival.from arrival.datagram))
     → Replies device arrival reply after
-answers device arrival reply after replied written =
+answers _ _ _ _ replied written =
     λ writes holds. record {
       replied = ap (λ (r : Option (Station × List ℕ)). r ∷ []) (replied writes holds);
       written = written writes holds;
@@ -153,13 +147,12 @@ answers device arrival reply after replied written =
 
 -- a device that replies to datagrams in turn
 pub in_turn : (device : DeviceState) (arrivals : List Arrival) (replies : List (Option (Station × List ℕ)))
-    (after : DeviceState) (writes : List Write)
-    → RepliesInTurn device arrivals replies after → Holds device writes
+    (after : DeviceState) (writes : List Write) → RepliesInTurn device arrivals replies after → Holds device writes
     → AreDefined device writes arrivals replies after
-in_turn device [] [] after writes turns holds = record { replied = refl; written = turns ∙ holds }
-in_turn device [] (reply ∷ replies) after writes turns holds = absurd turns
-in_turn device (arrival ∷ arrivals) [] after writes turns holds = absurd turns
-in_turn device (arrival ∷ arrivals) (reply ∷ replies) after writes (next, call, others) holds =
+in_turn _ [] [] _ _ turns holds = record { replied = refl; written = turns ∙ holds }
+in_turn _ [] (_ ∷ _) _ _ turns _ = absurd turns
+in_turn _ (_ ∷ _) [] _ _ turns _ = absurd turns
+in_turn device (arrival ∷ arrivals) (_ ∷ replies) after writes (next, call, others) holds =
     let points = points_of device in
     let more = writes_after device.info points writes arrival.from arrival.datagram in
     let one = call writes holds in

@@ -1,5 +1,6 @@
 mod Histories
 mod Played
+mod Logged
 mod CallEvents
 mod CallTurns
 mod Searches

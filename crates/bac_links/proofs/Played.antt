@@ -14,7 +14,7 @@ use Rattle.bac_links.specs.History.{Heard, Silence, Arrival, Failure, Entry, Wai
 use Rattle.bac_links.specs.History.{Scene}
 use Rattle.bac_links.specs.Played.{Stage, at_first, heard_next, behind_wait, behind, IsPlayed, ArePlayed, Sending}
 use Rattle.bac_links.specs.Played.{sending_in, sendings}
-use Rattle.bac_links.specs.Inner.Stands.{behind_all, Stands}
+use Rattle.bac_links.specs.Stands.{behind_all, Stands}
 
 -- ---- one entry more
 

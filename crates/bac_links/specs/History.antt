@@ -2,6 +2,8 @@
 use Rattle.std.specs.Prelude.{◌≡◌, ℕ, List, [], ◌∷◌, ◌++◌, Option, Some, None, Result, Ok, Err}
 use Rattle.bac_pdu.specs.declared.peer.Peer.{Peer}
 use Rattle.bac_pdu.specs.Peer.{Station, station}
+use Rattle.bac_links.specs.SystemCall.{SystemCall}
+use Rattle.bac_links.specs.declared.udp.Refused.{Refused}
 
 -- What a receive hears.
 pub data Heard : Type 0 where
@@ -22,20 +24,18 @@ pub record Scene : Type 0 where
   pub heard : Heard
   pub time : Option ℕ
 
--- What a link was made of, which never changes: in memory the scenes that it hears, one after another. Of another link
--- this is not known.
+-- What a link was made of, which never changes: in memory the scenes that it hears, one after another; over a socket,
+-- what becomes of a datagram that is refused, and the calls of the system that the socket had made before. Of another
+-- link this is not known.
 pub data Made : Type 0 where
   OfScenes : (scenes : List Scene) → Made
+  OverSocket : (refused : Refused) (calls : List SystemCall) → Made
   Unknown : Made
 
 -- What contracts see of a link: what it was made of, and all that it was asked and answered.
 pub record Account : Type 0 where
   pub made : Made
   pub history : List Entry
-
--- The account of a link of which it is not known what it was made of.
-abbrev pub remembering : List Entry → Account
-remembering entries = record { made = Unknown; history = entries }
 
 -- The history of a link gains these entries, and it was made of the same.
 abbrev pub GainsAll : List Entry → Account → Account → Type 0

@@ -1,6 +1,5 @@
 -- What only private clauses say. No promise of this crate rests on it.
 pub mod Note
-pub mod Stands
 pub mod Ending
 pub mod CallSteps
 pub mod Search

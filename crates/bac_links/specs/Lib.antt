@@ -1,10 +1,13 @@
 pub mod Limits
+pub mod SystemCall
 pub mod History
 pub mod Asking
 pub mod Answered
 pub mod Played
+pub mod Stands
 pub mod Memory
 pub mod Socket
+pub mod Keeps
 pub mod Log
 pub mod Fault
 pub mod Handed

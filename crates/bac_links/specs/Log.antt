@@ -3,7 +3,7 @@ use Rattle.std.specs.Prelude.{List, ◌∷◌, [], ◌++◌, length, take, is_ok
 use Rattle.std.specs.Result.{result_ok, result_map_both}
 use Rattle.std.specs.IoError.{error_kind}
 use Rattle.std.specs.Duration.{as_nanos}
-use Rattle.bac_links.specs.Socket.{SystemCall, Bind, Limit, SendTo, Receive, Elapsed}
+use Rattle.bac_links.specs.SystemCall.{SystemCall, Bind, Limit, SendTo, Receive, Elapsed}
 use Rattle.bac_links.specs.declared.log.CallNote.{CallNote}
 use Rattle.bac_links.specs.declared.log.CallNote.TheVariants as note
 

@@ -1,5 +1,5 @@
 -- What a link asks of a socket and its clock, and what it makes of the answers.
-use Rattle.std.specs.Prelude.{◌≡◌, ◌≢◌, ◌⊎◌, ℕ, ◌+◌, ◌*◌, ◌/◌, ◌-◌, ◌^◌, ◌==◌, ◌||◌, min, Bool, true, false}
+use Rattle.std.specs.Prelude.{◌≡◌, ◌≢◌, ◌⊎◌, ℕ, ◌+◌, ◌*◌, ◌/◌, ◌-◌, ◌^◌, ◌==◌, ◌||◌, max, min, Bool, true, false}
 use Rattle.std.specs.Prelude.{List, [], ◌∷◌, ◌++◌, length, nat_le, Option, Some, None, Result, Ok, Err, if◌then◌else◌}
 use Rattle.std.specs.Duration.{as_nanos}
 use Rattle.std.specs.Net.Addr.{ipv4_bits, IsIpv4OfBits}
@@ -11,25 +11,14 @@ use Rattle.std.specs.declared.io.ErrorKind.TheVariants.{WouldBlock, TimedOut, In
 use Rattle.std.specs.declared.io.ErrorKind.TheVariants.{ConnectionReset, HostUnreachable, NetworkUnreachable}
 use Rattle.std.specs.declared.net.socket_addr.SocketAddr.{SocketAddr}
 use Rattle.std.specs.declared.net.socket_addr.SocketAddr.TheVariants.{V4, V6}
-use Rattle.bac_pdu.specs.Peer.{station}
+use Rattle.bac_pdu.specs.Peer.{Station, station}
 use Rattle.bac_pdu.specs.declared.peer.Peer.{Peer}
-use Rattle.bac_links.specs.History.{Heard, Silence, Arrival, Failure}
+use Rattle.bac_links.specs.History.{Heard, Silence, Arrival, Failure, Entry, Waited, Timed, Posted, Unposted}
+use Rattle.bac_links.specs.History.{Made, OverSocket, Account}
 use Rattle.bac_links.specs.Limits.{longest_datagram}
+use Rattle.bac_links.specs.SystemCall.{SystemCall, Bind, Limit, SendTo, Receive, Elapsed}
 use Rattle.bac_links.specs.declared.udp.Refused.{Refused}
 use Rattle.bac_links.specs.declared.udp.Refused.TheVariants.{Fails, IsLost}
-
--- ---- what the system was asked
-
--- One call of the system, with its answer: a socket at this address; that its receives wait at most so long from now
--- on, and whether that was done; a datagram for an address, and how many of its octets went, unless it was refused; a
--- datagram, with room for so many octets, and which came from where, or why none did; how long ago the socket was made,
--- unless the clock failed.
-pub data SystemCall : Type 0 where
-  Bind : (at : SocketAddr) → SystemCall
-  Limit : (nanos : ℕ) (done : Bool) → SystemCall
-  SendTo : (octets : List ℕ) (to : SocketAddr) (sent : Option ℕ) → SystemCall
-  Receive : (room : ℕ) (came : Result (List ℕ × SocketAddr) ErrorKind) → SystemCall
-  Elapsed : (passed : Option Duration) → SystemCall
 
 -- Between these two logs the system was asked for something of which this holds.
 abbrev pub Logs : (List SystemCall → Type 0) → (before after : List SystemCall) → Type 0
@@ -38,7 +27,7 @@ Logs Are before after = (calls : List SystemCall) × (after ≡ before ++ calls)
 -- ---- addresses
 
 -- The IPv4 address and the port of the peer.
-abbrev pub IsAddressOf : Peer → SocketAddr → Type 0
+abbrev pub IsAddressOf : Station → SocketAddr → Type 0
 IsAddressOf peer (V4 address) = IsIpv4OfBits (v4_ip address) peer.ip × (v4_port address ≡ peer.port)
 IsAddressOf peer (V6 address) = ⊥
 
@@ -49,7 +38,7 @@ peer_at (V6 address) = None
 
 -- A socket was asked for at the address of this peer, and nothing else.
 abbrev pub Binds : Peer → List SystemCall → Type 0
-Binds at calls = (address : SocketAddr) × IsAddressOf at address × (calls ≡ Bind address ∷ [])
+Binds at calls = (address : SocketAddr) × IsAddressOf (station at) address × (calls ≡ Bind address ∷ [])
 
 -- ---- the time
 
@@ -72,7 +61,7 @@ is_lost IsLost = true
 
 -- These octets were given to send to the address of the peer, once, and nothing else was asked for. The send is good
 -- where all of them went, or where what is refused is lost.
-abbrev pub Sends : Refused → Peer → List ℕ → (good : Bool) → List SystemCall → Type 0
+abbrev pub Sends : Refused → Station → List ℕ → (good : Bool) → List SystemCall → Type 0
 Sends refused to octets good calls =
     (address : SocketAddr) × (sent : Option ℕ) × IsAddressOf to address × (calls ≡ SendTo octets address sent ∷ [])
     × (good ≡ (option_map_or (λ n. n == length octets) sent false || is_lost refused))
@@ -112,3 +101,42 @@ Waits refused waits wait heard calls =
     ((came : Result (List ℕ × SocketAddr) ErrorKind) × (heard ≡ hears refused came)
     × (calls ≡ limits waits wait true ++ Receive (longest_datagram + 1) came ∷ []))
     ⊎ ((wait ≢ waits) × (heard ≡ Failure) × (calls ≡ limits waits wait false))
+
+-- ---- a whole history
+
+-- How long the socket's receives wait behind an entry, and the time. Behind a failure there is no further wait.
+abbrev pub waits_behind : ℕ → Entry → ℕ
+waits_behind waits (Waited wait heard) = max wait 1
+waits_behind waits _ = waits
+
+abbrev pub time_behind : ℕ → Entry → ℕ
+time_behind time (Timed now) = now
+time_behind time _ = time
+
+module _ (refused : Refused) where
+  -- The calls for one entry, where the receives wait so long and this is the time before. A wait is one millisecond at
+  -- least.
+  abbrev pub CallsFor : (waits time : ℕ) → Entry → List SystemCall → Type 0
+  CallsFor waits time (Waited wait heard) = Waits refused waits (max wait 1) heard
+  CallsFor waits time (Timed now) = Times time now
+  CallsFor waits time (Posted to octets) = Sends refused to octets true
+  CallsFor waits time (Unposted to octets) = Sends refused to octets false
+
+  -- These are the calls for the first of these entries, then those for the next, and so on, and no others.
+  abbrev pub AreCallsFor : (waits time : ℕ) → List Entry → List SystemCall → Type 0
+  AreCallsFor waits time [] calls = calls ≡ []
+  AreCallsFor waits time (entry ∷ later) calls =
+      (first : List SystemCall) × (rest : List SystemCall) × (calls ≡ first ++ rest) × CallsFor waits time entry first
+      × AreCallsFor (waits_behind waits entry) (time_behind time entry) later rest
+
+-- The account of a link over a socket that had made these calls.
+abbrev pub account_over : Refused → (calls : List SystemCall) → List Entry → Account
+account_over refused calls history = record { made = OverSocket refused calls; history = history }
+
+-- Behind the calls that the socket had made before, its log has those for the entries of the history, and no others.
+abbrev pub LogsSince : Made → List Entry → (log : List SystemCall) → Type 0
+LogsSince (OverSocket refused calls) history log = Logs (AreCallsFor refused 0 0 history) calls log
+LogsSince _ history log = ⊥
+
+abbrev pub LogsHistory : Account → (log : List SystemCall) → Type 0
+LogsHistory account = LogsSince account.made account.history

@@ -18,6 +18,7 @@ ghost use Rattle.bac_links.specs.Memory.{PlaysItsScenes};
 ghost use Rattle.bac_links.specs.Progress.{AreTold, ArePrompt};
 ghost use Rattle.bac_links.specs.Search.{Searched};
 ghost use Rattle.bac_links.specs.Serve.{arrivals_in, replies_of, Serves};
+ghost use Rattle.bac_links.specs.Socket.{LogsHistory};
 ghost use Rattle.bac_links.specs.declared.ending.Purpose.{Purpose};
 ghost use Rattle.bac_links.specs.declared.ending.Exit.{Exit as Ended};
 ghost use Rattle.bac_links.specs.declared.fault.ToolFault.{ToolFault as Fault};
@@ -27,7 +28,8 @@ use crate::ending::{Exit, Purpose as Aim};
 use crate::fault::ToolFault;
 use crate::link::{Link, LinkFault};
 use crate::memory::{MemoryLink, Step};
-use crate::udp::Refused;
+use crate::socket::Socket;
+use crate::udp::{Refused, UdpLink};
 use std::alloc::Allocator;
 use std::io::Write;
 
@@ -99,6 +101,12 @@ pub fn a_server_is_a_function()
 /// there was none nothing, and each time was the time then.
 pub fn a_memory_link_plays_its_steps<A: Allocator + Copy>(link: &MemoryLink<A>)
     ensures { PlaysItsScenes (⟦<MemoryLink<A> as Link>⟧.seen link.now) }
+{}
+
+/// Whoever used a link over a socket, the log has, behind the calls that the socket had made before, those for the
+/// entries of the history, one after another, and no others. (`∥ ∥₁`: there is a way to part the log so.)
+pub fn a_socket_logs_the_history<S: Socket + Drop>(link: &UdpLink<S>)
+    ensures { ∥ LogsHistory (⟦<UdpLink<S> as Link>⟧.seen link.now) (S.log link.now.socket) ∥₁ }
 {}
 
 /// The limit that the code names is that of the definitions.

@@ -1,7 +1,7 @@
 //! The calls of the system that a socket made, with the answers. It exists only in proofs, as `History` does.
 ghost use Rattle.std.specs.Prelude.{◌≡◌, List, []};
 ghost use Rattle.std.specs.Borrow.{ftrue};
-ghost use Rattle.bac_links.specs.Socket.{SystemCall};
+ghost use Rattle.bac_links.specs.SystemCall.{SystemCall};
 
 use std::io;
 use std::marker::Model;

@@ -8,7 +8,7 @@ ghost use Rattle.bac_links.specs.History.{heard_by, Waited, Timed, Gains, posted
 ghost use Rattle.bac_links.specs.Memory.{account_of, account_with, scene_of_step, scene_of_kept, sent_by, sending_of};
 ghost use Rattle.bac_links.specs.Memory.{unrouted};
 ghost use Rattle.bac_links.specs.Played.{heard_next, behind_wait};
-ghost use Rattle.bac_links.specs.Inner.Stands.{Stands};
+ghost use Rattle.bac_links.specs.Stands.{Stands};
 
 use crate::datagram::Datagram;
 use crate::history::History;

@@ -4,7 +4,7 @@ ghost use Rattle.std.specs.Duration.{as_nanos};
 ghost use Rattle.std.specs.Io.{WritesAtMost};
 ghost use Rattle.std.specs.IoError.{error_kind};
 ghost use Rattle.std.specs.Result.{result_ok, result_map_both};
-ghost use Rattle.bac_links.specs.Socket.{Bind, Limit, SendTo, Receive, Elapsed};
+ghost use Rattle.bac_links.specs.SystemCall.{Bind, Limit, SendTo, Receive, Elapsed};
 
 use crate::link::LinkFault;
 use crate::log::{CallNote, Log};
@@ -15,7 +15,7 @@ use std::time::{Clock, Duration, Instant};
 /// A UDP socket and its clock, which remember what they were asked and answered. Each method is one call of the system.
 pub trait Socket {
     ghost use Rattle.std.specs.Prelude.{List};
-    ghost use Rattle.bac_links.specs.Socket.{SystemCall};
+    ghost use Rattle.bac_links.specs.SystemCall.{SystemCall};
 
     // The calls of the system so far.
     ghost log: { Self → List SystemCall };

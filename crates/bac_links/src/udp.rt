@@ -1,14 +1,15 @@
 //! A link over a UDP socket.
 ghost use Rattle.std.specs.Prelude.{◌≡◌, ◌≢◌, ◌+◌, ◌*◌, ◌++◌, [], None, IfOk, IfNone, IfSome, MatchOption, OnOk, OnErr};
-ghost use Rattle.std.specs.Prelude.{Ok, false, is_ok, is_err, max, vec_len};
+ghost use Rattle.std.specs.Prelude.{length, Ok, false, is_ok, is_err, max, vec_len};
 ghost use Rattle.std.specs.Duration.{as_nanos};
 ghost use Rattle.std.specs.Option.{option_flatten};
 ghost use Rattle.std.specs.Result.{result_ok};
 ghost use Rattle.bac_pdu.specs.Peer.{station};
 ghost use Rattle.bac_links.specs.Limits.{longest_datagram};
-ghost use Rattle.bac_links.specs.History.{heard_by, Waited, Timed, Gains, posted, remembering};
+ghost use Rattle.bac_links.specs.History.{heard_by, Waited, Timed, Gains, posted};
 ghost use Rattle.bac_links.specs.Socket.{IsAddressOf, heard_from, is_quiet, peer_at, time_by};
-ghost use Rattle.bac_links.specs.Socket.{Logs, Binds, Sends, Times, Waits, limits};
+ghost use Rattle.bac_links.specs.Socket.{Logs, Binds, Sends, Times, Waits, limits, account_over};
+ghost use Rattle.bac_links.specs.Keeps.{Keeps};
 
 use crate::datagram::{DATAGRAM_OCTETS, Datagram};
 use crate::history::History;
@@ -19,6 +20,7 @@ use std::alloc::Global;
 use std::io;
 use std::io::ErrorKind;
 use std::net::{Ipv4Addr, Net, SocketAddr, SocketAddrV4};
+use std::snapshot::Snapshot;
 use std::time::{Clock, Duration};
 
 // One octet more than a datagram may have, so that a longer one is seen.
@@ -38,6 +40,8 @@ pub enum Refused {
 #[derive(Drop)]
 pub struct UdpLink<S: Socket + Drop> {
     socket: S,
+    // The socket that it was made of, as it was then. It takes no memory.
+    made_of: Snapshot<S>,
     buffer: Vec<u8>,
     time: u64,
     // The time limit that the socket has, 0 before the first.
@@ -47,6 +51,7 @@ pub struct UdpLink<S: Socket + Drop> {
     // What it was asked and answered.
     history: History,
     ghost room: { vec_len buffer ≡ longest_datagram + 1 },
+    ghost keeps: { ∥ Keeps refused (S.log made_of.value) (S.log socket) history.entries wait_ms time failed ∥₁ },
 }
 
 impl<R: Net + Clock + Clone + Drop> UdpLink<SystemSocket<R>> {
@@ -59,7 +64,9 @@ impl<R: Net + Clock + Clone + Drop> UdpLink<SystemSocket<R>> {
         ensures sound { IfOk result (λ link. ⟦<UdpLink<SystemSocket<R>> as Link>⟧.has_failed link ≡ false) }
         ensures refused { IfOk result (λ link. link.refused ≡ Refused.Fails) }
         ensures at { IfOk result (λ link. Binds at link.socket.log.calls) }
-        ensures begun { IfOk result (λ link. (link.time ≡ 0) × (link.wait_ms ≡ 0) × (link.history.entries ≡ [])) }
+        ensures made { IfOk result (λ link. ⟦<UdpLink<SystemSocket<R>> as Link>⟧.seen link
+            ≡ account_over Refused.Fails link.socket.log.calls []) }
+        ensures begun { IfOk result (λ link. (link.time ≡ 0) × (link.wait_ms ≡ 0)) }
     {
         Self::bind_with(rt, alloc, at, Refused::Fails)
     }
@@ -73,7 +80,9 @@ impl<R: Net + Clock + Clone + Drop> UdpLink<SystemSocket<R>> {
         ensures sound { IfOk result (λ link. ⟦<UdpLink<SystemSocket<R>> as Link>⟧.has_failed link ≡ false) }
         ensures refused { IfOk result (λ link. link.refused ≡ refused) }
         ensures at { IfOk result (λ link. Binds at link.socket.log.calls) }
-        ensures begun { IfOk result (λ link. (link.time ≡ 0) × (link.wait_ms ≡ 0) × (link.history.entries ≡ [])) }
+        ensures made { IfOk result (λ link. ⟦<UdpLink<SystemSocket<R>> as Link>⟧.seen link
+            ≡ account_over refused link.socket.log.calls []) }
+        ensures begun { IfOk result (λ link. (link.time ≡ 0) × (link.wait_ms ≡ 0)) }
     {
         Self::over(SystemSocket::bind(rt, address_of(at))?, alloc, refused)
     }
@@ -89,9 +98,11 @@ impl<S: Socket + Drop> UdpLink<S> {
         ensures sound { IfOk result (λ link. ⟦<UdpLink<S> as Link>⟧.has_failed link ≡ false) }
         ensures refused { IfOk result (λ link. link.refused ≡ refused) }
         ensures socket { IfOk result (λ link. link.socket ≡ socket) }
-        ensures begun { IfOk result (λ link. (link.time ≡ 0) × (link.wait_ms ≡ 0) × (link.history.entries ≡ [])) }
+        ensures made { IfOk result (λ link. ⟦<UdpLink<S> as Link>⟧.seen link ≡ account_over refused (S.log socket) []) }
+        ensures begun { IfOk result (λ link. (link.time ≡ 0) × (link.wait_ms ≡ 0)) }
     {
         Ok(UdpLink {
+            made_of: Snapshot::of(&socket),
             socket,
             buffer: vec![in alloc; 0; BUFFER_OCTETS].map_err(|_| LinkFault)?,
             time: 0,
@@ -101,41 +112,61 @@ impl<S: Socket + Drop> UdpLink<S> {
             history: History::new(),
         })
     }
+}
 
-    // The socket waits at most so long from now on. The system is asked only where that is another time than before.
-    fn limit_wait(&mut self, wait_ms: u32) -> io::Result<()>
-        ensures limited { OnOk result (self.new.wait_ms ≡ wait_ms) }
-        ensures unlimited { OnErr result (wait_ms ≢ self.old.wait_ms) }
-        ensures failed { self.new.failed ≡ self.old.failed }
-        ensures history { self.new.history ≡ self.old.history }
-        ensures left { (self.new.refused ≡ self.old.refused) × (self.new.time ≡ self.old.time) }
-        ensures asked { S.log self.new.socket
-            ≡ S.log self.old.socket ++ limits self.old.wait_ms wait_ms (is_ok result) }
-    {
-        if wait_ms != self.wait_ms {
-            self.socket.set_read_timeout(wait_of(wait_ms))?;
-            self.wait_ms = wait_ms;
-        }
-        Ok(())
+// The socket waits at most so long from now on. The system is asked only where that is another time than the one set.
+fn limit_wait<S: Socket>(socket: &mut S, set_ms: &mut u32, wait_ms: u32) -> io::Result<()>
+    ensures limited { OnOk result (set_ms.new ≡ wait_ms) }
+    ensures unlimited { OnErr result (wait_ms ≢ set_ms.old) }
+    ensures asked { S.log socket.new ≡ S.log socket.old ++ limits set_ms.old wait_ms (is_ok result) }
+{
+    if wait_ms != *set_ms {
+        socket.set_read_timeout(wait_of(wait_ms))?;
+        *set_ms = wait_ms;
     }
+    Ok(())
+}
 
-    // The next datagram within the wait, where there is one that a `Datagram` holds.
-    fn next_datagram(&mut self, wait_ms: u32, datagram: &mut Datagram) -> io::Result<Option<Peer>>
-        ensures failed { self.new.failed ≡ self.old.failed }
-        ensures history { self.new.history ≡ self.old.history }
-        ensures left { (self.new.refused ≡ self.old.refused) × (self.new.time ≡ self.old.time) }
-        ensures limited { OnOk result (self.new.wait_ms ≡ max wait_ms 1) }
-        ensures plain { IfOk result (λ heard. IfSome heard (λ from. from.route ≡ None)) }
-        ensures kept { IfNone (option_flatten (result_ok result)) (datagram.new ≡ datagram.old) }
-        ensures asked { Logs (Waits self.old.refused self.old.wait_ms (max wait_ms 1) (heard_by result datagram.new))
-            (S.log self.old.socket) (S.log self.new.socket) }
-    {
-        self.limit_wait(wait_ms.max(1))?;
-        match self.socket.recv_from(&mut self.buffer) {
-            Ok((len, from)) => Ok(hear(from, &self.buffer[..len], datagram)),
-            Err(e) if is_quiet(self.refused, e.kind()) => Ok(None),
-            Err(e) => Err(e),
-        }
+// The next datagram within the wait, where there is one that a `Datagram` holds.
+fn next_datagram<S: Socket>(
+    socket: &mut S,
+    set_ms: &mut u32,
+    refused: Refused,
+    buffer: &mut [u8],
+    wait_ms: u32,
+    datagram: &mut Datagram,
+) -> Result<Option<Peer>, LinkFault>
+    requires { length buffer.old ≡ longest_datagram + 1 }
+    ensures room { length buffer.new ≡ length buffer.old }
+    ensures limited { OnOk result (set_ms.new ≡ max wait_ms 1) }
+    ensures plain { IfOk result (λ heard. IfSome heard (λ from. from.route ≡ None)) }
+    ensures kept { IfNone (option_flatten (result_ok result)) (datagram.new ≡ datagram.old) }
+    ensures asked { Logs (Waits refused set_ms.old (max wait_ms 1) (heard_by result datagram.new))
+        (S.log socket.old) (S.log socket.new) }
+{
+    limit_wait(socket, set_ms, wait_ms.max(1)).map_err(|_| LinkFault)?;
+    match socket.recv_from(buffer) {
+        Ok((len, from)) => Ok(hear(from, &buffer[..len], datagram)),
+        Err(e) if is_quiet(refused, e.kind()) => Ok(None),
+        Err(_) => Err(LinkFault),
+    }
+}
+
+// Gives the octets to send to the address of the peer.
+fn post<S: Socket>(
+    socket: &mut S,
+    refused: Refused,
+    to: Peer,
+    octets: &[u8],
+) -> Result<(), LinkFault>
+    ensures lost { refused ≡ Refused.IsLost → result ≡ Ok tt }
+    ensures asked { Logs (Sends refused (station to) octets.now (is_ok result)) (S.log socket.old)
+        (S.log socket.new) }
+{
+    match socket.send_to(octets, address_of(to)) {
+        Ok(sent) if sent == octets.len() => Ok(()),
+        _ if refused == Refused::IsLost => Ok(()),
+        _ => Err(LinkFault),
     }
 }
 
@@ -186,7 +217,7 @@ fn is_quiet(refused: Refused, kind: ErrorKind) -> bool
 
 // Where a peer is on the network: a route has no part in it.
 fn address_of(peer: Peer) -> SocketAddr
-    ensures { IsAddressOf peer result }
+    ensures { IsAddressOf (station peer) result }
 {
     SocketAddr::V4(SocketAddrV4::new(Ipv4Addr::from_bits(peer.ip), peer.port))
 }
@@ -206,7 +237,7 @@ fn peer_of(address: SocketAddr) -> Option<Peer>
 }
 
 impl<S: Socket + Drop> Link for UdpLink<S> {
-    ghost seen = { λ link. remembering link.history.entries };
+    ghost seen = { λ link. account_over link.refused (S.log link.made_of.value) link.history.entries };
 
     ghost has_failed = { λ link. link.failed };
 
@@ -216,19 +247,14 @@ impl<S: Socket + Drop> Link for UdpLink<S> {
         ensures lost { self.old.refused ≡ Refused.IsLost → result ≡ Ok tt }
         ensures left { (self.new.refused ≡ self.old.refused) × (self.new.time ≡ self.old.time)
             × (self.new.wait_ms ≡ self.old.wait_ms) × (self.new.buffer ≡ self.old.buffer) }
-        ensures asked { Logs (Sends self.old.refused to octets.now (is_ok result))
+        ensures asked { Logs (Sends self.old.refused (station to) octets.now (is_ok result))
             (S.log self.old.socket) (S.log self.new.socket) }
-        ensures told { Gains (posted result (station to) octets.now) (remembering self.old.history.entries)
-            (remembering self.new.history.entries) }
+        ensures told { Gains (posted result (station to) octets.now)
+            (account_over self.old.refused (S.log self.old.made_of.value) self.old.history.entries)
+            (account_over self.new.refused (S.log self.new.made_of.value) self.new.history.entries) }
     {
-        let sent = match self.socket.send_to(octets, address_of(to)) {
-            Ok(sent) if sent == octets.len() => Ok(()),
-            _ if self.refused == Refused::IsLost => Ok(()),
-            _ => {
-                self.failed = true;
-                Err(LinkFault)
-            }
-        };
+        let sent = post(&mut self.socket, self.refused, to, octets);
+        self.failed = sent.is_err();
         self.history = self.history.and_send(&sent, to, octets);
         sent
     }
@@ -242,16 +268,19 @@ impl<S: Socket + Drop> Link for UdpLink<S> {
         ensures left { (self.new.refused ≡ self.old.refused) × (self.new.time ≡ self.old.time) }
         ensures asked { Logs (Waits self.old.refused self.old.wait_ms (max wait_ms 1) (heard_by result datagram.new))
             (S.log self.old.socket) (S.log self.new.socket) }
-        ensures told { Gains (Waited wait_ms (heard_by result datagram.new)) (remembering self.old.history.entries)
-            (remembering self.new.history.entries) }
+        ensures told { Gains (Waited wait_ms (heard_by result datagram.new))
+            (account_over self.old.refused (S.log self.old.made_of.value) self.old.history.entries)
+            (account_over self.new.refused (S.log self.new.made_of.value) self.new.history.entries) }
     {
-        let heard = match self.next_datagram(wait_ms, datagram) {
-            Ok(from) => Ok(from),
-            Err(_) => {
-                self.failed = true;
-                Err(LinkFault)
-            }
-        };
+        let heard = next_datagram(
+            &mut self.socket,
+            &mut self.wait_ms,
+            self.refused,
+            &mut self.buffer,
+            wait_ms,
+            datagram,
+        );
+        self.failed = heard.is_err();
         self.history = self.history.and_wait(wait_ms, &heard, datagram);
         heard
     }
@@ -260,8 +289,9 @@ impl<S: Socket + Drop> Link for UdpLink<S> {
         ensures left { (self.new.refused ≡ self.old.refused) × (self.new.failed ≡ self.old.failed)
             × (self.new.wait_ms ≡ self.old.wait_ms) × (self.new.buffer ≡ self.old.buffer) × (self.new.time ≡ result) }
         ensures asked { Logs (Times self.old.time result) (S.log self.old.socket) (S.log self.new.socket) }
-        ensures told { Gains (Timed result) (remembering self.old.history.entries)
-            (remembering self.new.history.entries) }
+        ensures told { Gains (Timed result)
+            (account_over self.old.refused (S.log self.old.made_of.value) self.old.history.entries)
+            (account_over self.new.refused (S.log self.new.made_of.value) self.new.history.entries) }
     {
         self.time = time_by(self.socket.elapsed(), self.time);
         self.history = self.history.and_time(self.time);

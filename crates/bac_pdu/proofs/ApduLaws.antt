@@ -66,7 +66,7 @@ numbered_laid = grind arith
 -- the APDU of this kind, or of a later one
 this_kind : {T : Type 0} (first k : ℕ) {x y : Option Message} {m : Message} → (first / 16 ≡ k → x ≡ Some m → T)
     → (y ≡ Some m → T) → cond (eqb (first / 16) k) x y ≡ Some m → T
-this_kind = grind (arith, chosen, eqb, eqb-true)
+this_kind = grind (arith, chosen, eqb-true)
 
 apdu_takes : (octets : List ℕ) (m : Message) → apdu_of octets ≡ Some m → IsLaidOut octets m
 unfolding apdu_of

@@ -1,8 +1,8 @@
 -- `==` on peers compares the stations.
 use Rattle.std.proofs.{
-  Common.{◌≡◌, ℕ, ◌-◌, true, List, ◌++◌, length, take, drop, Option, refl, sym, ap, ◌∙◌, arith},
-  lemmas.Bool.{and_parts, eqb-true, eq-eqb, false≢true},
+  lemmas.{Grind.common_steps, Bool.{and_parts, eqb-true, eq-eqb, false≢true}},
   lemmas.{List.{take-append-drop, length-take-le, length-drop, length-replicate}, Option.{none-some, same_Some}},
+  Common.{◌≡◌, ℕ, ◌-◌, true, List, ◌++◌, length, take, drop, Option, refl, sym, ap, ◌∙◌, arith},
 }
 use Rattle.std.specs.{Prelude.{◌↔◌, replicate}, Option.{option_map, option_eq}, Cmp.Lexicographic.bytes_decides}
 use Rattle.bac_pdu.specs.{
@@ -13,13 +13,7 @@ use Rattle.bac_pdu.specs.{
 
 -- a route keeps its address in eight octets
 room : (r : Route) → length r.octets ≡ 8
-room r = omega (
-  arith,
-  r.longest,
-  length-drop r.count r.octets,
-  ap length r.unused,
-  length-replicate {A = ℕ} (8 - r.count) 0,
-)
+room = grind (arith, common_steps, length-drop, length-replicate)
 
 -- the octets of a route are the address, and zeros
 same_octets : (a b : Route) → network_address a ≡ network_address b → (a.count ≡ b.count) × (a.octets ≡ b.octets)

@@ -1,6 +1,6 @@
 -- Things that are spelled one after the other.
 use Rattle.std.{
-  proofs.Common.{◌≡◌, ℕ, List, [], ◌∷◌, ◌++◌, Option, Some, refl, sym, ap, subst, ◌∙◌, append_assoc},
+  proofs.Common.{◌≡◌, ℕ, List, [], ◌∷◌, ◌++◌, Some, refl, sym, ap, subst, ◌∙◌, append_assoc},
   specs.List.{AllByRecursion, flat_map},
   proofs.lemmas.{List.append-nil, Option.none-some},
 }

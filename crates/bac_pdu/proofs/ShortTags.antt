@@ -1,7 +1,7 @@
 -- Tags of one octet: of a number below 15, before at most four octets.
 use Rattle.std.proofs.{
-  Common.{◌≡◌, ℕ, ◌+◌, ◌*◌, ◌<◌, List, [], ◌∷◌, length, slice_index_or, sym, arith},
-  lemmas.Bool.lt-ltb,
+  lemmas.{Grind.common_steps, Bool.lt-ltb},
+  Common.{◌≡◌, ℕ, ◌+◌, ◌*◌, ◌<◌, List, [], ◌∷◌, length, slice_index_or, arith},
 }
 use Rattle.bac_wire.specs.{Tag.plain_tag, Region.{opening_tag, closing_tag}, Parameter.{context_octets, number_octets}}
 
@@ -14,8 +14,7 @@ short_context = grind (arith, lt-ltb)
 pub four_context : (number : ℕ) (contents : List ℕ) → number < 15 → length contents ≡ 4
     → (16 * number + 12) ∷ slice_index_or contents 0 0 ∷ slice_index_or contents 1 0 ∷ slice_index_or contents 2 0
     ∷ slice_index_or contents 3 0 ∷ [] ≡ context_octets number contents
-four_context _ (a ∷ b ∷ c ∷ d ∷ []) low four = sym (short_context _ (a ∷ b ∷ c ∷ d ∷ []) low (omega arith))
-four_context _ _ low four = cc
+four_context = grind (arith, common_steps, short_context)
 
 -- a number in one octet
 pub one_number : (number n : ℕ) → number < 15 → n < 256 → number_octets number n ≡ (16 * number + 9) ∷ n ∷ []

@@ -1,23 +1,17 @@
 -- The octets of a chunk: a range of its room, of which a front was searched for a line feed.
 use Rattle.std.proofs.Common.{◌≡◌, ℕ, ◌+◌, ◌-◌, ◌<◌, ◌≤◌, List, [], ◌∷◌, ◌++◌, length, take, drop, Option, Some, None}
-use Rattle.std.proofs.Common.{refl, sym, ◌∙◌, ap, subst, inl, inr, append-nil, arith, length-drop}
-use Rattle.std.specs.Prelude.{◌==◌, min, position}
-use Rattle.std.specs.List.{slice_range, copy_within}
-use Rattle.std.specs.Io.KnownBytes.{Consumes, Keeps}
-use Rattle.std.proofs.lemmas.Grind.{common_steps}
+use Rattle.std.proofs.Common.{refl, sym, ◌∙◌, ap, subst, inl, inr, append-nil, arith, length-drop, ◌==◌, min, position}
+use Rattle.std.proofs.Common.{drop-drop, length-take-le, take-append-drop, take-take, take_all}
+use Rattle.std.specs.{List.slice_range, List.copy_within, Io.KnownBytes.Consumes, Io.KnownBytes.Keeps}
+use Rattle.std.proofs.lemmas.{Grind.common_steps, List.drop-append-le, List.take-append-le, List.Edits.take-paste}
+use Rattle.std.proofs.lemmas.{Slice.between_is, Slice.take-put_mid}
 use Rattle.std.proofs.Math.Seq.{take-add, take-append-add}
-use Rattle.std.proofs.lemmas.List.{drop-drop, drop-append-le, length-take-le, take-append-drop, take-append-le}
-use Rattle.std.proofs.lemmas.List.{take-take, take_all}
-use Rattle.std.proofs.lemmas.List.Edits.{take-paste}
-use Rattle.std.proofs.lemmas.Slice.{between_is, take-put_mid}
 use borrow.Rule.Slice.PartMut.{put_mid}
 use Rattle.bac_print.specs.declared.checked.Checked.{Checked}
 use Rattle.bac_print.specs.Checked.{inner_of, octets_of}
 use Rattle.bac_print.proofs.Known.{Consumes-kept}
-use Rattle.bac_script.specs.Inner.Feeds.{HasNoFeed}
-use Rattle.bac_script.specs.Inner.Limits.{line_room, chunk_room}
-use Rattle.bac_script.specs.Inner.Input.{TakesAndKeeps, IsLineCut}
-use Rattle.bac_script.specs.declared.input.Reading.TheVariants.{Open}
+use Rattle.bac_script.specs.{Inner.Feeds.HasNoFeed, Inner.Limits.line_room, Inner.Limits.chunk_room}
+use Rattle.bac_script.specs.{Inner.Input.TakesAndKeeps, Inner.Input.IsLineCut, declared.input.Reading.TheVariants.Open}
 use Rattle.bac_script.proofs.Taken.{no_feed, no_feed_on, feed_at}
 
 pub range_size : (xs held : List ℕ) (start end : ℕ) → slice_range xs start end ≡ held → end ≤ length xs
@@ -28,7 +22,7 @@ range_size xs held start end is room = ap length (sym is)
 -- What is left of a range.
 pub range_skipped : (xs held : List ℕ) (start end n : ℕ) → slice_range xs start end ≡ held
     → slice_range xs (start + n) end ≡ drop n held
-range_skipped xs held start end n is =
+range_skipped xs _ start end n is =
     between_is xs (start + n) end ∙ sym (drop-drop n start (take end xs))
     ∙ ap (drop n) (sym (between_is xs start end) ∙ is)
 
@@ -96,8 +90,7 @@ module _ (xs : List ℕ) (start count limit end : ℕ) (is : limit ≡ min end (
 
 -- Of octets that were moved to the front.
 moved_held : (xs moved held : List ℕ) (start end : ℕ) → slice_range xs start end ≡ held
-    → moved ≡ copy_within xs start end 0 → start ≤ end → end ≤ length xs →
-    slice_range moved 0 (end - start) ≡ held
+    → moved ≡ copy_within xs start end 0 → start ≤ end → end ≤ length xs → slice_range moved 0 (end - start) ≡ held
 moved_held xs moved held start end is copied low high =
     grind (
       arith,
@@ -118,8 +111,7 @@ pub record Placed (xs : List ℕ) (start end searched : ℕ) (held : List ℕ) :
 pub placed_moved : (xs moved held : List ℕ) (start end searched : ℕ) → slice_range xs start end ≡ held
     → moved ≡ copy_within xs start end 0 → length moved ≡ chunk_room →
     length xs ≡ chunk_room → start + searched ≤ end → end ≤ chunk_room → length held < line_room
-    → HasNoFeed (take searched (slice_range xs start end)) →
-    Placed moved 0 (end - start) searched held
+    → HasNoFeed (take searched (slice_range xs start end)) → Placed moved 0 (end - start) searched held
 placed_moved xs moved held start end searched is copied size size' within room short before =
     let long = range_size xs held start end is (omega (arith, room, size')) in
     let same = moved_held xs moved held start end is copied (omega (arith, within)) (omega (arith, room, size')) in
@@ -141,8 +133,7 @@ module _ {xs : List ℕ} {start end searched : ℕ} {held : List ℕ} (p : Place
   more : (count : ℕ) → count ≤ length ys → slice_range room start (end + count) ≡ held ++ take count ys
   more count some =
       let fits : end ≤ length xs = omega (arith, p.room, p.size) in
-      between_is room start (end + count)
-      ∙ ap (drop start)
+      between_is room start (end + count) ∙ ap (drop start)
       (sym (take-take (end + count) (end + length ys) room (omega (arith, some)))
       ∙ ap (take (end + count)) (take-put_mid end k xs ys (end + length ys) refl fits)
       ∙ ap (λ (n : ℕ). take (n + count) (take end xs ++ ys)) (sym (length-take-le end xs fits))
@@ -164,8 +155,7 @@ module _ {xs : List ℕ} {start end searched : ℕ} {held : List ℕ} (p : Place
       ∙ sym (ap (take searched) (more count some) ∙ take-append-le searched held (take count ys) long)) p.before
 
   pub read_on : {R : Type 0} {remaining : R → Option (List ℕ)} {reader reader' : Checked R} (count : ℕ)
-      → count ≤ length ys →
-      octets_of reader' ≡ octets_of reader ++ take count ys
+      → count ≤ length ys → octets_of reader' ≡ octets_of reader ++ take count ys
       → Consumes (remaining (inner_of reader)) (remaining (inner_of reader')) (take count ys)
       → TakesAndKeeps remaining reader reader' held (slice_range room start (end + count)) []
   read_on count some passed known =
@@ -173,14 +163,12 @@ module _ {xs : List ℕ} {start end searched : ℕ} {held : List ℕ} (p : Place
 
   pub read_none : {R : Type 0} {remaining : R → Option (List ℕ)} {reader reader' : Checked R}
       → octets_of reader' ≡ octets_of reader ++ [] → Keeps (remaining (inner_of reader)) (remaining (inner_of reader'))
-      →
-      TakesAndKeeps remaining reader reader' held (slice_range room start end) []
+      → TakesAndKeeps remaining reader reader' held (slice_range room start end) []
   read_none passed kept =
       record {
         given = [];
         gave = record { passed = passed; known = Consumes-kept _ _ kept };
-        order = append-nil held
-            ∙ sym still_held;
+        order = append-nil held ∙ sym still_held;
       }
 
   pub read_ended : {R : Type 0} {remaining : R → Option (List ℕ)} {reader reader' : Checked R} (count : ℕ) → count ≡ 0 →

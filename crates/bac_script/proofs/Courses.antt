@@ -1,19 +1,13 @@
 -- The course of a script, line after line.
 use Rattle.std.proofs.Common.{◌≡◌, ℕ, ◌+◌, Bool, true, List, [], ◌∷◌, ◌++◌, length, Option, Some, None, Result, Ok, Err}
-use Rattle.std.proofs.Common.{refl, sym, ◌∙◌, ap, subst, append_assoc, arith}
-use Rattle.std.specs.Prelude.{◌&&◌, MatchOption}
-use Rattle.std.specs.Option.{option_map_or}
-use Rattle.std.specs.Result.{result_ok}
-use Rattle.bac_script.specs.declared.input.Reading.{Reading}
-use Rattle.bac_script.specs.declared.line.LineFault.{LineFault}
-use Rattle.bac_script.specs.declared.tracing.TraceEnd.{TraceEnd}
-use Rattle.bac_script.specs.declared.tracing.TraceFault.{TraceFault}
-use Rattle.bac_script.specs.Line.{Said, said}
-use Rattle.bac_script.specs.Inner.Running.{Stage, ran}
-use Rattle.bac_script.specs.Script.{lines, is_nothing, said_from, all_said, text_of, fault_at, fault_from}
-use Rattle.bac_script.specs.Script.{first_fault, text, EndsAs}
-use Rattle.bac_script.proofs.Machine.{first_stage, text_from, text_is}
-use Rattle.bac_script.proofs.Settled.{settings_first}
+use Rattle.std.proofs.Common.{refl, sym, ◌∙◌, ap, subst, append_assoc, arith, ◌&&◌, MatchOption}
+use Rattle.std.specs.{Option.option_map_or, Result.result_ok}
+use Rattle.bac_script.specs.declared.{input.Reading.Reading, line.LineFault.LineFault, tracing.TraceEnd.TraceEnd}
+use Rattle.bac_script.specs.declared.{tracing.TraceFault.TraceFault}
+use Rattle.bac_script.specs.{Line.Said, Line.said, Inner.Running.Stage, Inner.Running.ran}
+use Rattle.bac_script.specs.Script.{lines, is_nothing, said_from, all_said, text_of, fault_at, fault_from, first_fault}
+use Rattle.bac_script.specs.Script.{text, EndsAs}
+use Rattle.bac_script.proofs.{Machine.first_stage, Machine.text_from, Machine.text_is, Settled.settings_first}
 
 -- What is printed, the fault of the first line that is bad or too long, and without one the number of all lines.
 pub record Course : Type 0 where
@@ -60,15 +54,13 @@ record IsCourse (stage : Stage) (is_first : Bool) (count : ℕ) (all : List (Lis
 
 is_course : (all : List (List ℕ)) (stage : Stage) (is_first : Bool) (count : ℕ)
     → IsCourse stage is_first count all (said_from is_first all) (course stage is_first count all)
-is_course [] stage is_first count =
-    record { text = refl; fault = refl; counted = λ none. omega arith }
+is_course [] stage is_first count = record { text = refl; fault = refl; counted = λ none. omega arith }
 is_course (line ∷ later) stage is_first count =
     go (said is_first line) refl (λ one. is_course later (ran stage one).after (is_first && is_nothing one) (count + 1))
   where
     go : (s : Result Said LineFault) → said is_first line ≡ s →
         ((one : Said) → IsCourse (ran stage one).after (is_first && is_nothing one) (count + 1) later
-        (said_from (is_first && is_nothing one) later)
-        (course_on stage is_first count later one)) →
+        (said_from (is_first && is_nothing one) later) (course_on stage is_first count later one)) →
         IsCourse stage is_first count (line ∷ later)
         (option_map_or (λ one. one ∷ said_from (is_first && is_nothing one) later) (result_ok s) [])
         (and_on stage count s (course_on stage is_first count later))
@@ -77,11 +69,7 @@ is_course (line ∷ later) stage is_first count =
       fault = rw is (h one).fault;
       counted = λ none. let more = (h one).counted none in omega (arith, more);
     }
-    go (Err fault) is h = record {
-      text = refl;
-      fault = rw is refl;
-      counted = λ none. absurd (cc);
-    }
+    go (Err fault) is h = record { text = refl; fault = rw is refl; counted = λ none. absurd (cc) }
 
 pub runs_text : (all : List (List ℕ)) → (whole all).text ≡ text_of (all_said all)
 runs_text all = (is_course all first_stage true 0).text ∙ sym (text_is (all_said all) (settings_first all))
@@ -118,8 +106,7 @@ runs_as octets reading one answer is ends =
         let size : (whole (lines octets reading)).count ≡ length (lines octets reading) =
         omega (
           arith,
-          (is_course (lines octets reading) first_stage true 0).counted
-              (ap (λ (c : Course). c.fault) is ∙ none),
+          (is_course (lines octets reading) first_stage true 0).counted (ap (λ (c : Course). c.fault) is ∙ none),
         ) in
         subst (λ (n : ℕ). EndsAs reading n answer) (ap (λ (c : Course). c.count) (sym is) ∙ size) h
     counted (Some fault) is h = h

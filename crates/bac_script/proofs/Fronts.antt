@@ -1,19 +1,13 @@
 -- The text of the first octets of a script is the beginning of its text.
-use Rattle.std.proofs.Common.{◌≡◌, ◌⊎◌, ℕ, ◌+◌, zero, suc, ◌≤◌, Bool, true, false, List, [], ◌∷◌, ◌++◌, length}
-use Rattle.std.proofs.Common.{Result, Ok, Err, refl, sym, ◌∙◌, ap, subst, append_assoc, inl, inr, arith}
-use Rattle.std.specs.Prelude.{◌&&◌, ◌==◌, nat_lt}
-use Rattle.std.proofs.lemmas.List.{length-append}
-use Rattle.std.proofs.lemmas.Bool.{eqb-false, eqb-true}
-use Rattle.std.proofs.lemmas.Bool.Decides.{nat_tests}
+use Rattle.std.proofs.Common.{◌≡◌, ◌⊎◌, ℕ, ◌+◌, zero, suc, ◌≤◌, Bool, true, false, List, [], ◌∷◌, ◌++◌, length, Result}
+use Rattle.std.proofs.Common.{Ok, Err, refl, sym, ◌∙◌, ap, subst, append_assoc, inl, inr, arith, ◌&&◌, ◌==◌, nat_lt}
+use Rattle.std.proofs.Common.{length-append, eqb-true}
+use Rattle.std.proofs.lemmas.Bool.{eqb-false, Decides.nat_tests}
 use Rattle.bac_text.specs.Limits.{longest_line}
-use Rattle.bac_script.specs.declared.input.Reading.{Reading}
-use Rattle.bac_script.specs.declared.input.Reading.TheVariants.{Open}
-use Rattle.bac_script.specs.declared.line.LineFault.{LineFault}
-use Rattle.bac_script.specs.Alike.{IsFrontOf}
-use Rattle.bac_script.specs.Line.{Said, said}
-use Rattle.bac_script.specs.Script.{lines, is_nothing, text}
-use Rattle.bac_script.specs.Inner.Feeds.{HasNoFeed}
-use Rattle.bac_script.specs.Inner.Running.{Stage, ran}
+use Rattle.bac_script.specs.{declared.input.Reading.Reading, declared.input.Reading.TheVariants.Open}
+use Rattle.bac_script.specs.{declared.line.LineFault.LineFault, Alike.IsFrontOf, Line.Said, Line.said, Script.lines}
+use Rattle.bac_script.specs.{Script.is_nothing, Script.text, Inner.Feeds.HasNoFeed, Inner.Running.Stage}
+use Rattle.bac_script.specs.{Inner.Running.ran}
 use Rattle.bac_script.proofs.Courses.{and_on, course, course_on, runs_text}
 use Rattle.bac_script.proofs.Machine.{first_stage}
 use Rattle.bac_script.proofs.Pieces.{pieces-open, ends_with_feed-none, said-long, lines-ended}
@@ -30,8 +24,7 @@ first_line [] = inl tt
 first_line (x ∷ xs) = here (x == 10) refl (first_line xs)
   where
     here : (b : Bool) → (x == 10) ≡ b → HasNoFeed xs ⊎ FirstLine xs → HasNoFeed (x ∷ xs) ⊎ FirstLine (x ∷ xs)
-    here true e others =
-        inr (record { line = []; rest = xs; none = tt; is = ap (λ (n : ℕ). n ∷ xs) (eqb-true x 10 e) })
+    here true e _ = inr (record { line = []; rest = xs; none = tt; is = ap (λ (n : ℕ). n ∷ xs) (eqb-true x 10 e) })
     here false e (inl none) = inl (eqb-false x 10 e, none)
     here false e (inr f) =
         inr (record {
@@ -57,7 +50,7 @@ one_line line some all fronts stage is_first count = go (said is_first line)
           ap (λ (ys : List ℕ). (ran stage one).text ++ ys) f.1
               ∙ sym (append_assoc (ran stage one).text (course_on stage is_first count some one).text f.0),
         )
-    go (Err fault) = ([], refl)
+    go (Err _) = ([], refl)
 
 -- Octets without a line feed have no text: they are no line yet, or one that is too long.
 no_line : (octets : List ℕ) (all : List (List ℕ)) → HasNoFeed octets → FrontFrom (lines octets Open) all
@@ -96,8 +89,7 @@ lines_front (suc n) octets more reading within =
           append_assoc (f.line ++ 10 ∷ []) f.rest more,
           lines-ended f.line f.rest Open f.none,
           lines-ended f.line (f.rest ++ more) reading f.none,
-        ) (one_line (f.line ++ 10 ∷ []) (lines f.rest Open) (lines (f.rest ++ more) reading)
-        (others f.rest shorter)))
+        ) (one_line (f.line ++ 10 ∷ []) (lines f.rest Open) (lines (f.rest ++ more) reading) (others f.rest shorter)))
 
 pub text_front : (octets more : List ℕ) (reading : Reading)
     → IsFrontOf (text octets Open) (text (octets ++ more) reading)

@@ -7,3 +7,4 @@ pub mod Courses
 pub mod SoFar
 pub mod Fronts
 pub mod Functions
+pub mod Computed

@@ -2,20 +2,14 @@
 use Rattle.std.proofs.Common.{◌≡◌, ℕ, zero, suc, List, [], ◌∷◌, ◌++◌, drop, length, Option, Some, slice_get, refl, sym}
 use Rattle.std.proofs.Common.{◌∙◌, ap}
 use Rattle.std.specs.List.{AllByRecursion}
-use Rattle.bac_tsm.specs.Events.{Event, Note}
+use Rattle.bac_tsm.specs.{Events.Event, Events.Note, Lookahead.output, Machine.State, Machine.Stepped}
+use Rattle.bac_tsm.specs.{Limits.table_size, Laws.state_at, Laws.NumbersComeBackLate, Client.client_rules}
+use Rattle.bac_tsm.specs.{Client.keeping}
 use Rattle.bac_pdu.specs.Peer.{Station}
-use Rattle.bac_tsm.specs.Lookahead.{output}
-use Rattle.bac_tsm.specs.Machine.{State, Stepped}
-use Rattle.bac_tsm.specs.Limits.{table_size}
-use Rattle.bac_tsm.specs.Laws.{state_at, NumbersComeBackLate}
-use Rattle.bac_tsm.specs.Client.{client_rules, keeping}
 use Rattle.bac_tsm.proofs.Laws.{by_number, few_open, begins, one_step, back_late}
-use Rattle.bac_device.specs.Places.{Write}
-use Rattle.bac_device.specs.Demo.{demo_points}
-use Rattle.bac_device.specs.Turns.{replies_to}
+use Rattle.bac_device.specs.{Places.Write, Demo.demo_points, Turns.replies_to}
 use Rattle.bac_script.specs.Line.{Said, Nothing, Settings, Happens, Asks}
-use Rattle.bac_script.specs.Text.{notes_text}
-use Rattle.bac_script.specs.Running.{small_device}
+use Rattle.bac_script.specs.{Text.notes_text, Running.small_device}
 use Rattle.bac_script.specs.Inner.Running.{Stage, new_client, ran, reply_after, writes_with}
 use Rattle.bac_script.specs.Script.{settings_in, events_in, arrivals_in, requests_in, printed, text_of}
 
@@ -81,9 +75,9 @@ module _ (timeout retries first_ticket : ℕ) (events : List Event) where
 
   pub prints_output : (n : ℕ) (writes : List Write) (all : List Said) → NoSettings all → drop n events ≡ events_in all →
       text_from (stage_at n writes) all ≡ printed notes n all (replies_after writes all)
-  prints_output n writes [] h e = refl
+  prints_output n _ [] h e = refl
   prints_output n writes (Nothing ∷ later) h e = prints_output n writes later h.1 e
-  prints_output n writes (Settings t r f ∷ later) h e = absurd h.0
+  prints_output n _ (Settings t r f ∷ _) h e = absurd h.0
   prints_output n writes (Happens event ∷ later) h e =
       let here = drop_next events n event (events_in later) e in
       let now = one_step (client_rules timeout retries) first_ticket events (by_number timeout retries) few_open n
@@ -98,8 +92,7 @@ module _ (timeout retries first_ticket : ℕ) (events : List Event) where
       ≡ printed notes 0 all (replies_after [] all)
   prints_all all h e =
       ap (λ (state : State).
-      text_from (record { client = record { timeout = timeout; retries = retries; state = state }; writes = [] })
-      all)
+      text_from (record { client = record { timeout = timeout; retries = retries; state = state }; writes = [] }) all)
       (begins (client_rules timeout retries) first_ticket events (by_number timeout retries) few_open)
       ∙ prints_output 0 [] all h e
 

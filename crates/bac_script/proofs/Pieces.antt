@@ -1,23 +1,16 @@
 -- Where the octets of a script are cut.
 use Rattle.std.proofs.Common.{◌≡◌, ◌≢◌, ℕ, ◌<◌, Bool, true, false, List, [], ◌∷◌, ◌++◌, length, get_or, refl, sym, ◌∙◌}
-use Rattle.std.proofs.Common.{ap, append_assoc, arith, Err}
-use Rattle.std.specs.Prelude.{◌||◌, nat_lt, filter}
+use Rattle.std.proofs.Common.{ap, append_assoc, arith, Err, ◌||◌, nat_lt, filter, append-nil, length-append, ne_eqb}
 use Rattle.std.specs.List.{onto_first}
-use Rattle.std.proofs.lemmas.List.{append-nil, length-append}
-use Rattle.std.proofs.lemmas.Grind.{common_steps}
-use Rattle.std.proofs.lemmas.Bool.{ne_eqb}
-use Rattle.std.proofs.lemmas.Bool.Decides.{nat_tests}
+use Rattle.std.proofs.lemmas.{Grind.common_steps, Bool.Decides.nat_tests}
 use Rattle.bac_text.specs.Limits.{longest_line}
-use Rattle.bac_script.specs.Inner.Limits.{line_room}
-use Rattle.bac_script.specs.declared.input.Reading.{Reading}
+use Rattle.bac_script.specs.{Inner.Limits.line_room, Inner.Feeds.HasNoFeed, Script.pieces, Script.lines, Script.is_line}
+use Rattle.bac_script.specs.declared.{input.Reading.Reading, line.LineFault.TheVariants.TooLong}
 use Rattle.bac_script.specs.declared.input.Reading.TheVariants.{Open, AtEnd, Failed}
-use Rattle.bac_script.specs.declared.line.LineFault.TheVariants.{TooLong}
-use Rattle.bac_script.specs.Inner.Feeds.{HasNoFeed}
 use Rattle.bac_script.specs.Line.{ends_with_feed, without_feed, said}
-use Rattle.bac_script.specs.Script.{pieces, lines, is_line}
 
 pub pieces-line : (text more : List ℕ) → HasNoFeed text → pieces (text ++ 10 ∷ more) ≡ (text ++ 10 ∷ []) ∷ pieces more
-pieces-line [] more h = refl
+pieces-line [] _ h = refl
 pieces-line (x ∷ xs) more h = rw (ne_eqb x 10 h.0, pieces-line xs more h.1) refl
 
 pub pieces-open : (x : ℕ) (xs : List ℕ) → HasNoFeed (x ∷ xs) → pieces (x ∷ xs) ≡ (x ∷ xs) ∷ []
@@ -56,9 +49,9 @@ ends_with_feed-push text = grind (arith, common_steps)
 
 is_line-sure : (reading : Reading) (line : List ℕ) → (ends_with_feed line || nat_lt longest_line (length line)) ≡ true
     → is_line reading line ≡ true
-is_line-sure AtEnd line h = refl
-is_line-sure Open line h = h
-is_line-sure Failed line h = h
+is_line-sure AtEnd _ h = refl
+is_line-sure Open _ h = h
+is_line-sure Failed _ h = h
 
 pub lines-ended : (text more : List ℕ) (reading : Reading) → HasNoFeed text
     → lines ((text ++ 10 ∷ []) ++ more) reading ≡ (text ++ 10 ∷ []) ∷ lines more reading
@@ -83,8 +76,7 @@ lines-last (x ∷ xs) h some = rw (pieces-open x xs h) refl
 -- A line is as long without its line feed as it is, or one shorter
 without_feed_long : (line front : List ℕ) → HasNoFeed line → length line ≡ line_room
     → longest_line < length (without_feed (line ++ front))
-without_feed_long line [] h long =
-    rw (append-nil line, ends_with_feed-none line h) (omega arith)
+without_feed_long line [] h long = rw (append-nil line, ends_with_feed-none line h) (omega arith)
 without_feed_long line (x ∷ xs) h long = grind (arith, common_steps, length-append line (x ∷ xs))
 
 pub said-long : (is_first : Bool) (line : List ℕ) → longest_line < length (without_feed line)

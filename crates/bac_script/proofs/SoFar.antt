@@ -1,38 +1,30 @@
 -- What holds between two lines of a script, and where it stops.
 use Rattle.std.proofs.Common.{◌≡◌, ◌≢◌, ℕ, ◌+◌, ◌<◌, ◌≤◌, Bool, true, false, List, [], ◌∷◌, ◌++◌, length, take, drop}
 use Rattle.std.proofs.Common.{Option, Some, None, Result, Ok, Err, refl, sym, ◌∙◌, ap, subst, inl, inr, append_assoc}
-use Rattle.std.proofs.Common.{arith}
-use Rattle.std.specs.Prelude.{◌&&◌}
-use Rattle.std.proofs.lemmas.List.{append-nil, append_cancel_right, length-append, take-append-drop}
+use Rattle.std.proofs.Common.{arith, ◌&&◌, append-nil, length-append, take-append-drop}
+use Rattle.std.proofs.lemmas.List.{append_cancel_right}
 use Rattle.bac_tsm.specs.Client.{Client}
 use Rattle.bac_device.specs.Device.{DeviceState}
 use Rattle.bac_print.specs.declared.checked.Checked.{Checked}
 use Rattle.bac_print.specs.declared.page.Page.{Page}
-use Rattle.bac_script.specs.declared.input.Reading.{Reading}
+use Rattle.bac_script.specs.declared.{input.Reading.Reading, tracing.TraceEnd.TraceEnd, tracing.TraceFault.TraceFault}
+use Rattle.bac_script.specs.{Input.ReadsNoMore, Input.ReaderStands, Line.Said, Line.said}
 use Rattle.bac_script.specs.declared.input.Reading.TheVariants.{Open, AtEnd, Failed}
-use Rattle.bac_script.specs.declared.line.LineFault.{LineFault}
-use Rattle.bac_script.specs.declared.line.LineFault.TheVariants.{Bad, TooLong}
-use Rattle.bac_script.specs.declared.tracing.TraceEnd.{TraceEnd}
-use Rattle.bac_script.specs.declared.tracing.TraceFault.{TraceFault}
-use Rattle.bac_script.specs.declared.tracing.TraceFault.TheVariants.{BadLine, LineTooLong, ReadFailed, WriteFailed}
+use Rattle.bac_script.specs.declared.line.LineFault.{LineFault, TheVariants.Bad, TheVariants.TooLong}
+use Rattle.bac_script.specs.declared.tracing.TraceFault.TheVariants.{ReadFailed, WriteFailed}
 use Rattle.bac_print.specs.Checked.{has_failed, ends_with, reads_of, last_of, octets_of}
-use Rattle.bac_script.specs.Input.{ReadsNoMore, ReaderStands}
 use Rattle.bac_script.specs.Inner.Input.{HasNotEnded, TakesAndKeeps, ReadForLine, empty_reads, IsLineCut}
-use Rattle.bac_script.specs.Inner.Feeds.{HasNoFeed}
-use Rattle.bac_script.specs.Inner.Limits.{line_room}
-use Rattle.bac_script.specs.Line.{Said, said}
+use Rattle.bac_script.specs.Inner.{Feeds.HasNoFeed, Limits.line_room, Tracing.RunsOn}
 use Rattle.bac_script.specs.Inner.Running.{Stage, Stands, new_client, device_with, ran}
 use Rattle.bac_script.specs.Script.{lines, is_nothing, fault_at, first_fault, text, Runs}
 use Rattle.bac_print.specs.Page.{held as on_page, writer_of, Writes, Wrote, Prints}
 use Rattle.bac_script.specs.Tracing.{Traces, IsNeeded, IsToldFirst}
-use Rattle.bac_script.specs.Inner.Tracing.{RunsOn}
 use Rattle.bac_script.proofs.Pieces.{NextLine, next_ended, next_long, next_last, lines-rest, lines-last, lines-ended}
 use Rattle.bac_script.proofs.Pieces.{said-whole_long}
-use Rattle.bac_script.proofs.Taken.{Takes-more, Takes-front, further}
+use Rattle.bac_script.proofs.{Taken.Takes-more, Taken.Takes-front, Taken.further, Machine.first_stage}
 use Rattle.bac_print.proofs.Printed.{◌⨾◌, prints_nothing}
 use Rattle.bac_print.proofs.Known.{Gave-none}
 use Rattle.bac_print.proofs.Shown.{finished, all_written}
-use Rattle.bac_script.proofs.Machine.{first_stage}
 use Rattle.bac_script.proofs.Courses.{Course, behind, behind_both, and_on, course, course_on, whole, runs_text}
 use Rattle.bac_script.proofs.Courses.{fault_is, RunsWhole, runs_as}
 
@@ -76,10 +68,9 @@ pub record SoFar {R W : Type 0} (remaining : R → Option (List ℕ)) (contents 
 
 -- The course where the line behind those so far is this.
 goes_to : (octets line held text : List ℕ) (stage : Stage) (is_first : Bool) (count : ℕ) (reading : Reading)
-    (all : List (List ℕ)) → GoesOn octets text stage is_first count →
-    lines (line ++ held) reading ≡ all
+    (all : List (List ℕ)) → GoesOn octets text stage is_first count → lines (line ++ held) reading ≡ all
     → whole (lines ((octets ++ line) ++ held) reading) ≡ behind text (course stage is_first count all)
-goes_to octets line held text stage is_first count reading all goes_on are =
+goes_to octets line held text stage is_first count reading _ goes_on are =
     ap (λ (os : List ℕ). whole (lines os reading)) (append_assoc octets line held) ∙ goes_on (line ++ held) reading
     ∙ ap (λ (ls : List (List ℕ)). behind text (course stage is_first count ls)) are
 
@@ -95,40 +86,34 @@ goes_further octets line text stage is_first is_first' count one goes_on (inl c)
     goes_to octets line more text stage is_first count reading (line ∷ lines more reading) goes_on
     (rw c.2 (lines-ended c.0 more reading c.1))
     ∙ ap (λ (r : Result Said LineFault). behind text (and_on stage count r (λ s. later s (is_first && is_nothing s))))
-    ok
-    ∙ behind_both text (ran stage one).text (later one (is_first && is_nothing one))
+    ok ∙ behind_both text (ran stage one).text (later one (is_first && is_nothing one))
     ∙ ap (λ (first : Bool). behind (text ++ (ran stage one).text) (later one first)) (sym still)
 
 -- The line that was taken, as the script has it.
 pub NextLine-from : {R : Type 0} (remaining : R → Option (List ℕ)) (reading : Reading) (before reader : Checked R)
     (line held : List ℕ) → IsLineCut reading line →
     ReaderStands remaining reading before reader held → reading ≢ Failed → 0 < length line → NextLine line held reading
-NextLine-from remaining Open before reader line held (inl c) stands going some =
+NextLine-from _ Open _ _ _ held (inl c) _ _ _ =
     subst (λ l. NextLine l held Open) (sym c.2) (next_ended c.0 held Open c.1)
-NextLine-from remaining Open before reader line held (inr c) stands going some = next_long line held Open c.0 c.1
-NextLine-from remaining AtEnd before reader line held cut stands going some =
+NextLine-from _ Open _ _ line held (inr c) _ _ _ = next_long line held Open c.0 c.1
+NextLine-from _ AtEnd _ _ line _ cut stands _ some =
     subst (λ h. NextLine line h AtEnd) (sym stands.0) (next_last line cut.0 some)
-NextLine-from remaining Failed before reader line held cut stands going some = absurd (going refl)
+NextLine-from _ Failed _ _ _ _ _ _ going _ = absurd (going refl)
 
 -- How reading stands since the first line.
 stands_more : {R : Type 0} (remaining : R → Option (List ℕ)) (reading : Reading) (first second third : Checked R)
     (held : List ℕ) → HasNotEnded first second →
     ReaderStands remaining reading second third held → ReaderStands remaining reading first third []
-stands_more remaining Open first second third held p h = (h.0, h.1 ∙ p)
-stands_more remaining AtEnd first second third held p h =
+stands_more _ Open _ _ _ _ p h = (h.0, h.1 ∙ p)
+stands_more _ AtEnd _ _ _ _ p h =
     (refl, h.1, record { last = h.2.last; once = h.2.once ∙ ap (λ (n : ℕ). ends_with n true) p; known = h.2.known })
-stands_more remaining Failed first second third held p h = (refl, h.1, h.2 ∙ p)
-
-one_empty_read : (reading : Reading) → empty_reads reading ≤ 1
-one_empty_read Open = omega arith
-one_empty_read AtEnd = omega arith
-one_empty_read Failed = omega arith
+stands_more _ Failed _ _ _ _ p h = (refl, h.1, h.2 ∙ p)
 
 fault_runs : (octets : List ℕ) (reading : Reading) (text : List ℕ) (number : ℕ) (fault : LineFault)
     → RunsWhole octets reading text (Err (fault_at number fault)) →
     Runs octets reading text (Err (fault_at number fault))
-fault_runs octets reading text number Bad runs = runs
-fault_runs octets reading text number TooLong runs = runs
+fault_runs _ _ _ _ Bad runs = runs
+fault_runs _ _ _ _ TooLong runs = runs
 
 -- An empty line is cut only at the end.
 at_end : (reading : Reading) (line : List ℕ) → IsLineCut reading line → reading ≢ Failed → length line ≡ 0
@@ -191,8 +176,7 @@ module _ {R W : Type 0} {remaining : R → Option (List ℕ)} {contents : W → 
   needed : IsNeeded reader reader' taken.given
   needed = elim need [
     | inl same ↦
-        subst (λ (r : Checked R). IsNeeded reader r taken.given) (sym same.0)
-        (subst (IsNeeded reader middle)
+        subst (λ (r : Checked R). IsNeeded reader r taken.given) (sym same.0) (subst (IsNeeded reader middle)
         (s.taken.order ∙ ap (λ (zs : List ℕ). s.octets ++ zs) (sym same.1) ∙ sym given_is) s.needed)
     | inr both ↦ let r = both.0 in inr (record {
       before = s.octets ++ (held ++ r.before);
@@ -225,8 +209,7 @@ module _ {R W : Type 0} {remaining : R → Option (List ℕ)} {contents : W → 
     | inl same ↦ λ before split. further _ handed (s.told before
         (s.taken.order ∙ ap (λ (zs : List ℕ). s.octets ++ zs) (sym same.1) ∙ sym given_is ∙ split
         ∙ ap (λ (r : Checked R). before ++ last_of r) same.0))
-    | inr both ↦ λ before split.
-        let r = both.0 in
+    | inr both ↦ λ before split. let r = both.0 in
         let here : before ≡ s.octets ++ (held ++ r.before) =
         append_cancel_right before (s.octets ++ (held ++ r.before)) (last_of reader')
         (sym split ∙ given_is ∙ ap (λ (zs : List ℕ). s.octets ++ zs) r.order
@@ -234,8 +217,7 @@ module _ {R W : Type 0} {remaining : R → Option (List ℕ)} {contents : W → 
         let said : text before Open ≡ s.text =
         ap (λ (zs : List ℕ). text zs Open) here ∙ text_so_far (held ++ r.before) r.no_feed r.short in (
           both.1.later,
-          both.1.out
-              ∙ ap (λ (zs : List ℕ). zs ++ both.1.later) (out_so_far s.printed s.empty both.1.sound
+          both.1.out ∙ ap (λ (zs : List ℕ). zs ++ both.1.later) (out_so_far s.printed s.empty both.1.sound
               ∙ ap (λ (zs : List ℕ). octets_of (writer_of page) ++ zs) (sym said)),
         )
   ]
@@ -247,8 +229,7 @@ module _ {R W : Type 0} {remaining : R → Option (List ℕ)} {contents : W → 
 
   -- The run stops here.
   stops : {last : Page W} {printed more : List ℕ} (answer : Result TraceEnd TraceFault) → Prints contents kept last more
-      → Prints contents page last printed →
-      Runs ((s.octets ++ line) ++ rest) reading printed answer
+      → Prints contents page last printed → Runs ((s.octets ++ line) ++ rest) reading printed answer
       → RunsOn remaining contents reader reader' page last answer
   stops {printed = printed} answer then prints runs = record {
     given = taken.given;
@@ -308,18 +289,15 @@ module _ {R W : Type 0} {remaining : R → Option (List ℕ)} {contents : W → 
       let next = NextLine-from remaining reading middle reader' line rest cut stands going some in
       let at = next.same is_first ∙ bad in
       stops (Err (fault_at (count + 1) fault)) (prints_nothing kept) (s.printed ⨾ handed)
-      (fault_runs octets_now reading (s.text ++ []) (count + 1) fault
-      (runs_as octets_now reading
+      (fault_runs octets_now reading (s.text ++ []) (count + 1) fault (runs_as octets_now reading
       (record { text = s.text ++ []; fault = Some (fault_at (count + 1) fault); count = count })
-      (Err (fault_at (count + 1) fault))
-      (left (next.whole ∷ next.others) next.split
+      (Err (fault_at (count + 1) fault)) (left (next.whole ∷ next.others) next.split
       ∙ ap (λ (r : Result Said LineFault).
       behind s.text (and_on s.stage count r (course_on s.stage is_first count next.others))) at) refl))
 
   -- The input ends in a line without its line feed.
   pub to_last : {last : Page W} (one : Said) → reading ≡ AtEnd → IsLineCut reading line → 0 < length line
-      → said is_first line ≡ Ok one →
-      Prints contents kept last (ran s.stage one).text
+      → said is_first line ≡ Ok one → Prints contents kept last (ran s.stage one).text
       → RunsOn remaining contents reader reader' page last (Ok (record { lines = count + 1 }))
   to_last {last} one is cut some ok printed =
       let c = rw is at cut in
@@ -327,8 +305,7 @@ module _ {R W : Type 0} {remaining : R → Option (List ℕ)} {contents : W → 
       stops (Ok (record { lines = count + 1 })) printed (s.printed ⨾ handed ⨾ printed ⨾ prints_nothing last)
       (runs_as octets_now reading
       (behind s.text (behind (ran s.stage one).text (course_on s.stage is_first count [] one)))
-      (Ok (record { lines = count + 1 }))
-      (left (line ∷ []) (rw (is, h.0, append-nil line) (lines-last line c.0 some))
+      (Ok (record { lines = count + 1 })) (left (line ∷ []) (rw (is, h.0, append-nil line) (lines-last line c.0 some))
       ∙ ap (λ (r : Result Said LineFault). behind s.text (and_on s.stage count r (course_on s.stage is_first count [])))
       ok) (rw is refl))
 
@@ -392,17 +369,14 @@ pub front_runs : (octets : List ℕ) (reading : Reading) (printed taken rest : L
     printed ≡ taken ++ rest → Runs octets reading taken (Err WriteFailed)
 front_runs octets reading printed written rest (Err WriteFailed) runs e =
     (rest ++ runs.0, runs.1 ∙ ap (λ (xs : List ℕ). xs ++ runs.0) e ∙ append_assoc written rest runs.0)
-front_runs octets reading printed written rest (Err ReadFailed) runs e = (rest, sym runs.0 ∙ e)
-front_runs octets reading printed written rest (Err (BadLine n)) runs e = (rest, sym runs.0 ∙ e)
-front_runs octets reading printed written rest (Err (LineTooLong n)) runs e = (rest, sym runs.0 ∙ e)
-front_runs octets reading printed written rest (Ok end) runs e = (rest, sym runs.0 ∙ e)
+front_runs octets reading printed written rest _ runs e = (rest, cc (runs.0, e))
 
 -- What was told before the last read is told once the page is finished.
 told_still : {R W : Type 0} {contents : W → Option (List ℕ)} (reader' : Checked R) (first last : Page W)
     {writer after : Checked W} {given : List ℕ} → writer_of first ≡ writer
     → IsToldFirst reader' (writer_of first) (writer_of last) given →
     Writes contents (writer_of last) after (on_page last) [] [] → IsToldFirst reader' writer after given
-told_still {W = W} reader' first last {after = after} {given = given} same so_far gone =
+told_still {W = W} reader' first _ {after = after} {given = given} same so_far gone =
     subst (λ (w : Checked W). IsToldFirst reader' w after given) same
     (λ before split. let t = so_far before split in (
       t.0 ++ gone.taken,
@@ -415,8 +389,7 @@ module _ {R W : Type 0} {remaining : R → Option (List ℕ)} {contents : W → 
     {first last : Page W} {answer : Result TraceEnd TraceFault} where
   -- The page of a run was finished, and all was written.
   pub traces_all : after ≡ back → RunsOn remaining contents reader reader' first last answer → writer_of first ≡ writer
-      → on_page first ≡ [] →
-      Writes contents (writer_of last) after (on_page last) [] [] → has_failed after ≡ false
+      → on_page first ≡ [] → Writes contents (writer_of last) after (on_page last) [] [] → has_failed after ≡ false
       → Traces remaining contents reader reader' writer back answer
   traces_all is s same empty gone good =
       subst (λ (w : Checked W). Traces remaining contents reader reader' writer w answer) is

@@ -1,26 +1,18 @@
 -- What is taken in several steps.
 use Rattle.std.proofs.Common.{◌≡◌, ◌⊎◌, ℕ, ◌+◌, ◌<◌, ◌≤◌, zero, suc, Bool, false, List, [], ◌∷◌, ◌++◌, length, take}
-use Rattle.std.proofs.Common.{drop, get_or, Option, Some, None, refl, sym, ◌∙◌, ap, subst, inl, inr, true}
-use Rattle.std.proofs.Common.{append_assoc}
-use Rattle.std.proofs.Common.{length-append, arith}
-use Rattle.std.specs.Prelude.{◌==◌, position}
-use Rattle.std.proofs.lemmas.Bool.{eqb-false, eqb-true}
-use Rattle.std.proofs.lemmas.Bool.Decides.{nat_tests}
-use Rattle.std.proofs.lemmas.List.{take-append-drop, take_all, take_more, drop_all, append-nil}
+use Rattle.std.proofs.Common.{drop, get_or, Option, Some, None, refl, sym, ◌∙◌, ap, subst, inl, inr, true, append_assoc}
+use Rattle.std.proofs.Common.{length-append, arith, ◌==◌, position, eqb-true, take-append-drop, take_all, append-nil}
+use Rattle.std.proofs.lemmas.{Bool.eqb-false, Bool.Decides.nat_tests, List.take_more, List.drop_all}
+use Rattle.std.proofs.lemmas.{List.Sums.fails_before_first, List.Quantifiers.position-Some}
 use Rattle.bac_print.specs.declared.page.Page.{Page}
 use Rattle.bac_print.specs.Page.{held as on_page, writer_of, Wrote, Prints}
 use Rattle.bac_print.proofs.Printed.{◌⨾◌}
-use Rattle.std.proofs.lemmas.List.Sums.{fails_before_first}
-use Rattle.std.proofs.lemmas.List.Quantifiers.{position-Some}
 use Rattle.bac_print.specs.declared.checked.Checked.{Checked}
 use Rattle.bac_print.specs.Checked.{reads_of, ends_with, last_of, octets_of, has_failed}
-use Rattle.bac_script.specs.Inner.Feeds.{HasNoFeed}
-use Rattle.bac_script.specs.Inner.Limits.{line_room}
-use Rattle.bac_script.specs.declared.input.Reading.{Reading}
+use Rattle.bac_script.specs.Inner.{Feeds.HasNoFeed, Limits.line_room}
+use Rattle.bac_script.specs.{declared.input.Reading.Reading, Input.ReaderStands}
 use Rattle.bac_script.specs.declared.input.Reading.TheVariants.{Open, AtEnd, Failed}
-use Rattle.bac_script.specs.Input.{ReaderStands}
-use Rattle.bac_script.specs.Inner.Input.{HasNotEnded}
-use Rattle.bac_script.specs.Inner.Input.{TakesAndKeeps, ReadForLine, IsNext, IsTurnedIn}
+use Rattle.bac_script.specs.Inner.Input.{HasNotEnded, TakesAndKeeps, ReadForLine, IsNext, IsTurnedIn}
 use Rattle.bac_print.proofs.Known.{Gave-more}
 
 pub Takes-more : {R : Type 0} {remaining : R → Option (List ℕ)} {a b c : Checked R} {held mid kept xs ys : List ℕ}
@@ -36,8 +28,7 @@ Takes-more {remaining = remaining} {a = a} {b = b} {c = c} {held = held} {kept =
 
 -- The first of what is held were taken.
 pub Takes-front : {R : Type 0} {remaining : R → Option (List ℕ)} {a b : Checked R} {held mid : List ℕ} (n : ℕ)
-    → TakesAndKeeps remaining a b held mid [] →
-    TakesAndKeeps remaining a b held (drop n mid) (take n mid)
+    → TakesAndKeeps remaining a b held mid [] → TakesAndKeeps remaining a b held (drop n mid) (take n mid)
 Takes-front {mid = mid} n p = record { given = p.given; gave = p.gave; order = p.order ∙ sym (take-append-drop n mid) }
 
 -- What a page held is out, where nothing is left on it and its writer has not failed.
@@ -59,8 +50,7 @@ turned {page = page} {page' = page'} printed empty good =
 
 -- It stays out.
 pub further : {W : Type 0} {contents : W → Option (List ℕ)} {page page' : Page W} {text : List ℕ} (out : List ℕ)
-    → Prints contents page page' text
-    → ((later : List ℕ) × (octets_of (writer_of page) ≡ out ++ later))
+    → Prints contents page page' text → ((later : List ℕ) × (octets_of (writer_of page) ≡ out ++ later))
     → (later : List ℕ) × (octets_of (writer_of page') ≡ out ++ later)
 unfolding Wrote
 further out printed before =
@@ -73,7 +63,7 @@ further out printed before =
 pub still_for_line : {R W : Type 0} {contents : W → Option (List ℕ)} {a b : Checked R} {page page' page'' : Page W}
     {held now : List ℕ} → ReadForLine a b page page' held now → Prints contents page' page'' []
     → ReadForLine a b page page'' held now
-still_for_line (inl same) then = inl same
+still_for_line (inl same) _ = inl same
 still_for_line (inr r) then =
     let more = further _ then (r.1.later, r.1.out) in
     inr (r.0, record { sound = r.1.sound; later = more.0; out = more.1 })
@@ -84,8 +74,7 @@ pub read_for_line : {R W : Type 0} {remaining : R → Option (List ℕ)} {conten
     → TakesAndKeeps remaining a b held now [] → Prints contents page page' [] → Prints contents page' page'' []
     → on_page page'' ≡ [] → has_failed (writer_of page'') ≡ false →
     ReadForLine a b page page' held now → reads_of b + length held ≤ reads_of a + length now → HasNoFeed now
-    → length now < line_room →
-    ((c ≡ b) × (later ≡ now)) ⊎ (later ≡ now ++ last_of c) → reads_of c ≤ reads_of b + 1
+    → length now < line_room → ((c ≡ b) × (later ≡ now)) ⊎ (later ≡ now ++ last_of c) → reads_of c ≤ reads_of b + 1
     → ReadForLine a c page page'' held later
 read_for_line {a = a} {page = page} {page'' = page''} {held = held} {later = later} p first then empty good before asked
     none short (inl same) once =

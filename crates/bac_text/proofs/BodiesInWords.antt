@@ -1,26 +1,23 @@
 -- The body of words orders the values that they write, in the standard's words.
-use Rattle.std.proofs.Common.{◌≡◌, ℕ, ◌^◌, ◌<◌, ◌≤◌, List, length, Option, Some, None, Result, Ok, Err, refl, sym}
-use Rattle.std.proofs.Common.{subst, arith}
-use Rattle.std.specs.Prelude.{IfSome}
-use Rattle.std.specs.List.{AllByRecursion, flat_map}
-use Rattle.bac_wire.specs.Datum.{Datum, Spells, InRange, IsDatum, plain}
-use Rattle.bac_wire.specs.Front.{IsShortest, SpellsAll}
-use Rattle.bac_wire.specs.Identifier.{Identifier, IsIdentifier}
-use Rattle.bac_wire.proofs.PlainDatum.{plain_spells}
-use Rattle.bac_pdu.specs.Parameter.{IsParameter}
-use Rattle.bac_pdu.specs.Property.{IsPriority, IsWriteBody, reference_parameters, write_octets}
-use Rattle.bac_pdu.proofs.SequenceLaws.{whole_spell}
-use Rattle.bac_pdu.proofs.ShortestLaws.{order_is_written}
-use Rattle.bac_text.specs.declared.pairs.PairFault.TheVariants.{TooLong}
-use Rattle.bac_text.specs.Pairs.{values_in, order_of, body_of}
-use Rattle.bac_wire.specs.DatumReading.{values_of}
-use Rattle.bac_text.specs.Inner.Pairs.{region_with, region_of}
-use Rattle.bac_text.specs.PairsInWords.{IsWritten}
-use Rattle.bac_wire.proofs.ValueLists.{read_all}
-use Rattle.bac_text.proofs.ValueRegions.{values_are_region}
-use Rattle.bac_text.proofs.WordRanges.{values_range, values_spelled}
-use Rattle.bac_text.proofs.WordValues.{at_most_found}
-use Rattle.bac_text.proofs.WriteBodies.{body_with, region_within}
+use Rattle.std.{
+  proofs.Common.{◌≡◌, ℕ, ◌^◌, ◌<◌, ◌≤◌, List, length, Option, Some, Result, Ok, Err, refl, sym, subst, arith},
+  specs.{Prelude.IfSome, List.{AllByRecursion, flat_map}},
+}
+use Rattle.bac_wire.{
+  specs.{Datum.{Datum, Spells, InRange, plain}, Front.{IsShortest, SpellsAll}, Identifier.{Identifier, IsIdentifier}},
+  specs.DatumReading.values_of,
+  proofs.{PlainDatum.plain_spells, ValueLists.read_all},
+}
+use Rattle.bac_pdu.{
+  specs.{Parameter.IsParameter, Property.{IsPriority, IsWriteBody, reference_parameters, write_octets}},
+  proofs.{SequenceLaws.whole_spell, ShortestLaws.order_is_written},
+}
+use Rattle.bac_text.{
+  specs.{declared.pairs.PairFault.TheVariants.TooLong, Pairs.{values_in, order_of, body_of}},
+  specs.{Inner.Pairs.{region_with, region_of}, PairsInWords.IsWritten},
+  proofs.{ValueRegions.values_are_region, WordRanges.{values_range, values_spelled}, WordValues.at_most_found},
+  proofs.WriteBodies.{body_with, region_within},
+}
 
 -- A region is the spellings of the values that the words write, one after another, and is read as these values.
 pub record AreWritten (words : List (List ℕ)) (region : List ℕ) : Type 0 where
@@ -34,8 +31,8 @@ values_written : (words : List (List ℕ)) (values : List Datum) → values_in w
     → length (flat_map plain values) ≤ 1497 → AreWritten words (flat_map plain values)
 values_written words values said fits =
     let range : AllByRecursion InRange values = rw said at (values_range words) in
-    let spelled = whole_spell Spells plain IsDatum plain_spells values (values_spelled values range fits) in
-    record { values = values; said = said; spelled = spelled; read = read_all values (flat_map plain values) spelled }
+    let spelled = whole_spell _ _ _ plain_spells _ (values_spelled _ range fits) in
+    record { values = values; said = said; spelled = spelled; read = read_all _ _ spelled }
 
 -- A region that was read of words.
 pub region_written : (words : List (List ℕ)) (region : List ℕ) → region_of words ≡ Ok region → AreWritten words region
@@ -51,8 +48,7 @@ region_written words region e = go (values_in words) refl e
 named : (object : Identifier) (property : ℕ) (index priority : Option ℕ) (region : List ℕ) → IsIdentifier object
     → property < 2 ^ 32 → IfSome index (λ n. n < 2 ^ 32) →
     AllByRecursion IsParameter (reference_parameters (order_of object property index priority region).reference)
-named object property None priority region id low h = (id, ((omega arith, low), tt))
-named object property (Some index) priority region id low h = (id, ((omega arith, low), ((omega arith, h), tt)))
+named = grind arith
 
 pub bodies_written : (object : Identifier) (property : ℕ) (index priority : Option ℕ) (words : List (List ℕ))
     (body : List ℕ) →

@@ -1,32 +1,30 @@
 -- Digits as octets, by lanes.
-use Rattle.std.proofs.Common.{◌≡◌, ℕ, ◌+◌, ◌*◌, ◌%◌, ◌<◌, ◌≤◌, cond, List, [], ◌∷◌, map, ◌++◌, length, take, get_or}
-use Rattle.std.proofs.Common.{true, false, suc, Some, None, Ok, refl, arith, ap, ◌∙◌}
-use Rattle.std.specs.Prelude.{◌-◌, nat_lt, not, bit_and, bit_or}
-use Rattle.std.proofs.lemmas.List.{length-take-le}
-use Rattle.std.proofs.lemmas.Simd.{length-chunk, splat_is_map, zip2_splat, zip2_of_maps}
-use Rattle.std.proofs.lemmas.Nat.{and_mask}
-use Rattle.std.specs.Result.{result_ok}
-use Rattle.std.proofs.lemmas.Bool.{not-true}
-use Rattle.std.proofs.lemmas.Bool.Decides.{nat_tests}
-use Rattle.std.proofs.lemmas.List.Folds.{list_all_at}
+use Rattle.std.proofs.{
+  Common.{◌≡◌, ℕ, ◌+◌, ◌*◌, ◌%◌, ◌<◌, ◌≤◌, cond, List, [], ◌∷◌, map, ◌++◌, length, take, get_or, true, false, suc},
+  Common.{Some, None, Ok, refl, arith, ap},
+  lemmas.{List.length-take-le, Simd.{length-chunk, splat_is_map, zip2_splat, zip2_of_maps}, Nat.and_mask},
+  lemmas.List.Folds.list_all_at,
+}
+use Rattle.std.specs.{Prelude.{◌-◌, nat_lt, not, bit_and, bit_or}, Result.result_ok}
 use lib.Lanes.{chunk, put_chunk, top, zip2}
 use lib.ListN.{replicate}
 use Rattle.hex.specs.Hex.{is_hex_digit, hex_digit_value, decode_pairs, decode_of}
-use Rattle.bac_text.specs.Inner.HexLanes.{number_by_lane, octets_by_lanes}
-use Rattle.bac_text.proofs.HexText.{same_digits, others_refused}
-use Rattle.bac_text.proofs.Lanes.{lane_is}
+use Rattle.bac_text.{
+  specs.Inner.HexLanes.{number_by_lane, octets_by_lanes},
+  proofs.{HexText.others_refused, Lanes.lane_is},
+}
 use Rattle.bac_wire.proofs.Pieces.{same_below, one_more}
 
 number_is : (digit : ℕ)
     → (bit_and digit 15 + cond (top 7 (cond (nat_lt 63 digit) 255 0)) 9 0) % 256 ≡ number_by_lane digit
-number_is digit = rw (and_mask digit 4, lane_is (nat_lt 63 digit)) (grind (arith, nat_tests))
+number_is _ = rw (and_mask _ 4, lane_is _) (grind arith)
 
 -- The octet of two digits, as a lane has it.
 pub octet_is : (high low : ℕ) →
     ((bit_and high 15 + cond (top 7 (cond (nat_lt 63 high) 255 0)) 9 0) % 256 * 16 % 256
     + (bit_and low 15 + cond (top 7 (cond (nat_lt 63 low) 255 0)) 9 0) % 256) % 256
     ≡ (number_by_lane high * 16 + number_by_lane low) % 256
-octet_is high low = rw (number_is high, number_is low) (omega arith)
+octet_is _ _ = rw (number_is _, number_is _) (omega arith)
 
 -- Whether an octet is no digit, as a lane has it.
 abbrev past : ℕ → ℕ → ℕ
@@ -44,24 +42,24 @@ pub other_lanes : (v : List ℕ) → length v ≡ 16 →
     ≡ map other_lane v
 other_lanes v long =
     let splat = λ (n : ℕ). splat_is_map v 16 n long in
-    zip2_of_maps bit_and _ _ v (zip2_of_maps past _ _ v (splat 9) (zip2_splat less v 16 48 long))
-    (zip2_of_maps past _ _ v (splat 5) (zip2_of_maps less _ _ v (zip2_splat bit_or v 16 32 long) (splat 97)))
+    zip2_of_maps _ _ _ v (zip2_of_maps past _ _ v (splat 9) (zip2_splat _ v 16 48 long))
+    (zip2_of_maps past _ _ v (splat 5) (zip2_of_maps _ _ _ v (zip2_splat _ v 16 32 long) (splat 97)))
 
 pub other_is : (octet : ℕ) → octet < 256 → top 7 (other_lane octet) ≡ not (is_hex_digit octet)
-other_is octet h = same_below false (λ x. top 7 (other_lane x)) (λ x. not (is_hex_digit x)) 256 octet refl h
+other_is _ h = same_below false (λ x. top 7 (other_lane x)) (λ x. not (is_hex_digit x)) 256 _ refl h
 
 octets_by_lanes-append : (xs ys : List ℕ) → length xs % 2 ≡ 0
     → octets_by_lanes (xs ++ ys) ≡ octets_by_lanes xs ++ octets_by_lanes ys
 unfolding octets_by_lanes
-octets_by_lanes-append [] ys even = refl
+octets_by_lanes-append [] ys _ = refl
 octets_by_lanes-append (a ∷ []) ys even = absurd (omega arith)
 octets_by_lanes-append (a ∷ b ∷ xs) ys even =
     ap (λ (zs : List ℕ). ((number_by_lane a * 16 + number_by_lane b) % 256) ∷ zs)
-    (octets_by_lanes-append xs ys (omega arith))
+    (octets_by_lanes-append xs _ (omega arith))
 
 length-octets_by_lanes : (xs : List ℕ) → length xs % 2 ≡ 0 → 2 * length (octets_by_lanes xs) ≡ length xs
 unfolding octets_by_lanes
-length-octets_by_lanes [] even = refl
+length-octets_by_lanes [] _ = refl
 length-octets_by_lanes (a ∷ []) even = absurd (omega arith)
 length-octets_by_lanes (a ∷ b ∷ xs) even = omega (arith, length-octets_by_lanes xs (omega arith))
 
@@ -71,40 +69,37 @@ pub read_on : (digits octets : List ℕ) (at start : ℕ) → at ≤ start → s
     take start octets ≡ octets_by_lanes (take (2 * start) digits) →
     take (at + 8) (put_chunk at octets (octets_by_lanes (chunk (2 * at) 16 digits)))
     ≡ octets_by_lanes (take (2 * (at + 8)) digits)
-read_on digits octets at start before within room size read =
+read_on digits _ at start before within room size read =
     let long = length-chunk (2 * at) 16 digits (omega arith) in
     let front = length-take-le (2 * at) digits (omega arith) in
-    let even : length (take (2 * at) digits) % 2 ≡ 0 = omega (arith, front) in
+    let even : length (take (2 * at) digits) % 2 ≡ 0 = omega arith in
     let place : 2 * (at + 8) ≡ 2 * at + 16 = omega arith in
-    rw place (one_more octets_by_lanes digits octets (2 * at) (2 * start) 16 at start 8 (omega arith) before
-    (λ more. octets_by_lanes-append (take (2 * at) digits) more even)
-    (omega (arith, front, length-octets_by_lanes (take (2 * at) digits) even))
-    (omega (arith, long, length-octets_by_lanes (chunk (2 * at) 16 digits) (omega (arith, long)))) room read)
+    rw place (one_more octets_by_lanes _ _ _ _ 16 at start 8 (omega arith) before
+    (λ more. octets_by_lanes-append _ _ even) (omega (arith, length-octets_by_lanes _ even))
+    (omega (arith, length-octets_by_lanes (chunk (2 * at) 16 digits) (omega arith))) room read)
 
 -- A digit's number.
 abbrev IsNumber : ℕ → Type 0
 IsNumber digit = (hex_digit_value digit ≡ Some (number_by_lane digit)) × (number_by_lane digit ≤ 15)
 
 number_of : (digit : ℕ) → not (is_hex_digit digit) ≡ false → IsNumber digit
-number_of digit e = (grind (arith, nat_tests, e), grind (arith, nat_tests, e))
+number_of _ e = (grind arith, grind arith)
 
 -- Digits alone are read as their octets.
 pub digits_read : (i : ℕ) (digits : List ℕ) → length digits % 2 ≡ 0
     → ((k : ℕ) → k < length digits → not (is_hex_digit (get_or digits k 0)) ≡ false) →
     decode_pairs i digits ≡ Ok (octets_by_lanes digits)
 unfolding decode_pairs octets_by_lanes
-digits_read i [] even all = refl
+digits_read i [] _ _ = refl
 digits_read i (a ∷ []) even all = absurd (omega arith)
 digits_read i (a ∷ b ∷ rest) even all =
     let high = number_of a (all 0 (omega arith)) in
     let low = number_of b (all 1 (omega arith)) in
-    let later = digits_read (i + 2) rest (omega arith) (λ k h. all (suc (suc k)) (omega (arith, h))) in
+    let later = digits_read (i + 2) rest (omega arith) (λ k h. all (suc (suc k)) (omega arith)) in
     let octet : number_by_lane a * 16 + number_by_lane b ≡ (number_by_lane a * 16 + number_by_lane b) % 256 =
-    omega (arith, high.1, low.1) in
+    omega arith in
     rw (high.0, low.0, later) (ap (λ (x : ℕ). Ok (x ∷ octets_by_lanes rest)) octet)
 
 pub digits_refused : (digits : List ℕ) (k : ℕ) → k < length digits → not (is_hex_digit (get_or digits k 0)) ≡ true
     → result_ok (decode_of digits) ≡ None
-digits_refused digits k h e =
-    others_refused digits
-    (same_digits digits ∙ list_all_at is_hex_digit digits k 0 h (not-true (is_hex_digit (get_or digits k 0)) e))
+digits_refused = grind (arith, others_refused, list_all_at)

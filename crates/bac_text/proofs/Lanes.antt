@@ -1,20 +1,18 @@
 -- From the mask of one load to the octets that pass a test.
-use Rattle.std.proofs.Common.{◌≡◌, ℕ, ◌+◌, ◌-◌, ◌%◌, ◌^◌, ◌<◌, ◌≤◌, cond, Bool, true, false, not, List, map, length}
-use Rattle.std.proofs.Common.{get_or, Some, None, refl, sym, ap, ◌∙◌, subst, arith}
-use Rattle.std.specs.Prelude.{◌||◌, position, bit_or}
-use Rattle.std.specs.List.{prefix_len, position_or_len}
-use Rattle.std.proofs.lemmas.Bool.{not-true, not-false}
-use Rattle.std.proofs.lemmas.Bool.Decides.{nat_tests}
-use Rattle.std.proofs.lemmas.Simd.{map-map, mask_l-mod, length-chunk, get_or-chunk, leading_from_mask_l}
-use Rattle.std.proofs.lemmas.Simd.{trailing_mask_l}
-use Rattle.std.proofs.lemmas.List.{length-map}
-use Rattle.std.proofs.lemmas.List.Sums.{prefix_len-le-length, prefix_len_passes, prefix_len_stops, position_or_len_is}
+use Rattle.std.proofs.{
+  Common.{◌≡◌, ℕ, ◌+◌, ◌-◌, ◌%◌, ◌^◌, ◌<◌, ◌≤◌, cond, Bool, true, false, not, List, map, length, get_or, Some, None},
+  Common.{refl, sym, ap, ◌∙◌, subst, arith},
+  lemmas.Bool.{not-true, not-false},
+  lemmas.Simd.{map-map, mask_l-mod, length-chunk, get_or-chunk, leading_from_mask_l, trailing_mask_l},
+  lemmas.{List.length-map, List.Sums.{prefix_len-le-length, prefix_len_passes, prefix_len_stops, position_or_len_is}},
+}
+use Rattle.std.specs.{Prelude.{◌||◌, position, bit_or}, List.{prefix_len, position_or_len}}
 use lib.Lanes.{chunk, mask_l, top}
 use Rattle.bac_text.specs.Inner.Search.{first_set, IsRunIn}
 
 run_is : (p : ℕ → Bool) (v : List ℕ) (n : ℕ) → length v ≡ n → n ≤ 64
     → first_set (mask_l (map p v)) n ≡ prefix_len (λ x. not (p x)) v
-run_is p v n long few = grind (arith, nat_tests, leading_from_mask_l, trailing_mask_l)
+run_is = grind (arith, leading_from_mask_l, trailing_mask_l)
 
 -- Comparing sets all bits of a lane or none.
 pub lane_is : (a : Bool) → top 7 (cond a 255 0) ≡ a
@@ -22,10 +20,7 @@ lane_is true = refl
 lane_is false = refl
 
 pub lanes_are : (a b : Bool) → top 7 (bit_or (cond a 255 0) (cond b 255 0)) ≡ (a || b)
-lanes_are true true = refl
-lanes_are true false = refl
-lanes_are false true = refl
-lanes_are false false = refl
+lanes_are = grind arith
 
 module _ (q : ℕ → Bool) (d : List ℕ) (i n r : ℕ) (z : List ℕ) (room : i + n ≤ length d) (few : n ≤ 64)
     (found : r ≡ first_set (mask_l (map (top 7) z) % 2 ^ 64) n) (f : ℕ → ℕ) (lanes : z ≡ map f (chunk i n d))
@@ -39,17 +34,17 @@ module _ (q : ℕ → Bool) (d : List ℕ) (i n r : ℕ) (z : List ℕ) (room : 
   counted : r ≡ prefix_len (λ x. not (stops x)) (chunk i n d)
   counted =
       let v = chunk i n d in
-      let mask = ap (λ l. mask_l l % 2 ^ 64) (ap (map (top 7)) lanes ∙ map-map (top 7) f v)
-      ∙ mask_l-mod (map stops v) 64 (omega (arith, length-map v stops, long)) in
-      found ∙ ap (λ m. first_set m n) mask ∙ run_is stops v n long few
+      let mask = ap (λ l. mask_l l % 2 ^ 64) (ap (map _) lanes ∙ map-map _ f v)
+      ∙ mask_l-mod _ 64 (omega (arith, length-map v stops, long)) in
+      found ∙ ap (λ m. first_set m n) mask ∙ run_is _ v n long few
 
   goes_on : (k : ℕ) → i ≤ k → k < i + r → stops (get_or d k 0) ≡ false
   goes_on k from to =
       let back : i + (k - i) ≡ k = omega arith in
       let bound = prefix_len-le-length (λ x. not (stops x)) (chunk i n d) in
-      let at = get_or-chunk i n d (k - i) 0 (omega (arith, counted, long)) ∙ ap (λ j. get_or d j 0) back in
+      let at = get_or-chunk i n d _ 0 (omega (arith, counted, long)) ∙ ap (λ j. get_or d j 0) back in
       subst (λ x. stops x ≡ false) at
-      (not-true _ (prefix_len_passes (λ x. not (stops x)) (chunk i n d) (k - i) 0 (omega (arith, counted))))
+      (not-true _ (prefix_len_passes (λ x. not (stops x)) _ (k - i) 0 (omega (arith, counted))))
 
   -- A lane stops just where the test passes.
   pub run_in : IsRunIn q d i n r
@@ -59,26 +54,24 @@ module _ (q : ℕ → Bool) (d : List ℕ) (i n r : ℕ) (z : List ℕ) (room : 
     stops = λ short.
         let at = ap (λ j. get_or (chunk i n d) j 0) (sym counted) ∙ get_or-chunk i n d r 0 short in
         let set = subst (λ x. stops x ≡ true) at
-        (not-false _ (prefix_len_stops (λ x. not (stops x)) (chunk i n d) 0 (omega (arith, counted, long)))) in
-        sym (all (i + r)) ∙ set;
+        (not-false _ (prefix_len_stops (λ x. not (stops x)) _ 0 (omega (arith, counted, long)))) in
+        sym (all _) ∙ set;
   }
 
 pub position_is : (p : ℕ → Bool) (xs : List ℕ) (i : ℕ) → i < length xs → ((k : ℕ) → k < i → p (get_or xs k 0) ≡ false)
     → p (get_or xs i 0) ≡ true →
     Some i ≡ position p xs
-position_is p xs i within before here =
-    let at : position_or_len p xs ≡ i = position_or_len_is p xs i 0 (omega arith) before (λ _. here) in
-    grind (arith, nat_tests)
+position_is = grind (arith, position_or_len_is)
 
 pub position_none : (p : ℕ → Bool) (xs : List ℕ) → ((k : ℕ) → k < length xs → p (get_or xs k 0) ≡ false)
     → None ≡ position p xs
 position_none p xs before =
     let at : position_or_len p xs ≡ length xs =
-    position_or_len_is p xs (length xs) 0 (omega arith) before (λ less. absurd (omega arith)) in
-    grind (arith, nat_tests)
+    position_or_len_is p _ _ 0 (omega arith) before (λ less. absurd (omega arith)) in
+    grind arith
 
 -- The octets before a load, and those of it.
 pub all_before : (p : ℕ → Bool) (xs : List ℕ) (start at n run : ℕ) → at ≤ start
     → ((k : ℕ) → k < start → p (get_or xs k 0) ≡ false) →
     IsRunIn p xs at n run → (k : ℕ) → k < at + run → p (get_or xs k 0) ≡ false
-all_before p xs start at n run over before found k below = grind (arith, before, found.fail)
+all_before p xs _ at n _ over before found k below = grind arith

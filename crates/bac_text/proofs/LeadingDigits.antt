@@ -1,18 +1,14 @@
 -- Numbers at the front of a text.
-use Rattle.std.proofs.Common.{◌≡◌, ℕ, zero, suc, ◌+◌, ◌-◌, ◌*◌, ◌<◌, ◌≤◌, true, false, List, length, take, drop, get_or}
-use Rattle.std.proofs.Common.{Some, None, refl, arith, add-one}
-use Rattle.std.specs.Prelude.{if◌then◌else◌, ◌==◌, nat_le}
-use Rattle.std.specs.Char.{is_ascii_digit}
-use Rattle.std.specs.Str.{all_ascii_digits}
-use Rattle.std.specs.Str.Parse.{digits_value}
-use Rattle.std.proofs.lemmas.Bool.{eq-eqb}
-use Rattle.std.proofs.lemmas.Bool.Decides.{nat_tests}
-use Rattle.std.proofs.lemmas.List.{take_all, take_rest, length-take-le}
-use Rattle.bac_text.specs.Address.{short_number, number_before_dot}
-use Rattle.bac_text.specs.Inner.Address.{digit}
-use Rattle.bac_text.specs.Inner.Leading.{IsLeading}
-use Rattle.bac_text.proofs.NumberLemmas.{others_are, digit_in, digits_next, value_next}
-use Rattle.bac_text.proofs.Lanes.{position_is}
+use Rattle.std.proofs.{
+  Common.{◌≡◌, ℕ, zero, suc, ◌+◌, ◌-◌, ◌*◌, ◌<◌, ◌≤◌, true, List, length, take, drop, get_or, Some, None, refl, arith},
+  Common.add-one,
+  lemmas.{Bool.eq-eqb, Bool.Decides.nat_tests, List.{take_all, take_rest, length-take-le}},
+}
+use Rattle.std.specs.{Prelude.{if◌then◌else◌, ◌==◌, nat_le}, Str.all_ascii_digits, Str.Parse.digits_value}
+use Rattle.bac_text.{
+  specs.{Address.{short_number, number_before_dot}, Inner.Address.digit, Inner.Leading.IsLeading},
+  proofs.{NumberLemmas.{others_are, digit_in, digits_next, value_next}, Lanes.position_is},
+}
 
 -- The greatest number of so many digits.
 abbrev pub most_with : ℕ → ℕ
@@ -20,84 +16,76 @@ most_with zero = 0
 most_with (suc n) = most_with n * 10 + 9
 
 pub most_next : (n number digit : ℕ) → number ≤ most_with n → digit ≤ 9 → number * 10 + digit ≤ most_with (n + 1)
-most_next n number digit h d = rw add-one (omega (arith, h, d))
+most_next n _ digit h d = rw add-one (omega arith)
 
 -- A short text that is no number as a whole.
 module _ (text : List ℕ) (digits limit number count : ℕ) (l : IsLeading text digits number count) where
   pub short_long : count < length text → None ≡ short_number digits limit text
-  short_long more = grind (arith, nat_tests, others_are, l.ends)
+  short_long = grind (arith, others_are)
 
   pub short_empty : count ≡ 0 → None ≡ short_number digits limit text
-  short_empty none = grind (arith, nat_tests, others_are, l.ends)
+  short_empty = grind (arith, others_are)
 
   pub short_big : limit < number → None ≡ short_number digits limit text
-  short_big big = grind (arith, nat_tests, others_are, l.ends, take_all)
+  short_big = grind (arith, others_are, take_all)
 
 -- So many digits at the front write the number.
 record Digits (text : List ℕ) (count number : ℕ) : Type 0 where
   all : all_ascii_digits (take count text) ≡ true
   value : number ≡ digits_value 10 (take count text)
 
-is_digit : (octet number : ℕ) → Some number ≡ digit octet → (is_ascii_digit octet ≡ true) × (number ≡ octet - 48)
-is_digit octet number e = grind (arith, nat_tests)
-
 one_more : (text : List ℕ) (i number ones total : ℕ) → Digits text i number → i < length text
     → Some ones ≡ digit (get_or text i 0) → total ≡ number * 10 + ones →
     Digits text (i + 1) total
-one_more text i number ones total d within found e =
-    let last = is_digit (get_or text i 0) ones found in
-    let next = value_next text i number within last.0 d.value in
-    record { all = digits_next text i within d.all last.0; value = omega (arith, last.1, next) }
+one_more = grind (arith, value_next, digits_next)
 
 module _ (text : List ℕ) (count number : ℕ) (d : Digits text count number) (some : 0 < count) (few : count ≤ 3)
     (within : count < length text) (dot : get_or text count 0 ≡ 46) where
-  no_dot : (k : ℕ) → k < count → (get_or text k 0 == 46) ≡ false
-  no_dot k below = let digit = digit_in text count k (omega arith) d.all below in grind (arith, nat_tests)
-
   -- A number of up to three digits before a dot (46).
   before_dot : (if nat_le number 255 then Some (number, take (length text - (count + 1)) (drop (count + 1) text)) else
       None) ≡ number_before_dot text
   before_dot =
       let size = length-take-le count text (omega arith) in
-      let at = position_is (λ o. o == 46) text count within no_dot (eq-eqb (get_or text count 0) 46 dot) in
+      let at = position_is (λ o. o == 46) _ _ within
+      (λ k below. let digit = digit_in _ _ k (omega arith) d.all below in grind arith) (eq-eqb _ 46 dot) in
       let all = d.all in
       let value = d.value in
-      rw (← at, take_rest text (count + 1)) (grind (arith, nat_tests))
+      rw (← at, take_rest _ _) (grind arith)
 
 module _ (text : List ℕ) (a : ℕ) (first : Some a ≡ digit (get_or text 0 0)) where
   one : 0 < length text → Digits text 1 a
-  one long = one_more text 0 0 a a (record { all = refl; value = refl }) long first (omega arith)
+  one = grind arith
 
   pub one_digit : 1 < length text → get_or text 1 0 ≡ 46 → a ≤ 9
       → Some (a, take (length text - 2) (drop 2 text)) ≡ number_before_dot text
   one_digit long dot small =
-      let e = before_dot text 1 a (one (omega arith)) (omega arith) (omega arith) long dot in
-      grind (arith, nat_tests)
+      let e = before_dot _ 1 a (one (omega arith)) (omega arith) (omega arith) long dot in
+      grind arith
 
   module _ (b : ℕ) (second : Some b ≡ digit (get_or text 1 0)) where
     two : 1 < length text → Digits text 2 (a * 10 + b)
-    two long = one_more text 1 a b _ (one (omega arith)) long second refl
+    two long = one_more _ 1 a b _ (one (omega arith)) long second refl
 
     pub two_digits : 2 < length text → get_or text 2 0 ≡ 46 → a ≤ 9 → b ≤ 9
         → Some (a * 10 + b, take (length text - 3) (drop 3 text)) ≡ number_before_dot text
     two_digits long dot small small' =
-        let e = before_dot text 2 (a * 10 + b) (two (omega arith)) (omega arith) (omega arith) long dot in
-        grind (arith, nat_tests)
+        let e = before_dot _ 2 _ (two (omega arith)) (omega arith) (omega arith) long dot in
+        grind arith
 
     module _ (c : ℕ) (third : Some c ≡ digit (get_or text 2 0)) (long : 3 < length text) (dot : get_or text 3 0 ≡ 46)
       where
         three : Digits text 3 (a * 100 + b * 10 + c)
-        three = one_more text 2 (a * 10 + b) c _ (two (omega arith)) (omega arith) third (omega arith)
+        three = one_more _ 2 _ c _ (two (omega arith)) (omega arith) third (omega arith)
 
         pub three_digits : a * 100 + b * 10 + c ≤ 255
             → Some (a * 100 + b * 10 + c, take (length text - 4) (drop 4 text)) ≡ number_before_dot text
         three_digits small =
-            let e = before_dot text 3 _ three (omega arith) (omega arith) long dot in
-            grind (arith, nat_tests)
+            let e = before_dot _ 3 _ three (omega arith) (omega arith) long dot in
+            grind arith
 
         pub three_digits_too_big : 255 < a * 100 + b * 10 + c → None ≡ number_before_dot text
         three_digits_too_big large =
-            let e = before_dot text 3 _ three (omega arith) (omega arith) long dot in
-            grind (arith, nat_tests)
+            let e = before_dot _ 3 _ three (omega arith) (omega arith) long dot in
+            grind arith
 
 pub ruleset leading_numbers = (digits_next, value_next, most_next, nat_tests)

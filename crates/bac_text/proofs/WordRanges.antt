@@ -1,31 +1,23 @@
 -- The values that words write are within the ranges of their kinds, so they have spellings.
-use Rattle.std.proofs.Common.{◌≡◌, ℕ, ◌+◌, ◌≤◌, Bool, true, false, List, [], ◌∷◌, length, Option, Result, Ok, Err}
-use Rattle.std.proofs.Common.{refl, sym, ◌∙◌, arith, length-append}
-use Rattle.std.specs.Prelude.{◌==◌, if◌then◌else◌, option_map, IfSome, IfOk}
-use Rattle.std.specs.List.{AllByRecursion, flat_map}
-use Rattle.std.specs.Result.{result_ok}
-use Rattle.std.proofs.lemmas.Bool.Decides.{nat_tests}
-use Rattle.std.proofs.lemmas.Int.{ints}
-use Rattle.hex.proofs.HexLemmas.{decode_of-ok, decode_sized-ok, decode_sized-twice}
-use Rattle.hex.specs.Hex.{decode_sized}
-use Rattle.hex.specs.declared.error.FromHexError.{FromHexError}
-use Rattle.bac_wire.specs.Datum.{Datum, signed, object, InRange, IsDatum, plain}
-use Rattle.bac_wire.proofs.ShortestDatum.{written_datum}
-use Rattle.bac_text.specs.Words.{number_up_to}
-use Rattle.bac_text.specs.ValueWords.{signed_in, bits_in, object_in, value_under, value_in}
-use Rattle.bac_text.specs.Pairs.{value_before, pairs_from, values_in}
+use Rattle.std.{
+  proofs.Common.{◌≡◌, ℕ, ◌+◌, ◌≤◌, Bool, List, [], ◌∷◌, length, Option, Result, Ok, Err, refl, sym, ◌∙◌, arith},
+  proofs.{Common.length-append, lemmas.Bool.Decides.nat_tests},
+  specs.{Prelude.{◌==◌, if◌then◌else◌, option_map, IfSome, IfOk}, List.{AllByRecursion, flat_map}, Result.result_ok},
+}
+use Rattle.hex.{
+  proofs.HexLemmas.{decode_of-ok, decode_sized-ok, decode_sized-twice},
+  specs.{Hex.decode_sized, declared.error.FromHexError.FromHexError},
+}
+use Rattle.bac_wire.{specs.Datum.{Datum, signed, InRange, IsDatum, plain}, proofs.ShortestDatum.written_datum}
+use Rattle.bac_text.specs.{ValueWords.{signed_in, value_under}, Pairs.{value_before, pairs_from, values_in}}
 
 either : (b : Bool) (x y : Option Datum) → IfSome x InRange → IfSome y InRange → IfSome (if b then x else y) InRange
-either true x y h k = h
-either false x y h k = k
+either = grind arith
 
 -- ---- the words of each kind
 
-number_most : (most : ℕ) (word : List ℕ) → IfSome (number_up_to most word) (λ n. n ≤ most)
-number_most most word = grind (arith, nat_tests)
-
 signed_range : (word : List ℕ) → IfSome (option_map signed (signed_in word)) InRange
-signed_range word = grind (arith, ints, nat_tests, number_most)
+signed_range _ = grind (arith, nat_tests)
 
 exactly_range : (count : ℕ) (word : List ℕ)
     → IfSome (result_ok (decode_sized word count)) (λ octets. length octets ≡ count)
@@ -39,12 +31,6 @@ exactly_range count word = go (decode_sized word count) refl
         let twice = (decode_of-ok word octets (sym (decode_sized-twice word count digits) ∙ is)).2 in
         omega (arith, digits, twice)
 
-bits_range : (digits : List ℕ) → IfSome (bits_in digits) InRange
-bits_range digits = grind (arith, nat_tests)
-
-object_range : (word : List ℕ) → IfSome (option_map object (object_in word)) InRange
-object_range word = grind (arith, number_most)
-
 -- ---- any word
 
 under_range : (number : ℕ) (word : List ℕ) → IfSome (value_under number word) InRange
@@ -53,31 +39,27 @@ under_range number word =
     let four = exactly_range 4 word in
     let eight = exactly_range 8 word in
     either (number == 0) _ _ tt (either (number == 1) _ _ (grind arith)
-    (either (number == 2) _ _ (grind (arith, number_most))
+    (either (number == 2) _ _ (grind arith)
     (either (number == 3) _ _ (signed_range word)
     (either (number == 4) _ _ (grind arith)
     (either (number == 5) _ _ (grind arith)
     (either (number == 6) _ _ (grind arith)
     (either (number == 7) _ _ tt
-    (either (number == 8) _ _ (bits_range word)
-    (either (number == 9) _ _ (grind (arith, number_most))
+    (either (number == 8) _ _ (grind arith)
+    (either (number == 9) _ _ (grind arith)
     (either (number == 10) _ _ (grind arith)
     (either (number == 11) _ _ (grind arith)
-    (either (number == 12) _ _ (object_range word) tt))))))))))))
-
-value_range : (tag word : List ℕ) → IfSome (value_in tag word) InRange
-value_range tag word = grind (arith, under_range)
+    (either (number == 12) _ _ (grind arith) tt))))))))))))
 
 before_range : (n : ℕ) (first : Option Datum) (more : Result (List Datum) ℕ) → IfSome first InRange
     → IfOk more (AllByRecursion InRange) →
     IfOk (value_before n first more) (AllByRecursion InRange)
-before_range n first more h k = grind arith
+before_range = grind arith
 
 pairs_range : (n : ℕ) (words : List (List ℕ)) → IfOk (pairs_from n words) (AllByRecursion InRange)
 pairs_range n [] = tt
 pairs_range n (tag ∷ []) = tt
-pairs_range n (tag ∷ word ∷ others) =
-    before_range n (value_in tag word) (pairs_from (n + 1) others) (value_range tag word) (pairs_range (n + 1) others)
+pairs_range n (tag ∷ word ∷ others) = before_range n _ _ (grind (arith, under_range)) (pairs_range (n + 1) others)
 
 pub values_range : (words : List (List ℕ)) → IfOk (values_in words) (AllByRecursion InRange)
 values_range [] = tt
@@ -86,7 +68,7 @@ values_range (tag ∷ others) = pairs_range 1 (tag ∷ others)
 -- Values whose spellings fit a frame are spelled by them.
 pub values_spelled : (values : List Datum) → AllByRecursion InRange values → length (flat_map plain values) ≤ 1497
     → AllByRecursion IsDatum values
-values_spelled [] h fits = tt
+values_spelled [] h _ = tt
 values_spelled (value ∷ others) h fits =
     let size = length-append (plain value) (flat_map plain others) in
-    (written_datum value 0 h.0 (omega arith), values_spelled others h.1 (omega arith))
+    (written_datum _ 0 h.0 (omega arith), values_spelled others h.1 (omega arith))

@@ -1,43 +1,40 @@
 -- What is appended of a value, and the words of each kind.
-use Rattle.std.proofs.Common.{◌≡◌, ℕ, ◌+◌, ◌-◌, ◌*◌, ◌/◌, ◌%◌, ◌<◌, ◌≤◌, true, List, length, take, drop, get_or, Some}
-use Rattle.std.proofs.Common.{Result, Ok, Err, refl, ◌∙◌, arith, length-append}
-use Rattle.std.specs.Prelude.{◌==◌, ◌||◌, option_map, map, MatchResult}
-use Rattle.std.specs.Char.{is_ascii_hexdigit}
-use Rattle.std.specs.Int.{div_ceil}
-use Rattle.std.specs.List.{list_all, range_with_len}
-use Rattle.std.specs.Result.{result_ok}
-use Rattle.std.proofs.lemmas.Bool.Decides.{nat_tests}
-use Rattle.std.proofs.lemmas.List.{get_or-take, length-take-le}
-use Rattle.std.proofs.lemmas.List.FromFn.{fill_by_all, length-map-range_with_len}
-use Rattle.hex.specs.Hex.{decode_of, decode_sized}
-use Rattle.hex.specs.declared.error.FromHexError.{FromHexError}
-use Rattle.hex.proofs.HexLemmas.{decode_of-ok, decode_sized-twice}
-use Rattle.bac_wire.specs.Datum.{Datum, octet_string, bit_string, plain, plain_contents, tag_before}
-use Rattle.bac_wire.specs.Tag.{plain_tag}
-use Rattle.bac_text.proofs.HexText.{digits_decoded}
-use Rattle.bac_text.specs.declared.value_words.ValueFault.TheVariants.{TooLong}
-use Rattle.bac_text.specs.ValueWords.{bits_octet, bits_octets, bits_in}
-use Rattle.bac_text.specs.Inner.ValueWords.{at_most, appended}
+use Rattle.std.{
+  proofs.Common.{◌≡◌, ℕ, ◌+◌, ◌-◌, ◌*◌, ◌/◌, ◌%◌, ◌<◌, ◌≤◌, true, List, length, take, drop, get_or, Some, Result, Ok},
+  proofs.Common.{Err, refl, ◌∙◌, arith, length-append},
+  specs.{Prelude.{◌==◌, ◌||◌, option_map, map, MatchResult}, Char.is_ascii_hexdigit, Int.div_ceil},
+  specs.{List.{list_all, range_with_len}, Result.result_ok},
+  proofs.lemmas.{List.{get_or-take, length-take-le}, List.FromFn.{fill_by_all, length-map-range_with_len}},
+}
+use Rattle.hex.{
+  specs.{Hex.{decode_of, decode_sized}, declared.error.FromHexError.FromHexError},
+  proofs.HexLemmas.decode_of-ok,
+}
+use Rattle.bac_wire.specs.Datum.{Datum, octet_string, bit_string, plain, plain_contents}
+use Rattle.bac_text.{
+  proofs.HexText.digits_decoded,
+  specs.{declared.value_words.ValueFault.TheVariants.TooLong, ValueWords.{bits_octet, bits_in, bits_octets}},
+  specs.Inner.ValueWords.{at_most, appended},
+}
 
 -- What has no more octets than it may is as it was.
 pub at_most_found : {E : Type 0} (fault : E) (most : ℕ) (octets found : List ℕ) → at_most fault most octets ≡ Ok found →
     (found ≡ octets) × (length octets ≤ most)
-at_most_found fault most octets found e = grind (arith, nat_tests)
+at_most_found = grind arith
 
 pub at_most_fault : {E : Type 0} (fault other : E) (most : ℕ) (octets : List ℕ) → at_most fault most octets ≡ Err other
     →
     (fault ≡ other) × (most < length octets)
-at_most_fault fault other most octets e = grind (arith, nat_tests)
+at_most_fault = grind arith
 
 pub appended-full : (old : List ℕ) (value : Datum) → 1497 < length old + length (plain value)
     → appended old (Some value) ≡ Err TooLong
-appended-full old value h = grind (arith, nat_tests, length-append)
+appended-full = grind (arith, length-append)
 
 -- A spelling has the contents in it.
 pub plain_length : (value : Datum) → length (plain_contents value) ≤ length (plain value)
 unfolding plain
-plain_length value =
-    omega (arith, length-append (plain_tag (tag_before value (length (plain_contents value)))) (plain_contents value))
+plain_length = grind (arith, length-append)
 
 -- ---- hexadecimal digits
 
@@ -46,19 +43,16 @@ pub octets-decoded : (word out room : List ℕ) (n : ℕ) (r : Result Unit FromH
     length word ≡ 2 * n → n ≤ length room →
     MatchResult (decode_sized word (length (take n room))) (λ bytes. (r ≡ Ok tt) × (out ≡ bytes)) (λ e. r ≡ Err e)
     → result_ok (decode_of word) ≡ Some out
-octets-decoded word out room n r digits size fits match =
-    let found = digits_decoded word (omega arith) digits in
-    let same = rw (length-take-le n room fits, decode_sized-twice word n size, found.1) at match in
-    grind arith
+octets-decoded = grind (arith, digits_decoded, length-take-le)
 
 pub octets-long : (region word : List ℕ) → length word % 2 ≡ 0 → list_all is_ascii_hexdigit word ≡ true
     → 1497 < length word / 2 →
     appended region (option_map octet_string (result_ok (decode_of word))) ≡ Err TooLong
-octets-long region word even digits long =
-    let found = digits_decoded word even digits in
+octets-long _ _ even digits long =
+    let found = digits_decoded _ even digits in
     let size = plain_length (octet_string found.0) in
-    let twice = (decode_of-ok word found.0 found.1).2 in
-    rw found.1 (appended-full region (octet_string found.0) (omega arith))
+    let twice = (decode_of-ok _ _ found.1).2 in
+    rw found.1 (appended-full _ _ (omega arith))
 
 -- ---- bits
 
@@ -67,10 +61,9 @@ pub bits-written : (digits room : List ℕ) (count unused : ℕ)
     → count ≡ div_ceil (length digits) 8 → count ≤ length room →
     ((k : ℕ) → k < count → get_or room k 0 ≡ bits_octet (drop (8 * k) digits)) → unused ≡ 8 * count - length digits →
     bits_in digits ≡ Some (bit_string unused (take count room))
-bits-written digits room count unused bits size room_for each rest =
+bits-written digits room count _ bits size room_for each rest =
     let same : take count room ≡ map (λ k. bits_octet (drop (8 * k) digits)) (range_with_len 0 count) =
-    fill_by_all (λ k. bits_octet (drop (8 * k) digits)) (take count room) count 0 (length-take-le count room room_for)
-    (λ k h. get_or-take count room k 0 h ∙ each k h) in
+    fill_by_all _ _ _ 0 (length-take-le _ _ room_for) (λ k h. get_or-take _ _ k 0 h ∙ each k h) in
     rw (bits, rest, same, size) refl
 
 pub bits-long : (region digits : List ℕ) → list_all (λ digit. digit == 48 || digit == 49) digits ≡ true

@@ -1,23 +1,25 @@
 -- The body of a WriteProperty request, by the region in it.
-use Rattle.std.proofs.Common.{◌≡◌, ℕ, ◌≤◌, List, [], ◌∷◌, ◌++◌, length, Option, Result, Ok, Err, arith, length-append}
-use Rattle.std.proofs.lemmas.Bool.Decides.{nat_tests}
-use Rattle.std.specs.List.{flat_map}
-use Rattle.bac_wire.specs.Datum.{Datum, plain}
-use Rattle.bac_wire.specs.Identifier.{Identifier}
-use Rattle.bac_wire.specs.Region.{opening_tag, closing_tag}
-use Rattle.bac_wire.specs.Steps.{result_seen}
-use Rattle.bac_wire.specs.Parameter.{enclosed_octets}
-use Rattle.bac_wire.specs.Tag.{plain_tag}
+use Rattle.std.{
+  proofs.Common.{◌≡◌, ℕ, ◌≤◌, List, [], ◌∷◌, ◌++◌, length, Option, Result, Ok, Err, arith, length-append},
+  proofs.lemmas.Bool.Decides.nat_tests,
+  specs.List.flat_map,
+}
+use Rattle.bac_wire.specs.{
+  Datum.{Datum, plain},
+  Identifier.Identifier,
+  Region.{opening_tag, closing_tag},
+  Steps.result_seen,
+  Parameter.enclosed_octets,
+  Tag.plain_tag,
+}
+use Rattle.bac_pdu.specs.{Parameter.{Parameter, plain_parameter}, Property.{Order, write_octets}}
+use Rattle.bac_text.{
+  specs.declared.pairs.{PairFault.PairFault, PairFault.TheVariants.TooLong},
+  specs.Inner.{ValueWords.at_most, Pairs.{region_with, region_of}},
+  specs.Pairs.{sendable, order_of, body_of, values_in},
+  proofs.WordValues.at_most_fault,
+}
 use Rattle.bac_pdu.specs.Parameter as parameters
-use Rattle.bac_pdu.specs.Parameter.{Parameter, plain_parameter}
-use Rattle.bac_pdu.specs.Inner.Parameter.{optional}
-use Rattle.bac_pdu.specs.Property.{Order, reference_parameters, write_octets}
-use Rattle.bac_text.specs.declared.pairs.PairFault.{PairFault}
-use Rattle.bac_text.specs.declared.pairs.PairFault.TheVariants.{TooLong}
-use Rattle.bac_text.specs.Inner.ValueWords.{at_most}
-use Rattle.bac_text.specs.Pairs.{values_in, sendable, order_of, body_of}
-use Rattle.bac_text.specs.Inner.Pairs.{region_with, region_of}
-use Rattle.bac_text.proofs.WordValues.{at_most_fault}
 
 -- The body that orders the values that were found, if it can be sent.
 abbrev pub body_with : Identifier → ℕ → Option ℕ → Option ℕ → Result (List Datum) ℕ → Result (List ℕ) PairFault
@@ -39,15 +41,12 @@ parameters_within (first ∷ others) behind region =
     let rest = parameters_within others behind region in
     omega (
       arith,
-      length-append (plain_parameter first)
-          (flat_map plain_parameter (others ++ parameters.value region ∷ behind)),
-      rest,
+      length-append (plain_parameter first) (flat_map plain_parameter (others ++ parameters.value region ∷ behind)),
     )
 
 -- A body has its region in it.
 pub region_within : (o : Order) → length o.value ≤ length (write_octets o)
-region_within o =
-    parameters_within (reference_parameters o.reference) (optional (parameters.numbered 4) o.priority) o.value
+region_within = search (arith, parameters_within)
 
 pub body-fault : (object : Identifier) (property : ℕ) (index priority : Option ℕ) (words : List (List ℕ))
     (fault : PairFault) →

@@ -1,53 +1,36 @@
 -- Two runs of the program with the same words are alike.
-use Rattle.std.proofs.Common.{◌≡◌, ◌≢◌, ◌∷◌, ◌++◌, ℕ, inl, inr, List, [], Option, Some, None, Result, Ok, Err}
-use Rattle.std.proofs.Common.{refl, sym, ap, ◌∙◌, subst}
-use Rattle.std.specs.Prelude.{◌⊎◌, IsErrAnd, IsTrue, is_some, option_and_then}
+use Rattle.std.proofs.Common.{◌≡◌, ◌≢◌, ◌∷◌, ◌++◌, ℕ, inl, inr, List, [], Option, Some, None, Result, Ok, Err, refl}
+use Rattle.std.proofs.Common.{sym, ap, ◌∙◌, subst, arith, ◌⊎◌, IsErrAnd, IsTrue, is_some, option_and_then}
 use Rattle.std.specs.Result.{result_map_both, result_ok}
-use Rattle.clap.specs.Kinds.{IsAmong}
-use Rattle.clap.specs.Values.{kind_of}
 use Rattle.clap.specs.Words.{Text, fault_of}
-use Rattle.bac_device.specs.Demo.{demo_points}
-use Rattle.bac_device.specs.Device.{device_after}
+use Rattle.bac_device.specs.{Demo.demo_points, Device.device_after}
 use Rattle.bac_print.specs.Checked.{fresh, octets_of}
 use Rattle.bac_print.specs.declared.checked.Checked.{Checked}
 use Rattle.bac_text.specs.declared.jobs.Call.{Call}
-use Rattle.bac_links.proofs.Alike.{calls_so_far}
-use Rattle.bac_links.proofs.SearchesAlike.{searches_so_far}
-use Rattle.bac_links.proofs.ServingsAlike.{servings_so_far}
+use Rattle.bac_links.proofs.{Alike.calls_so_far, SearchesAlike.searches_so_far, ServingsAlike.servings_so_far}
 use Rattle.bac_links.specs.Answered.{answers_of, GoOnAlike, OneText, Printed}
-use Rattle.bac_links.specs.Call.{Tells}
-use Rattle.bac_links.specs.History.{Account, Entry}
-use Rattle.bac_links.specs.declared.ending.Exit.{Exit}
-use Rattle.bac_links.specs.declared.ending.Exit.TheVariants.{Good}
-use Rattle.bac_links.specs.declared.ending.Purpose.{Purpose}
-use Rattle.bac_links.specs.declared.ending.Purpose.TheVariants.{Reading, Writing}
-use Rattle.bac_links.specs.declared.fault.ToolFault.{ToolFault}
-use Rattle.bac_links.specs.declared.fault.ToolFault.TheVariants.{SendFailed, ReceiveFailed, TurnsSpent, WriteFailed}
-use Rattle.bac_links.specs.declared.link.LinkFault.{LinkFault}
+use Rattle.bac_links.specs.{Call.Tells, History.Account, History.Entry}
+use Rattle.bac_links.specs.declared.{ending.Exit.Exit, ending.Exit.TheVariants.Good, ending.Purpose.Purpose}
+use Rattle.bac_links.specs.declared.{ending.Purpose.TheVariants.Reading, ending.Purpose.TheVariants.Writing}
+use Rattle.bac_links.specs.declared.{fault.ToolFault.ToolFault, fault.ToolFault.TheVariants.WriteFailed}
+use Rattle.bac_links.specs.declared.{link.LinkFault.LinkFault}
 use Rattle.bac_script.proofs.Functions.{traces_alike}
 use Rattle.bac_script.specs.Alike.{AreAlike as ScriptsAlike}
-use Rattle.bac_script.specs.declared.tracing.TraceEnd.{TraceEnd}
-use Rattle.bac_script.specs.declared.tracing.TraceFault.{TraceFault}
-use Rattle.bac_script.specs.declared.tracing.TraceFault.TheVariants as stops
+use Rattle.bac_script.specs.declared.tracing.{TraceEnd.TraceEnd, TraceFault.TraceFault}
 use Rattle.bac_words.proofs.OneAnswer.{one_answer}
-use Rattle.bac_words.specs.Command.{bactool}
-use Rattle.bac_words.specs.Line.{Answers, IsRefusal}
-use Rattle.bac_words.specs.Marks.{marked_words}
+use Rattle.bac_words.specs.{Command.bactool, Marks.marked_words, Line.Answers, Line.IsRefusal}
 use Rattle.bac_words.specs.declared.faults.UsageFault.{UsageFault}
 use Rattle.bac_words.specs.declared.faults.UsageFault.TheVariants.{Help, Memory, Words}
 use Rattle.bac_text.specs.declared.jobs.Job.{Job}
 use Rattle.bac_text.specs.declared.jobs.Job.TheVariants.{Read, Write, WhoIs, Device, Trace}
 use Rattle.bac_tools.specs.Alike.{AreAlike, AreGivenAlike, EndAlike, Gained, IsCutOff, IsPrinted, PrintAlike, Run}
 use Rattle.bac_tools.specs.Alike.{is_socket}
-use Rattle.bac_tools.specs.Binding.{binding_of}
-use Rattle.bac_tools.specs.Outside.{Outside}
-use Rattle.bac_tools.specs.Program.{Ends, IsGiven}
-use Rattle.bac_tools.specs.Report.{report_of, tool_report, trace_report}
+use Rattle.bac_tools.specs.{Binding.binding_of, Outside.Outside, Program.Ends, Program.IsGiven, Report.report_of}
+use Rattle.bac_tools.specs.{Report.tool_report, Report.trace_report, declared.binding.Binding.Binding}
+use Rattle.bac_tools.specs.{declared.program.Ran.Ran, declared.report.Report.Report}
 use Rattle.bac_tools.specs.Runs.{Runs, RunsOpened, RunsOver, RunsScript, ToolRuns}
-use Rattle.bac_tools.specs.declared.binding.Binding.{Binding}
-use Rattle.bac_tools.specs.declared.program.Ran.{Ran}
+use Rattle.bac_script.specs.declared.tracing.TraceFault.TheVariants as stops
 use Rattle.bac_tools.specs.declared.report.Fault.TheVariants as faults
-use Rattle.bac_tools.specs.declared.report.Report.{Report}
 
 -- ---- how runs go on
 
@@ -63,17 +46,13 @@ module _ {A B : Type 0} (IsCut : A → Type 0) (Ended Printed' : A → A → Typ
 -- ---- two tools over their links
 
 failed_cut : (answer : Result Exit ToolFault) → answer ≡ Err WriteFailed → IsCutOff (tool_report answer)
-failed_cut answer failed = subst (λ (r : Result Exit ToolFault). IsCutOff (tool_report r)) (sym failed) tt
+failed_cut _ failed = rw failed tt
 
 is_printed : {X : Type 0} (shown : X → Option (List ℕ)) (writer : X) (wrote : Checked X) (text : List ℕ)
     (answer : Result Exit ToolFault) → Printed shown (fresh writer) wrote text answer
     → IsPrinted (octets_of wrote) text (tool_report answer)
-is_printed shown writer wrote text (Ok exit) took = inl took.passed
-is_printed shown writer wrote text (Err SendFailed) took = inl took.passed
-is_printed shown writer wrote text (Err ReceiveFailed) took = inl took.passed
-is_printed shown writer wrote text (Err TurnsSpent) took = inl took.passed
-is_printed shown writer wrote text (Err WriteFailed) (taken, rest, e, took) =
-    inr (tt, (rest, e ∙ ap (λ (xs : List ℕ). xs ++ rest) (sym took.passed)))
+is_printed shown writer wrote text (Err WriteFailed) (taken, rest, e, took) = inr (tt, (rest, cc (e, took.passed)))
+is_printed shown writer wrote text _ took = inl took.passed
 
 module _ {V W : Type 0} (contents : V → Option (List ℕ)) (contents' : W → Option (List ℕ)) (writer : V) (writer' : W)
     (wrote : Checked V) (wrote' : Checked W) (seen left seen' left' : Account) (answer answer' : Result Exit ToolFault)
@@ -134,30 +113,21 @@ module _ {V W : Type 0} (contents : V → Option (List ℕ)) (contents' : W → 
       seen' left' a.0.served b.0.served first rest first' rest' a.0.serves b.0.serves gains gains' same in (
         both.0,
         going (λ r. ⊥) (λ r s. (r ≡ s) × (a.0.device ≡ b.0.device)) (λ r s. Unit {0}) IsCutOff EndSame PrintSame
-            a.0.served b.0.served (tool_report answer) (tool_report answer') (λ none. absurd none)
-            (λ none. absurd none)
+            a.0.served b.0.served (tool_report answer) (tool_report answer') (λ none. absurd none) (λ none. absurd none)
             (λ ends uncut uncut'. inl (ap tool_report (a.0.answers ∙ ap as_exit ends.0 ∙ sym b.0.answers)))
-            (λ none. (
-              [],
-              inl (ap (λ (w : Checked V). octets_of w) a.1),
-              inl (ap (λ (w : Checked W). octets_of w) b.1),
-            ))
+            (λ none. ([], inl (ap (λ (w : Checked V). octets_of w) a.1), inl (ap (λ (w : Checked W). octets_of w) b.1)))
             rest rest' both.1,
       )
   tools Trace a b = absurd a
 
 -- ---- two scripts
 
-cut_or_not : (answer : Result TraceEnd TraceFault)
-    → (answer ≡ Err stops.WriteFailed) ⊎ (answer ≢ Err stops.WriteFailed)
-cut_or_not (Ok end) = inr (λ e. cc)
+cut_or_not : (answer : Result TraceEnd TraceFault) → (answer ≡ Err stops.WriteFailed) ⊎ (answer ≢ Err stops.WriteFailed)
 cut_or_not (Err stops.WriteFailed) = inl refl
-cut_or_not (Err (stops.BadLine n)) = inr (λ e. cc)
-cut_or_not (Err (stops.LineTooLong n)) = inr (λ e. cc)
-cut_or_not (Err stops.ReadFailed) = inr (λ e. cc)
+cut_or_not _ = inr (λ e. cc)
 
 stopped_cut : (answer : Result TraceEnd TraceFault) → answer ≡ Err stops.WriteFailed → IsCutOff (trace_report answer)
-stopped_cut answer failed = subst (λ (r : Result TraceEnd TraceFault). IsCutOff (trace_report r)) (sym failed) tt
+stopped_cut _ failed = rw failed tt
 
 script_text : (written other : List ℕ) (r s : Result TraceEnd TraceFault) → ScriptsAlike written r other s
     → (text : List ℕ) × IsPrinted written text (trace_report r) × IsPrinted other text (trace_report s)
@@ -177,23 +147,18 @@ script_text written other r s alike = elim (cut_or_not r) [
 
 -- ---- one run
 
--- Words that `clap` takes are not refused.
-not_refused : (words : List Text) (fault : UsageFault) → fault ≢ Memory → IsRefusal words fault
-    → fault_of bactool (marked_words words) ≡ [] → ⊥
-not_refused words Memory other refusal taken = other refl
-not_refused words (Help e) other refusal taken = subst (IsAmong (kind_of e)) taken refusal.1
-not_refused words (Words e) other refusal taken = subst (IsAmong (kind_of e)) taken refusal.1
-not_refused words _ other refusal taken = refusal
+-- Words that `clap` takes are refused only where memory ran out.
+not_refused : (words : List Text) (fault : UsageFault) → IsRefusal words fault
+    → fault_of bactool (marked_words words) ≡ [] → fault ≡ Memory
+not_refused _ Memory _ _ = refl
+not_refused _ (Help e) refusal taken = absurd (rw taken at refusal.1)
+not_refused _ (Words e) refusal taken = absurd (rw taken at refusal.1)
+not_refused _ _ refusal _ = absurd refusal
 
 none_gained : {L : Type 0} (seen : L → Account) (opened opened' : Option (Result L LinkFault)) (gained : List Entry)
-    → opened ≡ None →
-    Gained seen opened opened' gained → gained ≡ []
+    → opened ≡ None → Gained seen opened opened' gained → gained ≡ []
 none_gained seen None opened' gained e gains = gains
 none_gained seen (Some socket) opened' gained e gains = cc
-
-memory_or_not : (fault : UsageFault) → (fault ≡ Memory) ⊎ (fault ≢ Memory)
-memory_or_not Memory = inl refl
-memory_or_not _ = inr (λ e. cc)
 
 none_both : (xs ys : List Entry) → xs ++ ys ≡ [] → (xs ≡ []) × (ys ≡ [])
 none_both [] ys e = (refl, e)
@@ -271,8 +236,7 @@ module _ {N L R W M K S V : Type 0} {gives : N → Binding → Result L LinkFaul
   over : (job : Job) (link left : L) (link' left' : K)
       → RunsOver out (fresh one.reader) one.reader' (fresh one.writer) one.writer' one.ran.report job link left →
       RunsOver out' (fresh other.reader) other.reader' (fresh other.writer) other.writer' other.ran.report job link'
-      left' →
-      (out.seen left).history ≡ (out.seen link).history ++ one.gained
+      left' → (out.seen left).history ≡ (out.seen link).history ++ one.gained
       → (out'.seen left').history ≡ (out'.seen link').history ++ other.gained → Alike
   over job link left link' left' r s gains gains' =
       let both = tools out.contents out'.contents one.writer other.writer one.writer' other.writer' (out.seen link)
@@ -290,34 +254,26 @@ module _ {N L R W M K S V : Type 0} {gives : N → Binding → Result L LinkFaul
       RunsOpened out (fresh one.reader) one.reader' (fresh one.writer) one.writer' one.ran.report job o p →
       RunsOpened out' (fresh other.reader) other.reader' (fresh other.writer) other.writer' other.ran.report job o' p' →
       Gained out.seen o p one.gained → Gained out'.seen o' p' other.gained → BothHad o o' → Alike
-  opened job None p o' p' r s gains gains' e = absurd r
-  opened job (Some (Err f)) p None p' r s gains gains' e = absurd s
   opened job (Some (Err f)) p (Some (Err g)) p' r s gains gains' e =
       none_asked gains gains' (λ uncut uncut'. inl (r.3 ∙ sym s.3)) (
         [],
         inl (ap (λ (w : Checked W). octets_of w) r.2),
         inl (ap (λ (w : Checked V). octets_of w) s.2),
       )
-  opened job (Some (Err f)) p (Some (Ok k)) p' r s gains gains' e = let both = e refl refl in cc
-  opened job (Some (Ok l)) None o' p' r s gains gains' e = absurd r
-  opened job (Some (Ok l)) (Some (Err f)) o' p' r s gains gains' e = absurd r
-  opened job (Some (Ok l)) (Some (Ok m)) None p' r s gains gains' e = absurd s
-  opened job (Some (Ok l)) (Some (Ok m)) (Some (Err g)) p' r s gains gains' e = let both = e refl refl in cc
-  opened job (Some (Ok l)) (Some (Ok m)) (Some (Ok k)) None r s gains gains' e = absurd s
-  opened job (Some (Ok l)) (Some (Ok m)) (Some (Ok k)) (Some (Err g)) r s gains gains' e = absurd s
   opened job (Some (Ok l)) (Some (Ok m)) (Some (Ok k)) (Some (Ok n)) r s gains gains' e =
       over job l m k n r s gains gains'
+  opened job (Some (Err f)) p (Some (Ok k)) p' r s gains gains' e = let both = e refl refl in cc
+  opened job (Some (Ok l)) p (Some (Err g)) p' r s gains gains' e = let both = e refl refl in cc
+  opened _ _ _ _ _ r s gains gains' e = grind arith
 
   scripts : RunsScript out (fresh one.reader) one.reader' (fresh one.writer) one.writer' one.ran.report →
       RunsScript out' (fresh other.reader) other.reader' (fresh other.writer) other.writer' other.ran.report →
       EndAlike one other one.ran.report other.ran.report × PrintAlike one other one.ran.report other.ran.report
   scripts r s =
       let both = traces_alike one.reader other.reader one.reader' other.reader' one.writer other.writer one.writer'
-      other.writer' r.answer s.answer r.script s.script
-      h.octets h.ends in
+      other.writer' r.answer s.answer r.script s.script h.octets h.ends in
       let text = script_text (octets_of one.writer') (octets_of other.writer') r.answer s.answer both in (
-        λ uncut uncut'.
-            let same = both.same (λ e. uncut (subst IsCutOff (sym r.reported) (stopped_cut r.answer e)))
+        λ uncut uncut'. let same = both.same (λ e. uncut (subst IsCutOff (sym r.reported) (stopped_cut r.answer e)))
             (λ e. uncut' (subst IsCutOff (sym s.reported) (stopped_cut s.answer e))) in
             inl (r.reported ∙ ap trace_report same.1 ∙ sym s.reported),
         (
@@ -331,22 +287,11 @@ module _ {N L R W M K S V : Type 0} {gives : N → Binding → Result L LinkFaul
       → IsGiven gives out one.network (binding_of job) o →
       IsGiven gives' out' other.network (binding_of job) o' → Ours job o p → Theirs job o' p'
       → Gained out.seen o p one.gained → Gained out'.seen o' p' other.gained → BothHad o o' → Alike
-  jobs (Read call) o p o' p' given given' r s gains gains' e = opened (Read call) o p o' p' r s gains gains' e
-  jobs (Write call) o p o' p' given given' r s gains gains' e = opened (Write call) o p o' p' r s gains gains' e
-  jobs (WhoIs search) o p o' p' given given' r s gains gains' e = opened (WhoIs search) o p o' p' r s gains gains' e
-  jobs (Device serve) o p o' p' given given' r s gains gains' e = opened (Device serve) o p o' p' r s gains gains' e
   jobs Trace o p o' p' given given' r s gains gains' e =
       let both = scripts r.0 s.0 in
       none_asked (none_gained out.seen o p one.gained given gains)
       (none_gained out'.seen o' p' other.gained given' gains') both.0 both.1
-
-  -- The words of each were refused by `clap`, or answered; and neither lacked memory.
-  taken : (r : Result Job UsageFault) (fault : UsageFault) → fault ≢ Memory → IsRefusal words fault
-      → IsErrAnd r (IsRefusal words) ⊎ Answers words r → IsErrAnd r (IsRefusal words)
-  taken r fault memory refusal answered = elim answered [
-    | inl refused ↦ refused
-    | inr answers ↦ absurd (not_refused words fault memory refusal answers.taken)
-  ]
+  jobs job o p o' p' _ _ r s gains gains' e = opened job o p o' p' r s gains gains' e
 
   abbrev Refused : Type 0
   Refused = IsErrAnd one.program.answer (IsRefusal words) × IsErrAnd other.program.answer (IsRefusal words)
@@ -363,10 +308,10 @@ module _ {N L R W M K S V : Type 0} {gives : N → Binding → Result L LinkFaul
         o'
 
     report_here : (fault : UsageFault) → OursEnds (Err fault) → one.ran.report ≡ report_of (faults.Usage fault)
-    report_here fault r = ap (λ (x : Ran N L). x.report) r.2
+    report_here _ r = ap (λ (x : Ran N L). x.report) r.2
 
     report_there : (fault : UsageFault) → TheirsEnds (Err fault) → other.ran.report ≡ report_of (faults.Usage fault)
-    report_there fault s = ap (λ (x : Ran M K). x.report) s.2
+    report_there _ s = ap (λ (x : Ran M K). x.report) s.2
 
     lacks_here : (fault : UsageFault) → fault ≡ Memory → OursEnds (Err fault)
         → IsGiven gives out one.network None o → Alike
@@ -392,65 +337,29 @@ module _ {N L R W M K S V : Type 0} {gives : N → Binding → Result L LinkFaul
           inl (ap (λ (w : Checked V). octets_of w) s.1),
         )
 
+    answered : (r : Result Job UsageFault) → IsGiven gives out one.network (option_and_then binding_of (result_ok r)) o
+        → IsGiven gives' out' other.network (option_and_then binding_of (result_ok r)) o'
+        → OursEnds r → TheirsEnds r → Alike
+    answered (Err f) given given' r s =
+        both_refused f f r s given given' (inl (report_here f r ∙ sym (report_there f s)))
+    answered (Ok j) given given' r s = jobs j o _ o' _ given given' r s gains gains' e
+
     compared : (r s : Result Job UsageFault) → one.program.answer ≡ r → other.program.answer ≡ s
         → IsErrAnd r (IsRefusal words) ⊎ Answers words r → IsErrAnd s (IsRefusal words) ⊎ Answers words s
         → IsGiven gives out one.network (option_and_then binding_of (result_ok r)) o
         → IsGiven gives' out' other.network (option_and_then binding_of (result_ok s)) o'
         → OursEnds r → TheirsEnds s → Alike
-    compared (Err f) (Err g) is is' p q given given' r s = elim (memory_or_not f) [
-      | inl lacks ↦ lacks_here f lacks r given
-      | inr memory ↦ elim (memory_or_not g) [
-        | inl lacks ↦ lacks_there g lacks s given'
-        | inr memory' ↦ elim p [
-          | inl refused ↦ both_refused f g r s given given' (inr (
-            subst (λ (x : Result Job UsageFault). IsErrAnd x (IsRefusal words)) (sym is) refused,
-            subst (λ (x : Result Job UsageFault). IsErrAnd x (IsRefusal words)) (sym is')
-                (taken (Err g) f memory refused q),
-          ))
-          | inr answers ↦ elim q [
-            | inl refused ↦ absurd (not_refused words g memory' refused answers.taken)
-            | inr answers' ↦
-                let result = one_answer words (Err f) (Err g) answers answers' in
-                let fault : f ≡ g = cc in
-                both_refused f g r s given given'
-                (inl (report_here f r ∙ ap (λ (f : UsageFault). report_of (faults.Usage f)) fault
-                ∙ sym (report_there g s)))
-          ]
-        ]
-      ]
-    ]
-    compared (Err f) (Ok k) is is' p q given given' r s = elim (memory_or_not f) [
-      | inl lacks ↦ lacks_here f lacks r given
-      | inr memory ↦ elim p [
-        | inl refused ↦ absurd (taken (Ok k) f memory refused q)
-        | inr answers ↦ elim q [
-          | inl refused ↦ absurd refused
-          | inr answers' ↦ let result = one_answer words (Err f) (Ok k) answers answers' in cc
-        ]
-      ]
-    ]
-    compared (Ok j) (Err g) is is' p q given given' r s = elim (memory_or_not g) [
-      | inl lacks ↦ lacks_there g lacks s given'
-      | inr memory ↦ elim q [
-        | inl refused ↦ absurd (taken (Ok j) g memory refused p)
-        | inr answers' ↦ elim p [
-          | inl refused ↦ absurd refused
-          | inr answers ↦ let result = one_answer words (Ok j) (Err g) answers answers' in cc
-        ]
-      ]
-    ]
-    compared (Ok j) (Ok k) is is' p q given given' r s = elim p [
-      | inl refused ↦ absurd refused
-      | inr answers ↦ elim q [
-        | inl refused ↦ absurd refused
-        | inr answers' ↦
-            let result = one_answer words (Ok j) (Ok k) answers answers' in
-            let job : k ≡ j = cc in
-            jobs j o one.ran.socket o' other.ran.socket given
-            (subst (λ (j : Job). IsGiven gives' out' other.network (binding_of j) o') job given') r
-            (subst (λ (j : Job). Theirs j o' other.ran.socket) job s) gains gains' e
-      ]
-    ]
+    compared r s is _ (inr answers) (inr answers') given given' ends ends' =
+        let same : s ≡ r = one_answer words s r answers' answers in
+        answered r given (rw same at given') ends (rw same at ends')
+    compared (Err f) _ is _ (inl refused) (inr answers) given _ r s =
+        lacks_here f (not_refused words f refused answers.taken) r given
+    compared _ (Err g) is _ (inr answers) (inl refused) _ given' r s =
+        lacks_there g (not_refused words g refused answers.taken) s given'
+    compared (Err f) (Err g) is is' (inl refused) (inl refused') given given' r s =
+        both_refused f g r s given given' (inr (rw is refused, rw is' refused'))
+    compared (Ok j) _ is _ (inl refused) q _ _ r s = absurd refused
+    compared _ (Ok k) is _ p (inl refused) _ _ r s = absurd refused
 
   pub runs_alike : AreAlike one other first rest first' rest'
   runs_alike =

@@ -1,19 +1,15 @@
 -- A tick, and what a client keeps through each call.
-use Rattle.std.proofs.Common.{◌≡◌, ℕ, max, ◌<◌, ◌≤◌, List, Bool, All, ap, subst, arith, [], ◌∷◌, length, map, Option}
-use Rattle.std.proofs.Common.{Some, None, not, if◌then◌else◌, refl, sym, ◌∙◌}
-use Rattle.std.specs.List.{filter, flat_map, slice_get}
-use Rattle.std.proofs.lemmas.List.Elements.{All-filter, All-weaker}
-use Rattle.bac_tsm.specs.declared.due.Entry.{Entry}
-use Rattle.bac_tsm.specs.Events.{Rules, Request, Outcome}
-use Rattle.bac_tsm.specs.Machine.{Waiting, due_answer, kept, tick, Delivered, deliver, datagram}
+use Rattle.std.proofs.Common.{◌≡◌, ℕ, max, ◌<◌, ◌≤◌, List, Bool, All, ap, arith, [], ◌∷◌, length, map, Option, Some}
+use Rattle.std.proofs.Common.{None, not, if◌then◌else◌, refl, sym, ◌∙◌}
+use Rattle.std.specs.{List.filter, List.flat_map, List.slice_get, Option.option_map, Option.option_to_list}
+use Rattle.std.proofs.lemmas.List.{Elements.All-filter, Elements.All-weaker, nil_from_length}
+use Rattle.bac_tsm.specs.{declared.due.Entry.Entry, Events.Rules, Events.Request, Events.Outcome, Inner.Client.IsTimely}
+use Rattle.bac_tsm.specs.{Inner.Waiting.ticket_in}
+use Rattle.bac_tsm.specs.Machine.{Waiting, due_answer, kept, tick, deliver, datagram}
 use Rattle.bac_tsm.specs.Client.{Client, client_rules, rules_of, keeping}
-use Rattle.bac_tsm.specs.Inner.Client.{IsTimely}
 use Rattle.bac_tsm.proofs.CallNotes.{kept_of_all}
-use Rattle.std.specs.Option.{option_map, option_to_list}
-use Rattle.std.proofs.lemmas.List.{nil_from_length}
 use Rattle.bac_pdu.specs.Peer.{Station}
 use Rattle.bac_tsm.specs.Answers.{Answer, answer_in_datagram, outcome_of, is_answer_to}
-use Rattle.bac_tsm.specs.Inner.Waiting.{ticket_in}
 
 -- A client with this table, as its callers see it.
 abbrev seen_as : ℕ → ℕ → ℕ → ℕ → ℕ → List Waiting → Client
@@ -75,12 +71,7 @@ module _ (p : Request → Bool) (o : Outcome) (f : Request → Option Outcome)
       }
   delivers_one [] h = refl
   delivers_one (w ∷ ws) h =
-      grind (
-        arith,
-        delivers_one ws,
-        delivers_none ws,
-        nil_from_length (filter (λ w. p w.request) ws),
-      )
+      grind (arith, delivers_one ws, delivers_none ws, nil_from_length (filter (λ w. p w.request) ws))
 
 -- A datagram that carries no answer changes nothing.
 delivers_nothing : (f : Request → Option Outcome) → ((r : Request) → f r ≡ None) → (ws : List Waiting) →
@@ -102,13 +93,11 @@ delivers_by : (client : Client) (peer : Station) (bytes : List ℕ) (answer : Op
     (waiting : List Waiting) →
     deliver (λ r. outcome_of r peer bytes) client.state.waiting ≡ record { answer = answer; waiting = waiting } →
     Delivers client peer bytes answer (with_waiting client waiting)
-delivers_by client _ _ answer waiting e =
-    (cc e, ap (with_waiting client) (cc e))
+delivers_by client _ _ answer waiting e = (cc e, ap (with_waiting client) (cc e))
 
 pub no_answer : (client : Client) (peer : Station) (bytes : List ℕ) → answer_in_datagram peer bytes ≡ None
     → Delivers client peer bytes None client
-no_answer client peer bytes e =
-    delivers_by _ _ _ _ _ (delivers_nothing _ (λ r. rw e) _)
+no_answer client peer bytes e = delivers_by _ _ _ _ _ (delivers_nothing _ (λ r. rw e) _)
 
 -- At most one request, by its ticket.
 few_of_one : (ws : List Waiting) → (ended : Option ℕ) → option_to_list ended ≡ map ticket_in ws → (outcome : Outcome) →
@@ -128,4 +117,5 @@ module _ (timeout retries clock last next : ℕ) (ws : List Waiting) (peer : Sta
   closed _ same ended after told left =
       let p = λ (w : Waiting). is_answer_to w.request answer in
       let few = few_of_one _ _ told _ in
-      rw (← same) (delivers_by _ _ _ _ _ (delivers_one _ _ _ (λ r. rw carried refl) ws few.0 ∙ (λ i. record { answer = few.1 i; waiting = sym left i })))
+      rw (← same) (delivers_by _ _ _ _ _ (delivers_one _ _ _ (λ r. rw carried refl) ws few.0
+      ∙ (λ i. record { answer = few.1 i; waiting = sym left i })))

@@ -1,22 +1,16 @@
 -- Calls of a client one after another, for a caller that reads the machine: a request that is opened, and what a tick
 -- tells once a datagram was heard.
 use Rattle.std.proofs.Common.{◌≡◌, ℕ, ◌+◌, ◌-◌, ◌%◌, ◌^◌, ◌<◌, ◌≤◌, max, false, List, [], ◌∷◌, length, map, nat_eq}
-use Rattle.std.proofs.Common.{Option, Result, Ok, refl, ◌∙◌, arith}
-use Rattle.std.specs.Prelude.{IsSome, ⊤}
-use Rattle.std.specs.List.{flat_map, list_any}
-use Rattle.std.specs.Option.{option_map_or}
+use Rattle.std.proofs.Common.{Option, Result, Ok, refl, ◌∙◌, arith, IsSome}
+use Rattle.std.specs.{Prelude.⊤, List.flat_map, List.list_any, Option.option_map_or}
 use Rattle.std.proofs.lemmas.Bool.Decides.{nat_tests}
 use Rattle.bac_pdu.specs.Peer.{Station}
-use Rattle.bac_tsm.specs.declared.due.Entry.{Entry}
-use Rattle.bac_tsm.specs.declared.client.SubmitFault.{SubmitFault}
 use Rattle.bac_pdu.specs.Apdu.{longest_body}
-use Rattle.bac_tsm.specs.Limits.{table_size}
+use Rattle.bac_tsm.specs.{declared.due.Entry.Entry, declared.client.SubmitFault.SubmitFault}
+use Rattle.bac_tsm.specs.{Limits.table_size, Lookahead.next_invoke_id, Lookahead.refusal_of, Answers.outcome_of}
+use Rattle.bac_tsm.specs.{Client.Client, Client.rules_of, Client.keeping, Inner.Waiting.number_in}
 use Rattle.bac_tsm.specs.Events.{Outcome, Request, Rules, request_of}
-use Rattle.bac_tsm.specs.Lookahead.{next_invoke_id, refusal_of}
-use Rattle.bac_tsm.specs.Answers.{outcome_of}
-use Rattle.bac_tsm.specs.Client.{Client, rules_of, keeping}
 use Rattle.bac_tsm.specs.Machine.{Waiting, State, opened, submit, deliver, datagram, due_answer, tick}
-use Rattle.bac_tsm.specs.Inner.Waiting.{number_in}
 use Rattle.bac_tsm.proofs.AnswersInWords.{by_number}
 
 -- The machine opens a request under the next ticket and the next invoke id.
@@ -72,7 +66,4 @@ pub told_unless_answered : {known client after : Client} {told : List Entry}
     → told ≡ flat_map (λ w. option_map_or (λ _. []) (outcome_of w.request from heard)
     (due_answer (rules_of known) (max now known.state.clock) w)) known.state.waiting
 told_unless_answered {known} from heard now is apart heard_so ticked =
-    rw is at (rw heard_so at ticked)
-    ∙ others _
-    (λ a b. by_number known.timeout known.retries a b _ _)
-    _ _ apart
+    rw is at (rw heard_so at ticked) ∙ others _ (λ a b. by_number known.timeout known.retries a b _ _) _ _ apart

@@ -1,24 +1,18 @@
 -- The requests at the slots of a list, where a slot or the list changes.
-use Rattle.std.proofs.Common.{◌≡◌, ℕ, zero, suc, ◌<◌, ◌≤◌, List, [], ◌∷◌, ◌++◌, length, map, take, drop, set, get_or}
-use Rattle.std.proofs.Common.{refl, ap, ap₂, sym, subst, ◌∙◌, arith, ◌+◌, Bool, true, not, nat_eq, if◌then◌else◌}
-use Rattle.std.specs.Prelude.{remove}
-use Rattle.std.proofs.lemmas.Bool.{eq-eqb, ne_eqb}
-use Rattle.std.proofs.lemmas.List.{map-append, take-map, drop-map, get_or-set_same, get_or-set_other, get_or-map}
-use Rattle.std.proofs.lemmas.List.{get_or_default, length-append}
-use Rattle.bac_tsm.specs.Machine.{Waiting}
-use Rattle.bac_tsm.specs.Table.{held_at, times_of_slot, times}
-use Rattle.bac_tsm.specs.Waiting.{nothing}
+use Rattle.std.proofs.Common.{◌≡◌, ℕ, zero, suc, ◌<◌, ◌≤◌, List, [], ◌∷◌, ◌++◌, length, map, set, get_or, refl, ap, ap₂}
+use Rattle.std.proofs.Common.{sym, subst, ◌∙◌, arith, ◌+◌, Bool, true, not, nat_eq, if◌then◌else◌, remove, eq-eqb}
+use Rattle.std.proofs.Common.{ne_eqb, get_or-set_same, get_or-set_other, length-append}
+use Rattle.std.proofs.lemmas.List.{map-append, take-map, drop-map, get_or-map, get_or_default, Sums.length-filter}
+use Rattle.std.proofs.lemmas.List.{Sums.sum_by-remove, Elements.filter-append}
+use Rattle.bac_tsm.specs.{Machine.Waiting, Table.held_at, Table.times_of_slot, Table.times, Waiting.nothing}
 use Rattle.std.specs.List.{filter}
-use Rattle.std.proofs.lemmas.List.Sums.{length-filter, sum_by-remove}
-use Rattle.std.proofs.lemmas.List.Elements.{filter-append}
 use Rattle.std.proofs.lemmas.Bool.Decides.{nat_tests}
 
 -- ---- how often a number is among those of a list's elements
 
 module _ {A : Type 0} (key : A → ℕ) where
   pub times-append : (n : ℕ) (xs ys : List A) → times key n (xs ++ ys) ≡ times key n xs + times key n ys
-  times-append n xs ys =
-      cc (filter-append _ xs ys, length-append _ _)
+  times-append n xs ys = cc (filter-append _ xs ys, length-append _ _)
 
   pub times_one : (n : ℕ) (x : A) → key x ≡ n → times key n (x ∷ []) ≡ 1
   times_one n x e = rw (eq-eqb _ n e)
@@ -41,8 +35,7 @@ module _ {A : Type 0} (key : A → ℕ) where
   pub times_got : (xs : List A) (i : ℕ) (d : A) → i < length xs → 0 < times key (key (get_or xs i d)) xs
   times_got xs i d lt =
       let e = times-remove (key (get_or xs i d)) xs i d lt in
-      let f = times_one _ (get_or xs i d) refl in
-      omega arith
+      let f = times_one _ (get_or xs i d) refl in omega arith
 
 -- A test that only elements with one key pass, of which there is at most one.
 module _ {A : Type 0} (key : A → ℕ) (p : A → Bool) (n : ℕ) (says : (x : A) → p x ≡ true → key x ≡ n) where
@@ -79,33 +72,23 @@ held-set _ _ w [] i _ lt is _ = absurd (omega arith)
 held-set slots slot w (q ∷ qs) zero there lt is once =
     grind (arith, nat_tests, get_or-set_same _ _ w nothing there, held_elsewhere slots slot w qs)
 held-set slots slot w (q ∷ qs) (suc i) there lt is once =
-    let later : 0 < times_of_slot _ qs =
+    let later : 0 < times_of_slot slot qs =
     subst (λ (k : ℕ). 0 < times_of_slot k qs) is (times_got _ qs i 0 (omega arith)) in
-    grind (
-      arith,
-      nat_tests,
-      get_or-set_other slots slot q w nothing,
-      held-set _ _ w qs i there (omega arith) is,
-    )
+    grind (arith, nat_tests, get_or-set_other slots slot q w nothing, held-set _ _ w qs i there (omega arith) is)
 
 -- A slot that is not among these is filled, and put behind them.
 pub held-push : (slots : List Waiting) (slot : ℕ) (w : Waiting) (order : List ℕ) → slot < length slots
-    → times_of_slot slot order ≡ 0 →
-    held_at (set slots slot w) (order ++ slot ∷ []) ≡ held_at slots order ++ w ∷ []
+    → times_of_slot slot order ≡ 0 → held_at (set slots slot w) (order ++ slot ∷ []) ≡ held_at slots order ++ w ∷ []
 held-push slots slot w order there none =
-    map-append _ _ _
-    ∙ ap₂ ◌++◌ (held_elsewhere _ _ w _ none)
+    map-append _ _ _ ∙ ap₂ ◌++◌ (held_elsewhere _ _ w _ none)
     (ap (λ (v : Waiting). v ∷ []) (get_or-set_same _ _ w _ there))
 
 pub map-remove : {A B : Type 0} (f : A → B) (xs : List A) (i : ℕ) → map f (remove xs i) ≡ remove (map f xs) i
-map-remove f xs i =
-    map-append f _ _
-    ∙ ap₂ ◌++◌ (sym (take-map f i xs)) (sym (drop-map f (suc i) xs))
+map-remove f xs i = map-append f _ _ ∙ ap₂ ◌++◌ (sym (take-map f i xs)) (sym (drop-map f (suc i) xs))
 
 pub held_got : (slots : List Waiting) (order : List ℕ) (i slot : ℕ) → i < length order → get_or order i 0 ≡ slot →
     get_or (held_at slots order) i nothing ≡ get_or slots slot nothing
 held_got slots order i _ lt is = cc (get_or-map _ _ i 0 _ lt, is)
 
-pub same_turn : (order : List ℕ) (i slot : ℕ) → i < length order → slot ≡ get_or order i slot
-    → slot ≡ get_or order i 0
+pub same_turn : (order : List ℕ) (i slot : ℕ) → i < length order → slot ≡ get_or order i slot → slot ≡ get_or order i 0
 same_turn order i slot lt is = is ∙ get_or_default _ i _ 0 lt

@@ -1,21 +1,14 @@
 -- A request that is due goes on, and where the first to have been sent is not due, none is.
 use Rattle.std.proofs.Common.{◌≡◌, ℕ, suc, ◌-◌, ◌<◌, ◌≤◌, List, [], ◌∷◌, ◌++◌, take, drop, length, set, get_or, Option}
-use Rattle.std.proofs.Common.{Some, None, true, false, nat_le, nat_lt, All, refl, ap, sym, subst, ◌∙◌, inl, inr, arith}
-use Rattle.std.specs.Prelude.{remove}
+use Rattle.std.proofs.Common.{Some, None, true, false, nat_le, nat_lt, All, refl, ap, sym, ◌∙◌, inl, inr, arith, remove}
 use Rattle.std.specs.List.{slice_get, list_any}
-use Rattle.std.proofs.lemmas.Bool.{cases_Bool, leb-false, false≢true}
-use Rattle.std.proofs.lemmas.Option.{slice_get_within, get_or_from_slice_get}
-use Rattle.std.proofs.lemmas.List.{length-map, get_or_default, set_split}
-use Rattle.std.proofs.lemmas.List.Folds.{list_any_at, list_any_none}
-use Rattle.std.proofs.lemmas.Bool.Decides.{nat_tests}
-use Rattle.bac_tsm.specs.Limits.{table_size}
+use Rattle.std.proofs.lemmas.{Bool.cases_Bool, Bool.false≢true, Option.slice_get_within, Option.get_or_from_slice_get}
+use Rattle.std.proofs.lemmas.List.{length-map, get_or_default, set_split, Folds.list_any_at, Folds.list_any_none}
+use Rattle.bac_tsm.specs.{Limits.table_size, Events.Rules, Waiting.nothing}
 use Rattle.bac_tsm.specs.declared.due.Entry.TheVariants.{Resend, TimedOut as Expired}
-use Rattle.bac_tsm.specs.Events.{Rules}
 use Rattle.bac_tsm.specs.Machine.{Waiting, is_due, due_entry, kept}
 use Rattle.bac_tsm.specs.Table.{held_at, times_of_slot, open_slots, IsTable, AreBySend}
-use Rattle.bac_tsm.specs.Inner.Table.{waiting_in, IsRankOf, IsPassed}
-use Rattle.bac_tsm.specs.Waiting.{nothing}
-use Rattle.bac_tsm.specs.Inner.Waiting.{ticket_in, sent_at}
+use Rattle.bac_tsm.specs.Inner.{Table.waiting_in, Table.IsRankOf, Table.IsPassed, Waiting.ticket_in, Waiting.sent_at}
 use Rattle.bac_tsm.proofs.Held.{itself, held_got, times_got}
 use Rattle.bac_tsm.proofs.TableReads.{times_split, rank, turn_lt, stands, open_below, open_read, one_turn, as_many}
 use Rattle.bac_tsm.proofs.TableReads.{count}
@@ -23,8 +16,7 @@ use Rattle.bac_tsm.proofs.TableEdits.{changed_by, all_opened, queue-again}
 
 younger : (timeout clock early late : ℕ) → nat_le timeout (clock - early) ≡ false → early ≤ late
     → nat_le timeout (clock - late) ≡ false
-younger timeout clock early _ young le =
-    grind (arith)
+younger timeout clock early _ young le = grind arith
 
 -- Where some request is due, some was sent.
 pub some_sent : {slots : List Waiting} {numbers : List (Option ℕ)} {order tickets sends : List ℕ}
@@ -32,16 +24,15 @@ pub some_sent : {slots : List Waiting} {numbers : List (Option ℕ)} {order tick
     AreBySend slots (open_slots order tickets) sends → (ws : List Waiting) → waiting_in slots order tickets ≡ ws
     → (rules : Rules) (clock : ℕ) → list_any (is_due rules clock) ws ≡ true → 0 < length sends
 some_sent t q [] _ _ _ due = absurd (false≢true due)
-some_sent t q (w ∷ ws) view _ _ due =
-    omega (arith, q.all, as_many t, count t (w ∷ ws) view)
+some_sent t q (w ∷ ws) view _ _ due = omega (arith, q.all, as_many t, count t (w ∷ ws) view)
 
 module _ (rules : Rules) (clock : ℕ) (w : Waiting) where
   is_again : (ticket : ℕ) → due_entry rules w ≡ Resend ticket → nat_lt w.count rules.retries ≡ true
-  is_again _ is = grind (arith)
+  is_again _ is = grind arith
 
   is_over : (ticket : ℕ) → due_entry rules w ≡ Expired ticket → (nat_lt w.count rules.retries ≡ false)
       × (w.request.ticket ≡ ticket)
-  is_over _ is = grind (arith)
+  is_over _ is = grind arith
 
 module _ {slots : List Waiting} {numbers : List (Option ℕ)} {order tickets sends : List ℕ}
     (t : IsTable slots numbers order tickets)
@@ -51,8 +42,7 @@ module _ {slots : List Waiting} {numbers : List (Option ℕ)} {order tickets sen
   first = (slice_get_within _ 0 _ (sym front), get_or_from_slice_get _ 0 _ 0 (sym front))
 
   some : 0 < times_of_slot slot (open_slots order tickets)
-  some =
-      omega (arith, rw first.1 at (times_got itself sends 0 0 first.0), q.same slot)
+  some = omega (arith, rw first.1 at (times_got itself sends 0 0 first.0), q.same slot)
 
   pub front_below : slot < table_size
   front_below = open_below t ws view _ some
@@ -66,7 +56,9 @@ module _ {slots : List Waiting} {numbers : List (Option ℕ)} {order tickets sen
 
     none_due : is_due rules clock w ≡ false → All (λ v. is_due rules clock v ≡ false) ws
     none_due young =
-        rw view at (all_opened q (λ v. is_due rules clock v ≡ false) (λ k e lt. younger _ _ (get_or (held_at _ sends) 0 e).base (get_or _ k e).base (rw (here e) young) (later k e lt)))
+        rw view at (all_opened q (λ v. is_due rules clock v ≡ false)
+        (λ k e lt. younger _ _ (get_or (held_at _ sends) 0 e).base (get_or _ k e).base (rw (here e) young)
+        (later k e lt)))
       where
         here : (e : Waiting) → get_or (held_at slots sends) 0 e ≡ w
         here e = get_or_default (held_at _ sends) 0 e _ (rw length-map first.0)
@@ -78,9 +70,7 @@ module _ {slots : List Waiting} {numbers : List (Option ℕ)} {order tickets sen
 
     pub some_due : is_due rules clock w ≡ list_any (is_due rules clock) ws
     some_due = elim (cases_Bool _) [
-      | inl due ↦ due ∙ sym
-          (list_any_at _ ws i _ (turn_lt t ws _ _ _)
-          (ap (is_due rules _) (sym read) ∙ due))
+      | inl due ↦ due ∙ sym (list_any_at _ ws i _ (turn_lt t ws _ _ _) (ap (is_due rules _) (sym read) ∙ due))
       | inr young ↦ cc (young, list_any_none _ ws (none_due young))
     ]
 
@@ -95,43 +85,28 @@ module _ {slots : List Waiting} {numbers : List (Option ℕ)} {order tickets sen
       pub sent_again : All (λ v. v.base ≤ clock) ws → (ticket : ℕ) → due_entry rules w ≡ Resend ticket
           → (changed : List Waiting) (rest after : List ℕ) →
           changed ≡ set slots slot (sent_at clock (get_or slots slot nothing)) → rest ≡ remove sends 0
-          → after ≡ rest ++ slot ∷ [] →
-          IsPassed rules clock ws (due_entry rules w) (waiting_in changed order tickets)
+          → after ≡ rest ++ slot ∷ [] → IsPassed rules clock ws (due_entry rules w) (waiting_in changed order tickets)
           × IsTable changed numbers order tickets × AreBySend changed (open_slots order tickets) after
       sent_again past ticket again _ rest _ is out back =
           let v = sent_at clock (get_or slots slot _) in
           let lt = turn_lt t ws view slot some in
           let moved = changed_by t ws view i lt slot (stands t ws view slot some) v refl in
           let kept_now : v ∷ [] ≡ kept rules clock (get_or ws i nothing) =
-          rw (
-            due_there,
-            ap (λ u. nat_lt u.count rules.retries) (sym read)
-                ∙ is_again rules clock w _ again,
-          )
+          rw (due_there, ap (λ u. nat_lt u.count rules.retries) (sym read) ∙ is_again rules clock w _ again)
           (cc (open_read t ws view slot some)) in
           rw (is, back) (
-            (
-              i,
-              lt,
-              due_there,
-              ap (due_entry rules) read,
-              cc (moved.0, set_split ws i v lt, kept_now),
-            ),
+            (i, lt, due_there, ap (due_entry rules) read, cc (moved.0, set_split ws i v lt, kept_now)),
             moved.1,
-            queue-again q slot rest (0, first.0, first.1, out) v
-                (omega (arith, t.all_slots, front_below))
-                (omega (arith, times_split t slot (length tickets)))
-                (rw view past),
+            queue-again q slot rest (0, first.0, first.1, out) v (omega (arith, t.all_slots, front_below))
+                (omega (arith, times_split t slot (length tickets))) (rw view past),
           )
 
       pub ended : (ticket j : ℕ) → due_entry rules w ≡ Expired ticket → IsRankOf ticket ws (Some j)
-          → (after : List Waiting) → after ≡ remove ws j →
-          IsPassed rules clock ws (Expired ticket) after
+          → (after : List Waiting) → after ≡ remove ws j → IsPassed rules clock ws (Expired ticket) after
       ended ticket j over its _ to =
           let gone = is_over rules clock w _ over in
-          let same_turn =
-          one_turn t ws view j i its.0 (turn_lt t ws _ _ _) (cc (its.1, gone.1, read)) in
-          let none : kept rules _ _ ≡ [] =
+          let same_turn = one_turn t ws view j i its.0 (turn_lt t ws _ _ _) (cc (its.1, gone.1, read)) in
+          let none : kept rules clock (get_or ws i nothing) ≡ [] =
           rw (due_there, ap (λ u. nat_lt u.count rules.retries) (sym read) ∙ gone.0) in (
             i,
             turn_lt t ws _ _ _,

@@ -1,13 +1,10 @@
 -- A request that waits is due, and ends, as timeouts pass; and how far the clock comes meanwhile.
 use Rattle.std.proofs.Common.{◌≡◌, ℕ, zero, suc, ◌+◌, ◌-◌, ◌*◌, ◌<◌, ◌≤◌, Bool, true, false, List, [], ◌∷◌, length}
-use Rattle.std.proofs.Common.{Option, Some, None, IsSomeAnd, subst, arith, refl, ◌∙◌, sym, inl, inr}
-use Rattle.std.proofs.Math.Nat.{mul-le-mul_right}
-use Rattle.std.proofs.lemmas.Bool.{cases_Bool, cases_lt}
-use Rattle.std.proofs.lemmas.Bool.Decides.{nat_tests}
+use Rattle.std.proofs.Common.{Option, Some, None, IsSomeAnd, arith, refl, ◌∙◌, sym, inl, inr}
+use Rattle.std.proofs.{Math.Nat.mul-le-mul_right, lemmas.Bool.cases_Bool, lemmas.Bool.cases_lt}
 use Rattle.std.proofs.lemmas.Option.{none-some, same_Some, slice_get_past}
-use Rattle.bac_tsm.specs.Events.{Event, Rules}
-use Rattle.bac_tsm.specs.Lookahead.{first_within, first_after, clock, has_waited, due, Accepted, end}
-use Rattle.bac_tsm.specs.Progress.{last_of, TimeoutsPass}
+use Rattle.bac_tsm.specs.{Events.Event, Events.Rules, Progress.last_of, Progress.TimeoutsPass}
+use Rattle.bac_tsm.specs.Lookahead.{first_within, clock, has_waited, due, Accepted, end}
 use Rattle.bac_tsm.proofs.RequestLife.{step_back, due_next, first_after_from, first_least, none_within}
 use Rattle.bac_tsm.proofs.Turns.{clock_quiet}
 
@@ -38,7 +35,10 @@ module _ (rules : Rules) (events : List Event) where
       IsSomeAnd (due rules events a (suc k)) (λ e. e ≤ j)
   due_again a k d i j is le lt waited =
       let within = waited_within i j waited in
-      rw (due_next rules _ a k d is) (found_by _ _ (length events - suc d) j (omega arith) (omega arith) (grind (arith, clock_rises events (suc d) (suc i) (omega arith))))
+      rw (due_next rules _ a k d is) (found_by _ _ (length events - suc d) j (omega arith) (omega arith) (grind (
+        arith,
+        clock_rises events (suc d) (suc i) (omega arith),
+      )))
 
   pub due_in_turn : (a k n d i : ℕ) (ticks : List ℕ) → n ≡ k + length ticks → due rules events a k ≡ Some d → d ≤ i →
       TimeoutsPass rules events i ticks → IsSomeAnd (due rules events a n) (λ e. e ≤ last_of i ticks)
@@ -49,7 +49,7 @@ module _ (rules : Rules) (events : List Event) where
 
   pub ends_in_turn : (a : Accepted) (m : ℕ) → IsSomeAnd (due rules events a.position (suc rules.retries)) (λ j. j ≤ m) →
       IsSomeAnd (end rules events a) (λ e. e.position ≤ m)
-  ends_in_turn a m late = grind (arith)
+  ends_in_turn a m late = grind arith
 
   -- As long as no tick has come a timeout after position p, the clock is within a timeout of it.
   quiet_until : (p n : ℕ) → p < n → ((j : ℕ) → p < j → j < n → has_waited rules events p j ≡ false) →
@@ -57,8 +57,7 @@ module _ (rules : Rules) (events : List Event) where
   quiet_until p zero lt _ = absurd (omega arith)
   quiet_until p (suc n) lt none = elim (cases_lt p n) [
     | inl below ↦
-        let before =
-        quiet_until p n below (λ j low high. none j low (omega arith)) in
+        let before = quiet_until p n below (λ j low high. none j low (omega arith)) in
         let not_yet = none n below (omega arith) in
         grind (arith, clock_quiet events n)
     | inr above ↦ let same : n ≡ p = omega arith in rw same (omega arith)
@@ -73,10 +72,8 @@ module _ (rules : Rules) (events : List Event) where
       let back = step_back _ (due rules events a k) j is in
       let before = due_soon a d steady k back.0 back.1 in
       let behind : back.0 < j = (first_after_from events _ back.0 j back.2).0 in
-      let until =
-      quiet_until back.0 j behind
-      (λ m low high. first_least _ (suc back.0) (length events - suc back.0) j m back.2
-      (omega arith) high) in
+      let until = quiet_until back.0 j behind
+      (λ m low high. first_least _ (suc back.0) (length events - suc back.0) j m back.2 (omega arith) high) in
       (omega (arith, before.0), omega (arith, before.1))
 
   -- The last time due, where a later one is missing.
@@ -87,7 +84,7 @@ module _ (rules : Rules) (events : List Event) where
   last_due a zero none = absurd (none-some a (sym none))
   last_due a (suc k) none = from _ refl (last_due a k) where
     from : (o : Option ℕ) → due rules events a k ≡ o → (due rules events a k ≡ None → LastDue a k) → LastDue a (suc k)
-    from None is earlier = let l = earlier is in (l.0, l.1, omega (arith), l.3, l.4)
+    from None is earlier = let l = earlier is in (l.0, l.1, omega arith, l.3, l.4)
     from (Some j) is _ = (k, j, omega arith, is, none)
 
   -- A request that is not due once more than r times has waited no longer than this.
@@ -97,17 +94,26 @@ module _ (rules : Rules) (events : List Event) where
   open_soon a d r n steady none =
       let last = last_due a (suc r) none in
       let soon = due_soon a d steady last.0 _ last.3 in
-      let over =
-      sym (due_next rules _ a last.0 _ last.3) ∙ last.4 in
-      let few : last.0 * _ ≤ r * _ =
-      mul-le-mul_right (rules.timeout + d) (omega (arith)) in
+      let over = sym (due_next rules _ a last.0 _ last.3) ∙ last.4 in
+      let few : last.0 * (rules.timeout + d) ≤ r * (rules.timeout + d) = mul-le-mul_right (rules.timeout + d)
+      (omega arith) in
       elim (cases_lt _ n) [
         | inl behind ↦
-            omega (arith, soon.1, few, quiet_until last.1 n behind (λ m low high. elim (cases_Bool (has_waited rules events last.1 m)) [ inr not_yet ↦ not_yet | inl enough ↦ let within = waited_within last.1 m enough in none_within (has_waited rules events last.1) (suc last.1) (length events - suc last.1) m over (omega arith) (omega arith) ]))
-        | inr before ↦
-            omega (arith, soon.1, few, clock_rises events n (suc last.1) (omega arith))
+            omega (
+              arith,
+              soon.1,
+              few,
+              quiet_until last.1 n behind
+                  (λ m low high. elim (cases_Bool (has_waited rules events last.1 m)) [
+                    | inr not_yet ↦ not_yet
+                    | inl enough ↦ let within = waited_within last.1 m enough in none_within
+                        (has_waited rules events last.1) (suc last.1) (length events - suc last.1) m over (omega arith)
+                        (omega arith)
+                  ]),
+            )
+        | inr before ↦ omega (arith, soon.1, few, clock_rises events n (suc last.1) (omega arith))
       ]
 
   -- A request without an end is not due once more than the retries.
   pub never_due : (a : Accepted) → end rules events a ≡ None → due rules events a.position (suc rules.retries) ≡ None
-  never_due a e = grind (arith)
+  never_due a e = grind arith

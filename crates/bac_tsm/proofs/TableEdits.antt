@@ -1,26 +1,15 @@
 -- The table of open requests, and their slots in the order of their last sends, through each edit.
 use Rattle.std.proofs.Common.{◌≡◌, ℕ, suc, ◌+◌, ◌<◌, ◌≤◌, List, [], ◌∷◌, ◌++◌, length, map, take, set, get_or}
-use Rattle.std.proofs.Common.{replicate, Option, Some, None, All, refl, ap, sym, subst, ◌∙◌, arith}
-use Rattle.std.specs.Prelude.{remove}
-use Rattle.std.proofs.lemmas.Bool.{cases_eq}
-use Rattle.std.proofs.lemmas.List.{length-append, get_or-replicate, length-map, length-set}
-use Rattle.std.proofs.lemmas.List.{length-take, map-append, take_at, take-append-drop, append_assoc, get_or-set_same}
-use Rattle.std.proofs.lemmas.List.{get_or-set_other, get_or-map}
-use Rattle.std.proofs.lemmas.Simd.{map-map}
-use Rattle.std.proofs.lemmas.List.Edits.{length-remove, remove-append_left}
-use Rattle.std.proofs.lemmas.List.Quantifiers.{all_pairs_push, all_pairs_remove}
-use Rattle.std.proofs.lemmas.Grind.{take_at_read}
-use Rattle.std.proofs.lemmas.Bool.Decides.{nat_tests}
-use Rattle.bac_tsm.specs.Limits.{table_size}
-use Rattle.bac_tsm.specs.declared.request.Asked.{Asked}
-use Rattle.bac_tsm.specs.Events.{Request}
-use Rattle.bac_tsm.specs.Machine.{Waiting}
-use Rattle.bac_tsm.specs.Table.{times, held_at, times_of_slot, open_slots, Names, AreNamed}
-use Rattle.bac_tsm.specs.Inner.Table.{number_at, waiting_in}
-use Rattle.bac_tsm.specs.Table.{IsTable, AreBySend}
-use Rattle.bac_tsm.specs.Inner.Table.{IsTakenOut}
-use Rattle.bac_tsm.specs.Waiting.{nothing}
-use Rattle.bac_tsm.specs.Inner.Waiting.{ticket_in, number_in, begun}
+use Rattle.std.proofs.Common.{replicate, Option, Some, None, All, refl, ap, sym, subst, ◌∙◌, arith, remove}
+use Rattle.std.proofs.Common.{length-append, length-set, length-take, take_at, take-append-drop, append_assoc}
+use Rattle.std.proofs.Common.{get_or-set_same, get_or-set_other}
+use Rattle.std.proofs.lemmas.{Simd.map-map, List.Edits.length-remove, List.Edits.remove-append_left}
+use Rattle.std.proofs.lemmas.{List.Quantifiers.all_pairs_push, List.Quantifiers.all_pairs_remove, Grind.take_at_read}
+use Rattle.std.proofs.lemmas.List.{get_or-replicate, length-map, map-append, get_or-map}
+use Rattle.bac_tsm.specs.{Limits.table_size, declared.request.Asked.Asked, Machine.Waiting, Inner.Table.number_at}
+use Rattle.bac_tsm.specs.{Inner.Table.waiting_in, Inner.Table.IsTakenOut, Waiting.nothing, Inner.Waiting.number_in}
+use Rattle.bac_tsm.specs.{Inner.Waiting.begun}
+use Rattle.bac_tsm.specs.Table.{times, held_at, times_of_slot, open_slots, Names, AreNamed, IsTable, AreBySend}
 use Rattle.bac_tsm.proofs.Held.{itself, held-set, held-push, map-remove, held_got, same_turn, times-append, times_one}
 use Rattle.bac_tsm.proofs.Held.{times_other, times-remove, times_got}
 use Rattle.bac_tsm.proofs.TableReads.{times_split, few, read_listed, count, rank_within, turn_opened, here, ticket_got}
@@ -36,12 +25,10 @@ IsEarlier early late = early.base ≤ late.base
 all_among : (P : Waiting → Type 0) (slots : List Waiting) (xs ys : List ℕ)
     → ((slot : ℕ) → 0 < times_of_slot slot xs → 0 < times_of_slot slot ys) →
     All P (held_at slots ys) → All P (held_at slots xs)
-all_among P slots xs ys among all = λ k d lt.
-    let read = λ (slot : ℕ). get_or slots _ _ in
+all_among P slots xs ys among all = λ k d lt. let read = λ (slot : ℕ). get_or slots slot _ in
     let within = rw length-map at lt in
     let there = found_at _ ys (among _ (times_got _ xs k 0 within)) in
-    subst P
-    (get_or-map _ ys _ 0 d there.1.within ∙ ap read there.1.there ∙ sym (get_or-map read xs k 0 d within))
+    subst P (get_or-map _ ys _ 0 d there.1.within ∙ ap read there.1.there ∙ sym (get_or-map read xs k 0 d within))
     (all _ d (rw length-map there.1.within))
 
 -- A slot is put behind others, with a request that was sent last.
@@ -55,10 +42,8 @@ queue-push _ rest _ slot w there long same once by_send late = record {
   all = grind (arith, length-append);
   same = λ p. times-append _ p _ _ ∙ same p;
   by_send =
-      subst (AllPairs IsEarlier)
-      (sym (held-push _ _ w _ there
-      (omega (arith, same slot, times_one itself slot slot refl))))
-      (all_pairs_push IsEarlier _ w by_send late);
+      subst (AllPairs IsEarlier) (sym (held-push _ _ w _ there
+      (omega (arith, same slot, times_one itself slot slot refl)))) (all_pairs_push IsEarlier _ w by_send late);
 }
 
 module _ {slots : List Waiting} {opened sends : List ℕ} (q : AreBySend slots opened sends) where
@@ -72,15 +57,19 @@ module _ {slots : List Waiting} {opened sends : List ℕ} (q : AreBySend slots o
   module _ (slot : ℕ) (rest : List ℕ) (out : IsTakenOut slot sends rest) where
     times_out : (p : ℕ) → times_of_slot p rest + times_of_slot p (slot ∷ []) ≡ times_of_slot p sends
     times_out p =
-        omega (arith, times-remove itself p _ _ 0 out.1, ap (λ (k : ℕ). times_of_slot p (k ∷ [])) out.2, ap (times_of_slot p) out.3)
+        omega (
+          arith,
+          times-remove itself p _ _ 0 out.1,
+          ap (λ (k : ℕ). times_of_slot p (k ∷ [])) out.2,
+          ap (times_of_slot p) out.3,
+        )
 
     length_out : length rest + 1 ≡ length sends
     length_out = grind (arith, length-remove)
 
     by_send_out : AllPairs IsEarlier (held_at slots rest)
     by_send_out =
-        subst (AllPairs IsEarlier)
-        (cc (out.3, map-remove _ _ _))
+        subst (AllPairs IsEarlier) (cc (out.3, map-remove _ _ _))
         (all_pairs_remove IsEarlier _ out.0 (rw length-map out.1) q.by_send)
 
     -- A request ends.
@@ -95,8 +84,7 @@ module _ {slots : List Waiting} {opened sends : List ℕ} (q : AreBySend slots o
 
     -- A request is sent again.
     pub queue-again : (w : Waiting) → slot < length slots → times_of_slot slot opened ≤ 1
-        → All (λ v. v.base ≤ w.base) (held_at slots opened) →
-        AreBySend (set slots slot w) opened (rest ++ slot ∷ [])
+        → All (λ v. v.base ≤ w.base) (held_at slots opened) → AreBySend (set slots slot w) opened (rest ++ slot ∷ [])
     queue-again w there once late =
         queue-push _ _ _ _ w there (length_out ∙ q.all) (λ p. times_out p ∙ q.same p) once by_send_out
         (all_among (λ v. v.base ≤ w.base) _ _ _ (λ p some. omega (arith, times_out p))
@@ -105,26 +93,22 @@ module _ {slots : List Waiting} {opened sends : List ℕ} (q : AreBySend slots o
 -- None are open at first.
 pub empty_queue : (slots : List Waiting) (order tickets sends : List ℕ) → tickets ≡ [] → sends ≡ []
     → AreBySend slots (open_slots order tickets) sends
-empty_queue _ _ _ _ none unsent =
-    rw (none, unsent) (record { all = refl; same = λ slot. refl; by_send = omega arith })
+empty_queue _ _ _ _ none unsent = rw (none, unsent) (record { all = refl; same = λ slot. refl; by_send = omega arith })
 
 -- ---- the table
 
 -- An entry says what it said where as many requests have the number, and the slot that it names still holds one.
 names_as : (slots : List Waiting) (order : List ℕ) (changed : List Waiting) (after : List ℕ) (number : ℕ)
-    (entry : Option ℕ) →
-    times number_in number (held_at changed after) ≡ times number_in number (held_at slots order) →
+    (entry : Option ℕ) → times number_in number (held_at changed after) ≡ times number_in number (held_at slots order) →
     ((slot : ℕ) → 0 < times_of_slot slot order → number_at slots slot ≡ number → (0 < times_of_slot slot after)
-    × (number_at changed slot ≡ number)) →
-    Names slots order number entry → Names changed after number entry
+    × (number_at changed slot ≡ number)) → Names slots order number entry → Names changed after number entry
 names_as _ _ _ _ _ None same _ none = same ∙ none
 names_as _ _ _ _ _ (Some slot) _ still some = still _ some.0 some.1
 
 -- One entry changes.
 named_set : (slots : List Waiting) (numbers : List (Option ℕ)) (order : List ℕ) (changed : List Waiting)
     (after : List ℕ) (index : ℕ) (entry : Option ℕ) →
-    AreNamed slots numbers order → Names changed after index entry → times number_in index (held_at changed after) ≤ 1
-    →
+    AreNamed slots numbers order → Names changed after index entry → times number_in index (held_at changed after) ≤ 1 →
     ((number : ℕ) → (number ≡ index → ⊥)
     → times number_in number (held_at changed after) ≡ times number_in number (held_at slots order)) →
     ((number slot : ℕ) → (number ≡ index → ⊥) → 0 < times_of_slot slot order → number_at slots slot ≡ number →
@@ -151,11 +135,7 @@ take_removed xs ys i n le lt =
     let long : length front ≡ suc n = rw length-take (omega arith) in
     let count = length-remove front i (omega arith) in
     ap (λ all. take n (remove all i ++ ys)) (sym (take-append-drop (suc n) xs))
-    ∙ rw (
-      remove-append_left front _ i (omega arith),
-      append_assoc _ _ ys,
-    )
-    (take_at _ _ n (omega arith))
+    ∙ rw (remove-append_left front _ i (omega arith), append_assoc _ _ ys) (take_at _ _ n (omega arith))
 
 module _ {slots : List Waiting} {numbers : List (Option ℕ)} {order tickets : List ℕ}
     (t : IsTable slots numbers order tickets)
@@ -177,8 +157,7 @@ module _ {slots : List Waiting} {numbers : List (Option ℕ)} {order tickets : L
       numbered = record {
         all_numbers = t.numbered.all_numbers;
         apart = λ number. let e = still number in omega arith;
-        named = λ number below.
-            names_as _ _ _ _ _ _ (still _)
+        named = λ number below. names_as _ _ _ _ _ _ (still _)
             (λ other some has. (some, same_number _ ∙ has)) (t.numbered.named _ below);
       };
       ticketed = map-map _ _ _ ∙ ap (λ f. map f opens) (λ j other. (same_request other j).ticket)
@@ -197,19 +176,14 @@ module _ {slots : List Waiting} {numbers : List (Option ℕ)} {order tickets : L
       same_request : (other : ℕ)
           → (get_or (set slots slot w) other nothing).request ≡ (get_or slots other nothing).request
       same_request other =
-          grind (
-            arith,
-            get_or-set_same _ _ w nothing listed,
-            get_or-set_other slots slot other w nothing,
-          )
+          grind (arith, get_or-set_same _ _ w nothing listed, get_or-set_other slots slot other w nothing)
 
       same_number : (other : ℕ) → number_at (set slots slot w) other ≡ number_at slots other
       same_number other = cc (same_request _)
 
       still : (number : ℕ)
           → times number_in number (held_at (set slots slot w) opens) ≡ times number_in number (held_at slots opens)
-      still number = same_times _ _
-          _ _ same_number
+      still number = same_times _ _ _ _ same_number
 
   -- The first free slot is opened, under a number that no open request has, and the greatest ticket.
   module _ (slot : ℕ) (w : Waiting) (is : slot ≡ get_or order (length tickets) 0)
@@ -222,11 +196,9 @@ module _ {slots : List Waiting} {numbers : List (Option ℕ)} {order tickets : L
       closed : times_of_slot slot opens ≡ 0
       closed =
           let e = times_split t slot (length tickets + 1) in
-          let f = ap (times_of_slot slot)
-          ((take_at_read _ _ 0 room).1 ∙ ap (λ q. opens ++ q ∷ []) (sym is)) in
+          let f = ap (times_of_slot slot) ((take_at_read _ _ 0 room).1 ∙ ap (λ q. opens ++ q ∷ []) (sym is)) in
           let g = times-append itself slot opens (slot ∷ []) in
-          let one = times_one itself _ slot refl in
-          omega arith
+          let one = times_one itself _ slot refl in omega arith
 
       there : slot < length slots
       there = read_listed t _ _ room (sym is)
@@ -242,9 +214,23 @@ module _ {slots : List Waiting} {numbers : List (Option ℕ)} {order tickets : L
         within = t.within;
         once = t.once;
         numbered =
-            rw grown (named_set _ _ _ _ _ _ _ t.numbered (more _ (omega (arith, times_one itself slot slot refl)), ap number_in (get_or-set_same _ _ w _ there)) (omega (arith, held w.request.number, times_one number_in _ w refl, ap (times number_in w.request.number) view)) (λ number other. omega (arith, held number, times_other number_in _ w (λ q. other (sym q)))) (λ number q other some has. (more q (omega arith), ap number_in (get_or-set_other slots _ q w _ (elsewhere q some)) ∙ has)));
-        ticketed =
-            ap (map _) (ap (held_at _) grown ∙ opened_view) ∙ (cc (map-append _ _ _, t.ticketed));
+            rw grown (named_set _ _ _ _ _ _ _ t.numbered (
+              more _ (omega (arith, times_one itself slot slot refl)),
+              ap
+                  number_in (get_or-set_same _ _ w _ there),
+            ) (omega (
+              arith,
+              held w.request.number,
+              times_one number_in _ w refl,
+              ap (times number_in w.request.number)
+                  view,
+            )) (λ number other. omega (arith, held number, times_other number_in _ w (λ q. other (sym q))))
+            (λ number q other some has. (
+              more q (omega arith),
+              ap number_in
+                  (get_or-set_other slots _ q w _ (elsewhere q some)) ∙ has,
+            )));
+        ticketed = ap (map _) (ap (held_at _) grown ∙ opened_view) ∙ (cc (map-append _ _ _, t.ticketed));
         rise = all_pairs_push (λ early late. early < late) _ _ t.rise
             (λ k d lt. let rank : k < length ws = omega (arith, count t ws view) in
             let e = ticket_got t ws view k rank nothing d in
@@ -260,16 +246,12 @@ module _ {slots : List Waiting} {numbers : List (Option ℕ)} {order tickets : L
           more q some = omega (arith, times-append itself q opens (slot ∷ []))
 
           elsewhere : (q : ℕ) → 0 < times_of_slot q opens → q ≡ slot → ⊥
-          elsewhere q some e =
-              let none = subst (λ k. times_of_slot k opens ≡ 0) (sym e) closed in
-              absurd (omega arith)
+          elsewhere q some e = let none = subst (λ k. times_of_slot k opens ≡ 0) (sym e) closed in absurd (omega arith)
 
       queued : (sends : List ℕ) → AreBySend slots opens sends → All (λ v. v.base ≤ w.base) ws →
           AreBySend (set slots slot w) (open_slots order (tickets ++ w.request.ticket ∷ [])) (sends ++ slot ∷ [])
       queued sends q late =
-          rw grown
-          (queue-push _ _ _ _ w there
-          (omega (arith, length-append opens (slot ∷ []), q.all))
+          rw grown (queue-push _ _ _ _ w there (omega (arith, length-append opens (slot ∷ []), q.all))
           (λ p. let e = times-append itself p opens (slot ∷ []) in omega arith)
           (omega (arith, times-append itself slot opens (slot ∷ []), times_one itself slot slot refl, closed))
           q.by_send (all_sent q (λ v. v.base ≤ w.base) (rw view late)))
@@ -288,11 +270,10 @@ module _ {slots : List Waiting} {numbers : List (Option ℕ)} {order tickets : L
   opened_by sends q room items are n is asked body unused latest past _ _ _ _ has made to too =
       let new = begun _ _ in
       let slot = get_or items n 0 in
-      let here : slot ≡ get_or order _ 0 = cc in
-      let fits : length _ < length _ = grind (arith, count) in
+      let here : slot ≡ get_or order (length tickets) 0 = cc in
+      let fits : length tickets < length order = grind (arith, count) in
       rw (has, made, to, too) (
-        ap (held_at _) (grown _ new here fits unused latest)
-            ∙ opened_view _ new here fits unused latest
+        ap (held_at _) (grown _ new here fits unused latest) ∙ opened_view _ new here fits unused latest
             ∙ ap (λ vs. vs ++ new ∷ []) view,
         opened _ new here fits unused latest,
         queued _ new here fits unused latest _ q past,
@@ -307,9 +288,8 @@ module _ {slots : List Waiting} {numbers : List (Option ℕ)} {order tickets : L
     shrunk : open_slots (remove order i ++ slot ∷ []) (remove tickets i) ≡ remove opens i
     shrunk =
         let e = length-remove _ i within_tickets in
-        let n : length _ ≡ suc _ = omega arith in
-        take_removed _ _ i _ (omega (arith, within_tickets))
-        (omega (arith, few t))
+        let n : length tickets ≡ suc (length (remove tickets i)) = omega arith in
+        take_removed _ _ i _ (omega (arith, within_tickets)) (omega (arith, few t))
         ∙ ap (λ k. remove (take k order) i) (sym n)
 
     rank : i < length opens
@@ -323,16 +303,25 @@ module _ {slots : List Waiting} {numbers : List (Option ℕ)} {order tickets : L
 
     moved : (q : ℕ) → times_of_slot q (remove order i ++ slot ∷ []) ≡ times_of_slot q order
     moved q =
-        omega (arith, times-append itself q (remove order i) (slot ∷ []), times-remove itself q _ i 0 within_order, ap (λ (k : ℕ). times_of_slot q (k ∷ [])) is)
+        omega (
+          arith,
+          times-append itself q (remove order i) (slot ∷ []),
+          times-remove itself q _ i 0 within_order,
+          ap (λ (k : ℕ). times_of_slot q (k ∷ [])) is,
+        )
 
     gone : (q : ℕ) → times_of_slot q (remove opens i) + times_of_slot q (slot ∷ []) ≡ times_of_slot q opens
-    gone q =
-        omega (arith, times-remove itself q _ i 0 rank, ap (λ (k : ℕ). times_of_slot q (k ∷ [])) at_rank)
+    gone q = omega (arith, times-remove itself q _ i 0 rank, ap (λ (k : ℕ). times_of_slot q (k ∷ [])) at_rank)
 
     left : (n : ℕ) → times number_in n (held_at slots (remove opens i))
         + times number_in n (get_or slots slot nothing ∷ []) ≡ times number_in n (held_at slots opens)
     left n =
-        omega (arith, times-remove number_in n (held_at slots opens) i nothing (rw length-map rank), ap (times number_in n) (map-remove (λ q. get_or slots q nothing) opens i), ap (λ (v : Waiting). times number_in n (v ∷ [])) (held_got slots _ i slot rank at_rank))
+        omega (
+          arith,
+          times-remove number_in n (held_at slots opens) i nothing (rw length-map rank),
+          ap (times number_in n) (map-remove (λ q. get_or slots q nothing) opens i),
+          ap (λ (v : Waiting). times number_in n (v ∷ [])) (held_got slots _ i slot rank at_rank),
+        )
 
     ended : IsTable slots (set numbers number None) (remove order i ++ slot ∷ []) (remove tickets i)
     ended = record {
@@ -342,26 +331,25 @@ module _ {slots : List Waiting} {numbers : List (Option ℕ)} {order tickets : L
       within = λ q le. moved q ∙ t.within q le;
       once = grind (arith, moved);
       numbered =
-          rw shrunk (named_set _ _ _ _ _ _ _ t.numbered (let e = left number in let one = times_one number_in _ (get_or slots _ _) (sym has) in omega arith) (let e = left number in omega arith) (λ n other. omega (arith, left n, times_other number_in n (get_or slots slot _) (λ q. other (sym q ∙ sym has)))) (λ n q other some its. (grind (arith, gone), its)));
-      ticketed =
-          (cc (shrunk, map-remove _ _ i, map-remove _ _ i)) ∙ ap (λ ts. remove ts i) t.ticketed;
+          rw shrunk (named_set _ _ _ _ _ _ _ t.numbered (let e = left number in let one = times_one number_in _
+          (get_or slots _ _) (sym has) in omega arith) (let e = left number in omega arith) (λ n other. omega (
+            arith,
+            left n,
+            times_other number_in n (get_or slots slot _) (λ q. other (sym q ∙ sym has)),
+          )) (λ n q other some its. (grind (arith, gone), its)));
+      ticketed = (cc (shrunk, map-remove _ _ i, map-remove _ _ i)) ∙ ap (λ ts. remove ts i) t.ticketed;
       rise = all_pairs_remove (λ early late. early < late) _ i within_tickets t.rise;
     }
 
     ended_view : waiting_in slots (remove order i ++ slot ∷ []) (remove tickets i) ≡ remove ws i
-    ended_view =
-        ap (held_at _) shrunk ∙ (cc (map-remove _ _ i, view))
+    ended_view = ap (held_at _) shrunk ∙ (cc (map-remove _ _ i, view))
 
     unqueued : (sends left : List ℕ) → AreBySend slots opens sends → IsTakenOut slot sends left →
         AreBySend slots (open_slots (remove order i ++ slot ∷ []) (remove tickets i)) left
-    unqueued _ left q out =
-        rw shrunk (queue-remove q _ _ out _ (omega (arith, length-remove _ i rank))
-        gone)
+    unqueued _ left q out = rw shrunk (queue-remove q _ _ out _ (omega (arith, length-remove _ i rank)) gone)
 
     sent : (sends : List ℕ) → AreBySend slots opens sends → 0 < times_of_slot slot sends
-    sent _ q =
-        let some = subst (λ p. 0 < times_of_slot p opens) at_rank (times_got _ _ i 0 rank) in
-        omega arith
+    sent _ q = let some = subst (λ p. 0 < times_of_slot p opens) at_rank (times_got _ _ i 0 rank) in omega arith
 
   -- As the code makes it.
   pub sent_slot : (i : ℕ) → i < length ws → (slot : ℕ) → slot ≡ get_or order i slot → (sends : List ℕ)
@@ -376,7 +364,7 @@ module _ {slots : List Waiting} {numbers : List (Option ℕ)} {order tickets : L
       × AreBySend slots (open_slots after rest) left
   ended_by i lt slot index _ _ _ _ w got is has same gone to from _ left q out =
       let first = same_turn _ i _ (rank_within t ws view i lt) got in
-      let its : index ≡ number_at _ slot = cc in
+      let its : index ≡ number_at slots slot = cc in
       rw (from, to, gone) (
         ended_view i _ _ lt first its,
         ended i _ _ lt first its,
@@ -391,10 +379,8 @@ pub record IsUpTo (n : ℕ) (slots : List ℕ) : Type 0 where
 
 -- No slot is open at first.
 pub empty_table : (slots : List Waiting) (numbers : List (Option ℕ)) (order tickets : List ℕ) → tickets ≡ []
-    → length slots ≡ table_size →
-    numbers ≡ replicate 256 None → length order ≡ table_size
-    → ((slot : ℕ) → table_size ≤ slot → times_of_slot slot order ≡ 0)
-    → ((slot : ℕ) → times_of_slot slot order ≤ 1) →
+    → length slots ≡ table_size → numbers ≡ replicate 256 None → length order ≡ table_size
+    → ((slot : ℕ) → table_size ≤ slot → times_of_slot slot order ≡ 0) → ((slot : ℕ) → times_of_slot slot order ≤ 1) →
     IsTable slots numbers order tickets
 empty_table _ _ _ _ none all_slots blank whole within once = rw none (record {
   all_slots = all_slots;
@@ -404,8 +390,7 @@ empty_table _ _ _ _ none all_slots blank whole within once = rw none (record {
   numbered = record {
     all_numbers = cc;
     apart = λ number. omega arith;
-    named = λ number lt.
-        rw (ap (λ xs. get_or xs number None) blank ∙ get_or-replicate {A = Option ℕ} 256 _ _ _ lt);
+    named = λ number lt. rw (ap (λ xs. get_or xs number None) blank ∙ get_or-replicate {A = Option ℕ} 256 _ _ _ lt);
   };
   ticketed = refl;
   rise = omega arith;

@@ -1,29 +1,18 @@
 -- What is read of the table of open requests.
 use Rattle.std.proofs.Common.{◌≡◌, ℕ, zero, suc, nat_lt, ◌+◌, ◌<◌, ◌≤◌, List, [], ◌∷◌, length, map, take, drop, get_or}
 use Rattle.std.proofs.Common.{Option, Some, None, Result, Ok, Err, Bool, true, false, not, nat_eq, if◌then◌else◌, refl}
-use Rattle.std.proofs.Common.{ap, sym, subst, ◌∙◌, arith, ◌%◌, unwrap_or, below_more}
-use Rattle.std.specs.Prelude.{remove, position, MatchResult}
+use Rattle.std.proofs.Common.{ap, sym, subst, ◌∙◌, arith, ◌%◌, unwrap_or, below_more, remove, position, MatchResult}
+use Rattle.std.proofs.Common.{eqb-true, eq-eqb, ne_eqb, lt-ltb, ltb-false, length-take, take-append-drop, get_or-take}
 use Rattle.std.specs.List.{filter, find, list_any, slice_get, position_or_len}
-use Rattle.std.proofs.lemmas.Option.{slice_get_within, get_or_from_slice_get}
-use Rattle.std.specs.Option.{is_some}
-use Rattle.std.specs.Result.{result_ok}
-use Rattle.std.specs.Ordering.{nat_cmp}
-use Rattle.std.specs.List.Sorted.{IsBinarySearchResult}
-use Rattle.std.proofs.lemmas.Bool.{and_parts, eqb-true, eq-eqb, ne_eqb, lt-ltb, ltb-false}
-use Rattle.std.proofs.lemmas.List.{length-map, length-take, take-append-drop, get_or-take, get_or-map}
-use Rattle.std.proofs.lemmas.List.Sums.{passes_at_first}
-use Rattle.std.proofs.lemmas.List.Sorted.{searched}
-use Rattle.std.proofs.lemmas.Bool.Decides.{nat_tests}
-use Rattle.bac_tsm.specs.Limits.{table_size}
-use Rattle.bac_tsm.specs.Machine.{Waiting}
-use Rattle.bac_tsm.specs.Answers.{Answer, is_answer_to}
+use Rattle.std.specs.{Option.is_some, Result.result_ok, Ordering.nat_cmp, List.Sorted.IsBinarySearchResult}
+use Rattle.std.proofs.lemmas.{Option.slice_get_within, Option.get_or_from_slice_get, Bool.and_parts, List.length-map}
+use Rattle.std.proofs.lemmas.{List.get_or-map, List.Sums.passes_at_first, List.Sorted.searched}
+use Rattle.bac_tsm.specs.{Limits.table_size, Machine.Waiting, Answers.Answer, Answers.is_answer_to}
+use Rattle.bac_tsm.specs.{Inner.Table.waiting_in, Inner.Table.IsRankOf, Waiting.nothing, Inner.Waiting.ticket_in}
+use Rattle.bac_tsm.specs.{Inner.Waiting.number_in, Lookahead.first_within, Lookahead.next_invoke_id}
 use Rattle.bac_tsm.specs.Table.{times, held_at, times_of_slot, open_slots, Names, IsTable}
-use Rattle.bac_tsm.specs.Inner.Table.{waiting_in, IsRankOf}
-use Rattle.bac_tsm.specs.Waiting.{nothing}
-use Rattle.bac_tsm.specs.Inner.Waiting.{ticket_in, number_in}
 use Rattle.bac_tsm.proofs.CallNotes.{TicketsRise, by_ticket, pairs_tail}
-use Rattle.bac_tsm.proofs.Held.{itself, held_got, times-append, times_got, none_passes, one_passes}
-use Rattle.bac_tsm.specs.Lookahead.{first_within, next_invoke_id}
+use Rattle.bac_tsm.proofs.Held.{held_got, times-append, times_got, none_passes, one_passes}
 use Rattle.bac_tsm.proofs.RequestLife.{NotBefore, first_from, first_at}
 use Rattle.bac_tsm.proofs.NumberCycle.{is_free, a_step}
 
@@ -41,7 +30,7 @@ pub record StandsAt (slot : ℕ) (order : List ℕ) (i : ℕ) : Type 0 where
 
 pub found_at : (slot : ℕ) (order : List ℕ) → 0 < times_of_slot slot order → (i : ℕ) × StandsAt slot order i
 found_at slot order some =
-    let test = λ (other : ℕ). nat_eq _ _ in
+    let test = λ (other : ℕ). nat_eq other slot in
     let within = first _ some in (
       position_or_len test _,
       record {
@@ -58,13 +47,11 @@ found_at slot order some =
 
 -- Where tickets rise, the one request with a ticket is the first with it.
 find_rank : (t : ℕ) (ws : List Waiting) (i : ℕ) → TicketsRise ws → i < length ws
-    → (get_or ws i nothing).request.ticket ≡ t →
-    find (by_ticket t) ws ≡ Some (get_or ws i nothing)
+    → (get_or ws i nothing).request.ticket ≡ t → find (by_ticket t) ws ≡ Some (get_or ws i nothing)
 find_rank t [] i _ lt is = absurd (omega arith)
 find_rank t (w ∷ ws) zero _ lt is = rw (eq-eqb _ t is)
 find_rank t (w ∷ ws) (suc i) rise lt is =
-    let less =
-    rise 0 (suc i) nothing (omega arith) (omega arith) in
+    let less = rise 0 (suc i) nothing (omega arith) (omega arith) in
     rw (ne_eqb w.request.ticket t (λ q. omega arith))
     (find_rank t ws i (pairs_tail (λ v w. v.request.ticket < w.request.ticket) w ws rise) (omega arith) is)
 
@@ -74,8 +61,7 @@ module _ {slots : List Waiting} {numbers : List (Option ℕ)} {order tickets : L
   opened = open_slots order tickets
 
   pub as_many : length opened ≡ length tickets
-  as_many =
-      (cc (length-map _ _, length-map _ _)) ∙ ap length t.ticketed
+  as_many = (cc (length-map _ _, length-map _ _)) ∙ ap length t.ticketed
 
   -- Those before and those after a rank of the order are the order.
   pub times_split : (slot n : ℕ)
@@ -88,9 +74,7 @@ module _ {slots : List Waiting} {numbers : List (Option ℕ)} {order tickets : L
   -- A slot that stands at a rank of the order.
   module _ (i slot : ℕ) (lt : i < length order) (is : get_or order i 0 ≡ slot) where
     pub read_within : slot < table_size
-    read_within =
-        let some = subst (λ k. 0 < times_of_slot k order) is (times_got _ _ i 0 lt) in
-        grind (arith)
+    read_within = let some = subst (λ k. 0 < times_of_slot k order) is (times_got _ _ i 0 lt) in grind arith
 
     pub read_listed : slot < length slots
     read_listed = omega (arith, t.all_slots, read_within)
@@ -111,8 +95,7 @@ module _ {slots : List Waiting} {numbers : List (Option ℕ)} {order tickets : L
 
     pub read_held : (i slot : ℕ) → i < length ws → get_or order i 0 ≡ slot
         → get_or slots slot nothing ≡ get_or ws i nothing
-    read_held i slot lt is =
-        cc (held_got _ _ i _ (turn_opened i lt) (here i _ lt is), view)
+    read_held i slot lt is = cc (held_got _ _ i _ (turn_opened i lt) (here i _ lt is), view)
 
     -- The first free slot, where there is one.
     pub next_free : length ws < table_size → get_or order (length tickets) 0 < table_size
@@ -121,9 +104,7 @@ module _ {slots : List Waiting} {numbers : List (Option ℕ)} {order tickets : L
     -- The tickets are those of the requests.
     pub ticket_got : (i : ℕ) → i < length ws → (d : Waiting) (e : ℕ)
         → get_or tickets i e ≡ (get_or ws i d).request.ticket
-    ticket_got i lt d e =
-        ap (λ ts. get_or ts i e) (sym t.ticketed ∙ ap (map _) view)
-        ∙ get_or-map _ ws i d e lt
+    ticket_got i lt d e = ap (λ ts. get_or ts i e) (sym t.ticketed ∙ ap (map _) view) ∙ get_or-map _ ws i d e lt
 
     pub rising : TicketsRise ws
     rising i j d early late =
@@ -149,24 +130,20 @@ module _ {slots : List Waiting} {numbers : List (Option ℕ)} {order tickets : L
     -- What a search among the tickets answers.
     pub searched_rank : (ticket : ℕ) (items : List ℕ) → items ≡ tickets → (r : Result ℕ ℕ) →
         IsBinarySearchResult (λ y. nat_cmp y ticket) items r → IsRankOf ticket ws (result_ok r)
-    searched_rank ticket _ are r found =
-        by r (searched _ _ r
-        (rw are at found) up)
+    searched_rank ticket _ are r found = by r (searched _ _ r (rw are at found) up)
       where
         up : (i j : ℕ) → i ≤ j → j < length tickets → get_or tickets i 0 ≤ get_or tickets j 0
-        up i j le lt = grind (arith)
+        up i j le lt = grind arith
 
         by : (r : Result ℕ ℕ) → MatchResult r (λ i. (i < length tickets) × (get_or tickets i 0 ≡ ticket))
             (λ i. (i ≤ length tickets) × ((k : ℕ) → k < i → get_or tickets k 0 < ticket)
-            × ((k : ℕ) → i ≤ k → k < length tickets → ticket < get_or tickets k 0)) →
-            IsRankOf ticket ws (result_ok r)
+            × ((k : ℕ) → i ≤ k → k < length tickets → ticket < get_or tickets k 0)) → IsRankOf ticket ws (result_ok r)
         by (Ok i) h =
             let e = count in
             let lt : i < length ws = omega arith in
             let has = sym (ticket_got i lt _ 0) ∙ h.1 in
             (lt, has, find_rank _ ws i rising lt has)
-        by (Err i) h = λ k d lt same.
-            grind (arith, h.1 k, h.2 k, count, ticket_got k lt d 0)
+        by (Err i) h = λ k d lt same. grind (arith, h.1 k, h.2 k, count, ticket_got k lt d 0)
 
   -- An open slot, and the rank of the request there.
   module _ (ws : List Waiting) (view : waiting_in slots order tickets ≡ ws) (slot : ℕ)
@@ -178,8 +155,7 @@ module _ {slots : List Waiting} {numbers : List (Option ℕ)} {order tickets : L
     turn_lt = omega (arith, count ws view, as_many, rank.1.within)
 
     pub stands : get_or order rank.0 0 ≡ slot
-    stands = sym (get_or-take _ order _ 0
-        (omega (arith, turn_lt, count ws view))) ∙ rank.1.there
+    stands = sym (get_or-take _ order _ 0 (omega (arith, turn_lt, count ws view))) ∙ rank.1.there
 
     pub open_below : slot < table_size
     open_below = read_within _ _ (rank_within ws view _ turn_lt) stands
@@ -199,13 +175,10 @@ module _ {slots : List Waiting} {numbers : List (Option ℕ)} {order tickets : L
       where
         by : (entry : Option ℕ) → get_or numbers number None ≡ entry
             → is_some entry ≡ list_any (λ w. nat_eq number w.request.number) (waiting_in slots order tickets)
-        by None is = sym
-            (any_number number _
-            ∙ ap (nat_lt 0) (rw is at (t.numbered.named number fits)))
+        by None is = sym (any_number number _ ∙ ap (nat_lt 0) (rw is at (t.numbered.named number fits)))
         by (Some slot) is =
             let rank = found_at slot opened (named slot is).0 in
-            let has = ap number_in (held_got slots opened rank.0 slot rank.1.within rank.1.there)
-            ∙ (named slot is).1 in
+            let has = ap number_in (held_got slots opened rank.0 slot rank.1.within rank.1.there) ∙ (named slot is).1 in
             sym (any_number number _ ∙ lt-ltb 0 _
             (rw (← has) (times_got _ (held_at slots opened) rank.0 nothing (rw length-map rank.1.within))))
 
@@ -225,8 +198,7 @@ module _ {slots : List Waiting} {numbers : List (Option ℕ)} {order tickets : L
 
     pub closed_none : get_or numbers number None ≡ None → Ends [] ws
     closed_none is =
-        let none = none_passes _ _ _ says ws
-        (rw view at (subst (Names slots _ _) is (t.numbered.named _ fits))) in
+        let none = none_passes _ _ _ says ws (rw view at (subst (Names slots _ _) is (t.numbered.named _ fits))) in
         (cc none.0, sym none.1)
 
     module _ (slot : ℕ) (is : get_or numbers number None ≡ Some slot) where
@@ -246,9 +218,7 @@ module _ {slots : List Waiting} {numbers : List (Option ℕ)} {order tickets : L
         found : (filter ends ws ≡ (if ends w then w ∷ [] else []))
             × (filter (λ v. not (ends v)) ws ≡ (if ends w then remove ws i else ws))
         found =
-            rw read
-            (one_passes _ _ _ says ws i _ (turn_lt ws _ _ _)
-            (cc (open_read ws _ _ _, (named _ fits _ is).1))
+            rw read (one_passes _ _ _ says ws i _ (turn_lt ws _ _ _) (cc (open_read ws _ _ _, (named _ fits _ is).1))
             (rw (← view) (t.numbered.apart _)))
 
         pub closed_not : ends w ≡ false → Ends [] ws
@@ -265,8 +235,7 @@ module _ {slots : List Waiting} {numbers : List (Option ℕ)} {order tickets : L
               rw (
                 named,
                 to,
-                one_turn ws view j i its.0 (turn_lt ws _ _ _)
-                    (cc (its.1, named, read)),
+                one_turn ws view j i its.0 (turn_lt ws _ _ _) (cc (its.1, named, read)),
               ) (cc both.0, sym both.1)
 
 -- ---- the look for a free number, one step at a time
@@ -317,6 +286,5 @@ pub number_unused : (last number : ℕ) (ws : List Waiting) → number ≡ next_
 number_unused last _ ws is few =
     let step = a_step last _ (rw length-map few) in
     let n = _ % 256 in
-    let none = ltb-false 0 _
-    (sym (any_number n ws) ∙ sym (list_any-map _ _ ws) ∙ step.1.free) in
+    let none = ltb-false 0 _ (sym (any_number n ws) ∙ sym (list_any-map _ _ ws) ∙ step.1.free) in
     rw (is, step.1.next) (omega arith)

@@ -1,25 +1,19 @@
 -- The loop over the open requests that are due at a tick.
 use Rattle.std.proofs.Common.{◌≡◌, ℕ, suc, ◌<◌, ◌≤◌, List, [], ◌∷◌, ◌++◌, length, map, take, drop, get_or, true, false}
 use Rattle.std.proofs.Common.{All, refl, ap, sym, ◌∙◌, add-one, arith, zero, ◌+◌, Bool, nat_lt, nat_le, if◌then◌else◌}
+use Rattle.std.proofs.Common.{length-append, append-nil, append_assoc, take_all, take-append-drop}
 use Rattle.std.specs.List.{filter, flat_map, list_any, refill, AllPairs, count_by}
 use Rattle.std.specs.List.Sorted.{IsPermutation, IsNonDecreasingBy}
-use Rattle.std.proofs.lemmas.Bool.{false≢true}
-use Rattle.std.proofs.lemmas.List.{length-append, length-map, append-nil, append_assoc, take_all, drop_all}
-use Rattle.std.proofs.lemmas.List.{take-append-drop, drop_more, get_or_default, same_lists}
+use Rattle.std.proofs.lemmas.{Bool.false≢true, List.Folds.list_any_none, Grind.flat_map-append}
+use Rattle.std.proofs.lemmas.{List.Kept.AllPairs-filter, List.Sums.length-filter, List.Sums.count_by-le-length}
+use Rattle.std.proofs.lemmas.{List.Sums.sum_by-cons}
+use Rattle.std.proofs.lemmas.List.{length-map, drop_all, drop_more, get_or_default, same_lists}
 use Rattle.std.proofs.lemmas.List.Elements.{All-append, All-take, All-drop, Contains-get_or}
 use Rattle.std.proofs.lemmas.List.Sorted.{length_permutation, IsPermutation-trans, IsPermutation-append_right}
 use Rattle.std.proofs.lemmas.List.Sorted.{IsPermutation-middle, Contains-permutation, sum_by-IsPermutation}
-use Rattle.std.proofs.lemmas.List.Folds.{list_any_none}
-use Rattle.std.proofs.lemmas.Grind.{flat_map-append}
-use Rattle.std.proofs.lemmas.List.Kept.{AllPairs-filter}
-use Rattle.std.proofs.lemmas.List.Sums.{length-filter, count_by-le-length, sum_by-cons}
-use Rattle.std.proofs.lemmas.Bool.Decides.{nat_tests}
-use Rattle.bac_tsm.specs.declared.due.Entry.{Entry}
-use Rattle.bac_tsm.specs.Events.{Rules}
+use Rattle.bac_tsm.specs.{declared.due.Entry.Entry, Events.Rules, Inner.Machine.ticket_of, Inner.Table.IsPassed}
+use Rattle.bac_tsm.specs.{Waiting.nothing}
 use Rattle.bac_tsm.specs.Machine.{Waiting, is_due, due_entry, due_answer, kept}
-use Rattle.bac_tsm.specs.Inner.Machine.{ticket_of}
-use Rattle.bac_tsm.specs.Inner.Table.{IsPassed}
-use Rattle.bac_tsm.specs.Waiting.{nothing}
 use Rattle.bac_tsm.proofs.CallNotes.{TicketsRise, kept_of_one, pairs_map}
 
 -- ---- a list whose keys rise is what any sort by the key makes of its elements
@@ -66,23 +60,18 @@ module _ {A : Type 0} (key : A → ℕ) where
           let is = get_or_default ys j d x within ∙ there in
           let lower = λ (y : A). nat_lt (key y) (key x) in
           let up_to = λ (y : A). nat_le (key y) (key x) in
-          let e = at_least lower d xs k (omega arith)
-          (λ i less. grind (arith)) in
-          let f = at_most lower d ys j (λ i le most. grind (arith)) in
-          let g = at_least up_to d ys (j + 1) (omega arith)
-          (λ i less. grind (arith)) in
-          let h = at_most up_to d xs (k + 1)
-          (λ i le most. grind (arith)) in
+          let e = at_least lower d xs k (omega arith) (λ i less. grind arith) in
+          let f = at_most lower d ys j (λ i le most. grind arith) in
+          let g = at_least up_to d ys (j + 1) (omega arith) (λ i less. grind arith) in
+          let h = at_most up_to d xs (k + 1) (λ i le most. grind arith) in
           let counts = sum_by-IsPermutation (λ y. if lower y then 1 else 0) xs ys moved in
           let more = sum_by-IsPermutation (λ y. if up_to y then 1 else 0) xs ys moved in
-          let same : j ≡ k = omega arith in
-          sym (rw same at is)
+          let same : j ≡ k = omega arith in sym (rw same at is)
 
 -- A sort in slot leaves what it sorts to.
 pub refilled : (xs ys : List Entry) → length ys ≡ length xs → refill (length xs) xs ys ≡ ys
 refilled xs ys long =
-    ap (λ zs. take (length xs) (ys ++ zs)) (drop_all _ xs (omega arith))
-    ∙ ap (take _) (append-nil ys)
+    ap (λ zs. take (length xs) (ys ++ zs)) (drop_all _ xs (omega arith)) ∙ ap (take _) (append-nil ys)
     ∙ take_all _ ys (omega arith)
 
 module _ (rules : Rules) (clock : ℕ) where
@@ -108,9 +97,8 @@ module _ (rules : Rules) (clock : ℕ) where
   -- What was sent now is not due.
   again : 0 < rules.timeout → (w : Waiting) → is_due rules clock w ≡ true →
       (due_of (kept rules clock w) ≡ []) × (kept_of (kept rules clock w) ≡ kept rules clock w)
-  again some w due = nothing_due _
-      (list_any_none _ _
-      (kept_of_one rules (λ v. is_due rules clock v ≡ false) _ w (λ young. young) (grind (arith))))
+  again some w due = nothing_due _ (list_any_none _ _
+      (kept_of_one rules (λ v. is_due rules clock v ≡ false) _ w (λ young. young) (grind arith)))
 
   due_is : (ws : List Waiting) → due_of ws ≡ map (due_entry rules) (filter (is_due rules clock) ws)
   due_is [] = refl
@@ -121,10 +109,8 @@ module _ (rules : Rules) (clock : ℕ) where
 
   pub rise_due : (ws : List Waiting) → TicketsRise ws → Rise ticket_of (due_of ws)
   rise_due ws rise =
-      rw (due_is ws)
-      (pairs_map (λ a b. ticket_of a < ticket_of b) _ _ (λ i j d less lt.
-      let g = AllPairs-filter (λ v w. v.request.ticket < w.request.ticket) _ ws rise i j d less lt in
-      grind arith))
+      rw (due_is ws) (pairs_map (λ a b. ticket_of a < ticket_of b) _ _ (λ i j d less lt.
+      let g = AllPairs-filter (λ v w. v.request.ticket < w.request.ticket) _ ws rise i j d less lt in grind arith))
 
   module _ (some : 0 < rules.timeout) {all : List Entry} {kept_in_all : List Waiting} {entries : List Entry}
       {ws : List Waiting} (h : HasTicked all kept_in_all entries ws) where
@@ -135,20 +121,14 @@ module _ (rules : Rules) (clock : ℕ) where
         → HasTicked all kept_in_all (entries ++ entry ∷ []) after
     one_more _ after rank w lt here due is to = record {
       told =
-          IsPermutation-trans _ _ _ (rw told_before at h.told)
-          (rw (told_after, append_assoc)
-          (IsPermutation-append_right entries _ _
-          (rw is (IsPermutation-middle _ _
-          _))));
+          IsPermutation-trans _ _ _ (rw told_before at h.told) (rw (told_after, append_assoc)
+          (IsPermutation-append_right entries _ _ (rw is (IsPermutation-middle _ _ _))));
       stay = simp (to, flat_map-append, (again some w due).1)
           (simp flat_map-append at (ap kept_of (sym split) ∙ h.stay));
       past =
-          rw to
+          rw to (All-append (λ v. v.base ≤ clock) _ _ (All-take (λ v. v.base ≤ clock) _ ws h.past)
           (All-append (λ v. v.base ≤ clock) _ _
-          (All-take (λ v. v.base ≤ clock) _ ws h.past)
-          (All-append (λ v. v.base ≤ clock) _ _
-          (kept_of_one rules (λ v. v.base ≤ clock) _ w (λ young. absurd (false≢true (sym young ∙ due)))
-          (omega arith))
+          (kept_of_one rules (λ v. v.base ≤ clock) _ w (λ young. absurd (false≢true (sym young ∙ due))) (omega arith))
           (All-drop (λ v. v.base ≤ clock) (suc _) ws h.past)));
     }
       where
@@ -157,8 +137,7 @@ module _ (rules : Rules) (clock : ℕ) where
             ∙ ap (λ xs. take rank ws ++ xs) (rw (add-one, here) at (drop_more ws _ nothing lt))
 
         told_before : due_of ws ≡ due_of (take rank ws) ++ (due_entry rules w ∷ due_of (drop (suc rank) ws))
-        told_before = ap due_of split ∙ flat_map-append _ (take rank ws) _
-            ∙ rw due refl
+        told_before = ap due_of split ∙ flat_map-append _ (take rank ws) _ ∙ rw due refl
 
         told_after : due_of after ≡ due_of (take rank ws) ++ due_of (drop (suc rank) ws)
         told_after = simp (to, flat_map-append, (again some w due).0)
@@ -171,8 +150,7 @@ module _ (rules : Rules) (clock : ℕ) where
         (length entries < length all) × (length (due_of after) < length (due_of ws))
     fewer entry after is =
         let now = sym (length-append entries _) ∙ length_permutation _ _ h.told in
-        let next = sym (length-append _ (due_of after))
-        ∙ length_permutation _ _ (passed _ _ is).told in
+        let next = sym (length-append _ (due_of after)) ∙ length_permutation _ _ (passed _ _ is).told in
         let one = length-append entries (entry ∷ []) in
         (omega arith, omega arith)
 

@@ -1,7 +1,7 @@
 -- What the reader of values takes is spelled so, and what is spelled so is taken, whatever follows.
 use Rattle.std.proofs.{
-  Common.{◌≡◌, ℕ, zero, suc, ◌^◌, ◌<◌, ◌≤◌, Bool, true, false, cond, ltb, eqb, List, [], ◌++◌, length, take, Option},
-  Common.{Some, refl, sym, ap, subst, ◌∙◌, append_assoc, arith, inl, inr},
+  Common.{◌≡◌, ℕ, zero, suc, ◌^◌, ◌<◌, ◌≤◌, Bool, cond, eqb, List, [], ◌++◌, length, take, Option, Some, refl, sym, ap},
+  Common.{subst, ◌∙◌, append_assoc, arith, inl, inr},
   lemmas.{Option.{same_Some, some_pair_parts, none-some, cond_some}, Grind.common_steps},
   lemmas.Bool.{ltb-false, eqb-true, lt-ltb, le-ltb, eq-eqb, eqb-false},
   lemmas.List.{length-append, take_at, drop_at, take-append-drop, nil_from_length, length-take-le},
@@ -62,9 +62,7 @@ number_takes : (number most : ℕ) (make : List ℕ → ℕ → Datum)
     × (n ≡ big_number (length contents) contents) → Holding number contents (make contents n))
     → (contents : List ℕ) (value : Datum) → option_map (make contents) (number_within most contents) ≡ Some value
     → Holding number contents value
-number_takes _ _ _ holds _ _ e =
-    let m = mapped _ _ _ e in
-    rw (← m.2) (holds _ _ (within_takes _ _ _ m.1))
+number_takes = grind (arith, mapped)
 
 exact_takes : (number count : ℕ) (make : List ℕ → Datum)
     → ((contents : List ℕ) → length contents ≡ count → Holding number contents (make contents))
@@ -104,17 +102,7 @@ contents_take _ _ value e = absurd (none-some value (grind (arith, common_steps)
 
 shaped_again : (value : Datum) (contents rest : List ℕ) → StandsFor contents value
     → behind_at (tag_number value) (shape_number value (length contents)) (contents ++ rest) ≡ found_at value rest
-shaped_again (boolean true) _ _ h = rw h refl
-shaped_again (boolean false) _ _ h = rw h refl
-shaped_again value contents rest h =
-    let long : ltb (length (contents ++ rest)) (length contents) ≡ false =
-    le-ltb _ _ (omega (arith, length-append contents rest)) in
-    rw (
-      long,
-      take_at _ _ _ refl,
-      drop_at _ _ _ refl,
-      contents_again _ value (λ e. cc) h,
-    ) refl
+shaped_again = grind (arith, le-ltb, length-append, take_at, drop_at, contents_again)
 
 value_again : (front : List ℕ) (value : Datum) (rest : List ℕ) → Spells front value
     → value_at (front ++ rest) ≡ Some (value, rest)

@@ -1,6 +1,6 @@
 -- The shortest spelling of a value is a spelling.
 use Rattle.std.proofs.{
-  Common.{◌≡◌, ℕ, ℤ, pos, negsuc, suc, slice_index_or, ◌+◌, ◌-◌, ◌*◌, ◌^◌, ◌%◌, ◌<◌, ◌≤◌, min, zero, Bool, true, false},
+  Common.{◌≡◌, ℕ, ℤ, pos, negsuc, suc, slice_index_or, ◌+◌, ◌-◌, ◌*◌, ◌^◌, ◌%◌, ◌<◌, ◌≤◌, zero, Bool, true, false},
   Common.{cond, ltb, List, [], ◌∷◌, ◌++◌, length, take, refl, sym, ap, subst, ◌∙◌, arith, unwrap_or, Option, Some},
   Common.None,
   lemmas.{Int.ints, Bool.{lt-ltb, le-ltb}, Grind.common_steps, List.{append-nil, take_at}},
@@ -53,10 +53,10 @@ pub count_high : (n : ℕ) → octet_count n ≤ 8
 count_high n = subst (λ (k : ℕ). k ≤ 8) (sym (count_is n)) (cases_high n)
 
 pub count_fits : (n : ℕ) → n < 2 ^ 64 → n < 256 ^ octet_count n
-count_fits n fits = subst (λ (k : ℕ). n < 256 ^ k) (sym (count_is n)) (grind (arith, common_steps))
+count_fits = grind (arith, count_is)
 
 pub count_four : (n : ℕ) → n < 2 ^ 32 → octet_count n ≤ 4
-count_four n fits = subst (λ (k : ℕ). k ≤ 4) (sym (count_is n)) (grind (arith, common_steps))
+count_four = grind (arith, count_is)
 
 -- the octets of a number give it back
 pub number_back : (k n : ℕ) → n < 256 ^ k → n ≡ big_number (length (big_bytes k n)) (big_bytes k n)
@@ -128,14 +128,13 @@ plain_spells = grind (arith, plain_tag_spells, tag_fits, plain_holds)
 pub short_tagged : (number : ℕ) (contents : List ℕ) → number < 15 → length contents < 5
     → tagged number contents ≡ (16 * number + length contents) ∷ contents
 unfolding tagged plain_tag
-short_tagged = grind (arith, min, lt-ltb)
+short_tagged = grind (arith, lt-ltb)
 
 -- the tag of four octets, and these
 pub four_tagged : (number : ℕ) (contents : List ℕ) → number < 15 → length contents ≡ 4
     → (16 * number + 4) ∷ slice_index_or contents 0 0 ∷ slice_index_or contents 1 0 ∷ slice_index_or contents 2 0
     ∷ slice_index_or contents 3 0 ∷ [] ≡ tagged number contents
-four_tagged _ (a ∷ b ∷ c ∷ d ∷ []) low four = sym (short_tagged _ _ low (omega arith))
-four_tagged _ _ low four = absurd (omega (arith, four))
+four_tagged = grind (arith, common_steps, short_tagged)
 
 -- the tag of a number in one octet, and the number
 pub one_tagged : (number n : ℕ) → number < 15 → n < 256

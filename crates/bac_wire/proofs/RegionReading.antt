@@ -1,11 +1,11 @@
 -- Reading items from left to right takes whole items, and finds again those that there are, whatever greater depth is
 -- allowed.
 use Rattle.std.proofs.{
-  Common.{◌≡◌, ℕ, zero, suc, ◌<◌, ◌≤◌, eqb, List, [], ◌++◌, length, take, Option, Some, None, refl, sym, ap, subst},
-  Common.{◌∙◌, append_assoc, arith, inl, inr, Bool, true, false, cond},
-  lemmas.Bool.{le-ltb, ltb-false, eq-eqb},
+  lemmas.{Grind.common_steps, Bool.{le-ltb, ltb-false, eq-eqb}},
   lemmas.List.{drop_at, length-append, nil_from_length, take-append-drop, length-take-le},
   lemmas.Option.{none-some, same_Some},
+  Common.{◌≡◌, ℕ, zero, suc, ◌<◌, ◌≤◌, eqb, List, [], ◌++◌, length, take, Option, Some, None, refl, sym, ap, subst},
+  Common.{◌∙◌, append_assoc, arith, inl, inr, Bool, true, false, cond},
 }
 use Rattle.bac_wire.specs.{
   declared.tag.{Shape.Shape, Shape.TheVariants.{App, Context, Opening, Closing}, Tag.Tag},
@@ -193,9 +193,7 @@ item_takes _ _ _ _ _ _ _ _ e is f = absurd (none-some _ f)
 
 pub item_at_takes : (items : ℕ → List ℕ → Option (List ℕ)) (depth : ℕ) (octets rest : List ℕ) → Takes items
     → item_at items depth octets ≡ Some rest → LeavesBehind depth octets rest
-item_at_takes _ _ _ _ takes e =
-    let a = bind_some _ _ _ e in
-    item_takes _ _ _ _ _ _ _ takes a.1 refl a.2
+item_at_takes = grind (arith, item_takes)
 
 ended_leaves : (depth : ℕ) (octets rest : List ℕ) → HasEnded octets
     → ◌≡◌ {A = Option (List ℕ)} (Some octets) (Some rest) → LeavesRest depth octets rest
@@ -286,12 +284,7 @@ item_again items _ (suc depth) (suc top) _ _ again le short i =
     ]
 
 pub item_shorter : (depth : ℕ) (item rest : List ℕ) → IsItem depth item → length rest < length (item ++ rest)
-item_shorter zero _ _ p = tag_shorter _ _ _ _ _ p.tagged.spelled p.tagged.whole
-item_shorter (suc depth) _ _ i =
-    elim i [
-      | inl p ↦ tag_shorter _ _ _ _ _ p.tagged.spelled p.tagged.whole
-      | inr b ↦ tag_shorter _ _ _ _ _ b.2.opened.spelled b.2.opened.whole
-    ]
+item_shorter = grind (arith, common_steps, tag_shorter)
 
 -- behind an item the others are read
 pub more_again : (count top : ℕ) (octets next : List ℕ) → item_at (behind_items count) top octets ≡ Some next

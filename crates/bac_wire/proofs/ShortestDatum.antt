@@ -27,9 +27,7 @@ octet_count_least k n low fits = subst (λ (c : ℕ). c ≤ k) (sym (count_is n)
 
 -- a bit less, doubled
 half_octets : (k : ℕ) → 1 ≤ k → 2 * 2 ^ (8 * k - 1) ≡ 256 ^ k
-half_octets k low =
-    let next : 8 * k ≡ suc (8 * k - 1) = omega arith in
-    sym (pow256 k ∙ ap (λ (j : ℕ). 2 ^ j) next ∙ pow-succ' 2 _)
+half_octets = grind (arith, common_steps, pow256, pow-succ')
 
 signed_count_least : (k x : ℕ) (z : ℤ) → 1 ≤ k → x < 256 ^ k → z ≡ twos_complement k x → signed_count z ≤ k
 signed_count_least k x z low fits e =

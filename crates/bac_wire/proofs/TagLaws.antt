@@ -1,8 +1,8 @@
 -- What the reader of tags takes is spelled so, what is spelled so is taken, and the plain spelling is the shortest.
 use Rattle.std.proofs.{
   Common.{◌≡◌, ℕ, ◌<◌, ltb, eqb, List, [], ◌∷◌, ◌++◌, Option, Some, None, refl, sym, ap, ◌∙◌, append_assoc, arith, inl},
-  Common.{inr, suc, ◌≤◌, min, cond, length, subst},
-  lemmas.{Grind.common_steps, Bool.{ltb-true, ltb-false, eqb-true, cond_both}, List.length-append},
+  Common.{inr, suc, ◌≤◌, cond, length, subst},
+  lemmas.{Grind.common_steps, Bool.{ltb-true, ltb-false, eqb-true}, List.length-append},
 }
 use Rattle.bac_wire.specs.{
   declared.tag.{Shape.Shape, Shape.TheVariants.App, Tag.Tag},
@@ -56,12 +56,7 @@ next_takes _ (octet ∷ octets) n _ is e =
 number_takes : (high : ℕ) (octets : List ℕ) (n : ℕ) (rest : List ℕ) → tag_number_at high octets ≡ found_at n rest
     → Took (SpellsNumber high) octets n rest
 unfolding tag_number_at
-number_takes high _ n _ e =
-    elim (chosen (ltb high 15) _ _ _ e) [
-      | inl here ↦ took (SpellsNumber _) [] _ n _ _ here.1 (ltb-true _ 15 here.0, refl)
-      | inr there ↦ let more = only_if _ there.1 in
-          next_takes _ _ n _ (eqb-true _ 15 more.0) more.1
-    ]
+number_takes = grind (arith, took, ltb-true, only_if, next_takes, eqb-true)
 
 two_takes : (a : ℕ) (octets : List ℕ) (n : ℕ) (rest : List ℕ) → a ≡ 254 → two_at octets ≡ found_at n rest
     → Took (SpellsLength 5) (a ∷ octets) n rest
@@ -90,12 +85,7 @@ long_length_takes (a ∷ octets) n _ e =
 length_takes : (low : ℕ) (octets : List ℕ) (n : ℕ) (rest : List ℕ) → length_at low octets ≡ found_at n rest
     → Took (SpellsLength low) octets n rest
 unfolding length_at
-length_takes low _ n _ e =
-    elim (chosen (ltb low 5) _ _ _ e) [
-      | inl here ↦ took (SpellsLength _) [] _ n _ _ here.1 (ltb-true _ 5 here.0, refl)
-      | inr more ↦ let here = only_if _ more.1 in
-          rw (eqb-true low 5 here.0) (long_length_takes _ n _ here.1)
-    ]
+length_takes = grind (arith, took, ltb-true, only_if, eqb-true, long_length_takes)
 
 shape_takes : (low : ℕ) (octets : List ℕ) (shape : Shape) (rest : List ℕ) → shape_at low octets ≡ found_at shape rest
     → Took (SpellsShape low) octets shape rest
@@ -155,7 +145,7 @@ one_tag = one_front _ _ tag_reader
 
 -- what holds of each branch of a test, where it is taken
 by_test : {A : Type 0} (P : A → Type 0) (m n : ℕ) {x y : A} → (m < n → P x) → (n ≤ m → P y) → P (cond (ltb m n) x y)
-by_test P m n below above = cond_both _ _ _ P (λ e. below (ltb-true m n e)) (λ e. above (ltb-false m n e))
+by_test = grind (arith, ltb-true, ltb-false)
 
 low_half_below : (shape : Shape) → low_half shape < 16
 low_half_below (App n) = omega arith
@@ -167,7 +157,7 @@ shape_octets_spell = grind arith
 
 pub plain_tag_spells : (tag : Tag) → IsTag tag → SpellsTag (plain_tag tag) tag
 unfolding plain_tag
-plain_tag_spells = grind (arith, low_half_below, min, by_test, shape_octets_spell)
+plain_tag_spells = grind (arith, low_half_below, by_test, shape_octets_spell)
 
 -- ---- no spelling is shorter
 

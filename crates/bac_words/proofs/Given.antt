@@ -1,25 +1,19 @@
 -- The numbers of an argument that several tools have, and the peer that a word names.
 use Rattle.std.proofs.Common.{◌≡◌, ◌∙◌, ℕ, true, inl, inr, codes, List, [], map, Option, Some, None, refl, ap}
-use Rattle.std.proofs.Common.{unwrap_or}
-use Rattle.std.specs.Prelude.{IfSome}
-use Rattle.std.specs.Borrow.{Bor}
-use Rattle.std.specs.Option.{option_map}
+use Rattle.std.proofs.Common.{unwrap_or, IfSome}
+use Rattle.std.specs.{Borrow.Bor, Option.option_map}
 use Rattle.std.proofs.lemmas.Option.{same_Some}
 use Rattle.clap.specs.Walk.{Row, Rule, Text, texts}
 use Rattle.clap.proofs.WalkLemmas.{first_value-rows}
-use Rattle.clap_laws.specs.Inner.Commands.{rules_of}
+use Rattle.clap_laws.specs.{Inner.Commands.rules_of, Passes.IsTaken}
 use Rattle.clap_laws.specs.Inner.Numbers.{FitsWord, bounds_in, is_needed}
-use Rattle.clap_laws.specs.Passes.{IsTaken}
 use Rattle.clap_laws.proofs.Getters.{needed}
 use Rattle.bac_wire.specs.Steps.{◌>>=◌}
 use Rattle.bac_pdu.specs.Peer.{Station, network_address, station}
-use Rattle.bac_pdu.specs.declared.peer.Peer.{Peer}
-use Rattle.bac_pdu.specs.declared.route.Route.{Route}
+use Rattle.bac_pdu.specs.declared.{peer.Peer.Peer, route.Route.Route}
 use Rattle.bac_text.specs.Address.{address_of, cut_at, plain_peer_of, short_number, station_at}
-use Rattle.bac_words.specs.Command.{bacrp, bacwp, bacwi}
+use Rattle.bac_words.specs.{Command.bacrp, Command.bacwp, Command.bacwi, Job.peer_in, Marks.unmarked}
 use Rattle.bac_words.specs.Inner.Job.{IsClient, IsGiven, IsNumberWord, IsRequest, bounds}
-use Rattle.bac_words.specs.Job.{peer_in}
-use Rattle.bac_words.specs.Marks.{unmarked}
 
 -- What the getters of words read.
 pub ruleset first_words = (first_value-rows)
@@ -35,8 +29,7 @@ module _ (id : Text) (rows : List Row) where
       elim taken [ inl read ↦ of_tool _ read reads fits | inr write ↦ of_tool _ write writes fits ]
 
   pub of_client : IsClient rows → bounds_in (rules_of bacrp) id ≡ bounds id → bounds_in (rules_of bacwp) id ≡ bounds id
-      → bounds_in (rules_of bacwi) id ≡ bounds id
-      → FitsWord (bounds id) → IsNumberWord id rows
+      → bounds_in (rules_of bacwi) id ≡ bounds id → FitsWord (bounds id) → IsNumberWord id rows
   of_client taken reads writes seeks fits =
       elim taken [ inl request ↦ of_request request reads writes fits | inr search ↦ of_tool _ search seeks fits ]
 
@@ -52,8 +45,8 @@ module _ (id : Text) (rows : List Row) where
 -- The words of the pairs, or none.
 pub pairs_typed : (o : Option (Bor (List (Bor Text)))) (none : Bor (List (Bor Text))) → none.now ≡ [] →
     map unmarked (texts (unwrap_or o none).now) ≡ map unmarked (unwrap_or (option_map (λ p. texts p.now) o) [])
-pairs_typed None none empty = rw empty refl
-pairs_typed (Some p) none empty = refl
+pairs_typed None _ empty = rw empty refl
+pairs_typed (Some p) _ _ = refl
 
 -- ---- the peer that a word names has no route, so it is what is seen of it
 
@@ -73,8 +66,7 @@ no_route : (route : Option Route) → option_map network_address route ≡ None 
 no_route None e = refl
 no_route (Some r) e = cc
 
-same_peer : (p : Peer) (s : Station) → station p ≡ s → IsPlain s
-    → p ≡ record { ip = s.ip; port = s.port; route = None }
+same_peer : (p : Peer) (s : Station) → station p ≡ s → IsPlain s → p ≡ record { ip = s.ip; port = s.port; route = None }
 same_peer p s e plain =
     let routes = no_route p.route (ap (λ (s : Station). s.route) e ∙ plain) in
     λ i. record { ip = (e i).ip; port = (e i).port; route = routes i }

@@ -2,9 +2,8 @@
 use Rattle.std.proofs.Common.{◌≡◌, ◌∙◌, sym, List, Result}
 use Rattle.std.proofs.lemmas.Option.{same_Some}
 use Rattle.clap.specs.Words.{Text}
-use Rattle.bac_words.specs.declared.faults.UsageFault.{UsageFault}
 use Rattle.bac_text.specs.declared.jobs.Job.{Job}
-use Rattle.bac_words.specs.Line.{Answers}
+use Rattle.bac_words.specs.{declared.faults.UsageFault.UsageFault, Line.Answers}
 
 pub one_answer : (words : List Text) (a b : Result Job UsageFault) → Answers words a → Answers words b → a ≡ b
-one_answer words a b first second = same_Some a b (sym first.answer_is ∙ second.answer_is)
+one_answer _ a b first second = same_Some a b (sym first.answer_is ∙ second.answer_is)

@@ -1,29 +1,18 @@
 -- Words that `clap` takes name one of the five tools, with matches that passed its rules.
 use Rattle.std.proofs.Common.{◌∙◌, ◌≡◌, ◌⊎◌, Bool, codes, true, false, refl, sym, subst, inl, inr, List, [], ◌∷◌, Some}
-use Rattle.std.proofs.Common.{Result, Ok, Err}
-use Rattle.std.specs.Prelude.{IsSomeAnd, IsErrAnd}
+use Rattle.std.proofs.Common.{Result, Ok, Err, IsSomeAnd, IsErrAnd}
+use Rattle.std.proofs.{Math.Bool.or-false, lemmas.Bool.false≢true, lemmas.Slice.Eq.bytes_eq-Decides}
 use Rattle.std.specs.List.{find}
-use Rattle.std.proofs.Math.Bool.{or-false}
-use Rattle.std.proofs.lemmas.Bool.{false≢true}
-use Rattle.std.proofs.lemmas.Slice.Eq.{bytes_eq-Decides}
-use Rattle.clap.specs.Walk.{Text, answers_to, nothing_held}
+use Rattle.clap.specs.{Walk.Text, Walk.answers_to, Walk.nothing_held, Faults.fault_of, Faults.is_simple_and_free}
+use Rattle.clap.specs.{Faults.level_fault, Kinds.HasKind, Kinds.IsAmong, Values.kind_of, declared.error.Error.Error}
+use Rattle.clap.specs.{declared.error.kind.ErrorKind.ErrorKind}
 use Rattle.clap.specs.Simple.{Shape, built, label_of, is_simple, rows_at, subcommand_of}
-use Rattle.clap.specs.Faults.{fault_of, is_simple_and_free, level_fault}
-use Rattle.clap.specs.Kinds.{HasKind, IsAmong}
-use Rattle.clap.specs.Values.{kind_of}
-use Rattle.clap.specs.declared.error.Error.{Error}
-use Rattle.clap.specs.declared.error.kind.ErrorKind.{ErrorKind}
-use Rattle.clap.specs.declared.error.kind.ErrorKind.TheVariants as kind
-use Rattle.bac_words.specs.declared.faults.UsageFault.{UsageFault}
-use Rattle.bac_words.specs.Command.{bactool}
-use Rattle.bac_words.specs.Inner.Fault.{fault_by, fault_from}
-use Rattle.bac_words.specs.Inner.Job.{IsTool}
-use Rattle.bac_words.specs.Line.{IsRefusal}
-use Rattle.bac_words.specs.Marks.{marked_words}
-use Rattle.clap_laws.specs.Entering.{asks_for_help}
+use Rattle.bac_words.specs.{declared.faults.UsageFault.UsageFault, Command.bactool, Inner.Fault.fault_by}
+use Rattle.bac_words.specs.{Inner.Fault.fault_from, Inner.Job.IsTool, Line.IsRefusal, Marks.marked_words}
 use Rattle.bac_text.specs.declared.jobs.Job.{Job}
-use Rattle.clap_laws.proofs.Enters.{enters}
-use Rattle.clap_laws.proofs.Rows.{level_taken, when_found}
+use Rattle.clap_laws.specs.Entering.{asks_for_help}
+use Rattle.clap_laws.proofs.{Enters.enters, Rows.level_taken, Rows.when_found}
+use Rattle.clap.specs.declared.error.kind.ErrorKind.TheVariants as kind
 
 abbrev AllOf : (Shape → Type 0) → List Shape → Type 0
 AllOf P [] = Unit {0}
@@ -84,8 +73,7 @@ pub bactool_is_simple : is_simple bactool ≡ true
 bactool_is_simple = refl
 
 refusal : (words : List Text) (e : Error) (k : ErrorKind) → kind_of e ≡ k → (k ≡ kind.OutOfMemory)
-    ⊎ IsAmong k (fault_of bactool (marked_words words))
-    → IsRefusal words (fault_by k e)
+    ⊎ IsAmong k (fault_of bactool (marked_words words)) → IsRefusal words (fault_by k e)
 refusal words e kind.OutOfMemory is h = tt
 refusal words e kind.DisplayHelp is h = elim h [
   | inl m ↦ cc
@@ -101,9 +89,8 @@ refusal words e _ is h = elim h [
 
 -- an error of `clap` is passed up as a refusal
 pub refused : (words marked : List Text) (e : Error) (r : Result Job UsageFault) → marked ≡ marked_words words
-    → HasKind (fault_of bactool marked) e
-    → IsErrAnd r (λ f. f ≡ fault_from e) → IsErrAnd r (IsRefusal words)
-refused words marked e (Ok x) same h is = absurd is
-refused words marked e (Err f) same h is =
+    → HasKind (fault_of bactool marked) e → IsErrAnd r (λ f. f ≡ fault_from e) → IsErrAnd r (IsRefusal words)
+refused _ _ e (Ok x) _ h is = absurd is
+refused words _ e (Err f) same h is =
     subst (IsRefusal words) (sym is)
     (refusal words e (kind_of e) refl (subst (λ w. HasKind (fault_of bactool w) e) same h))

@@ -1,8 +1,8 @@
 -- The words that are left, from their front.
 use Rattle.std.proofs.Common.{◌≡◌, ℕ, ◌+◌, ◌<◌, ◌≤◌, List, [], ◌∷◌, length, map, drop, get_or, sym, ◌∙◌, ap, arith}
-use Rattle.std.proofs.Common.{add-one, drop-cons}
+use Rattle.std.proofs.Common.{add-one, drop-cons, length-drop}
 use Rattle.std.specs.Borrow.{Bor}
-use Rattle.std.proofs.lemmas.List.{drop_all, length-map, length-drop}
+use Rattle.std.proofs.lemmas.List.{drop_all, length-map}
 use Rattle.clap.specs.Walk.{Text, texts}
 use Rattle.bac_words.specs.Marks.{unmarked}
 
@@ -19,5 +19,4 @@ pub typed_fewer : (words : List (Bor Text)) (n : ℕ) → length (map unmarked (
 typed_fewer words n =
     let typed = length-map (texts (drop n words)) unmarked in
     let seen = length-map (drop n words) (λ (b : Bor Text). b.now) in
-    let left = length-drop n words in
-    omega arith
+    let left = length-drop n words in omega arith

@@ -4,7 +4,7 @@
 ghost use Rattle.std.specs.Prelude.{◌≡◌, [], IfOk, Result};
 ghost use Rattle.std.specs.Process.{exit_status};
 ghost use Rattle.std.specs.declared.io.Error.{Error};
-ghost use Rattle.bac_links.specs.Socket.{Binds};
+ghost use Rattle.bac_links.specs.Socket.{Binds, account_over};
 ghost use Rattle.bac_tools.specs.Telling.{once_given};
 
 use bac_tools::{Binding, Link, LinkFault, Network, Report, SystemSocket, UdpLink, run_program};
@@ -30,8 +30,9 @@ impl Network for Sockets<'_> {
     type Socket = UdpLink<SystemSocket<HostRuntime>>;
 
     ghost gives = { λ _ binding socket.
-        IfOk socket (λ link. Binds binding.at link.socket.log.calls × (link.refused ≡ binding.refused)
-        × (link.history.entries ≡ [])) };
+        IfOk socket (λ link. Binds binding.at link.socket.log.calls
+        × (⟦<UdpLink<SystemSocket<HostRuntime>> as Link>⟧.seen link
+        ≡ account_over binding.refused link.socket.log.calls [])) };
 
     fn bind(self, binding: Binding) -> Result<UdpLink<SystemSocket<HostRuntime>>, LinkFault> {
         UdpLink::bind_with(self.rt, self.rt.alloc(), binding.at, binding.refused)

@@ -1,13 +1,10 @@
 -- Where `clap` takes the words of a program that wants a tool, the words name one other than `help`, and it takes the
 -- words after it.
-use Rattle.std.{
-  proofs.Common.{arith, ◌≡◌, ◌∙◌, ap, true, false, refl, List, [], Option, Some, None, is_some, IfSome},
-  specs.{List.find, Option.{option_map, option_map_or}},
-}
+use Rattle.std.proofs.Common.{arith, ◌≡◌, true, false, refl, List, [], Option, is_some, IfSome}
 use Rattle.clap.specs.{
-  Walk.{finished, settled, Text, answers_to, nothing_held, walk, walk_from, stop_after},
-  Simple.{App, Shape, argument_words, built, entered, label_of, names_of, rows_at},
-  Faults.{check_fault, defaults_fault, entered_fault, fault_of, level_fault},
+  Walk.{finished, settled, Text, nothing_held, walk, walk_from, stop_after},
+  Simple.{App, argument_words, built, entered, names_of},
+  Faults.{check_fault, defaults_fault, entered_fault, fault_of},
 }
 use Rattle.clap_laws.{specs.Entering.Enters, proofs.Rows.{asks, none_fails, walk_goes}}
 
@@ -15,24 +12,7 @@ enters_by : (a : App) (words : List Text) (stop : Option (Text × List Text))
     → stop_after (built a).top.rules (names_of (built a)) (argument_words a words) ≡ stop
     → is_some (entered (built a) stop) ≡ true → entered_fault (built a) stop ≡ []
     → IfSome stop (λ p. asks (built a).top p.0 ≡ false) → Enters a words
-enters_by a _ None is there none else = cc
-enters_by a words (Some p) is there none else = go _ refl there none
-  where
-    go : (o : Option Shape) → find (λ s. answers_to p.0 (label_of s)) (built a).subs ≡ o
-        → is_some (option_map (λ s. rows_at s p.1) o) ≡ true
-        → option_map_or (λ s. level_fault s [] nothing_held p.1 false []) o [] ≡ [] → Enters a words
-    go None e there none = cc
-    go (Some s) e there none =
-        record {
-          tool = s;
-          name = p.0;
-          rest = p.1;
-          found = e;
-          other = else;
-          rows = ap (entered (built a)) is
-              ∙ rw e refl;
-          passes = none;
-        }
+enters_by = grind arith
 
 pub enters : (a : App) (words : List Text) → (built a).top.subcommand_required ≡ true → fault_of a words ≡ []
     → Enters a words

@@ -17,12 +17,12 @@ use Rattle.clap.specs.{
   Values.is_request,
   Kinds.{Kinds, check_kinds, or_else, range_kinds},
   Walk.{Held, bundle_step, has_short, Names, Outcome, Row, Rule, Step, Text, Waiting, Walk, after_flag, after_step},
-  Walk.{arg_by_id, arg_by_short, at_row, bundle_met, default_rows, done, finished, is_empty, long_met, long_or_other},
+  Walk.{arg_by_id, arg_by_short, at_row, bundle_met, default_rows, done, is_empty, long_met, long_or_other},
   Walk.{more_values, nothing_held, option_met, plain, plain_word, reacted, reading_by, settled, short_met},
   Walk.{short_or_plain, subcommand_or_other, takes_values, to_positional, used, used_as, values_or_missing, walk},
   Walk.{rows_after, walked, walked_from, with_default, with_values, word_met},
   Simple.Shape,
-  Takes.{values_pass, is_given},
+  Takes.values_pass,
   Faults.{action_fault, stray_fault, bundle_fault, bundle_step_fault, flag_word_fault, flags_fault, long_fault},
   Faults.{option_fault, other_fault, positional_fault, react_fault, settle_fault, short_fault, step_fault, use_fault},
   Faults.{values_fault, walk_fault, level_fault, word_fault},
@@ -165,13 +165,11 @@ module _ (c : List Rule) (level : IsPlainLevel c) (again : Bool) where
       (filled_by a (unwrap_or_range a.range).start_inclusive _ _ parts.0) parts.1 h
 
   settled_pass : (h : Held) → Keeps (settle_fault c again h) h (settled c h)
-  settled_pass h none rows = grind (arith, none, rows, owned, used_pass, level.plain, level.distinct)
+  settled_pass = grind (arith, owned, used_pass)
 
   reacted_pass : (a : Rule) (values : List Text) (h : Held) → IsOwn c a
       → Keeps (react_fault c again a values h) h (reacted c a values h)
-  reacted_pass a _ h is none rows =
-      let parts = none_fails _ _ none in
-      used_pass a _ (settled c h).rows is parts.1 (settled_pass h parts.0 rows)
+  reacted_pass = grind (arith, none_fails, used_pass, settled_pass)
 
   -- a use as an option with this value, or what else the word comes to
   option_or : (a : Rule) (v : Option Text) (h : Held) (fault : Kinds) (other : Held × Outcome) → IsOwn c a
@@ -183,18 +181,12 @@ module _ (c : List Rule) (level : IsPlainLevel c) (again : Bool) where
 
   long_pass : (o : Option Rule) (v : Option Text) (h : Held) → IfSome o (IsOwn c)
       → Keeps (long_fault c again o v h) h (long_met c o v h).0
-  long_pass None v h is none rows = rows
-  long_pass (Some a) None h is none rows = option_or a None h _ _ is (reacted_pass a [] h is) none rows
-  long_pass (Some a) (Some v) h is none rows = option_or a (Some v) h _ _ is (λ _ _. rows) none rows
+  long_pass = grind (arith, option_or, reacted_pass)
 
   short_pass : (o : Option Rule) (rest : Text) (h : Held) (next : Held → Held × Outcome) (fault : Held → Kinds)
       → ((k : Held) → Keeps (fault k) k (next k).0) → IfSome o (IsOwn c)
       → Keeps (short_fault c again o rest h fault) h (short_met c o rest h next).0
-  short_pass None _ h _ _ _ is = λ none rows. rows
-  short_pass (Some a) _ h _ _ goes is =
-      option_or a _ h _ _ is (λ none rows.
-      let parts = none_fails _ _ none in
-      goes _ parts.1 (reacted_pass a [] h is parts.0 rows))
+  short_pass = grind (arith, option_or, none_fails, reacted_pass)
 
   found_own : (p : Rule → Bool) → IfSome (find p c) (IsOwn c)
   found_own p = grind (arith, owned p c, level.plain, level.distinct)
@@ -230,9 +222,7 @@ plain_keeps = grind arith
 
 flag_keeps : (c : List Rule) (waiting : Waiting) (word : Text) (h : Held) (o : Outcome) (P : Text → Type 0)
     → ((after_flag c waiting word h o).0.rows ≡ h.rows) × IsElsewhere P (after_flag c waiting word h o).1
-flag_keeps c _ _ h w.done P = (refl, tt)
-flag_keeps c _ _ h (w.waits id) P = (refl, tt)
-flag_keeps c _ _ h _ P = plain_keeps c _ _ h P
+flag_keeps = grind arith
 
 -- the name asks for help
 abbrev pub asks : Shape → Text → Bool
@@ -247,40 +237,30 @@ module _ (s : Shape) where
 
   either : (b : Bool) (fault : Kinds) (h : Held) (met other : Held × Step) → Goes [] h met → Goes fault h other
       → Goes (if b then [] else fault) h (if b then met else other)
-  either true _ h _ _ first _ = first
-  either false _ h _ _ _ second = second
+  either = grind arith
 
   flag_goes : (fault : Kinds) (waiting : Waiting) (word : Text) (h : Held) (met : Held × Outcome)
       → (IsPlainLevel s.rules → fault ≡ [] → RowsPass s.rules h.rows → RowsPass s.rules met.0.rows)
       → Goes fault h (after_flag s.rules waiting word met.0 met.1)
-  flag_goes _ waiting word h met passes none =
-      let kept = flag_keeps _ waiting word met.0 met.1 _ in
-      (λ level rows. subst (RowsPass s.rules) (sym kept.0) (passes level none rows), kept.1)
+  flag_goes = grind (arith, flag_keeps)
 
   short_goes : (waiting : Waiting) (word : Text) (o : Option Text) (h : Held)
       → Goes (option_map_or (λ flags. bundle_fault s.rules s.args_override_self flags h) o []) h
       (short_or_plain s.rules waiting word o h)
-  short_goes _ _ None h = λ none. let kept = plain_keeps _ _ _ h _ in
-      (λ level rows. subst (RowsPass _) (sym kept.0) rows, kept.1)
-  short_goes _ _ (Some flags) h = flag_goes _ _ _ h _ (λ level. bundle_pass _ level _ _ _ _ _ _)
+  short_goes = grind (arith, plain_keeps, flag_goes, bundle_pass)
 
   long_goes : (waiting : Waiting) (word : Text) (o : Option (Text × Option Text)) (h : Held)
       → Goes (flag_word_fault s.rules s.args_override_self o word h) h (long_or_other s.rules waiting word o h)
-  long_goes _ _ None h = short_goes _ _ _ h
-  long_goes _ _ (Some p) h =
-      flag_goes _ _ _ h _ (λ level. long_pass _ level _ _ _ h (found_own _ level s.args_override_self _))
+  long_goes = grind (arith, short_goes, flag_goes, long_pass, found_own)
 
   other_goes : (o : Option Text) (waiting : Waiting) (position : ℕ) (word : Text) (h : Held)
       → Goes (other_fault s o word h) h (subcommand_or_other s.rules o waiting position word h)
-  other_goes (Some name) _ _ _ h = λ none. (λ level rows. rows, grind arith)
-  other_goes None _ _ word h =
-      either _ _ h (h, w.trailing _) _ (λ none. (λ level rows. rows, tt)) (long_goes _ word _ h)
+  other_goes = grind (arith, either, long_goes)
 
   word_goes : (names : Names) (is_trailing : Bool) (waiting : Waiting) (position : ℕ) (word : Text) (h : Held)
       → Goes (word_fault s names is_trailing waiting word h) h
       (word_met s.rules names is_trailing waiting position word h)
-  word_goes _ is_trailing waiting position word h =
-      either is_trailing _ h (h, w.value) _ (λ none. (λ level rows. rows, tt)) (other_goes _ waiting position word h)
+  word_goes = grind (arith, either, other_goes)
 
   -- ---- the walk
 
@@ -345,17 +325,4 @@ last_check = grind arith
 -- a level of a command with no subcommand, of which nothing is wrong
 pub level_taken : (s : Shape) (words : List Text) → IsPlainLevel s.rules → s.subcommand_negates_reqs ≡ false
     → level_fault s [] nothing_held words false [] ≡ [] → IsTaken s.rules (rows_after s.rules [] words)
-level_taken s words level negates none =
-    let end = (walk _ [] _ words).held in
-    let all = none_fails _ _ none in
-    let settle = none_fails _ _ all.1 in
-    let rows = finished s.rules end in
-    let defaults = none_fails _ _ settle.1 in
-    let missing : Bool = list_any (λ a. a.required && not (is_given a.id rows)) s.rules in
-    let check : (not (s.subcommand_negates_reqs && false) && missing) ≡ false = last_check _ _ _ defaults.1 in
-    let walked = (walk_goes s [] _ _ all.0 (_, tt)).0 level in
-    record {
-      entries = subst (RowsPass _) (sym (defaults_pass s.rules (settled _ end).rows level.plain))
-          (settled_pass _ level _ end settle.0 walked);
-      complete = rw negates at check;
-    }
+level_taken = grind (arith, last_check, walk_goes, defaults_pass, settled_pass)

@@ -1,7 +1,5 @@
 use Rattle.std.proofs.Common.{refl}
-use Rattle.bac_device.specs.Kind.{kind_of}
-use Rattle.bac_device.specs.Point.{description_of}
-use Rattle.bac_device.specs.Inner.Demo.{with_row}
+use Rattle.bac_device.specs.{Kind.kind_of, Point.description_of, Inner.Demo.with_row}
 use Rattle.bac_device.proofs.demonstration.demo.Goals as goal
 
 pub returns : goal.returns

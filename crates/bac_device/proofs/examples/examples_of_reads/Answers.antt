@@ -1,31 +1,7 @@
 use Rattle.std.proofs.Common.{refl}
-use Rattle.bac_wire.specs.TagReading.{tag_number_at, long_length_at, length_at, shape_at, tag_at}
-use Rattle.bac_wire.specs.DatumReading.{contents_of, value_at}
-use Rattle.bac_wire.specs.ParameterReading.{context_at, number_at, object_at, behind_opening, enclosed_at, kind_at}
-use Rattle.bac_wire.specs.ItemReading.{behind_closing, behind_items, region_at}
-use Rattle.bac_wire.specs.Datum.{plain}
-use Rattle.bac_wire.specs.Inner.Datum.{tagged}
-use Rattle.bac_wire.specs.Tag.{plain_tag}
-use Rattle.bac_pdu.specs.Datagram.{wrapped}
-use Rattle.bac_pdu.specs.Inner.Datagram.{front_octets}
-use Rattle.bac_pdu.specs.DatagramReading.{address_at, header_at, link_at, carried}
-use Rattle.bac_pdu.specs.ApduReading.{parts_at, apdu_of}
-use Rattle.bac_pdu.specs.PropertyReading.{reference_at, read_of, write_of}
-use Rattle.bac_pdu.specs.Parameter.{plain_parameter}
-use Rattle.bac_device.specs.Property.{element, kind_property, point_property}
-use Rattle.bac_device.specs.Kind.{one_value}
-use Rattle.bac_device.specs.Places.{place, standing_after, written_value}
-use Rattle.bac_device.specs.Device.{device_text, device_number, device_property}
-use Rattle.bac_device.specs.Reply.{property_of, read_property, ordered_write, accepted_write, read_reply, write_reply}
-use Rattle.bac_device.specs.Reply.{write_in_body, full_reply, write_in_request, reply_apdu, write_in_apdu, reply_of}
-use Rattle.bac_device.specs.Reply.{write_in_datagram}
+use Rattle.bac_device.proofs.Computed.{computed}
 use Rattle.bac_device.proofs.examples.examples_of_reads.Goals as goal
 
 pub returns : goal.returns
-unfolding tag_number_at long_length_at length_at shape_at tag_at contents_of value_at context_at number_at object_at
-    behind_opening enclosed_at kind_at behind_closing behind_items region_at tagged plain plain_tag wrapped front_octets
-    address_at header_at link_at carried parts_at apdu_of reference_at read_of write_of plain_parameter element
-    kind_property point_property one_value place standing_after written_value device_text device_number device_property
-    property_of read_property ordered_write accepted_write read_reply write_reply write_in_body full_reply
-    write_in_request reply_apdu write_in_apdu reply_of write_in_datagram
+unfolding computed
 returns c = record { present = refl; extra = refl; device = refl; array = refl; failures = refl; size = refl }

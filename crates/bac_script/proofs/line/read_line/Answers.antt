@@ -1,12 +1,8 @@
-use Rattle.std.proofs.Common.{◌≡◌, Option, Some, None, option_map, ap, refl, arith}
-use Rattle.std.specs.Prelude.{ok_or}
+use Rattle.std.proofs.Common.{◌≡◌, Option, Some, None, option_map, ap, refl, arith, ok_or}
 use Rattle.std.proofs.lemmas.Grind.{common_steps}
-use Rattle.bac_script.specs.Line.{said_by, said_in}
-use Rattle.bac_script.specs.Inner.LineSeen.{line_seen}
+use Rattle.bac_script.specs.{Line.said_by, Line.said_in, Inner.LineSeen.line_seen}
 use Rattle.bac_wire.specs.Steps.{result_seen}
-use Rattle.bac_script.specs.declared.line.Line.{Line}
-use Rattle.bac_script.specs.declared.line.LineFault.{LineFault}
-use Rattle.bac_script.specs.declared.line.LineFault.TheVariants.{Bad}
+use Rattle.bac_script.specs.declared.line.{Line.Line, LineFault.LineFault, LineFault.TheVariants.Bad}
 use Rattle.bac_script.proofs.line.read_line.Goals as goal
 
 pub returns-then-not-is_text : goal.returns-then-not-is_text
@@ -14,8 +10,8 @@ returns-then-not-is_text c = grind (arith, common_steps, ap (said_in c.args.is_f
 
 seen-ok_or : (found : Option Line) (fault : LineFault)
     → result_seen line_seen (ok_or found fault) ≡ ok_or (option_map line_seen found) fault
-seen-ok_or None fault = refl
-seen-ok_or (Some line) fault = refl
+seen-ok_or None _ = refl
+seen-ok_or (Some _) _ = refl
 
 pub returns : goal.returns
 returns c = grind (

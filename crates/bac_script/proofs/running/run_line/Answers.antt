@@ -1,21 +1,15 @@
 use Rattle.std.proofs.Common.{◌≡◌, ℕ, true, List, [], ◌∷◌, length, Result, Ok, Err, IsTrue, refl, sym, ◌∙◌, ap, subst}
-use Rattle.std.proofs.Common.{arith, rules}
-use Rattle.std.specs.Prelude.{nat_lt}
+use Rattle.std.proofs.Common.{arith, rules, nat_lt}
 use Rattle.std.proofs.lemmas.Bool.Decides.{nat_tests}
 use Rattle.bac_wire.specs.Identifier.{identifier}
-use Rattle.bac_tsm.specs.declared.client.SubmitFault.TheVariants.{TooLong}
-use Rattle.bac_tsm.specs.Events.{Refused}
-use Rattle.bac_tsm.specs.Lookahead.{refusal_of}
+use Rattle.bac_tsm.specs.{declared.client.SubmitFault.TheVariants.TooLong, Events.Refused, Lookahead.refusal_of}
 use Rattle.bac_pdu.specs.Apdu.{longest_body}
 use Rattle.bac_text.specs.Pairs.{whole_body_of}
 use Rattle.bac_print.proofs.Printed.{printed_as}
-use Rattle.bac_script.specs.declared.line.Line.{Line}
-use Rattle.bac_script.specs.declared.line.Line.TheVariants.{LongWrite}
-use Rattle.bac_script.specs.declared.long_write.LongWrite.{LongWrite as Write}
-use Rattle.bac_script.specs.Inner.LineSeen.{line_seen}
-use Rattle.bac_script.specs.Inner.LongBody.{octets_or_none, is_long}
+use Rattle.bac_script.specs.{declared.line.Line.Line, declared.line.Line.TheVariants.LongWrite}
+use Rattle.bac_script.specs.{declared.long_write.LongWrite.LongWrite as Write, Inner.LineSeen.line_seen}
+use Rattle.bac_script.specs.{Inner.LongBody.octets_or_none, Inner.LongBody.is_long, Text.notes_text}
 use Rattle.bac_script.specs.Inner.Running.{Stage, Ran, Stands, ran}
-use Rattle.bac_script.specs.Text.{notes_text}
 use Rattle.bac_script.proofs.running.run_line.Goals as goal
 
 past : (whole : Result (List ℕ) ℕ) → IsTrue (is_long whole) → nat_lt longest_body (length (octets_or_none whole)) ≡ true
@@ -26,7 +20,7 @@ past (Ok body) h = grind (arith, nat_tests, h)
 long_refused : (stage : Stage) (line : Line) (write : Write) → line ≡ LongWrite write
     → ran stage (line_seen line) ≡ record { text = notes_text (Refused TooLong ∷ []); after = stage }
 unfolding refusal_of
-long_refused stage line write is =
+long_refused stage _ write is =
     ap (λ (l : Line). ran stage (line_seen l)) is
     ∙ rw (past (whole_body_of (identifier write.object) write.property write.index write.priority write.words)
     write.long) refl
@@ -37,6 +31,6 @@ returns-in-LongWrite-clause-stage g c stage stands =
     (sym (long_refused stage c.args.line c.in-LongWrite.field-0 c.in-LongWrite.is)) stands
 
 pub returns-in-LongWrite-clause-text : goal.returns-in-LongWrite-clause-text
-returns-in-LongWrite-clause-text g c stage stands =
+returns-in-LongWrite-clause-text g c stage _ =
     printed_as c.print_refusal.ensures
     (ap (λ (r : Ran). r.text) (sym (long_refused stage c.args.line c.in-LongWrite.field-0 c.in-LongWrite.is)))

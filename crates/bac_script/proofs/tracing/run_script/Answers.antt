@@ -1,16 +1,11 @@
-use Rattle.std.proofs.Common.{◌≡◌, sym, ◌∙◌, ap, refl, arith, rules, length-drop}
-use Rattle.std.specs.Prelude.{◌&&◌}
-use Rattle.std.proofs.lemmas.List.{length-take-le}
+use Rattle.std.proofs.Common.{◌≡◌, sym, ◌∙◌, ap, refl, arith, rules, length-drop, ◌&&◌, length-take-le}
 use denote.Enum.Bare.{same_true}
-use Rattle.bac_script.specs.contracts.input.Reading.{the_type}
-use Rattle.bac_script.specs.declared.input.Reading.TheVariants.{Open}
-use Rattle.bac_script.specs.Line.{said}
-use Rattle.bac_script.specs.Inner.LineSeen.{line_seen}
+use Rattle.bac_script.specs.{contracts.input.Reading.the_type, declared.input.Reading.TheVariants.Open, Line.said}
+use Rattle.bac_script.specs.{Inner.LineSeen.line_seen, Script.is_nothing}
 use Rattle.bac_wire.specs.Steps.{result_seen}
-use Rattle.bac_script.specs.Script.{is_nothing}
 use Rattle.bac_script.proofs.SoFar.{SoFar-none, unwritten, unread, to_end, faulty, to_last, goes_on}
-use Rattle.bac_script.proofs.tracing.run_script.Goals as goal
 use Rattle.bac_script.proofs.tracing.run_script.Goals.{then-is_first, else-is_first}
+use Rattle.bac_script.proofs.tracing.run_script.Goals as goal
 
 pub loop-next-init : goal.loop-next-init
 loop-next-init g c = record {
@@ -59,8 +54,7 @@ returns-then-eq-2-clause-script g c =
     (line_seen c.in-Ok.line) (same_true the_type (search rules) _ _ (sym c.if-eq-2.ensures)) n.cut
     (omega (arith, length-take-le c.in_ok-next.next.length c.next_line.new.self n.within, c.if-next-eq0.false))
     (ap (said c.loop-next.is_first) (sym c.front.ensures) ∙ sym c.read_line.ensures
-    ∙ ap (result_seen line_seen) c.in-Ok.is)
-    (c.run_line.ensures.text s.stage s.kept)
+    ∙ ap (result_seen line_seen) c.in-Ok.is) (c.run_line.ensures.text s.stage s.kept)
 
 pub loop-next-preserved : goal.loop-next-preserved
 loop-next-preserved g c =
@@ -79,8 +73,7 @@ loop-next-preserved g c =
           (λ e. absurd (let bad = rw e at c.if-eq.ensures in cc))
           (λ e. absurd (let bad = rw e at c.if-eq-2.ensures in cc)) n.cut
           (ap (said c.loop-next.is_first) (sym c.front.ensures) ∙ sym c.read_line.ensures
-          ∙ ap (result_seen line_seen) c.in-Ok.is)
-          first (c.run_line.ensures.stage s.stage s.kept)
+          ∙ ap (result_seen line_seen) c.in-Ok.is) first (c.run_line.ensures.stage s.stage s.kept)
           (c.run_line.ensures.text s.stage s.kept);
       room = omega (
         arith,

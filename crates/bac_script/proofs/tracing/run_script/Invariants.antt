@@ -1,7 +1,5 @@
 use Rattle.std.proofs.Common.{◌+◌, ◌*◌, ◌≤◌}
-use Rattle.bac_script.specs.Input.{most_reads}
-use Rattle.bac_script.specs.Inner.Input.{most_to_come}
-use Rattle.bac_script.specs.Inner.Limits.{chunk_room}
+use Rattle.bac_script.specs.{Input.most_reads, Inner.Input.most_to_come, Inner.Limits.chunk_room}
 use Rattle.bac_script.proofs.SoFar.{SoFar}
 use Rattle.bac_script.proofs.tracing.run_script.Given as goal
 

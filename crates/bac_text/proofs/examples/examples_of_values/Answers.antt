@@ -1,10 +1,7 @@
-use Rattle.std.proofs.Common.{refl}
-use Rattle.std.specs.Fmt.{digits}
+use Rattle.std.{proofs.Common.refl, specs.Fmt.digits}
 use Rattle.hex.specs.Hex.{decode_pairs}
 use Rattle.bac_text.specs.ValueWords.{value_under}
-use Rattle.bac_wire.specs.Datum.{plain}
-use Rattle.bac_wire.specs.Inner.Datum.{tagged}
-use Rattle.bac_wire.specs.Tag.{plain_tag}
+use Rattle.bac_wire.specs.{Datum.plain, Inner.Datum.tagged, Tag.plain_tag}
 use Rattle.bac_text.proofs.examples.examples_of_values.Goals as goal
 
 pub returns : goal.returns

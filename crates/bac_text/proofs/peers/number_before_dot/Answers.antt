@@ -1,18 +1,16 @@
 use Rattle.std.proofs.Common.{arith}
-use Rattle.std.proofs.lemmas.Bool.Decides.{nat_tests}
 use Rattle.bac_text.proofs.LeadingDigits.{one_digit, two_digits, three_digits, three_digits_too_big}
 use Rattle.bac_text.proofs.peers.number_before_dot.Goals as goal
 
 pub returns-in_ok-digit-in-46-clause-value : goal.returns-in_ok-digit-in-46-clause-value
 returns-in_ok-digit-in-46-clause-value c =
-    one_digit _ _ c.in_ok-digit-in-46.ensures.value (grind (arith, nat_tests)) (grind (arith, nat_tests))
-    c.in_ok-digit-in-46.ensures.limit
+    one_digit _ _ c.in_ok-digit-in-46.ensures.value (grind arith) (grind arith) c.in_ok-digit-in-46.ensures.limit
 
 pub returns-in_ok-digit-in-46-2-2-clause-value : goal.returns-in_ok-digit-in-46-2-2-clause-value
 returns-in_ok-digit-in-46-2-2-clause-value c =
     let tens = c.in_ok-digit-in-46-2.ensures in
     let ones = c.in_ok-digit-in-46-2-2.ensures in
-    two_digits _ _ tens.value _ ones.value (grind (arith, nat_tests)) (grind (arith, nat_tests)) tens.limit ones.limit
+    two_digits _ _ tens.value _ ones.value (grind arith) (grind arith) tens.limit ones.limit
 
 pub returns-else-number-gt255-clause-value : goal.returns-else-number-gt255-clause-value
 returns-else-number-gt255-clause-value c =

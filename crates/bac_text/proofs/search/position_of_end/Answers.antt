@@ -1,17 +1,14 @@
 use Rattle.std.proofs.Common.{◌≤◌, arith}
-use Rattle.bac_text.specs.Search.{ends_at}
 use Rattle.bac_text.proofs.Lanes.{position_is, position_none, all_before}
 use Rattle.bac_text.proofs.search.position_of_end.Goals as goal
 
 pub returns-then-run-lt-LANES : goal.returns-then-run-lt-LANES
 returns-then-run-lt-LANES c =
     let run = c.run_before-run.ensures in
-    let seen : c.min-at.result ≤ c.loop-start.start = omega (arith, c.min-at.ensures) in
-    position_is (ends_at c.args.end) c.args.octets.now _
-    (omega (arith, c.min-at.ensures, c.if-run-lt-LANES.true, c.if-octets-lt-LANES.false))
-    (all_before (ends_at c.args.end) c.args.octets.now c.loop-start.start _ 16 _ seen c.loop-start.invariant.before run)
+    let seen : c.min-at.result ≤ c.loop-start.start = omega arith in
+    position_is _ c.args.octets.now _ (omega (arith, c.min-at.ensures))
+    (all_before _ c.args.octets.now c.loop-start.start _ 16 _ seen c.loop-start.invariant.before run)
     (run.stops c.if-run-lt-LANES.true)
 
 pub returns : goal.returns
-returns c = position_none (ends_at c.args.end) c.args.octets.now
-    (λ k below. c.loop-start.invariant.before k (omega (arith, c.loop-start-test.false)))
+returns c = position_none _ c.args.octets.now (λ k below. c.loop-start.invariant.before k (omega arith))

@@ -1,30 +1,26 @@
-use Rattle.std.proofs.Common.{◌≡◌, ◌*◌, ◌<◌, length, drop, refl, sym, ◌∙◌, ap, arith, length-set}
-use Rattle.std.proofs.lemmas.List.{take_rest}
-use Rattle.std.proofs.lemmas.List.Edits.{fill_by_more}
-use Rattle.bac_text.specs.ValueWords.{bits_octet}
-use Rattle.bac_text.proofs.WordValues.{bits-written, bits-long}
+use Rattle.std.proofs.{
+  Common.{◌≡◌, ◌*◌, ◌<◌, length, drop, refl, sym, ◌∙◌, ap, arith, length-set},
+  lemmas.{List.take_rest, List.Edits.fill_by_more},
+}
+use Rattle.bac_text.{specs.ValueWords.bits_octet, proofs.WordValues.{bits-written, bits-long}}
 use Rattle.bac_text.proofs.value_words.append_bits.Goals as goal
 
 pub returns-then-count-gt-FRAME_OCTETS-clause-value : goal.returns-then-count-gt-FRAME_OCTETS-clause-value
 returns-then-count-gt-FRAME_OCTETS-clause-value c =
-    bits-long c.args.region.now c.args.digits.now (sym c.are_bits.ensures ∙ c.if-not-are_bits.false)
-    (omega (arith, c.div_ceil-count.ensures))
+    bits-long _ c.args.digits.now (sym c.are_bits.ensures ∙ c.if-not-are_bits.false) (omega arith)
 
 pub loop-i-preserved : goal.loop-i-preserved
 loop-i-preserved c =
-    let within : c.loop-i.i < length c.loop-i.room = omega (arith, c.loop-i.invariant.room) in
+    let within : c.loop-i.i < length c.loop-i.room = omega arith in
     let same : c.bits_octet.result ≡ bits_octet (drop (8 * c.loop-i.i) c.args.digits.now) =
     c.bits_octet.ensures ∙ ap bits_octet (take_rest c.args.digits.now (8 * c.loop-i.i)) in
     record {
-      room = length-set c.loop-i.room c.loop-i.i c.bits_octet.result ∙ c.loop-i.invariant.room;
-      written = rw same
-          (fill_by_more (λ k. bits_octet (drop (8 * k) c.args.digits.now)) c.loop-i.room c.loop-i.i 0 within
-          c.loop-i.invariant.written);
+      room = length-set c.loop-i.room c.loop-i.i _ ∙ c.loop-i.invariant.room;
+      written = rw same (fill_by_more _ c.loop-i.room c.loop-i.i 0 within c.loop-i.invariant.written);
     }
 
 pub returns-clause-value : goal.returns-clause-value
 returns-clause-value c =
-    let e = bits-written c.args.digits.now c.loop-i.room c.div_ceil-count.result _
-    (sym c.are_bits.ensures ∙ c.if-not-are_bits.false) c.div_ceil-count.ensures
-    (omega (arith, c.loop-i.invariant.room)) (λ k h. c.loop-i.invariant.written k (omega arith)) refl in
+    let e = bits-written _ _ _ _ (sym c.are_bits.ensures ∙ c.if-not-are_bits.false) c.div_ceil-count.ensures
+    (omega arith) (λ k h. c.loop-i.invariant.written k (omega arith)) refl in
     rw e c.append_value.ensures.value

@@ -1,11 +1,12 @@
-use Rattle.std.proofs.Common.{◌≡◌, ℕ, ◌-◌, ◌<◌, true, List, length, take, drop, get_or, sym, ◌∙◌, subst, arith}
-use Rattle.std.proofs.lemmas.Bool.{not-false}
-use Rattle.std.proofs.lemmas.List.{take_rest}
-use Rattle.bac_text.specs.Words.{is_blank}
-use Rattle.bac_text.specs.Inner.Words.{IsFirstNumber}
-use Rattle.bac_text.proofs.FirstNumbers.{first_number_is}
+use Rattle.std.proofs.{
+  Common.{◌≡◌, ℕ, ◌<◌, true, List, length, take, get_or, sym, ◌∙◌, subst, arith, ◌-◌, drop},
+  lemmas.{Bool.not-false, List.take_rest},
+}
+use Rattle.bac_text.{
+  specs.{Words.is_blank, Inner.Words.IsFirstNumber},
+  proofs.{FirstNumbers.first_number_is, words.first_number.Goals.{then-count-text, else-count-text}},
+}
 use Rattle.bac_text.proofs.words.first_number.Goals as goal
-use Rattle.bac_text.proofs.words.first_number.Goals.{then-count-text, else-count-text}
 
 pub returns : goal.returns
 returns c =
@@ -16,8 +17,8 @@ returns c =
     let blank : count < length rest → is_blank (get_or rest count 0) ≡ true =
     λ more. elim c.if-count-text.branch [
       | then-count-text w ↦ sym w.is_blank.ensures ∙ not-false _ (sym w.value-is ∙ c.if-not-is_blank.false)
-      | else-count-text w ↦ absurd (omega (arith, more, w.if-count-text.false))
+      | else-count-text w ↦ absurd (omega (arith, more))
     ] in
     subst (λ (later : List ℕ). IsFirstNumber text c.leading_number-number.result.0 later) (sym (take_rest rest count))
     (first_number_is rest _ count c.leading_number-number.ensures text start c.in_ok-start.ensures
-    (take_rest text start) (omega (arith, c.if-count-eq0.false)) blank)
+    (take_rest text start) (omega arith) blank)

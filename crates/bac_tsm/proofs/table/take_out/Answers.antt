@@ -1,8 +1,5 @@
-use Rattle.std.proofs.Common.{sym, ap, ◌∙◌, nat_eq}
-use Rattle.std.specs.Prelude.{position}
-use Rattle.std.proofs.lemmas.Bool.{eqb-true}
-use Rattle.std.proofs.lemmas.Option.{none-some}
-use Rattle.std.proofs.lemmas.List.Quantifiers.{position-Some}
+use Rattle.std.proofs.Common.{sym, ap, ◌∙◌, nat_eq, position, eqb-true}
+use Rattle.std.proofs.lemmas.{Option.none-some, List.Quantifiers.position-Some}
 use Rattle.bac_tsm.proofs.TableReads.{found_at}
 use Rattle.bac_tsm.proofs.table.take_out.Goals as goal
 
@@ -15,7 +12,6 @@ returns-in-Some c =
 
 pub returns-in_default : goal.returns-in_default
 returns-in_default c =
-    absurd (none-some _
-    (sym c.in_default.is ∙ c.rank_of_slot.ensures
+    absurd (none-some _ (sym c.in_default.is ∙ c.rank_of_slot.ensures
     ∙ ap (position (λ other. nat_eq other c.args.slot)) c.deref-else-eq.ensures.0
     ∙ (found_at c.args.slot c.args.slots.now.items c.requires).1.found))

@@ -7,5 +7,4 @@ returns c =
       c.own_instance_arg.ensures.rule,
       c.port_arg.ensures.rule,
       c.option.ensures.rule,
-    ) at
-    (c.tool.ensures _ c.named.ensures)
+    ) at (c.tool.ensures _ c.named.ensures)

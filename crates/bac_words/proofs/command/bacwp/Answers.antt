@@ -15,5 +15,4 @@ returns c =
       c.timeout_arg.ensures.rule,
       c.retries_arg.ensures.rule,
       c.port_arg.ensures.rule,
-    ) at
-    (c.tool.ensures _ c.named.ensures)
+    ) at (c.tool.ensures _ c.named.ensures)

@@ -1,8 +1,6 @@
 use Rattle.std.proofs.Common.{refl}
-use Rattle.clap.specs.Faults.{walk_fault, defaults_fault}
-use Rattle.clap.specs.Walk.{walked}
-use Rattle.bac_wire.specs.Datum.{plain}
-use Rattle.bac_wire.specs.Tag.{plain_tag}
+use Rattle.clap.specs.{Faults.walk_fault, Faults.defaults_fault, Walk.walked}
+use Rattle.bac_wire.specs.{Datum.plain, Tag.plain_tag}
 use Rattle.bac_pdu.specs.Parameter.{plain_parameter}
 use Rattle.bac_text.specs.ValueWords.{value_under}
 use Rattle.bac_words.proofs.examples.examples_of_requests.Goals as goal

@@ -1,14 +1,8 @@
-use Rattle.std.proofs.Common.{◌≡◌, ◌∙◌, sym, ap, subst, inl, inr, map, List, [], Option}
-use Rattle.std.specs.Prelude.{IsSomeAnd, option_map}
+use Rattle.std.proofs.Common.{◌≡◌, ◌∙◌, sym, ap, subst, inl, inr, map, List, [], Option, IsSomeAnd, option_map}
 use Rattle.std.specs.String.{string_bytes}
-use Rattle.clap.specs.Kinds.{HasKind}
-use Rattle.clap.specs.Walk.{Row, Text, texts}
+use Rattle.clap.specs.{Kinds.HasKind, Faults.fault_of, Faults.is_simple_and_free, Walk.Row, Walk.Text, Walk.texts}
 use Rattle.clap.specs.Simple.{App, is_simple, subcommand_of}
-use Rattle.clap.specs.Faults.{fault_of, is_simple_and_free}
-use Rattle.bac_words.specs.Command.{bactool}
-use Rattle.bac_words.specs.Job.{order_of}
-use Rattle.bac_words.specs.Inner.Job.{IsTool}
-use Rattle.bac_words.specs.Marks.{marked_words}
+use Rattle.bac_words.specs.{Command.bactool, Job.order_of, Inner.Job.IsTool, Marks.marked_words}
 use Rattle.bac_words.proofs.Tools.{bactool_is_free, bactool_is_simple, refused, tool_met}
 use Rattle.bac_words.proofs.parse.parse_words.Goals as goal
 
@@ -20,8 +14,7 @@ returns-in_err-matches-clause-answer c =
     inl (refused (texts c.args.words.now) (map string_bytes c.as_slice.result.now) c.in_err-matches.field-0.0
     c.from_residual-in_err-matches.result same
     (subst (λ (a : App). HasKind (fault_of a (map string_bytes c.as_slice.result.now)) c.in_err-matches.field-0.0) shape
-    h)
-    c.from_residual-in_err-matches.ensures.1)
+    h) c.from_residual-in_err-matches.ensures.1)
 
 pub job-requires : goal.job-requires
 job-requires c =
@@ -29,8 +22,7 @@ job-requires c =
     let words = map string_bytes c.as_slice.result.now in
     let found = (c.in_ok-matches.ensures.matches (ap is_simple shape ∙ bactool_is_simple)).1
     ∙ ap (λ (a : App). subcommand_of a words) shape in
-    let none : fault_of bactool words ≡ [] =
-    ap (λ (a : App). fault_of a words) (sym shape)
+    let none : fault_of bactool words ≡ [] = ap (λ (a : App). fault_of a words) (sym shape)
     ∙ c.in_ok-matches.ensures.kinds (ap is_simple_and_free shape ∙ bactool_is_free) in
     subst (λ (o : Option (Text × List Row)). IsSomeAnd o IsTool) (sym found) (tool_met words none)
 
@@ -42,8 +34,7 @@ returns-clause-answer c =
     ∙ c.in_ok-marked.ensures in
     let found = (c.in_ok-matches.ensures.matches (ap is_simple shape ∙ bactool_is_simple)).1
     ∙ ap (λ (a : App). subcommand_of a words) shape in
-    let none : fault_of bactool words ≡ [] =
-    ap (λ (a : App). fault_of a words) (sym shape)
+    let none : fault_of bactool words ≡ [] = ap (λ (a : App). fault_of a words) (sym shape)
     ∙ c.in_ok-matches.ensures.kinds (ap is_simple_and_free shape ∙ bactool_is_free) in
     inr (record {
       taken = ap (fault_of bactool) (sym same) ∙ none;

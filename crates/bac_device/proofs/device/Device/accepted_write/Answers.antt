@@ -1,12 +1,8 @@
-use Rattle.std.proofs.Common.{◌≡◌, ℕ, Option, Some, None, Result, Ok, Err, refl, sym, is_some}
-use Rattle.std.specs.Prelude.{if◌then◌else◌, ◌&&◌, not}
+use Rattle.std.proofs.Common.{◌≡◌, ℕ, Option, Some, None, Result, Ok, Err, refl, sym, is_some, if◌then◌else◌, ◌&&◌, not}
 use Rattle.bac_wire.specs.Datum.{Datum}
 use Rattle.bac_pdu.specs.Property.{Order, order}
-use Rattle.bac_device.specs.declared.failure.Failure.{Failure}
-use Rattle.bac_device.specs.declared.failure.Failure.TheVariants.{NotAnArray}
-use Rattle.bac_device.specs.Property.{single}
-use Rattle.bac_device.specs.Places.{Standing}
-use Rattle.bac_device.specs.Device.{DeviceState}
+use Rattle.bac_device.specs.{declared.failure.Failure.Failure, declared.failure.Failure.TheVariants.NotAnArray}
+use Rattle.bac_device.specs.{Property.single, Places.Standing, Device.DeviceState}
 use Rattle.bac_device.specs.Reply.{property_of, commanded_point, ordered_write, accepted_write}
 use Rattle.bac_device.proofs.device.Device.accepted_write.Goals as goal
 
@@ -14,8 +10,8 @@ use Rattle.bac_device.proofs.device.Device.accepted_write.Goals as goal
 no_index : {A : Type 0} (value : Datum) (index : Option ℕ) (rest : Result A Failure)
     → (if is_some index && not (single value).is_array then Err NotAnArray else rest)
     ≡ if is_some index then Err NotAnArray else rest
-no_index value None rest = refl
-no_index value (Some index) rest = refl
+no_index _ None _ = refl
+no_index _ (Some _) _ = refl
 
 -- What an order comes to that names the present value of a point.
 accepted_at : (device : DeviceState) (o : Order) (standing : Standing) (value : Datum)
@@ -23,7 +19,7 @@ accepted_at : (device : DeviceState) (o : Order) (standing : Standing) (value : 
     → property_of device o.reference.object o.reference.property ≡ Ok (single value)
     → accepted_write device o ≡ if is_some o.reference.index then Err NotAnArray else ordered_write standing o
 unfolding accepted_write
-accepted_at device o standing value found property =
+accepted_at _ o standing value found property =
     rw (property, found) (no_index value o.reference.index (ordered_write standing o))
 
 pub returns-then-is_some-2 : goal.returns-then-is_some-2

@@ -1,9 +1,7 @@
-use Rattle.std.proofs.Common.{length-append, arith}
-use Rattle.std.proofs.lemmas.Grind.{common_steps}
+use Rattle.std.proofs.{Common.length-append, Common.arith, lemmas.Grind.common_steps}
 use Rattle.bac_pdu.specs.Property.{reference}
 use Rattle.bac_pdu.proofs.AckLaws.{ack_parts, length_ack}
-use Rattle.bac_device.specs.Inner.Property.{property_seen}
-use Rattle.bac_device.specs.Reply.{acknowledged}
+use Rattle.bac_device.specs.{Inner.Property.property_seen, Reply.acknowledged}
 use Rattle.bac_device.proofs.device.Device.ack.Goals as goal
 
 pub returns-in_err-begin_ack-clause-full : goal.returns-in_err-begin_ack-clause-full

@@ -1,25 +1,18 @@
-use Rattle.std.proofs.Common.{sym, subst}
-use Rattle.std.proofs.lemmas.Result.{err_from_is_err_and}
-use Rattle.bac_wire.specs.Identifier.{identifier}
+use Rattle.std.proofs.{Common.{sym, subst}, lemmas.Result.err_from_is_err_and}
 use Rattle.bac_wire.specs.Region.{IsRegion}
-use Rattle.bac_text.proofs.BodiesInWords.{region_written}
-use Rattle.bac_text.proofs.ValueRegions.{values_are_region}
-use Rattle.bac_text.proofs.WriteBodies.{body-fault}
+use Rattle.bac_text.proofs.{BodiesInWords.region_written, ValueRegions.values_are_region, WriteBodies.body-fault}
 use Rattle.bac_text.proofs.bodies.BodyRoom.body_of_write.Goals as goal
 
 pub returns-in_err-read_pairs : goal.returns-in_err-read_pairs
 returns-in_err-read_pairs g c =
     let p = err_from_is_err_and c.from_residual.result c.from_residual.ensures.1 in
     record {
-      body = rw (p.1, p.2)
-          (sym (body-fault (identifier c.args.object) c.args.property c.args.index c.args.priority
-          (g.S.WordSource.left c.args.words.now) _ c.in_err-read_pairs.ensures.value));
+      body = rw (p.1, p.2) (sym (body-fault _ _ _ _ (g.S.WordSource.left _) _ c.in_err-read_pairs.ensures.value));
       short = rw p.1 tt;
       left = rw (p.1, p.2) c.in_err-read_pairs.ensures.left;
     }
 
 pub write_write-requires-clause-region : goal.write_write-requires-clause-region
 write_write-requires-clause-region g c =
-    let written = region_written (g.S.WordSource.left c.args.words.now) c.read_pairs.new.region
-    c.in_ok-read_pairs.ensures.value in
-    subst (IsRegion 32) (sym c.as_slice.ensures.value) (values_are_region written.values _ written.spelled)
+    let written = region_written (g.S.WordSource.left c.args.words.now) _ c.in_ok-read_pairs.ensures.value in
+    subst (IsRegion 32) (sym c.as_slice.ensures.value) (values_are_region _ _ written.spelled)

@@ -25,8 +25,7 @@ returns-then-not-is_answered_by c =
 pub returns-in_err-rank : goal.returns-in_err-rank
 returns-in_err-rank c =
     absurd (closed_some_turn c.self.invariant.0 (answer_seen c.args.answer.now) c.from.result c.from.ensures
-    (omega arith) _ c.self.view_is
-    c.in_ok-slot.slot c.in_ok-slot.was _ c.held-request.ensures _ c.ticket-ticket.ensures
+    (omega arith) _ c.self.view_is c.in_ok-slot.slot c.in_ok-slot.was _ c.held-request.ensures _ c.ticket-ticket.ensures
     (rw c.in_err-rank.was at c.rank_of.ensures))
 
 pub returns : goal.returns

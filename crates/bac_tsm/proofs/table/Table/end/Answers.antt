@@ -1,6 +1,5 @@
 use Rattle.std.proofs.Common.{sym}
-use Rattle.bac_tsm.proofs.Held.{same_turn}
-use Rattle.bac_tsm.proofs.TableEdits.{sent_slot, ended_by}
+use Rattle.bac_tsm.proofs.{Held.same_turn, TableEdits.sent_slot, TableEdits.ended_by}
 use Rattle.bac_tsm.proofs.TableReads.{read_within, rank_within}
 use Rattle.bac_tsm.proofs.table.Table.end.Goals as goal
 
@@ -20,8 +19,7 @@ invariant_of-self c =
     ended_by c.self.invariant.0 _ c.self.view_is c.args.rank c.requires _ _ _ _ _ _ _ c.remove-slot.ensures.value
     c.held.ensures c.number-number.ensures
     c.from.ensures c.remove-slot.ensures.items c.push.ensures.items c.remove.ensures.items _ _ c.self.invariant.1
-    c.take_out.ensures in
-    (all.1, all.2)
+    c.take_out.ensures in (all.1, all.2)
 
 pub returns : goal.returns
 returns c =

@@ -1,7 +1,6 @@
 use Rattle.std.proofs.Common.{◌∙◌}
 use Rattle.bac_tsm.specs.Client.{client_rules}
-use Rattle.bac_tsm.proofs.PassDue.{front_below, some_due}
-use Rattle.bac_tsm.proofs.TableReads.{rising}
+use Rattle.bac_tsm.proofs.{PassDue.front_below, PassDue.some_due, TableReads.rising}
 use Rattle.bac_tsm.proofs.table.Table.is_due.Goals as goal
 
 pub held-requires : goal.held-requires
@@ -11,8 +10,7 @@ held-requires c =
 
 pub returns-in-Some-clause-due : goal.returns-in-Some-clause-due
 returns-in-Some-clause-due c =
-    c.is_due.ensures
-    ∙ some_due c.self.invariant.0 c.self.invariant.1 _ c.self.view_is _
+    c.is_due.ensures ∙ some_due c.self.invariant.0 c.self.invariant.1 _ c.self.view_is _
     (rw c.deref.ensures.0 at c.in-Some.ensures.value)
     (client_rules c.args.config.timeout c.args.config.retries) c.args.clock _ c.held.ensures
 

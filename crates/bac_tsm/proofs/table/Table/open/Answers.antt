@@ -1,6 +1,5 @@
 use Rattle.std.proofs.Common.{arith}
-use Rattle.bac_tsm.proofs.TableReads.{as_many, count, next_free}
-use Rattle.bac_tsm.proofs.TableEdits.{opened_by}
+use Rattle.bac_tsm.proofs.{TableReads.as_many, TableReads.count, TableReads.next_free, TableEdits.opened_by}
 use Rattle.bac_tsm.proofs.table.Table.open.Goals as goal
 
 pub begin_at-requires-clause-within : goal.begin_at-requires-clause-within
@@ -23,8 +22,7 @@ invariant_of-self c =
     opened_by c.self.invariant.0 _ c.self.view_is _ c.self.invariant.1 c.requires.room _ c.deref.ensures.0 c.len.result
     c.len.ensures.value c.args.asked c.args.body.now
     c.requires.number c.requires.latest c.requires.past _ _ _ _ c.from.ensures c.begin_at.ensures c.push.ensures.items
-    c.put_last.ensures in
-    (all.1, all.2)
+    c.put_last.ensures in (all.1, all.2)
 
 pub returns : goal.returns
 returns c =

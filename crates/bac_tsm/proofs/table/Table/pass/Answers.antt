@@ -1,6 +1,5 @@
 use Rattle.std.proofs.Common.{sym, subst, ◌∙◌}
-use Rattle.bac_tsm.specs.Client.{client_rules}
-use Rattle.bac_tsm.specs.Inner.Table.{IsRankOf}
+use Rattle.bac_tsm.specs.{Client.client_rules, Inner.Table.IsRankOf}
 use Rattle.bac_tsm.proofs.PassDue.{some_sent, front_below, sent_again, not_found, ended}
 use Rattle.bac_tsm.proofs.table.Table.pass.Goals as goal
 
@@ -10,8 +9,7 @@ first_sent-slot-requires c =
     (client_rules c.args.config.timeout c.args.config.retries) c.args.clock c.requires.due
 
 pub held-requires : goal.held-requires
-held-requires c =
-    front_below c.self.invariant.0 c.self.invariant.1 _ c.self.view_is _ c.first_sent-slot.ensures
+held-requires c = front_below c.self.invariant.0 c.self.invariant.1 _ c.self.view_is _ c.first_sent-slot.ensures
 
 pub send_again_at-requires-clause-within : goal.send_again_at-requires-clause-within
 send_again_at-requires-clause-within c =
@@ -22,8 +20,7 @@ invariant_of-self c =
     let all = sent_again c.self.invariant.0 c.self.invariant.1 _ c.self.view_is _ c.first_sent-slot.ensures
     (client_rules c.args.config.timeout c.args.config.retries) c.args.clock _ c.held.ensures c.requires.due
     c.requires.past _ (sym c.due_entry-entry.ensures ∙ c.in-Resend.is) _ _ _ c.send_again_at.ensures
-    c.remove.ensures.items c.push.ensures.items in
-    (all.1, all.2)
+    c.remove.ensures.items c.push.ensures.items in (all.1, all.2)
 
 pub returns-in-Resend : goal.returns-in-Resend
 returns-in-Resend c =

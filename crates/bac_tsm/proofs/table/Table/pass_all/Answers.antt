@@ -1,8 +1,7 @@
 use Rattle.std.proofs.Common.{List, length, ap, sym, subst, ◌∙◌, arith}
 use Rattle.std.specs.List.Sorted.{IsPermutation}
 use Rattle.std.proofs.lemmas.List.Sorted.{IsPermutation-trans, length_permutation}
-use Rattle.bac_tsm.specs.declared.due.Entry.{Entry}
-use Rattle.bac_tsm.specs.Client.{client_rules}
+use Rattle.bac_tsm.specs.{declared.due.Entry.Entry, Client.client_rules}
 use Rattle.bac_tsm.proofs.TableTick.{few_due, passed, fewer, all_passed, refilled}
 use Rattle.bac_tsm.proofs.table.Table.pass_all.Goals as goal
 
@@ -11,8 +10,7 @@ put_last-requires c =
     let less = (fewer (client_rules c.args.config.timeout c.args.config.retries) c.args.clock c.args.config.positive
     c.loop-is_due.invariant.ticked c.pass-entry.result _ c.pass-entry.ensures).0 in
     let most = few_due (client_rules c.args.config.timeout c.args.config.retries) c.args.clock c.args.self.now in
-    let few = c.requires.few in
-    omega arith
+    let few = c.requires.few in omega arith
 
 pub loop-is_due-smaller : goal.loop-is_due-smaller
 loop-is_due-smaller c =

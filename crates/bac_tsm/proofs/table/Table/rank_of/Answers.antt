@@ -1,20 +1,14 @@
-use Rattle.std.proofs.Common.{◌≡◌, ℕ, List, length, get_or, Option, Some, None, nat_lt, ap, sym, ◌∙◌, arith}
-use Rattle.std.specs.Prelude.{IfSome}
-use Rattle.std.specs.List.{slice_get}
-use Rattle.std.specs.Borrow.{Bor}
-use Rattle.std.specs.Option.{is_some, option_copied}
-use Rattle.std.proofs.lemmas.Bool.{ltb-true}
-use Rattle.std.proofs.lemmas.Bool.Decides.{nat_tests}
-use Rattle.std.proofs.lemmas.Option.{none-some, same_Some, slice_get-get_or}
+use Rattle.std.proofs.Common.{◌≡◌, ℕ, List, length, get_or, Option, Some, None, nat_lt, sym, ◌∙◌, arith, IfSome}
+use Rattle.std.proofs.Common.{ltb-true}
+use Rattle.std.specs.{List.slice_get, Borrow.Bor, Option.is_some, Option.option_copied}
+use Rattle.std.proofs.lemmas.{Bool.Decides.nat_tests, Option.none-some, Option.slice_get-get_or}
 use Rattle.bac_tsm.proofs.TableReads.{likely_rank, searched_rank}
 use Rattle.bac_tsm.proofs.table.Table.rank_of.Goals as goal
 
 got : (r : Option (Bor ℕ)) (xs : List ℕ) (i ticket : ℕ) → is_some r ≡ nat_lt i (length xs)
-    → IfSome r (λ x. x.now ≡ get_or xs i x.now) →
-    option_copied r ≡ Some ticket → slice_get xs i ≡ Some ticket
+    → IfSome r (λ x. x.now ≡ get_or xs i x.now) → option_copied r ≡ Some ticket → slice_get xs i ≡ Some ticket
 got None xs i _ _ _ is = absurd (none-some _ is)
-got (Some x) xs i _ within there is =
-    cc (slice_get-get_or xs i x.now (ltb-true i _ (sym within)))
+got (Some x) xs i _ within there is = cc (slice_get-get_or xs i x.now (ltb-true i _ (sym within)))
 
 pub returns-then-eq : goal.returns-then-eq
 returns-then-eq c =

@@ -1,0 +1,5 @@
+use Rattle.std.proofs.Math.Logic.{∥∥₁_map}
+use Rattle.bac_links.proofs.laws.a_socket_logs_the_history.Goals as goal
+
+pub returns : goal.returns
+returns g c = ∥∥₁_map c.args.link.now.keeps (λ k. k.logged)

@@ -1,0 +1,12 @@
+use Rattle.std.proofs.Common.{refl}
+use Rattle.std.proofs.Math.Logic.{∥∥₁_map}
+use Rattle.bac_links.proofs.Logged.{keeps_timed}
+use Rattle.bac_links.proofs.udp.UdpLinkLink.now.Goals as goal
+
+pub invariant_of-self : goal.invariant_of-self
+invariant_of-self g c = record {
+  room = c.args.self.now.room;
+  keeps = ∥∥₁_map c.args.self.now.keeps
+      (λ k. rw c.and_time-self.ensures (keeps_timed _ _ _ _ _ _ _ k _ _
+      (_, c.elapsed.ensures, (_, c.time_by-self.ensures, refl))));
+}
