@@ -35,7 +35,7 @@ enum Kept<A: Allocator> {
     Broken,
 }
 
-/// A send that succeeded.
+// A send that succeeded.
 #[derive(Drop)]
 struct Record<A: Allocator> {
     time: u64,
@@ -88,101 +88,6 @@ impl<A: Allocator + Copy> MemoryLink<A> {
             failed: false,
             history: History::new(),
         })
-    }
-}
-
-// The step with a copy of its octets.
-fn keep<A: Allocator>(alloc: A, step: &Step<'_>) -> Result<Kept<A>, AllocError>
-    ensures { IfOk result (λ kept. scene_of_kept kept ≡ scene_of_step step.now) }
-{
-    Ok(match step {
-        Step::Quiet(time) => Kept::Quiet(*time),
-        Step::Packet(time, from, octets) => {
-            Kept::Packet(*time, *from, Vec::from_slice(alloc, octets)?)
-        }
-        Step::Broken => Kept::Broken,
-    })
-}
-
-// The peer's address and port.
-fn without_route(peer: Peer) -> Peer
-    ensures same { station result ≡ unrouted (station peer) }
-    ensures plain { result.route ≡ None }
-{
-    Peer {
-        ip: peer.ip,
-        port: peer.port,
-        route: None,
-    }
-}
-
-// Keeps a datagram as sent at this time, unless it has the number of the send that fails, or there is no memory.
-fn keep_sent<A: Allocator + Copy>(
-    alloc: A,
-    sent: &mut Vec<Record<A>, A>,
-    fail_send: Option<u32>,
-    time: u64,
-    to: Peer,
-    octets: &[u8],
-) -> Result<(), LinkFault>
-    ensures ok { OnOk result (map sending_of sent.new.items ≡ map sending_of sent.old.items
-        ++ record { time = time; to = station to; octets = octets.now } ∷ []) }
-    ensures err { OnErr result (map sending_of sent.new.items ≡ map sending_of sent.old.items) }
-    ensures its_number { fail_send ≡ Some (length sent.old.items) → IsTrue (is_err result) }
-{
-    let number = sent.len() as u64;
-    if fail_send.map(u64::from) == Some(number) {
-        return Err(LinkFault);
-    }
-    let octets = Vec::from_slice(alloc, octets).map_err(|_| LinkFault)?;
-    sent.push(Record { time, to, octets })
-        .map_err(|_| LinkFault)?;
-    Ok(())
-}
-
-// What the record with this number tells.
-fn sending<A: Allocator>(sent: &[Record<A>], n: usize) -> Option<(u64, Peer, &[u8])>
-    ensures { MatchOption result (slice_get (map sending_of sent.now) n ≡ None)
-        (λ s. slice_get (map sending_of sent.now) n
-        ≡ Some (record { time = s.0; to = station s.1; octets = s.2.now })) }
-{
-    let record = sent.get(n)?;
-    Some((record.time, record.to, record.octets.as_slice()))
-}
-
-// What a wait hears where the step with this number is next, and the time then.
-fn hear<A: Allocator>(
-    steps: &[Kept<A>],
-    next: usize,
-    wait_ms: u32,
-    time: &mut u64,
-    datagram: &mut Datagram,
-) -> Result<Option<Peer>, LinkFault>
-    ensures heard { heard_by result datagram.new
-        ≡ heard_next (option_to_list (slice_get (map scene_of_kept steps.now) next)) }
-    ensures time { time.new ≡ (behind_wait wait_ms (option_to_list (slice_get (map scene_of_kept steps.now) next))
-        time.old).time }
-    ensures plain { IfOk result (λ heard. IfSome heard (λ from. from.route ≡ None)) }
-    ensures kept { IfNone (option_flatten (result_ok result)) (datagram.new ≡ datagram.old) }
-{
-    match steps.get(next) {
-        None => {
-            *time = time.saturating_add(u64::from(wait_ms));
-            Ok(None)
-        }
-        Some(Kept::Quiet(at)) => {
-            *time = *at;
-            Ok(None)
-        }
-        Some(Kept::Packet(at, from, octets)) => {
-            *time = *at;
-            if datagram.set(octets.as_slice()) {
-                Ok(Some(without_route(*from)))
-            } else {
-                Ok(None)
-            }
-        }
-        Some(Kept::Broken) => Err(LinkFault),
     }
 }
 
@@ -257,5 +162,100 @@ impl<A: Allocator + Copy> Link for MemoryLink<A> {
 
     fn failed(&self) -> bool {
         self.failed
+    }
+}
+
+// The step with a copy of its octets.
+fn keep<A: Allocator>(alloc: A, step: &Step<'_>) -> Result<Kept<A>, AllocError>
+    ensures { IfOk result (λ kept. scene_of_kept kept ≡ scene_of_step step.now) }
+{
+    Ok(match step {
+        Step::Quiet(time) => Kept::Quiet(*time),
+        Step::Packet(time, from, octets) => {
+            Kept::Packet(*time, *from, Vec::from_slice(alloc, octets)?)
+        }
+        Step::Broken => Kept::Broken,
+    })
+}
+
+// What the record with this number tells.
+fn sending<A: Allocator>(sent: &[Record<A>], n: usize) -> Option<(u64, Peer, &[u8])>
+    ensures { MatchOption result (slice_get (map sending_of sent.now) n ≡ None)
+        (λ s. slice_get (map sending_of sent.now) n
+        ≡ Some (record { time = s.0; to = station s.1; octets = s.2.now })) }
+{
+    let record = sent.get(n)?;
+    Some((record.time, record.to, record.octets.as_slice()))
+}
+
+// Keeps a datagram as sent at this time, unless it has the number of the send that fails, or there is no memory.
+fn keep_sent<A: Allocator + Copy>(
+    alloc: A,
+    sent: &mut Vec<Record<A>, A>,
+    fail_send: Option<u32>,
+    time: u64,
+    to: Peer,
+    octets: &[u8],
+) -> Result<(), LinkFault>
+    ensures ok { OnOk result (map sending_of sent.new.items ≡ map sending_of sent.old.items
+        ++ record { time = time; to = station to; octets = octets.now } ∷ []) }
+    ensures err { OnErr result (map sending_of sent.new.items ≡ map sending_of sent.old.items) }
+    ensures its_number { fail_send ≡ Some (length sent.old.items) → IsTrue (is_err result) }
+{
+    let number = sent.len() as u64;
+    if fail_send.map(u64::from) == Some(number) {
+        return Err(LinkFault);
+    }
+    let octets = Vec::from_slice(alloc, octets).map_err(|_| LinkFault)?;
+    sent.push(Record { time, to, octets })
+        .map_err(|_| LinkFault)?;
+    Ok(())
+}
+
+// What a wait hears where the step with this number is next, and the time then.
+fn hear<A: Allocator>(
+    steps: &[Kept<A>],
+    next: usize,
+    wait_ms: u32,
+    time: &mut u64,
+    datagram: &mut Datagram,
+) -> Result<Option<Peer>, LinkFault>
+    ensures heard { heard_by result datagram.new
+        ≡ heard_next (option_to_list (slice_get (map scene_of_kept steps.now) next)) }
+    ensures time { time.new ≡ (behind_wait wait_ms (option_to_list (slice_get (map scene_of_kept steps.now) next))
+        time.old).time }
+    ensures plain { IfOk result (λ heard. IfSome heard (λ from. from.route ≡ None)) }
+    ensures kept { IfNone (option_flatten (result_ok result)) (datagram.new ≡ datagram.old) }
+{
+    match steps.get(next) {
+        None => {
+            *time = time.saturating_add(u64::from(wait_ms));
+            Ok(None)
+        }
+        Some(Kept::Quiet(at)) => {
+            *time = *at;
+            Ok(None)
+        }
+        Some(Kept::Packet(at, from, octets)) => {
+            *time = *at;
+            if datagram.set(octets.as_slice()) {
+                Ok(Some(without_route(*from)))
+            } else {
+                Ok(None)
+            }
+        }
+        Some(Kept::Broken) => Err(LinkFault),
+    }
+}
+
+// The peer's address and port.
+fn without_route(peer: Peer) -> Peer
+    ensures same { station result ≡ unrouted (station peer) }
+    ensures plain { result.route ≡ None }
+{
+    Peer {
+        ip: peer.ip,
+        port: peer.port,
+        route: None,
     }
 }

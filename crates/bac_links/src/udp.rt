@@ -114,128 +114,6 @@ impl<S: Socket + Drop> UdpLink<S> {
     }
 }
 
-// The socket waits at most so long from now on. The system is asked only where that is another time than the one set.
-fn limit_wait<S: Socket>(socket: &mut S, set_ms: &mut u32, wait_ms: u32) -> io::Result<()>
-    ensures limited { OnOk result (set_ms.new ≡ wait_ms) }
-    ensures unlimited { OnErr result (wait_ms ≢ set_ms.old) }
-    ensures asked { S.log socket.new ≡ S.log socket.old ++ limits set_ms.old wait_ms (is_ok result) }
-{
-    if wait_ms != *set_ms {
-        socket.set_read_timeout(wait_of(wait_ms))?;
-        *set_ms = wait_ms;
-    }
-    Ok(())
-}
-
-// The next datagram within the wait, where there is one that a `Datagram` holds.
-fn next_datagram<S: Socket>(
-    socket: &mut S,
-    set_ms: &mut u32,
-    refused: Refused,
-    buffer: &mut [u8],
-    wait_ms: u32,
-    datagram: &mut Datagram,
-) -> Result<Option<Peer>, LinkFault>
-    requires { length buffer.old ≡ longest_datagram + 1 }
-    ensures room { length buffer.new ≡ length buffer.old }
-    ensures limited { OnOk result (set_ms.new ≡ max wait_ms 1) }
-    ensures plain { IfOk result (λ heard. IfSome heard (λ from. from.route ≡ None)) }
-    ensures kept { IfNone (option_flatten (result_ok result)) (datagram.new ≡ datagram.old) }
-    ensures asked { Logs (Waits refused set_ms.old (max wait_ms 1) (heard_by result datagram.new))
-        (S.log socket.old) (S.log socket.new) }
-{
-    limit_wait(socket, set_ms, wait_ms.max(1)).map_err(|_| LinkFault)?;
-    match socket.recv_from(buffer) {
-        Ok((len, from)) => Ok(hear(from, &buffer[..len], datagram)),
-        Err(e) if is_quiet(refused, e.kind()) => Ok(None),
-        Err(_) => Err(LinkFault),
-    }
-}
-
-// Gives the octets to send to the address of the peer.
-fn post<S: Socket>(
-    socket: &mut S,
-    refused: Refused,
-    to: Peer,
-    octets: &[u8],
-) -> Result<(), LinkFault>
-    ensures lost { refused ≡ Refused.IsLost → result ≡ Ok tt }
-    ensures asked { Logs (Sends refused (station to) octets.now (is_ok result)) (S.log socket.old)
-        (S.log socket.new) }
-{
-    match socket.send_to(octets, address_of(to)) {
-        Ok(sent) if sent == octets.len() => Ok(()),
-        _ if refused == Refused::IsLost => Ok(()),
-        _ => Err(LinkFault),
-    }
-}
-
-// A duration of so many milliseconds.
-fn wait_of(wait_ms: u32) -> Duration
-    ensures { as_nanos result ≡ wait_ms * 1_000_000 }
-{
-    Duration::from_millis(u64::from(wait_ms))
-}
-
-// The time of the link, by what its clock says has passed.
-fn time_by(passed: io::Result<Duration>, before: u64) -> u64
-    ensures { result ≡ time_by (result_ok passed) before }
-{
-    match passed {
-        Ok(passed) => u64::try_from(passed.as_millis()).unwrap_or(u64::MAX),
-        Err(_) => before,
-    }
-}
-
-// Keeps the octets that came from there, and tells the peer. None where they are too many.
-fn hear(from: SocketAddr, octets: &[u8], datagram: &mut Datagram) -> Option<Peer>
-    ensures peer { result ≡ heard_from from octets.now }
-    ensures held { MatchOption result (datagram.new ≡ datagram.old) (λ peer. datagram.new ≡ octets.now) }
-{
-    let peer = peer_of(from)?;
-    if datagram.set(octets) {
-        Some(peer)
-    } else {
-        None
-    }
-}
-
-// Whether a receive with this error counts as silence.
-fn is_quiet(refused: Refused, kind: ErrorKind) -> bool
-    ensures { result ≡ is_quiet refused kind }
-{
-    match kind {
-        ErrorKind::WouldBlock | ErrorKind::TimedOut | ErrorKind::Interrupted => true,
-        // These tell of a datagram that was sent before.
-        ErrorKind::ConnectionRefused
-        | ErrorKind::ConnectionReset
-        | ErrorKind::HostUnreachable
-        | ErrorKind::NetworkUnreachable => refused == Refused::IsLost,
-        _ => false,
-    }
-}
-
-// Where a peer is on the network: a route has no part in it.
-fn address_of(peer: Peer) -> SocketAddr
-    ensures { IsAddressOf (station peer) result }
-{
-    SocketAddr::V4(SocketAddrV4::new(Ipv4Addr::from_bits(peer.ip), peer.port))
-}
-
-// The peer at an IPv4 address.
-fn peer_of(address: SocketAddr) -> Option<Peer>
-    ensures { result ≡ peer_at address }
-{
-    match address {
-        SocketAddr::V4(address) => Some(Peer {
-            ip: address.ip().to_bits(),
-            port: address.port(),
-            route: None,
-        }),
-        SocketAddr::V6(_) => None,
-    }
-}
-
 impl<S: Socket + Drop> Link for UdpLink<S> {
     ghost seen = { λ link. account_over link.refused (S.log link.made_of.value) link.history.entries };
 
@@ -300,5 +178,127 @@ impl<S: Socket + Drop> Link for UdpLink<S> {
 
     fn failed(&self) -> bool {
         self.failed
+    }
+}
+
+// Where a peer is on the network: a route has no part in it.
+fn address_of(peer: Peer) -> SocketAddr
+    ensures { IsAddressOf (station peer) result }
+{
+    SocketAddr::V4(SocketAddrV4::new(Ipv4Addr::from_bits(peer.ip), peer.port))
+}
+
+// Gives the octets to send to the address of the peer.
+fn post<S: Socket>(
+    socket: &mut S,
+    refused: Refused,
+    to: Peer,
+    octets: &[u8],
+) -> Result<(), LinkFault>
+    ensures lost { refused ≡ Refused.IsLost → result ≡ Ok tt }
+    ensures asked { Logs (Sends refused (station to) octets.now (is_ok result)) (S.log socket.old)
+        (S.log socket.new) }
+{
+    match socket.send_to(octets, address_of(to)) {
+        Ok(sent) if sent == octets.len() => Ok(()),
+        _ if refused == Refused::IsLost => Ok(()),
+        _ => Err(LinkFault),
+    }
+}
+
+// The next datagram within the wait, where there is one that a `Datagram` holds.
+fn next_datagram<S: Socket>(
+    socket: &mut S,
+    set_ms: &mut u32,
+    refused: Refused,
+    buffer: &mut [u8],
+    wait_ms: u32,
+    datagram: &mut Datagram,
+) -> Result<Option<Peer>, LinkFault>
+    requires { length buffer.old ≡ longest_datagram + 1 }
+    ensures room { length buffer.new ≡ length buffer.old }
+    ensures limited { OnOk result (set_ms.new ≡ max wait_ms 1) }
+    ensures plain { IfOk result (λ heard. IfSome heard (λ from. from.route ≡ None)) }
+    ensures kept { IfNone (option_flatten (result_ok result)) (datagram.new ≡ datagram.old) }
+    ensures asked { Logs (Waits refused set_ms.old (max wait_ms 1) (heard_by result datagram.new))
+        (S.log socket.old) (S.log socket.new) }
+{
+    limit_wait(socket, set_ms, wait_ms.max(1)).map_err(|_| LinkFault)?;
+    match socket.recv_from(buffer) {
+        Ok((len, from)) => Ok(hear(from, &buffer[..len], datagram)),
+        Err(e) if is_quiet(refused, e.kind()) => Ok(None),
+        Err(_) => Err(LinkFault),
+    }
+}
+
+// The socket waits at most so long from now on. The system is asked only where that is another time than the one set.
+fn limit_wait<S: Socket>(socket: &mut S, set_ms: &mut u32, wait_ms: u32) -> io::Result<()>
+    ensures limited { OnOk result (set_ms.new ≡ wait_ms) }
+    ensures unlimited { OnErr result (wait_ms ≢ set_ms.old) }
+    ensures asked { S.log socket.new ≡ S.log socket.old ++ limits set_ms.old wait_ms (is_ok result) }
+{
+    if wait_ms != *set_ms {
+        socket.set_read_timeout(wait_of(wait_ms))?;
+        *set_ms = wait_ms;
+    }
+    Ok(())
+}
+
+// A duration of so many milliseconds.
+fn wait_of(wait_ms: u32) -> Duration
+    ensures { as_nanos result ≡ wait_ms * 1_000_000 }
+{
+    Duration::from_millis(u64::from(wait_ms))
+}
+
+// Keeps the octets that came from there, and tells the peer. None where they are too many.
+fn hear(from: SocketAddr, octets: &[u8], datagram: &mut Datagram) -> Option<Peer>
+    ensures peer { result ≡ heard_from from octets.now }
+    ensures held { MatchOption result (datagram.new ≡ datagram.old) (λ peer. datagram.new ≡ octets.now) }
+{
+    let peer = peer_of(from)?;
+    if datagram.set(octets) {
+        Some(peer)
+    } else {
+        None
+    }
+}
+
+// The peer at an IPv4 address.
+fn peer_of(address: SocketAddr) -> Option<Peer>
+    ensures { result ≡ peer_at address }
+{
+    match address {
+        SocketAddr::V4(address) => Some(Peer {
+            ip: address.ip().to_bits(),
+            port: address.port(),
+            route: None,
+        }),
+        SocketAddr::V6(_) => None,
+    }
+}
+
+// Whether a receive with this error counts as silence.
+fn is_quiet(refused: Refused, kind: ErrorKind) -> bool
+    ensures { result ≡ is_quiet refused kind }
+{
+    match kind {
+        ErrorKind::WouldBlock | ErrorKind::TimedOut | ErrorKind::Interrupted => true,
+        // These tell of a datagram that was sent before.
+        ErrorKind::ConnectionRefused
+        | ErrorKind::ConnectionReset
+        | ErrorKind::HostUnreachable
+        | ErrorKind::NetworkUnreachable => refused == Refused::IsLost,
+        _ => false,
+    }
+}
+
+// The time of the link, by what its clock says has passed.
+fn time_by(passed: io::Result<Duration>, before: u64) -> u64
+    ensures { result ≡ time_by (result_ok passed) before }
+{
+    match passed {
+        Ok(passed) => u64::try_from(passed.as_millis()).unwrap_or(u64::MAX),
+        Err(_) => before,
     }
 }

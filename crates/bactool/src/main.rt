@@ -20,7 +20,7 @@ fn main(rt: HostRuntime) -> ExitCode {
     exit_code(&told(&rt, report))
 }
 
-/// The sockets of this machine.
+// The sockets of this machine.
 #[derive(Drop)]
 struct Sockets<'r> {
     rt: &'r HostRuntime,
