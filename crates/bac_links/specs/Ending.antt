@@ -3,7 +3,7 @@ use Rattle.std.specs.Prelude.{ℕ, List, ◌∷◌, [], ◌++◌, codes, Option,
 use Rattle.std.specs.Prelude.{if◌then◌else◌}
 use Rattle.std.specs.Option.{option_map_or}
 use Rattle.bac_tsm.specs.Events.{Outcome, Simple, Complex}
-use Rattle.bac_pdu.specs.Property.{Answer}
+use Rattle.bac_pdu.specs.Property.{ReadAck}
 use Rattle.bac_pdu.specs.PropertyReading.{ack_of}
 use Rattle.bac_print.specs.Values.{region_text}
 use Rattle.bac_print.specs.Outcomes.{outcome_text}
@@ -17,7 +17,7 @@ use Rattle.bac_links.specs.declared.ending.Exit.TheVariants.{Good, Bad}
 -- is not one of the service; else the outcome, as `ok` of a write.
 abbrev pub ending_text : Purpose → Option Outcome → List ℕ
 ending_text Reading (Some (Complex body)) =
-    option_map_or (λ (answer : Answer). region_text answer.value) (ack_of body) (codes "bad-ack")
+    option_map_or (λ (ack : ReadAck). region_text ack.value) (ack_of body) (codes "bad-ack")
 ending_text Reading (Some Simple) = codes "bad-ack"
 ending_text Writing (Some (Complex body)) = codes "bad-ack"
 ending_text purpose (Some outcome) = outcome_text outcome

@@ -4,7 +4,7 @@ ghost use Rattle.std.specs.Option.{option_map_or};
 ghost use Rattle.bac_print.specs.Checked.{has_failed, TookOrFailed};
 ghost use Rattle.bac_print.specs.Page.{Prints};
 ghost use Rattle.bac_print.specs.Values.{region_text};
-ghost use Rattle.bac_pdu.specs.Property.{Answer};
+ghost use Rattle.bac_pdu.specs.Property.{ReadAck};
 ghost use Rattle.bac_pdu.specs.PropertyReading.{ack_of};
 ghost use Rattle.bac_links.specs.Ending.{ending_text, ending_line, exit_of, status_of};
 ghost use Rattle.bac_links.specs.Inner.Ending.{ending_seen};
@@ -94,7 +94,7 @@ fn print_ending<W: Write>(page: &mut Page<'_, W>, purpose: Purpose, ending: Endi
 // Prints the value of an acknowledgement, or that there is none to read.
 fn print_value<W: Write>(page: &mut Page<'_, W>, body: &[u8]) -> Exit
     ensures text { Prints W.contents page.old page.new
-        (option_map_or (λ (answer : Answer). region_text answer.value) (ack_of body.now) (codes "bad-ack")) }
+        (option_map_or (λ (ack : ReadAck). region_text ack.value) (ack_of body.now) (codes "bad-ack")) }
     ensures exit { result ≡ (if is_some (ack_of body.now) then Exit.Good else Exit.Bad) }
 {
     match read_ack(body) {
