@@ -40,7 +40,7 @@ module _ (rules : Rules) (by_number : AnswersByNumber rules) (small : rules.most
   -- What is kept before the last event does not rest on it.
   state_before : state_at rules 0 (events ++ event ∷ []) (length events) ≡ state_at rules 0 events (length events)
   state_before =
-      let first = run_first rules 0 (events ++ event ∷ []) by_number small (length events)
+      let first = run_first rules 0 _ by_number small (length events)
       (let e = length_push events event in omega arith) in
       let whole = run_whole rules 0 events by_number small in
       sym (ap (λ r. r.after) first)
@@ -55,7 +55,7 @@ module _ (rules : Rules) (by_number : AnswersByNumber rules) (small : rules.most
       }
   last_step =
       ap (λ s. step rules s event) (sym state_before)
-      ∙ one_step rules 0 (events ++ event ∷ []) by_number small (length events) event (slice_get-last events event)
+      ∙ one_step rules 0 _ by_number small (length events) event (slice_get-last events event)
 
 -- ---- the events of a call
 
@@ -79,7 +79,7 @@ none_at rules events i before rest j quiet = go (slice_get rest j) (λ event e. 
 
 module _ (purpose : Purpose) (call : Call) (time : ℕ) where
   fitting : length call.body.items ≤ longest_body → nat_lt longest_body (length call.body.items) ≡ false
-  fitting short = grind (arith, nat_tests)
+  fitting = grind (arith, nat_tests)
 
   -- The request is accepted, and no other is asked for.
   accepted_is : (later : List Event) → length call.body.items ≤ longest_body → All AsksNothing later → (j : ℕ) →
@@ -89,18 +89,17 @@ module _ (purpose : Purpose) (call : Call) (time : ℕ) where
   accepted_is later short quiet (suc j) =
       let before = accepted_is later short quiet j in
       rw (
-        none_at (rules_for call) (begun_at purpose call time later) (suc (suc j))
-            (accepted (rules_for call) 0 (begun_at purpose call time later) (suc (suc j))) later j quiet,
+        none_at (rules_for call) (begun_at purpose call time later) (suc (suc j)) _ later j quiet,
         before,
       ) refl
 
 -- ---- the ends and the sends among notes
 
 endings_sent : (rules : Rules) (events : List Event) (i : ℕ) (a : Accepted) → endings (send_notes rules events i a) ≡ []
-endings_sent _ _ i a = grind arith
+endings_sent = grind arith
 
 posts_ended : (i : ℕ) (request : Request) (e : Option End) → posts (end_notes i request e) ≡ []
-posts_ended i _ e = grind arith
+posts_ended = grind arith
 
 not_silent : (request : Request) (x : Option End) (y : End) → x ≡ Some y → endings (end_notes y.position request x) ≡ []
     → ⊥
@@ -138,7 +137,7 @@ record TellsPlaced (rules : Rules) (events : List Event) (a : Accepted) (i : ℕ
 -- What is read of notes, where nothing is read of a dropped datagram.
 module _ {X : Type 0} (read : Note → List X) (silent : read Dropped ≡ []) where
   dropped : (notes : List Note) → flat_map read (or_dropped notes) ≡ flat_map read notes
-  dropped _ = grind (arith, silent)
+  dropped = grind (arith, silent)
 
   -- Where one request was accepted before, a later event tells what is placed there.
   news_told : (rules : Rules) (events : List Event) (i : ℕ) (a : Accepted) → accepted rules 0 events i ≡ a ∷ []
@@ -172,7 +171,7 @@ module _ (purpose : Purpose) (call : Call) (time : ℕ) (later : List Event)
   all = begun_at purpose call time later
 
   pub is_accepted : IsAccepted purpose call all
-  is_accepted = accepted_is purpose call time later short quiet (length later)
+  is_accepted = accepted_is _ call time later short quiet (length later)
 
   told_at : {X : Type 0} (read : Note → List X) → read Dropped ≡ [] → (i : ℕ) (event : Event)
       → slice_get all i ≡ Some event →
@@ -181,19 +180,18 @@ module _ (purpose : Purpose) (call : Call) (time : ℕ) (later : List Event)
   unfolding refusal_of next_invoke_id
   told_at _ silent zero _ e =
       rw (
-        early_unsent (rules_for call) all (asked purpose call) 0 (omega arith),
-        early_unended (rules_for call) all (asked purpose call) 0 (omega arith),
+        early_unsent _ all (asked purpose call) 0 (omega arith),
+        early_unended _ all (asked purpose call) 0 (omega arith),
       ) refl
   told_at _ silent (suc zero) _ e =
       rw (
         sent_first (rules_for call) all (asked purpose call),
-        early_unended (rules_for call) all (asked purpose call) 1 (omega arith),
+        early_unended _ all (asked purpose call) 1 (omega arith),
         fitting purpose call time short,
       ) refl
   told_at read silent (suc (suc j)) event e =
-      news_told read silent (rules_for call) all (suc (suc j)) (asked purpose call)
-      (accepted_is purpose call time later short quiet j) (λ q. omega arith) event
-      (news_at later j event quiet e) e
+      news_told read silent (rules_for call) all _ _
+      (accepted_is _ call time later short quiet j) (λ q. omega arith) event (news_at later j event quiet e) e
 
   told : (i : ℕ) → i < length all → TellsPlaced (rules_for call) all (asked purpose call) i
   told i within =
@@ -208,8 +206,8 @@ module _ (purpose : Purpose) (call : Call) (time : ℕ) (later : List Event)
   end_within x e = elim (cases_lt x.position (length all)) [
     | inl within ↦ within
     | inr past ↦
-        let none = past_unended (rules_for call) all (asked purpose call) x.position past (omega arith) in
-        absurd (not_silent (asked purpose call).request (end_in purpose call all) x e (ap endings none))
+        let none = past_unended (rules_for call) all _ _ past (omega arith) in
+        absurd (not_silent (asked purpose call).request _ x e (ap endings none))
   ]
 
 -- One more event.
@@ -223,7 +221,7 @@ module _ (purpose : Purpose) (call : Call) (time : ℕ) (later : List Event)
   after = begun_at purpose call time (later ++ event ∷ [])
 
   quiet_after : All AsksNothing (later ++ event ∷ [])
-  quiet_after = All-append AsksNothing later (event ∷ []) quiet (one_news event news)
+  quiet_after = All-append AsksNothing later _ quiet (one_news event news)
 
   longer : length after ≡ suc (length before)
   longer = let l = length_push before event in omega arith
@@ -231,7 +229,7 @@ module _ (purpose : Purpose) (call : Call) (time : ℕ) (later : List Event)
   same_output : (i : ℕ) → i < length before → output (rules_for call) 0 after i ≡ output (rules_for call) 0 before i
   same_output i within =
       looks_back (rules_for call) 0 after before i (omega (arith, longer)) within
-      (take-append-le (suc i) before (event ∷ []) (omega arith))
+      (take-append-le (suc i) before _ (omega arith))
 
   same_ends : (i : ℕ) → i < length before →
       endings (end_notes i (asked purpose call).request (end_in purpose call after))
@@ -262,7 +260,7 @@ module _ (purpose : Purpose) (call : Call) (time : ℕ) (later : List Event)
         let within = end_within purpose call time (later ++ event ∷ []) short quiet_after x e in
         let none = same_ends x.position (omega (arith, longer))
         ∙ ap (λ e. endings (end_notes x.position (asked purpose call).request e)) unended in
-        absurd (not_silent (asked purpose call).request (end_in purpose call after) x e none)
+        absurd (not_silent (asked purpose call).request _ x e none)
   ]
 
 module _ {purpose : Purpose} {call : Call} {time : ℕ} {later : List Event} {client : Client}
@@ -304,11 +302,11 @@ module _ {purpose : Purpose} {call : Call} {time : ℕ} {later : List Event} {cl
   carries_on none _ e = record {
     short = far.short;
     quiet = quiet_after purpose call time later far.short far.quiet event news;
-    unended = none_if (end_in purpose call next) (λ x e.
+    unended = none_if _ (λ x e.
         let there = end_is_last purpose call time later far.short far.quiet event news far.unended x e in
         let silent = ap (λ (i : ℕ). endings (end_notes i (asked purpose call).request (end_in purpose call next))) there
         ∙ sym ends_told ∙ none in
-        not_silent (asked purpose call).request (end_in purpose call next) x e silent);
+        not_silent (asked purpose call).request _ x e silent);
     client_is =
         e ∙ ap (λ (c : Client). keeping c handed.after) far.client_is
         ∙ ap (λ (s : Stepped). Client_of call s.after) handed_is;
@@ -317,8 +315,7 @@ module _ {purpose : Purpose} {call : Call} {time : ℕ} {later : List Event} {cl
   -- An end is the request's.
   pub ends_next : (o : Option Outcome) → endings handed.notes ≡ o ∷ []
       → end_in purpose call next ≡ Some (record { position = length begun; outcome = o })
-  ends_next o one =
-      ended_there (length begun) (asked purpose call).request (end_in purpose call next) o (sym ends_told ∙ one)
+  ends_next o one = ended_there _ (asked purpose call).request _ o (sym ends_told ∙ one)
 
 -- One request is open in a call.
 pub carried_alone : {purpose : Purpose} {call : Call} {time : ℕ} {later : List Event} {client : Client}
@@ -326,8 +323,7 @@ pub carried_alone : {purpose : Purpose} {call : Call} {time : ℕ} {later : List
 carried_alone {purpose} {call} {time} {later} far = (
   waiting_at (rules_for call) (begun_at purpose call time later) (length (begun_at purpose call time later))
       (asked purpose call),
-  ap (λ c. c.state.waiting) far.client_is
-      ∙ rw (accepted_is purpose call time later far.short far.quiet (length later), far.unended) refl,
+  ap (λ c. c.state.waiting) far.client_is ∙ rw (accepted_is _ call time later far.short far.quiet _, far.unended) refl,
 )
 
 -- ---- the beginning
@@ -349,11 +345,11 @@ module _ (purpose : Purpose) (call : Call) (time : ℕ) (short : length call.bod
   pub begins : CarriesOn purpose call time [] (Client_of call submitted.after)
   begins = record {
     short = short;
-    quiet = All-nil AsksNothing;
-    unended = none_if (end_in purpose call first) (λ x e.
+    quiet = All-nil _;
+    unended = none_if _ (λ x e.
         let within = end_within purpose call time [] short (All-nil AsksNothing) x e in
-        let none = early_unended (rules_for call) first (asked purpose call) x.position (omega arith) in
-        not_silent (asked purpose call).request (end_in purpose call first) x e (ap endings none));
+        let none = early_unended (rules_for call) first (asked purpose call) _ (omega arith) in
+        not_silent (asked purpose call).request _ x e (ap endings none));
     client_is =
         ap (λ (r : Run). Client_of call r.after)
         (run_whole (rules_for call) 0 first (by_number call.timeout call.retries) few_open);

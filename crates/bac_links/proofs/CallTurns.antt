@@ -63,16 +63,14 @@ one_or_none rules events i a = elim (cases_Bool (list_any (nat_eq i) (sends rule
 -- ---- what was handed
 
 pub handed_push : (more : List Entry) (x : Entry) → handed (more ++ x ∷ []) ≡ handed more ++ handed_of x
-handed_push more x =
-    flat_map-append handed_of more (x ∷ []) ∙ ap (λ (es : List Event). handed more ++ es) (append-nil (handed_of x))
+handed_push more x = flat_map-append _ more _ ∙ ap (λ (es : List Event). handed more ++ es) (append-nil _)
 
 quiet_handed : (more : List Entry) → All AsksNothing (handed more)
-quiet_handed [] = All-nil AsksNothing
+quiet_handed [] = All-nil _
 quiet_handed (Waited wait Silence ∷ more) = quiet_handed more
 quiet_handed (Waited wait Failure ∷ more) = quiet_handed more
-quiet_handed (Waited wait (Arrival from octets) ∷ more) =
-    All-cons AsksNothing (Data from octets) (handed more) tt (quiet_handed more)
-quiet_handed (Timed time ∷ more) = All-cons AsksNothing (Tick time) (handed more) tt (quiet_handed more)
+quiet_handed (Waited wait (Arrival from octets) ∷ more) = All-cons AsksNothing _ _ tt (quiet_handed more)
+quiet_handed (Timed time ∷ more) = All-cons AsksNothing _ _ tt (quiet_handed more)
 quiet_handed (Posted to octets ∷ more) = quiet_handed more
 quiet_handed (Unposted to octets ∷ more) = quiet_handed more
 
@@ -109,10 +107,10 @@ module _ {purpose : Purpose} {call : Call} {time : ℕ} (more : List Entry) {cli
   same_so : (x : Entry) → handed_of x ≡ [] → CarriesOn purpose call time (handed (more ++ x ∷ [])) client
   same_so x none =
       subst (λ (later : List Event). CarriesOn purpose call time later client)
-      (sym (handed_push more x ∙ ap (λ (es : List Event). handed more ++ es) none ∙ append-nil (handed more))) far
+      (sym (handed_push more x ∙ ap (λ (es : List Event). handed more ++ es) none ∙ append-nil _)) far
 
   accepted_so : (more : List Entry) → IsAccepted purpose call (events_of purpose call (Timed time ∷ more))
-  accepted_so more = is_accepted purpose call time (handed more) far.short (quiet_handed more)
+  accepted_so more = is_accepted _ call time _ far.short (quiet_handed more)
 
   -- What is heard in a call whose request stays open.
   heard_on : (wait : ℕ) (heard : Heard) (left : Client)
@@ -142,13 +140,13 @@ module _ (purpose : Purpose) (call : Call) where
 
   behind : (gained : List Entry) (x : Entry)
       → move purpose call (gained ++ x ∷ []) ≡ move_behind purpose call (gained ++ x ∷ []) (Some x)
-  behind gained x = ap (move_behind purpose call (gained ++ x ∷ [])) (last_push None gained x)
+  behind gained x = ap (move_behind _ call (gained ++ x ∷ [])) (last_push None gained x)
 
   behind_wait : (gained : List Entry) (wait : ℕ) (heard : Heard) → heard ≢ Failure →
       move purpose call (gained ++ Waited wait heard ∷ [])
       ≡ or_ended (end_in purpose call (events_of purpose call (gained ++ Waited wait heard ∷ []))) (Asks ForTime)
-  behind_wait gained wait Silence _ = behind gained (Waited wait Silence)
-  behind_wait gained wait (Arrival from octets) _ = behind gained (Waited wait (Arrival from octets))
+  behind_wait gained _ Silence _ = behind gained _
+  behind_wait gained _ (Arrival from octets) _ = behind gained _
   behind_wait _ _ Failure received = absurd (received refl)
 
   -- Behind a time at which the request stays open it is sent where it is due, and then a turn begins.
@@ -158,8 +156,7 @@ module _ (purpose : Purpose) (call : Call) where
       ≡ or_sent (sent_last purpose call (events_of purpose call (gained ++ Timed now ∷ [])))
       (turn_after (wait_of call) (waits_in (gained ++ Timed now ∷ [])))
   behind_time gained now open_yet =
-      behind gained (Timed now)
-      ∙ ap (λ (e : Option End). or_ended e
+      behind gained (Timed now) ∙ ap (λ (e : Option End). or_ended e
       (or_sent (sent_last purpose call (events_of purpose call (gained ++ Timed now ∷ [])))
       (turn_after (wait_of call) (waits_in (gained ++ Timed now ∷ []))))) open_yet
 
@@ -173,7 +170,7 @@ module _ {purpose : Purpose} {call : Call} {time : ℕ} (more : List Entry) {cli
   follows_sent : (x : Entry) (to : Station) (octets : List ℕ) → due ≡ Posted to octets ∷ []
       → ToSend to octets ≡ question_of x → Follows (move purpose call) [] (Timed time ∷ (more ++ x ∷ []))
   follows_sent x to _ one e =
-      follows_push (move purpose call) [] (Timed time ∷ more) x follows
+      follows_push _ [] (Timed time ∷ more) x follows
       (next ∙ ap (λ (d : List Entry). or_sent d (turn_after (wait_of call) n)) one ∙ ap (λ q. Asks q) e)
 
   module _ {seen left : Account} where
@@ -227,13 +224,12 @@ module _ {purpose : Purpose} {call : Call} {seen mid next : Account} {client : C
   waited = far.more ++ Waited (wait_of call) heard ∷ []
 
   gains_waited : GainsAll (Timed far.time ∷ waited) seen next
-  gains_waited =
-      gains_both (Timed far.time ∷ far.more) (Waited (wait_of call) heard ∷ []) seen mid next far.gains gains
+  gains_waited = gains_both _ _ seen mid next far.gains gains
 
   follows_waited : Follows (move purpose call) [] (Timed far.time ∷ waited)
   follows_waited =
       follows_push (move purpose call) [] (Timed far.time ∷ far.more) (Waited (wait_of call) heard) far.follows
-      (far.next ∙ turn_begins (wait_of call) n within)
+      (far.next ∙ turn_begins _ n within)
 
   comes : (r : Comes) → move purpose call (Timed far.time ∷ waited) ≡ Ends r → Calls purpose call seen next r
   comes r over = record {
@@ -253,8 +249,7 @@ module _ {purpose : Purpose} {call : Call} {seen mid next : Account} {client : C
       endings (heard_step (rules_of client) client.state heard).notes ≡ Some outcome ∷ []
       → Calls purpose call seen next (Ok (Some outcome))
   answered outcome received one =
-      comes (Ok (Some outcome)) (behind_waited received _
-      (heard_end far.more far.carried (wait_of call) heard outcome one))
+      comes (Ok (Some outcome)) (behind_waited received _ (heard_end far.more far.carried _ heard _ one))
 
   pub unheard : heard ≡ Failure → Calls purpose call seen next (Err ReceiveFailed)
   unheard failure =
@@ -295,9 +290,8 @@ module _ {purpose : Purpose} {call : Call} {seen mid next : Account} {client : C
       gains_timed : {last : Account} (rest : List Entry) → GainsAll (Timed now ∷ rest) next last
           → GainsAll (Timed far.time ∷ (timed ++ rest)) seen last
       gains_timed {last} rest ticks =
-          subst (λ (xs : List Entry). GainsAll (Timed far.time ∷ xs) seen last)
-          (sym (append_assoc waited (Timed now ∷ []) rest))
-          (gains_both (Timed far.time ∷ waited) (Timed now ∷ rest) seen next last gains_waited ticks)
+          subst (λ (xs : List Entry). GainsAll (Timed far.time ∷ xs) seen last) (sym (append_assoc _ _ rest))
+          (gains_both _ _ seen next last gains_waited ticks)
 
       carried_then : endings ticked.notes ≡ [] → (after : Client) → after ≡ keeping middle ticked.after
           → CarriesOn purpose call far.time (handed timed) after
@@ -307,8 +301,7 @@ module _ {purpose : Purpose} {call : Call} {seen mid next : Account} {client : C
           → move purpose call (Timed far.time ∷ timed)
           ≡ or_sent (posts ticked.notes) (turn_after (wait_of call) (suc n))
       next_then none_then =
-          behind_time purpose call (Timed far.time ∷ waited) now
-          (carried_then none_then (keeping middle ticked.after) refl).unended
+          behind_time purpose call (Timed far.time ∷ waited) now (carried_then none_then _ refl).unended
           ∙ ap (λ (d : List Entry). or_sent d (turn_after (wait_of call) (waits_in timed))) due_is
           ∙ ap (λ (k : ℕ). or_sent (posts ticked.notes) (turn_after (wait_of call) k)) turned
 
@@ -317,10 +310,9 @@ module _ {purpose : Purpose} {call : Call} {seen mid next : Account} {client : C
           → after ≡ keeping middle ticked.after → GainsAll (Timed now ∷ posts ticked.notes) next last
           → Underway purpose call seen last after (suc n)
       on none_then after_is ticks =
-          goes_on timed (carried_then none_then _ after_is)
-          follows_timed (posts ticked.notes) (next_then none_then) turned
-          (subst OneOrNone due_is (one_or_none (rules_for call) (events_of purpose call (Timed far.time ∷ timed)) _
-          (asked purpose call))) (gains_timed (posts ticked.notes) ticks)
+          goes_on timed (carried_then none_then _ after_is) follows_timed _ (next_then none_then) turned
+          (subst OneOrNone due_is (one_or_none (rules_for call) (events_of purpose call (Timed far.time ∷ timed)) _ _))
+          (gains_timed _ ticks)
 
       -- The time runs out.
       pub timed_out : {last : Account} → endings ticked.notes ≡ timeouts true
@@ -330,7 +322,7 @@ module _ {purpose : Purpose} {call : Call} {seen mid next : Account} {client : C
           gained = Timed far.time ∷ timed;
           gains = subst (λ (xs : List Entry). GainsAll (Timed far.time ∷ xs) seen last)
               (ap (λ (xs : List Entry). timed ++ xs) (unsent_at_end (rules_of middle) middle.state now alone one)
-              ∙ append-nil timed) (gains_timed (posts ticked.notes) ticks);
+              ∙ append-nil timed) (gains_timed _ ticks);
           follows = follows_timed;
           over = behind purpose call (Timed far.time ∷ waited) (Timed now) ∙ ap (λ (e : Option End). or_ended e
               (or_sent (sent_last purpose call (events_of purpose call (Timed far.time ∷ timed)))
@@ -344,9 +336,8 @@ module _ {purpose : Purpose} {call : Call} {seen mid next : Account} {client : C
       pub unsent : {last : Account} → endings ticked.notes ≡ [] → GainsLost ticked.notes (Timed now ∷ []) next last
           → Calls purpose call seen last (Err SendFailed)
       unsent none_then lost =
-          loses timed (carried_then none_then (keeping middle ticked.after) refl)
-          follows_timed (posts ticked.notes) (next_then none_then) turned lost.0 lost.1 lost.2
-          (gains_timed (Unposted lost.0 lost.1 ∷ []) lost.3)
+          loses timed (carried_then none_then _ refl) follows_timed _ (next_then none_then) turned _ _ lost.2
+          (gains_timed _ lost.3)
 
 -- ---- the beginning
 
@@ -363,24 +354,22 @@ module _ (purpose : Purpose) (call : Call) (time : ℕ) (short : length call.bod
   next_first : move purpose call (Timed time ∷ [])
       ≡ or_sent (posts (sent client.state 0)) (turn_after (wait_of call) 0)
   next_first =
-      behind_time purpose call [] time carried_first.unended
+      behind_time _ call [] time carried_first.unended
       ∙ ap (λ (d : List Entry). or_sent d (turn_after (wait_of call) 0))
-      (begins_sent purpose call time short ∙ ap (λ (c : Client). posts (sent c.state 0)) (sym client_is))
+      (begins_sent _ call time short ∙ ap (λ (c : Client). posts (sent c.state 0)) (sym client_is))
 
   due_first : OneOrNone (posts (sent client.state 0))
   due_first =
-      subst OneOrNone
-      (begins_sent purpose call time short ∙ ap (λ (c : Client). posts (sent c.state 0)) (sym client_is))
+      subst OneOrNone (begins_sent _ call time short ∙ ap (λ (c : Client). posts (sent c.state 0)) (sym client_is))
       (one_or_none (rules_for call) (begun_at purpose call time []) _ (asked purpose call))
 
   pub begun : {seen left : Account} → GainsAll (Timed time ∷ posts (sent client.state 0)) seen left
       → Underway purpose call seen left client 0
-  begun gains = goes_on [] carried_first (refl, tt) (posts (sent client.state 0)) next_first refl due_first gains
+  begun gains = goes_on [] carried_first (refl, tt) _ next_first refl due_first gains
 
   pub unbegun : {seen left : Account} → GainsLost (sent client.state 0) (Timed time ∷ []) seen left
       → Calls purpose call seen left (Err SendFailed)
-  unbegun lost =
-      loses [] carried_first (refl, tt) (posts (sent client.state 0)) next_first refl lost.0 lost.1 lost.2 lost.3
+  unbegun lost = loses [] carried_first (refl, tt) _ next_first refl _ _ lost.2 lost.3
 
 -- ---- the end
 
@@ -392,7 +381,7 @@ spent {call} n all far = record {
     gained = Timed far.time ∷ far.more;
     gains = far.gains;
     follows = far.follows;
-    over = far.next ∙ turns_over (wait_of call) n (omega (arith, all));
+    over = far.next ∙ turns_over _ n (omega (arith, all));
   };
   request = accepted_so far.more far.carried far.more;
 }

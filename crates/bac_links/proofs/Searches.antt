@@ -52,8 +52,7 @@ greatest-push greatest (x ∷ times) time = greatest-push (max greatest x) times
 found-push : (search : Search) (more : List Entry) (x : Entry)
     → found_in search (more ++ x ∷ []) ≡ found_in search more ++ found_of_entry search x
 found-push search more x =
-    flat_map-append (found_of_entry search) more (x ∷ [])
-    ∙ ap (λ (fs : List Found). found_in search more ++ fs) (append-nil (found_of_entry search x))
+    flat_map-append _ more _ ∙ ap (λ (fs : List Found). found_in search more ++ fs) (append-nil _)
 
 behind : (search : Search) (gained : List Entry) (x : Entry)
     → search_move search (gained ++ x ∷ []) ≡ search_behind search (gained ++ x ∷ []) (Some x)
@@ -76,14 +75,12 @@ module _ {W : Type 0} {search : Search} {contents : W → Option (List ℕ)} {be
     waited = goes.more ++ Waited (search_wait search) heard ∷ []
 
     gains_waited : GainsAll (searched search first waited) seen left
-    gains_waited =
-        gains_both (searched search first goes.more) (Waited (search_wait search) heard ∷ []) seen mid left goes.gains
-        hears
+    gains_waited = gains_both _ _ seen mid left goes.gains hears
 
     follows_waited : Follows (search_move search) [] (searched search first waited)
     follows_waited =
         follows_push (search_move search) [] (searched search first goes.more) (Waited (search_wait search) heard)
-        goes.follows (goes.next ∙ turn_begins (search_wait search) n within)
+        goes.follows (goes.next ∙ turn_begins _ n within)
 
   -- A wait that goes well, and the time after it.
   module _ {after : Checked W} {left : Account} {some : Bool}
@@ -99,10 +96,7 @@ module _ {W : Type 0} {search : Search} {contents : W → Option (List ℕ)} {be
     all = searched search first timed
 
     found_next : found_in search timed ≡ found_in search goes.more ++ found_by search.who heard
-    found_next =
-        found-push search (waited heard listens.1) (Timed now)
-        ∙ append-nil (found_in search (waited heard listens.1))
-        ∙ found-push search goes.more (Waited (search_wait search) heard)
+    found_next = found-push search (waited heard listens.1) _ ∙ append-nil _ ∙ found-push search goes.more _
 
     printed_next : Took contents before after (found_lines (found_in search timed))
     printed_next =
@@ -120,9 +114,8 @@ module _ {W : Type 0} {search : Search} {contents : W → Option (List ℕ)} {be
     time_next : max greatest now ≡ greatest_of first (times_in timed)
     time_next =
         ap (λ (k : ℕ). max k now) goes.time ∙ sym (greatest-push first (times_in goes.more) now)
-        ∙ ap (greatest_of first) (sym (times_push (waited heard listens.1) (Timed now)
-        ∙ ap (λ (ts : List ℕ). ts ++ now ∷ [])
-        (times_push goes.more (Waited (search_wait search) heard) ∙ append-nil (times_in goes.more))))
+        ∙ ap (greatest_of first) (sym (times_push (waited heard listens.1) _ ∙ ap (λ (ts : List ℕ). ts ++ now ∷ [])
+        (times_push goes.more _ ∙ append-nil _)))
 
     turned : waits_in timed ≡ suc n
     turned =
@@ -131,20 +124,15 @@ module _ {W : Type 0} {search : Search} {contents : W → Option (List ℕ)} {be
         omega (arith, one, two, goes.turns)
 
     gains_timed : GainsAll all seen last
-    gains_timed =
-        gains_both (searched search first (waited heard listens.1)) (Timed now ∷ []) seen left last
-        (gains_waited heard listens.1) asks
+    gains_timed = gains_both _ _ seen left last (gains_waited heard listens.1) asks
 
     follows_timed : Follows (search_move search) [] all
     follows_timed =
         follows_push (search_move search) [] (searched search first (waited heard listens.1)) (Timed now)
-        (follows_waited heard listens.1)
-        (behind_wait search (searched search first goes.more) (search_wait search) heard listens.2)
+        (follows_waited heard listens.1) (behind_wait search (searched search first goes.more) _ heard listens.2)
 
     next_timed : search_move search all ≡ behind_time search all (suc n)
-    next_timed =
-        behind search (searched search first (waited heard listens.1)) (Timed now)
-        ∙ ap (behind_time search all) turned
+    next_timed = behind search (searched search first (waited heard listens.1)) _ ∙ ap (behind_time search all) turned
 
     passed : max greatest now - first ≡ passed_in (times_in all)
     passed = ap (λ (k : ℕ). k - first) time_next
@@ -188,9 +176,8 @@ module _ {W : Type 0} {search : Search} {contents : W → Option (List ℕ)} {be
           follows = follows_waited Failure gains;
           over = behind search (searched search first goes.more) (Waited (search_wait search) Failure);
         };
-        printed = subst (Took contents before after) (append-nil (found_lines (found_in search goes.more))
-            ∙ ap found_lines (sym (found-push search goes.more (Waited (search_wait search) Failure)
-            ∙ append-nil (found_in search goes.more)))) (Took-more goes.printed listens.1);
+        printed = subst (Took contents before after) (append-nil _ ∙ ap found_lines (sym (found-push search goes.more _
+            ∙ append-nil _))) (Took-more goes.printed listens.1);
       }
   fails _ _ WriteFailed same listens =
       let gains = rw same at listens.1 in
@@ -198,8 +185,8 @@ module _ {W : Type 0} {search : Search} {contents : W → Option (List ℕ)} {be
         earlier = searched search first goes.more;
         wait = search_wait search;
         heard = listens.0;
-        gains = gains_waited listens.0 gains;
-        follows = follows_waited listens.0 gains;
+        gains = gains_waited _ gains;
+        follows = follows_waited _ gains;
         last = listens.2;
         finds = listens.3;
         taken = listens.4;
@@ -214,15 +201,15 @@ pub begun : {W : Type 0} (search : Search) {contents : W → Option (List ℕ)} 
     {seen mid link : Account} (first : ℕ) → Gains (Timed first) seen mid →
     Gains (Posted (station search.to) (who_is_to search)) mid link
     → SearchGoes search contents before before seen link first first false 0
-begun _ {before} {seen} {mid} {link} first asks sends = record {
+begun _ {before} {seen} {mid} {link} _ asks sends = record {
   more = [];
-  gains = gains_both (Timed first ∷ []) _ seen mid link asks sends;
+  gains = gains_both _ _ seen mid link asks sends;
   follows = (refl, (refl, tt));
   next = refl;
   turns = refl;
   time = refl;
   any_is = refl;
-  printed = Took-none before;
+  printed = Took-none _;
 }
 
 -- Or with one that could not be sent.
@@ -233,11 +220,11 @@ pub unbegun : {W : Type 0} (search : Search) {contents : W → Option (List ℕ)
 unbegun search {before} {seen} {mid} {link} first asks sends = record {
   plays = record {
     gained = Timed first ∷ Unposted (station search.to) (who_is_to search) ∷ [];
-    gains = gains_both (Timed first ∷ []) _ seen mid link asks sends;
+    gains = gains_both _ _ seen mid link asks sends;
     follows = (refl, (refl, tt));
     over = refl;
   };
-  printed = Took-none before;
+  printed = Took-none _;
 }
 
 pub spent : {W : Type 0} {search : Search} {contents : W → Option (List ℕ)} {before after : Checked W}
@@ -249,7 +236,7 @@ spent {search} {first} n all goes = record {
     gained = searched search first goes.more;
     gains = goes.gains;
     follows = goes.follows;
-    over = goes.next ∙ turns_over (search_wait search) n (omega (arith, all));
+    over = goes.next ∙ turns_over _ n (omega (arith, all));
   };
   printed = goes.printed;
 }

@@ -40,33 +40,31 @@ one_at_most _ Failure = tt
 behind-append : (device : DeviceState) (xs ys : List Came)
     → device_behind device (xs ++ ys) ≡ device_behind (device_behind device xs) ys
 behind-append _ [] ys = refl
-behind-append device (x ∷ xs) ys = behind-append (device_next device x) xs ys
+behind-append _ (x ∷ xs) ys = behind-append (device_next _ x) xs ys
 
 replies-append : (device : DeviceState) (xs ys : List Came)
     → replies_of device (xs ++ ys) ≡ replies_of device xs ++ replies_of (device_behind device xs) ys
 replies-append _ [] ys = refl
 replies-append device (x ∷ xs) ys =
-    ap (λ (rs : List Reply). reply_of device x.from x.datagram ∷ rs) (replies-append (device_next device x) xs ys)
+    ap (λ (rs : List Reply). reply_of device x.from x.datagram ∷ rs) (replies-append (device_next _ x) xs ys)
 
 arrivals-push : (gained : List Entry) (x : Entry)
     → arrivals_in (gained ++ x ∷ []) ≡ arrivals_in gained ++ came_of_entry x
-arrivals-push gained x =
-    flat_map-append came_of_entry gained (x ∷ [])
-    ∙ ap (λ (cs : List Came). arrivals_in gained ++ cs) (append-nil (came_of_entry x))
+arrivals-push gained x = flat_map-append _ gained _ ∙ ap (λ (cs : List Came). arrivals_in gained ++ cs) (append-nil _)
 
 -- ---- the next move
 
 module _ (count : ℕ) (before : DeviceState) where
   behind : (gained : List Entry) (x : Entry)
       → serve_move count before (gained ++ x ∷ []) ≡ serve_behind count before (gained ++ x ∷ []) (Some x)
-  behind gained x = ap (serve_behind count before (gained ++ x ∷ [])) (last_push None gained x)
+  behind gained x = ap (serve_behind count _ (gained ++ x ∷ [])) (last_push None gained x)
 
   -- The replies after one wait more.
   replies-push : (gained : List Entry) (device : DeviceState) → device ≡ device_behind before (arrivals_in gained)
       → (x : Entry) → replies_of before (arrivals_in (gained ++ x ∷ []))
       ≡ replies_of before (arrivals_in gained) ++ replies_of device (came_of_entry x)
   replies-push gained _ is x =
-      ap (replies_of before) (arrivals-push gained x) ∙ replies-append before (arrivals_in gained) (came_of_entry x)
+      ap (replies_of _) (arrivals-push gained x) ∙ replies-append before (arrivals_in gained) (came_of_entry x)
       ∙ ap (λ (d : DeviceState). replies_of before (arrivals_in gained) ++ replies_of d (came_of_entry x)) (sym is)
 
   behind_wait : (gained : List Entry) (device : DeviceState) → device ≡ device_behind before (arrivals_in gained)
@@ -75,14 +73,13 @@ module _ (count : ℕ) (before : DeviceState) where
       ≡ or_reply (last_or None rs) (serve_next count before (gained ++ Waited serve_wait heard ∷ []))
   behind_wait _ _ is Failure received rs e = absurd (received refl)
   behind_wait gained _ is Silence _ rs e =
-      behind gained (Waited serve_wait Silence) ∙ ap (λ (rs : List Reply). or_reply (last_or None rs)
+      behind gained _ ∙ ap (λ (rs : List Reply). or_reply (last_or None rs)
       (serve_next count before (gained ++ Waited serve_wait Silence ∷ []))) e
-  behind_wait gained device is (Arrival from octets) _ rs e =
+  behind_wait gained _ is (Arrival from octets) _ rs e =
       let x = Waited serve_wait (Arrival from octets) in
-      let next = serve_next count before (gained ++ x ∷ []) in
-      behind gained x ∙ ap (λ (rs : List Reply). or_reply (last_or None rs) next) (replies-push gained device is x)
-      ∙ ap (λ (o : Option Reply). or_reply o next)
-      (last_push None (replies_of before (arrivals_in gained)) (reply_of device from octets))
+      let next = serve_next count _ (gained ++ x ∷ []) in
+      behind gained x ∙ ap (λ (rs : List Reply). or_reply (last_or None rs) next) (replies-push gained _ is x)
+      ∙ ap (λ (o : Option Reply). or_reply o next) (last_push None (replies_of _ (arrivals_in gained)) _)
       ∙ ap (λ (rs : List Reply). or_reply (last_or None rs) next) e
 
 -- A server after n waits.
@@ -141,12 +138,11 @@ module _ {before device : DeviceState} {seen mid : Account} {count came replied 
     gains_waited : {left : Account} (rest : List Entry) → GainsAll (Waited serve_wait heard ∷ rest) mid left
         → GainsAll (waited ++ rest) seen left
     gains_waited {left} rest more =
-        subst (λ (xs : List Entry). GainsAll xs seen left)
-        (sym (append_assoc goes.gained (Waited serve_wait heard ∷ []) rest))
-        (gains_both goes.gained (Waited serve_wait heard ∷ rest) seen mid left goes.gains more)
+        subst (λ (xs : List Entry). GainsAll xs seen left) (sym (append_assoc _ _ rest))
+        (gains_both _ _ seen mid left goes.gains more)
 
     gains_one : {left : Account} → GainsAll (Waited serve_wait heard ∷ []) mid left → GainsAll waited seen left
-    gains_one more = gains_both goes.gained (Waited serve_wait heard ∷ []) seen mid _ goes.gains more
+    gains_one more = gains_both _ _ seen mid _ goes.gains more
 
     -- What holds of these entries behind the wait, where they are no further waits.
     record IsBehind (gained : List Entry) : Type 0 where
@@ -155,14 +151,14 @@ module _ {before device : DeviceState} {seen mid : Account} {count came replied 
 
     behind_waited : IsBehind waited
     behind_waited = record {
-      brought = arrivals-push goes.gained (Waited serve_wait heard);
+      brought = arrivals-push goes.gained _;
       waits = let one = waits_push goes.gained (Waited serve_wait heard) in omega (arith, one, goes.turns);
     }
 
     behind_sent : (x : Entry) → came_of_entry x ≡ [] → waits_in (x ∷ []) ≡ 0 → IsBehind (waited ++ x ∷ [])
     behind_sent x none still = record {
       brought = arrivals-push waited x ∙ ap (λ (cs : List Came). arrivals_in waited ++ cs) none
-          ∙ append-nil (arrivals_in waited) ∙ behind_waited.brought;
+          ∙ append-nil _ ∙ behind_waited.brought;
       waits = let one = waits_push waited x in let two = behind_waited.waits in omega (arith, one, two, still);
     }
 
@@ -193,8 +189,7 @@ module _ {before device : DeviceState} {seen mid : Account} {count came replied 
         next = next;
         turns = is.waits;
         device_is = device_is;
-        came_is = rw (is.brought, goes.came_is, came_so)
-            (sym (length-append (arrivals_in goes.gained) (came_by heard)));
+        came_is = rw (is.brought, goes.came_is, came_so) (sym (length-append _ _));
         replied_is = rw (replies_are, goes.replied_is, replied_so) (sym (simp (flat_map-append, length-append)));
       }
 
@@ -215,16 +210,14 @@ module _ {before device : DeviceState} {seen mid : Account} {count came replied 
       follows_sent : heard ≢ Failure → (x : Entry) (reply : Station × List ℕ)
           → replies_of device (came_by heard) ≡ Some reply ∷ [] → ToSend reply.0 reply.1 ≡ question_of x
           → Follows (serve_move count before) [] (waited ++ x ∷ [])
-      follows_sent received x reply e asks =
-          follows_push (serve_move count before) [] waited x follows_waited
-          (behind_wait count before goes.gained device goes.device_is heard received (Some reply ∷ []) e
+      follows_sent received x _ e asks =
+          follows_push _ [] _ x follows_waited (behind_wait count _ goes.gained _ goes.device_is heard received _ e
           ∙ ap (λ q. Asks q) asks)
 
     next_silent : heard ≢ Failure → (rs : List Reply) → replies_of device (came_by heard) ≡ rs → AtMostOne rs
         → sends_of rs ≡ [] → serve_move count before waited ≡ serve_next count before waited
-    next_silent received [] e _ none = behind_wait count before goes.gained device goes.device_is heard received [] e
-    next_silent received (None ∷ []) e _ none =
-        behind_wait count before goes.gained device goes.device_is heard received (None ∷ []) e
+    next_silent received [] e _ none = behind_wait count _ goes.gained _ goes.device_is heard received [] e
+    next_silent received (None ∷ []) e _ none = behind_wait count _ goes.gained _ goes.device_is heard received _ e
     next_silent received (Some reply ∷ []) e few none = cc
     next_silent _ (r ∷ s ∷ rs) e few none = absurd few
 
@@ -258,8 +251,8 @@ module _ {before device : DeviceState} {seen mid : Account} {count came replied 
     serve_fails SendFailed (heard, reply, leaves, received, e, gains) =
         let x = Unposted reply.0 reply.1 in
         fails_with heard leaves (waited heard ++ x ∷ []) (behind_sent heard x refl refl) (Err SendFailed)
-        (gains_waited heard (x ∷ []) gains) (follows_sent heard within fewer received x reply e refl)
-        (behind count before (waited heard) x)
+        (gains_waited heard _ gains) (follows_sent heard within fewer received x reply e refl)
+        (behind count _ (waited heard) x)
     serve_fails ReceiveFailed (same, gains) =
         fails_with Failure same (waited Failure) (behind_waited Failure) (Err ReceiveFailed) (gains_one Failure gains)
         (follows_waited Failure within fewer) (behind count before goes.gained (Waited serve_wait Failure))

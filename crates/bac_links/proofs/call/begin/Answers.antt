@@ -1,8 +1,5 @@
-use Rattle.std.proofs.{Common.{◌≡◌, [], ◌∷◌, refl}, lemmas.Result.err_from_is_err_and}
-use Rattle.bac_links.{
-  specs.History.Timed,
-  proofs.{Histories.gains_both, CallEvents.submitted_is, CallTurns.{begun, unbegun}},
-}
+use Rattle.std.proofs.{Common.{◌≡◌, refl}, lemmas.Result.err_from_is_err_and}
+use Rattle.bac_links.proofs.{Histories.gains_both, CallEvents.submitted_is, CallTurns.{begun, unbegun}}
 use Rattle.bac_links.proofs.call.begin.Goals as goal
 
 pub unwrap-ticket-requires : goal.unwrap-ticket-requires
@@ -13,7 +10,7 @@ unwrap-ticket-requires g c =
       c.new-client.ensures,
       c.service_of.ensures,
       c.as_slice.ensures.value,
-      submitted_is c.args.purpose c.args.call.now c.now.result short,
+      submitted_is _ c.args.call.now _ short,
     ) at c.submit.ensures.0 in
     rw answer refl
 
@@ -25,14 +22,13 @@ returns-clause-ok g c =
       c.new-client.ensures,
       c.service_of.ensures,
       c.as_slice.ensures.value,
-      submitted_is c.args.purpose c.args.call.now c.now.result short,
+      submitted_is _ c.args.call.now _ short,
     ) at c.submit.ensures.0 in
     let first : c.unwrap-ticket.result ≡ 0 = cc in
     let client = rw (c.tick.ensures.1, c.new-client.ensures, c.service_of.ensures, c.as_slice.ensures.value) at
     c.submit.ensures.1 in
     let sends = rw first at c.in_ok-send_request.ensures.ok in
-    begun c.args.purpose c.args.call.now c.now.result short client
-    (gains_both (Timed c.now.result ∷ []) _ _ _ _ c.now.ensures.told sends)
+    begun c.args.purpose c.args.call.now c.now.result short client (gains_both _ _ _ _ _ c.now.ensures.told sends)
 
 pub returns-in_err-send_request-clause-err : goal.returns-in_err-send_request-clause-err
 returns-in_err-send_request-clause-err g c =
@@ -44,7 +40,7 @@ returns-in_err-send_request-clause-err g c =
       c.new-client.ensures,
       c.service_of.ensures,
       c.as_slice.ensures.value,
-      submitted_is c.args.purpose c.args.call.now c.now.result short,
+      submitted_is _ c.args.call.now _ short,
     ) at c.submit.ensures.0 in
     let first : c.unwrap-ticket.result ≡ 0 = cc in
     let client = rw (c.tick.ensures.1, c.new-client.ensures, c.service_of.ensures, c.as_slice.ensures.value) at
@@ -53,5 +49,5 @@ returns-in_err-send_request-clause-err g c =
     rw (p.1, p.2) (
       failed.0,
       unbegun c.args.purpose c.args.call.now c.now.result short client
-          (lost.0, lost.1, lost.2, gains_both (Timed c.now.result ∷ []) _ _ _ _ c.now.ensures.told lost.3),
+          (lost.0, lost.1, lost.2, gains_both _ _ _ _ _ c.now.ensures.told lost.3),
     )
