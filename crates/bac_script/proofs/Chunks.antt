@@ -1,30 +1,29 @@
 -- The octets of a chunk: a range of its room, of which a front was searched for a line feed.
-use Rattle.std.proofs.Common.{◌≡◌, ℕ, ◌+◌, ◌-◌, ◌<◌, ◌≤◌, List, [], ◌∷◌, ◌++◌, length, take, drop, Option, Some, None}
-use Rattle.std.proofs.Common.{refl, sym, ◌∙◌, ap, subst, inl, inr, append-nil, arith, length-drop, ◌==◌, min, position}
-use Rattle.std.proofs.Common.{drop-drop, length-take-le, take-append-drop, take-take, take_all}
-use Rattle.std.specs.{List.slice_range, List.copy_within, Io.KnownBytes.Consumes, Io.KnownBytes.Keeps}
-use Rattle.std.proofs.lemmas.{Grind.common_steps, List.drop-append-le, List.take-append-le, List.Edits.take-paste}
-use Rattle.std.proofs.lemmas.{Slice.between_is, Slice.take-put_mid}
-use Rattle.std.proofs.Math.Seq.{take-add, take-append-add}
+use Rattle.std.proofs.{
+  Common.{◌≡◌, ℕ, ◌+◌, ◌-◌, ◌<◌, ◌≤◌, List, [], ◌∷◌, ◌++◌, length, take, drop, Option, Some, None, refl, sym, ◌∙◌, ap},
+  Common.{subst, inl, append-nil, arith, length-drop, ◌==◌, min, position, drop-drop, length-take-le, take-append-drop},
+  Common.{take-take, take_all},
+  lemmas.{Grind.common_steps, List.{drop-append-le, take-append-le}, List.Edits.take-paste},
+  lemmas.Slice.{between_is, take-put_mid},
+  Math.Seq.{take-add, take-append-add},
+}
+use Rattle.std.specs.{List.{slice_range, copy_within}, Io.KnownBytes.{Consumes, Keeps}}
 use borrow.Rule.Slice.PartMut.{put_mid}
-use Rattle.bac_print.specs.declared.checked.Checked.{Checked}
-use Rattle.bac_print.specs.Checked.{inner_of, octets_of}
-use Rattle.bac_print.proofs.Known.{Consumes-kept}
-use Rattle.bac_script.specs.{Inner.Feeds.HasNoFeed, Inner.Limits.line_room, Inner.Limits.chunk_room}
-use Rattle.bac_script.specs.{Inner.Input.TakesAndKeeps, Inner.Input.IsLineCut, declared.input.Reading.TheVariants.Open}
-use Rattle.bac_script.proofs.Taken.{no_feed, no_feed_on, feed_at}
+use Rattle.bac_print.specs.{declared.checked.Checked.Checked, Checked.{inner_of, octets_of}}
+use Rattle.bac_script.{
+  specs.Inner.{Feeds.HasNoFeed, Limits.{line_room, chunk_room}, Input.{TakesAndKeeps, IsLineCut}},
+  specs.declared.input.Reading.TheVariants.Open,
+  proofs.Taken.{no_feed, no_feed_on, feed_at},
+}
 
 pub range_size : (xs held : List ℕ) (start end : ℕ) → slice_range xs start end ≡ held → end ≤ length xs
     → length held ≡ end - start
-range_size xs held start end is room = ap length (sym is)
-    ∙ length-take-le (end - start) (drop start xs) (omega (arith, length-drop start xs))
+range_size = grind (arith, length-take-le, length-drop)
 
 -- What is left of a range.
 pub range_skipped : (xs held : List ℕ) (start end n : ℕ) → slice_range xs start end ≡ held
     → slice_range xs (start + n) end ≡ drop n held
-range_skipped xs _ start end n is =
-    between_is xs (start + n) end ∙ sym (drop-drop n start (take end xs))
-    ∙ ap (drop n) (sym (between_is xs start end) ∙ is)
+range_skipped = grind (arith, between_is, drop-drop)
 
 -- ---- a search that goes on behind what was searched
 
@@ -42,14 +41,13 @@ module _ (xs : List ℕ) (start count limit end : ℕ) (is : limit ≡ min end (
   size = range_size xs held start end refl room
 
   long : length front ≡ limit - start
-  long = length-take-le (limit - start) held (omega (arith, size, is))
+  long = grind (arith, length-take-le, size)
 
   here : slice_range xs (start + count) limit ≡ drop count front
-  here = range_skipped xs front start limit count
-      (sym (take-take (limit - start) (end - start) (drop start xs) (omega (arith, is))))
+  here = grind (arith, range_skipped, take-take)
 
   searched : HasNoFeed (take count front)
-  searched = subst HasNoFeed (sym (take-take count (limit - start) held (omega (arith, is, within, few)))) before
+  searched = grind (arith, take-take)
 
   -- The line that ends with the first line feed.
   pub cut_behind : (place : ℕ) → position (λ octet. octet == 10) (slice_range xs (start + count) limit) ≡ Some place →
@@ -78,25 +76,17 @@ module _ (xs : List ℕ) (start count limit end : ℕ) (is : limit ≡ min end (
 
   -- Nor among all that is held, where no more is.
   pub none_held : HasNoFeed front → limit - start < line_room → HasNoFeed held × (length held < line_room)
-  none_held none short = (
-    subst HasNoFeed (take_all (limit - start) held (omega (arith, size, is, short))) none,
-    omega (arith, size, is, short),
-  )
+  none_held = grind (arith, take_all, size)
 
   pub cut_as_long : HasNoFeed front → line_room ≤ limit - start → (limit - start ≤ length held) × IsLineCut Open front
-  cut_as_long none all = (omega (arith, size, is), inr (none, omega (arith, long, is, all)))
+  cut_as_long = grind (arith, size, long)
 
 -- ---- octets that are read behind what is held
 
 -- Of octets that were moved to the front.
 moved_held : (xs moved held : List ℕ) (start end : ℕ) → slice_range xs start end ≡ held
     → moved ≡ copy_within xs start end 0 → start ≤ end → end ≤ length xs → slice_range moved 0 (end - start) ≡ held
-moved_held xs moved held start end is copied low high =
-    grind (
-      arith,
-      common_steps,
-      take-paste xs 0 (drop start xs) (end - start) (omega arith) (omega (arith, length-drop start xs)),
-    )
+moved_held = grind (arith, common_steps, take-paste, length-drop)
 
 -- A chunk with room behind what is held.
 pub record Placed (xs : List ℕ) (start end searched : ℕ) (held : List ℕ) : Type 0 where
@@ -145,47 +135,32 @@ module _ {xs : List ℕ} {start end searched : ℕ} {held : List ℕ} (p : Place
   still_held = let e : end + 0 ≡ end = omega arith in rw (e, append-nil) at (more 0 (omega arith))
 
   pub still_before : HasNoFeed (take searched (slice_range room start end))
-  still_before = subst (λ (zs : List ℕ). HasNoFeed (take searched zs)) (p.is ∙ sym still_held) p.before
+  still_before = grind (arith, searched, still_held)
 
   pub before_more : (count : ℕ) → count ≤ length ys → HasNoFeed (take searched (slice_range room start (end + count)))
-  before_more count some =
-      let long : searched ≤ length held =
-      omega (arith, range_size xs held start end p.is (omega (arith, p.room, p.size)), p.within) in
-      subst HasNoFeed (ap (take searched) p.is
-      ∙ sym (ap (take searched) (more count some) ∙ take-append-le searched held (take count ys) long)) p.before
+  before_more = grind (arith, long, searched, range_size, more, take-append-le)
 
   pub read_on : {R : Type 0} {remaining : R → Option (List ℕ)} {reader reader' : Checked R} (count : ℕ)
       → count ≤ length ys → octets_of reader' ≡ octets_of reader ++ take count ys
       → Consumes (remaining (inner_of reader)) (remaining (inner_of reader')) (take count ys)
       → TakesAndKeeps remaining reader reader' held (slice_range room start (end + count)) []
-  read_on count some passed known =
-      record { given = take count ys; gave = record { passed = passed; known = known }; order = sym (more count some) }
+  read_on = grind (arith, more)
 
   pub read_none : {R : Type 0} {remaining : R → Option (List ℕ)} {reader reader' : Checked R}
       → octets_of reader' ≡ octets_of reader ++ [] → Keeps (remaining (inner_of reader)) (remaining (inner_of reader'))
       → TakesAndKeeps remaining reader reader' held (slice_range room start end) []
-  read_none passed kept =
-      record {
-        given = [];
-        gave = record { passed = passed; known = Consumes-kept _ _ kept };
-        order = append-nil held ∙ sym still_held;
-      }
+  read_none = grind (arith, append-nil, still_held)
 
   pub read_ended : {R : Type 0} {remaining : R → Option (List ℕ)} {reader reader' : Checked R} (count : ℕ) → count ≡ 0 →
       octets_of reader' ≡ octets_of reader ++ take count ys
       → Consumes (remaining (inner_of reader)) (remaining (inner_of reader')) (take count ys)
       → TakesAndKeeps remaining reader reader' held (slice_range room start end) []
-  read_ended count none passed known =
-      record {
-        given = take count ys;
-        gave = record { passed = passed; known = known };
-        order = rw none (append-nil held ∙ sym still_held);
-      }
+  read_ended = grind (arith, append-nil, still_held)
 
   -- What the last read gave stands behind what was held.
   pub last_on : {last : List ℕ} (count : ℕ) → count ≤ length ys → last ≡ take count ys
       → slice_range room start (end + count) ≡ held ++ last
-  last_on count some gave = more count some ∙ ap (λ (zs : List ℕ). held ++ zs) (sym gave)
+  last_on = grind (arith, more)
 
   pub last_none : {last : List ℕ} → last ≡ [] → slice_range room start end ≡ held ++ last
-  last_none gave = still_held ∙ sym (append-nil held) ∙ ap (λ (zs : List ℕ). held ++ zs) (sym gave)
+  last_none = grind (arith, still_held, append-nil)

@@ -1,13 +1,16 @@
 -- The course of a script, line after line.
-use Rattle.std.proofs.Common.{◌≡◌, ℕ, ◌+◌, Bool, true, List, [], ◌∷◌, ◌++◌, length, Option, Some, None, Result, Ok, Err}
-use Rattle.std.proofs.Common.{refl, sym, ◌∙◌, ap, subst, append_assoc, arith, ◌&&◌, MatchOption}
-use Rattle.std.specs.{Option.option_map_or, Result.result_ok}
-use Rattle.bac_script.specs.declared.{input.Reading.Reading, line.LineFault.LineFault, tracing.TraceEnd.TraceEnd}
-use Rattle.bac_script.specs.declared.{tracing.TraceFault.TraceFault}
-use Rattle.bac_script.specs.{Line.Said, Line.said, Inner.Running.Stage, Inner.Running.ran}
-use Rattle.bac_script.specs.Script.{lines, is_nothing, said_from, all_said, text_of, fault_at, fault_from, first_fault}
-use Rattle.bac_script.specs.Script.{text, EndsAs}
-use Rattle.bac_script.proofs.{Machine.first_stage, Machine.text_from, Machine.text_is, Settled.settings_first}
+use Rattle.std.{
+  proofs.Common.{◌≡◌, ℕ, ◌+◌, Bool, true, List, [], ◌∷◌, ◌++◌, length, Option, Some, None, Result, Ok, Err, refl, sym},
+  proofs.Common.{◌∙◌, ap, subst, append_assoc, arith, ◌&&◌, MatchOption},
+  specs.{Option.option_map_or, Result.result_ok},
+}
+use Rattle.bac_script.specs.{
+  declared.{input.Reading.Reading, line.LineFault.LineFault, tracing.TraceEnd.TraceEnd, tracing.TraceFault.TraceFault},
+  Line.{Said, said},
+  Inner.Running.{Stage, ran},
+  Script.{lines, is_nothing, said_from, all_said, text_of, fault_at, fault_from, first_fault, text, EndsAs},
+}
+use Rattle.bac_script.proofs.{Machine.{first_stage, text_from, text_is}, Settled.settings_first}
 
 -- What is printed, the fault of the first line that is bad or too long, and without one the number of all lines.
 pub record Course : Type 0 where
@@ -20,9 +23,7 @@ abbrev pub behind : List ℕ → Course → Course
 behind front later = record { text = front ++ later.text; fault = later.fault; count = later.count }
 
 pub behind_both : (xs ys : List ℕ) (later : Course) → behind xs (behind ys later) ≡ behind (xs ++ ys) later
-behind_both xs ys later =
-    ap (λ (zs : List ℕ). let c : Course = record { text = zs; fault = later.fault; count = later.count } in c)
-    (sym (append_assoc xs ys later.text))
+behind_both = grind (arith, append_assoc)
 
 -- What a line says, and then the course of those behind it.
 abbrev pub and_on : Stage → ℕ → Result Said LineFault → (Said → Course) → Course
@@ -54,7 +55,7 @@ record IsCourse (stage : Stage) (is_first : Bool) (count : ℕ) (all : List (Lis
 
 is_course : (all : List (List ℕ)) (stage : Stage) (is_first : Bool) (count : ℕ)
     → IsCourse stage is_first count all (said_from is_first all) (course stage is_first count all)
-is_course [] stage is_first count = record { text = refl; fault = refl; counted = λ none. omega arith }
+is_course [] _ _ _ = record { text = refl; fault = refl; counted = λ none. omega arith }
 is_course (line ∷ later) stage is_first count =
     go (said is_first line) refl (λ one. is_course later (ran stage one).after (is_first && is_nothing one) (count + 1))
   where
@@ -72,7 +73,7 @@ is_course (line ∷ later) stage is_first count =
     go (Err fault) is h = record { text = refl; fault = rw is refl; counted = λ none. absurd (cc) }
 
 pub runs_text : (all : List (List ℕ)) → (whole all).text ≡ text_of (all_said all)
-runs_text all = (is_course all first_stage true 0).text ∙ sym (text_is (all_said all) (settings_first all))
+runs_text = grind (arith, is_course, first_stage, true, text_is, settings_first)
 
 -- The fault of a script is that of its course.
 pub fault_is : (all : List (List ℕ)) → (whole all).fault ≡ first_fault all

@@ -1,13 +1,17 @@
 -- A script is a function of its octets and of whether they ended.
-use Rattle.std.proofs.Common.{◌≡◌, ◌≢◌, ◌⊎◌, ℕ, List, [], ◌∷◌, ◌++◌, length, Option, Some, None, Result, Err, refl, sym}
-use Rattle.std.proofs.Common.{◌∙◌, ap, inl, inr, arith, append_assoc, MatchOption, append-nil}
-use Rattle.bac_print.specs.declared.checked.Checked.{Checked}
-use Rattle.bac_print.specs.Checked.{fresh, ends_of, octets_of}
-use Rattle.bac_script.specs.declared.{input.Reading.Reading, tracing.TraceEnd.TraceEnd}
-use Rattle.bac_script.specs.{Input.ReaderStands, Tracing.Traces, Alike.IsFrontOf, Alike.AreAlike}
-use Rattle.bac_script.specs.declared.tracing.TraceFault.{TraceFault, TheVariants.WriteFailed}
-use Rattle.bac_script.specs.declared.input.Reading.TheVariants.{Open, AtEnd, Failed}
-use Rattle.bac_script.specs.Script.{lines, text, text_of, all_said, first_fault, EndsAs, Runs}
+use Rattle.std.proofs.{
+  Common.{◌≡◌, ◌≢◌, ◌⊎◌, ℕ, List, [], ◌∷◌, ◌++◌, length, Option, Result, Err, refl, sym, ◌∙◌, ap, inl, inr, arith},
+  Common.{append_assoc, MatchOption, append-nil},
+}
+use Rattle.bac_print.specs.{declared.checked.Checked.Checked, Checked.{fresh, ends_of, octets_of}}
+use Rattle.bac_script.specs.{
+  declared.input.{Reading.Reading, Reading.TheVariants.{Open, AtEnd, Failed}},
+  declared.tracing.{TraceEnd.TraceEnd, TraceFault.TraceFault, TraceFault.TheVariants.WriteFailed},
+  Input.ReaderStands,
+  Tracing.Traces,
+  Alike.{IsFrontOf, AreAlike},
+  Script.{lines, text, text_of, all_said, first_fault, EndsAs, Runs},
+}
 use Rattle.bac_script.proofs.{Courses.RunsWhole, Fronts.text_front}
 
 -- How often reading met the end.
@@ -18,40 +22,32 @@ ends Failed = 0
 
 ends_are : {R : Type 0} (remaining : R → Option (List ℕ)) (reading : Reading) (reader : R) (reader' : Checked R)
     → ReaderStands remaining reading (fresh reader) reader' [] → ends_of reader' ≡ ends reading
-ends_are _ Open _ _ stands = stands.1
-ends_are _ AtEnd _ _ stands = stands.2.once
-ends_are _ Failed _ _ stands = stands.2
+ends_are = grind arith
 
 same_lines : (octets : List ℕ) (reading other : Reading) → ends reading ≡ ends other
     → lines octets reading ≡ lines octets other
-same_lines octets AtEnd AtEnd e = refl
-same_lines octets Failed Failed e = refl
-same_lines octets Open Open e = refl
-same_lines _ _ _ e = cc
+same_lines = grind arith
 
 -- ---- one run
 
 front_of : (octets : List ℕ) (reading : Reading) (written : List ℕ) (answer : Result TraceEnd TraceFault)
     → Runs octets reading written answer → IsFrontOf written (text octets reading)
-front_of octets reading written (Err WriteFailed) runs = runs
-front_of octets reading written _ runs = ([], cc (append-nil written, runs.0))
+front_of = grind (arith, append-nil)
 
 whole_of : (octets : List ℕ) (reading : Reading) (written : List ℕ) (answer : Result TraceEnd TraceFault)
     → answer ≢ Err WriteFailed → Runs octets reading written answer → RunsWhole octets reading written answer
-whole_of _ _ _ (Err WriteFailed) all _ = absurd (all refl)
-whole_of _ _ _ _ _ runs = runs
+whole_of = grind arith
 
 -- ---- two runs
 
 -- Two fronts of one list.
 one_more : (x : ℕ) (xs ys : List ℕ) → IsFrontOf xs ys ⊎ IsFrontOf ys xs → IsFrontOf (x ∷ xs) (x ∷ ys)
     ⊎ IsFrontOf (x ∷ ys) (x ∷ xs)
-one_more x xs ys (inl h) = inl (h.0, ap (λ zs. x ∷ zs) h.1)
-one_more x xs ys (inr h) = inr (h.0, ap (λ zs. x ∷ zs) h.1)
+one_more = grind arith
 
 fronts : (xs ys rest others : List ℕ) → xs ++ rest ≡ ys ++ others → IsFrontOf xs ys ⊎ IsFrontOf ys xs
-fronts [] ys rest others e = inl (ys, refl)
-fronts (x ∷ xs) [] rest others e = inr (x ∷ xs, refl)
+fronts [] ys _ _ e = inl (ys, refl)
+fronts (x ∷ xs) [] _ _ e = inr (x ∷ xs, refl)
 fronts (x ∷ xs) (y ∷ ys) rest others e =
     let same : x ≡ y = cc in
     let later : xs ++ rest ≡ ys ++ others = cc in
@@ -61,16 +57,13 @@ same_answer : (fault : Option TraceFault) (reading other : Reading) (count : ℕ
     (answer answer' : Result TraceEnd TraceFault) → ends reading ≡ ends other →
     MatchOption fault (EndsAs reading count answer) (λ fault. answer ≡ Err fault)
     → MatchOption fault (EndsAs other count answer') (λ fault. answer' ≡ Err fault) → answer ≡ answer'
-same_answer (Some fault) reading other count answer answer' e h h' = h ∙ sym h'
-same_answer None AtEnd AtEnd count answer answer' e h h' = h ∙ sym h'
-same_answer None Failed Failed count answer answer' e h h' = h ∙ sym h'
-same_answer _ _ _ count answer answer' e h h' = grind arith
+same_answer = grind arith
 
 module _ (octets : List ℕ) (reading other : Reading) (alike : ends reading ≡ ends other) (written written' : List ℕ)
     (answer answer' : Result TraceEnd TraceFault)
     (runs : Runs octets reading written answer) (runs' : Runs octets other written' answer') where
   same_text : text octets reading ≡ text octets other
-  same_text = ap (λ (all : List (List ℕ)). text_of (all_said all)) (same_lines octets reading other alike)
+  same_text = grind (arith, same_lines)
 
   pub runs_alike : AreAlike written answer written' answer'
   runs_alike =
@@ -97,14 +90,7 @@ module _ {R S V W : Type 0} {remaining : R → Option (List ℕ)} {remaining' : 
     other_answer) where
   pub traces_alike : octets_of reader' ≡ octets_of other_reader' → ends_of reader' ≡ ends_of other_reader'
       → AreAlike (octets_of writer') answer (octets_of other_writer') other_answer
-  traces_alike same_octets same_ends =
-      let given : run.given ≡ other.given = sym run.read.gave.passed ∙ same_octets ∙ other.read.gave.passed in
-      let alike : ends run.reading ≡ ends other.reading =
-      sym (ends_are remaining run.reading reader reader' run.read.stopped) ∙ same_ends
-      ∙ ends_are remaining' other.reading other_reader other_reader' other.read.stopped in
-      rw (run.took.passed, other.took.passed)
-      (runs_alike other.given run.reading other.reading alike run.written other.written answer other_answer
-      (rw (← given) run.runs) other.runs)
+  traces_alike = grind (arith, ends_are, runs_alike)
 
   -- A run whose reader gave less, and did not end, wrote a front of what a whole one wrote.
   pub traces_front : IsFrontOf (octets_of reader') (octets_of other_reader') → ends_of reader' ≡ 0

@@ -1,17 +1,22 @@
 -- What the machine prints for all that a script says is what the look-ahead gives.
-use Rattle.std.proofs.Common.{◌≡◌, ℕ, zero, suc, List, [], ◌∷◌, ◌++◌, drop, length, Option, Some, slice_get, refl, sym}
-use Rattle.std.proofs.Common.{◌∙◌, ap}
-use Rattle.std.specs.List.{AllByRecursion}
-use Rattle.bac_tsm.specs.{Events.Event, Events.Note, Lookahead.output, Machine.State, Machine.Stepped}
-use Rattle.bac_tsm.specs.{Limits.table_size, Laws.state_at, Laws.NumbersComeBackLate, Client.client_rules}
-use Rattle.bac_tsm.specs.{Client.keeping}
+use Rattle.std.{
+  proofs.Common.{◌≡◌, ℕ, zero, suc, List, [], ◌∷◌, ◌++◌, drop, length, Option, Some, slice_get, refl, sym, ◌∙◌, ap},
+  specs.List.AllByRecursion,
+}
+use Rattle.bac_tsm.{
+  specs.{Events.{Event, Note}, Lookahead.output, Machine.{State, Stepped}, Limits.table_size},
+  specs.{Laws.{state_at, NumbersComeBackLate}, Client.{client_rules, keeping}},
+  proofs.Laws.{by_number, few_open, begins, one_step, back_late},
+}
 use Rattle.bac_pdu.specs.Peer.{Station}
-use Rattle.bac_tsm.proofs.Laws.{by_number, few_open, begins, one_step, back_late}
 use Rattle.bac_device.specs.{Places.Write, Demo.demo_points, Turns.replies_to}
-use Rattle.bac_script.specs.Line.{Said, Nothing, Settings, Happens, Asks}
-use Rattle.bac_script.specs.{Text.notes_text, Running.small_device}
-use Rattle.bac_script.specs.Inner.Running.{Stage, new_client, ran, reply_after, writes_with}
-use Rattle.bac_script.specs.Script.{settings_in, events_in, arrivals_in, requests_in, printed, text_of}
+use Rattle.bac_script.specs.{
+  Line.{Said, Nothing, Settings, Happens, Asks},
+  Text.notes_text,
+  Running.small_device,
+  Inner.Running.{Stage, new_client, ran, reply_after, writes_with},
+  Script.{settings_in, events_in, arrivals_in, requests_in, printed, text_of},
+}
 
 -- What a script runs on before its first line.
 abbrev pub first_stage : Stage

@@ -1,13 +1,17 @@
 -- Where the octets of a script are cut.
-use Rattle.std.proofs.Common.{◌≡◌, ◌≢◌, ℕ, ◌<◌, Bool, true, false, List, [], ◌∷◌, ◌++◌, length, get_or, refl, sym, ◌∙◌}
-use Rattle.std.proofs.Common.{ap, append_assoc, arith, Err, ◌||◌, nat_lt, filter, append-nil, length-append, ne_eqb}
+use Rattle.std.proofs.{
+  Common.{◌≡◌, ◌≢◌, ℕ, ◌<◌, Bool, true, false, List, [], ◌∷◌, ◌++◌, length, get_or, refl, sym, ◌∙◌, ap, append_assoc},
+  Common.{arith, Err, ◌||◌, nat_lt, filter, append-nil, length-append, ne_eqb},
+  lemmas.{Grind.common_steps, Bool.Decides.nat_tests},
+}
 use Rattle.std.specs.List.{onto_first}
-use Rattle.std.proofs.lemmas.{Grind.common_steps, Bool.Decides.nat_tests}
 use Rattle.bac_text.specs.Limits.{longest_line}
-use Rattle.bac_script.specs.{Inner.Limits.line_room, Inner.Feeds.HasNoFeed, Script.pieces, Script.lines, Script.is_line}
-use Rattle.bac_script.specs.declared.{input.Reading.Reading, line.LineFault.TheVariants.TooLong}
-use Rattle.bac_script.specs.declared.input.Reading.TheVariants.{Open, AtEnd, Failed}
-use Rattle.bac_script.specs.Line.{ends_with_feed, without_feed, said}
+use Rattle.bac_script.specs.{
+  Inner.{Limits.line_room, Feeds.HasNoFeed},
+  Script.{pieces, lines, is_line},
+  declared.{input.Reading.Reading, line.LineFault.TheVariants.TooLong, input.Reading.TheVariants.{AtEnd, Failed}},
+  Line.{ends_with_feed, without_feed, said},
+}
 
 pub pieces-line : (text more : List ℕ) → HasNoFeed text → pieces (text ++ 10 ∷ more) ≡ (text ++ 10 ∷ []) ∷ pieces more
 pieces-line [] _ h = refl
@@ -41,30 +45,22 @@ last_no_feed x [] h = h.0
 last_no_feed x (y ∷ ys) h = last_no_feed y ys h.1
 
 pub ends_with_feed-none : (line : List ℕ) → HasNoFeed line → ends_with_feed line ≡ false
-ends_with_feed-none [] h = refl
-ends_with_feed-none (x ∷ xs) h = grind (arith, common_steps, last_no_feed x xs h)
+ends_with_feed-none = grind (arith, common_steps, last_no_feed)
 
 pub ends_with_feed-push : (text : List ℕ) → ends_with_feed (text ++ 10 ∷ []) ≡ true
-ends_with_feed-push text = grind (arith, common_steps)
+ends_with_feed-push _ = grind (arith, common_steps)
 
 is_line-sure : (reading : Reading) (line : List ℕ) → (ends_with_feed line || nat_lt longest_line (length line)) ≡ true
     → is_line reading line ≡ true
-is_line-sure AtEnd _ h = refl
-is_line-sure Open _ h = h
-is_line-sure Failed _ h = h
+is_line-sure = grind arith
 
 pub lines-ended : (text more : List ℕ) (reading : Reading) → HasNoFeed text
     → lines ((text ++ 10 ∷ []) ++ more) reading ≡ (text ++ 10 ∷ []) ∷ lines more reading
-lines-ended text more reading h =
-    rw (
-      append_assoc text (10 ∷ []) more,
-      pieces-line text more h,
-      is_line-sure reading (text ++ 10 ∷ []) (rw (ends_with_feed-push text) refl),
-    ) refl
+lines-ended = grind (arith, append_assoc, pieces-line, is_line-sure, ends_with_feed-push)
 
 -- What no line feed ends, and is not too long, is a line only at the end
 pub lines-rest : (line : List ℕ) → HasNoFeed line → length line < line_room → lines line Failed ≡ []
-lines-rest [] h short = refl
+lines-rest [] h _ = refl
 lines-rest (x ∷ xs) h short =
     let e : nat_lt longest_line (length (x ∷ xs)) ≡ false = grind (arith, nat_tests) in
     rw (pieces-open x xs h, ends_with_feed-none (x ∷ xs) h, e) refl
@@ -76,13 +72,11 @@ lines-last (x ∷ xs) h some = rw (pieces-open x xs h) refl
 -- A line is as long without its line feed as it is, or one shorter
 without_feed_long : (line front : List ℕ) → HasNoFeed line → length line ≡ line_room
     → longest_line < length (without_feed (line ++ front))
-without_feed_long line [] h long = rw (append-nil line, ends_with_feed-none line h) (omega arith)
-without_feed_long line (x ∷ xs) h long = grind (arith, common_steps, length-append line (x ∷ xs))
+without_feed_long = grind (arith, append-nil, ends_with_feed-none, common_steps, length-append)
 
 pub said-long : (is_first : Bool) (line : List ℕ) → longest_line < length (without_feed line)
     → said is_first line ≡ Err TooLong
-said-long is_first line h =
-    let e : nat_lt longest_line (length (without_feed line)) ≡ true = grind (arith, nat_tests) in rw e refl
+said-long = grind (arith, nat_lt, true, nat_tests)
 
 -- The line that was taken says what the first line of the octets from there on says
 pub record NextLine (line held : List ℕ) (reading : Reading) : Type 0 where
@@ -93,7 +87,7 @@ pub record NextLine (line held : List ℕ) (reading : Reading) : Type 0 where
 
 pub next_long : (line held : List ℕ) (reading : Reading) → HasNoFeed line → length line ≡ line_room
     → NextLine line held reading
-next_long [] held reading h long = absurd (omega arith)
+next_long [] _ _ h long = absurd (omega arith)
 next_long (x ∷ xs) held reading h long =
     let b = pieces-begun x xs held h in
     let long' : longest_line < length ((x ∷ xs) ++ b.front) = omega (arith, length-append (x ∷ xs) b.front) in
@@ -128,4 +122,4 @@ next_last line h some =
 
 pub said-whole_long : (is_first : Bool) (line : List ℕ) → HasNoFeed line → length line ≡ line_room
     → said is_first line ≡ Err TooLong
-said-whole_long is_first line h long = said-long is_first line (rw (ends_with_feed-none line h) (omega arith))
+said-whole_long = grind (arith, said-long, ends_with_feed-none)

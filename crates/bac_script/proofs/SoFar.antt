@@ -1,45 +1,40 @@
 -- What holds between two lines of a script, and where it stops.
-use Rattle.std.proofs.Common.{◌≡◌, ◌≢◌, ℕ, ◌+◌, ◌<◌, ◌≤◌, Bool, true, false, List, [], ◌∷◌, ◌++◌, length, take, drop}
-use Rattle.std.proofs.Common.{Option, Some, None, Result, Ok, Err, refl, sym, ◌∙◌, ap, subst, inl, inr, append_assoc}
-use Rattle.std.proofs.Common.{arith, ◌&&◌, append-nil, length-append, take-append-drop}
-use Rattle.std.proofs.lemmas.List.{append_cancel_right}
+use Rattle.std.proofs.{
+  Common.{◌≡◌, ◌≢◌, ℕ, ◌+◌, ◌<◌, ◌≤◌, Bool, true, false, List, [], ◌∷◌, ◌++◌, length, take, drop, Option, Some, None},
+  Common.{Result, Ok, Err, refl, sym, ◌∙◌, ap, subst, inl, inr, append_assoc, arith, ◌&&◌, append-nil, length-append},
+  Common.take-append-drop,
+  lemmas.List.append_cancel_right,
+}
 use Rattle.bac_tsm.specs.Client.{Client}
 use Rattle.bac_device.specs.Device.{DeviceState}
-use Rattle.bac_print.specs.declared.checked.Checked.{Checked}
-use Rattle.bac_print.specs.declared.page.Page.{Page}
-use Rattle.bac_script.specs.declared.{input.Reading.Reading, tracing.TraceEnd.TraceEnd, tracing.TraceFault.TraceFault}
-use Rattle.bac_script.specs.{Input.ReadsNoMore, Input.ReaderStands, Line.Said, Line.said}
-use Rattle.bac_script.specs.declared.input.Reading.TheVariants.{Open, AtEnd, Failed}
-use Rattle.bac_script.specs.declared.line.LineFault.{LineFault, TheVariants.Bad, TheVariants.TooLong}
-use Rattle.bac_script.specs.declared.tracing.TraceFault.TheVariants.{ReadFailed, WriteFailed}
-use Rattle.bac_print.specs.Checked.{has_failed, ends_with, reads_of, last_of, octets_of}
-use Rattle.bac_script.specs.Inner.Input.{HasNotEnded, TakesAndKeeps, ReadForLine, empty_reads, IsLineCut}
-use Rattle.bac_script.specs.Inner.{Feeds.HasNoFeed, Limits.line_room, Tracing.RunsOn}
-use Rattle.bac_script.specs.Inner.Running.{Stage, Stands, new_client, device_with, ran}
-use Rattle.bac_script.specs.Script.{lines, is_nothing, fault_at, first_fault, text, Runs}
-use Rattle.bac_print.specs.Page.{held as on_page, writer_of, Writes, Wrote, Prints}
-use Rattle.bac_script.specs.Tracing.{Traces, IsNeeded, IsToldFirst}
-use Rattle.bac_script.proofs.Pieces.{NextLine, next_ended, next_long, next_last, lines-rest, lines-last, lines-ended}
-use Rattle.bac_script.proofs.Pieces.{said-whole_long}
-use Rattle.bac_script.proofs.{Taken.Takes-more, Taken.Takes-front, Taken.further, Machine.first_stage}
-use Rattle.bac_print.proofs.Printed.{◌⨾◌, prints_nothing}
-use Rattle.bac_print.proofs.Known.{Gave-none}
-use Rattle.bac_print.proofs.Shown.{finished, all_written}
-use Rattle.bac_script.proofs.Courses.{Course, behind, behind_both, and_on, course, course_on, whole, runs_text}
-use Rattle.bac_script.proofs.Courses.{fault_is, RunsWhole, runs_as}
+use Rattle.bac_print.{
+  specs.declared.{checked.Checked.Checked, page.Page.Page},
+  specs.{Checked.{has_failed, reads_of, last_of, octets_of}, Page.{held as on_page, writer_of, Writes, Wrote, Prints}},
+  proofs.{Printed.{◌⨾◌, prints_nothing}, Known.Gave-none, Shown.{finished, all_written}},
+}
+use Rattle.bac_script.specs.{
+  declared.{input.Reading.Reading, input.Reading.TheVariants.{Open, AtEnd, Failed}, line.LineFault.LineFault},
+  declared.tracing.{TraceEnd.TraceEnd, TraceFault.TraceFault, TraceFault.TheVariants.{ReadFailed, WriteFailed}},
+  Input.{ReadsNoMore, ReaderStands},
+  Line.{Said, said},
+  Inner.{Input.{HasNotEnded, TakesAndKeeps, ReadForLine, empty_reads, IsLineCut}, Feeds.HasNoFeed, Limits.line_room},
+  Inner.{Tracing.RunsOn, Running.{Stage, Stands, new_client, device_with, ran}},
+  Script.{lines, is_nothing, fault_at, first_fault, text, Runs},
+  Tracing.{Traces, IsNeeded, IsToldFirst},
+}
+use Rattle.bac_script.proofs.{
+  Pieces.{NextLine, next_ended, next_long, next_last, lines-rest, lines-last, lines-ended, said-whole_long},
+  Taken.{Takes-more, Takes-front, further},
+  Machine.first_stage,
+  Courses.{Course, behind, behind_both, and_on, course, course_on, whole, runs_text, fault_is, RunsWhole, runs_as},
+}
 
 -- What was printed on an empty page is out, or still held.
 out_so_far : {W : Type 0} {contents : W → Option (List ℕ)} {page between : Page W} {printed : List ℕ}
     → Prints contents page between printed → on_page page ≡ [] → has_failed (writer_of between) ≡ false →
     octets_of (writer_of between) ++ on_page between ≡ octets_of (writer_of page) ++ printed
 unfolding Wrote
-out_so_far {page = page} {between = between} {printed = printed} prints empty good =
-    let w = prints.wrote in
-    ap (λ (zs : List ℕ). zs ++ on_page between) w.took.passed
-    ∙ append_assoc (octets_of (writer_of page)) w.taken (on_page between)
-    ∙ ap (λ (zs : List ℕ). octets_of (writer_of page) ++ zs)
-    (ap (λ (zs : List ℕ). w.taken ++ zs) (sym (w.sound good).1) ∙ sym w.whole
-    ∙ ap (λ (zs : List ℕ). zs ++ printed) empty)
+out_so_far = grind (arith, append_assoc)
 
 -- The course of each script that begins with these octets: this text, and then the course from this stage on.
 abbrev GoesOn : List ℕ → List ℕ → Stage → Bool → ℕ → Type 0
@@ -79,9 +74,9 @@ goes_further : (octets line text : List ℕ) (stage : Stage) (is_first is_first'
     → GoesOn octets text stage is_first count → IsLineCut Open line →
     said is_first line ≡ Ok one → is_first' ≡ (is_first && is_nothing one)
     → GoesOn (octets ++ line) (text ++ (ran stage one).text) (ran stage one).after is_first' (count + 1)
-goes_further octets line text stage is_first is_first' count one goes_on (inr c) ok still =
+goes_further _ line text _ is_first _ _ _ goes_on (inr c) ok still =
     λ more reading. absurd (let long = said-whole_long is_first line c.0 c.1 in cc)
-goes_further octets line text stage is_first is_first' count one goes_on (inl c) ok still = λ more reading.
+goes_further octets line text stage is_first _ count one goes_on (inl c) ok still = λ more reading.
     let later = λ (s : Said) (first : Bool). course (ran stage s).after first (count + 1) (lines more reading) in
     goes_to octets line more text stage is_first count reading (line ∷ lines more reading) goes_on
     (rw c.2 (lines-ended c.0 more reading c.1))
@@ -93,41 +88,26 @@ goes_further octets line text stage is_first is_first' count one goes_on (inl c)
 pub NextLine-from : {R : Type 0} (remaining : R → Option (List ℕ)) (reading : Reading) (before reader : Checked R)
     (line held : List ℕ) → IsLineCut reading line →
     ReaderStands remaining reading before reader held → reading ≢ Failed → 0 < length line → NextLine line held reading
-NextLine-from _ Open _ _ _ held (inl c) _ _ _ =
-    subst (λ l. NextLine l held Open) (sym c.2) (next_ended c.0 held Open c.1)
-NextLine-from _ Open _ _ line held (inr c) _ _ _ = next_long line held Open c.0 c.1
-NextLine-from _ AtEnd _ _ line _ cut stands _ some =
-    subst (λ h. NextLine line h AtEnd) (sym stands.0) (next_last line cut.0 some)
-NextLine-from _ Failed _ _ _ _ _ _ going _ = absurd (going refl)
+NextLine-from = grind (arith, next_ended, next_long, next_last)
 
 -- How reading stands since the first line.
 stands_more : {R : Type 0} (remaining : R → Option (List ℕ)) (reading : Reading) (first second third : Checked R)
     (held : List ℕ) → HasNotEnded first second →
     ReaderStands remaining reading second third held → ReaderStands remaining reading first third []
-stands_more _ Open _ _ _ _ p h = (h.0, h.1 ∙ p)
-stands_more _ AtEnd _ _ _ _ p h =
-    (refl, h.1, record { last = h.2.last; once = h.2.once ∙ ap (λ (n : ℕ). ends_with n true) p; known = h.2.known })
-stands_more _ Failed _ _ _ _ p h = (refl, h.1, h.2 ∙ p)
+stands_more = grind arith
 
 fault_runs : (octets : List ℕ) (reading : Reading) (text : List ℕ) (number : ℕ) (fault : LineFault)
     → RunsWhole octets reading text (Err (fault_at number fault)) →
     Runs octets reading text (Err (fault_at number fault))
-fault_runs _ _ _ _ Bad runs = runs
-fault_runs _ _ _ _ TooLong runs = runs
+fault_runs = grind arith
 
 -- An empty line is cut only at the end.
 at_end : (reading : Reading) (line : List ℕ) → IsLineCut reading line → reading ≢ Failed → length line ≡ 0
     → reading ≡ AtEnd
-at_end Open line (inl c) going none =
-    absurd (let size = ap length c.2 in omega (arith, none, simp length-append at size))
-at_end Open line (inr c) going none = absurd (omega (arith, none, c.1))
-at_end AtEnd line cut going none = refl
-at_end Failed line cut going none = absurd (going refl)
+at_end = grind (arith, length-append)
 
 open_from : (reading : Reading) → reading ≢ Failed → reading ≢ AtEnd → reading ≡ Open
-open_from Open f e = refl
-open_from AtEnd f e = absurd (e refl)
-open_from Failed f e = absurd (f refl)
+open_from = grind arith
 
 module _ {R W : Type 0} {remaining : R → Option (List ℕ)} {contents : W → Option (List ℕ)}
     {reader middle reader' : Checked R} {held now : List ℕ}
@@ -167,10 +147,7 @@ module _ {R W : Type 0} {remaining : R → Option (List ℕ)} {contents : W → 
   -- Where no line is held, the lines so far are all, and none has a fault.
   no_fault : (more : List ℕ) → HasNoFeed more → length more < line_room
       → first_fault (lines (s.octets ++ more) Open) ≡ None
-  no_fault more none short =
-      sym (fault_is (lines (s.octets ++ more) Open)) ∙ ap (λ (c : Course). c.fault) (s.goes_on more Open)
-      ∙ ap (λ (all : List (List ℕ)). (behind s.text (course s.stage is_first count all)).fault)
-      (lines-rest more none short)
+  no_fault = grind (arith, fault_is, behind, course, lines-rest)
 
   -- The last read was needed.
   needed : IsNeeded reader reader' taken.given
@@ -198,10 +175,7 @@ module _ {R W : Type 0} {remaining : R → Option (List ℕ)} {contents : W → 
 
   -- Where no line is held, the text of the lines so far is all.
   text_so_far : (more : List ℕ) → HasNoFeed more → length more < line_room → text (s.octets ++ more) Open ≡ s.text
-  text_so_far more none short =
-      sym (runs_text (lines (s.octets ++ more) Open)) ∙ ap (λ (c : Course). c.text) (s.goes_on more Open)
-      ∙ ap (λ (all : List (List ℕ)). (behind s.text (course s.stage is_first count all)).text)
-      (lines-rest more none short) ∙ append-nil s.text
+  text_so_far = grind (arith, runs_text, behind, course, lines-rest, append-nil)
 
   -- Before the last read it was written.
   told : IsToldFirst reader' (writer_of page) (writer_of kept) taken.given
@@ -225,7 +199,7 @@ module _ {R W : Type 0} {remaining : R → Option (List ℕ)} {contents : W → 
   -- The course where these lines are left.
   left : (all : List (List ℕ)) → lines (line ++ rest) reading ≡ all
       → whole (lines ((s.octets ++ line) ++ rest) reading) ≡ behind s.text (course s.stage is_first count all)
-  left all are = goes_to s.octets line rest s.text s.stage is_first count reading all s.goes_on are
+  left = grind (arith, goes_to)
 
   -- The run stops here.
   stops : {last : Page W} {printed more : List ℕ} (answer : Result TraceEnd TraceFault) → Prints contents kept last more
@@ -338,15 +312,15 @@ module _ {R W : Type 0} {remaining : R → Option (List ℕ)} {contents : W → 
 -- Where nothing was given nothing was to be told.
 untold : {out : List ℕ} (before last : List ℕ) → [] ≡ before ++ last
     → (later : List ℕ) × (out ≡ (out ++ text before Open) ++ later)
-untold {out = out} [] last split = ([], sym (append-nil (out ++ []) ∙ append-nil out))
-untold (octet ∷ before) last split = absurd (cc)
+untold {out = out} [] _ _ = ([], sym (append-nil (out ++ []) ∙ append-nil out))
+untold (octet ∷ before) _ split = absurd (cc)
 
 pub SoFar-none : {R W : Type 0} (remaining : R → Option (List ℕ)) (contents : W → Option (List ℕ)) (reader : Checked R)
     (held : List ℕ) (page : Page W)
     (client : Client) (device : DeviceState) → on_page page ≡ [] → has_failed reader ≡ false → held ≡ []
     → client ≡ new_client 3000 3 0 → device ≡ device_with [] →
     SoFar remaining contents reader reader held page page 0 true client device
-SoFar-none remaining contents reader held page client device empty sound none fresh unwritten = record {
+SoFar-none _ _ reader held page _ _ empty sound none fresh unwritten = record {
   octets = [];
   text = [];
   stage = first_stage;
@@ -367,22 +341,14 @@ SoFar-none remaining contents reader held page client device empty sound none fr
 pub front_runs : (octets : List ℕ) (reading : Reading) (printed taken rest : List ℕ)
     (answer : Result TraceEnd TraceFault) → Runs octets reading printed answer →
     printed ≡ taken ++ rest → Runs octets reading taken (Err WriteFailed)
-front_runs octets reading printed written rest (Err WriteFailed) runs e =
-    (rest ++ runs.0, runs.1 ∙ ap (λ (xs : List ℕ). xs ++ runs.0) e ∙ append_assoc written rest runs.0)
-front_runs octets reading printed written rest _ runs e = (rest, cc (runs.0, e))
+front_runs = grind (arith, append_assoc)
 
 -- What was told before the last read is told once the page is finished.
 told_still : {R W : Type 0} {contents : W → Option (List ℕ)} (reader' : Checked R) (first last : Page W)
     {writer after : Checked W} {given : List ℕ} → writer_of first ≡ writer
     → IsToldFirst reader' (writer_of first) (writer_of last) given →
     Writes contents (writer_of last) after (on_page last) [] [] → IsToldFirst reader' writer after given
-told_still {W = W} reader' first _ {after = after} {given = given} same so_far gone =
-    subst (λ (w : Checked W). IsToldFirst reader' w after given) same
-    (λ before split. let t = so_far before split in (
-      t.0 ++ gone.taken,
-      gone.took.passed ∙ ap (λ (zs : List ℕ). zs ++ gone.taken) t.1
-          ∙ append_assoc (octets_of (writer_of first) ++ text before Open) t.0 gone.taken,
-    ))
+told_still = grind (arith, append_assoc)
 
 module _ {R W : Type 0} {remaining : R → Option (List ℕ)} {contents : W → Option (List ℕ)} {reader reader' : Checked R}
     {writer after back : Checked W}

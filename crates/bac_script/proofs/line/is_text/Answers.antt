@@ -1,8 +1,10 @@
-use Rattle.std.proofs.Common.{◌≡◌, ℕ, List, length, None, Result, Ok, Err, sym, ◌∙◌, arith, inl, inr, nat_lt, position}
-use Rattle.std.proofs.Common.{is_ok, MatchResult, IsUtf8}
+use Rattle.std.proofs.{
+  Common.{◌≡◌, ℕ, List, length, None, Result, Ok, Err, sym, ◌∙◌, arith, inl, inr, nat_lt, position, is_ok, MatchResult},
+  Common.IsUtf8,
+  lemmas.{Bool.{cases_lt, false_from_ne_true}, Bool.Decides.nat_tests, List.get_or_past},
+  lemmas.Str.{IsUtf8-from_ascii, IsUtf8-from_is_utf8, is_utf8-from_IsUtf8},
+}
 use Rattle.std.specs.Str.{is_utf8, IsAscii}
-use Rattle.std.proofs.lemmas.{Bool.cases_lt, Bool.false_from_ne_true, Bool.Decides.nat_tests, List.get_or_past}
-use Rattle.std.proofs.lemmas.{Str.IsUtf8-from_ascii, Str.IsUtf8-from_is_utf8, Str.is_utf8-from_IsUtf8}
 use Rattle.bac_script.proofs.Taken.{none_passes}
 use Rattle.bac_script.proofs.line.is_text.Goals as goal
 

@@ -1,8 +1,9 @@
 use Rattle.std.proofs.Common.{ℕ, List, option_map, ◌∙◌, ap}
 use Rattle.bac_pdu.specs.Peer.{station}
-use Rattle.bac_device.specs.{Point.Description, Demo.demo_points, Device.device_after, Reply.reply_to}
-use Rattle.bac_device.specs.{Reply.writes_after}
-use Rattle.bac_device.proofs.StateLaws.{points_after, after_holds}
+use Rattle.bac_device.{
+  specs.{Point.Description, Demo.demo_points, Device.device_after, Reply.{reply_to, writes_after}},
+  proofs.StateLaws.{points_after, after_holds},
+}
 use Rattle.bac_print.proofs.Printed.{printed_as}
 use Rattle.bac_script.specs.{Running.small_device, Text.reply_text}
 use Rattle.bac_script.proofs.running.ask.Goals as goal

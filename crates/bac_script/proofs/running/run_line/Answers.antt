@@ -1,15 +1,18 @@
-use Rattle.std.proofs.Common.{◌≡◌, ℕ, true, List, [], ◌∷◌, length, Result, Ok, Err, IsTrue, refl, sym, ◌∙◌, ap, subst}
-use Rattle.std.proofs.Common.{arith, rules, nat_lt}
-use Rattle.std.proofs.lemmas.Bool.Decides.{nat_tests}
+use Rattle.std.proofs.{
+  Common.{◌≡◌, ℕ, true, List, [], ◌∷◌, length, Result, Ok, Err, IsTrue, refl, sym, ◌∙◌, ap, subst, arith, rules},
+  Common.nat_lt,
+  lemmas.Bool.Decides.nat_tests,
+}
 use Rattle.bac_wire.specs.Identifier.{identifier}
 use Rattle.bac_tsm.specs.{declared.client.SubmitFault.TheVariants.TooLong, Events.Refused, Lookahead.refusal_of}
 use Rattle.bac_pdu.specs.Apdu.{longest_body}
 use Rattle.bac_text.specs.Pairs.{whole_body_of}
 use Rattle.bac_print.proofs.Printed.{printed_as}
-use Rattle.bac_script.specs.{declared.line.Line.Line, declared.line.Line.TheVariants.LongWrite}
-use Rattle.bac_script.specs.{declared.long_write.LongWrite.LongWrite as Write, Inner.LineSeen.line_seen}
-use Rattle.bac_script.specs.{Inner.LongBody.octets_or_none, Inner.LongBody.is_long, Text.notes_text}
-use Rattle.bac_script.specs.Inner.Running.{Stage, Ran, Stands, ran}
+use Rattle.bac_script.specs.{
+  declared.{line.Line.Line, line.Line.TheVariants.LongWrite, long_write.LongWrite.LongWrite as Write},
+  Inner.{LineSeen.line_seen, LongBody.{octets_or_none, is_long}, Running.{Stage, Ran, Stands, ran}},
+  Text.notes_text,
+}
 use Rattle.bac_script.proofs.running.run_line.Goals as goal
 
 past : (whole : Result (List ℕ) ℕ) → IsTrue (is_long whole) → nat_lt longest_body (length (octets_or_none whole)) ≡ true

@@ -1,6 +1,8 @@
 use Rattle.std.proofs.Common.{sym, ◌∙◌, arith}
-use Rattle.bac_script.proofs.Chunks.{cut_behind, none_up_to, none_held, cut_as_long}
-use Rattle.bac_script.proofs.input.Chunk.line_length.Goals.{then-self-lt-LINE_ROOM, else-self-lt-LINE_ROOM}
+use Rattle.bac_script.proofs.{
+  Chunks.{cut_behind, none_up_to, none_held, cut_as_long},
+  input.Chunk.line_length.Goals.{then-self-lt-LINE_ROOM, else-self-lt-LINE_ROOM},
+}
 use Rattle.bac_script.proofs.input.Chunk.line_length.Goals as goal
 
 pub returns-in-Some-clause-line : goal.returns-in-Some-clause-line

@@ -1,7 +1,9 @@
 use Rattle.std.proofs.Common.{◌≡◌, ◌<◌, length, List, ℕ, arith, refl, sym, ◌∙◌, subst, rules}
-use Rattle.bac_script.specs.{Inner.Feeds.HasNoFeed, Inner.Limits.line_room, declared.input.Reading.TheVariants.Open}
+use Rattle.bac_script.{
+  specs.{Inner.Feeds.HasNoFeed, Inner.Limits.line_room, declared.input.Reading.TheVariants.Open},
+  proofs.Taken.{Takes-more, read_for_line, next_at_end},
+}
 use Rattle.bac_print.proofs.Printed.{◌⨾◌, prints_nothing}
-use Rattle.bac_script.proofs.Taken.{Takes-more, read_for_line, next_at_end}
 use Rattle.bac_script.proofs.input.Chunk.next_line.Goals as goal
 
 pub loop-length-init : goal.loop-length-init
