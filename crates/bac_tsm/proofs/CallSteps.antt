@@ -1,15 +1,20 @@
 -- A tick, and what a client keeps through each call.
-use Rattle.std.proofs.Common.{◌≡◌, ℕ, max, ◌<◌, ◌≤◌, List, Bool, All, ap, arith, [], ◌∷◌, length, map, Option, Some}
-use Rattle.std.proofs.Common.{None, not, if◌then◌else◌, refl, sym, ◌∙◌}
-use Rattle.std.specs.{List.filter, List.flat_map, List.slice_get, Option.option_map, Option.option_to_list}
-use Rattle.std.proofs.lemmas.List.{Elements.All-filter, Elements.All-weaker, nil_from_length}
-use Rattle.bac_tsm.specs.{declared.due.Entry.Entry, Events.Rules, Events.Request, Events.Outcome, Inner.Client.IsTimely}
-use Rattle.bac_tsm.specs.{Inner.Waiting.ticket_in}
-use Rattle.bac_tsm.specs.Machine.{Waiting, due_answer, kept, tick, deliver, datagram}
-use Rattle.bac_tsm.specs.Client.{Client, client_rules, rules_of, keeping}
+use Rattle.std.proofs.{
+  Common.{◌≡◌, ℕ, max, ◌<◌, ◌≤◌, List, Bool, All, ap, arith, [], ◌∷◌, length, map, Option, Some, None, not},
+  Common.{if◌then◌else◌, refl, sym, ◌∙◌},
+  lemmas.{List.Elements.All-filter, List.nil_from_length},
+}
+use Rattle.std.specs.{List.{filter, flat_map, slice_get}, Option.{option_map, option_to_list}}
+use Rattle.bac_tsm.specs.{
+  declared.due.Entry.Entry,
+  Events.{Rules, Request, Outcome},
+  Inner.{Client.IsTimely, Waiting.ticket_in},
+  Machine.{Waiting, due_answer, kept, tick, deliver, datagram},
+  Client.{Client, client_rules, rules_of, keeping},
+  Answers.{Answer, answer_in_datagram, outcome_of, is_answer_to},
+}
 use Rattle.bac_tsm.proofs.CallNotes.{kept_of_all}
 use Rattle.bac_pdu.specs.Peer.{Station}
-use Rattle.bac_tsm.specs.Answers.{Answer, answer_in_datagram, outcome_of, is_answer_to}
 
 -- A client with this table, as its callers see it.
 abbrev seen_as : ℕ → ℕ → ℕ → ℕ → ℕ → List Waiting → Client
@@ -30,8 +35,7 @@ pub ticked : (timeout retries clock last next : ℕ) (ws : List Waiting) (now la
     × (after ≡ flat_map (kept (client_rules timeout retries) later) ws) →
     (client : Client) → seen_as timeout retries clock last next ws ≡ client
     → Ticks client now answer (seen_as timeout retries later last next after)
-ticked timeout retries _ last next ws now later is answer after both _ same =
-    rw (← same) (rw (← is) (both.0, ap (λ vs. seen_as timeout retries later last next vs) both.1))
+ticked = grind arith
 
 pub timely-filter : (p : Waiting → Bool) (clock next : ℕ) (ws : List Waiting) → IsTimely clock next ws
     → IsTimely clock next (filter p ws)
@@ -41,7 +45,7 @@ timely-filter p clock next ws t =
 module _ (clock next : ℕ) (ws : List Waiting) (t : IsTimely clock next ws) (now later : ℕ) (is : later ≡ max now clock)
   where
     pub past_later : All (λ w. w.base ≤ later) ws
-    past_later = All-weaker (λ w. w.base ≤ clock) (λ w. w.base ≤ later) (λ w le. omega arith) ws t.1
+    past_later = grind arith
 
     pub timely-tick : (rules : Rules) (after : List Waiting) → after ≡ flat_map (kept rules later) ws
         → IsTimely later next after
@@ -93,11 +97,11 @@ delivers_by : (client : Client) (peer : Station) (bytes : List ℕ) (answer : Op
     (waiting : List Waiting) →
     deliver (λ r. outcome_of r peer bytes) client.state.waiting ≡ record { answer = answer; waiting = waiting } →
     Delivers client peer bytes answer (with_waiting client waiting)
-delivers_by client _ _ answer waiting e = (cc e, ap (with_waiting client) (cc e))
+delivers_by client _ _ _ _ e = (cc e, ap (with_waiting client) (cc e))
 
 pub no_answer : (client : Client) (peer : Station) (bytes : List ℕ) → answer_in_datagram peer bytes ≡ None
     → Delivers client peer bytes None client
-no_answer client peer bytes e = delivers_by _ _ _ _ _ (delivers_nothing _ (λ r. rw e) _)
+no_answer _ _ _ e = delivers_by _ _ _ _ _ (delivers_nothing _ (λ r. rw e) _)
 
 -- At most one request, by its ticket.
 few_of_one : (ws : List Waiting) → (ended : Option ℕ) → option_to_list ended ≡ map ticket_in ws → (outcome : Outcome) →
@@ -114,7 +118,7 @@ module _ (timeout retries clock last next : ℕ) (ws : List Waiting) (peer : Sta
       after ≡ filter (λ w. not (is_answer_to w.request answer)) ws →
       Delivers client peer bytes (option_map (λ t. (t, answer.outcome)) ended)
       (seen_as timeout retries clock last next after)
-  closed _ same ended after told left =
+  closed _ same _ _ told left =
       let p = λ (w : Waiting). is_answer_to w.request answer in
       let few = few_of_one _ _ told _ in
       rw (← same) (delivers_by _ _ _ _ _ (delivers_one _ _ _ (λ r. rw carried refl) ws few.0

@@ -1,16 +1,21 @@
 -- Calls of a client one after another, for a caller that reads the machine: a request that is opened, and what a tick
 -- tells once a datagram was heard.
-use Rattle.std.proofs.Common.{◌≡◌, ℕ, ◌+◌, ◌-◌, ◌%◌, ◌^◌, ◌<◌, ◌≤◌, max, false, List, [], ◌∷◌, length, map, nat_eq}
-use Rattle.std.proofs.Common.{Option, Result, Ok, refl, ◌∙◌, arith, IsSome}
-use Rattle.std.specs.{Prelude.⊤, List.flat_map, List.list_any, Option.option_map_or}
-use Rattle.std.proofs.lemmas.Bool.Decides.{nat_tests}
-use Rattle.bac_pdu.specs.Peer.{Station}
-use Rattle.bac_pdu.specs.Apdu.{longest_body}
-use Rattle.bac_tsm.specs.{declared.due.Entry.Entry, declared.client.SubmitFault.SubmitFault}
-use Rattle.bac_tsm.specs.{Limits.table_size, Lookahead.next_invoke_id, Lookahead.refusal_of, Answers.outcome_of}
-use Rattle.bac_tsm.specs.{Client.Client, Client.rules_of, Client.keeping, Inner.Waiting.number_in}
-use Rattle.bac_tsm.specs.Events.{Outcome, Request, Rules, request_of}
-use Rattle.bac_tsm.specs.Machine.{Waiting, State, opened, submit, deliver, datagram, due_answer, tick}
+use Rattle.std.{
+  proofs.Common.{◌≡◌, ℕ, ◌+◌, ◌-◌, ◌%◌, ◌^◌, ◌<◌, ◌≤◌, max, false, List, [], ◌∷◌, length, map, nat_eq, Option, Result},
+  proofs.{Common.{Ok, refl, ◌∙◌, arith, IsSome}, lemmas.Bool.Decides.nat_tests},
+  specs.{Prelude.⊤, List.{flat_map, list_any}, Option.option_map_or},
+}
+use Rattle.bac_pdu.specs.{Peer.Station, Apdu.longest_body}
+use Rattle.bac_tsm.specs.{
+  declared.{due.Entry.Entry, client.SubmitFault.SubmitFault},
+  Limits.table_size,
+  Lookahead.{next_invoke_id, refusal_of},
+  Answers.outcome_of,
+  Client.{Client, rules_of, keeping},
+  Inner.Waiting.number_in,
+  Events.{Outcome, Request, Rules, request_of},
+  Machine.{Waiting, State, opened, submit, deliver, datagram, due_answer, tick},
+}
 use Rattle.bac_tsm.proofs.AnswersInWords.{by_number}
 
 -- The machine opens a request under the next ticket and the next invoke id.

@@ -1,12 +1,13 @@
 -- The requests at the slots of a list, where a slot or the list changes.
-use Rattle.std.proofs.Common.{◌≡◌, ℕ, zero, suc, ◌<◌, ◌≤◌, List, [], ◌∷◌, ◌++◌, length, map, set, get_or, refl, ap, ap₂}
-use Rattle.std.proofs.Common.{sym, subst, ◌∙◌, arith, ◌+◌, Bool, true, not, nat_eq, if◌then◌else◌, remove, eq-eqb}
-use Rattle.std.proofs.Common.{ne_eqb, get_or-set_same, get_or-set_other, length-append}
-use Rattle.std.proofs.lemmas.List.{map-append, take-map, drop-map, get_or-map, get_or_default, Sums.length-filter}
-use Rattle.std.proofs.lemmas.List.{Sums.sum_by-remove, Elements.filter-append}
-use Rattle.bac_tsm.specs.{Machine.Waiting, Table.held_at, Table.times_of_slot, Table.times, Waiting.nothing}
+use Rattle.std.proofs.{
+  Common.{◌≡◌, ℕ, zero, suc, ◌<◌, ◌≤◌, List, [], ◌∷◌, ◌++◌, length, map, set, get_or, refl, ap₂, sym, subst, ◌∙◌},
+  Common.{arith, ◌+◌, Bool, true, not, nat_eq, if◌then◌else◌, remove, eq-eqb, ne_eqb, get_or-set_same},
+  Common.{get_or-set_other, length-append},
+  lemmas.{List.{map-append, take-map, drop-map, get_or-map, get_or_default}, List.Sums.{length-filter, sum_by-remove}},
+  lemmas.{List.Elements.filter-append, Bool.Decides.nat_tests},
+}
 use Rattle.std.specs.List.{filter}
-use Rattle.std.proofs.lemmas.Bool.Decides.{nat_tests}
+use Rattle.bac_tsm.specs.{Machine.Waiting, Table.{held_at, times_of_slot, times}, Waiting.nothing}
 
 -- ---- how often a number is among those of a list's elements
 
@@ -79,16 +80,14 @@ held-set slots slot w (q ∷ qs) (suc i) there lt is once =
 -- A slot that is not among these is filled, and put behind them.
 pub held-push : (slots : List Waiting) (slot : ℕ) (w : Waiting) (order : List ℕ) → slot < length slots
     → times_of_slot slot order ≡ 0 → held_at (set slots slot w) (order ++ slot ∷ []) ≡ held_at slots order ++ w ∷ []
-held-push slots slot w order there none =
-    map-append _ _ _ ∙ ap₂ ◌++◌ (held_elsewhere _ _ w _ none)
-    (ap (λ (v : Waiting). v ∷ []) (get_or-set_same _ _ w _ there))
+held-push = grind (arith, map-append, ap₂, held_elsewhere, get_or-set_same)
 
 pub map-remove : {A B : Type 0} (f : A → B) (xs : List A) (i : ℕ) → map f (remove xs i) ≡ remove (map f xs) i
 map-remove f xs i = map-append f _ _ ∙ ap₂ ◌++◌ (sym (take-map f i xs)) (sym (drop-map f (suc i) xs))
 
 pub held_got : (slots : List Waiting) (order : List ℕ) (i slot : ℕ) → i < length order → get_or order i 0 ≡ slot →
     get_or (held_at slots order) i nothing ≡ get_or slots slot nothing
-held_got slots order i _ lt is = cc (get_or-map _ _ i 0 _ lt, is)
+held_got _ _ i _ lt is = cc (get_or-map _ _ i 0 _ lt, is)
 
 pub same_turn : (order : List ℕ) (i slot : ℕ) → i < length order → slot ≡ get_or order i slot → slot ≡ get_or order i 0
-same_turn order i slot lt is = is ∙ get_or_default _ i _ 0 lt
+same_turn _ i _ lt is = is ∙ get_or_default _ i _ 0 lt

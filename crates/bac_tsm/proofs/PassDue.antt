@@ -1,30 +1,36 @@
 -- A request that is due goes on, and where the first to have been sent is not due, none is.
-use Rattle.std.proofs.Common.{◌≡◌, ℕ, suc, ◌-◌, ◌<◌, ◌≤◌, List, [], ◌∷◌, ◌++◌, take, drop, length, set, get_or, Option}
-use Rattle.std.proofs.Common.{Some, None, true, false, nat_le, nat_lt, All, refl, ap, sym, ◌∙◌, inl, inr, arith, remove}
+use Rattle.std.proofs.{
+  Common.{◌≡◌, ℕ, suc, ◌-◌, ◌<◌, ◌≤◌, List, [], ◌∷◌, ◌++◌, take, drop, length, set, get_or, Option, Some, None, true},
+  Common.{false, nat_le, nat_lt, All, refl, ap, sym, ◌∙◌, arith, remove},
+  lemmas.{Bool.cases_Bool, Option.{slice_get_within, get_or_from_slice_get}},
+  lemmas.{List.{length-map, get_or_default, set_split}, List.Folds.{list_any_at, list_any_none}},
+}
 use Rattle.std.specs.List.{slice_get, list_any}
-use Rattle.std.proofs.lemmas.{Bool.cases_Bool, Bool.false≢true, Option.slice_get_within, Option.get_or_from_slice_get}
-use Rattle.std.proofs.lemmas.List.{length-map, get_or_default, set_split, Folds.list_any_at, Folds.list_any_none}
-use Rattle.bac_tsm.specs.{Limits.table_size, Events.Rules, Waiting.nothing}
-use Rattle.bac_tsm.specs.declared.due.Entry.TheVariants.{Resend, TimedOut as Expired}
-use Rattle.bac_tsm.specs.Machine.{Waiting, is_due, due_entry, kept}
-use Rattle.bac_tsm.specs.Table.{held_at, times_of_slot, open_slots, IsTable, AreBySend}
-use Rattle.bac_tsm.specs.Inner.{Table.waiting_in, Table.IsRankOf, Table.IsPassed, Waiting.ticket_in, Waiting.sent_at}
-use Rattle.bac_tsm.proofs.Held.{itself, held_got, times_got}
-use Rattle.bac_tsm.proofs.TableReads.{times_split, rank, turn_lt, stands, open_below, open_read, one_turn, as_many}
-use Rattle.bac_tsm.proofs.TableReads.{count}
-use Rattle.bac_tsm.proofs.TableEdits.{changed_by, all_opened, queue-again}
+use Rattle.bac_tsm.specs.{
+  Limits.table_size,
+  Events.Rules,
+  Waiting.nothing,
+  declared.due.Entry.TheVariants.{Resend, TimedOut as Expired},
+  Machine.{Waiting, is_due, due_entry, kept},
+  Table.{held_at, times_of_slot, open_slots, IsTable, AreBySend},
+  Inner.{Table.{waiting_in, IsRankOf, IsPassed}, Waiting.sent_at},
+}
+use Rattle.bac_tsm.proofs.{
+  Held.{itself, held_got, times_got},
+  TableReads.{times_split, rank, turn_lt, stands, open_below, open_read, one_turn},
+  TableEdits.{changed_by, all_opened, queue-again},
+}
 
 younger : (timeout clock early late : ℕ) → nat_le timeout (clock - early) ≡ false → early ≤ late
     → nat_le timeout (clock - late) ≡ false
-younger timeout clock early _ young le = grind arith
+younger _ _ _ _ young le = grind arith
 
 -- Where some request is due, some was sent.
 pub some_sent : {slots : List Waiting} {numbers : List (Option ℕ)} {order tickets sends : List ℕ}
     → IsTable slots numbers order tickets →
     AreBySend slots (open_slots order tickets) sends → (ws : List Waiting) → waiting_in slots order tickets ≡ ws
     → (rules : Rules) (clock : ℕ) → list_any (is_due rules clock) ws ≡ true → 0 < length sends
-some_sent t q [] _ _ _ due = absurd (false≢true due)
-some_sent t q (w ∷ ws) view _ _ due = omega (arith, q.all, as_many t, count t (w ∷ ws) view)
+some_sent = grind arith
 
 module _ (rules : Rules) (clock : ℕ) (w : Waiting) where
   is_again : (ticket : ℕ) → due_entry rules w ≡ Resend ticket → nat_lt w.count rules.retries ≡ true
@@ -69,14 +75,10 @@ module _ {slots : List Waiting} {numbers : List (Option ℕ)} {order tickets sen
         later k e lt = grind (arith, q.by_send 0 k e)
 
     pub some_due : is_due rules clock w ≡ list_any (is_due rules clock) ws
-    some_due = elim (cases_Bool _) [
-      | inl due ↦ due ∙ sym (list_any_at _ ws i _ (turn_lt t ws _ _ _) (ap (is_due rules _) (sym read) ∙ due))
-      | inr young ↦ cc (young, list_any_none _ ws (none_due young))
-    ]
+    some_due = grind (arith, cases_Bool, list_any_at, turn_lt, read, list_any_none, none_due)
 
     pub not_found : (ticket : ℕ) → due_entry rules w ≡ Expired ticket → IsRankOf ticket ws None → ⊥
-    not_found ticket over none =
-        none i _ (turn_lt t ws _ _ _) (ap ticket_in (sym read) ∙ (is_over rules clock w _ over).1)
+    not_found = grind (arith, turn_lt, read, is_over)
 
     module _ (due : list_any (is_due rules clock) ws ≡ true) where
       due_there : is_due rules clock (get_or ws i nothing) ≡ true
@@ -87,7 +89,7 @@ module _ {slots : List Waiting} {numbers : List (Option ℕ)} {order tickets sen
           changed ≡ set slots slot (sent_at clock (get_or slots slot nothing)) → rest ≡ remove sends 0
           → after ≡ rest ++ slot ∷ [] → IsPassed rules clock ws (due_entry rules w) (waiting_in changed order tickets)
           × IsTable changed numbers order tickets × AreBySend changed (open_slots order tickets) after
-      sent_again past ticket again _ rest _ is out back =
+      sent_again past _ again _ rest _ is out back =
           let v = sent_at clock (get_or slots slot _) in
           let lt = turn_lt t ws view slot some in
           let moved = changed_by t ws view i lt slot (stands t ws view slot some) v refl in
@@ -103,7 +105,7 @@ module _ {slots : List Waiting} {numbers : List (Option ℕ)} {order tickets sen
 
       pub ended : (ticket j : ℕ) → due_entry rules w ≡ Expired ticket → IsRankOf ticket ws (Some j)
           → (after : List Waiting) → after ≡ remove ws j → IsPassed rules clock ws (Expired ticket) after
-      ended ticket j over its _ to =
+      ended _ j over its _ to =
           let gone = is_over rules clock w _ over in
           let same_turn = one_turn t ws view j i its.0 (turn_lt t ws _ _ _) (cc (its.1, gone.1, read)) in
           let none : kept rules clock (get_or ws i nothing) ≡ [] =

@@ -1,12 +1,15 @@
 -- A request that waits is due, and ends, as timeouts pass; and how far the clock comes meanwhile.
-use Rattle.std.proofs.Common.{◌≡◌, ℕ, zero, suc, ◌+◌, ◌-◌, ◌*◌, ◌<◌, ◌≤◌, Bool, true, false, List, [], ◌∷◌, length}
-use Rattle.std.proofs.Common.{Option, Some, None, IsSomeAnd, arith, refl, ◌∙◌, sym, inl, inr}
-use Rattle.std.proofs.{Math.Nat.mul-le-mul_right, lemmas.Bool.cases_Bool, lemmas.Bool.cases_lt}
-use Rattle.std.proofs.lemmas.Option.{none-some, same_Some, slice_get_past}
-use Rattle.bac_tsm.specs.{Events.Event, Events.Rules, Progress.last_of, Progress.TimeoutsPass}
-use Rattle.bac_tsm.specs.Lookahead.{first_within, clock, has_waited, due, Accepted, end}
-use Rattle.bac_tsm.proofs.RequestLife.{step_back, due_next, first_after_from, first_least, none_within}
-use Rattle.bac_tsm.proofs.Turns.{clock_quiet}
+use Rattle.std.proofs.{
+  Common.{◌≡◌, ℕ, zero, suc, ◌+◌, ◌-◌, ◌*◌, ◌<◌, ◌≤◌, Bool, true, false, List, [], ◌∷◌, length, Option, Some, None},
+  Common.{IsSomeAnd, arith, refl, ◌∙◌, sym, inl, inr},
+  Math.Nat.mul-le-mul_right,
+  lemmas.{Bool.{cases_Bool, cases_lt}, Option.{none-some, same_Some, slice_get_past}},
+}
+use Rattle.bac_tsm.{
+  specs.{Events.{Event, Rules}, Progress.{last_of, TimeoutsPass}},
+  specs.Lookahead.{first_within, clock, has_waited, due, Accepted, end},
+  proofs.{RequestLife.{step_back, due_next, first_after_from, first_least, none_within}, Turns.clock_quiet},
+}
 
 pub clock_rises : (events : List Event) (i j : ℕ) → i ≤ j → clock events i ≤ clock events j
 clock_rises [] zero j le = omega arith

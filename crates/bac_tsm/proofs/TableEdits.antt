@@ -1,20 +1,26 @@
 -- The table of open requests, and their slots in the order of their last sends, through each edit.
-use Rattle.std.proofs.Common.{◌≡◌, ℕ, suc, ◌+◌, ◌<◌, ◌≤◌, List, [], ◌∷◌, ◌++◌, length, map, take, set, get_or}
-use Rattle.std.proofs.Common.{replicate, Option, Some, None, All, refl, ap, sym, subst, ◌∙◌, arith, remove}
-use Rattle.std.proofs.Common.{length-append, length-set, length-take, take_at, take-append-drop, append_assoc}
-use Rattle.std.proofs.Common.{get_or-set_same, get_or-set_other}
-use Rattle.std.proofs.lemmas.{Simd.map-map, List.Edits.length-remove, List.Edits.remove-append_left}
-use Rattle.std.proofs.lemmas.{List.Quantifiers.all_pairs_push, List.Quantifiers.all_pairs_remove, Grind.take_at_read}
-use Rattle.std.proofs.lemmas.List.{get_or-replicate, length-map, map-append, get_or-map}
-use Rattle.bac_tsm.specs.{Limits.table_size, declared.request.Asked.Asked, Machine.Waiting, Inner.Table.number_at}
-use Rattle.bac_tsm.specs.{Inner.Table.waiting_in, Inner.Table.IsTakenOut, Waiting.nothing, Inner.Waiting.number_in}
-use Rattle.bac_tsm.specs.{Inner.Waiting.begun}
-use Rattle.bac_tsm.specs.Table.{times, held_at, times_of_slot, open_slots, Names, AreNamed, IsTable, AreBySend}
-use Rattle.bac_tsm.proofs.Held.{itself, held-set, held-push, map-remove, held_got, same_turn, times-append, times_one}
-use Rattle.bac_tsm.proofs.Held.{times_other, times-remove, times_got}
-use Rattle.bac_tsm.proofs.TableReads.{times_split, few, read_listed, count, rank_within, turn_opened, here, ticket_got}
-use Rattle.bac_tsm.proofs.TableReads.{found_at}
+use Rattle.std.proofs.{
+  Common.{◌≡◌, ℕ, suc, ◌+◌, ◌<◌, ◌≤◌, List, [], ◌∷◌, ◌++◌, length, map, take, set, get_or, replicate, Option, Some},
+  Common.{None, All, refl, ap, sym, subst, ◌∙◌, arith, remove, length-append, length-set, length-take, take_at},
+  Common.{take-append-drop, append_assoc, get_or-set_same, get_or-set_other},
+  lemmas.{Simd.map-map, List.Edits.{length-remove, remove-append_left}},
+  lemmas.{List.Quantifiers.{all_pairs_push, all_pairs_remove}, Grind.take_at_read},
+  lemmas.List.{get_or-replicate, length-map, map-append, get_or-map},
+}
 use Rattle.std.specs.List.{AllPairs}
+use Rattle.bac_tsm.specs.{
+  Limits.table_size,
+  declared.request.Asked.Asked,
+  Machine.Waiting,
+  Inner.{Table.{number_at, waiting_in, IsTakenOut}, Waiting.{number_in, begun}},
+  Waiting.nothing,
+  Table.{times, held_at, times_of_slot, open_slots, Names, AreNamed, IsTable, AreBySend},
+}
+use Rattle.bac_tsm.proofs.{
+  Held.{itself, held-set, held-push, map-remove, held_got, same_turn, times-append, times_one, times_other},
+  Held.{times-remove, times_got},
+  TableReads.{times_split, few, read_listed, count, rank_within, turn_opened, here, ticket_got, found_at},
+}
 
 -- ---- the slots of the open requests in the order of their last sends
 
@@ -38,7 +44,7 @@ pub queue-push : (slots : List Waiting) (rest after : List ℕ) (slot : ℕ) (w 
     → times_of_slot slot after ≤ 1 →
     AllPairs IsEarlier (held_at slots rest) → All (λ v. v.base ≤ w.base) (held_at slots rest)
     → AreBySend (set slots slot w) after (rest ++ slot ∷ [])
-queue-push _ rest _ slot w there long same once by_send late = record {
+queue-push _ _ _ slot w there long same once by_send late = record {
   all = grind (arith, length-append);
   same = λ p. times-append _ p _ _ ∙ same p;
   by_send =
@@ -76,11 +82,7 @@ module _ {slots : List Waiting} {opened sends : List ℕ} (q : AreBySend slots o
     pub queue-remove : (after : List ℕ) → length after + 1 ≡ length opened
         → ((p : ℕ) → times_of_slot p after + times_of_slot p (slot ∷ []) ≡ times_of_slot p opened)
         → AreBySend slots after rest
-    queue-remove _ long same = record {
-      all = omega (arith, length_out, q.all);
-      same = grind (arith, times_out);
-      by_send = by_send_out;
-    }
+    queue-remove = grind (arith, length_out, times_out, by_send_out)
 
     -- A request is sent again.
     pub queue-again : (w : Waiting) → slot < length slots → times_of_slot slot opened ≤ 1
@@ -93,7 +95,7 @@ module _ {slots : List Waiting} {opened sends : List ℕ} (q : AreBySend slots o
 -- None are open at first.
 pub empty_queue : (slots : List Waiting) (order tickets sends : List ℕ) → tickets ≡ [] → sends ≡ []
     → AreBySend slots (open_slots order tickets) sends
-empty_queue _ _ _ _ none unsent = rw (none, unsent) (record { all = refl; same = λ slot. refl; by_send = omega arith })
+empty_queue = grind arith
 
 -- ---- the table
 
@@ -102,8 +104,7 @@ names_as : (slots : List Waiting) (order : List ℕ) (changed : List Waiting) (a
     (entry : Option ℕ) → times number_in number (held_at changed after) ≡ times number_in number (held_at slots order) →
     ((slot : ℕ) → 0 < times_of_slot slot order → number_at slots slot ≡ number → (0 < times_of_slot slot after)
     × (number_at changed slot ≡ number)) → Names slots order number entry → Names changed after number entry
-names_as _ _ _ _ _ None same _ none = same ∙ none
-names_as _ _ _ _ _ (Some slot) _ still some = still _ some.0 some.1
+names_as = grind arith
 
 -- One entry changes.
 named_set : (slots : List Waiting) (numbers : List (Option ℕ)) (order : List ℕ) (changed : List Waiting)
@@ -114,11 +115,7 @@ named_set : (slots : List Waiting) (numbers : List (Option ℕ)) (order : List �
     ((number slot : ℕ) → (number ≡ index → ⊥) → 0 < times_of_slot slot order → number_at slots slot ≡ number →
     (0 < times_of_slot slot after) × (number_at changed slot ≡ number)) →
     AreNamed changed (set numbers index entry) after
-named_set _ _ _ _ _ _ _ a here few same still = record {
-  all_numbers = length-set _ _ _ ∙ a.all_numbers;
-  apart = grind arith;
-  named = grind (arith, get_or-set_same, get_or-set_other);
-}
+named_set = grind (arith, length-set, get_or-set_same, get_or-set_other)
 
 -- Requests that have the same numbers are counted the same.
 same_times : (number : ℕ) (f g : ℕ → Waiting) (order : List ℕ)
@@ -250,7 +247,7 @@ module _ {slots : List Waiting} {numbers : List (Option ℕ)} {order tickets : L
 
       queued : (sends : List ℕ) → AreBySend slots opens sends → All (λ v. v.base ≤ w.base) ws →
           AreBySend (set slots slot w) (open_slots order (tickets ++ w.request.ticket ∷ [])) (sends ++ slot ∷ [])
-      queued sends q late =
+      queued _ q late =
           rw grown (queue-push _ _ _ _ w there (omega (arith, length-append opens (slot ∷ []), q.all))
           (λ p. let e = times-append itself p opens (slot ∷ []) in omega arith)
           (omega (arith, times-append itself slot opens (slot ∷ []), times_one itself slot slot refl, closed))
@@ -267,7 +264,7 @@ module _ {slots : List Waiting} {numbers : List (Option ℕ)} {order tickets : L
       (waiting_in changed order after ≡ ws ++ begun asked body ∷ [])
       × IsTable changed (set numbers index (Some (get_or items n 0))) order after
       × AreBySend changed (open_slots order after) sent
-  opened_by sends q room items are n is asked body unused latest past _ _ _ _ has made to too =
+  opened_by _ q room items are n is _ _ unused latest past _ _ _ _ has made to too =
       let new = begun _ _ in
       let slot = get_or items n 0 in
       let here : slot ≡ get_or order (length tickets) 0 = cc in
@@ -346,7 +343,7 @@ module _ {slots : List Waiting} {numbers : List (Option ℕ)} {order tickets : L
 
     unqueued : (sends left : List ℕ) → AreBySend slots opens sends → IsTakenOut slot sends left →
         AreBySend slots (open_slots (remove order i ++ slot ∷ []) (remove tickets i)) left
-    unqueued _ left q out = rw shrunk (queue-remove q _ _ out _ (omega (arith, length-remove _ i rank)) gone)
+    unqueued _ _ q out = rw shrunk (queue-remove q _ _ out _ (omega (arith, length-remove _ i rank)) gone)
 
     sent : (sends : List ℕ) → AreBySend slots opens sends → 0 < times_of_slot slot sends
     sent _ q = let some = subst (λ p. 0 < times_of_slot p opens) at_rank (times_got _ _ i 0 rank) in omega arith
@@ -362,7 +359,7 @@ module _ {slots : List Waiting} {numbers : List (Option ℕ)} {order tickets : L
       (sends left : List ℕ) → AreBySend slots opens sends → IsTakenOut slot sends left →
       (waiting_in slots after rest ≡ remove ws i) × IsTable slots (set numbers index None) after rest
       × AreBySend slots (open_slots after rest) left
-  ended_by i lt slot index _ _ _ _ w got is has same gone to from _ left q out =
+  ended_by i lt slot index _ _ _ _ w got is has same gone to from _ _ q out =
       let first = same_turn _ i _ (rank_within t ws view i lt) got in
       let its : index ≡ number_at slots slot = cc in
       rw (from, to, gone) (

@@ -1,20 +1,34 @@
 -- What is read of the table of open requests.
-use Rattle.std.proofs.Common.{◌≡◌, ℕ, zero, suc, nat_lt, ◌+◌, ◌<◌, ◌≤◌, List, [], ◌∷◌, length, map, take, drop, get_or}
-use Rattle.std.proofs.Common.{Option, Some, None, Result, Ok, Err, Bool, true, false, not, nat_eq, if◌then◌else◌, refl}
-use Rattle.std.proofs.Common.{ap, sym, subst, ◌∙◌, arith, ◌%◌, unwrap_or, below_more, remove, position, MatchResult}
-use Rattle.std.proofs.Common.{eqb-true, eq-eqb, ne_eqb, lt-ltb, ltb-false, length-take, take-append-drop, get_or-take}
-use Rattle.std.specs.List.{filter, find, list_any, slice_get, position_or_len}
-use Rattle.std.specs.{Option.is_some, Result.result_ok, Ordering.nat_cmp, List.Sorted.IsBinarySearchResult}
-use Rattle.std.proofs.lemmas.{Option.slice_get_within, Option.get_or_from_slice_get, Bool.and_parts, List.length-map}
-use Rattle.std.proofs.lemmas.{List.get_or-map, List.Sums.passes_at_first, List.Sorted.searched}
-use Rattle.bac_tsm.specs.{Limits.table_size, Machine.Waiting, Answers.Answer, Answers.is_answer_to}
-use Rattle.bac_tsm.specs.{Inner.Table.waiting_in, Inner.Table.IsRankOf, Waiting.nothing, Inner.Waiting.ticket_in}
-use Rattle.bac_tsm.specs.{Inner.Waiting.number_in, Lookahead.first_within, Lookahead.next_invoke_id}
-use Rattle.bac_tsm.specs.Table.{times, held_at, times_of_slot, open_slots, Names, IsTable}
-use Rattle.bac_tsm.proofs.CallNotes.{TicketsRise, by_ticket, pairs_tail}
-use Rattle.bac_tsm.proofs.Held.{held_got, times-append, times_got, none_passes, one_passes}
-use Rattle.bac_tsm.proofs.RequestLife.{NotBefore, first_from, first_at}
-use Rattle.bac_tsm.proofs.NumberCycle.{is_free, a_step}
+use Rattle.std.proofs.{
+  Common.{◌≡◌, ℕ, zero, suc, nat_lt, ◌+◌, ◌<◌, ◌≤◌, List, [], ◌∷◌, length, map, take, drop, get_or, Option, Some, None},
+  Common.{Result, Ok, Err, Bool, true, false, not, nat_eq, if◌then◌else◌, refl, ap, sym, subst, ◌∙◌, arith, ◌%◌},
+  Common.{unwrap_or, below_more, remove, position, MatchResult, eqb-true, eq-eqb, ne_eqb, lt-ltb, ltb-false},
+  Common.{length-take, take-append-drop, get_or-take},
+  lemmas.{Option.{slice_get_within, get_or_from_slice_get}, Bool.and_parts, List.{length-map, get_or-map}},
+  lemmas.{List.Sums.passes_at_first, List.Sorted.searched},
+}
+use Rattle.std.specs.{
+  List.{filter, find, list_any, slice_get, position_or_len},
+  Option.is_some,
+  Result.result_ok,
+  Ordering.nat_cmp,
+  List.Sorted.IsBinarySearchResult,
+}
+use Rattle.bac_tsm.specs.{
+  Limits.table_size,
+  Machine.Waiting,
+  Answers.{Answer, is_answer_to},
+  Inner.{Table.{waiting_in, IsRankOf}, Waiting.{ticket_in, number_in}},
+  Waiting.nothing,
+  Lookahead.{first_within, next_invoke_id},
+  Table.{times, held_at, times_of_slot, open_slots, Names, IsTable},
+}
+use Rattle.bac_tsm.proofs.{
+  CallNotes.{TicketsRise, by_ticket, pairs_tail},
+  Held.{held_got, times-append, times_got, none_passes, one_passes},
+  RequestLife.{NotBefore, first_from, first_at},
+  NumberCycle.{is_free, a_step},
+}
 
 -- A number is found among these where one of them has it.
 pub any_number : (number : ℕ) (ws : List Waiting)
@@ -95,7 +109,7 @@ module _ {slots : List Waiting} {numbers : List (Option ℕ)} {order tickets : L
 
     pub read_held : (i slot : ℕ) → i < length ws → get_or order i 0 ≡ slot
         → get_or slots slot nothing ≡ get_or ws i nothing
-    read_held i slot lt is = cc (held_got _ _ i _ (turn_opened i lt) (here i _ lt is), view)
+    read_held i _ lt is = cc (held_got _ _ i _ (turn_opened i lt) (here i _ lt is), view)
 
     -- The first free slot, where there is one.
     pub next_free : length ws < table_size → get_or order (length tickets) 0 < table_size
@@ -119,7 +133,7 @@ module _ {slots : List Waiting} {numbers : List (Option ℕ)} {order tickets : L
     -- A rank at which the ticket stands.
     pub likely_rank : (ticket : ℕ) (items : List ℕ) → items ≡ tickets → (i : ℕ) → slice_get items i ≡ Some ticket
         → IsRankOf ticket ws (Some i)
-    likely_rank ticket _ are i there =
+    likely_rank _ _ are i there =
         let got = ap (λ ts. slice_get ts i) (sym are) ∙ there in
         let e = count in
         let within = slice_get_within _ i _ got in
@@ -167,11 +181,11 @@ module _ {slots : List Waiting} {numbers : List (Option ℕ)} {order tickets : L
   module _ (number : ℕ) (fits : number < 256) where
     -- The slot that the entry names is open, and the request there has the number.
     named : (slot : ℕ) → get_or numbers number None ≡ Some slot → Names slots opened number (Some slot)
-    named slot is = subst (Names slots opened number) is (t.numbered.named number fits)
+    named = grind arith
 
     pub taken : (index : ℕ) → index ≡ number → (ws : List Waiting) → waiting_in slots order tickets ≡ ws →
         is_some (get_or numbers index None) ≡ list_any (λ w. nat_eq number w.request.invoke_id) ws
-    taken index is ws view = rw (is, ← view) (by _ refl)
+    taken _ is ws view = rw (is, ← view) (by _ refl)
       where
         by : (entry : Option ℕ) → get_or numbers number None ≡ entry
             → is_some entry ≡ list_any (λ w. nat_eq number w.request.invoke_id) (waiting_in slots order tickets)
@@ -230,13 +244,7 @@ module _ {slots : List Waiting} {numbers : List (Option ℕ)} {order tickets : L
 
           pub closed_that : ends w ≡ true → (j : ℕ) → IsRankOf ticket ws (Some j) → (after : List Waiting)
               → after ≡ remove ws j → Ends (ticket ∷ []) after
-          closed_that passes j its _ to =
-              let both = rw passes at found in
-              rw (
-                named,
-                to,
-                one_turn ws view j i its.0 (turn_lt ws _ _ _) (cc (its.1, named, read)),
-              ) (cc both.0, sym both.1)
+          closed_that = grind (arith, found, named, one_turn, turn_lt, read)
 
 -- ---- the look for a free number, one step at a time
 

@@ -1,20 +1,23 @@
 -- The loop over the open requests that are due at a tick.
-use Rattle.std.proofs.Common.{◌≡◌, ℕ, suc, ◌<◌, ◌≤◌, List, [], ◌∷◌, ◌++◌, length, map, take, drop, get_or, true, false}
-use Rattle.std.proofs.Common.{All, refl, ap, sym, ◌∙◌, add-one, arith, zero, ◌+◌, Bool, nat_lt, nat_le, if◌then◌else◌}
-use Rattle.std.proofs.Common.{length-append, append-nil, append_assoc, take_all, take-append-drop}
-use Rattle.std.specs.List.{filter, flat_map, list_any, refill, AllPairs, count_by}
-use Rattle.std.specs.List.Sorted.{IsPermutation, IsNonDecreasingBy}
-use Rattle.std.proofs.lemmas.{Bool.false≢true, List.Folds.list_any_none, Grind.flat_map-append}
-use Rattle.std.proofs.lemmas.{List.Kept.AllPairs-filter, List.Sums.length-filter, List.Sums.count_by-le-length}
-use Rattle.std.proofs.lemmas.{List.Sums.sum_by-cons}
-use Rattle.std.proofs.lemmas.List.{length-map, drop_all, drop_more, get_or_default, same_lists}
-use Rattle.std.proofs.lemmas.List.Elements.{All-append, All-take, All-drop, Contains-get_or}
-use Rattle.std.proofs.lemmas.List.Sorted.{length_permutation, IsPermutation-trans, IsPermutation-append_right}
-use Rattle.std.proofs.lemmas.List.Sorted.{IsPermutation-middle, Contains-permutation, sum_by-IsPermutation}
-use Rattle.bac_tsm.specs.{declared.due.Entry.Entry, Events.Rules, Inner.Machine.ticket_of, Inner.Table.IsPassed}
-use Rattle.bac_tsm.specs.{Waiting.nothing}
-use Rattle.bac_tsm.specs.Machine.{Waiting, is_due, due_entry, due_answer, kept}
-use Rattle.bac_tsm.proofs.CallNotes.{TicketsRise, kept_of_one, pairs_map}
+use Rattle.std.proofs.{
+  Common.{◌≡◌, ℕ, suc, ◌<◌, ◌≤◌, List, [], ◌∷◌, ◌++◌, length, map, take, drop, get_or, true, false, All, refl, ap, sym},
+  Common.{◌∙◌, add-one, arith, zero, ◌+◌, Bool, nat_lt, nat_le, if◌then◌else◌, length-append, append-nil, append_assoc},
+  Common.{take_all, take-append-drop},
+  lemmas.{Bool.false≢true, Grind.flat_map-append, List.{length-map, drop_all, drop_more, get_or_default, same_lists}},
+  lemmas.List.{Folds.list_any_none, Kept.AllPairs-filter, Sums.{length-filter, count_by-le-length, sum_by-cons}},
+  lemmas.List.Elements.{All-append, All-take, All-drop, Contains-get_or},
+  lemmas.List.Sorted.{length_permutation, IsPermutation-trans, IsPermutation-append_right, IsPermutation-middle},
+  lemmas.List.Sorted.{Contains-permutation, sum_by-IsPermutation},
+}
+use Rattle.std.specs.{
+  List.{filter, flat_map, list_any, refill, AllPairs, count_by},
+  List.Sorted.{IsPermutation, IsNonDecreasingBy},
+}
+use Rattle.bac_tsm.{
+  specs.{declared.due.Entry.Entry, Events.Rules, Inner.Machine.ticket_of, Inner.Table.IsPassed, Waiting.nothing},
+  specs.Machine.{Waiting, is_due, due_entry, due_answer, kept},
+  proofs.CallNotes.{TicketsRise, kept_of_one, pairs_map},
+}
 
 -- ---- a list whose keys rise is what any sort by the key makes of its elements
 
@@ -70,9 +73,7 @@ module _ {A : Type 0} (key : A → ℕ) where
 
 -- A sort in slot leaves what it sorts to.
 pub refilled : (xs ys : List Entry) → length ys ≡ length xs → refill (length xs) xs ys ≡ ys
-refilled xs ys long =
-    ap (λ zs. take (length xs) (ys ++ zs)) (drop_all _ xs (omega arith)) ∙ ap (take _) (append-nil ys)
-    ∙ take_all _ ys (omega arith)
+refilled = grind (arith, drop_all, append-nil, take_all)
 
 module _ (rules : Rules) (clock : ℕ) where
   abbrev pub due_of : List Waiting → List Entry
@@ -97,8 +98,7 @@ module _ (rules : Rules) (clock : ℕ) where
   -- What was sent now is not due.
   again : 0 < rules.timeout → (w : Waiting) → is_due rules clock w ≡ true →
       (due_of (kept rules clock w) ≡ []) × (kept_of (kept rules clock w) ≡ kept rules clock w)
-  again some w due = nothing_due _ (list_any_none _ _
-      (kept_of_one rules (λ v. is_due rules clock v ≡ false) _ w (λ young. young) (grind arith)))
+  again = grind (arith, nothing_due, list_any_none, kept_of_one, false)
 
   due_is : (ws : List Waiting) → due_of ws ≡ map (due_entry rules) (filter (is_due rules clock) ws)
   due_is [] = refl
@@ -144,7 +144,7 @@ module _ (rules : Rules) (clock : ℕ) where
 
     pub passed : (entry : Entry) (after : List Waiting) → IsPassed rules clock ws entry after
         → HasTicked all kept_in_all (entries ++ entry ∷ []) after
-    passed entry after (rank, lt, due, is, to) = one_more _ _ _ _ lt refl due is to
+    passed _ _ (rank, lt, due, is, to) = one_more _ _ _ _ lt refl due is to
 
     pub fewer : (entry : Entry) (after : List Waiting) → IsPassed rules clock ws entry after →
         (length entries < length all) × (length (due_of after) < length (due_of ws))

@@ -1,5 +1,7 @@
-use Rattle.std.proofs.Common.{sym, ap, ◌∙◌, nat_eq, position, eqb-true}
-use Rattle.std.proofs.lemmas.{Option.none-some, List.Quantifiers.position-Some}
+use Rattle.std.proofs.{
+  Common.{sym, ap, ◌∙◌, nat_eq, position, eqb-true},
+  lemmas.{Option.none-some, List.Quantifiers.position-Some},
+}
 use Rattle.bac_tsm.proofs.TableReads.{found_at}
 use Rattle.bac_tsm.proofs.table.take_out.Goals as goal
 

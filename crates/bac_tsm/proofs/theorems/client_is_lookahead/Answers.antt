@@ -1,5 +1,4 @@
-use Rattle.bac_tsm.specs.Client.{client_rules}
-use Rattle.bac_tsm.proofs.{AnswersInWords.by_number, AnswersInWords.few_open, WholeRun.is_lookahead}
+use Rattle.bac_tsm.{specs.Client.client_rules, proofs.{AnswersInWords.{by_number, few_open}, WholeRun.is_lookahead}}
 use Rattle.bac_tsm.proofs.theorems.client_is_lookahead.Goals as goal
 
 pub returns : goal.returns

@@ -1,6 +1,8 @@
 use Rattle.std.proofs.Common.{sym, ◌∙◌, arith}
-use Rattle.bac_tsm.specs.Inner.Seen.{answer_seen}
-use Rattle.bac_tsm.proofs.TableReads.{named_below, closed_none, closed_not, closed_some_turn, closed_that}
+use Rattle.bac_tsm.{
+  specs.Inner.Seen.answer_seen,
+  proofs.TableReads.{named_below, closed_none, closed_not, closed_some_turn, closed_that},
+}
 use Rattle.bac_tsm.proofs.table.Table.close.Goals as goal
 
 pub returns-in_err-slot : goal.returns-in_err-slot

@@ -1,6 +1,5 @@
 use Rattle.std.proofs.Common.{sym}
-use Rattle.bac_tsm.proofs.{Held.same_turn, TableEdits.sent_slot, TableEdits.ended_by}
-use Rattle.bac_tsm.proofs.TableReads.{read_within, rank_within}
+use Rattle.bac_tsm.proofs.{Held.same_turn, TableEdits.{sent_slot, ended_by}, TableReads.{read_within, rank_within}}
 use Rattle.bac_tsm.proofs.table.Table.end.Goals as goal
 
 pub held-requires : goal.held-requires

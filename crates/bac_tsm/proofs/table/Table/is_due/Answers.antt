@@ -1,6 +1,5 @@
 use Rattle.std.proofs.Common.{◌∙◌}
-use Rattle.bac_tsm.specs.Client.{client_rules}
-use Rattle.bac_tsm.proofs.{PassDue.front_below, PassDue.some_due, TableReads.rising}
+use Rattle.bac_tsm.{specs.Client.client_rules, proofs.{PassDue.{front_below, some_due}, TableReads.rising}}
 use Rattle.bac_tsm.proofs.table.Table.is_due.Goals as goal
 
 pub held-requires : goal.held-requires

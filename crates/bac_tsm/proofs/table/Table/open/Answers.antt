@@ -1,5 +1,5 @@
 use Rattle.std.proofs.Common.{arith}
-use Rattle.bac_tsm.proofs.{TableReads.as_many, TableReads.count, TableReads.next_free, TableEdits.opened_by}
+use Rattle.bac_tsm.proofs.{TableReads.{as_many, count, next_free}, TableEdits.opened_by}
 use Rattle.bac_tsm.proofs.table.Table.open.Goals as goal
 
 pub begin_at-requires-clause-within : goal.begin_at-requires-clause-within

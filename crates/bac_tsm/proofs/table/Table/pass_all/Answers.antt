@@ -1,8 +1,12 @@
-use Rattle.std.proofs.Common.{List, length, ap, sym, subst, ◌∙◌, arith}
-use Rattle.std.specs.List.Sorted.{IsPermutation}
-use Rattle.std.proofs.lemmas.List.Sorted.{IsPermutation-trans, length_permutation}
-use Rattle.bac_tsm.specs.{declared.due.Entry.Entry, Client.client_rules}
-use Rattle.bac_tsm.proofs.TableTick.{few_due, passed, fewer, all_passed, refilled}
+use Rattle.std.{
+  proofs.Common.{List, length, ap, sym, subst, ◌∙◌, arith},
+  specs.List.Sorted.IsPermutation,
+  proofs.lemmas.List.Sorted.{IsPermutation-trans, length_permutation},
+}
+use Rattle.bac_tsm.{
+  specs.{declared.due.Entry.Entry, Client.client_rules},
+  proofs.TableTick.{few_due, passed, fewer, all_passed, refilled},
+}
 use Rattle.bac_tsm.proofs.table.Table.pass_all.Goals as goal
 
 pub put_last-requires : goal.put_last-requires

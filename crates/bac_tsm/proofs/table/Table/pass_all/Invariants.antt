@@ -1,7 +1,5 @@
-use Rattle.std.proofs.Common.{◌≡◌, length}
-use Rattle.std.specs.List.{list_any}
-use Rattle.bac_tsm.specs.{Client.client_rules, Machine.is_due}
-use Rattle.bac_tsm.proofs.TableTick.{due_of, kept_of, HasTicked}
+use Rattle.std.{proofs.Common.{◌≡◌, length}, specs.List.list_any}
+use Rattle.bac_tsm.{specs.{Client.client_rules, Machine.is_due}, proofs.TableTick.{due_of, kept_of, HasTicked}}
 use Rattle.bac_tsm.proofs.table.Table.pass_all.Given as goal
 
 abbrev pub invariant-loop-is_due : goal.invariant-loop-is_due

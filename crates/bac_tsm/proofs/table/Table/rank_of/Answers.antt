@@ -1,7 +1,8 @@
-use Rattle.std.proofs.Common.{◌≡◌, ℕ, List, length, get_or, Option, Some, None, nat_lt, sym, ◌∙◌, arith, IfSome}
-use Rattle.std.proofs.Common.{ltb-true}
-use Rattle.std.specs.{List.slice_get, Borrow.Bor, Option.is_some, Option.option_copied}
-use Rattle.std.proofs.lemmas.{Bool.Decides.nat_tests, Option.none-some, Option.slice_get-get_or}
+use Rattle.std.{
+  proofs.Common.{◌≡◌, ℕ, List, length, get_or, Option, Some, None, nat_lt, sym, ◌∙◌, arith, IfSome, ltb-true},
+  specs.{List.slice_get, Borrow.Bor, Option.{is_some, option_copied}},
+  proofs.lemmas.{Bool.Decides.nat_tests, Option.{none-some, slice_get-get_or}},
+}
 use Rattle.bac_tsm.proofs.TableReads.{likely_rank, searched_rank}
 use Rattle.bac_tsm.proofs.table.Table.rank_of.Goals as goal
 
