@@ -1,19 +1,29 @@
 -- What the worked examples compute with. Who unfolds `computed` unfolds all of it.
-use Rattle.bac_wire.specs.TagReading.{tag_number_at, long_length_at, length_at, shape_at, tag_at}
-use Rattle.bac_wire.specs.{Datum.plain, Inner.Datum.tagged, Tag.plain_tag}
-use Rattle.bac_wire.specs.DatumReading.{contents_of, value_at}
-use Rattle.bac_wire.specs.ParameterReading.{context_at, number_at, object_at, behind_opening, enclosed_at, kind_at}
-use Rattle.bac_wire.specs.ItemReading.{behind_closing, behind_items, region_at}
-use Rattle.bac_pdu.specs.{Datagram.wrapped, Inner.Datagram.front_octets, Parameter.plain_parameter}
-use Rattle.bac_pdu.specs.DatagramReading.{address_at, header_at, link_at, carried}
-use Rattle.bac_pdu.specs.ApduReading.{parts_at, apdu_of}
-use Rattle.bac_pdu.specs.PropertyReading.{reference_at, read_of, write_of}
-use Rattle.bac_device.specs.Property.{element, kind_property, point_property}
-use Rattle.bac_device.specs.{Kind.one_value, Places.place, Places.standing_after, Places.written_value}
-use Rattle.bac_device.specs.Device.{device_text, device_number, device_property}
-use Rattle.bac_device.specs.Reply.{property_of, read_property, ordered_write, accepted_write, read_reply, write_reply}
-use Rattle.bac_device.specs.Reply.{write_in_body, full_reply, write_in_request, reply_apdu, write_in_apdu, reply_of}
-use Rattle.bac_device.specs.Reply.{write_in_datagram}
+use Rattle.bac_wire.specs.{
+  TagReading.{tag_number_at, long_length_at, length_at, shape_at, tag_at},
+  Datum.plain,
+  Inner.Datum.tagged,
+  Tag.plain_tag,
+  DatumReading.{contents_of, value_at},
+  ParameterReading.{context_at, number_at, object_at, behind_opening, enclosed_at, kind_at},
+  ItemReading.{behind_closing, behind_items, region_at},
+}
+use Rattle.bac_pdu.specs.{
+  Datagram.wrapped,
+  Inner.Datagram.front_octets,
+  Parameter.plain_parameter,
+  DatagramReading.{address_at, header_at, link_at, carried},
+  ApduReading.{parts_at, apdu_of},
+  PropertyReading.{reference_at, read_of, write_of},
+}
+use Rattle.bac_device.specs.{
+  Property.{element, kind_property, point_property},
+  Kind.one_value,
+  Places.{place, standing_after, written_value},
+  Device.{device_text, device_number, device_property},
+  Reply.{property_of, read_property, ordered_write, accepted_write, read_reply, write_reply, write_in_body, full_reply},
+  Reply.{write_in_request, reply_apdu, write_in_apdu, reply_of, write_in_datagram},
+}
 
 unfoldable pub computed : Unit {0}
 unfolding tag_number_at long_length_at length_at shape_at tag_at contents_of value_at context_at number_at object_at

@@ -1,11 +1,14 @@
 -- The places of a point after writes, and after one more.
-use Rattle.std.proofs.Common.{◌≡◌, ℕ, zero, suc, ◌-◌, ◌<◌, ◌≤◌, ◌==◌, ◌&&◌, Bool, true, false, if◌then◌else◌, List, []}
-use Rattle.std.proofs.Common.{◌∷◌, ◌++◌, map, filter, slice_set, Option, Some, None, refl, sym, ap, ◌∙◌, arith}
-use Rattle.std.specs.{List.last_or, Option.option_and_then}
-use Rattle.std.proofs.lemmas.Grind.{common_steps}
+use Rattle.std.{
+  proofs.Common.{◌≡◌, ℕ, zero, suc, ◌-◌, ◌<◌, ◌≤◌, ◌==◌, ◌&&◌, Bool, true, false, if◌then◌else◌, List, [], ◌∷◌, ◌++◌},
+  proofs.{Common.{map, filter, slice_set, Option, Some, None, refl, sym, ap, ◌∙◌, arith}, lemmas.Grind.common_steps},
+  specs.{List.last_or, Option.option_and_then},
+}
 use Rattle.bac_wire.specs.Identifier.{Identifier}
-use Rattle.bac_device.specs.Point.{Description, same_object}
-use Rattle.bac_device.specs.Places.{Write, NoneTo, is_to, place, priorities, standing_after, with_place, put}
+use Rattle.bac_device.specs.{
+  Point.{Description, same_object},
+  Places.{Write, NoneTo, is_to, place, priorities, standing_after, with_place, put},
+}
 
 pub map_same : {A B : Type 0} (f g : A → B) → ((x : A) → f x ≡ g x) → (xs : List A) → map f xs ≡ map g xs
 map_same f g same [] = refl

@@ -1,20 +1,29 @@
 -- How long replies are: each to a confirmed request fits the announced size, or is the stated Abort.
-use Rattle.std.proofs.Common.{◌≡◌, ℕ, ◌≤◌, Bool, true, false, List, [], ◌∷◌, length, Option, Some, None, refl, sym, ap}
-use Rattle.std.proofs.Common.{subst, arith, inl, inr, nat_le, nat_eq, ◌⊎◌, IfSome, if◌then◌else◌, leb-true}
+use Rattle.std.proofs.{
+  Common.{◌≡◌, ℕ, ◌≤◌, Bool, true, false, List, [], ◌∷◌, length, Option, Some, None, refl, sym, ap, subst, arith, inl},
+  Common.{inr, nat_le, nat_eq, ◌⊎◌, IfSome, if◌then◌else◌, leb-true},
+  lemmas.{Bool.cond_both, Option.{none-some, some_pair_parts}},
+}
 use Rattle.std.specs.Option.{option_map, option_and_then, ForSome}
-use Rattle.std.proofs.lemmas.{Bool.cond_both, Option.none-some, Option.some_pair_parts}
 use Rattle.bac_wire.specs.{Datum.plain, Tag.plain_tag}
-use Rattle.bac_pdu.specs.{declared.peer.Peer.Peer, declared.discovery.WhoIs.WhoIs, Discovery.asks}
-use Rattle.bac_pdu.specs.{ValueReading.who_is_of}
-use Rattle.bac_pdu.specs.Peer.{Station, NetworkAddress, IsRoutable, station}
-use Rattle.bac_pdu.specs.Datagram.{Delivery, Carries, Takes, wrapped}
-use Rattle.bac_pdu.specs.Apdu.{Message, IsLaidOut, confirmed, unconfirmed, laid_out, announced_size}
-use Rattle.bac_pdu.proofs.DatagramLaws.{carried_is, wrapped_takes, wrapped_short}
-use Rattle.bac_pdu.proofs.ApduLaws.{apdu_is, announced_most}
-use Rattle.bac_device.specs.{Info.Info, Point.Description, Places.Write, Device.DeviceState, Device.device_after}
-use Rattle.bac_device.specs.{Size.FitsRequest, Size.ReplyFits, Size.RepliesFit, Turns.Arrival, Turns.replies_to}
-use Rattle.bac_device.specs.Reply.{refused, fitting, full_reply, i_am, reply_message, reply_apdu, reply_of}
-use Rattle.bac_device.specs.Reply.{who_is_reply, writes_after}
+use Rattle.bac_pdu.specs.{
+  declared.{peer.Peer.Peer, discovery.WhoIs.WhoIs},
+  Discovery.asks,
+  ValueReading.who_is_of,
+  Peer.{Station, NetworkAddress, IsRoutable, station},
+  Datagram.{Delivery, Carries, Takes, wrapped},
+  Apdu.{Message, IsLaidOut, confirmed, unconfirmed, laid_out, announced_size},
+}
+use Rattle.bac_pdu.proofs.{DatagramLaws.{carried_is, wrapped_takes, wrapped_short}, ApduLaws.{apdu_is, announced_most}}
+use Rattle.bac_device.specs.{
+  Info.Info,
+  Point.Description,
+  Places.Write,
+  Device.{DeviceState, device_after},
+  Size.{FitsRequest, ReplyFits, RepliesFit},
+  Turns.{Arrival, replies_to},
+  Reply.{refused, fitting, full_reply, i_am, reply_message, reply_apdu, reply_of, who_is_reply, writes_after},
+}
 
 -- a route leads to whom a datagram is from
 pub carried_routable : (from : Station) (datagram : List ℕ) (delivery : Delivery) → Carries from datagram delivery

@@ -1,16 +1,21 @@
 -- A device whose places are those after some writes.
-use Rattle.std.proofs.Common.{◌≡◌, ℕ, Bool, true, false, cond, List, [], ◌∷◌, ◌++◌, map, find, Option, Some, None, refl}
-use Rattle.std.proofs.Common.{IfSome, sym, ap, subst, ◌∙◌, append-nil, arith}
-use Rattle.std.proofs.lemmas.{Grind.common_steps, Option.none-some, Option.same_Some, Simd.map-map}
+use Rattle.std.proofs.{
+  Common.{◌≡◌, ℕ, Bool, true, false, cond, List, [], ◌∷◌, ◌++◌, map, find, Option, Some, None, refl, IfSome, sym, ap},
+  Common.{subst, ◌∙◌, append-nil, arith},
+  lemmas.{Grind.common_steps, Option.{none-some, same_Some}, Simd.map-map},
+}
 use Rattle.std.specs.Option.{option_map, option_and_then, option_to_list}
 use Rattle.bac_pdu.specs.Peer.{Station}
 use Rattle.bac_wire.specs.Identifier.{Identifier}
-use Rattle.bac_device.specs.{Info.Info, Inner.Places.IsUrgent, Reply.with_write, Reply.reply_to, Reply.writes_after}
-use Rattle.bac_device.specs.Point.{Given, Description, same_object, description_of}
-use Rattle.bac_device.specs.Places.{Write, Standing, NoneTo, priorities, standing_after, present, place_at, put}
-use Rattle.bac_device.specs.Device.{DeviceState, points_of, device_after, Holds, with_point, standing_at, point_at}
-use Rattle.bac_device.specs.Device.{present_after, place_after}
-use Rattle.bac_device.specs.Turns.{Arrival, Replies, RepliesInTurn, AreDefined}
+use Rattle.bac_device.specs.{
+  Info.Info,
+  Inner.Places.IsUrgent,
+  Reply.{with_write, reply_to, writes_after},
+  Point.{Given, Description, same_object, description_of},
+  Places.{Write, Standing, NoneTo, priorities, standing_after, present, place_at, put},
+  Device.{DeviceState, points_of, device_after, Holds, with_point, standing_at, point_at, present_after, place_after},
+  Turns.{Arrival, Replies, RepliesInTurn, AreDefined},
+}
 use Rattle.bac_device.proofs.PlaceLaws.{map_same, place_none, put_after}
 
 find_map : {A B : Type 0} (f : A → B) (test : B → Bool) (xs : List A)

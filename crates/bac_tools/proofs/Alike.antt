@@ -1,34 +1,38 @@
 -- Two runs of the program with the same words are alike.
-use Rattle.std.proofs.Common.{◌≡◌, ◌≢◌, ◌∷◌, ◌++◌, ℕ, inl, inr, List, [], Option, Some, None, Result, Ok, Err, refl}
-use Rattle.std.proofs.Common.{sym, ap, ◌∙◌, subst, arith, ◌⊎◌, IsErrAnd, IsTrue, is_some, option_and_then}
-use Rattle.std.specs.Result.{result_map_both, result_ok}
+use Rattle.std.{
+  proofs.Common.{◌≡◌, ◌≢◌, ◌∷◌, ◌++◌, ℕ, inl, inr, List, [], Option, Some, None, Result, Ok, Err, refl, sym, ap, ◌∙◌},
+  proofs.Common.{subst, arith, ◌⊎◌, IsErrAnd, IsTrue, is_some, option_and_then},
+  specs.Result.{result_map_both, result_ok},
+}
 use Rattle.clap.specs.Words.{Text, fault_of}
 use Rattle.bac_device.specs.{Demo.demo_points, Device.device_after}
-use Rattle.bac_print.specs.Checked.{fresh, octets_of}
-use Rattle.bac_print.specs.declared.checked.Checked.{Checked}
-use Rattle.bac_text.specs.declared.jobs.Call.{Call}
-use Rattle.bac_links.proofs.{Alike.calls_so_far, SearchesAlike.searches_so_far, ServingsAlike.servings_so_far}
-use Rattle.bac_links.specs.Answered.{answers_of, GoOnAlike, OneText, Printed}
-use Rattle.bac_links.specs.{Call.Tells, History.Account, History.Entry}
-use Rattle.bac_links.specs.declared.{ending.Exit.Exit, ending.Exit.TheVariants.Good, ending.Purpose.Purpose}
-use Rattle.bac_links.specs.declared.{ending.Purpose.TheVariants.Reading, ending.Purpose.TheVariants.Writing}
-use Rattle.bac_links.specs.declared.{fault.ToolFault.ToolFault, fault.ToolFault.TheVariants.WriteFailed}
-use Rattle.bac_links.specs.declared.{link.LinkFault.LinkFault}
-use Rattle.bac_script.proofs.Functions.{traces_alike}
-use Rattle.bac_script.specs.Alike.{AreAlike as ScriptsAlike}
-use Rattle.bac_script.specs.declared.tracing.{TraceEnd.TraceEnd, TraceFault.TraceFault}
-use Rattle.bac_words.proofs.OneAnswer.{one_answer}
-use Rattle.bac_words.specs.{Command.bactool, Marks.marked_words, Line.Answers, Line.IsRefusal}
-use Rattle.bac_words.specs.declared.faults.UsageFault.{UsageFault}
-use Rattle.bac_words.specs.declared.faults.UsageFault.TheVariants.{Help, Memory, Words}
-use Rattle.bac_text.specs.declared.jobs.Job.{Job}
-use Rattle.bac_text.specs.declared.jobs.Job.TheVariants.{Read, Write, WhoIs, Device, Trace}
-use Rattle.bac_tools.specs.Alike.{AreAlike, AreGivenAlike, EndAlike, Gained, IsCutOff, IsPrinted, PrintAlike, Run}
-use Rattle.bac_tools.specs.Alike.{is_socket}
-use Rattle.bac_tools.specs.{Binding.binding_of, Outside.Outside, Program.Ends, Program.IsGiven, Report.report_of}
-use Rattle.bac_tools.specs.{Report.tool_report, Report.trace_report, declared.binding.Binding.Binding}
-use Rattle.bac_tools.specs.{declared.program.Ran.Ran, declared.report.Report.Report}
-use Rattle.bac_tools.specs.Runs.{Runs, RunsOpened, RunsOver, RunsScript, ToolRuns}
+use Rattle.bac_print.specs.{Checked.{fresh, octets_of}, declared.checked.Checked.Checked}
+use Rattle.bac_text.specs.declared.jobs.{Call.Call, Job.Job, Job.TheVariants.{Read, Write, WhoIs, Device, Trace}}
+use Rattle.bac_links.{
+  proofs.{Alike.calls_so_far, SearchesAlike.searches_so_far, ServingsAlike.servings_so_far},
+  specs.{Answered.{answers_of, GoOnAlike, OneText, Printed}, Call.Tells, History.{Account, Entry}},
+  specs.declared.ending.{Exit.Exit, Exit.TheVariants.Good, Purpose.Purpose, Purpose.TheVariants.{Reading, Writing}},
+  specs.declared.{fault.ToolFault.ToolFault, fault.ToolFault.TheVariants.WriteFailed, link.LinkFault.LinkFault},
+}
+use Rattle.bac_script.{
+  proofs.Functions.traces_alike,
+  specs.Alike.AreAlike as ScriptsAlike,
+  specs.declared.tracing.{TraceEnd.TraceEnd, TraceFault.TraceFault},
+}
+use Rattle.bac_words.{
+  proofs.OneAnswer.one_answer,
+  specs.{Command.bactool, Marks.marked_words, Line.{Answers, IsRefusal}, declared.faults.UsageFault.UsageFault},
+  specs.declared.faults.UsageFault.TheVariants.{Help, Memory, Words},
+}
+use Rattle.bac_tools.specs.{
+  Alike.{AreAlike, AreGivenAlike, EndAlike, Gained, IsCutOff, IsPrinted, PrintAlike, Run, is_socket},
+  Binding.binding_of,
+  Outside.Outside,
+  Program.{Ends, IsGiven},
+  Report.{report_of, tool_report, trace_report},
+  declared.{binding.Binding.Binding, program.Ran.Ran, report.Report.Report},
+  Runs.{Runs, RunsOpened, RunsOver, RunsScript, ToolRuns},
+}
 use Rattle.bac_script.specs.declared.tracing.TraceFault.TheVariants as stops
 use Rattle.bac_tools.specs.declared.report.Fault.TheVariants as faults
 

@@ -1,7 +1,6 @@
 -- The status of a report is that of its fault.
 use Rattle.std.proofs.Common.{Result, Ok, Err, refl, lit≤}
-use Rattle.bac_links.specs.declared.ending.Exit.{Exit, TheVariants.Good, TheVariants.Bad}
-use Rattle.bac_links.specs.declared.fault.ToolFault.{ToolFault}
+use Rattle.bac_links.specs.declared.{ending.Exit.Exit, ending.Exit.TheVariants.{Good, Bad}, fault.ToolFault.ToolFault}
 use Rattle.bac_script.specs.declared.tracing.{TraceEnd.TraceEnd, TraceFault.TraceFault}
 use Rattle.bac_tools.specs.Report.{IsStatusOf, tool_report, trace_report}
 

@@ -1,6 +1,5 @@
 -- Words have one answer: one job, or one first fault.
-use Rattle.std.proofs.Common.{◌≡◌, ◌∙◌, sym, List, Result}
-use Rattle.std.proofs.lemmas.Option.{same_Some}
+use Rattle.std.proofs.{Common.{◌≡◌, ◌∙◌, sym, List, Result}, lemmas.Option.same_Some}
 use Rattle.clap.specs.Words.{Text}
 use Rattle.bac_text.specs.declared.jobs.Job.{Job}
 use Rattle.bac_words.specs.{declared.faults.UsageFault.UsageFault, Line.Answers}

@@ -1,17 +1,28 @@
 -- Words that `clap` takes name one of the five tools, with matches that passed its rules.
-use Rattle.std.proofs.Common.{◌∙◌, ◌≡◌, ◌⊎◌, Bool, codes, true, false, refl, sym, subst, inl, inr, List, [], ◌∷◌, Some}
-use Rattle.std.proofs.Common.{Result, Ok, Err, IsSomeAnd, IsErrAnd}
-use Rattle.std.proofs.{Math.Bool.or-false, lemmas.Bool.false≢true, lemmas.Slice.Eq.bytes_eq-Decides}
+use Rattle.std.proofs.{
+  Common.{◌∙◌, ◌≡◌, ◌⊎◌, Bool, codes, true, false, refl, sym, subst, inl, inr, List, [], ◌∷◌, Some, Result, Ok, Err},
+  Common.{IsSomeAnd, IsErrAnd},
+  Math.Bool.or-false,
+  lemmas.{Bool.false≢true, Slice.Eq.bytes_eq-Decides},
+}
 use Rattle.std.specs.List.{find}
-use Rattle.clap.specs.{Walk.Text, Walk.answers_to, Walk.nothing_held, Faults.fault_of, Faults.is_simple_and_free}
-use Rattle.clap.specs.{Faults.level_fault, Kinds.HasKind, Kinds.IsAmong, Values.kind_of, declared.error.Error.Error}
-use Rattle.clap.specs.{declared.error.kind.ErrorKind.ErrorKind}
-use Rattle.clap.specs.Simple.{Shape, built, label_of, is_simple, rows_at, subcommand_of}
-use Rattle.bac_words.specs.{declared.faults.UsageFault.UsageFault, Command.bactool, Inner.Fault.fault_by}
-use Rattle.bac_words.specs.{Inner.Fault.fault_from, Inner.Job.IsTool, Line.IsRefusal, Marks.marked_words}
+use Rattle.clap.specs.{
+  Walk.{Text, answers_to, nothing_held},
+  Faults.{fault_of, is_simple_and_free, level_fault},
+  Kinds.{HasKind, IsAmong},
+  Values.kind_of,
+  declared.error.{Error.Error, kind.ErrorKind.ErrorKind},
+  Simple.{Shape, built, label_of, is_simple, rows_at, subcommand_of},
+}
+use Rattle.bac_words.specs.{
+  declared.faults.UsageFault.UsageFault,
+  Command.bactool,
+  Inner.{Fault.{fault_by, fault_from}, Job.IsTool},
+  Line.IsRefusal,
+  Marks.marked_words,
+}
 use Rattle.bac_text.specs.declared.jobs.Job.{Job}
-use Rattle.clap_laws.specs.Entering.{asks_for_help}
-use Rattle.clap_laws.proofs.{Enters.enters, Rows.level_taken, Rows.when_found}
+use Rattle.clap_laws.{specs.Entering.asks_for_help, proofs.{Enters.enters, Rows.{level_taken, when_found}}}
 use Rattle.clap.specs.declared.error.kind.ErrorKind.TheVariants as kind
 
 abbrev AllOf : (Shape → Type 0) → List Shape → Type 0

@@ -1,4 +1,4 @@
-use Rattle.std.proofs.{Common.arith, lemmas.Grind.common_steps, lemmas.List.Edits.map_over_more}
+use Rattle.std.proofs.{Common.arith, lemmas.{Grind.common_steps, List.Edits.map_over_more}}
 use Rattle.bac_device.specs.{Places.put, Inner.Places.write_seen}
 use Rattle.bac_device.proofs.device.put_in.Goals as goal
 

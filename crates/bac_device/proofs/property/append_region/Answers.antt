@@ -1,7 +1,9 @@
-use Rattle.std.proofs.Common.{◌≡◌, ◌≤◌, ◌+◌, ◌++◌, ◌∷◌, [], List, ℕ, Some, length, slice_get, take, sym, ◌∙◌, arith}
+use Rattle.std.proofs.{
+  Common.{◌≡◌, ◌≤◌, ◌+◌, ◌++◌, ◌∷◌, [], List, ℕ, Some, length, slice_get, take, sym, ◌∙◌, arith},
+  lemmas.{Grind.common_steps, List.take_more, List.Folds.length-flat_map-take},
+  lemmas.Option.{none-some, slice_get_within, slice_get-get_or, get_or_from_slice_get},
+}
 use Rattle.std.specs.List.{flat_map}
-use Rattle.std.proofs.lemmas.{Grind.common_steps, List.take_more, List.Folds.length-flat_map-take}
-use Rattle.std.proofs.lemmas.Option.{none-some, slice_get_within, slice_get-get_or, get_or_from_slice_get}
 use Rattle.bac_wire.specs.Datum.{Datum, null, plain}
 use Rattle.bac_device.specs.Inner.Property.{property_seen}
 use Rattle.bac_device.proofs.property.append_region.Goals as goal

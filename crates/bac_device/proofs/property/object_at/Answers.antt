@@ -1,6 +1,8 @@
-use Rattle.std.proofs.Common.{◌≡◌, ℕ, zero, suc, ◌-◌, List, ◌∷◌, Some, slice_get, map, refl, ap, arith}
-use Rattle.std.proofs.lemmas.Option.{slice_get-map, slice_get_read}
-use Rattle.bac_wire.specs.{Datum.Datum, Datum.object, Identifier.identifier}
+use Rattle.std.proofs.{
+  Common.{◌≡◌, ℕ, zero, suc, ◌-◌, List, ◌∷◌, Some, slice_get, map, refl, ap, arith},
+  lemmas.Option.{slice_get-map, slice_get_read},
+}
+use Rattle.bac_wire.specs.{Datum.{Datum, object}, Identifier.identifier}
 use Rattle.bac_device.specs.Places.{Standing}
 use Rattle.bac_device.proofs.property.object_at.Goals as goal
 

@@ -1,5 +1,5 @@
 use Rattle.std.proofs.Common.{refl}
-use Rattle.clap.specs.{Faults.walk_fault, Faults.defaults_fault, Walk.walked}
+use Rattle.clap.specs.{Faults.{walk_fault, defaults_fault}, Walk.walked}
 use Rattle.bac_words.proofs.examples.examples_of_other_tools.Goals as goal
 
 pub returns : goal.returns

@@ -1,5 +1,5 @@
 use Rattle.std.proofs.Common.{refl}
-use Rattle.clap.specs.{Faults.walk_fault, Faults.defaults_fault, Walk.walked}
+use Rattle.clap.specs.{Faults.{walk_fault, defaults_fault}, Walk.walked}
 use Rattle.bac_wire.specs.{Datum.plain, Tag.plain_tag}
 use Rattle.bac_pdu.specs.Parameter.{plain_parameter}
 use Rattle.bac_text.specs.ValueWords.{value_under}

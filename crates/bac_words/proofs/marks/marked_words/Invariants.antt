@@ -1,5 +1,4 @@
-use Rattle.std.proofs.Common.{◌≡◌, ◌++◌, map, take}
-use Rattle.std.specs.String.{string_bytes}
+use Rattle.std.{proofs.Common.{◌≡◌, ◌++◌, map, take}, specs.String.string_bytes}
 use Rattle.clap.specs.Walk.{texts}
 use Rattle.bac_words.specs.Marks.{marked}
 use Rattle.bac_words.proofs.marks.marked_words.Given as goal

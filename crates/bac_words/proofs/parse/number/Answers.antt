@@ -1,7 +1,6 @@
 use Rattle.std.proofs.Common.{subst, sym, Option, ℕ, IfSome}
 use Rattle.clap.specs.Words.{found_of}
-use Rattle.clap_laws.specs.Inner.Numbers.{FitsWord, IsWithin}
-use Rattle.clap_laws.proofs.Getters.{getter}
+use Rattle.clap_laws.{specs.Inner.Numbers.{FitsWord, IsWithin}, proofs.Getters.getter}
 use Rattle.bac_words.proofs.parse.number.Goals as goal
 
 pub returns : goal.returns

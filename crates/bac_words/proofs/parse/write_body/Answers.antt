@@ -1,9 +1,6 @@
-use Rattle.std.proofs.Common.{◌∙◌, ap, codes, refl, map, List, [], Option, unwrap_or}
-use Rattle.std.specs.Borrow.{Bor}
-use Rattle.clap.specs.{Words.found_of, Walk.Text, Walk.texts}
-use Rattle.clap.proofs.WalkLemmas.{raw_values-rows}
-use Rattle.bac_words.specs.Marks.{unmarked}
-use Rattle.bac_words.proofs.Given.{pairs_typed}
+use Rattle.std.{proofs.Common.{◌∙◌, ap, codes, refl, map, List, [], Option, unwrap_or}, specs.Borrow.Bor}
+use Rattle.clap.{specs.{Words.found_of, Walk.{Text, texts}}, proofs.WalkLemmas.raw_values-rows}
+use Rattle.bac_words.{specs.Marks.unmarked, proofs.Given.pairs_typed}
 use Rattle.bac_words.proofs.parse.write_body.Goals as goal
 
 pub returns : goal.returns

@@ -1,9 +1,13 @@
 use Rattle.std.proofs.Common.{◌≡◌, ℕ, Option, Some, None, Result, Ok, Err, refl, sym, is_some, if◌then◌else◌, ◌&&◌, not}
 use Rattle.bac_wire.specs.Datum.{Datum}
 use Rattle.bac_pdu.specs.Property.{Order, order}
-use Rattle.bac_device.specs.{declared.failure.Failure.Failure, declared.failure.Failure.TheVariants.NotAnArray}
-use Rattle.bac_device.specs.{Property.single, Places.Standing, Device.DeviceState}
-use Rattle.bac_device.specs.Reply.{property_of, commanded_point, ordered_write, accepted_write}
+use Rattle.bac_device.specs.{
+  declared.failure.{Failure.Failure, Failure.TheVariants.NotAnArray},
+  Property.single,
+  Places.Standing,
+  Device.DeviceState,
+  Reply.{property_of, commanded_point, ordered_write, accepted_write},
+}
 use Rattle.bac_device.proofs.device.Device.accepted_write.Goals as goal
 
 -- An index stands at no single value.

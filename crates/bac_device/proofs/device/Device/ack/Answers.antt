@@ -1,6 +1,5 @@
-use Rattle.std.proofs.{Common.length-append, Common.arith, lemmas.Grind.common_steps}
-use Rattle.bac_pdu.specs.Property.{reference}
-use Rattle.bac_pdu.proofs.AckLaws.{ack_parts, length_ack}
+use Rattle.std.proofs.{Common.{length-append, arith}, lemmas.Grind.common_steps}
+use Rattle.bac_pdu.{specs.Property.reference, proofs.AckLaws.{ack_parts, length_ack}}
 use Rattle.bac_device.specs.{Inner.Property.property_seen, Reply.acknowledged}
 use Rattle.bac_device.proofs.device.Device.ack.Goals as goal
 

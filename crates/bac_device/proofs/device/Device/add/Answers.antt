@@ -1,5 +1,4 @@
-use Rattle.bac_device.specs.Point.{given}
-use Rattle.bac_device.proofs.StateLaws.{added_held}
+use Rattle.bac_device.{specs.Point.given, proofs.StateLaws.added_held}
 use Rattle.bac_device.proofs.device.Device.add.Goals as goal
 
 pub returns-clause-held : goal.returns-clause-held

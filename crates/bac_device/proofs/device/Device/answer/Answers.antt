@@ -1,6 +1,5 @@
 use Rattle.bac_pdu.specs.Peer.{station}
-use Rattle.bac_device.specs.Size.{ReplyFits}
-use Rattle.bac_device.proofs.SizeLaws.{reply_fits, of_reply}
+use Rattle.bac_device.{specs.Size.ReplyFits, proofs.SizeLaws.{reply_fits, of_reply}}
 use Rattle.bac_device.proofs.device.Device.answer.Goals as goal
 
 pub returns-clause-fits : goal.returns-clause-fits
