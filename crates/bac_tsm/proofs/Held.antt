@@ -1,8 +1,8 @@
 -- The requests at the slots of a list, where a slot or the list changes.
 use Rattle.std.proofs.{
-  Common.{◌≡◌, ℕ, zero, suc, ◌<◌, ◌≤◌, List, [], ◌∷◌, ◌++◌, length, map, set, get_or, refl, ap₂, sym, subst, ◌∙◌},
-  Common.{arith, ◌+◌, Bool, true, not, nat_eq, if◌then◌else◌, remove, eq-eqb, ne_eqb, get_or-set_same},
-  Common.{get_or-set_other, length-append},
+  Common.{◌≡◌, ℕ, zero, suc, ◌<◌, ◌≤◌, List, [], ◌∷◌, ◌++◌, length, map, set, get_or, refl, ap₂, subst, ◌∙◌, arith},
+  Common.{◌+◌, Bool, true, not, nat_eq, if◌then◌else◌, remove, eq-eqb, ne_eqb, get_or-set_same, get_or-set_other},
+  Common.length-append,
   lemmas.{List.{map-append, take-map, drop-map, get_or-map, get_or_default}, List.Sums.{length-filter, sum_by-remove}},
   lemmas.{List.Elements.filter-append, Bool.Decides.nat_tests},
 }
@@ -25,13 +25,7 @@ module _ {A : Type 0} (key : A → ℕ) where
       times key n (remove xs i) + times key n (get_or xs i d ∷ []) ≡ times key n xs
   times-remove n xs i d lt =
       let count = length-filter (λ x. nat_eq (key x) n) in
-      omega (
-        arith,
-        count (remove xs i),
-        count (get_or xs i d ∷ []),
-        count xs,
-        sum_by-remove (λ x. if nat_eq (key x) n then 1 else 0) xs i d lt,
-      )
+      omega (arith, count (remove xs i), count xs, sum_by-remove (λ x. if nat_eq (key x) n then 1 else 0) xs i d lt)
 
   pub times_got : (xs : List A) (i : ℕ) (d : A) → i < length xs → 0 < times key (key (get_or xs i d)) xs
   times_got xs i d lt =
@@ -63,27 +57,25 @@ at_slot slots slot = get_or slots slot nothing
 held_elsewhere : (slots : List Waiting) (slot : ℕ) (w : Waiting) (order : List ℕ) → times_of_slot slot order ≡ 0 →
     held_at (set slots slot w) order ≡ held_at slots order
 held_elsewhere _ _ w [] _ = refl
-held_elsewhere slots slot w (q ∷ qs) none =
-    grind (arith, nat_tests, get_or-set_other slots slot q w nothing, held_elsewhere slots slot w qs)
+held_elsewhere slots slot w (q ∷ qs) none = grind (arith, nat_tests, get_or-set_other, held_elsewhere slots slot w qs)
 
 pub held-set : (slots : List Waiting) (slot : ℕ) (w : Waiting) (order : List ℕ) (i : ℕ) → slot < length slots →
     i < length order → get_or order i 0 ≡ slot → times_of_slot slot order ≤ 1 →
     held_at (set slots slot w) order ≡ set (held_at slots order) i w
 held-set _ _ w [] i _ lt is _ = absurd (omega arith)
-held-set slots slot w (q ∷ qs) zero there lt is once =
-    grind (arith, nat_tests, get_or-set_same _ _ w nothing there, held_elsewhere slots slot w qs)
-held-set slots slot w (q ∷ qs) (suc i) there lt is once =
+held-set _ _ w (q ∷ qs) zero there lt is once = grind (arith, nat_tests, get_or-set_same, held_elsewhere)
+held-set _ slot w (q ∷ qs) (suc i) there lt is once =
     let later : 0 < times_of_slot slot qs =
     subst (λ (k : ℕ). 0 < times_of_slot k qs) is (times_got _ qs i 0 (omega arith)) in
-    grind (arith, nat_tests, get_or-set_other slots slot q w nothing, held-set _ _ w qs i there (omega arith) is)
+    grind (arith, nat_tests, get_or-set_other, held-set _ _ w qs i there (omega arith) is)
 
 -- A slot that is not among these is filled, and put behind them.
 pub held-push : (slots : List Waiting) (slot : ℕ) (w : Waiting) (order : List ℕ) → slot < length slots
     → times_of_slot slot order ≡ 0 → held_at (set slots slot w) (order ++ slot ∷ []) ≡ held_at slots order ++ w ∷ []
-held-push = grind (arith, map-append, ap₂, held_elsewhere, get_or-set_same)
+held-push = grind (arith, map-append, held_elsewhere, get_or-set_same)
 
 pub map-remove : {A B : Type 0} (f : A → B) (xs : List A) (i : ℕ) → map f (remove xs i) ≡ remove (map f xs) i
-map-remove f xs i = map-append f _ _ ∙ ap₂ ◌++◌ (sym (take-map f i xs)) (sym (drop-map f (suc i) xs))
+map-remove f xs i = grind (arith, map-append, ap₂, take-map, drop-map)
 
 pub held_got : (slots : List Waiting) (order : List ℕ) (i slot : ℕ) → i < length order → get_or order i 0 ≡ slot →
     get_or (held_at slots order) i nothing ≡ get_or slots slot nothing

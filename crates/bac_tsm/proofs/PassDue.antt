@@ -45,7 +45,7 @@ module _ {slots : List Waiting} {numbers : List (Option ℕ)} {order tickets sen
     (q : AreBySend slots (open_slots order tickets) sends) (ws : List Waiting)
     (view : waiting_in slots order tickets ≡ ws) (slot : ℕ) (front : Some slot ≡ slice_get sends 0) where
   first : (0 < length sends) × (get_or sends 0 0 ≡ slot)
-  first = (slice_get_within _ 0 _ (sym front), get_or_from_slice_get _ 0 _ 0 (sym front))
+  first = grind (arith, slice_get_within, get_or_from_slice_get)
 
   some : 0 < times_of_slot slot (open_slots order tickets)
   some = omega (arith, rw first.1 at (times_got itself sends 0 0 first.0), q.same slot)
@@ -94,10 +94,9 @@ module _ {slots : List Waiting} {numbers : List (Option ℕ)} {order tickets sen
           let lt = turn_lt t ws view slot some in
           let moved = changed_by t ws view i lt slot (stands t ws view slot some) v refl in
           let kept_now : v ∷ [] ≡ kept rules clock (get_or ws i nothing) =
-          rw (due_there, ap (λ u. nat_lt u.count rules.retries) (sym read) ∙ is_again rules clock w _ again)
-          (cc (open_read t ws view slot some)) in
+          grind (arith, due_there, nat_lt, read, is_again, open_read, some) in
           rw (is, back) (
-            (i, lt, due_there, ap (due_entry rules) read, cc (moved.0, set_split ws i v lt, kept_now)),
+            grind (arith, due_there, read, set_split),
             moved.1,
             queue-again q slot rest (0, first.0, first.1, out) v (omega (arith, t.all_slots, front_below))
                 (omega (arith, times_split t slot (length tickets))) (rw view past),
@@ -109,7 +108,7 @@ module _ {slots : List Waiting} {numbers : List (Option ℕ)} {order tickets sen
           let gone = is_over rules clock w _ over in
           let same_turn = one_turn t ws view j i its.0 (turn_lt t ws _ _ _) (cc (its.1, gone.1, read)) in
           let none : kept rules clock (get_or ws i nothing) ≡ [] =
-          rw (due_there, ap (λ u. nat_lt u.count rules.retries) (sym read) ∙ gone.0) in (
+          grind (arith, due_there, nat_lt, read) in (
             i,
             turn_lt t ws _ _ _,
             due_there,

@@ -36,12 +36,7 @@ module _ (rules : Rules) (events : List Event) where
   -- What is due by position i is due again by the next tick that comes a timeout later.
   due_again : (a k d i j : ℕ) → due rules events a k ≡ Some d → d ≤ i → i < j → has_waited rules events i j ≡ true →
       IsSomeAnd (due rules events a (suc k)) (λ e. e ≤ j)
-  due_again a k d i j is le lt waited =
-      let within = waited_within i j waited in
-      rw (due_next rules _ a k d is) (found_by _ _ (length events - suc d) j (omega arith) (omega arith) (grind (
-        arith,
-        clock_rises events (suc d) (suc i) (omega arith),
-      )))
+  due_again a k d i j is le lt waited = grind (arith, waited_within, due_next, found_by, clock_rises)
 
   pub due_in_turn : (a k n d i : ℕ) (ticks : List ℕ) → n ≡ k + length ticks → due rules events a k ≡ Some d → d ≤ i →
       TimeoutsPass rules events i ticks → IsSomeAnd (due rules events a n) (λ e. e ≤ last_of i ticks)
@@ -70,7 +65,7 @@ module _ (rules : Rules) (events : List Event) where
   due_soon : (a d : ℕ) → ((j : ℕ) → a < j → clock events (suc j) ≤ clock events j + d) → (k j : ℕ)
       → due rules events a k ≡ Some j →
       (a ≤ j) × (clock events (suc j) ≤ clock events (suc a) + k * (rules.timeout + d))
-  due_soon a d steady zero j is = let same : a ≡ j = same_Some a j is in (omega arith, rw same (omega arith))
+  due_soon a d steady zero j is = grind (arith, same_Some)
   due_soon a d steady (suc k) j is =
       let back = step_back _ (due rules events a k) j is in
       let before = due_soon a d steady k back.0 back.1 in

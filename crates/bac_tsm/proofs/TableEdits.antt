@@ -44,12 +44,12 @@ pub queue-push : (slots : List Waiting) (rest after : List ℕ) (slot : ℕ) (w 
     → times_of_slot slot after ≤ 1 →
     AllPairs IsEarlier (held_at slots rest) → All (λ v. v.base ≤ w.base) (held_at slots rest)
     → AreBySend (set slots slot w) after (rest ++ slot ∷ [])
-queue-push _ _ _ slot w there long same once by_send late = record {
+queue-push _ _ _ _ w there long same once by_send late = record {
   all = grind (arith, length-append);
   same = λ p. times-append _ p _ _ ∙ same p;
   by_send =
-      subst (AllPairs IsEarlier) (sym (held-push _ _ w _ there
-      (omega (arith, same slot, times_one itself slot slot refl)))) (all_pairs_push IsEarlier _ w by_send late);
+      subst (AllPairs IsEarlier) (grind (arith, held-push, there, times_one, itself))
+      (all_pairs_push IsEarlier _ w by_send late);
 }
 
 module _ {slots : List Waiting} {opened sends : List ℕ} (q : AreBySend slots opened sends) where
@@ -213,21 +213,18 @@ module _ {slots : List Waiting} {numbers : List (Option ℕ)} {order tickets : L
         numbered =
             rw grown (named_set _ _ _ _ _ _ _ t.numbered (
               more _ (omega (arith, times_one itself slot slot refl)),
-              ap
-                  number_in (get_or-set_same _ _ w _ there),
+              ap number_in (get_or-set_same _ _ w _ there),
             ) (omega (
               arith,
               held w.request.number,
               times_one number_in _ w refl,
-              ap (times number_in w.request.number)
-                  view,
+              ap (times number_in w.request.number) view,
             )) (λ number other. omega (arith, held number, times_other number_in _ w (λ q. other (sym q))))
             (λ number q other some has. (
               more q (omega arith),
-              ap number_in
-                  (get_or-set_other slots _ q w _ (elsewhere q some)) ∙ has,
+              ap number_in (get_or-set_other slots _ q w _ (elsewhere q some)) ∙ has,
             )));
-        ticketed = ap (map _) (ap (held_at _) grown ∙ opened_view) ∙ (cc (map-append _ _ _, t.ticketed));
+        ticketed = grind (arith, map, grown, opened_view, map-append);
         rise = all_pairs_push (λ early late. early < late) _ _ t.rise
             (λ k d lt. let rank : k < length ws = omega (arith, count t ws view) in
             let e = ticket_got t ws view k rank nothing d in
@@ -249,8 +246,7 @@ module _ {slots : List Waiting} {numbers : List (Option ℕ)} {order tickets : L
           AreBySend (set slots slot w) (open_slots order (tickets ++ w.request.ticket ∷ [])) (sends ++ slot ∷ [])
       queued _ q late =
           rw grown (queue-push _ _ _ _ w there (omega (arith, length-append opens (slot ∷ []), q.all))
-          (λ p. let e = times-append itself p opens (slot ∷ []) in omega arith)
-          (omega (arith, times-append itself slot opens (slot ∷ []), times_one itself slot slot refl, closed))
+          (grind (arith, times-append, itself)) (grind (arith, times-append, itself, times_one, closed))
           q.by_send (all_sent q (λ v. v.base ≤ w.base) (rw view late)))
 
   -- As the code makes it.
@@ -323,23 +319,19 @@ module _ {slots : List Waiting} {numbers : List (Option ℕ)} {order tickets : L
     ended : IsTable slots (set numbers number None) (remove order i ++ slot ∷ []) (remove tickets i)
     ended = record {
       all_slots = t.all_slots;
-      all_ranks =
-          omega (arith, length-append (remove order i) (slot ∷ []), length-remove _ i within_order, t.all_ranks);
+      all_ranks = grind (arith, length-append, remove, length-remove, within_order);
       within = λ q le. moved q ∙ t.within q le;
       once = grind (arith, moved);
       numbered =
-          rw shrunk (named_set _ _ _ _ _ _ _ t.numbered (let e = left number in let one = times_one number_in _
-          (get_or slots _ _) (sym has) in omega arith) (let e = left number in omega arith) (λ n other. omega (
-            arith,
-            left n,
-            times_other number_in n (get_or slots slot _) (λ q. other (sym q ∙ sym has)),
-          )) (λ n q other some its. (grind (arith, gone), its)));
-      ticketed = (cc (shrunk, map-remove _ _ i, map-remove _ _ i)) ∙ ap (λ ts. remove ts i) t.ticketed;
+          rw shrunk (named_set _ _ _ _ _ _ _ t.numbered (grind (arith, left, times_one, get_or))
+          (let e = left number in omega arith) (grind (arith, left, times_other, get_or))
+          (λ n q other some its. (grind (arith, gone), its)));
+      ticketed = grind (arith, shrunk, map-remove, remove);
       rise = all_pairs_remove (λ early late. early < late) _ i within_tickets t.rise;
     }
 
     ended_view : waiting_in slots (remove order i ++ slot ∷ []) (remove tickets i) ≡ remove ws i
-    ended_view = ap (held_at _) shrunk ∙ (cc (map-remove _ _ i, view))
+    ended_view = grind (arith, shrunk, map-remove)
 
     unqueued : (sends left : List ℕ) → AreBySend slots opens sends → IsTakenOut slot sends left →
         AreBySend slots (open_slots (remove order i ++ slot ∷ []) (remove tickets i)) left

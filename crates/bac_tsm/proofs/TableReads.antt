@@ -75,7 +75,7 @@ module _ {slots : List Waiting} {numbers : List (Option ℕ)} {order tickets : L
   opened = open_slots order tickets
 
   pub as_many : length opened ≡ length tickets
-  as_many = (cc (length-map _ _, length-map _ _)) ∙ ap length t.ticketed
+  as_many = grind (arith, length-map)
 
   -- Those before and those after a rank of the order are the order.
   pub times_split : (slot n : ℕ)
@@ -83,7 +83,7 @@ module _ {slots : List Waiting} {numbers : List (Option ℕ)} {order tickets : L
   times_split slot n = cc (take-append-drop n _, times-append _ slot _ _)
 
   pub few : length tickets ≤ length order
-  few = omega (arith, length-take (length tickets) order, as_many)
+  few = grind (arith, length-take, as_many)
 
   -- A slot that stands at a rank of the order.
   module _ (i slot : ℕ) (lt : i < length order) (is : get_or order i 0 ≡ slot) where
@@ -118,7 +118,7 @@ module _ {slots : List Waiting} {numbers : List (Option ℕ)} {order tickets : L
     -- The tickets are those of the requests.
     pub ticket_got : (i : ℕ) → i < length ws → (d : Waiting) (e : ℕ)
         → get_or tickets i e ≡ (get_or ws i d).request.ticket
-    ticket_got i lt d e = ap (λ ts. get_or ts i e) (sym t.ticketed ∙ ap (map _) view) ∙ get_or-map _ ws i d e lt
+    ticket_got i lt d e = grind (arith, get_or, map, get_or-map)
 
     pub rising : TicketsRise ws
     rising i j d early late =
@@ -128,7 +128,7 @@ module _ {slots : List Waiting} {numbers : List (Option ℕ)} {order tickets : L
     -- A ticket stands at one rank.
     pub one_turn : (i j : ℕ) → i < length ws → j < length ws
         → (get_or ws i nothing).request.ticket ≡ (get_or ws j nothing).request.ticket → i ≡ j
-    one_turn i j lt most same = grind (arith, rising i j nothing, rising j i nothing)
+    one_turn i j lt most same = grind (arith, rising)
 
     -- A rank at which the ticket stands.
     pub likely_rank : (ticket : ℕ) (items : List ℕ) → items ≡ tickets → (i : ℕ) → slice_get items i ≡ Some ticket
@@ -166,10 +166,10 @@ module _ {slots : List Waiting} {numbers : List (Option ℕ)} {order tickets : L
     rank = found_at _ _ some
 
     pub turn_lt : rank.0 < length ws
-    turn_lt = omega (arith, count ws view, as_many, rank.1.within)
+    turn_lt = grind (arith, count, as_many)
 
     pub stands : get_or order rank.0 0 ≡ slot
-    stands = sym (get_or-take _ order _ 0 (omega (arith, turn_lt, count ws view))) ∙ rank.1.there
+    stands = grind (arith, get_or-take, turn_lt, count)
 
     pub open_below : slot < table_size
     open_below = read_within _ _ (rank_within ws view _ turn_lt) stands
@@ -208,7 +208,7 @@ module _ {slots : List Waiting} {numbers : List (Option ℕ)} {order tickets : L
 
     says : (w : Waiting) → ends w ≡ true → w.request.number ≡ number
     unfolding is_answer_to
-    says w e = eqb-true _ _ (and_parts _ _ (and_parts _ _ e).1).0 ∙ sym its
+    says w e = grind (arith, eqb-true, and_parts)
 
     pub closed_none : get_or numbers number None ≡ None → Ends [] ws
     closed_none is =
@@ -236,11 +236,11 @@ module _ {slots : List Waiting} {numbers : List (Option ℕ)} {order tickets : L
             (rw (← view) (t.numbered.apart _)))
 
         pub closed_not : ends w ≡ false → Ends [] ws
-        closed_not fails = let both = rw fails at found in (cc both.0, sym both.1)
+        closed_not fails = grind (arith, found)
 
         module _ (ticket : ℕ) (named : ticket ≡ w.request.ticket) where
           pub closed_some_turn : IsRankOf ticket ws None → ⊥
-          closed_some_turn none = none i _ (turn_lt ws _ _ _) (sym (named ∙ ap ticket_in read))
+          closed_some_turn none = grind (arith, turn_lt, named, read)
 
           pub closed_that : ends w ≡ true → (j : ℕ) → IsRankOf ticket ws (Some j) → (after : List Waiting)
               → after ≡ remove ws j → Ends (ticket ∷ []) after

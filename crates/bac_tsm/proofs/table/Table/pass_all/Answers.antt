@@ -1,7 +1,6 @@
 use Rattle.std.{
-  proofs.Common.{List, length, ap, sym, subst, ◌∙◌, arith},
+  proofs.{Common.{List, sym, subst, ◌∙◌, arith}, lemmas.List.Sorted.{IsPermutation-trans, length_permutation}},
   specs.List.Sorted.IsPermutation,
-  proofs.lemmas.List.Sorted.{IsPermutation-trans, length_permutation},
 }
 use Rattle.bac_tsm.{
   specs.{declared.due.Entry.Entry, Client.client_rules},
@@ -32,8 +31,7 @@ loop-is_due-preserved c = record {
 
 pub returns-clause-told : goal.returns-clause-told
 returns-clause-told c =
-    rw (refilled c.loop-is_due.entries.items c.sort_by_ticket.new.entries
-    (length_permutation _ _ c.sort_by_ticket.ensures.same ∙ ap length c.as_mut_slice.ensures.value))
+    rw (refilled c.loop-is_due.entries.items c.sort_by_ticket.new.entries (grind (arith, length_permutation)))
     (IsPermutation-trans _ _ _
     (all_passed (client_rules c.args.config.timeout c.args.config.retries) c.args.clock c.args.config.positive
     c.loop-is_due.invariant.ticked (sym c.loop-is_due.invariant.due ∙ c.loop-is_due-test.false)).0
