@@ -115,7 +115,6 @@ module _ (timeout retries clock last next : ℕ) (ws : List Waiting) (peer : Sta
       Delivers client peer bytes (option_map (λ t. (t, answer.outcome)) ended)
       (seen_as timeout retries clock last next after)
   closed _ same _ _ told left =
-      let p = λ (w : Waiting). is_answer_to w.request answer in
       let few = few_of_one _ _ told _ in
       rw (← same) (delivers_by _ _ _ _ _ (delivers_one _ _ _ (λ r. rw carried refl) ws few.0
       ∙ (λ i. record { answer = few.1 i; waiting = sym left i })))

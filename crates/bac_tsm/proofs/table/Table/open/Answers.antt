@@ -3,10 +3,10 @@ use Rattle.bac_tsm.proofs.{TableReads.{as_many, count, next_free}, TableEdits.op
 use Rattle.bac_tsm.proofs.table.Table.open.Goals as goal
 
 pub begin_at-requires-clause-within : goal.begin_at-requires-clause-within
-begin_at-requires-clause-within c = grind (arith, next_free)
+begin_at-requires-clause-within = grind (arith, next_free)
 
 pub put_last-requires : goal.put_last-requires
-put_last-requires c = grind (arith, as_many, count)
+put_last-requires = grind (arith, as_many, count)
 
 pub invariant_of-self : goal.invariant_of-self
 invariant_of-self c =
