@@ -12,7 +12,7 @@ use Rattle.bac_pdu.specs.DatagramReading.{carried}
 use Rattle.bac_pdu.specs.Apdu.{Message, confirmed, unconfirmed, simple_ack, complex_ack, error, reject}
 use Rattle.bac_pdu.specs.Apdu.{abort, laid_out, announced_size}
 use Rattle.bac_pdu.specs.ApduReading.{apdu_of}
-use Rattle.bac_pdu.specs.Property.{Reference, Order, Answer, ack_octets}
+use Rattle.bac_pdu.specs.Property.{Reference, Order, ReadAck, ack_octets}
 use Rattle.bac_pdu.specs.PropertyReading.{read_of, write_of}
 use Rattle.bac_pdu.specs.Reject.{reason_number}
 use Rattle.bac_pdu.specs.Discovery.{Introduction, asks, i_am_octets}
@@ -93,13 +93,13 @@ unless_failed id service made (Ok x) = made x
 unless_failed id service made (Err failure) = error id service (error_octets (error_class failure) (error_code failure))
 
 -- The object that a reply names: the device under its own instance, and any other as it was asked for.
-abbrev pub replied_object : Info → Identifier → Identifier
-replied_object info object = if is_device info object then device_object info else object
+abbrev pub object_in_reply : Info → Identifier → Identifier
+object_in_reply info object = if is_device info object then device_object info else object
 
 -- What is acknowledged: the object, the property and the index that were asked for, and the values.
-abbrev pub acknowledged : DeviceState → Reference → Property → Answer
+abbrev pub acknowledged : DeviceState → Reference → Property → ReadAck
 acknowledged device r property =
-    record { reference = record r { object = replied_object device.info r.object }; value = region_octets property }
+    record { reference = record r { object = object_in_reply device.info r.object }; value = region_octets property }
 
 -- The ReadProperty-ACK with these values.
 abbrev pub ack : DeviceState → ℕ → Reference → Property → Message

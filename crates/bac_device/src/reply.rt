@@ -232,7 +232,7 @@ impl Device {
             (laid_out (spec.ack self.now id (reference request.now) (property_seen property.now)))) }
     {
         let replied = ReadRequest {
-            object: self.replied_object(request.object),
+            object: self.object_in_reply(request.object),
             property: request.property,
             index: request.index,
         };
@@ -252,8 +252,8 @@ impl Device {
     }
 
     // The object that a reply names: the device under its own instance.
-    fn replied_object(&self, object: ObjectId) -> ObjectId
-        ensures { identifier result ≡ spec.replied_object self.now.info (identifier object) }
+    fn object_in_reply(&self, object: ObjectId) -> ObjectId
+        ensures { identifier result ≡ spec.object_in_reply self.now.info (identifier object) }
     {
         let info = self.info();
         if info.is_object(object) {

@@ -11,7 +11,7 @@ use Rattle.bac_wire.{
 use Rattle.bac_pdu.specs.{
   declared.reject.{RejectReason.RejectReason, RejectReason.TheVariants.{InvalidTag, MissingParameter}},
   Parameter.{Parameter, value, SpellsParameter},
-  Property.{Reference, Answer, reference_parameters, IsReadBody, IsAckBody},
+  Property.{Reference, ReadAck, reference_parameters, IsReadBody, IsAckBody},
   Reject.{LacksReference, ReadFault, IsOutcome},
   PropertyReading.{optional_at, unless_missing, reference_at, read_of, ack_of},
 }
@@ -167,7 +167,7 @@ pub value_there : (octets : List ℕ) (x : List ℕ × List ℕ) → enclosed_at
 value_there _ x = needs_ok _ _ x (λ empty. ap (enclosed_at 3) empty ∙ no_value)
 
 -- what an answer body is
-pub ack_is : (body : List ℕ) (a : Answer) → (ack_of body ≡ Some a) ↔ IsAckBody body a
+pub ack_is : (body : List ℕ) (a : ReadAck) → (ack_of body ≡ Some a) ↔ IsAckBody body a
 unfolding ack_of
 ack_is _ a = (
   λ e.

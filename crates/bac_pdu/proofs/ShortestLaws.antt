@@ -24,7 +24,7 @@ use Rattle.bac_pdu.specs.{
   declared.discovery.WhoIs.WhoIs,
   Parameter.{Parameter, numbered, IsParameter, SpellsParameter, plain_parameter},
   Inner.{Parameter.{optional, optional_octets}, Discovery.HasLimits},
-  Property.{Reference, Answer, Order, reference_parameters, answer_parameters, order_parameters, IsPriority},
+  Property.{Reference, ReadAck, Order, reference_parameters, ack_parameters, order_parameters, IsPriority},
   Property.{IsReadBody, IsAckBody, IsWriteBody, read_octets, ack_octets, write_octets},
   PropertyReading.{read_of, write_of, ack_of},
   Discovery.{Introduction, introduction_values, IsWhoIsBody, IsIAmBody, who_is_octets, i_am_octets},
@@ -57,7 +57,7 @@ pub read_written : (r : Reference)
 unfolding plain_parameter
 read_written r = rw (optional_plain _ 2 (λ n. refl) _) refl
 
-pub ack_written : (a : Answer) → read_octets a.reference ++ enclosed_octets 3 a.value ≡ ack_octets a
+pub ack_written : (a : ReadAck) → read_octets a.reference ++ enclosed_octets 3 a.value ≡ ack_octets a
 unfolding plain_parameter
 ack_written a = sym (cc (plain_append _ _, append-nil _))
 
@@ -158,13 +158,13 @@ read_shortest r h =
 pub read_back : (r : Reference) → AllByRecursion IsParameter (reference_parameters r) → read_of (read_octets r) ≡ Ok r
 read_back r h = read_again _ r (read_shortest r h).spelled
 
-pub ack_shortest : (a : Answer) → AllByRecursion IsParameter (answer_parameters a)
+pub ack_shortest : (a : ReadAck) → AllByRecursion IsParameter (ack_parameters a)
     → IsShortest IsAckBody (ack_octets a) a
 ack_shortest a h =
-    let all = parameters_shortest (answer_parameters a) h in
+    let all = parameters_shortest (ack_parameters a) h in
     record { spelled = all.spelled; shortest = all.shortest }
 
-pub ack_back : (a : Answer) → AllByRecursion IsParameter (answer_parameters a) → ack_of (ack_octets a) ≡ Some a
+pub ack_back : (a : ReadAck) → AllByRecursion IsParameter (ack_parameters a) → ack_of (ack_octets a) ≡ Some a
 ack_back a h = (ack_is _ a).1 (ack_shortest a h).spelled
 
 pub write_shortest : (o : Order) → AllByRecursion IsParameter (order_parameters o) → IfSome o.priority IsPriority
@@ -248,9 +248,9 @@ all_append : {A : Type 0} (Is : A → Type 0) (xs ys : List A) → AllByRecursio
 all_append Is [] ys h k = k
 all_append Is (x ∷ xs) ys h k = (h.0, all_append _ xs _ h.1 k)
 
-pub answer_known : (a : Answer) → AllByRecursion IsParameter (reference_parameters a.reference) → IsRegion 32 a.value
-    → AllByRecursion IsParameter (answer_parameters a)
-answer_known a named region = all_append _ (reference_parameters _) _ named (region, tt)
+pub ack_known : (a : ReadAck) → AllByRecursion IsParameter (reference_parameters a.reference) → IsRegion 32 a.value
+    → AllByRecursion IsParameter (ack_parameters a)
+ack_known a named region = all_append _ (reference_parameters _) _ named (region, tt)
 
 urgent_is : (p : Option ℕ) → IfSome p IsPriority → IfSome p (λ n. n < 2 ^ 32)
 urgent_is None h = tt

@@ -20,7 +20,7 @@ pub record Reference : Type 0 where
   pub index : Option ℕ
 
 -- What a ReadProperty-ACK says: a property, and its value.
-pub record Answer : Type 0 where
+pub record ReadAck : Type 0 where
   pub reference : Reference
   pub value : List ℕ
 
@@ -41,8 +41,8 @@ abbrev pub reference : ReadRequest → Reference
 reference r = named r.object r.property r.index
 
 -- What an `Ack` says.
-abbrev pub answer : Ack → Answer
-answer a = record { reference = named a.object a.property a.index; value = a.value.now }
+abbrev pub ack_seen : Ack → ReadAck
+ack_seen a = record { reference = named a.object a.property a.index; value = a.value.now }
 
 -- What a `WriteRequest` says.
 abbrev pub order : WriteRequest → Order
@@ -55,8 +55,8 @@ abbrev pub reference_parameters : Reference → List Parameter
 reference_parameters r = object r.object ∷ numbered 1 r.property ∷ option_to_list (option_map (numbered 2) r.index)
 
 -- The parameters of a ReadProperty-ACK.
-abbrev pub answer_parameters : Answer → List Parameter
-answer_parameters a = reference_parameters a.reference ++ value a.value ∷ []
+abbrev pub ack_parameters : ReadAck → List Parameter
+ack_parameters a = reference_parameters a.reference ++ value a.value ∷ []
 
 -- The parameters of a WriteProperty.
 abbrev pub order_parameters : Order → List Parameter
@@ -70,8 +70,8 @@ abbrev pub IsReadBody : List ℕ → Reference → Type 0
 IsReadBody body r = SpellsAll SpellsParameter body (reference_parameters r)
 
 -- The body of a ReadProperty-ACK.
-abbrev pub IsAckBody : List ℕ → Answer → Type 0
-IsAckBody body a = SpellsAll SpellsParameter body (answer_parameters a)
+abbrev pub IsAckBody : List ℕ → ReadAck → Type 0
+IsAckBody body a = SpellsAll SpellsParameter body (ack_parameters a)
 
 -- The priorities of a write: 1 is the most urgent (clause 19.2).
 abbrev pub IsPriority : ℕ → Type 0
@@ -89,8 +89,8 @@ abbrev pub read_octets : Reference → List ℕ
 read_octets r = flat_map plain_parameter (reference_parameters r)
 
 -- The body that is written of a ReadProperty-ACK.
-abbrev pub ack_octets : Answer → List ℕ
-ack_octets a = flat_map plain_parameter (answer_parameters a)
+abbrev pub ack_octets : ReadAck → List ℕ
+ack_octets a = flat_map plain_parameter (ack_parameters a)
 
 -- The body that is written of a WriteProperty.
 abbrev pub write_octets : Order → List ℕ

@@ -6,7 +6,7 @@ use Rattle.std.specs.Result.{result_ok}
 use Rattle.bac_wire.specs.ParameterReading.{number_at, object_at, enclosed_at}
 use Rattle.bac_pdu.specs.declared.reject.RejectReason.{RejectReason}
 use Rattle.bac_pdu.specs.declared.reject.RejectReason.TheVariants.{InvalidTag, MissingParameter, OutOfRange, TooMany}
-use Rattle.bac_pdu.specs.Property.{Reference, Answer, Order}
+use Rattle.bac_pdu.specs.Property.{Reference, ReadAck, Order}
 use Rattle.bac_pdu.specs.Steps.{◌>>=◌}
 
 -- What was read, and the octets behind it; where nothing was read, all octets are left.
@@ -59,7 +59,7 @@ write_of body = do
         else Err OutOfRange
 
 -- What the body of a ReadProperty-ACK says. Where a request would be rejected for its body, it says nothing.
-unfoldable pub ack_of : List ℕ → Option Answer
+unfoldable pub ack_of : List ℕ → Option ReadAck
 ack_of body = result_ok (do
   r ← reference_at body
   value ← unless_missing r.1 (enclosed_at 3 r.1)

@@ -16,8 +16,8 @@ ghost use Rattle.bac_pdu.specs.DatagramReading.{carried};
 ghost use Rattle.bac_pdu.specs.Apdu.{Message, message, IsLaidOut, IsWritable, laid_out, longest_body};
 ghost use Rattle.bac_pdu.specs.ApduReading.{apdu_of};
 ghost use Rattle.bac_pdu.specs.Parameter.{IsParameter};
-ghost use Rattle.bac_pdu.specs.Property.{Reference, Answer, Order, reference, answer, order, reference_parameters};
-ghost use Rattle.bac_pdu.specs.Property.{order_parameters, answer_parameters, IsPriority, IsReadBody, IsWriteBody};
+ghost use Rattle.bac_pdu.specs.Property.{Reference, ReadAck, Order, reference, ack_seen, order, reference_parameters};
+ghost use Rattle.bac_pdu.specs.Property.{order_parameters, ack_parameters, IsPriority, IsReadBody, IsWriteBody};
 ghost use Rattle.bac_pdu.specs.Property.{IsAckBody, read_octets, write_octets, ack_octets, ack_front, ack_end};
 ghost use Rattle.bac_pdu.specs.Reject.{IsOutcome, ReadFault, WriteFault};
 ghost use Rattle.bac_pdu.specs.PropertyReading.{read_of, write_of, ack_of};
@@ -44,7 +44,7 @@ pub fn in_words()
         → (read_of body ≡ outcome) ↔ IsOutcome IsReadBody ReadFault body outcome }
     ensures write { (body : List ℕ) (outcome : Result Order RejectReason)
         → (write_of body ≡ outcome) ↔ IsOutcome IsWriteBody WriteFault body outcome }
-    ensures ack { (body : List ℕ) (answer : Answer) → (ack_of body ≡ Some answer) ↔ IsAckBody body answer }
+    ensures ack { (body : List ℕ) (answer : ReadAck) → (ack_of body ≡ Some answer) ↔ IsAckBody body answer }
     ensures who_is { (body : List ℕ) (who : WhoIs) → (who_is_of body ≡ Some who) ↔ IsWhoIsBody body who }
     ensures i_am { (body : List ℕ) (introduction : Introduction)
         → (introduction_of body ≡ Some introduction) ↔ IsIAmBody body introduction }
@@ -61,7 +61,7 @@ pub fn come_back()
         → read_of (read_octets r) ≡ Ok r }
     ensures write { (o : Order) → AllByRecursion IsParameter (order_parameters o)
         → IfSome o.priority IsPriority → write_of (write_octets o) ≡ Ok o }
-    ensures ack { (a : Answer) → AllByRecursion IsParameter (answer_parameters a) → ack_of (ack_octets a) ≡ Some a }
+    ensures ack { (a : ReadAck) → AllByRecursion IsParameter (ack_parameters a) → ack_of (ack_octets a) ≡ Some a }
     ensures limits { (low high : ℕ) → low < 2 ^ 32 → high < 2 ^ 32
         → who_is_of (who_is_octets (Range low high)) ≡ Some (Range low high) }
     ensures i_am { (i : Introduction) → i.device.kind ≡ 8
@@ -80,7 +80,7 @@ pub fn wrapped_round()
         → length (wrapped to expect apdu) ≤ 17 + length apdu }
     ensures length { (to : Option NetworkAddress) (expect : Bool) (apdu : List ℕ)
         → length (wrapped to expect apdu) ≡ front_count to + length apdu }
-    ensures parts { (a : Answer) → ack_octets a ≡ (ack_front a.reference ++ a.value) ++ ack_end }
+    ensures parts { (a : ReadAck) → ack_octets a ≡ (ack_front a.reference ++ a.value) ++ ack_end }
 {}
 
 /// Octets are one thing of each kind at most, and a datagram takes one APDU to a station at most.
@@ -138,7 +138,7 @@ pub fn equals()
     ensures who { EqualsBy (λ who. who) ⟦<WhoIs as PartialEq>⟧.eq }
     ensures i_am { EqualsBy introduction ⟦<IAm as PartialEq>⟧.eq }
     ensures read { EqualsBy reference ⟦<ReadRequest as PartialEq>⟧.eq }
-    ensures ack { EqualsBy answer ⟦<Ack<'static> as PartialEq>⟧.eq }
+    ensures ack { EqualsBy ack_seen ⟦<Ack<'static> as PartialEq>⟧.eq }
     ensures write { EqualsBy order ⟦<WriteRequest<'static> as PartialEq>⟧.eq }
     ensures reason { EqualsBy (λ reason. reason) ⟦<RejectReason as PartialEq>⟧.eq }
 {}

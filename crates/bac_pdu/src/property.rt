@@ -10,7 +10,7 @@ ghost use Rattle.bac_wire.specs.Inner.Writing.{AppendsFront};
 ghost use Rattle.bac_wire.specs.Region.{IsRegion};
 ghost use Rattle.bac_pdu.specs.Parameter.{IsParameter};
 ghost use Rattle.bac_wire.specs.Steps.{result_seen};
-ghost use Rattle.bac_pdu.specs.Property.{reference, order, answer, reference_parameters, IsPriority, IsReadBody};
+ghost use Rattle.bac_pdu.specs.Property.{reference, order, ack_seen, reference_parameters, IsPriority, IsReadBody};
 ghost use Rattle.bac_pdu.specs.Property.{IsWriteBody, IsAckBody, read_octets, write_octets, ack_octets, ack_front};
 ghost use Rattle.bac_pdu.specs.Property.{ack_end};
 ghost use Rattle.bac_pdu.specs.PropertyReading.{reference_at, read_of, write_of, ack_of};
@@ -115,7 +115,7 @@ pub fn read_write(body: &[u8]) -> Result<WriteRequest<'_>, RejectReason>
 /// follows.
 #[tactic(auto, using(crate::proofs::ReadLaws::value_there), unfolding(crate::specs::PropertyReading::ack_of))]
 pub fn read_ack(body: &[u8]) -> Option<Ack<'_>>
-    ensures value { option_map answer result ≡ ack_of body.now }
+    ensures value { option_map ack_seen result ≡ ack_of body.now }
 {
     let Ok((request, rest)) = reference_and_rest(body) else {
         return None;
@@ -163,9 +163,9 @@ pub fn write_write(frame: &mut Frame, request: &WriteRequest<'_>) -> Result<(), 
 /// most 32 opening tags open at once. `Full`, with the frame unchanged, only where there is no room for it.
 pub fn write_ack(frame: &mut Frame, ack: &Ack<'_>) -> Result<(), Full>
     requires { IsRegion deepest ack.now.value.now }
-    ensures appended { Appends frame.old (ack_octets (answer ack.now)) frame.new result }
-    ensures shortest { OnOk result (IsShortest IsAckBody (ack_octets (answer ack.now)) (answer ack.now)) }
-    ensures read_back { OnOk result (ack_of (ack_octets (answer ack.now)) ≡ Some (answer ack.now)) }
+    ensures appended { Appends frame.old (ack_octets (ack_seen ack.now)) frame.new result }
+    ensures shortest { OnOk result (IsShortest IsAckBody (ack_octets (ack_seen ack.now)) (ack_seen ack.now)) }
+    ensures read_back { OnOk result (ack_of (ack_octets (ack_seen ack.now)) ≡ Some (ack_seen ack.now)) }
 {
     let start = frame.len();
     let appended = append_ack(frame, ack);
@@ -233,8 +233,8 @@ fn append_order(frame: &mut Frame, request: &WriteRequest<'_>) -> Result<(), Ful
 
 // Appends the body of a ReadProperty-ACK. Where there is no room, a front of it may stay.
 fn append_ack(frame: &mut Frame, ack: &Ack<'_>) -> Result<(), Full>
-    ensures appended { AppendsFront frame.old (ack_octets (answer ack.now)) frame.new result }
-    ensures known { OnOk result (AllByRecursion IsParameter (reference_parameters (answer ack.now).reference)) }
+    ensures appended { AppendsFront frame.old (ack_octets (ack_seen ack.now)) frame.new result }
+    ensures known { OnOk result (AllByRecursion IsParameter (reference_parameters (ack_seen ack.now).reference)) }
 {
     let request = ReadRequest {
         object: ack.object,

@@ -47,15 +47,15 @@ opens {known} _ _ _ is done short room left free =
 -- No two of these requests have one invoke id.
 abbrev pub AreApart : List Waiting → Type 0
 AreApart [] = ⊤
-AreApart (w ∷ ws) = (list_any (nat_eq w.request.number) (map number_in ws) ≡ false) × AreApart ws
+AreApart (w ∷ ws) = (list_any (nat_eq w.request.invoke_id) (map number_in ws) ≡ false) × AreApart ws
 
 module _ (f : Request → Option Outcome)
-    (by : (a b : Request) → IsSome (f a) → IsSome (f b) → a.number ≡ b.number) (g : Waiting → List Entry) where
+    (by : (a b : Request) → IsSome (f a) → IsSome (f b) → a.invoke_id ≡ b.invoke_id) (g : Waiting → List Entry) where
   abbrev unless_answered : Waiting → List Entry
   unless_answered w = option_map_or (λ _. []) (f w.request) (g w)
 
   none_answered : (a : Request) → IsSome (f a) → (ws : List Waiting)
-      → list_any (nat_eq a.number) (map number_in ws) ≡ false → flat_map g ws ≡ flat_map unless_answered ws
+      → list_any (nat_eq a.invoke_id) (map number_in ws) ≡ false → flat_map g ws ≡ flat_map unless_answered ws
   none_answered a _ [] _ = refl
   none_answered a some (w ∷ ws) free = grind (arith, by a w.request some, none_answered a some ws)
 

@@ -118,7 +118,7 @@ named_set = grind (arith, length-set, get_or-set_same, get_or-set_other)
 
 -- Requests that have the same numbers are counted the same.
 same_times : (number : ℕ) (f g : ℕ → Waiting) (order : List ℕ)
-    → ((slot : ℕ) → (f slot).request.number ≡ (g slot).request.number) →
+    → ((slot : ℕ) → (f slot).request.invoke_id ≡ (g slot).request.invoke_id) →
     times number_in number (map f order) ≡ times number_in number (map g order)
 same_times _ f g [] _ = refl
 same_times number f g (q ∷ qs) same = grind (arith, same_times number f g qs same)
@@ -184,7 +184,7 @@ module _ {slots : List Waiting} {numbers : List (Option ℕ)} {order tickets : L
   -- The first free slot is opened, under a number that no open request has, and the greatest ticket.
   module _ (slot : ℕ) (w : Waiting) (is : slot ≡ get_or order (length tickets) 0)
       (room : length tickets < length order)
-      (unused : times number_in w.request.number ws ≡ 0) (latest : All (λ v. v.request.ticket < w.request.ticket) ws)
+      (unused : times number_in w.request.invoke_id ws ≡ 0) (latest : All (λ v. v.request.ticket < w.request.ticket) ws)
     where
       grown : open_slots order (tickets ++ w.request.ticket ∷ []) ≡ opens ++ slot ∷ []
       grown = grind (arith, length-append, take_at_read)
@@ -202,7 +202,7 @@ module _ {slots : List Waiting} {numbers : List (Option ℕ)} {order tickets : L
       opened_view : held_at (set slots slot w) (opens ++ slot ∷ []) ≡ held_at slots opens ++ w ∷ []
       opened_view = held-push _ _ w _ there closed
 
-      opened : IsTable (set slots slot w) (set numbers w.request.number (Some slot)) order
+      opened : IsTable (set slots slot w) (set numbers w.request.invoke_id (Some slot)) order
           (tickets ++ w.request.ticket ∷ [])
       opened = record {
         all_slots = length-set _ _ w ∙ t.all_slots;
@@ -215,9 +215,9 @@ module _ {slots : List Waiting} {numbers : List (Option ℕ)} {order tickets : L
               ap number_in (get_or-set_same _ _ w _ there),
             ) (omega (
               arith,
-              held w.request.number,
+              held w.request.invoke_id,
               times_one number_in _ w refl,
-              ap (times number_in w.request.number) view,
+              ap (times number_in w.request.invoke_id) view,
             )) (λ number other. omega (arith, held number, times_other number_in _ w (λ q. other (sym q))))
             (λ number q other some has. (
               more q (omega arith),
@@ -251,9 +251,9 @@ module _ {slots : List Waiting} {numbers : List (Option ℕ)} {order tickets : L
   -- As the code makes it.
   pub opened_by : (sends : List ℕ) → AreBySend slots opens sends → length ws < table_size → (items : List ℕ)
       → items ≡ order → (n : ℕ) → n ≡ length tickets →
-      (asked : Asked) (body : List ℕ) → times number_in asked.number ws ≡ 0
+      (asked : Asked) (body : List ℕ) → times number_in asked.invoke_id ws ≡ 0
       → All (λ v. v.request.ticket < asked.ticket) ws → All (λ v. v.base ≤ asked.clock) ws →
-      (index : ℕ) (changed : List Waiting) (after sent : List ℕ) → index ≡ asked.number
+      (index : ℕ) (changed : List Waiting) (after sent : List ℕ) → index ≡ asked.invoke_id
       → changed ≡ set slots (get_or items n 0) (begun asked body) →
       after ≡ tickets ++ asked.ticket ∷ [] → sent ≡ sends ++ get_or items n 0 ∷ [] →
       (waiting_in changed order after ≡ ws ++ begun asked body ∷ [])
@@ -345,7 +345,7 @@ module _ {slots : List Waiting} {numbers : List (Option ℕ)} {order tickets : L
   sent_slot = grind (arith, sent, same_turn, rank_within)
 
   pub ended_by : (i : ℕ) → i < length ws → (slot index number : ℕ) (removed after rest : List ℕ) (w : Waiting) →
-      slot ≡ get_or order i slot → w ≡ get_or slots slot nothing → number ≡ w.request.number → index ≡ number →
+      slot ≡ get_or order i slot → w ≡ get_or slots slot nothing → number ≡ w.request.invoke_id → index ≡ number →
       removed ≡ remove order i → after ≡ removed ++ slot ∷ [] → rest ≡ remove tickets i →
       (sends left : List ℕ) → AreBySend slots opens sends → IsTakenOut slot sends left →
       (waiting_in slots after rest ≡ remove ws i) × IsTable slots (set numbers index None) after rest

@@ -32,7 +32,7 @@ use Rattle.bac_tsm.proofs.{
 
 -- A number is found among these where one of them has it.
 pub any_number : (number : ℕ) (ws : List Waiting)
-    → list_any (λ w. nat_eq number w.request.number) ws ≡ nat_lt 0 (times number_in number ws)
+    → list_any (λ w. nat_eq number w.request.invoke_id) ws ≡ nat_lt 0 (times number_in number ws)
 any_number _ [] = refl
 any_number number (w ∷ ws) = grind (arith, any_number number ws)
 
@@ -184,11 +184,11 @@ module _ {slots : List Waiting} {numbers : List (Option ℕ)} {order tickets : L
     named = grind arith
 
     pub taken : (index : ℕ) → index ≡ number → (ws : List Waiting) → waiting_in slots order tickets ≡ ws →
-        is_some (get_or numbers index None) ≡ list_any (λ w. nat_eq number w.request.number) ws
+        is_some (get_or numbers index None) ≡ list_any (λ w. nat_eq number w.request.invoke_id) ws
     taken _ is ws view = rw (is, ← view) (by _ refl)
       where
         by : (entry : Option ℕ) → get_or numbers number None ≡ entry
-            → is_some entry ≡ list_any (λ w. nat_eq number w.request.number) (waiting_in slots order tickets)
+            → is_some entry ≡ list_any (λ w. nat_eq number w.request.invoke_id) (waiting_in slots order tickets)
         by None is = sym (any_number number _ ∙ ap (nat_lt 0) (rw is at (t.numbered.named number fits)))
         by (Some slot) is =
             let rank = found_at slot opened (named slot is).0 in
@@ -197,7 +197,7 @@ module _ {slots : List Waiting} {numbers : List (Option ℕ)} {order tickets : L
             (rw (← has) (times_got _ (held_at slots opened) rank.0 nothing (rw length-map rank.1.within))))
 
   -- What an answer ends.
-  module _ (answer : Answer) (number : ℕ) (its : number ≡ answer.number) (fits : number < 256) (ws : List Waiting)
+  module _ (answer : Answer) (number : ℕ) (its : number ≡ answer.invoke_id) (fits : number < 256) (ws : List Waiting)
       (view : waiting_in slots order tickets ≡ ws) where
     abbrev ends : Waiting → Bool
     ends w = is_answer_to w.request answer
@@ -206,7 +206,7 @@ module _ {slots : List Waiting} {numbers : List (Option ℕ)} {order tickets : L
     abbrev Ends : List ℕ → List Waiting → Type 0
     Ends tickets after = (tickets ≡ map ticket_in (filter ends ws)) × (after ≡ filter (λ w. not (ends w)) ws)
 
-    says : (w : Waiting) → ends w ≡ true → w.request.number ≡ number
+    says : (w : Waiting) → ends w ≡ true → w.request.invoke_id ≡ number
     unfolding is_answer_to
     says = grind (arith, eqb-true)
 
@@ -255,7 +255,7 @@ list_any-map f p (x ∷ xs) = grind (arith, list_any-map f p xs)
 
 module _ (last : ℕ) (ws : List Waiting) where
   abbrev is_taken : ℕ → Bool
-  is_taken d = list_any (λ w. nat_eq ((last + d) % 256) w.request.number) ws
+  is_taken d = list_any (λ w. nat_eq ((last + d) % 256) w.request.invoke_id) ws
 
   abbrev first : Option ℕ
   first = first_within (is_free last (map number_in ws)) 1 256

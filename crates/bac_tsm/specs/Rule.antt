@@ -11,7 +11,7 @@ pub record FollowsTheRule (rules : Rules) (first_ticket : ℕ) (events : List Ev
   -- At each position at most as many requests are open as may be.
   pub few : (n : ℕ) → length (open_at rules first_ticket events n) ≤ rules.most_open
   -- No two of them have one invoke id.
-  pub apart : (n : ℕ) → AllPairs (λ a b. a.request.number ≢ b.request.number) (open_at rules first_ticket events n)
+  pub apart : (n : ℕ) → AllPairs (λ a b. a.request.invoke_id ≢ b.request.invoke_id) (open_at rules first_ticket events n)
   -- A request is placed to be sent at most once more than the retries.
   pub few_sends : (a : Accepted) → length (sends rules events a) ≤ 1 + rules.retries
   -- The notes that send a request stand exactly where it is placed to be sent, with its peer and octets.

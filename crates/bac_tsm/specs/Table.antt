@@ -23,14 +23,14 @@ open_slots order tickets = take (length tickets) order
 
 -- The entry of an invoke id: none where no open request has it, else the slot of the one that has it.
 abbrev pub Names : List Waiting → List ℕ → ℕ → Option ℕ → Type 0
-Names slots order number None = times (λ w. w.request.number) number (held_at slots order) ≡ 0
+Names slots order number None = times (λ w. w.request.invoke_id) number (held_at slots order) ≡ 0
 Names slots order number (Some slot) = (0 < times_of_slot slot order)
-    × ((get_or slots slot nothing).request.number ≡ number)
+    × ((get_or slots slot nothing).request.invoke_id ≡ number)
 
 -- No two open requests have one invoke id, and each invoke id has an entry that says so.
 pub record AreNamed (slots : List Waiting) (numbers : List (Option ℕ)) (order : List ℕ) : Type 0 where
   pub all_numbers : length numbers ≡ 256
-  pub apart : (number : ℕ) → times (λ w. w.request.number) number (held_at slots order) ≤ 1
+  pub apart : (number : ℕ) → times (λ w. w.request.invoke_id) number (held_at slots order) ≤ 1
   pub named : (number : ℕ) → number < 256 → Names slots order number (get_or numbers number None)
 
 -- The parts of the table fit each other: each slot stands in the order once, and the tickets are those of the open

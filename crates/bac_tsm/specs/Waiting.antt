@@ -6,7 +6,7 @@ use Rattle.bac_tsm.specs.Machine.{Waiting}
 abbrev pub nothing : Waiting
 nothing = record {
   request =
-      record { ticket = 0; peer = record { ip = 0; port = 0; route = None }; service = 0; number = 0; octets = [] };
+      record { ticket = 0; peer = record { ip = 0; port = 0; route = None }; service = 0; invoke_id = 0; octets = [] };
   base = 0;
   count = 0;
 }

@@ -96,7 +96,7 @@ impl Client {
             ticket,
             peer,
             service,
-            number,
+            invoke_id: number,
             clock: self.clock,
         };
         self.table.open(asked, body);
@@ -155,10 +155,10 @@ impl Client {
 
     /// The invoke id of the request with this ticket. None where no open request has the ticket.
     pub fn number_of(&self, ticket: u64) -> Option<u8>
-        ensures { result ≡ option_map (λ w. w.request.number) (open_under self.now.state ticket) }
+        ensures { result ≡ option_map (λ w. w.request.invoke_id) (open_under self.now.state ticket) }
     {
         let open = self.find(ticket)?;
-        Some(open.number)
+        Some(open.invoke_id)
     }
 
     /// The greatest time that a tick told, 0 before the first.

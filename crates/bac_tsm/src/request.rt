@@ -25,7 +25,7 @@ pub(crate) struct Asked {
     pub(crate) ticket: u64,
     pub(crate) peer: Peer,
     pub(crate) service: u8,
-    pub(crate) number: u8,
+    pub(crate) invoke_id: u8,
     pub(crate) clock: u64,
 }
 
@@ -35,7 +35,7 @@ pub(crate) struct OpenRequest {
     pub(crate) ticket: u64,
     pub(crate) peer: Peer,
     pub(crate) service: u8,
-    pub(crate) number: u8,
+    pub(crate) invoke_id: u8,
     pub(crate) base: u64,
     pub(crate) count: u8,
     pub(crate) datagram: Datagram,
@@ -52,7 +52,7 @@ impl Model for OpenRequest {
         ticket = r.ticket;
         peer = station r.peer;
         service = r.service;
-        number = r.number;
+        invoke_id = r.invoke_id;
         octets = r.datagram.items;
       };
       base = r.base;
@@ -73,7 +73,7 @@ impl Default for OpenRequest {
                 route: None,
             },
             service: 0,
-            number: 0,
+            invoke_id: 0,
             base: 0,
             count: 0,
             datagram: Datagram::new(),
@@ -90,7 +90,7 @@ impl OpenRequest {
         self.ticket = asked.ticket;
         self.peer = asked.peer;
         self.service = asked.service;
-        self.number = asked.number;
+        self.invoke_id = asked.invoke_id;
         self.base = asked.clock;
         self.count = 0;
         write_request(&mut self.datagram, asked, body, frame);
@@ -104,10 +104,10 @@ impl OpenRequest {
     }
 
     /// Its invoke id.
-    pub(crate) fn number(&self) -> u8
-        ensures { result ≡ self.now.request.number }
+    pub(crate) fn invoke_id(&self) -> u8
+        ensures { result ≡ self.now.request.invoke_id }
     {
-        self.number
+        self.invoke_id
     }
 
     /// The timeout has passed since the request was last sent.
@@ -142,7 +142,7 @@ impl OpenRequest {
     pub(crate) fn is_answered_by(&self, answer: &Answer<'_>) -> bool
         ensures { result ≡ is_answer_to self.now.request (answer_seen answer.now) }
     {
-        self.is_to(&answer.peer) && self.number == answer.number && self.is_for(answer.service)
+        self.is_to(&answer.peer) && self.invoke_id == answer.invoke_id && self.is_for(answer.service)
     }
 
     // The request went to this peer.

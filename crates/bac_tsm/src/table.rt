@@ -91,7 +91,7 @@ impl Table {
     /// The first invoke id of the cycle after the last one that no open request has.
     #[tactic(auto, using(crate::proofs::TableReads::free_is, crate::proofs::TableReads::taken_on, crate::proofs::TableReads::last_is))]
     pub(crate) fn free_number(&self, last: u8) -> u8
-        ensures { result ≡ next_invoke_id last (map (λ w. w.request.number) self.now) }
+        ensures { result ≡ next_invoke_id last (map (λ w. w.request.invoke_id) self.now) }
     {
         for step in 1..=u8::MAX {
             let number = last.wrapping_add(step);
@@ -105,14 +105,14 @@ impl Table {
     /// Opens a request with this body, at a slot that is free.
     pub(crate) fn open(&mut self, asked: Asked, body: &[u8])
         requires room { length self.old < table_size }
-        requires number { times number_in asked.number self.old ≡ 0 }
+        requires number { times number_in asked.invoke_id self.old ≡ 0 }
         requires latest { All (λ w. w.request.ticket < asked.ticket) self.old }
         requires past { All (λ w. w.base ≤ asked.clock) self.old }
         requires short { length body.now ≤ longest_body }
         ensures { self.new ≡ self.old ++ begun asked body.now ∷ [] }
     {
         let slot = self.order[self.tickets.len()];
-        self.numbers[usize::from(asked.number)] = Some(slot);
+        self.numbers[usize::from(asked.invoke_id)] = Some(slot);
         begin_at(&mut self.slots, slot, asked, body, &mut self.draft);
         self.tickets.push(asked.ticket);
         put_last(&mut self.sends, slot);
@@ -125,7 +125,7 @@ impl Table {
             ≡ map ticket_in (filter (λ w. is_answer_to w.request (answer_seen answer.now)) self.old) }
         ensures others { self.new ≡ filter (λ w. not (is_answer_to w.request (answer_seen answer.now))) self.old }
     {
-        let slot = self.numbers[usize::from(answer.number)]?;
+        let slot = self.numbers[usize::from(answer.invoke_id)]?;
         let request = held(&self.slots, slot);
         if !request.is_answered_by(answer) {
             return None;
@@ -181,7 +181,7 @@ impl Table {
 
     // Some open request has this invoke id.
     fn is_taken(&self, number: u8) -> bool
-        ensures { result ≡ list_any (λ w. nat_eq number w.request.number) self.now }
+        ensures { result ≡ list_any (λ w. nat_eq number w.request.invoke_id) self.now }
     {
         self.numbers[usize::from(number)].is_some()
     }
@@ -229,7 +229,7 @@ impl Table {
         ensures { self.new ≡ remove self.old rank }
     {
         let slot = self.order.remove(rank);
-        let number = held(&self.slots, slot).number();
+        let number = held(&self.slots, slot).invoke_id();
         self.numbers[usize::from(number)] = None;
         self.order.push(slot);
         self.tickets.remove(rank);

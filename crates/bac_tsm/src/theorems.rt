@@ -49,7 +49,7 @@ pub fn table_is_bounded()
     ensures few { (rules : Rules) (first_ticket : ℕ) (events : List Event) (n : ℕ) →
         rules.most_open ≤ 255 → length (open_at rules first_ticket events n) ≤ rules.most_open }
     ensures apart { (rules : Rules) (first_ticket : ℕ) (events : List Event) (n : ℕ) → rules.most_open ≤ 255 →
-        AllPairs (λ a b. a.request.number ≢ b.request.number) (open_at rules first_ticket events n) }
+        AllPairs (λ a b. a.request.invoke_id ≢ b.request.invoke_id) (open_at rules first_ticket events n) }
     ensures tickets { (rules : Rules) (first_ticket : ℕ) (events : List Event) (n : ℕ) →
         AllPairs (λ a b. a.request.ticket < b.request.ticket) (open_at rules first_ticket events n) }
     ensures sends { (rules : Rules) (events : List Event) (a : Accepted) →

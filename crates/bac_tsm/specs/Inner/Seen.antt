@@ -8,7 +8,7 @@ use Rattle.bac_tsm.specs.Client.{outcome_seen}
 abbrev pub answer_seen : LentAnswer → Answer
 answer_seen answer = record {
   peer = station answer.peer;
-  number = answer.number;
+  invoke_id = answer.invoke_id;
   service = answer.service;
   outcome = outcome_seen answer.outcome;
 }

@@ -10,7 +10,7 @@ use Rattle.bac_tsm.specs.Table.{held_at, open_slots}
 
 -- The invoke id of the request at this slot.
 abbrev pub number_at : List Waiting → ℕ → ℕ
-number_at slots slot = (get_or slots slot nothing).request.number
+number_at slots slot = (get_or slots slot nothing).request.invoke_id
 
 -- The open requests.
 abbrev pub waiting_in : List Waiting → List ℕ → List ℕ → List Waiting

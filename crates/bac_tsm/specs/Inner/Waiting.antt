@@ -11,7 +11,7 @@ ticket_in w = w.request.ticket
 
 -- Its invoke id.
 abbrev pub number_in : Waiting → ℕ
-number_in w = w.request.number
+number_in w = w.request.invoke_id
 
 -- A new request with this body, as it waits for an answer.
 abbrev pub begun : Asked → List ℕ → Waiting
@@ -20,8 +20,8 @@ begun asked body = record {
     ticket = asked.ticket;
     peer = station asked.peer;
     service = asked.service;
-    number = asked.number;
-    octets = octets_of (station asked.peer) asked.service body asked.number;
+    invoke_id = asked.invoke_id;
+    octets = octets_of (station asked.peer) asked.service body asked.invoke_id;
   };
   base = asked.clock;
   count = 0;

@@ -1,14 +1,14 @@
 use Rattle.std.proofs.lemmas.Result.{on_ok_weaker}
-use Rattle.bac_pdu.{specs.Property.answer, proofs.ShortestLaws.{ack_back, ack_shortest, answer_known}}
+use Rattle.bac_pdu.{specs.Property.ack_seen, proofs.ShortestLaws.{ack_back, ack_shortest, ack_known}}
 use Rattle.bac_pdu.proofs.property.write_ack.Goals as goal
 
 pub returns-clause-shortest : goal.returns-clause-shortest
 returns-clause-shortest c =
     rw c.whole_or_nothing.ensures.same (on_ok_weaker _
-    (λ known. ack_shortest _ (answer_known (answer c.args.ack.now) known c.requires))
+    (λ known. ack_shortest _ (ack_known (ack_seen c.args.ack.now) known c.requires))
     c.append_ack-appended.ensures.known)
 
 pub returns-clause-read_back : goal.returns-clause-read_back
 returns-clause-read_back c =
     rw c.whole_or_nothing.ensures.same (on_ok_weaker _
-    (λ known. ack_back _ (answer_known (answer c.args.ack.now) known c.requires)) c.append_ack-appended.ensures.known)
+    (λ known. ack_back _ (ack_known (ack_seen c.args.ack.now) known c.requires)) c.append_ack-appended.ensures.known)

@@ -6,7 +6,7 @@ use Rattle.bac_device.proofs.device.Device.ack.Goals as goal
 
 pub returns-in_err-begin_ack-clause-full : goal.returns-in_err-begin_ack-clause-full
 returns-in_err-begin_ack-clause-full c =
-    let long = rw (c.in_ok-write_apdu.ensures.appended.ok, c.requires.empty, c.replied_object.ensures) at
+    let long = rw (c.in_ok-write_apdu.ensures.appended.ok, c.requires.empty, c.object_in_reply.ensures) at
     c.in_err-begin_ack.ensures.full in
     let all = length_ack
     (acknowledged c.args.self.now (reference c.args.request.now) (property_seen c.args.property.now)) in

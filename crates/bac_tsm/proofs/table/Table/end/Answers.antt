@@ -16,13 +16,13 @@ pub invariant_of-self : goal.invariant_of-self
 invariant_of-self c =
     let all =
     ended_by c.self.invariant.0 _ c.self.view_is c.args.rank c.requires _ _ _ _ _ _ _ c.remove-slot.ensures.value
-    c.held.ensures c.number-number.ensures
+    c.held.ensures c.invoke_id-number.ensures
     c.from.ensures c.remove-slot.ensures.items c.push.ensures.items c.remove.ensures.items _ _ c.self.invariant.1
     c.take_out.ensures in (all.1, all.2)
 
 pub returns : goal.returns
 returns c =
     (ended_by c.self.invariant.0 _ c.self.view_is c.args.rank c.requires _ _ _ _ _ _ _ c.remove-slot.ensures.value
-    c.held.ensures c.number-number.ensures
+    c.held.ensures c.invoke_id-number.ensures
     c.from.ensures c.remove-slot.ensures.items c.push.ensures.items c.remove.ensures.items _ _ c.self.invariant.1
     c.take_out.ensures).0
