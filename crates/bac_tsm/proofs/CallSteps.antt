@@ -1,7 +1,7 @@
 -- A tick, and what a client keeps through each call.
 use Rattle.std.proofs.{
-  Common.{◌≡◌, ℕ, max, ◌<◌, ◌≤◌, List, Bool, All, ap, arith, [], ◌∷◌, length, map, Option, Some, None, not},
-  Common.{if◌then◌else◌, refl, sym, ◌∙◌},
+  Common.{◌≡◌, ℕ, max, ◌<◌, ◌≤◌, List, Bool, ap, arith, [], ◌∷◌, length, map, Option, Some, None, not, if◌then◌else◌},
+  Common.{refl, sym, ◌∙◌},
   lemmas.{List.Elements.All-filter, List.nil_from_length},
 }
 use Rattle.std.specs.{List.{filter, flat_map, slice_get}, Option.{option_map, option_to_list}}
@@ -44,14 +44,11 @@ timely-filter p clock next ws t =
 
 module _ (clock next : ℕ) (ws : List Waiting) (t : IsTimely clock next ws) (now later : ℕ) (is : later ≡ max now clock)
   where
-    pub past_later : All (λ w. w.base ≤ later) ws
-    past_later = grind arith
-
     pub timely-tick : (rules : Rules) (after : List Waiting) → after ≡ flat_map (kept rules later) ws
         → IsTimely later next after
     timely-tick rules _ to = rw to (
       kept_of_all rules (λ w. w.request.ticket < next) _ (λ w lt. lt) ws t.0,
-      kept_of_all rules (λ w. w.base ≤ later) _ (λ w le. omega arith) ws past_later,
+      kept_of_all rules (λ w. w.base ≤ later) _ (λ w le. omega arith) ws (grind arith),
     )
 
 -- ---- what a datagram answers and leaves
@@ -74,8 +71,7 @@ module _ (p : Request → Bool) (o : Outcome) (f : Request → Option Outcome)
         waiting = filter (λ w. not (p w.request)) ws;
       }
   delivers_one [] h = refl
-  delivers_one (w ∷ ws) h =
-      grind (arith, delivers_one ws, delivers_none ws, nil_from_length (filter (λ w. p w.request) ws))
+  delivers_one (w ∷ ws) h = grind (arith, delivers_one ws, delivers_none ws, nil_from_length)
 
 -- A datagram that carries no answer changes nothing.
 delivers_nothing : (f : Request → Option Outcome) → ((r : Request) → f r ≡ None) → (ws : List Waiting) →
@@ -119,7 +115,6 @@ module _ (timeout retries clock last next : ℕ) (ws : List Waiting) (peer : Sta
       Delivers client peer bytes (option_map (λ t. (t, answer.outcome)) ended)
       (seen_as timeout retries clock last next after)
   closed _ same _ _ told left =
-      let p = λ (w : Waiting). is_answer_to w.request answer in
       let few = few_of_one _ _ told _ in
       rw (← same) (delivers_by _ _ _ _ _ (delivers_one _ _ _ (λ r. rw carried refl) ws few.0
       ∙ (λ i. record { answer = few.1 i; waiting = sym left i })))

@@ -27,7 +27,7 @@ opened_next : (rules : Rules) (state : State) (peer : Station) (service : ℕ) (
       after = opened state (request_of rules state.next_ticket peer service body ((state.last_number + 1) % 256));
     }
 unfolding next_invoke_id refusal_of
-opened_next _ _ _ _ _ short room left free = grind (arith, nat_tests)
+opened_next = grind (arith, nat_tests)
 
 -- A request is opened under the next ticket and the next invoke id, where there is room and no open request has that
 -- id: so it is where no request is open.
@@ -40,7 +40,7 @@ pub opens : {known client after : Client} {answer : Result ℕ SubmitFault}
     → (answer ≡ Ok known.state.next_ticket)
     × (after ≡ keeping known (opened known.state (request_of (rules_of known) known.state.next_ticket peer service body
     ((known.state.last_number + 1) % 256))))
-opens {known} peer service body is done short room left free =
+opens {known} _ _ _ is done short room left free =
     let now = rw is at done in
     rw (opened_next (rules_of _) known.state _ _ _ short room left free) at now
 
@@ -61,7 +61,7 @@ module _ (f : Request → Option Outcome)
 
   others : (ws : List Waiting) → AreApart ws → flat_map g (deliver f ws).waiting ≡ flat_map unless_answered ws
   others [] _ = refl
-  others (w ∷ ws) apart = grind (arith, none_answered w.request, others ws)
+  others (w ∷ ws) apart = grind (arith, none_answered, others ws)
 
 -- Where a datagram was heard, a tick tells of the requests to which it is no answer, as it would have told before.
 pub told_unless_answered : {known client after : Client} {told : List Entry}
@@ -70,5 +70,5 @@ pub told_unless_answered : {known client after : Client} {told : List Entry}
     → told ≡ (tick (rules_of after) after.state now).answer
     → told ≡ flat_map (λ w. option_map_or (λ _. []) (outcome_of w.request from heard)
     (due_answer (rules_of known) (max now known.state.clock) w)) known.state.waiting
-told_unless_answered {known} from heard now is apart heard_so ticked =
+told_unless_answered {known} _ _ _ is apart heard_so ticked =
     rw is at (rw heard_so at ticked) ∙ others _ (λ a b. by_number known.timeout known.retries a b _ _) _ _ apart

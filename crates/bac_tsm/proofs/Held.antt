@@ -1,10 +1,9 @@
 -- The requests at the slots of a list, where a slot or the list changes.
 use Rattle.std.proofs.{
-  Common.{◌≡◌, ℕ, zero, suc, ◌<◌, ◌≤◌, List, [], ◌∷◌, ◌++◌, length, map, set, get_or, refl, ap₂, sym, subst, ◌∙◌},
-  Common.{arith, ◌+◌, Bool, true, not, nat_eq, if◌then◌else◌, remove, eq-eqb, ne_eqb, get_or-set_same},
-  Common.{get_or-set_other, length-append},
-  lemmas.{List.{map-append, take-map, drop-map, get_or-map, get_or_default}, List.Sums.{length-filter, sum_by-remove}},
-  lemmas.{List.Elements.filter-append, Bool.Decides.nat_tests},
+  lemmas.{Grind.common_steps, List.{map-append, take-map, drop-map, get_or-map, get_or_default}},
+  lemmas.{List.Sums.{length-filter, sum_by-remove}, List.Elements.filter-append, Bool.Decides.nat_tests},
+  Common.{◌≡◌, ℕ, zero, suc, ◌<◌, ◌≤◌, List, [], ◌∷◌, ◌++◌, length, map, set, get_or, refl, subst, ◌∙◌, arith, ◌+◌},
+  Common.{Bool, true, not, if◌then◌else◌, remove, eq-eqb, ne_eqb, get_or-set_same, get_or-set_other, length-append},
 }
 use Rattle.std.specs.List.{filter}
 use Rattle.bac_tsm.specs.{Machine.Waiting, Table.{held_at, times_of_slot, times}, Waiting.nothing}
@@ -23,15 +22,7 @@ module _ {A : Type 0} (key : A → ℕ) where
 
   pub times-remove : (n : ℕ) (xs : List A) (i : ℕ) (d : A) → i < length xs →
       times key n (remove xs i) + times key n (get_or xs i d ∷ []) ≡ times key n xs
-  times-remove n xs i d lt =
-      let count = length-filter (λ x. nat_eq (key x) n) in
-      omega (
-        arith,
-        count (remove xs i),
-        count (get_or xs i d ∷ []),
-        count xs,
-        sum_by-remove (λ x. if nat_eq (key x) n then 1 else 0) xs i d lt,
-      )
+  times-remove = grind (arith, common_steps, length-filter, sum_by-remove)
 
   pub times_got : (xs : List A) (i : ℕ) (d : A) → i < length xs → 0 < times key (key (get_or xs i d)) xs
   times_got xs i d lt =
@@ -42,16 +33,16 @@ module _ {A : Type 0} (key : A → ℕ) where
 module _ {A : Type 0} (key : A → ℕ) (p : A → Bool) (n : ℕ) (says : (x : A) → p x ≡ true → key x ≡ n) where
   pub none_passes : (xs : List A) → times key n xs ≡ 0 → (filter p xs ≡ []) × (filter (λ x. not (p x)) xs ≡ xs)
   none_passes [] _ = (refl, refl)
-  none_passes (x ∷ xs) none = grind (arith, nat_tests, none_passes xs, says x)
+  none_passes (x ∷ xs) none = grind (arith, none_passes xs, says x)
 
   pub one_passes : (xs : List A) (i : ℕ) (d : A) → i < length xs → key (get_or xs i d) ≡ n → times key n xs ≤ 1 →
       (filter p xs ≡ (if p (get_or xs i d) then get_or xs i d ∷ [] else []))
       × (filter (λ x. not (p x)) xs ≡ (if p (get_or xs i d) then remove xs i else xs))
   one_passes [] i d lt is few = absurd (omega arith)
-  one_passes (x ∷ xs) zero d lt is few = grind (arith, nat_tests, none_passes xs)
+  one_passes (x ∷ xs) zero d lt is few = grind (arith, none_passes xs)
   one_passes (x ∷ xs) (suc i) d lt is few =
       let some = subst (λ (k : ℕ). 0 < times key k xs) is (times_got key xs i d (omega arith)) in
-      grind (arith, nat_tests, one_passes xs i d, says x)
+      grind (arith, nat_tests, one_passes xs i d)
 
 abbrev pub itself : ℕ → ℕ
 itself slot = slot
@@ -63,27 +54,25 @@ at_slot slots slot = get_or slots slot nothing
 held_elsewhere : (slots : List Waiting) (slot : ℕ) (w : Waiting) (order : List ℕ) → times_of_slot slot order ≡ 0 →
     held_at (set slots slot w) order ≡ held_at slots order
 held_elsewhere _ _ w [] _ = refl
-held_elsewhere slots slot w (q ∷ qs) none =
-    grind (arith, nat_tests, get_or-set_other slots slot q w nothing, held_elsewhere slots slot w qs)
+held_elsewhere slots slot w (q ∷ qs) none = grind (arith, get_or-set_other, held_elsewhere slots slot w qs)
 
 pub held-set : (slots : List Waiting) (slot : ℕ) (w : Waiting) (order : List ℕ) (i : ℕ) → slot < length slots →
     i < length order → get_or order i 0 ≡ slot → times_of_slot slot order ≤ 1 →
     held_at (set slots slot w) order ≡ set (held_at slots order) i w
 held-set _ _ w [] i _ lt is _ = absurd (omega arith)
-held-set slots slot w (q ∷ qs) zero there lt is once =
-    grind (arith, nat_tests, get_or-set_same _ _ w nothing there, held_elsewhere slots slot w qs)
-held-set slots slot w (q ∷ qs) (suc i) there lt is once =
+held-set _ _ w (q ∷ qs) zero there lt is once = grind (arith, get_or-set_same, held_elsewhere)
+held-set _ slot w (q ∷ qs) (suc i) there lt is once =
     let later : 0 < times_of_slot slot qs =
     subst (λ (k : ℕ). 0 < times_of_slot k qs) is (times_got _ qs i 0 (omega arith)) in
-    grind (arith, nat_tests, get_or-set_other slots slot q w nothing, held-set _ _ w qs i there (omega arith) is)
+    grind (arith, get_or-set_other, held-set _ _ w qs i there (omega arith) is)
 
 -- A slot that is not among these is filled, and put behind them.
 pub held-push : (slots : List Waiting) (slot : ℕ) (w : Waiting) (order : List ℕ) → slot < length slots
     → times_of_slot slot order ≡ 0 → held_at (set slots slot w) (order ++ slot ∷ []) ≡ held_at slots order ++ w ∷ []
-held-push = grind (arith, map-append, ap₂, held_elsewhere, get_or-set_same)
+held-push = grind (arith, map-append, held_elsewhere, get_or-set_same)
 
 pub map-remove : {A B : Type 0} (f : A → B) (xs : List A) (i : ℕ) → map f (remove xs i) ≡ remove (map f xs) i
-map-remove f xs i = map-append f _ _ ∙ ap₂ ◌++◌ (sym (take-map f i xs)) (sym (drop-map f (suc i) xs))
+map-remove = grind (arith, map-append, take-map, drop-map)
 
 pub held_got : (slots : List Waiting) (order : List ℕ) (i slot : ℕ) → i < length order → get_or order i 0 ≡ slot →
     get_or (held_at slots order) i nothing ≡ get_or slots slot nothing

@@ -1,9 +1,9 @@
 -- A request that is due goes on, and where the first to have been sent is not due, none is.
 use Rattle.std.proofs.{
-  Common.{◌≡◌, ℕ, suc, ◌-◌, ◌<◌, ◌≤◌, List, [], ◌∷◌, ◌++◌, take, drop, length, set, get_or, Option, Some, None, true},
-  Common.{false, nat_le, nat_lt, All, refl, ap, sym, ◌∙◌, arith, remove},
-  lemmas.{Bool.cases_Bool, Option.{slice_get_within, get_or_from_slice_get}},
+  lemmas.{Grind.common_steps, Option.{slice_get_within, get_or_from_slice_get}},
   lemmas.{List.{length-map, get_or_default, set_split}, List.Folds.{list_any_at, list_any_none}},
+  Common.{◌≡◌, ℕ, ◌-◌, ◌<◌, ◌≤◌, List, [], ◌∷◌, ◌++◌, length, set, get_or, Option, Some, None, true, false, nat_le},
+  Common.{nat_lt, All, refl, sym, ◌∙◌, arith, remove},
 }
 use Rattle.std.specs.List.{slice_get, list_any}
 use Rattle.bac_tsm.specs.{
@@ -23,7 +23,7 @@ use Rattle.bac_tsm.proofs.{
 
 younger : (timeout clock early late : ℕ) → nat_le timeout (clock - early) ≡ false → early ≤ late
     → nat_le timeout (clock - late) ≡ false
-younger _ _ _ _ young le = grind arith
+younger = grind arith
 
 -- Where some request is due, some was sent.
 pub some_sent : {slots : List Waiting} {numbers : List (Option ℕ)} {order tickets sends : List ℕ}
@@ -34,18 +34,18 @@ some_sent = grind arith
 
 module _ (rules : Rules) (clock : ℕ) (w : Waiting) where
   is_again : (ticket : ℕ) → due_entry rules w ≡ Resend ticket → nat_lt w.count rules.retries ≡ true
-  is_again _ is = grind arith
+  is_again = grind arith
 
   is_over : (ticket : ℕ) → due_entry rules w ≡ Expired ticket → (nat_lt w.count rules.retries ≡ false)
       × (w.request.ticket ≡ ticket)
-  is_over _ is = grind arith
+  is_over = grind arith
 
 module _ {slots : List Waiting} {numbers : List (Option ℕ)} {order tickets sends : List ℕ}
     (t : IsTable slots numbers order tickets)
     (q : AreBySend slots (open_slots order tickets) sends) (ws : List Waiting)
     (view : waiting_in slots order tickets ≡ ws) (slot : ℕ) (front : Some slot ≡ slice_get sends 0) where
   first : (0 < length sends) × (get_or sends 0 0 ≡ slot)
-  first = (slice_get_within _ 0 _ (sym front), get_or_from_slice_get _ 0 _ 0 (sym front))
+  first = grind (arith, slice_get_within, get_or_from_slice_get)
 
   some : 0 < times_of_slot slot (open_slots order tickets)
   some = omega (arith, rw first.1 at (times_got itself sends 0 0 first.0), q.same slot)
@@ -75,14 +75,14 @@ module _ {slots : List Waiting} {numbers : List (Option ℕ)} {order tickets sen
         later k e lt = grind (arith, q.by_send 0 k e)
 
     pub some_due : is_due rules clock w ≡ list_any (is_due rules clock) ws
-    some_due = grind (arith, cases_Bool, list_any_at, turn_lt, read, list_any_none, none_due)
+    some_due = grind (arith, list_any_at, turn_lt, read, list_any_none, none_due)
 
     pub not_found : (ticket : ℕ) → due_entry rules w ≡ Expired ticket → IsRankOf ticket ws None → ⊥
-    not_found = grind (arith, turn_lt, read, is_over)
+    not_found = grind (arith, turn_lt, read)
 
     module _ (due : list_any (is_due rules clock) ws ≡ true) where
       due_there : is_due rules clock (get_or ws i nothing) ≡ true
-      due_there = cc (read, some_due, due)
+      due_there = cc (read, some_due)
 
       pub sent_again : All (λ v. v.base ≤ clock) ws → (ticket : ℕ) → due_entry rules w ≡ Resend ticket
           → (changed : List Waiting) (rest after : List ℕ) →
@@ -94,25 +94,14 @@ module _ {slots : List Waiting} {numbers : List (Option ℕ)} {order tickets sen
           let lt = turn_lt t ws view slot some in
           let moved = changed_by t ws view i lt slot (stands t ws view slot some) v refl in
           let kept_now : v ∷ [] ≡ kept rules clock (get_or ws i nothing) =
-          rw (due_there, ap (λ u. nat_lt u.count rules.retries) (sym read) ∙ is_again rules clock w _ again)
-          (cc (open_read t ws view slot some)) in
+          grind (arith, due_there, nat_lt, read, is_again, some) in
           rw (is, back) (
-            (i, lt, due_there, ap (due_entry rules) read, cc (moved.0, set_split ws i v lt, kept_now)),
+            grind (arith, read, set_split),
             moved.1,
-            queue-again q slot rest (0, first.0, first.1, out) v (omega (arith, t.all_slots, front_below))
+            queue-again q slot rest (0, first.0, first.1, out) v (omega (arith, front_below))
                 (omega (arith, times_split t slot (length tickets))) (rw view past),
           )
 
       pub ended : (ticket j : ℕ) → due_entry rules w ≡ Expired ticket → IsRankOf ticket ws (Some j)
           → (after : List Waiting) → after ≡ remove ws j → IsPassed rules clock ws (Expired ticket) after
-      ended _ j over its _ to =
-          let gone = is_over rules clock w _ over in
-          let same_turn = one_turn t ws view j i its.0 (turn_lt t ws _ _ _) (cc (its.1, gone.1, read)) in
-          let none : kept rules clock (get_or ws i nothing) ≡ [] =
-          rw (due_there, ap (λ u. nat_lt u.count rules.retries) (sym read) ∙ gone.0) in (
-            i,
-            turn_lt t ws _ _ _,
-            due_there,
-            cc (over, read),
-            (cc (to, same_turn)) ∙ ap (λ xs. take i ws ++ (xs ++ drop (suc i) ws)) (sym none),
-          )
+      ended = grind (arith, common_steps, is_over, one_turn, turn_lt, read, due_there)

@@ -3,7 +3,7 @@ use Rattle.std.proofs.{
   Common.{◌≡◌, ℕ, zero, suc, ◌+◌, ◌-◌, ◌*◌, ◌<◌, ◌≤◌, Bool, true, false, List, [], ◌∷◌, length, Option, Some, None},
   Common.{IsSomeAnd, arith, refl, ◌∙◌, sym, inl, inr},
   Math.Nat.mul-le-mul_right,
-  lemmas.{Bool.{cases_Bool, cases_lt}, Option.{none-some, same_Some, slice_get_past}},
+  lemmas.{Bool.{cases_Bool, cases_lt}, Option.{none-some, slice_get_past}},
 }
 use Rattle.bac_tsm.{
   specs.{Events.{Event, Rules}, Progress.{last_of, TimeoutsPass}},
@@ -31,17 +31,12 @@ some_with P (Some x) h = (x, refl, h)
 module _ (rules : Rules) (events : List Event) where
   -- A tick is one of the events.
   waited_within : (i j : ℕ) → has_waited rules events i j ≡ true → j < length events
-  waited_within i j e = grind (arith, slice_get_past events j)
+  waited_within i j e = grind (arith, slice_get_past)
 
   -- What is due by position i is due again by the next tick that comes a timeout later.
   due_again : (a k d i j : ℕ) → due rules events a k ≡ Some d → d ≤ i → i < j → has_waited rules events i j ≡ true →
       IsSomeAnd (due rules events a (suc k)) (λ e. e ≤ j)
-  due_again a k d i j is le lt waited =
-      let within = waited_within i j waited in
-      rw (due_next rules _ a k d is) (found_by _ _ (length events - suc d) j (omega arith) (omega arith) (grind (
-        arith,
-        clock_rises events (suc d) (suc i) (omega arith),
-      )))
+  due_again a k d i j is le lt waited = grind (arith, waited_within, found_by, clock_rises)
 
   pub due_in_turn : (a k n d i : ℕ) (ticks : List ℕ) → n ≡ k + length ticks → due rules events a k ≡ Some d → d ≤ i →
       TimeoutsPass rules events i ticks → IsSomeAnd (due rules events a n) (λ e. e ≤ last_of i ticks)
@@ -52,7 +47,7 @@ module _ (rules : Rules) (events : List Event) where
 
   pub ends_in_turn : (a : Accepted) (m : ℕ) → IsSomeAnd (due rules events a.position (suc rules.retries)) (λ j. j ≤ m) →
       IsSomeAnd (end rules events a) (λ e. e.position ≤ m)
-  ends_in_turn a m late = grind arith
+  ends_in_turn = grind arith
 
   -- As long as no tick has come a timeout after position p, the clock is within a timeout of it.
   quiet_until : (p n : ℕ) → p < n → ((j : ℕ) → p < j → j < n → has_waited rules events p j ≡ false) →
@@ -61,8 +56,7 @@ module _ (rules : Rules) (events : List Event) where
   quiet_until p (suc n) lt none = elim (cases_lt p n) [
     | inl below ↦
         let before = quiet_until p n below (λ j low high. none j low (omega arith)) in
-        let not_yet = none n below (omega arith) in
-        grind (arith, clock_quiet events n)
+        grind (arith, clock_quiet)
     | inr above ↦ let same : n ≡ p = omega arith in rw same (omega arith)
   ]
 
@@ -70,14 +64,14 @@ module _ (rules : Rules) (events : List Event) where
   due_soon : (a d : ℕ) → ((j : ℕ) → a < j → clock events (suc j) ≤ clock events j + d) → (k j : ℕ)
       → due rules events a k ≡ Some j →
       (a ≤ j) × (clock events (suc j) ≤ clock events (suc a) + k * (rules.timeout + d))
-  due_soon a d steady zero j is = let same : a ≡ j = same_Some a j is in (omega arith, rw same (omega arith))
+  due_soon a d steady zero j is = grind arith
   due_soon a d steady (suc k) j is =
       let back = step_back _ (due rules events a k) j is in
       let before = due_soon a d steady k back.0 back.1 in
       let behind : back.0 < j = (first_after_from events _ back.0 j back.2).0 in
       let until = quiet_until back.0 j behind
       (λ m low high. first_least _ (suc back.0) (length events - suc back.0) j m back.2 (omega arith) high) in
-      (omega (arith, before.0), omega (arith, before.1))
+      (omega arith, omega arith)
 
   -- The last time due, where a later one is missing.
   abbrev LastDue : ℕ → ℕ → Type 0
@@ -104,7 +98,6 @@ module _ (rules : Rules) (events : List Event) where
         | inl behind ↦
             omega (
               arith,
-              soon.1,
               few,
               quiet_until last.1 n behind
                   (λ m low high. elim (cases_Bool (has_waited rules events last.1 m)) [
@@ -114,9 +107,9 @@ module _ (rules : Rules) (events : List Event) where
                         (omega arith)
                   ]),
             )
-        | inr before ↦ omega (arith, soon.1, few, clock_rises events n (suc last.1) (omega arith))
+        | inr before ↦ omega (arith, few, clock_rises events n (suc last.1) (omega arith))
       ]
 
   -- A request without an end is not due once more than the retries.
   pub never_due : (a : Accepted) → end rules events a ≡ None → due rules events a.position (suc rules.retries) ≡ None
-  never_due a e = grind arith
+  never_due = grind arith

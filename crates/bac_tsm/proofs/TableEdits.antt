@@ -44,12 +44,11 @@ pub queue-push : (slots : List Waiting) (rest after : List ℕ) (slot : ℕ) (w 
     → times_of_slot slot after ≤ 1 →
     AllPairs IsEarlier (held_at slots rest) → All (λ v. v.base ≤ w.base) (held_at slots rest)
     → AreBySend (set slots slot w) after (rest ++ slot ∷ [])
-queue-push _ _ _ slot w there long same once by_send late = record {
+queue-push _ _ _ _ w there long same once by_send late = record {
   all = grind (arith, length-append);
   same = λ p. times-append _ p _ _ ∙ same p;
   by_send =
-      subst (AllPairs IsEarlier) (sym (held-push _ _ w _ there
-      (omega (arith, same slot, times_one itself slot slot refl)))) (all_pairs_push IsEarlier _ w by_send late);
+      subst (AllPairs IsEarlier) (grind (arith, held-push, there, itself)) (all_pairs_push IsEarlier _ w by_send late);
 }
 
 module _ {slots : List Waiting} {opened sends : List ℕ} (q : AreBySend slots opened sends) where
@@ -75,7 +74,7 @@ module _ {slots : List Waiting} {opened sends : List ℕ} (q : AreBySend slots o
 
     by_send_out : AllPairs IsEarlier (held_at slots rest)
     by_send_out =
-        subst (AllPairs IsEarlier) (cc (out.3, map-remove _ _ _))
+        subst (AllPairs IsEarlier) (cc (map-remove _ _ _))
         (all_pairs_remove IsEarlier _ out.0 (rw length-map out.1) q.by_send)
 
     -- A request ends.
@@ -145,7 +144,7 @@ module _ {slots : List Waiting} {numbers : List (Option ℕ)} {order tickets : L
       → w.request ≡ (get_or slots slot nothing).request →
       (waiting_in (set slots slot w) order tickets ≡ set ws i w) × IsTable (set slots slot w) numbers order tickets
   changed_by i lt slot is w same = (
-    cc (changed_view, view),
+    cc changed_view,
     record {
       all_slots = length-set _ _ w ∙ t.all_slots;
       all_ranks = t.all_ranks;
@@ -213,21 +212,18 @@ module _ {slots : List Waiting} {numbers : List (Option ℕ)} {order tickets : L
         numbered =
             rw grown (named_set _ _ _ _ _ _ _ t.numbered (
               more _ (omega (arith, times_one itself slot slot refl)),
-              ap
-                  number_in (get_or-set_same _ _ w _ there),
+              ap number_in (get_or-set_same _ _ w _ there),
             ) (omega (
               arith,
               held w.request.invoke_id,
               times_one number_in _ w refl,
-              ap (times number_in w.request.invoke_id)
-                  view,
+              ap (times number_in w.request.invoke_id) view,
             )) (λ number other. omega (arith, held number, times_other number_in _ w (λ q. other (sym q))))
             (λ number q other some has. (
               more q (omega arith),
-              ap number_in
-                  (get_or-set_other slots _ q w _ (elsewhere q some)) ∙ has,
+              ap number_in (get_or-set_other slots _ q w _ (elsewhere q some)) ∙ has,
             )));
-        ticketed = ap (map _) (ap (held_at _) grown ∙ opened_view) ∙ (cc (map-append _ _ _, t.ticketed));
+        ticketed = grind (arith, grown, opened_view, map-append);
         rise = all_pairs_push (λ early late. early < late) _ _ t.rise
             (λ k d lt. let rank : k < length ws = omega (arith, count t ws view) in
             let e = ticket_got t ws view k rank nothing d in
@@ -248,9 +244,8 @@ module _ {slots : List Waiting} {numbers : List (Option ℕ)} {order tickets : L
       queued : (sends : List ℕ) → AreBySend slots opens sends → All (λ v. v.base ≤ w.base) ws →
           AreBySend (set slots slot w) (open_slots order (tickets ++ w.request.ticket ∷ [])) (sends ++ slot ∷ [])
       queued _ q late =
-          rw grown (queue-push _ _ _ _ w there (omega (arith, length-append opens (slot ∷ []), q.all))
-          (λ p. let e = times-append itself p opens (slot ∷ []) in omega arith)
-          (omega (arith, times-append itself slot opens (slot ∷ []), times_one itself slot slot refl, closed))
+          rw grown (queue-push _ _ _ _ w there (omega (arith, length-append opens (slot ∷ [])))
+          (grind (arith, times-append)) (grind (arith, times-append, itself, closed))
           q.by_send (all_sent q (λ v. v.base ≤ w.base) (rw view late)))
 
   -- As the code makes it.
@@ -323,23 +318,19 @@ module _ {slots : List Waiting} {numbers : List (Option ℕ)} {order tickets : L
     ended : IsTable slots (set numbers number None) (remove order i ++ slot ∷ []) (remove tickets i)
     ended = record {
       all_slots = t.all_slots;
-      all_ranks =
-          omega (arith, length-append (remove order i) (slot ∷ []), length-remove _ i within_order, t.all_ranks);
+      all_ranks = grind (arith, length-append, length-remove, within_order);
       within = λ q le. moved q ∙ t.within q le;
       once = grind (arith, moved);
       numbered =
-          rw shrunk (named_set _ _ _ _ _ _ _ t.numbered (let e = left number in let one = times_one number_in _
-          (get_or slots _ _) (sym has) in omega arith) (let e = left number in omega arith) (λ n other. omega (
-            arith,
-            left n,
-            times_other number_in n (get_or slots slot _) (λ q. other (sym q ∙ sym has)),
-          )) (λ n q other some its. (grind (arith, gone), its)));
-      ticketed = (cc (shrunk, map-remove _ _ i, map-remove _ _ i)) ∙ ap (λ ts. remove ts i) t.ticketed;
+          rw shrunk (named_set _ _ _ _ _ _ _ t.numbered (grind (arith, left, get_or))
+          (let e = left number in omega arith) (grind (arith, left, get_or))
+          (λ n q other some its. (grind (arith, gone), its)));
+      ticketed = grind (arith, shrunk, map-remove);
       rise = all_pairs_remove (λ early late. early < late) _ i within_tickets t.rise;
     }
 
     ended_view : waiting_in slots (remove order i ++ slot ∷ []) (remove tickets i) ≡ remove ws i
-    ended_view = ap (held_at _) shrunk ∙ (cc (map-remove _ _ i, view))
+    ended_view = grind (arith, shrunk, map-remove)
 
     unqueued : (sends left : List ℕ) → AreBySend slots opens sends → IsTakenOut slot sends left →
         AreBySend slots (open_slots (remove order i ++ slot ∷ []) (remove tickets i)) left
@@ -351,7 +342,7 @@ module _ {slots : List Waiting} {numbers : List (Option ℕ)} {order tickets : L
   -- As the code makes it.
   pub sent_slot : (i : ℕ) → i < length ws → (slot : ℕ) → slot ≡ get_or order i slot → (sends : List ℕ)
       → AreBySend slots opens sends → 0 < times_of_slot slot sends
-  sent_slot i lt _ got _ q = grind (arith, sent, same_turn, rank_within)
+  sent_slot = grind (arith, sent, same_turn, rank_within)
 
   pub ended_by : (i : ℕ) → i < length ws → (slot index number : ℕ) (removed after rest : List ℕ) (w : Waiting) →
       slot ≡ get_or order i slot → w ≡ get_or slots slot nothing → number ≡ w.request.invoke_id → index ≡ number →

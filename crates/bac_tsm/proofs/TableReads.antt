@@ -4,8 +4,8 @@ use Rattle.std.proofs.{
   Common.{Result, Ok, Err, Bool, true, false, not, nat_eq, if◌then◌else◌, refl, ap, sym, subst, ◌∙◌, arith, ◌%◌},
   Common.{unwrap_or, below_more, remove, position, MatchResult, eqb-true, eq-eqb, ne_eqb, lt-ltb, ltb-false},
   Common.{length-take, take-append-drop, get_or-take},
-  lemmas.{Option.{slice_get_within, get_or_from_slice_get}, Bool.and_parts, List.{length-map, get_or-map}},
-  lemmas.{List.Sums.passes_at_first, List.Sorted.searched},
+  lemmas.{Option.{slice_get_within, get_or_from_slice_get}, List.{length-map, get_or-map}, List.Sums.passes_at_first},
+  lemmas.List.Sorted.searched,
 }
 use Rattle.std.specs.{
   List.{filter, find, list_any, slice_get, position_or_len},
@@ -75,7 +75,7 @@ module _ {slots : List Waiting} {numbers : List (Option ℕ)} {order tickets : L
   opened = open_slots order tickets
 
   pub as_many : length opened ≡ length tickets
-  as_many = (cc (length-map _ _, length-map _ _)) ∙ ap length t.ticketed
+  as_many = grind (arith, length-map)
 
   -- Those before and those after a rank of the order are the order.
   pub times_split : (slot n : ℕ)
@@ -83,7 +83,7 @@ module _ {slots : List Waiting} {numbers : List (Option ℕ)} {order tickets : L
   times_split slot n = cc (take-append-drop n _, times-append _ slot _ _)
 
   pub few : length tickets ≤ length order
-  few = omega (arith, length-take (length tickets) order, as_many)
+  few = grind (arith, length-take, as_many)
 
   -- A slot that stands at a rank of the order.
   module _ (i slot : ℕ) (lt : i < length order) (is : get_or order i 0 ≡ slot) where
@@ -91,7 +91,7 @@ module _ {slots : List Waiting} {numbers : List (Option ℕ)} {order tickets : L
     read_within = let some = subst (λ k. 0 < times_of_slot k order) is (times_got _ _ i 0 lt) in grind arith
 
     pub read_listed : slot < length slots
-    read_listed = omega (arith, t.all_slots, read_within)
+    read_listed = omega (arith, read_within)
 
   -- A rank of the open requests.
   module _ (ws : List Waiting) (view : waiting_in slots order tickets ≡ ws) where
@@ -99,17 +99,17 @@ module _ {slots : List Waiting} {numbers : List (Option ℕ)} {order tickets : L
     count = (cc (as_many, length-map _ _)) ∙ ap length view
 
     pub rank_within : (i : ℕ) → i < length ws → i < length order
-    rank_within i lt = omega (arith, count, few)
+    rank_within = omega (arith, count, few)
 
     pub turn_opened : (i : ℕ) → i < length ws → i < length opened
-    turn_opened i lt = omega (arith, count, as_many)
+    turn_opened = omega (arith, count, as_many)
 
     pub here : (i slot : ℕ) → i < length ws → get_or order i 0 ≡ slot → get_or opened i 0 ≡ slot
     here i _ lt is = get_or-take _ _ i 0 (omega (arith, count)) ∙ is
 
     pub read_held : (i slot : ℕ) → i < length ws → get_or order i 0 ≡ slot
         → get_or slots slot nothing ≡ get_or ws i nothing
-    read_held i _ lt is = cc (held_got _ _ i _ (turn_opened i lt) (here i _ lt is), view)
+    read_held i _ lt is = cc (held_got _ _ i _ (turn_opened i lt) (here i _ lt is))
 
     -- The first free slot, where there is one.
     pub next_free : length ws < table_size → get_or order (length tickets) 0 < table_size
@@ -118,7 +118,7 @@ module _ {slots : List Waiting} {numbers : List (Option ℕ)} {order tickets : L
     -- The tickets are those of the requests.
     pub ticket_got : (i : ℕ) → i < length ws → (d : Waiting) (e : ℕ)
         → get_or tickets i e ≡ (get_or ws i d).request.ticket
-    ticket_got i lt d e = ap (λ ts. get_or ts i e) (sym t.ticketed ∙ ap (map _) view) ∙ get_or-map _ ws i d e lt
+    ticket_got = grind (arith, map, get_or-map)
 
     pub rising : TicketsRise ws
     rising i j d early late =
@@ -128,7 +128,7 @@ module _ {slots : List Waiting} {numbers : List (Option ℕ)} {order tickets : L
     -- A ticket stands at one rank.
     pub one_turn : (i j : ℕ) → i < length ws → j < length ws
         → (get_or ws i nothing).request.ticket ≡ (get_or ws j nothing).request.ticket → i ≡ j
-    one_turn i j lt most same = grind (arith, rising i j nothing, rising j i nothing)
+    one_turn = grind (arith, rising)
 
     -- A rank at which the ticket stands.
     pub likely_rank : (ticket : ℕ) (items : List ℕ) → items ≡ tickets → (i : ℕ) → slice_get items i ≡ Some ticket
@@ -166,10 +166,10 @@ module _ {slots : List Waiting} {numbers : List (Option ℕ)} {order tickets : L
     rank = found_at _ _ some
 
     pub turn_lt : rank.0 < length ws
-    turn_lt = omega (arith, count ws view, as_many, rank.1.within)
+    turn_lt = grind (arith, count, as_many)
 
     pub stands : get_or order rank.0 0 ≡ slot
-    stands = sym (get_or-take _ order _ 0 (omega (arith, turn_lt, count ws view))) ∙ rank.1.there
+    stands = grind (arith, get_or-take, turn_lt, count)
 
     pub open_below : slot < table_size
     open_below = read_within _ _ (rank_within ws view _ turn_lt) stands
@@ -208,7 +208,7 @@ module _ {slots : List Waiting} {numbers : List (Option ℕ)} {order tickets : L
 
     says : (w : Waiting) → ends w ≡ true → w.request.invoke_id ≡ number
     unfolding is_answer_to
-    says w e = eqb-true _ _ (and_parts _ _ (and_parts _ _ e).1).0 ∙ sym its
+    says = grind (arith, eqb-true)
 
     pub closed_none : get_or numbers number None ≡ None → Ends [] ws
     closed_none is =
@@ -236,15 +236,15 @@ module _ {slots : List Waiting} {numbers : List (Option ℕ)} {order tickets : L
             (rw (← view) (t.numbered.apart _)))
 
         pub closed_not : ends w ≡ false → Ends [] ws
-        closed_not fails = let both = rw fails at found in (cc both.0, sym both.1)
+        closed_not = grind (arith, found)
 
         module _ (ticket : ℕ) (named : ticket ≡ w.request.ticket) where
           pub closed_some_turn : IsRankOf ticket ws None → ⊥
-          closed_some_turn none = none i _ (turn_lt ws _ _ _) (sym (named ∙ ap ticket_in read))
+          closed_some_turn = grind (arith, turn_lt, read)
 
           pub closed_that : ends w ≡ true → (j : ℕ) → IsRankOf ticket ws (Some j) → (after : List Waiting)
               → after ≡ remove ws j → Ends (ticket ∷ []) after
-          closed_that = grind (arith, found, named, one_turn, turn_lt, read)
+          closed_that = grind (arith, found, one_turn, turn_lt, read)
 
 -- ---- the look for a free number, one step at a time
 

@@ -4,7 +4,7 @@ use Rattle.std.proofs.{
   Common.{◌∙◌, add-one, arith, zero, ◌+◌, Bool, nat_lt, nat_le, if◌then◌else◌, length-append, append-nil, append_assoc},
   Common.{take_all, take-append-drop},
   lemmas.{Bool.false≢true, Grind.flat_map-append, List.{length-map, drop_all, drop_more, get_or_default, same_lists}},
-  lemmas.List.{Folds.list_any_none, Kept.AllPairs-filter, Sums.{length-filter, count_by-le-length, sum_by-cons}},
+  lemmas.{List.Kept.AllPairs-filter, List.Sums.{length-filter, count_by-le-length, sum_by-cons}},
   lemmas.List.Elements.{All-append, All-take, All-drop, Contains-get_or},
   lemmas.List.Sorted.{length_permutation, IsPermutation-trans, IsPermutation-append_right, IsPermutation-middle},
   lemmas.List.Sorted.{Contains-permutation, sum_by-IsPermutation},
@@ -98,7 +98,7 @@ module _ (rules : Rules) (clock : ℕ) where
   -- What was sent now is not due.
   again : 0 < rules.timeout → (w : Waiting) → is_due rules clock w ≡ true →
       (due_of (kept rules clock w) ≡ []) × (kept_of (kept rules clock w) ≡ kept rules clock w)
-  again = grind (arith, nothing_due, list_any_none, kept_of_one, false)
+  again = grind (arith, nothing_due, kept_of_one)
 
   due_is : (ws : List Waiting) → due_of ws ≡ map (due_entry rules) (filter (is_due rules clock) ws)
   due_is [] = refl
@@ -155,4 +155,4 @@ module _ (rules : Rules) (clock : ℕ) where
         (omega arith, omega arith)
 
     pub all_passed : list_any (is_due rules clock) ws ≡ false → IsPermutation all entries × (ws ≡ kept_in_all)
-    all_passed young = let none = nothing_due ws young in (rw (none.0, append-nil) at h.told, sym none.1 ∙ h.stay)
+    all_passed = grind (arith, nothing_due, append-nil)

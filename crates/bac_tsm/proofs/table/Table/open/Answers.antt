@@ -3,18 +3,10 @@ use Rattle.bac_tsm.proofs.{TableReads.{as_many, count, next_free}, TableEdits.op
 use Rattle.bac_tsm.proofs.table.Table.open.Goals as goal
 
 pub begin_at-requires-clause-within : goal.begin_at-requires-clause-within
-begin_at-requires-clause-within c =
-    rw (c.deref.ensures.0, c.len.ensures.value) (next_free c.self.invariant.0 _ c.self.view_is c.requires.room)
+begin_at-requires-clause-within = grind (arith, next_free)
 
 pub put_last-requires : goal.put_last-requires
-put_last-requires c =
-    omega (
-      arith,
-      c.self.invariant.1.all,
-      as_many c.self.invariant.0,
-      count c.self.invariant.0 _ c.self.view_is,
-      c.requires.room,
-    )
+put_last-requires = grind (arith, as_many, count)
 
 pub invariant_of-self : goal.invariant_of-self
 invariant_of-self c =

@@ -1,7 +1,6 @@
 use Rattle.std.{
-  proofs.Common.{List, length, ap, sym, subst, ◌∙◌, arith},
+  proofs.{Common.{List, sym, subst, ◌∙◌, arith}, lemmas.List.Sorted.IsPermutation-trans},
   specs.List.Sorted.IsPermutation,
-  proofs.lemmas.List.Sorted.{IsPermutation-trans, length_permutation},
 }
 use Rattle.bac_tsm.{
   specs.{declared.due.Entry.Entry, Client.client_rules},
@@ -14,7 +13,7 @@ put_last-requires c =
     let less = (fewer (client_rules c.args.config.timeout c.args.config.retries) c.args.clock c.args.config.positive
     c.loop-is_due.invariant.ticked c.pass-entry.result _ c.pass-entry.ensures).0 in
     let most = few_due (client_rules c.args.config.timeout c.args.config.retries) c.args.clock c.args.self.now in
-    let few = c.requires.few in omega arith
+    omega arith
 
 pub loop-is_due-smaller : goal.loop-is_due-smaller
 loop-is_due-smaller c =
@@ -32,9 +31,7 @@ loop-is_due-preserved c = record {
 
 pub returns-clause-told : goal.returns-clause-told
 returns-clause-told c =
-    rw (refilled c.loop-is_due.entries.items c.sort_by_ticket.new.entries
-    (length_permutation _ _ c.sort_by_ticket.ensures.same ∙ ap length c.as_mut_slice.ensures.value))
-    (IsPermutation-trans _ _ _
+    rw (refilled c.loop-is_due.entries.items c.sort_by_ticket.new.entries (grind arith)) (IsPermutation-trans _ _ _
     (all_passed (client_rules c.args.config.timeout c.args.config.retries) c.args.clock c.args.config.positive
     c.loop-is_due.invariant.ticked (sym c.loop-is_due.invariant.due ∙ c.loop-is_due-test.false)).0
     (subst (λ (es : List Entry). IsPermutation es c.sort_by_ticket.new.entries) c.as_mut_slice.ensures.value

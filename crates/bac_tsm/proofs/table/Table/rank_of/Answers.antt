@@ -1,7 +1,7 @@
 use Rattle.std.{
   proofs.Common.{◌≡◌, ℕ, List, length, get_or, Option, Some, None, nat_lt, sym, ◌∙◌, arith, IfSome, ltb-true},
   specs.{List.slice_get, Borrow.Bor, Option.{is_some, option_copied}},
-  proofs.lemmas.{Bool.Decides.nat_tests, Option.{none-some, slice_get-get_or}},
+  proofs.lemmas.Option.{none-some, slice_get-get_or},
 }
 use Rattle.bac_tsm.proofs.TableReads.{likely_rank, searched_rank}
 use Rattle.bac_tsm.proofs.table.Table.rank_of.Goals as goal
@@ -13,7 +13,7 @@ got (Some x) xs i _ within there is = cc (slice_get-get_or xs i x.now (ltb-true 
 
 pub returns-then-eq : goal.returns-then-eq
 returns-then-eq c =
-    let is : c.copied.result ≡ Some c.args.ticket = grind (arith, nat_tests, sym c.eq.ensures ∙ c.if-eq.true) in
+    let is : c.copied.result ≡ Some c.args.ticket = grind arith in
     likely_rank c.self.invariant.0 _ c.self.view_is c.args.ticket _ c.deref-2.ensures.0 _
     (got c.get.result c.deref-2.result.now _ c.args.ticket c.get.ensures.lookup.0 c.get.ensures.lookup.1
     (sym c.copied.ensures ∙ is))
