@@ -1,23 +1,23 @@
 -- A write that a device accepts is at a priority that there is; so its replies, one after another, are those of the
 -- definition.
 use Rattle.std.{
-  proofs.Common.{◌≡◌, ◌==◌, ◌&&◌, ℕ, Bool, true, false, not, List, [], ◌∷◌, ◌++◌, Option, Some, None, Result, Ok, Err},
-  proofs.{Common.{IfSome, refl, ap, ◌∙◌, subst, arith, inl, inr}, lemmas.Bool.cases_Bool},
-  specs.{Prelude.{is_some, is_none, if◌then◌else◌}, Option.{ok_or, option_and_then, option_to_list}, Result.result_ok},
+  proofs.Common.{◌≡◌, ℕ, Bool, List, [], ◌∷◌, ◌++◌, Option, Some, None, Result, Ok, Err, IfSome, refl, ap, ◌∙◌, arith},
+  proofs.lemmas.Bool.cases_Bool,
+  specs.{Prelude.if◌then◌else◌, Option.{ok_or, option_and_then, option_to_list}, Result.result_ok},
 }
 use Rattle.bac_pdu.{
-  specs.{Peer.Station, declared.apdu.Part.Part, Apdu.{Message, confirmed}, ApduReading.apdu_of},
-  specs.{DatagramReading.carried, Property.{Order, IsPriority}, PropertyReading.write_of, Steps.◌>>=◌},
+  specs.{Peer.Station, declared.apdu.Part.Part, Apdu.Message, Property.{Order, IsPriority}, PropertyReading.write_of},
+  specs.Steps.◌>>=◌,
   proofs.WriteLaws.write_is,
 }
 use Rattle.bac_device.specs.{
   Info.Info,
   Point.Description,
-  Places.{Write, Standing, written_value},
+  Places.{Write, Standing},
   Inner.Places.IsUrgent,
-  Device.{DeviceState, points_of, device_after, Holds},
-  Reply.{property_of, commanded_point, urgency, ordered_write, accepted_write, write_in_body, write_in_request},
-  Reply.{write_in_message, write_in_apdu, write_in_datagram, reply_to, writes_after},
+  Device.{DeviceState, device_after, Holds},
+  Reply.{urgency, ordered_write, accepted_write, write_in_body, write_in_request, write_in_message, write_in_apdu},
+  Reply.{write_in_datagram, reply_to, writes_after},
   Turns.{Arrival, AreDefined, all_writes, replies_to},
 }
 use Rattle.bac_device.proofs.StateLaws.{points_after, write_held, after_holds}
@@ -28,15 +28,12 @@ use Rattle.bac_links.specs.Serve.{device_next, device_behind, replies_of}
 -- Two steps that went well.
 stepped : {A B E : Type 0} (x : Result A E) (f : A → Result B E) (y : B) → (x >>= f) ≡ Ok y
     → (a : A) × (x ≡ Ok a) × (f a ≡ Ok y)
-stepped (Ok a) f y e = (a, refl, e)
-stepped (Err failure) f y e = absurd cc
+stepped = grind arith
 
 -- A step that went well behind a test, for what there is.
 passed : {A B E : Type 0} (b : Bool) (bad : E) (o : Option A) (none : E) (f : A → Result B E) (y : B)
     → (if b then Err bad else (ok_or o none >>= f)) ≡ Ok y → (a : A) × (f a ≡ Ok y)
-passed true bad o none f y e = absurd cc
-passed false bad (Some a) none f y e = (a, e)
-passed false bad None none f y e = absurd cc
+passed = grind arith
 
 if_ok : {A E : Type 0} (P : A → Type 0) (r : Result A E) → ((a : A) → r ≡ Ok a → P a) → IfSome (result_ok r) P
 if_ok P (Ok a) h = h a refl
@@ -52,36 +49,17 @@ if_then P f None h = tt
 if_then P f (Some a) h = h a refl
 
 urgency_is : (priority : Option ℕ) (n : ℕ) → IfSome priority IsPriority → urgency priority ≡ Ok n → IsPriority n
-urgency_is None n sound e = let is : 16 ≡ n = cc in (omega (arith, is), omega (arith, is))
-urgency_is (Some p) n sound e = elim (cases_Bool (p == 6)) [
-  | inl y ↦ let bad = rw y at e in absurd cc
-  | inr k ↦
-      let good = rw k at e in
-      let is : p ≡ n = cc in
-      subst IsPriority is sound
-]
+urgency_is = grind arith
 
 ordered_urgent : (standing : Standing) (o : Order) (write : Write) → IfSome o.priority IsPriority
     → ordered_write standing o ≡ Ok write → IsUrgent write
 unfolding ordered_write
-ordered_urgent standing o write sound e =
-    let a = stepped (urgency o.priority) _ write e in
-    let b = stepped (written_value standing.point o.value) _ write a.2 in
-    let is : a.0 ≡ write.priority = ap written_at b.2 in
-    subst IsPriority is (urgency_is o.priority a.0 sound a.1)
-  where
-    written_at : {E : Type 0} → Result Write E → ℕ
-    written_at (Ok w) = w.priority
-    written_at (Err failure) = 0
+ordered_urgent = grind (arith, stepped, urgency_is)
 
 accepted_urgent : (device : DeviceState) (o : Order) (write : Write) → IfSome o.priority IsPriority
     → accepted_write device o ≡ Ok write → IsUrgent write
 unfolding accepted_write
-accepted_urgent device o write sound e =
-    let a = stepped (property_of device o.reference.object o.reference.property) _ write e in
-    let b = passed (is_some o.reference.index && not a.0.is_array) _ (commanded_point device o.reference) _
-    (λ standing. ordered_write standing o) write a.2 in
-    ordered_urgent b.0 o write sound b.1
+accepted_urgent = grind (arith, stepped, passed, ordered_urgent)
 
 body_urgent : (device : DeviceState) (body : List ℕ) → IfSome (write_in_body device body) IsUrgent
 unfolding write_in_body
@@ -94,23 +72,16 @@ body_urgent device body =
 request_urgent : (device : DeviceState) (part : Option Part) (service : ℕ) (body : List ℕ)
     → IfSome (write_in_request device part service body) IsUrgent
 unfolding write_in_request
-request_urgent device part service body = elim (cases_Bool (is_none part && service == 15)) [
-  | inl y ↦ rw y (body_urgent device body)
-  | inr n ↦ rw n tt
-]
+request_urgent = grind (arith, cases_Bool, body_urgent)
 
 message_urgent : (device : DeviceState) (broadcast : Bool) (message : Message)
     → IfSome (write_in_message device broadcast message) IsUrgent
-message_urgent device true (confirmed part code id service body) = tt
-message_urgent device false (confirmed part code id service body) = request_urgent device part service body
-message_urgent device broadcast _ = tt
+message_urgent = grind (arith, request_urgent)
 
 datagram_urgent : (device : DeviceState) (from : Station) (datagram : List ℕ)
     → IfSome (write_in_datagram device from datagram) IsUrgent
 unfolding write_in_datagram write_in_apdu
-datagram_urgent device from datagram =
-    if_then IsUrgent _ (carried from datagram) (λ delivery came.
-    if_then IsUrgent _ (apdu_of delivery.apdu) (λ message is. message_urgent device delivery.broadcast message))
+datagram_urgent = grind (arith, if_then, message_urgent)
 
 -- ---- one datagram after another
 
@@ -126,7 +97,7 @@ module _ (info : Info) (points : List Description) where
 
   replied_after : (writes : List Write) (arrivals : List Arrival)
       → replies_of (device_after info points writes) arrivals ≡ replies_to info points writes arrivals
-  replied_after writes [] = refl
+  replied_after _ [] = refl
   replied_after writes (came ∷ arrivals) =
       ap (λ (rest : List (Option (Station × List ℕ))). reply_to info points writes came.from came.datagram ∷ rest)
       (ap (λ (d : DeviceState). replies_of d arrivals) (next_after writes came)
@@ -135,16 +106,11 @@ module _ (info : Info) (points : List Description) where
   left_after : (writes : List Write) (arrivals : List Arrival)
       → device_behind (device_after info points writes) arrivals
       ≡ device_after info points (all_writes info points writes arrivals)
-  left_after writes [] = refl
+  left_after _ [] = refl
   left_after writes (came ∷ arrivals) =
       ap (λ (d : DeviceState). device_behind d arrivals) (next_after writes came)
       ∙ left_after (writes_after info points writes came.from came.datagram) arrivals
 
 pub defined : (device : DeviceState) (writes : List Write) (arrivals : List Arrival) → Holds device writes
     → AreDefined device writes arrivals (replies_of device arrivals) (device_behind device arrivals)
-defined device writes arrivals holds = record {
-  replied = ap (λ (d : DeviceState). replies_of d arrivals) holds
-      ∙ replied_after device.info (points_of device) writes arrivals;
-  written = ap (λ (d : DeviceState). device_behind d arrivals) holds
-      ∙ left_after device.info (points_of device) writes arrivals;
-}
+defined = grind (arith, replied_after, left_after)

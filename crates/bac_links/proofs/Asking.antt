@@ -42,15 +42,7 @@ module _ {X : Type 0} (wait n : ℕ) where
 
 -- What was asked and what was answered make the entry.
 one_entry : (x y : Entry) → question_of x ≡ question_of y → answer_of x ≡ answer_of y → x ≡ y
-one_entry (Waited a b) (Waited c d) q a' = cc
-one_entry (Timed a) (Timed b) q a' = cc
-one_entry (Posted a b) (Posted c d) q a' = cc
-one_entry (Unposted a b) (Unposted c d) q a' = cc
-one_entry _ _ q a' = cc
-
-asks_one : {R : Type 0} (m : Move R) (x y : Entry) → m ≡ Asks (question_of x) → m ≡ Asks (question_of y)
-    → question_of x ≡ question_of y
-asks_one m x y p q = let e = sym p ∙ q in cc
+one_entry = grind arith
 
 module _ {R : Type 0} (move : List Entry → Move R) where
   pub follows_push : (before xs : List Entry) (x : Entry) → Follows move before xs
@@ -73,7 +65,7 @@ module _ {R : Type 0} (move : List Entry → Move R) where
   same_so_far before (x ∷ first) (y ∷ other) rest other_rest p q e =
       let answer : answer_of x ≡ answer_of y = cc in
       let later : answers_of first ≡ answers_of other = cc in
-      let same = one_entry x y (asks_one _ x y p.0 q.0) answer in
+      let same = one_entry x y (let e = sym p.0 ∙ q.0 in cc) answer in
       let q' = subst (λ (z : Entry). Follows move (before ++ z ∷ []) (other ++ other_rest)) (sym same) q.1 in
       let all = same_so_far (before ++ x ∷ []) first other rest other_rest p.1 q' later in
       (λ i. same i ∷ all i)
@@ -88,21 +80,16 @@ module _ {R : Type 0} (move : List Entry → Move R) where
       (ends : rest ≡ [] → other_rest ≡ [] → EndAlike r s × PrintAlike r s) where
     go_on : (xs ys : List Entry) → rest ≡ xs → other_rest ≡ ys → Follows move first xs → Follows move first ys
         → GoOnAlike IsCutOff EndAlike PrintAlike r s xs ys
-    go_on [] [] e f p q = ends e f
-    go_on (x ∷ xs) (y ∷ ys) e f p q = asks_one _ x y p.0 q.0
-    go_on [] (y ∷ ys) e f p q = cut e y q.0
-    go_on (x ∷ xs) [] e f p q = other_cut f x p.0
+    go_on = grind arith
 
     pub so_far : (other : List Entry) → first ≡ other → Follows move [] (first ++ rest)
         → Follows move [] (other ++ other_rest) → GoOnAlike IsCutOff EndAlike PrintAlike r s rest other_rest
-    so_far _ one p q =
-        go_on rest _ refl refl (follows_behind [] _ rest p)
-        (subst (λ (b : List Entry). Follows move b other_rest) (sym one) (follows_behind [] _ _ q))
+    so_far = grind (arith, go_on, follows_behind)
 
 -- What was gained, by a history as it stands.
 pub played : {R : Type 0} (move : List Entry → Move R) (seen left : Account) (result : R) (gained : List Entry)
     → (plays : Plays move seen left result) → left.history ≡ seen.history ++ gained → plays.gained ≡ gained
-played _ _ _ _ _ plays gains = append_cancel_left _ _ _ (ap (λ (s : Account). s.history) (sym plays.gains) ∙ gains)
+played = grind (arith, append_cancel_left)
 
 -- Two that play to their ends: they stop together.
 module _ {R A : Type 0} (move : List Entry → Move R) (EndAlike PrintAlike : A → A → Type 0)

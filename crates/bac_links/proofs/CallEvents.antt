@@ -1,18 +1,18 @@
 -- What the look-ahead says of the events of a call, one event after another.
 use Rattle.std.proofs.{
+  lemmas.{Grind.common_steps, List.{append-nil, length_push, take-append-le}, List.Concat.flat_map-append},
+  lemmas.{List.Elements.All-nil, Option.{slice_get_within, get_or_from_slice_get}, Bool.{cases_eq, cases_lt}},
+  lemmas.Bool.Decides.nat_tests,
   Common.{◌≡◌, ℕ, zero, suc, ◌-◌, ◌<◌, ◌≤◌, List, [], ◌∷◌, ◌++◌, flat_map, length, Option, Some, None, Result, Ok},
-  Common.{slice_get, false, nat_lt, refl, sym, ap, ◌∙◌, arith, inl, inr, subst},
-  lemmas.{List.{append-nil, length_push, take-append-le}, List.Concat.flat_map-append},
-  lemmas.{List.Elements.{All-nil, All-cons, All-append}, Option.{slice_get_within, get_or_from_slice_get}},
-  lemmas.{Bool.{cases_eq, cases_lt}, Bool.Decides.nat_tests},
+  Common.{slice_get, false, nat_lt, refl, sym, ap, ◌∙◌, arith, inl, inr},
   Math.Seq.take-append_seam,
 }
 use Rattle.std.specs.List.{All}
 use Rattle.bac_pdu.specs.{Peer.station, Apdu.longest_body}
 use Rattle.bac_tsm.specs.{
-  Events.{Outcome, Event, Ask, Data, Tick, Note, Dropped, Rules, Request},
+  Events.{Outcome, Event, Ask, Note, Dropped, Rules, Request},
   Lookahead.{Accepted, End, accepted, accepted_at, end, end_notes, or_dropped, send_notes, next_invoke_id, refusal_of},
-  Lookahead.{output, notes_on, is_tick},
+  Lookahead.output,
   Machine.{State, Stepped, Answered, Run, step, initial, folded, submit, tick, sent},
   declared.client.SubmitFault.SubmitFault,
   Laws.{AnswersByNumber, state_at, waiting_at},
@@ -53,19 +53,13 @@ module _ (rules : Rules) (by_number : AnswersByNumber rules) (small : rules.most
         notes = output rules 0 (events ++ event ∷ []) (length events);
         after = state_at rules 0 (events ++ event ∷ []) (suc (length events));
       }
-  last_step =
-      ap (λ s. step rules s event) (sym state_before)
-      ∙ one_step rules 0 _ by_number small (length events) event (slice_get-last events event)
+  last_step = grind (arith, state_before, one_step, by_number, slice_get-last)
 
 -- ---- the events of a call
 
-pub one_news : (event : Event) → AsksNothing event → All AsksNothing (event ∷ [])
-one_news event news = All-cons AsksNothing event [] news (All-nil AsksNothing)
-
 news_at : (rest : List Event) (j : ℕ) (event : Event) → All AsksNothing rest → slice_get rest j ≡ Some event
     → AsksNothing event
-news_at rest j event quiet e =
-    subst AsksNothing (get_or_from_slice_get rest j event event e) (quiet j event (slice_get_within rest j event e))
+news_at = grind (arith, get_or_from_slice_get, slice_get_within)
 
 none_at : (rules : Rules) (events : List Event) (i : ℕ) (before : List Accepted) (rest : List Event) (j : ℕ)
     → All AsksNothing rest →
@@ -106,14 +100,7 @@ not_silent : (request : Request) (x : Option End) (y : End) → x ≡ Some y →
 not_silent _ x y e none = grind (arith, nat_tests, e, none)
 
 none_if : (x : Option End) → ((y : End) → x ≡ Some y → ⊥) → x ≡ None
-none_if None _ = refl
-none_if (Some y) never = absurd (never y refl)
-
--- And an end that is told at this position is there.
-ended_there : (i : ℕ) (request : Request) (x : Option End) (o : Option Outcome)
-    → endings (end_notes i request x) ≡ o ∷ [] →
-    x ≡ Some (record { position = i; outcome = o })
-ended_there i _ x o e = grind (arith, nat_tests, e)
+none_if = grind arith
 
 -- ---- what is told at a position
 
@@ -144,20 +131,7 @@ module _ {X : Type 0} (read : Note → List X) (silent : read Dropped ≡ []) wh
       → (a.position ≡ i → ⊥) →
       (event : Event) → AsksNothing event → slice_get events i ≡ Some event
       → flat_map read (output rules 0 events i) ≡ flat_map read (placed rules events i a)
-  news_told rules events i a only other event news e = ap (flat_map read) here ∙ go event news e
-    where
-      here : output rules 0 events i ≡ notes_on rules 0 events i (a ∷ []) (Some event)
-      here = ap (λ xs. notes_on rules 0 events i xs (slice_get events i)) only
-          ∙ ap (notes_on rules 0 events i (a ∷ [])) e
-
-      go : (event : Event) → AsksNothing event → slice_get events i ≡ Some event →
-          flat_map read (notes_on rules 0 events i (a ∷ []) (Some event)) ≡ flat_map read (placed rules events i a)
-      go (Ask peer service body) news e = absurd news
-      go (Data peer bytes) news e =
-          dropped _ ∙ ap (flat_map read) (append-nil _)
-          ∙ ap (λ (xs : List Note). flat_map read (xs ++ end_notes i a.request (end rules events a)))
-          (sym (quiet_unsent rules events a i other (ap is_tick e)))
-      go (Tick now) news e = ap (flat_map read) (append-nil (placed rules events i a))
+  news_told = grind (arith, dropped, append-nil, quiet_unsent)
 
 -- ---- a call, event by event
 
@@ -221,7 +195,7 @@ module _ (purpose : Purpose) (call : Call) (time : ℕ) (later : List Event)
   after = begun_at purpose call time (later ++ event ∷ [])
 
   quiet_after : All AsksNothing (later ++ event ∷ [])
-  quiet_after = All-append AsksNothing later _ quiet (one_news event news)
+  quiet_after = grind (arith, common_steps)
 
   longer : length after ≡ suc (length before)
   longer = let l = length_push before event in omega arith
@@ -279,8 +253,7 @@ module _ {purpose : Purpose} {call : Call} {time : ℕ} {later : List Event} {cl
         notes = output (rules_for call) 0 next (length begun);
         after = state_at (rules_for call) 0 next (length next);
       }
-  handed_is = ap (λ c. step (rules_of c) c.state event) far.client_is
-      ∙ step_is purpose call time later far.short far.quiet event news
+  handed_is = grind (arith, step_is)
 
   told_next : TellsPlaced (rules_for call) next (asked purpose call) (length begun)
   told_next = told_last purpose call time later far.short far.quiet event news
@@ -315,7 +288,7 @@ module _ {purpose : Purpose} {call : Call} {time : ℕ} {later : List Event} {cl
   -- An end is the request's.
   pub ends_next : (o : Option Outcome) → endings handed.notes ≡ o ∷ []
       → end_in purpose call next ≡ Some (record { position = length begun; outcome = o })
-  ends_next o one = ended_there _ (asked purpose call).request _ o (sym ends_told ∙ one)
+  ends_next o one = grind (arith, nat_tests, sym ends_told ∙ one)
 
 -- One request is open in a call.
 pub carried_alone : {purpose : Purpose} {call : Call} {time : ℕ} {later : List Event} {client : Client}

@@ -1,15 +1,15 @@
 -- One turn of a call; and how the call ends, or fails.
 use Rattle.std.proofs.{
+  lemmas.{Grind.common_steps, Bool.cases_Bool, List.append-nil, List.Concat.flat_map-append},
+  lemmas.List.Elements.{All-nil, All-cons},
   Common.{◌≡◌, ◌≢◌, ◌⊎◌, ℕ, suc, ◌<◌, ◌≤◌, List, [], ◌∷◌, ◌++◌, length, Option, Some, None, Result, Ok, Err, IfOk},
-  Common.{IfErr, true, false, nat_eq, inl, inr, refl, sym, ap, ◌∙◌, arith, append_assoc, subst, All},
-  lemmas.{Bool.cases_Bool, List.append-nil, List.Concat.flat_map-append, List.Elements.{All-nil, All-cons}},
+  Common.{IfErr, true, false, inl, inr, refl, sym, ap, ◌∙◌, arith, append_assoc, subst, All},
 }
-use Rattle.std.specs.List.{list_any}
 use Rattle.bac_pdu.specs.{Peer.Station, Apdu.longest_body}
 use Rattle.bac_tsm.specs.{
   Events.{Outcome, Event, Data, Tick, Rules},
-  Lookahead.{Accepted, End, send_notes, sends},
-  Machine.{State, Stepped, to_send, sent, is_due, tick, step},
+  Lookahead.{Accepted, End, send_notes},
+  Machine.{State, Stepped, to_send, sent, step},
   Client.{Client, rules_of, keeping},
 }
 use Rattle.bac_print.specs.{declared.checked.Checked.Checked, Checked.TookOrFailed}
@@ -19,8 +19,7 @@ use Rattle.bac_links.specs.{
   Ending.{ending_line, exit_of},
   Asking.{Move, Asks, Ends, ForTime, ToSend, question_of, Follows, waits_in, turn_after},
   Handed.{handed, handed_of},
-  Call.{rules_for, asked, events_of, end_in, sent_last, IsAccepted, Comes, or_ended, or_sent, move_behind, move, Calls},
-  Call.Tells,
+  Call.{rules_for, events_of, end_in, sent_last, IsAccepted, Comes, or_ended, or_sent, move_behind, move, Calls, Tells},
   Inner.CallSteps.{posts, wait_of, begun_at, endings, GainsLost, heard_step, timeouts, AsksNothing, IsAlone, CarriesOn},
   Inner.CallSteps.Underway,
   declared.{ending.Purpose.Purpose, ending.Exit.Exit, fault.ToolFault.ToolFault},
@@ -43,11 +42,7 @@ one_post _ _ to e = rw (← e) refl
 -- Where one request is open and a tick ends it, the tick sends nothing.
 unsent_at_end : (rules : Rules) (state : State) (now : ℕ) → IsAlone state →
     endings (step rules state (Tick now)).notes ≡ None ∷ [] → posts (step rules state (Tick now)).notes ≡ []
-unsent_at_end rules state now alone ended =
-    elim (cases_Bool (is_due rules (tick rules state now).after.clock alone.0)) [
-      | inl y ↦ grind (arith, alone.1, y, ended)
-      | inr n ↦ rw (alone.1, n) refl
-    ]
+unsent_at_end = grind (arith, cases_Bool)
 
 -- At most one thing is sent at a time.
 abbrev OneOrNone : List Entry → Type 0
@@ -55,15 +50,12 @@ OneOrNone xs = (xs ≡ []) ⊎ ((to : Station) × (octets : List ℕ) × (xs ≡
 
 one_or_none : (rules : Rules) (events : List Event) (i : ℕ) (a : Accepted)
     → OneOrNone (posts (send_notes rules events i a))
-one_or_none rules events i a = elim (cases_Bool (list_any (nat_eq i) (sends rules events a))) [
-  | inl y ↦ inr (a.request.peer, a.request.octets, rw y refl)
-  | inr n ↦ inl (rw n refl)
-]
+one_or_none = grind (arith, cases_Bool)
 
 -- ---- what was handed
 
 pub handed_push : (more : List Entry) (x : Entry) → handed (more ++ x ∷ []) ≡ handed more ++ handed_of x
-handed_push more x = flat_map-append _ more _ ∙ ap (λ (es : List Event). handed more ++ es) (append-nil _)
+handed_push = grind (arith, flat_map-append, append-nil)
 
 quiet_handed : (more : List Entry) → All AsksNothing (handed more)
 quiet_handed [] = All-nil _
@@ -83,12 +75,10 @@ module _ {purpose : Purpose} {call : Call} {time : ℕ} (more : List Entry) {cli
     handing = step (rules_of client) client.state event
 
     pushed : handed more ++ event ∷ [] ≡ handed (more ++ x ∷ [])
-    pushed = ap (λ (es : List Event). handed more ++ es) (sym one) ∙ sym (handed_push more x)
+    pushed = grind (arith, handed_push)
 
     sends_so : sent_last purpose call (events_of purpose call (Timed time ∷ (more ++ x ∷ []))) ≡ posts handing.notes
-    sends_so =
-        ap (λ (later : List Event). sent_last purpose call (begun_at purpose call time later)) (sym pushed)
-        ∙ sends_next far event news
+    sends_so = grind (arith, pushed, sends_next)
 
     ends_so : (o : Option Outcome) → endings handing.notes ≡ o ∷ []
         → end_in purpose call (events_of purpose call (Timed time ∷ (more ++ x ∷ [])))
@@ -105,9 +95,7 @@ module _ {purpose : Purpose} {call : Call} {time : ℕ} (more : List Entry) {cli
 
   -- And one that it is not handed.
   same_so : (x : Entry) → handed_of x ≡ [] → CarriesOn purpose call time (handed (more ++ x ∷ [])) client
-  same_so x none =
-      subst (λ (later : List Event). CarriesOn purpose call time later client)
-      (sym (handed_push more x ∙ ap (λ (es : List Event). handed more ++ es) none ∙ append-nil _)) far
+  same_so = grind (arith, handed_push, append-nil)
 
   accepted_so : (more : List Entry) → IsAccepted purpose call (events_of purpose call (Timed time ∷ more))
   accepted_so more = is_accepted _ call time _ far.short (quiet_handed more)
@@ -140,14 +128,12 @@ module _ (purpose : Purpose) (call : Call) where
 
   behind : (gained : List Entry) (x : Entry)
       → move purpose call (gained ++ x ∷ []) ≡ move_behind purpose call (gained ++ x ∷ []) (Some x)
-  behind gained x = ap (move_behind _ call (gained ++ x ∷ [])) (last_push None gained x)
+  behind = grind (arith, last_push)
 
   behind_wait : (gained : List Entry) (wait : ℕ) (heard : Heard) → heard ≢ Failure →
       move purpose call (gained ++ Waited wait heard ∷ [])
       ≡ or_ended (end_in purpose call (events_of purpose call (gained ++ Waited wait heard ∷ []))) (Asks ForTime)
-  behind_wait gained _ Silence _ = behind gained _
-  behind_wait gained _ (Arrival from octets) _ = behind gained _
-  behind_wait _ _ Failure received = absurd (received refl)
+  behind_wait = grind (arith, behind)
 
   -- Behind a time at which the request stays open it is sent where it is due, and then a turn begins.
   behind_time : (gained : List Entry) (now : ℕ)
@@ -155,10 +141,7 @@ module _ (purpose : Purpose) (call : Call) where
       move purpose call (gained ++ Timed now ∷ [])
       ≡ or_sent (sent_last purpose call (events_of purpose call (gained ++ Timed now ∷ [])))
       (turn_after (wait_of call) (waits_in (gained ++ Timed now ∷ [])))
-  behind_time gained now open_yet =
-      behind gained (Timed now) ∙ ap (λ (e : Option End). or_ended e
-      (or_sent (sent_last purpose call (events_of purpose call (gained ++ Timed now ∷ [])))
-      (turn_after (wait_of call) (waits_in (gained ++ Timed now ∷ []))))) open_yet
+  behind_time = grind (arith, behind)
 
 -- ---- behind a time, with the request open
 
@@ -169,9 +152,7 @@ module _ {purpose : Purpose} {call : Call} {time : ℕ} (more : List Entry) {cli
     (turns : waits_in more ≡ n) where
   follows_sent : (x : Entry) (to : Station) (octets : List ℕ) → due ≡ Posted to octets ∷ []
       → ToSend to octets ≡ question_of x → Follows (move purpose call) [] (Timed time ∷ (more ++ x ∷ []))
-  follows_sent x to _ one e =
-      follows_push _ [] (Timed time ∷ more) x follows
-      (next ∙ ap (λ (d : List Entry). or_sent d (turn_after (wait_of call) n)) one ∙ ap (λ q. Asks q) e)
+  follows_sent = grind (arith, follows_push)
 
   module _ {seen left : Account} where
     -- What is due was sent, or nothing is.
@@ -227,9 +208,7 @@ module _ {purpose : Purpose} {call : Call} {seen mid next : Account} {client : C
   gains_waited = gains_both _ _ seen mid next far.gains gains
 
   follows_waited : Follows (move purpose call) [] (Timed far.time ∷ waited)
-  follows_waited =
-      follows_push (move purpose call) [] (Timed far.time ∷ far.more) (Waited (wait_of call) heard) far.follows
-      (far.next ∙ turn_begins _ n within)
+  follows_waited = grind (arith, follows_push, turn_begins)
 
   comes : (r : Comes) → move purpose call (Timed far.time ∷ waited) ≡ Ends r → Calls purpose call seen next r
   comes r over = record {
@@ -261,7 +240,7 @@ module _ {purpose : Purpose} {call : Call} {seen mid next : Account} {client : C
       (none : endings (heard_step (rules_of client) client.state heard).notes ≡ [])
       (middle_is : middle ≡ keeping client (heard_step (rules_of client) client.state heard).after) where
     hears : CarriesOn purpose call far.time (handed waited) middle
-    hears = heard_on far.more far.carried (wait_of call) heard middle none middle_is
+    hears = search (arith, heard_on)
 
     pub alone : IsAlone middle.state
     alone = carried_alone hears
@@ -282,20 +261,15 @@ module _ {purpose : Purpose} {call : Call} {seen mid next : Account} {client : C
       due_is = sends_so waited hears (Timed now) (Tick now) tt refl
 
       turned : waits_in timed ≡ suc n
-      turned =
-          let one = waits_push far.more (Waited (wait_of call) heard) in
-          let two = waits_push waited (Timed now) in
-          omega (arith, one, two, far.turns)
+      turned = grind (arith, waits_push)
 
       gains_timed : {last : Account} (rest : List Entry) → GainsAll (Timed now ∷ rest) next last
           → GainsAll (Timed far.time ∷ (timed ++ rest)) seen last
-      gains_timed {last} rest ticks =
-          subst (λ (xs : List Entry). GainsAll (Timed far.time ∷ xs) seen last) (sym (append_assoc _ _ rest))
-          (gains_both _ _ seen next last gains_waited ticks)
+      gains_timed = grind (arith, append_assoc, gains_both, gains_waited)
 
       carried_then : endings ticked.notes ≡ [] → (after : Client) → after ≡ keeping middle ticked.after
           → CarriesOn purpose call far.time (handed timed) after
-      carried_then none_then after is = on_so waited hears (Timed now) (Tick now) tt refl none_then after is
+      carried_then = search (arith, on_so, hears)
 
       next_then : endings ticked.notes ≡ []
           → move purpose call (Timed far.time ∷ timed)
@@ -349,23 +323,15 @@ module _ (purpose : Purpose) (call : Call) (time : ℕ) (short : length call.bod
       state = (submitted purpose call time short).after;
     }) where
   carried_first : CarriesOn purpose call time [] client
-  carried_first = subst (CarriesOn purpose call time []) (sym client_is) (begins purpose call time short)
+  carried_first = grind (arith, begins)
 
   next_first : move purpose call (Timed time ∷ [])
       ≡ or_sent (posts (sent client.state 0)) (turn_after (wait_of call) 0)
-  next_first =
-      behind_time _ call [] time carried_first.unended
-      ∙ ap (λ (d : List Entry). or_sent d (turn_after (wait_of call) 0))
-      (begins_sent _ call time short ∙ ap (λ (c : Client). posts (sent c.state 0)) (sym client_is))
-
-  due_first : OneOrNone (posts (sent client.state 0))
-  due_first =
-      subst OneOrNone (begins_sent _ call time short ∙ ap (λ (c : Client). posts (sent c.state 0)) (sym client_is))
-      (one_or_none (rules_for call) (begun_at purpose call time []) _ (asked purpose call))
+  next_first = grind (arith, common_steps, behind_time, begins_sent)
 
   pub begun : {seen left : Account} → GainsAll (Timed time ∷ posts (sent client.state 0)) seen left
       → Underway purpose call seen left client 0
-  begun gains = goes_on [] carried_first (refl, tt) _ next_first refl due_first gains
+  begun gains = goes_on [] carried_first (refl, tt) _ next_first refl (grind (arith, begins_sent, one_or_none)) gains
 
   pub unbegun : {seen left : Account} → GainsLost (sent client.state 0) (Timed time ∷ []) seen left
       → Calls purpose call seen left (Err SendFailed)
@@ -391,17 +357,11 @@ module _ {W : Type 0} {purpose : Purpose} {call : Call} (contents : W → Option
   -- A call that fails so tells it.
   pub fails_so : (fault : ToolFault) → fault ≢ WriteFailed → after ≡ before → Calls purpose call seen left (Err fault)
       → Tells purpose call contents before after seen left (Err fault)
-  fails_so WriteFailed other _ _ = absurd (other refl)
-  fails_so SendFailed _ unprinted failed = (unprinted, failed)
-  fails_so ReceiveFailed _ unprinted failed = (unprinted, failed)
-  fails_so TurnsSpent _ unprinted failed = (unprinted, failed)
+  fails_so = grind arith
 
   -- What is shown of an end is what the call tells.
   pub shown_so : (ending : Option Outcome) (result : Result Exit ToolFault)
       → TookOrFailed contents before after (ending_line purpose ending) result →
       IfOk result (λ exit. exit ≡ exit_of purpose ending) → IfErr result (λ fault. fault ≡ WriteFailed) →
       Calls purpose call seen left (Ok ending) → Tells purpose call contents before after seen left result
-  shown_so ending (Ok exit) puts good _ ends = (ending, good, puts, ends)
-  shown_so ending (Err fault) puts _ bad ends =
-      subst (λ (fault : ToolFault). Tells purpose call contents before after seen left (Err fault)) (sym bad)
-      (ending, puts, ends)
+  shown_so = grind arith

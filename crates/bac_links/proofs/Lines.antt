@@ -16,6 +16,5 @@ pub line_of : {W : Type 0} (purpose : Purpose) (call : Call) (contents : W → O
     → Tells purpose call contents before after seen left answer → status_of answer < 3
     → (ending : Option Outcome) × (status_of answer ≡ status_of (Ok (exit_of purpose ending)))
     × Took contents before after (ending_line purpose ending)
-line_of purpose call contents before after seen left (Ok exit) told below =
-    (told.0, ap (λ (e : Exit). status_of (Ok e)) told.1, told.2)
-line_of purpose call contents before after seen left (Err fault) told below = absurd (omega (arith, below))
+line_of _ _ _ _ _ _ _ (Ok exit) told _ = (told.0, ap (λ (e : Exit). status_of (Ok e)) told.1, told.2)
+line_of _ _ _ _ _ _ _ (Err fault) told below = absurd (omega (arith, below))

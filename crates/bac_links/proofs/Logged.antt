@@ -1,22 +1,26 @@
 -- A link over a socket: one entry more, and the calls for it.
-use Rattle.std.proofs.Common.{◌≡◌, ℕ, List, [], ◌∷◌, ◌++◌, append_assoc, refl, sym, ap, ◌∙◌, subst, Bool, false}
-use Rattle.std.proofs.Common.{Result, Ok, Err, OnOk, is_ok, is_err, max}
-use Rattle.std.proofs.lemmas.List.{append-nil}
+use Rattle.std.proofs.{
+  Common.{◌≡◌, ℕ, List, [], ◌∷◌, ◌++◌, append_assoc, refl, sym, ap, ◌∙◌, subst, Bool, false, Result, Ok, Err, OnOk},
+  Common.{is_ok, is_err, max},
+  lemmas.List.append-nil,
+}
 use Rattle.bac_pdu.specs.Peer.{Station}
-use Rattle.bac_links.specs.SystemCall.{SystemCall}
-use Rattle.bac_links.specs.History.{Heard, Entry, Waited, Timed, Posted, Unposted, posted}
-use Rattle.bac_links.specs.Socket.{Logs, Sends, Times, Waits, CallsFor, AreCallsFor, waits_behind, time_behind}
-use Rattle.bac_links.specs.Keeps.{waits_behind_all, time_behind_all, Keeps}
-use Rattle.bac_links.specs.declared.udp.Refused.{Refused}
+use Rattle.bac_links.specs.{
+  SystemCall.SystemCall,
+  History.{Heard, Entry, Waited, Timed, Posted, Unposted, posted},
+  Socket.{Logs, Sends, Times, Waits, CallsFor, AreCallsFor, waits_behind, time_behind},
+  Keeps.{waits_behind_all, time_behind_all, Keeps},
+  declared.udp.Refused.Refused,
+}
 
 waits_more : (waits : ℕ) (xs : List Entry) (x : Entry)
     → waits_behind_all waits (xs ++ x ∷ []) ≡ waits_behind (waits_behind_all waits xs) x
-waits_more waits [] x = refl
+waits_more _ [] x = refl
 waits_more waits (y ∷ xs) x = waits_more (waits_behind waits y) xs x
 
 time_more : (time : ℕ) (xs : List Entry) (x : Entry)
     → time_behind_all time (xs ++ x ∷ []) ≡ time_behind (time_behind_all time xs) x
-time_more time [] x = refl
+time_more _ [] x = refl
 time_more time (y ∷ xs) x = time_more (time_behind time y) xs x
 
 module _ (refused : Refused) where
@@ -24,19 +28,15 @@ module _ (refused : Refused) where
       → AreCallsFor refused waits time xs calls
       → CallsFor refused (waits_behind_all waits xs) (time_behind_all time xs) x more
       → AreCallsFor refused waits time (xs ++ x ∷ []) (calls ++ more)
-  calls_more waits time [] x calls more none last =
+  calls_more _ _ [] x _ more none last =
       (more, [], ap (λ (before : List SystemCall). before ++ more) none ∙ sym (append-nil more), last, refl)
-  calls_more waits time (y ∷ xs) x calls more (first, rest, split, is, others) last = (
+  calls_more waits time (y ∷ xs) x _ more (first, rest, split, is, others) last = (
     first,
     rest ++ more,
     ap (λ (before : List SystemCall). before ++ more) split ∙ append_assoc first rest more,
     is,
     calls_more (waits_behind waits y) (time_behind time y) xs x rest more others last,
   )
-
-  pub keeps_none : (before log : List SystemCall) → log ≡ before → Keeps refused before log [] 0 0 false
-  keeps_none before log same =
-      record { logged = ([], same ∙ sym (append-nil before), refl); limited = λ sound. refl; timed = refl }
 
   module _ (before log : List SystemCall) (xs : List Entry) (waits time : ℕ) (failed : Bool)
       (keeps : Keeps refused before log xs waits time failed) where
@@ -50,7 +50,7 @@ module _ (refused : Refused) where
         → Logs (CallsFor refused waits_now time_now x) log log'
         → (failed' ≡ false → waits' ≡ waits_behind waits_now x) → time' ≡ time_behind time_now x
         → Keeps refused before log' (xs ++ x ∷ []) waits' time' failed'
-    keeps_more x log' waits' time' failed' asked sets passes =
+    keeps_more x _ _ _ _ asked sets passes =
         let now = keeps.logged in
         record {
           logged = (

@@ -1,7 +1,7 @@
 -- A link in memory goes on as its scenes say.
 use Rattle.std.proofs.{
   Common.{◌≡◌, ℕ, zero, suc, ◌+◌, ◌-◌, ◌^◌, ◌<◌, ◌≤◌, min, List, [], ◌∷◌, ◌++◌, append_assoc, length, slice_get},
-  Common.{Option, Some, None, Result, Ok, Err, OnOk, OnErr, refl, sym, ap, ◌∙◌, subst, arith},
+  Common.{Option, Some, None, Result, Ok, Err, OnOk, OnErr, refl, sym, ap, ◌∙◌, arith},
   Math.{Logic.∥∥₁_elim, Seq.drop-nil},
   lemmas.{List.append-nil, Option.{none-some, slice_get_within}},
 }
@@ -56,14 +56,7 @@ module _ (scenes : List Scene) (xs : List Entry) (next time : ℕ) (sent : List 
   goes_on : (x : Entry) (next' time' : ℕ) (sent' : List Sending) → IsPlayed here x
       → behind here x ≡ record { scenes = drop next' scenes; time = time' } → sent' ≡ sent ++ sending_in time x
       → Stands scenes (xs ++ x ∷ []) next' time' sent'
-  goes_on x _ _ _ played there adds = record {
-    played = played_more (at_first scenes) xs x stands.played
-        (subst (λ (stage : Stage). IsPlayed stage x) (sym stands.stage) played);
-    stage = behind_more _ xs x ∙ ap (λ (stage : Stage). behind stage x) stands.stage ∙ there;
-    sendings =
-        adds ∙ ap (λ (before : List Sending). before ++ sending_in time x) stands.sendings ∙ sym (sendings_more _ xs x
-        ∙ ap (λ (stage : Stage). sendings (at_first scenes) xs ++ sending_in stage.time x) stands.stage);
-  }
+  goes_on = grind (arith, played_more, behind_more, sendings_more)
 
   pub stands_timed : Stands scenes (xs ++ Timed time ∷ []) next time sent
   stands_timed = goes_on (Timed time) next time sent refl refl (sym (append-nil sent))
@@ -118,9 +111,7 @@ to_heard (Some None) = Failure
 to_heard (Some (Some it)) = Arrival it.0 it.1
 
 back_to_heard : (heard : Heard) → to_heard (from_heard heard) ≡ heard
-back_to_heard Silence = refl
-back_to_heard Failure = refl
-back_to_heard (Arrival from octets) = refl
+back_to_heard = grind arith
 
 coded_heard : Coded Heard
 coded_heard = code_by (Option (Option (Station × List ℕ)))

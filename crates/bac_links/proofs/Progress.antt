@@ -1,21 +1,21 @@
 -- A call whose waits are prompt ends in time.
 use Rattle.std.proofs.{
+  lemmas.{Grind.common_steps, List.{take_all, take-append-le, append-nil}, Bool.cases_lt},
   Common.{◌≡◌, ℕ, suc, ◌+◌, ◌*◌, ◌<◌, ◌≤◌, max, List, [], ◌∷◌, ◌++◌, length, Option, Some, None, Result, subst, arith},
   Common.{ap, sym, ◌∙◌, inl, inr, refl},
-  lemmas.{List.{take_all, take-append-le, append-nil}, Bool.cases_lt},
 }
 use Rattle.std.specs.List.{last_or}
 use Rattle.bac_pdu.specs.Peer.{Station}
 use Rattle.bac_tsm.{
-  specs.{Positions.greatest_tick, Events.{Event, Tick}, Lookahead.{End, clock}},
+  specs.{Positions.greatest_tick, Events.{Event, Tick}, Lookahead.clock},
   proofs.Progress.{clock_rises, open_soon, never_due},
 }
 use Rattle.bac_print.specs.declared.checked.Checked.{Checked}
 use Rattle.bac_links.specs.{
   History.{Heard, Silence, Arrival, Failure, Entry, Waited, Timed, Posted, Unposted, Account},
-  Asking.{Move, Asks, Question, ForDatagram, ForTime, question_of, Follows, waits_in},
+  Asking.{Asks, Question, ForDatagram, ForTime, question_of, Follows, waits_in},
   Handed.handed_of,
-  Call.{rules_for, asked, end_in, events_of, Comes, or_ended, move_behind, move, Tells},
+  Call.{rules_for, asked, end_in, events_of, move_behind, move, Tells},
   Progress.{AreTold, ArePrompt},
   declared.{ending.Purpose.Purpose, ending.Exit.Exit, fault.ToolFault.ToolFault},
 }
@@ -55,10 +55,6 @@ greatest_tick-append (_ ∷ first) next = greatest_tick-append first next
 
 -- ---- a send and a wait are asked for while the request is open
 
-open_still : (x : Option End) (other : Move Comes) (question : Question) → or_ended x other ≡ Asks question → x ≡ None
-open_still None _ _ e = refl
-open_still (Some x) _ _ e = cc
-
 -- Behind these entries the time was told since the last wait.
 abbrev IsTimely : Entry → Type 0
 IsTimely (Timed time) = Unit {0}
@@ -69,20 +65,11 @@ module _ (purpose : Purpose) (call : Call) where
   abbrev IsOpen : List Entry → Type 0
   IsOpen gained = end_in purpose call (events_of purpose call gained) ≡ None
 
-  for_time : (x : Option End) (question : Question) → or_ended x (Asks ForTime) ≡ Asks question → question ≡ ForTime
-  for_time None _ e = cc
-  for_time (Some x) _ e = cc
-
   -- What is asked but the time is asked once the time was told, of a call whose request is open.
   ready : (gained : List Entry) (last : Entry) (question : Question) → (question ≡ ForTime → ⊥)
       → ((to : Station) (octets : List ℕ) → last ≡ Posted to octets → IsOpen gained)
       → move_behind purpose call gained (Some last) ≡ Asks question → IsTimely last × IsOpen gained
-  ready _ (Timed time) _ _ _ e = (tt, open_still _ _ _ e)
-  ready _ (Posted to octets) _ _ sent e = (tt, sent to _ refl)
-  ready _ (Unposted to octets) _ other sent e = cc
-  ready _ (Waited wait Failure) _ other sent e = cc
-  ready _ (Waited wait Silence) _ other _ e = absurd (other (for_time _ _ e))
-  ready _ (Waited wait (Arrival from octets)) _ other _ e = absurd (other (for_time _ _ e))
+  ready = grind arith
 
   -- ---- one entry after another
 
@@ -102,7 +89,7 @@ module _ (purpose : Purpose) (call : Call) where
       reached : now ≤ greatest_tick all
 
     events_push : (before : List Entry) (x : Entry) → events before ++ handed_of x ≡ events (before ++ x ∷ [])
-    events_push before x = ap (λ later. events [] ++ later) (sym (handed_push before x))
+    events_push = grind (arith, handed_push)
 
     further : (before : List Entry) (x : Entry) (now next : ℕ) → IsSteady (events before) now
         → greatest_tick (handed_of x) ≤ now + longest → next ≤ max now (greatest_tick (handed_of x))
@@ -140,19 +127,7 @@ module _ (purpose : Purpose) (call : Call) where
     at_send : (before : List Entry) (last x : Entry) (n now : ℕ) → IsAt before last n now → handed_of x ≡ []
         → (question_of x ≡ ForTime → ⊥) → move purpose call (Timed first ∷ before) ≡ Asks (question_of x)
         → IsAt (before ++ x ∷ []) x n now
-    at_send before last x n now is none other asks =
-        let asked = ready (Timed first ∷ before) last (question_of x) other is.sent
-        (ap (move_behind purpose call (Timed first ∷ before)) (sym is.came_last) ∙ asks) in
-        let same : events before ≡ events (before ++ x ∷ []) =
-        sym (append-nil _) ∙ ap (λ (es : List Event). events before ++ es) (sym none) ∙ events_push before x in
-        record {
-          came_last = last_push _ before x;
-          steady = subst (λ (all : List Event). IsSteady all now) same is.steady;
-          near = is.near;
-          within = is.within;
-          told = λ timely. is.told asked.0;
-          sent = λ to octets e. subst (λ (all : List Event). end_in purpose call all ≡ None) same asked.1;
-        }
+    at_send = grind (arith, common_steps, ready, append-nil, events_push, last_push)
 
     at_wait : (before : List Entry) (last : Entry) (wait : ℕ) (heard : Heard) (n now : ℕ) → IsAt before last n now
         → move purpose call (Timed first ∷ before) ≡ Asks (ForDatagram wait)
@@ -212,20 +187,7 @@ module _ (purpose : Purpose) (call : Call) where
         (at_send before last (Unposted to octets) n now is refl (λ e. cc) goes.0) goes.1 told prompt
 
     begun : first ≡ time_behind 0 → IsAt [] (Timed first) 0 first
-    begun e = record {
-      came_last = refl;
-      steady = record {
-        steady = λ j lt.
-            let here = all_by (events []) j (omega arith) in
-            let next = all_by (events []) (suc j) (omega arith) in
-            omega (arith, here, next);
-        reached = omega arith;
-      };
-      near = omega (arith, e);
-      within = omega (arith, e);
-      told = λ timely. omega (arith, e);
-      sent = λ to octets e. cc;
-    }
+    begun = grind (arith, all_by)
 
   in_time : (time_behind : ℕ → ℕ) (longest : ℕ) (gained : List Entry) → Follows (move purpose call) [] gained
       → AreTold time_behind 0 gained → ArePrompt time_behind longest (waits_in gained)

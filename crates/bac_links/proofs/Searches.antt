@@ -1,13 +1,14 @@
 -- A search, turn by turn.
 use Rattle.std.proofs.{
-  Common.{◌≡◌, ◌≢◌, ℕ, suc, ◌-◌, ◌<◌, ◌≤◌, max, List, [], ◌∷◌, ◌++◌, Option, Some, None, Ok, Err, Bool, false, ◌||◌},
+  lemmas.{Grind.common_steps, List.append-nil, Bool.{le-leb, lt-leb}, Bool.Decides.nat_tests},
+  lemmas.List.Concat.flat_map-append,
+  Common.{◌≡◌, ◌≢◌, ℕ, suc, ◌-◌, ◌<◌, ◌≤◌, max, List, [], ◌∷◌, ◌++◌, Option, Some, Ok, Err, Bool, false, ◌||◌},
   Common.{if◌then◌else◌, refl, sym, ap, ◌∙◌, arith, subst},
-  lemmas.{List.append-nil, Bool.{le-leb, lt-leb}, Bool.Decides.nat_tests, List.Concat.flat_map-append},
 }
 use Rattle.bac_print.{specs.{declared.checked.Checked.Checked, Checked.Took}, proofs.Known.{Took-none, Took-more}}
 use Rattle.bac_links.specs.{
   Limits.most_turns,
-  History.{Heard, Silence, Arrival, Failure, Entry, Waited, Timed, Posted, Unposted, Account, GainsAll, Gains},
+  History.{Heard, Failure, Entry, Waited, Timed, Posted, Unposted, Account, GainsAll, Gains},
   Asking.{Asks, Ends, ForTime, Follows, waits_in, times_in, turn_after},
   Search.{Found, found_by, found_line, greatest_of, passed_in, who_is_to, found_of_entry, found_in, behind_time},
   Search.{search_behind, search_move, Searched},
@@ -51,18 +52,15 @@ greatest-push greatest (x ∷ times) time = greatest-push (max greatest x) times
 
 found-push : (search : Search) (more : List Entry) (x : Entry)
     → found_in search (more ++ x ∷ []) ≡ found_in search more ++ found_of_entry search x
-found-push search more x =
-    flat_map-append _ more _ ∙ ap (λ (fs : List Found). found_in search more ++ fs) (append-nil _)
+found-push = grind (arith, flat_map-append, append-nil)
 
 behind : (search : Search) (gained : List Entry) (x : Entry)
     → search_move search (gained ++ x ∷ []) ≡ search_behind search (gained ++ x ∷ []) (Some x)
-behind search gained x = ap (search_behind search (gained ++ x ∷ [])) (last_push None gained x)
+behind = grind (arith, last_push)
 
 pub behind_wait : (search : Search) (gained : List Entry) (wait : ℕ) (heard : Heard) → heard ≢ Failure
     → search_move search (gained ++ Waited wait heard ∷ []) ≡ Asks ForTime
-behind_wait search gained wait Silence received = behind search gained (Waited wait Silence)
-behind_wait search gained wait (Arrival from octets) received = behind search gained (Waited wait (Arrival from octets))
-behind_wait _ _ _ Failure received = absurd (received refl)
+behind_wait = grind (arith, behind)
 
 -- ---- a turn
 
@@ -78,9 +76,7 @@ module _ {W : Type 0} {search : Search} {contents : W → Option (List ℕ)} {be
     gains_waited = gains_both _ _ seen mid left goes.gains hears
 
     follows_waited : Follows (search_move search) [] (searched search first waited)
-    follows_waited =
-        follows_push (search_move search) [] (searched search first goes.more) (Waited (search_wait search) heard)
-        goes.follows (goes.next ∙ turn_begins _ n within)
+    follows_waited = grind (arith, follows_push, turn_begins)
 
   -- A wait that goes well, and the time after it.
   module _ {after : Checked W} {left : Account} {some : Bool}
@@ -106,22 +102,13 @@ module _ {W : Type 0} {search : Search} {contents : W → Option (List ℕ)} {be
         (Took-more goes.printed listens.4)
 
     any_next : (any || some) ≡ has_found (found_in search timed)
-    any_next =
-        ap (λ (b : Bool). b || some) goes.any_is
-        ∙ ap (λ (b : Bool). has_found (found_in search goes.more) || b) listens.3
-        ∙ sym (ap has_found found_next ∙ has_found-append (found_in search goes.more) (found_by search.who heard))
+    any_next = grind (arith, found_next, has_found-append)
 
     time_next : max greatest now ≡ greatest_of first (times_in timed)
-    time_next =
-        ap (λ (k : ℕ). max k now) goes.time ∙ sym (greatest-push first (times_in goes.more) now)
-        ∙ ap (greatest_of first) (sym (times_push (waited heard listens.1) _ ∙ ap (λ (ts : List ℕ). ts ++ now ∷ [])
-        (times_push goes.more _ ∙ append-nil _)))
+    time_next = grind (arith, greatest-push, times_push, append-nil)
 
     turned : waits_in timed ≡ suc n
-    turned =
-        let one = waits_push goes.more (Waited (search_wait search) heard) in
-        let two = waits_push (waited heard listens.1) (Timed now) in
-        omega (arith, one, two, goes.turns)
+    turned = grind (arith, waits_push)
 
     gains_timed : GainsAll all seen last
     gains_timed = gains_both _ _ seen left last (gains_waited heard listens.1) asks
@@ -201,16 +188,7 @@ pub begun : {W : Type 0} (search : Search) {contents : W → Option (List ℕ)} 
     {seen mid link : Account} (first : ℕ) → Gains (Timed first) seen mid →
     Gains (Posted (station search.to) (who_is_to search)) mid link
     → SearchGoes search contents before before seen link first first false 0
-begun _ {before} {seen} {mid} {link} _ asks sends = record {
-  more = [];
-  gains = gains_both _ _ seen mid link asks sends;
-  follows = (refl, (refl, tt));
-  next = refl;
-  turns = refl;
-  time = refl;
-  any_is = refl;
-  printed = Took-none _;
-}
+begun = grind (arith, common_steps, gains_both)
 
 -- Or with one that could not be sent.
 pub unbegun : {W : Type 0} (search : Search) {contents : W → Option (List ℕ)} {before : Checked W}

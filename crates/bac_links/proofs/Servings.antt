@@ -1,7 +1,7 @@
 -- A device that serves, wait by wait.
 use Rattle.std.proofs.{
   Common.{◌≡◌, ◌≢◌, ℕ, suc, ◌+◌, ◌<◌, List, [], ◌∷◌, ◌++◌, length, length-append, Option, Some, None, Result, Ok, Err},
-  Common.{refl, sym, ap, ◌∙◌, arith, append_assoc, subst},
+  Common.{refl, ap, ◌∙◌, arith, append_assoc},
   lemmas.{List.append-nil, List.Concat.flat_map-append, Bool.{le-leb, lt-leb}},
 }
 use Rattle.std.specs.List.{last_or}
@@ -10,7 +10,7 @@ use Rattle.bac_device.specs.{Device.DeviceState, Turns.Arrival as Came, Reply.re
 use Rattle.bac_links.specs.{
   Limits.{most_turns, serve_wait},
   History.{Heard, Silence, Arrival, Failure, Entry, Waited, Posted, Unposted, Account, GainsAll},
-  Asking.{Asks, Ends, ToSend, question_of, Follows, waits_in, turn_after},
+  Asking.{Ends, ToSend, question_of, Follows, waits_in, turn_after},
   Serve.{came_by, came_of_entry, arrivals_in, device_next, device_behind, replies_of, reply_count, or_reply},
   Serve.{serve_next, serve_behind, serve_move, Serves},
   Inner.ServeSteps.{came_in, replied_in, sends_of, LeavesDevice, ServesOne},
@@ -31,9 +31,7 @@ AtMostOne (r ∷ []) = Unit {0}
 AtMostOne (r ∷ s ∷ rs) = ⊥
 
 one_at_most : (device : DeviceState) (heard : Heard) → AtMostOne (replies_of device (came_by heard))
-one_at_most _ (Arrival from octets) = tt
-one_at_most _ Silence = tt
-one_at_most _ Failure = tt
+one_at_most = grind arith
 
 -- ---- datagrams one after another
 
@@ -50,22 +48,20 @@ replies-append device (x ∷ xs) ys =
 
 arrivals-push : (gained : List Entry) (x : Entry)
     → arrivals_in (gained ++ x ∷ []) ≡ arrivals_in gained ++ came_of_entry x
-arrivals-push gained x = flat_map-append _ gained _ ∙ ap (λ (cs : List Came). arrivals_in gained ++ cs) (append-nil _)
+arrivals-push = grind (arith, flat_map-append, append-nil)
 
 -- ---- the next move
 
 module _ (count : ℕ) (before : DeviceState) where
   behind : (gained : List Entry) (x : Entry)
       → serve_move count before (gained ++ x ∷ []) ≡ serve_behind count before (gained ++ x ∷ []) (Some x)
-  behind gained x = ap (serve_behind count _ (gained ++ x ∷ [])) (last_push None gained x)
+  behind = grind (arith, last_push)
 
   -- The replies after one wait more.
   replies-push : (gained : List Entry) (device : DeviceState) → device ≡ device_behind before (arrivals_in gained)
       → (x : Entry) → replies_of before (arrivals_in (gained ++ x ∷ []))
       ≡ replies_of before (arrivals_in gained) ++ replies_of device (came_of_entry x)
-  replies-push gained _ is x =
-      ap (replies_of _) (arrivals-push gained x) ∙ replies-append before (arrivals_in gained) (came_of_entry x)
-      ∙ ap (λ (d : DeviceState). replies_of before (arrivals_in gained) ++ replies_of d (came_of_entry x)) (sym is)
+  replies-push = grind (arith, arrivals-push, replies-append)
 
   behind_wait : (gained : List Entry) (device : DeviceState) → device ≡ device_behind before (arrivals_in gained)
       → (heard : Heard) → heard ≢ Failure → (rs : List Reply) → replies_of device (came_by heard) ≡ rs →
@@ -94,16 +90,7 @@ pub record ServeGoes (before device : DeviceState) (seen link : Account) (count 
   pub replied_is : replied ≡ reply_count (replies_of before (arrivals_in gained))
 
 pub serves_none : {device : DeviceState} {seen : Account} {count : ℕ} → ServeGoes device device seen seen count 0 0 0
-serves_none {seen} = record {
-  gained = [];
-  gains = gains_none seen;
-  follows = tt;
-  next = refl;
-  turns = refl;
-  device_is = refl;
-  came_is = refl;
-  replied_is = refl;
-}
+serves_none = grind (arith, gains_none)
 
 module _ {before device : DeviceState} {seen mid : Account} {count came replied n : ℕ}
     (goes : ServeGoes before device seen mid count came replied n) where
@@ -122,13 +109,10 @@ module _ {before device : DeviceState} {seen mid : Account} {count came replied 
       ∙ rw (le-leb count (length (arrivals_in goes.gained)) (omega (arith, all, goes.came_is)), ← goes.replied_is) refl)
 
   turn_so : came < count → serve_move count before goes.gained ≡ turn_after serve_wait n
-  turn_so fewer =
-      goes.next
-      ∙ rw (lt-leb count (length (arrivals_in goes.gained)) (omega (arith, fewer, goes.came_is)), goes.turns) refl
+  turn_so = grind (arith, lt-leb)
 
   pub serve_spent : n ≡ most_turns → came < count → Serves count before device seen mid (Err TurnsSpent)
-  serve_spent all fewer =
-      served (Err TurnsSpent) (turn_so fewer ∙ turns_over serve_wait n (omega (arith, all)))
+  serve_spent = grind (arith, served, turn_so, turns_over)
 
   -- One wait more.
   module _ (heard : Heard) where
@@ -137,9 +121,7 @@ module _ {before device : DeviceState} {seen mid : Account} {count came replied 
 
     gains_waited : {left : Account} (rest : List Entry) → GainsAll (Waited serve_wait heard ∷ rest) mid left
         → GainsAll (waited ++ rest) seen left
-    gains_waited {left} rest more =
-        subst (λ (xs : List Entry). GainsAll xs seen left) (sym (append_assoc _ _ rest))
-        (gains_both _ _ seen mid left goes.gains more)
+    gains_waited = grind (arith, append_assoc, gains_both)
 
     gains_one : {left : Account} → GainsAll (Waited serve_wait heard ∷ []) mid left → GainsAll waited seen left
     gains_one more = gains_both _ _ seen mid _ goes.gains more
@@ -150,48 +132,26 @@ module _ {before device : DeviceState} {seen mid : Account} {count came replied 
       waits : waits_in gained ≡ suc n
 
     behind_waited : IsBehind waited
-    behind_waited = record {
-      brought = arrivals-push goes.gained _;
-      waits = let one = waits_push goes.gained (Waited serve_wait heard) in omega (arith, one, goes.turns);
-    }
+    behind_waited = grind (arith, arrivals-push, waits_push)
 
     behind_sent : (x : Entry) → came_of_entry x ≡ [] → waits_in (x ∷ []) ≡ 0 → IsBehind (waited ++ x ∷ [])
-    behind_sent x none still = record {
-      brought = arrivals-push waited x ∙ ap (λ (cs : List Came). arrivals_in waited ++ cs) none
-          ∙ append-nil _ ∙ behind_waited.brought;
-      waits = let one = waits_push waited x in let two = behind_waited.waits in omega (arith, one, two, still);
-    }
+    behind_sent = grind (arith, arrivals-push, append-nil, waits_push)
 
     module _ {after : DeviceState} (leaves : LeavesDevice device heard after) (gained : List Entry)
         (is : IsBehind gained) where
       replies_are : replies_of before (arrivals_in gained)
           ≡ replies_of before (arrivals_in goes.gained) ++ replies_of device (came_by heard)
-      replies_are =
-          ap (replies_of before) is.brought ∙ replies-append before (arrivals_in goes.gained) (came_by heard)
-          ∙ ap (λ (d : DeviceState). replies_of before (arrivals_in goes.gained) ++ replies_of d (came_by heard))
-          (sym goes.device_is)
+      replies_are = grind (arith, replies-append)
 
       device_is : after ≡ device_behind before (arrivals_in gained)
-      device_is =
-          leaves ∙ ap (λ (d : DeviceState). device_behind d (came_by heard)) goes.device_is
-          ∙ sym (behind-append before (arrivals_in goes.gained) (came_by heard))
-          ∙ ap (device_behind before) (sym is.brought)
+      device_is = grind (arith, behind-append)
 
       on_with : {left : Account} (brings : Brought) → came_in brings ≡ length (came_by heard)
           → replied_in brings ≡ reply_count (replies_of device (came_by heard)) → GainsAll gained seen left
           → Follows (serve_move count before) [] gained
           → serve_move count before gained ≡ serve_next count before gained
           → ServeGoes before after seen left count (came + came_in brings) (replied + replied_in brings) (suc n)
-      on_with _ came_so replied_so gains follows next = record {
-        gained = gained;
-        gains = gains;
-        follows = follows;
-        next = next;
-        turns = is.waits;
-        device_is = device_is;
-        came_is = rw (is.brought, goes.came_is, came_so) (sym (length-append _ _));
-        replied_is = rw (replies_are, goes.replied_is, replied_so) (sym (simp (flat_map-append, length-append)));
-      }
+      on_with = grind (arith, device_is, length-append, replies_are, flat_map-append)
 
       fails_with : {left : Account} (result : Result ℕ ToolFault) → GainsAll gained seen left
           → Follows (serve_move count before) [] gained → serve_move count before gained ≡ Ends result
@@ -203,23 +163,16 @@ module _ {before device : DeviceState} {seen mid : Account} {count came replied 
 
     module _ (within : n < most_turns) (fewer : came < count) where
       follows_waited : Follows (serve_move count before) [] waited
-      follows_waited =
-          follows_push (serve_move count before) [] goes.gained (Waited serve_wait heard) goes.follows
-          (turn_so fewer ∙ turn_begins serve_wait n within)
+      follows_waited = grind (arith, follows_push, turn_so, turn_begins)
 
       follows_sent : heard ≢ Failure → (x : Entry) (reply : Station × List ℕ)
           → replies_of device (came_by heard) ≡ Some reply ∷ [] → ToSend reply.0 reply.1 ≡ question_of x
           → Follows (serve_move count before) [] (waited ++ x ∷ [])
-      follows_sent received x _ e asks =
-          follows_push _ [] _ x follows_waited (behind_wait count _ goes.gained _ goes.device_is heard received _ e
-          ∙ ap (λ q. Asks q) asks)
+      follows_sent = grind (arith, follows_push, follows_waited, behind_wait)
 
     next_silent : heard ≢ Failure → (rs : List Reply) → replies_of device (came_by heard) ≡ rs → AtMostOne rs
         → sends_of rs ≡ [] → serve_move count before waited ≡ serve_next count before waited
-    next_silent received [] e _ none = behind_wait count _ goes.gained _ goes.device_is heard received [] e
-    next_silent received (None ∷ []) e _ none = behind_wait count _ goes.gained _ goes.device_is heard received _ e
-    next_silent received (Some reply ∷ []) e few none = cc
-    next_silent _ (r ∷ s ∷ rs) e few none = absurd few
+    next_silent = grind (arith, behind_wait)
 
   module _ {after : DeviceState} {left : Account} (within : n < most_turns) (fewer : came < count) where
     pub serve_on : (brings : Brought) → ServesOne device after mid left (Ok brings) →
