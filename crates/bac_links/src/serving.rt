@@ -29,10 +29,11 @@ pub fn serve<L: Link>(link: &mut L, device: &mut Device, count: u32) -> Result<u
         return Ok(0);
     }
     let mut datagram = Datagram::new();
+    let mut frame = Frame::new();
     let mut came = 0;
     let mut replied = 0;
     for _turn in 0..most_turns() {
-        let brought = serve_turn(link, device, &mut datagram)?;
+        let brought = serve_turn(link, device, &mut datagram, &mut frame)?;
         came += brought.came();
         replied += brought.replied();
         if came == count {
@@ -47,6 +48,7 @@ fn serve_turn<L: Link>(
     link: &mut L,
     device: &mut Device,
     datagram: &mut Datagram,
+    frame: &mut Frame,
 ) -> Result<Brought, ToolFault>
     requires { L.has_failed link.old ≡ false }
     ensures fault { L.has_failed link.new ≡ is_link_fault result }
@@ -57,8 +59,7 @@ fn serve_turn<L: Link>(
         Ok(None) => return Ok(Brought::Nothing),
         Err(_) => return Err(ToolFault::ReceiveFailed),
     };
-    let mut frame = Frame::new();
-    let Some(to) = device.answer(from, datagram.as_slice(), &mut frame) else {
+    let Some(to) = device.answer(from, datagram.as_slice(), frame) else {
         return Ok(Brought::Ignored);
     };
     match link.send(to, frame.as_slice()) {
