@@ -76,9 +76,9 @@ negative k n x e high fits = grind (arith, le-ltb, ints)
 
 signed_back : (k n : ℕ) → 1 ≤ k → k ≤ 8 → 2 * n < 256 ^ k → (twos_complement k (low_bytes w64 k (pos n)) ≡ pos n)
     × (twos_complement k (low_bytes w64 k (negsuc n)) ≡ negsuc n)
-signed_back (suc (suc (suc (suc (suc (suc (suc (suc zero)))))))) n low high fits = grind
-    (arith, not_negative, negative, negsuc, ints)
-signed_back k n low high fits = grind (arith, not_negative, negative, negsuc, ints)
+signed_back (suc (suc (suc (suc (suc (suc (suc (suc zero)))))))) n low high fits =
+    grind (arith, not_negative, negative, ints)
+signed_back k n low high fits = grind (arith, not_negative, negative, ints)
 
 low_bytes_fit : (k : ℕ) (z : ℤ) → 1 ≤ k → k ≤ 8 → low_bytes w64 k z < 256 ^ k
 low_bytes_fit (suc (suc (suc (suc (suc (suc (suc (suc zero)))))))) z low high = omega arith

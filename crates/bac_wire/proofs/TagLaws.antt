@@ -185,8 +185,7 @@ tag_least _ tag fit s =
       shape,
       ap length s.whole,
       length-append s.number_octets s.length_octets,
-      length-append
-          (plain_number tag.number) (plain_length (count_of tag.shape)),
+      length-append (plain_number tag.number) (plain_length (count_of tag.shape)),
     )
 
 pub plain_tag_shortest : (tag : Tag) → IsTag tag → IsShortest SpellsTag (plain_tag tag) tag
