@@ -1,17 +1,14 @@
 -- The places of a point after writes, and after one more.
 use Rattle.std.{
-  proofs.Common.{◌≡◌, ℕ, zero, suc, ◌-◌, ◌<◌, ◌≤◌, ◌==◌, ◌&&◌, Bool, true, false, if◌then◌else◌, List, [], ◌∷◌, ◌++◌},
-  proofs.{Common.{map, filter, slice_set, Option, Some, None, refl, sym, ap, ◌∙◌, arith}, lemmas.Grind.common_steps},
-  specs.{List.last_or, Option.option_and_then},
+  proofs.Common.{◌≡◌, ℕ, zero, suc, ◌-◌, ◌<◌, ◌≤◌, ◌==◌, if◌then◌else◌, List, [], ◌∷◌, ◌++◌, map, filter, slice_set},
+  proofs.{Common.{Option, Some, refl, arith}, lemmas.Grind.common_steps},
+  specs.List.last_or,
 }
 use Rattle.bac_wire.specs.Identifier.{Identifier}
-use Rattle.bac_device.specs.{
-  Point.{Description, same_object},
-  Places.{Write, NoneTo, is_to, place, priorities, standing_after, with_place, put},
-}
+use Rattle.bac_device.specs.{Point.Description, Places.{Write, NoneTo, is_to, place, priorities, standing_after, put}}
 
 pub map_same : {A B : Type 0} (f g : A → B) → ((x : A) → f x ≡ g x) → (xs : List A) → map f xs ≡ map g xs
-map_same f g same [] = refl
+map_same f g _ [] = refl
 map_same f g same (x ∷ xs) = let head = same x in let rest = map_same f g same xs in cc
 
 -- ---- the sixteen places
@@ -23,7 +20,7 @@ Each P (suc count) = P 0 × Each (λ n. P (suc n)) count
 
 at_each : (P : ℕ → Type 0) (count n : ℕ) → Each P count → n < count → P n
 at_each P zero n all below = absurd (omega arith)
-at_each P (suc count) zero all below = all.0
+at_each P (suc count) zero all _ = all.0
 at_each P (suc count) (suc n) all below = at_each (λ n. P (suc n)) count n all.1 (omega arith)
 
 -- ---- one more write
@@ -37,12 +34,11 @@ pub place_more : (writes : List Write) (write : Write) (object : Identifier) (pr
     → place (writes ++ write ∷ []) object priority
     ≡ (if is_to object priority write then write.value else place writes object priority)
 unfolding place
-place_more writes write object priority =
-    grind (arith, common_steps, last_more None (filter (is_to object priority) writes) write)
+place_more _ _ _ _ = grind (arith, common_steps, last_more)
 
 set_place : (f : ℕ → Option ℕ) (priority : ℕ) (value : Option ℕ) → 1 ≤ priority → priority ≤ 16
     → slice_set (map f priorities) (priority - 1) value ≡ map (λ q. if q == priority then value else f q) priorities
-set_place f zero value most least = absurd (omega arith)
+set_place f zero _ most least = absurd (omega arith)
 set_place f (suc i) value most least =
     at_each (λ n. slice_set (map f priorities) (suc n - 1) value
     ≡ map (λ q. if q == suc n then value else f q) priorities) 16 i (
@@ -60,23 +56,7 @@ set_place f (suc i) value most least =
 pub put_after : (writes : List Write) (write : Write) (point : Description) → 1 ≤ write.priority → write.priority ≤ 16
     → put write (standing_after writes point) ≡ standing_after (writes ++ write ∷ []) point
 unfolding standing_after
-put_after writes write point most least =
-    let f = λ (q : ℕ). place writes point.object q in
-    let P : Bool → Type 0 =
-    λ b. (if b then with_place (record { point = point; places = map f priorities }) write.priority write.value else
-    record { point = point; places = map f priorities })
-    ≡ record {
-      point = point;
-      places = map (λ q. if b && (q == write.priority) then write.value else f q) priorities;
-    } in
-    let stands : P (same_object point.object write.object) =
-    elim (same_object point.object write.object) as (λ b. P b) [
-      | true ↦ ap (λ (places : List (Option ℕ)). record { point = point; places = places })
-          (set_place f write.priority write.value most least)
-      | false ↦ refl
-    ] in
-    stands ∙ ap (λ (places : List (Option ℕ)). record { point = point; places = places })
-    (map_same _ _ (λ q. sym (place_more writes write point.object q)) priorities)
+put_after _ _ _ most least = grind (arith, set_place, map_same, place_more)
 
 -- ---- writes to other objects
 
@@ -89,6 +69,4 @@ none_chosen (_ ∷ writes) object priority none = rw none.0 (none_chosen writes 
 pub place_none : (writes : List Write) (object : Identifier) (priority : ℕ) → NoneTo object writes
     → place writes object priority ≡ place [] object priority
 unfolding place
-place_none writes object priority none =
-    ap (λ (to : List Write). option_and_then (λ write. write.value) (last_or None to))
-    (none_chosen writes object priority none)
+place_none _ _ _ none = grind (arith, none_chosen)

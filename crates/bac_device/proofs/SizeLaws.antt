@@ -1,7 +1,7 @@
 -- How long replies are: each to a confirmed request fits the announced size, or is the stated Abort.
 use Rattle.std.proofs.{
   Common.{◌≡◌, ℕ, ◌≤◌, Bool, true, false, List, [], ◌∷◌, length, Option, Some, None, refl, sym, ap, subst, arith, inl},
-  Common.{inr, nat_le, nat_eq, ◌⊎◌, IfSome, if◌then◌else◌, leb-true},
+  Common.{inr, ◌⊎◌, IfSome, if◌then◌else◌, leb-true},
   lemmas.{Bool.cond_both, Option.{none-some, some_pair_parts}},
 }
 use Rattle.std.specs.Option.{option_map, option_and_then, ForSome}
@@ -9,7 +9,6 @@ use Rattle.bac_wire.specs.{Datum.plain, Tag.plain_tag}
 use Rattle.bac_pdu.specs.{
   declared.{peer.Peer.Peer, discovery.WhoIs.WhoIs},
   Discovery.asks,
-  ValueReading.who_is_of,
   Peer.{Station, NetworkAddress, IsRoutable, station},
   Datagram.{Delivery, Carries, Takes, wrapped},
   Apdu.{Message, IsLaidOut, confirmed, unconfirmed, laid_out, announced_size},
@@ -22,7 +21,7 @@ use Rattle.bac_device.specs.{
   Device.{DeviceState, device_after},
   Size.{FitsRequest, ReplyFits, RepliesFit},
   Turns.{Arrival, replies_to},
-  Reply.{refused, fitting, full_reply, i_am, reply_message, reply_apdu, reply_of, who_is_reply, writes_after},
+  Reply.{fitting, i_am, reply_message, reply_apdu, reply_of, who_is_reply, writes_after},
 }
 
 -- a route leads to whom a datagram is from
@@ -67,15 +66,13 @@ abbrev Short : ℕ → ℕ → Message → Type 0
 Short code id m = (length (laid_out m) ≤ announced_size code) ⊎ (laid_out m ≡ 0x71 ∷ id ∷ 0x04 ∷ [])
 
 no_longer : (code id : ℕ) (m : Message) → Short code id m → length (laid_out m) ≤ 1476
-no_longer code id m (inl few) = omega (arith, few, announced_most code)
-no_longer code id m (inr abort) = omega (arith, ap length abort)
+no_longer code id m (inl few) = omega (arith, announced_most code)
+no_longer _ id m (inr abort) = omega (arith, ap length abort)
 
 unless_broadcast : (b : Bool) (code id : ℕ) (full : Message)
     → IfSome (if b then None else Some (fitting code id full)) (Short code id)
 unless_broadcast true _ id _ = tt
-unless_broadcast false code id full =
-    cond_both (nat_le (length (laid_out full)) (announced_size code)) full (refused id) (Short code id)
-    (λ e. inl (leb-true _ _ e)) (λ e. inr refl)
+unless_broadcast false _ id _ = grind (arith, cond_both, leb-true)
 
 -- ---- Who-Is
 
@@ -88,10 +85,7 @@ where_asked : (b : Bool) (who : Option WhoIs) (info : Info)
     None) (λ m. length (laid_out m) ≡ 15)
 where_asked false _ _ = tt
 where_asked true None _ = tt
-where_asked true (Some who) info =
-    elim (asks who info.instance) as (λ b.
-    IfSome (if b then Some (i_am info) else None) (λ m. length (laid_out m) ≡ 15))
-    [ true ↦ length_i_am info | false ↦ tt ]
+where_asked true (Some who) _ = grind (arith, length_i_am)
 
 -- ---- any request
 
@@ -100,15 +94,14 @@ Fits request m = FitsRequest request (laid_out m)
 
 short : (request m : Message) → Fits request m → length (laid_out m) ≤ 1476
 short (confirmed part code id service body) m fits = no_longer code id m fits
-short (unconfirmed service body) m long = omega (arith, long)
+short (unconfirmed service body) m long = omega arith
 short _ m none = absurd none
 
 message_fits : (device : DeviceState) (broadcast : Bool) (request : Message)
     → IfSome (reply_message device broadcast request) (Fits request)
 unfolding who_is_reply
-message_fits device broadcast (confirmed part code id service body) =
-    unless_broadcast broadcast code id (full_reply device part id service body)
-message_fits device _ (unconfirmed service body) = where_asked (nat_eq service 8) (who_is_of body) device.info
+message_fits _ _ (confirmed part code id service body) = grind (arith, unless_broadcast)
+message_fits _ _ (unconfirmed service body) = grind (arith, where_asked)
 message_fits _ _ _ = tt
 
 pub reply_fits : (device : DeviceState) (from : Station) (datagram : List ℕ)

@@ -11,8 +11,8 @@ use Rattle.bac_device.specs.{
   Info.Info,
   Inner.Places.IsUrgent,
   Reply.{with_write, reply_to, writes_after},
-  Point.{Given, Description, same_object, description_of},
-  Places.{Write, Standing, NoneTo, priorities, standing_after, present, place_at, put},
+  Point.{Given, Description, description_of},
+  Places.{Write, Standing, NoneTo, standing_after, present, place_at, put},
   Device.{DeviceState, points_of, device_after, Holds, with_point, standing_at, point_at, present_after, place_after},
   Turns.{Arrival, Replies, RepliesInTurn, AreDefined},
 }
@@ -30,10 +30,7 @@ find_map f test (x ∷ xs) =
 pub at_after : (device : DeviceState) (writes : List Write) (object : Identifier) → Holds device writes
     → standing_at device object ≡ option_map (standing_after writes) (point_at (points_of device) object)
 unfolding standing_after
-at_after device writes object holds =
-    ap (λ (d : DeviceState). standing_at d object) holds
-    ∙ find_map (standing_after writes) (λ (standing : Standing). same_object standing.point.object object)
-    (points_of device)
+at_after _ _ _ holds = grind (arith, find_map)
 
 pub present_held : (device : DeviceState) (writes : List Write) (object : Identifier) → Holds device writes
     → option_map present (standing_at device object) ≡ present_after (points_of device) writes object
@@ -58,8 +55,7 @@ points_after info (point ∷ points) writes =
 pub write_held : (device : DeviceState) (writes : List Write) (write : Option Write) → Holds device writes
     → IfSome write IsUrgent
     → with_write device write ≡ device_after device.info (points_of device) (writes ++ option_to_list write)
-write_held device writes None holds _ = holds
-    ∙ ap (device_after device.info (points_of device)) (sym (append-nil writes))
+write_held _ _ None holds _ = grind (arith, append-nil)
 write_held device writes (Some write) holds urgent =
     let before : device.standings ≡ map (standing_after writes) (points_of device) =
     ap (λ (d : DeviceState). d.standings) holds in
@@ -73,23 +69,19 @@ write_held device writes (Some write) holds urgent =
 untouched : (writes : List Write) (point : Description) → NoneTo point.object writes
     → standing_after writes point ≡ standing_after [] point
 unfolding standing_after
-untouched writes point none =
-    ap (λ (places : List (Option ℕ)). record { point = point; places = places })
-    (map_same _ _ (λ q. place_none writes point.object q none) priorities)
+untouched _ _ none = grind (arith, map_same, place_none)
 
 -- a device with one more point holds the writes that it held, where none of them is to the point
 more_held : (device : DeviceState) (point : Description) (writes : List Write) → Holds device writes
     → NoneTo point.object writes → Holds (with_point device point) writes
 unfolding standing_after
 more_held device point writes holds none =
-    let before : device.standings ≡ map (standing_after writes) (points_of device) =
-    ap (λ (d : DeviceState). d.standings) holds in
     let same = untouched writes point none in
     ap (λ (s : List Standing). record { info = device.info; standings = s }) (grind (arith, common_steps))
 
 described_object : (point : Given) (d : Description) → description_of point ≡ Some d → d.object ≡ point.object
 unfolding description_of
-described_object point d e = grind arith
+described_object = grind arith
 
 -- a device to which a point was added holds the writes that it held, where none of them is to the point
 pub added_held : (device : DeviceState) (standing : Standing) (point : Given) (writes : List Write)
@@ -132,7 +124,7 @@ pub present_now : (info : Info) (points : List Description) (writes : List Write
     {asked object : Identifier} {found : Option ℕ} → device ≡ device_after info points writes
     → ((held : List Write) → Holds device held → found ≡ present_after (points_of device) held asked)
     → asked ≡ object → found ≡ present_after points writes object
-present_now info points writes {object = object} made answered is =
+present_now info points writes {object} made answered is =
     let now = rw (made, is) at answered in
     now writes (after_holds info points writes)
     ∙ ap (λ (p : List Description). present_after p writes object) (points_after info points writes)

@@ -1,10 +1,9 @@
 -- What is read of an APDU is what its octets lay out, and what is laid out is read back.
-use Rattle.std.proofs.{
-  Common.{◌≡◌, ℕ, ◌+◌, ◌/◌, Bool, true, false, cond, eqb, List, [], ◌∷◌, ◌++◌, Option, Some, refl, subst, arith, ◌≤◌},
-  Common.slice_index_or,
-  lemmas.{Bool.eqb-true, Option.{none-some, same_Some}},
+use Rattle.std.{
+  proofs.Common.{◌≡◌, ℕ, ◌+◌, ◌/◌, Bool, true, false, cond, eqb, List, [], ◌∷◌, ◌++◌, Option, Some, refl, arith, ◌≤◌},
+  proofs.{Common.slice_index_or, lemmas.Option.{none-some, same_Some}},
+  specs.Prelude.◌↔◌,
 }
-use Rattle.std.specs.Prelude.{◌↔◌}
 use Rattle.bac_wire.{proofs.{Readers.{Took, found_at, chosen}, TagLaws.bind_some}, specs.Steps.◌>>=◌}
 use Rattle.bac_pdu.specs.{
   declared.apdu.Part.Part,
@@ -28,14 +27,10 @@ part_again : (first : ℕ) (front : List ℕ) (part : Option Part) (rest : List 
     → part_at first (front ++ rest) (bit 3 first) ≡ found_at part rest
 part_again = grind arith
 
-service_takes : (octets : List ℕ) (service : ℕ) (body : List ℕ) → service_at octets ≡ found_at service body
-    → octets ≡ service ∷ body
-service_takes = grind arith
-
 parts_takes : (first : ℕ) (octets : List ℕ) (x : Option Part × ℕ × List ℕ) → parts_at first octets ≡ Some x
     → (front : List ℕ) × SpellsPart first front x.0 × (octets ≡ front ++ x.1 ∷ x.2)
 unfolding parts_at
-parts_takes = grind (arith, bind_some, part_takes, service_takes)
+parts_takes = grind (arith, bind_some, part_takes)
 
 parts_again : (first : ℕ) (front : List ℕ) (part : Option Part) (service : ℕ) (body : List ℕ)
     → SpellsPart first front part → parts_at first (front ++ service ∷ body) ≡ Some (part, service, body)
@@ -46,11 +41,11 @@ parts_again _ _ _ _ _ s = rw (part_again _ _ _ _ s) refl
 
 confirmed_takes : (first : ℕ) (octets : List ℕ) (m : Message) → first / 16 ≡ 0 → confirmed_of first octets ≡ Some m
     → IsLaidOut (first ∷ octets) m
-confirmed_takes = grind (arith, bind_some, parts_takes, same_Some, none-some)
+confirmed_takes = grind (arith, parts_takes, same_Some, none-some)
 
 complex_takes : (first : ℕ) (octets : List ℕ) (m : Message) → first / 16 ≡ 3 → complex_ack_of first octets ≡ Some m
     → IsLaidOut (first ∷ octets) m
-complex_takes = grind (arith, none-some, bind_some, parts_takes, same_Some)
+complex_takes = grind (arith, bind_some, parts_takes, same_Some)
 
 unconfirmed_takes : (first : ℕ) (octets : List ℕ) (m : Message) → first / 16 ≡ 1
     → (service_at octets >>= (λ x. Some (unconfirmed x.0 x.1))) ≡ Some m → IsLaidOut (first ∷ octets) m
@@ -66,7 +61,7 @@ numbered_laid = grind arith
 -- the APDU of this kind, or of a later one
 this_kind : {T : Type 0} (first k : ℕ) {x y : Option Message} {m : Message} → (first / 16 ≡ k → x ≡ Some m → T)
     → (y ≡ Some m → T) → cond (eqb (first / 16) k) x y ≡ Some m → T
-this_kind = grind (arith, chosen, eqb-true)
+this_kind = grind (arith, chosen)
 
 apdu_takes : (octets : List ℕ) (m : Message) → apdu_of octets ≡ Some m → IsLaidOut octets m
 unfolding apdu_of
@@ -74,13 +69,12 @@ apdu_takes [] m e = absurd (none-some m e)
 apdu_takes (first ∷ octets) m e =
     this_kind _ 0 (confirmed_takes _ _ m) (
     this_kind first 1 (unconfirmed_takes first _ m) (
-    this_kind first 2 (λ kind f. numbered_laid first _ _ m f (λ id service rest. (first, rest, kind, refl))) (
+    this_kind first 2 (grind (arith, numbered_laid)) (
     this_kind first 3 (complex_takes first _ m) (
-    this_kind first 4 (λ kind f. subst (IsLaidOut _) (same_Some _ m f) (first, octets, kind, refl)) (
-    this_kind first 5 (λ kind f. numbered_laid first error _ m f (λ id service body. (first, kind, refl))) (
-    this_kind first 6 (λ kind f. numbered_laid first _ _ m f (λ id reason rest. (first, rest, kind, refl))) (
-    this_kind first 7 (λ kind f. numbered_laid first _ _ m f (λ id reason rest. (first, rest, kind, refl, refl)))
-    (λ none. absurd (none-some m none))))))))) e
+    this_kind first 4 (grind (arith, same_Some)) (
+    this_kind first 5 (grind (arith, numbered_laid)) (
+    this_kind first 6 (grind (arith, numbered_laid)) (
+    this_kind first 7 (grind (arith, numbered_laid)) (λ none. absurd (none-some m none))))))))) e
 
 apdu_again : (octets : List ℕ) (m : Message) → IsLaidOut octets m → apdu_of octets ≡ Some m
 unfolding apdu_of
@@ -101,14 +95,10 @@ answer_part : (part : Option Part) → ((48 + part_flags part) / 16 ≡ 3)
 answer_part = grind arith
 
 laid_out_is : (m : Message) → IsWritable m → IsLaidOut (laid_out m) m
-laid_out_is (confirmed part code id service body) h =
-    let p = request_part _ in
-    (part_flags _, code, p.0, p.1.0, omega arith, refl)
+laid_out_is (confirmed part code id service body) h = grind (arith, request_part)
 laid_out_is (unconfirmed service body) h = (16, refl, refl)
 laid_out_is (simple_ack id service) h = (32, [], refl, refl)
-laid_out_is (complex_ack part id service body) h =
-    let p = answer_part _ in
-    (48 + part_flags _, p.0, p.1.0, refl)
+laid_out_is (complex_ack part id service body) h = grind (arith, answer_part)
 laid_out_is segment_ack h = absurd h
 laid_out_is (error id service body) h = (80, refl, refl)
 laid_out_is (reject id reason) h = (96, [], refl, refl)

@@ -2,14 +2,14 @@
 use Rattle.std.proofs.{
   Common.{◌≡◌, ℕ, ◌/◌, ◌%◌, ◌<◌, ◌≤◌, Bool, true, false, eqb, List, [], ◌∷◌, ◌++◌, length, drop, Option, Some, None},
   Common.{refl, sym, ap, ◌∙◌, append_assoc, arith, slice_index_or, ◌+◌, cond, ◌||◌, ◌&&◌, inl, inr},
-  lemmas.Bool.{and_parts, eqb-true, ltb-false, le-ltb, eq-eqb},
+  lemmas.Bool.{and_parts, eqb-true, ltb-false, eq-eqb},
   lemmas.List.{take_at, drop_at, take-append-drop, length-append, length-take-le, nil_from_length},
-  lemmas.{Option.{none-some, some_pair_parts, cond_some}, Grind.common_steps},
+  lemmas.Option.{none-some, some_pair_parts, cond_some},
 }
 use Rattle.std.specs.Prelude.{IfSome, ◌↔◌, is_some, OnOk, Result}
 use Rattle.byteorder.specs.{Endian.big_number, Numbers.big_number-reads_back}
 use Rattle.bac_wire.{
-  proofs.{Readers.{IsReader, Took, took, took_as, reader_of, found_at, only_if, unless, chosen}, TagLaws.bind_some},
+  proofs.{Readers.{IsReader, Took, took, took_as, found_at, only_if, unless, chosen}, TagLaws.bind_some},
   specs.Front.IsSingle,
 }
 use Rattle.bac_pdu.specs.{
@@ -26,10 +26,10 @@ use Rattle.bac_pdu.specs.{
 
 count_takes : (count : ℕ) (octets address rest : List ℕ) → counted_at (count ∷ octets) ≡ found_at address rest
     → (octets ≡ address ++ rest) × (count ≡ length address)
-count_takes = grind (arith, unless, some_pair_parts, ltb-false, take-append-drop, length-take-le)
+count_takes = grind (arith, unless, ltb-false, take-append-drop, length-take-le)
 
 count_again : (address rest : List ℕ) → counted_at (length address ∷ (address ++ rest)) ≡ found_at address rest
-count_again = grind (arith, length-append, le-ltb, take_at, drop_at)
+count_again = grind (arith, length-append, take_at, drop_at)
 
 address_takes : (octets : List ℕ) (station : NetworkAddress) (rest : List ℕ) → address_at octets ≡ found_at station rest
     → Took SpellsAddress octets station rest
@@ -53,7 +53,7 @@ address_again = grind (arith, count_again)
 
 announced_takes : (b : Bool) (octets : List ℕ) (station : Option NetworkAddress) (rest : List ℕ)
     → announced_at b octets ≡ found_at station rest → Took (SpellsAnnounced b) octets station rest
-announced_takes false _ _ _ e = took (SpellsAnnounced false) [] _ _ _ _ e refl
+announced_takes false _ _ _ e = grind (arith, took, false)
 announced_takes true _ _ _ e =
     let a = bind_some _ _ _ e in
     took_as SpellsAddress (SpellsAnnounced true) _ _ _ _ _ _ (address_takes _ _ _ a.1) a.2 (λ front s. s)
@@ -76,9 +76,9 @@ hops_take true (count ∷ octets) rest e =
 
 hops_again : (b : Bool) (front rest : List ℕ) → SpellsHops b front → behind_hops b (front ++ rest) ≡ Some rest
 hops_again false _ _ s = rw (nil_from_length _ s) refl
-hops_again true [] _ s = absurd (omega (arith, s))
+hops_again true [] _ s = absurd (omega arith)
 hops_again true (count ∷ []) _ s = refl
-hops_again true (a ∷ b ∷ front) _ s = absurd (omega (arith, s))
+hops_again true (a ∷ b ∷ front) _ s = absurd (omega arith)
 
 -- three parts, and a rest
 behind_all : (a b c rest : List ℕ) → (a ++ (b ++ c)) ++ rest ≡ a ++ (b ++ (c ++ rest))
@@ -96,8 +96,7 @@ control_takes control octets header rest carries e =
     let front : List ℕ = 1 ∷ control ∷ (destination.0 ++ (source.0 ++ hops.0)) in
     let inner : octets ≡ destination.0 ++ (source.0 ++ (hops.0 ++ c.0)) = destination.2
     ∙ ap (λ (w : List ℕ). destination.0 ++ w) (source.2 ∙ ap (λ (w : List ℕ). source.0 ++ w) hops.2) in
-    let line : 1 ∷ control ∷ octets ≡ front ++ c.0 =
-    ap (λ (w : List ℕ). 1 ∷ control ∷ w) (inner ∙ sym (behind_all _ _ hops.0 c.0)) in
+    let line : 1 ∷ control ∷ octets ≡ front ++ c.0 = grind (arith, behind_all) in
     let made : NetworkHeader = record { destination = a.0.0; source = b.0.0 } in
     rw line (took SpellsHeader front made header c.0 rest c.2 (record {
       control = control;
@@ -114,11 +113,11 @@ control_takes control octets header rest carries e =
 header_takes : (octets : List ℕ) (header : NetworkHeader) (rest : List ℕ) → header_at octets ≡ found_at header rest
     → Took SpellsHeader octets header rest
 unfolding header_at
-header_takes = grind (arith, only_if, unless, control_takes, eqb-true, none-some)
+header_takes = grind (arith, only_if, unless, control_takes, eqb-true)
 
 pub header_reader : IsReader SpellsHeader header_at
 unfolding header_at
-header_reader = grind (arith, reader_of, header_takes, behind_all, announced_again, hops_again)
+header_reader = grind (arith, header_takes, behind_all, announced_again, hops_again)
 
 -- ---- the header that is written
 
@@ -153,19 +152,19 @@ header_written None true _ = record { spelled = without_source _ 4 [] [] refl re
 header_written None false _ = record { spelled = without_source _ 0 [] [] refl refl refl refl; expected = refl }
 header_written (Some station) true routable =
     record {
-      spelled = without_source _ 36 _ _ refl refl (address_spells _ (omega (arith, routable.global))) refl;
+      spelled = without_source _ 36 _ _ refl refl (address_spells _ (omega arith)) refl;
       expected = refl;
     }
 header_written (Some station) false routable =
     record {
-      spelled = without_source _ 32 _ _ refl refl (address_spells _ (omega (arith, routable.global))) refl;
+      spelled = without_source _ 32 _ _ refl refl (address_spells _ (omega arith)) refl;
       expected = refl;
     }
 
 -- ---- which headers are ignored
 
 routable : (to : NetworkAddress) → (is_routable to ≡ true) ↔ IsRoutable to
-routable = grind (arith, common_steps)
+routable = grind arith
 
 destined : (to : Option NetworkAddress) → (is_for_all to ≡ true) ↔ IfSome to (λ t. t.network ≡ 65535)
 destined = grind arith
@@ -229,7 +228,7 @@ record IsHeeded (header : NetworkHeader) : Type 0 where
 
 heeded_takes : (sender : Station) (to_all : Bool) (header : NetworkHeader) (apdu : List ℕ) (d : Delivery)
     → heeded_as sender to_all header apdu ≡ Some d → IsHeeded header × (delivered_as sender to_all header apdu ≡ d)
-heeded_takes = grind (arith, cond_some, and_parts, destined, answerable)
+heeded_takes = grind (arith, cond_some, and_parts, destined)
 
 carried_takes : (from : Station) (datagram : List ℕ) (d : Delivery) → carried from datagram ≡ Some d
     → Carries from datagram d
@@ -278,11 +277,11 @@ carried_again_at _ _ _ _ _ _ _ _ _ _ counted sent headed heeded =
       eq-eqb _ _ counted,
       origin_again _ _ _ _ _ _ sent,
       header_reader.again _ _ _ headed,
-    ) (rw ((destined _).1 heeded.destined, (answerable _).1 heeded.answerable) refl)
+    ) (grind (arith, destined, answerable))
 
 carried_again : (from : Station) (datagram : List ℕ) (d : Delivery) → Carries from datagram d
     → carried from datagram ≡ Some d
-carried_again = grind (arith, destined, answerable, carried_again_at)
+carried_again = grind (arith, destined, carried_again_at)
 
 pub carried_is : (from : Station) (datagram : List ℕ) (d : Delivery)
     → (carried from datagram ≡ Some d) ↔ Carries from datagram d
@@ -319,7 +318,7 @@ wrapped_short = grind (arith, length-append)
 pub front_before : (to : Option NetworkAddress) (expect : Bool) (apdu : List ℕ)
     → front_octets to expect (length apdu) ++ apdu ≡ wrapped to expect apdu
 unfolding front_octets wrapped
-front_before = grind (arith, append_assoc, length-append)
+front_before = grind (arith, length-append)
 
 pub length_wrapped : (to : Option NetworkAddress) (expect : Bool) (apdu : List ℕ)
     → length (wrapped to expect apdu) ≡ length (front_octets to expect (length apdu)) + length apdu
@@ -353,7 +352,7 @@ pub put_front_takes : {T E : Type 0} (result : Result T E) (to : Option NetworkA
     → IfSome to IsRoutable → size ≡ length apdu → front ≡ front_octets to expect size
     → OnOk result (frame ≡ front ++ apdu)
     → OnOk result (length front + length apdu ≤ 1497) → OnOk result (Takes to expect apdu frame)
-put_front_takes = grind (arith, front_before, count_wrapped, length_front, wrapped_takes, routable)
+put_front_takes = grind (arith, front_before, count_wrapped, wrapped_takes, routable)
 
 -- what takes an APDU to a station of this network is carried to it
 pub taken_carries : (from : Station) (expect : Bool) (apdu datagram : List ℕ) → Takes None expect apdu datagram

@@ -21,4 +21,4 @@ index_short = grind (arith, length-append, number_short)
 
 pub read_octets_short : (r : Reference) → length (read_octets r) ≤ 45
 unfolding plain_parameter
-read_octets_short = grind (arith, length-append, context_short, number_short, index_short)
+read_octets_short = grind (arith, length-append, context_short, index_short)

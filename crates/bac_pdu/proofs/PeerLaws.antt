@@ -1,7 +1,7 @@
 -- `==` on peers compares the stations.
 use Rattle.std.proofs.{
-  lemmas.{Grind.common_steps, Bool.{and_parts, eqb-true, eq-eqb, false≢true}},
-  lemmas.{List.{take-append-drop, length-take-le, length-drop, length-replicate}, Option.{none-some, same_Some}},
+  lemmas.{Grind.common_steps, Bool.{and_parts, eqb-true, eq-eqb}, List.{take-append-drop, length-take-le, length-drop}},
+  lemmas.Option.{none-some, same_Some},
   Common.{◌≡◌, ℕ, ◌-◌, true, List, ◌++◌, length, take, drop, Option, refl, sym, ap, ◌∙◌, arith},
 }
 use Rattle.std.specs.{Prelude.{◌↔◌, replicate}, Option.{option_map, option_eq}, Cmp.Lexicographic.bytes_decides}
@@ -13,7 +13,7 @@ use Rattle.bac_pdu.specs.{
 
 -- a route keeps its address in eight octets
 room : (r : Route) → length r.octets ≡ 8
-room = grind (arith, common_steps, length-drop, length-replicate)
+room = grind (arith, common_steps, length-drop)
 
 -- the octets of a route are the address, and zeros
 same_octets : (a b : Route) → network_address a ≡ network_address b → (a.count ≡ b.count) × (a.octets ≡ b.octets)
@@ -23,8 +23,8 @@ same_octets a b e =
     omega (
       arith,
       ap length address,
-      length-take-le a.count a.octets (omega (arith, room a, a.longest)),
-      length-take-le b.count b.octets (omega (arith, room b, b.longest)),
+      length-take-le a.count a.octets (omega (arith, room a)),
+      length-take-le b.count b.octets (omega (arith, room b)),
     ) in
     let behind : drop a.count a.octets ≡ drop b.count b.octets = a.unused ∙ ap (λ (n : ℕ). replicate (8 - n) 0) count
     ∙ sym b.unused in (
@@ -49,8 +49,8 @@ route_decides a b = (
 
 routes_decide : (a b : Option Route)
     → (option_eq route_eq.it a b ≡ true) ↔ (option_map network_address a ≡ option_map network_address b)
-routes_decide = grind (arith, false≢true, none-some, route_decides, same_Some)
+routes_decide = grind (arith, none-some, route_decides, same_Some)
 
 -- peers are equal just where they are the same station
 pub peer_decides : (p q : Peer) → (peer_eq.it p q ≡ true) ↔ (station p ≡ station q)
-peer_decides = grind (arith, routes_decide, and_parts, eqb-true, eq-eqb)
+peer_decides = grind (arith, routes_decide, eqb-true, eq-eqb)

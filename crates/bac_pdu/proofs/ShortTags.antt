@@ -1,6 +1,6 @@
 -- Tags of one octet: of a number below 15, before at most four octets.
 use Rattle.std.proofs.{
-  lemmas.{Grind.common_steps, Bool.lt-ltb},
+  lemmas.Grind.common_steps,
   Common.{◌≡◌, ℕ, ◌+◌, ◌*◌, ◌<◌, List, [], ◌∷◌, length, slice_index_or, arith},
 }
 use Rattle.bac_wire.specs.{Tag.plain_tag, Region.{opening_tag, closing_tag}, Parameter.{context_octets, number_octets}}
@@ -8,7 +8,7 @@ use Rattle.bac_wire.specs.{Tag.plain_tag, Region.{opening_tag, closing_tag}, Par
 pub short_context : (number : ℕ) (contents : List ℕ) → number < 15 → length contents < 5
     → context_octets number contents ≡ (16 * number + (8 + length contents)) ∷ contents
 unfolding plain_tag
-short_context = grind (arith, lt-ltb)
+short_context = grind arith
 
 -- four octets
 pub four_context : (number : ℕ) (contents : List ℕ) → number < 15 → length contents ≡ 4
@@ -22,8 +22,8 @@ one_number = grind (arith, short_context)
 
 pub opening_octet : (number : ℕ) → number < 15 → plain_tag (opening_tag number) ≡ (16 * number + 14) ∷ []
 unfolding plain_tag
-opening_octet = grind (arith, lt-ltb)
+opening_octet = grind arith
 
 pub closing_octet : (number : ℕ) → number < 15 → plain_tag (closing_tag number) ≡ (16 * number + 15) ∷ []
 unfolding plain_tag
-closing_octet = grind (arith, lt-ltb)
+closing_octet = grind arith

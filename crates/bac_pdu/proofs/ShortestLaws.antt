@@ -24,8 +24,8 @@ use Rattle.bac_pdu.specs.{
   declared.discovery.WhoIs.WhoIs,
   Parameter.{Parameter, numbered, IsParameter, SpellsParameter, plain_parameter},
   Inner.{Parameter.{optional, optional_octets}, Discovery.HasLimits},
-  Property.{Reference, ReadAck, Order, reference_parameters, ack_parameters, order_parameters, IsPriority},
-  Property.{IsReadBody, IsAckBody, IsWriteBody, read_octets, ack_octets, write_octets},
+  Property.{Reference, ReadAck, Order, reference_parameters, ack_parameters, order_parameters, IsPriority, IsReadBody},
+  Property.{IsAckBody, IsWriteBody, read_octets, ack_octets, write_octets},
   PropertyReading.{read_of, write_of, ack_of},
   Discovery.{Introduction, introduction_values, IsWhoIsBody, IsIAmBody, who_is_octets, i_am_octets},
   Failure.{IsErrorBody, error_octets},
@@ -55,7 +55,7 @@ optional_plain = grind (arith, append-nil)
 pub read_written : (r : Reference)
     → object_octets 0 r.object ++ (number_octets 1 r.property ++ optional_octets 2 r.index) ≡ read_octets r
 unfolding plain_parameter
-read_written r = rw (optional_plain _ 2 (λ n. refl) _) refl
+read_written r = grind (arith, optional_plain)
 
 pub ack_written : (a : ReadAck) → read_octets a.reference ++ enclosed_octets 3 a.value ≡ ack_octets a
 unfolding plain_parameter
@@ -66,13 +66,9 @@ pub write_written : (o : Order)
 unfolding plain_parameter
 write_written o = sym (cc (plain_append _ _, optional_plain _ 4 (λ n. refl) _))
 
-pub optional_is : (number : ℕ → Parameter) (i : Option ℕ) → ((n : ℕ) → n < 2 ^ 32 → IsParameter (number n))
-    → IfSome i (λ n. n < 2 ^ 32) → AllByRecursion IsParameter (optional number i)
-optional_is = grind arith
-
 pub reference_known : (r : Reference) → IsIdentifier r.object → r.property < 2 ^ 32 → IfSome r.index (λ n. n < 2 ^ 32)
     → AllByRecursion IsParameter (reference_parameters r)
-reference_known = grind (arith, optional_is)
+reference_known = grind arith
 
 -- ---- a parameter
 
@@ -85,7 +81,7 @@ short_tag _ _ short = search arith
 context_least : (number : ℕ) (octets contents least : List ℕ) → AreOctets octets → SpellsContext number octets contents
     → length contents < 5
     → length least ≤ length contents → length (context_octets number least) ≤ length octets
-context_least = grind (arith, tag_least, ahead, short_tag, length-append)
+context_least = grind (arith, ahead, short_tag, length-append)
 
 number_shortest : (number n : ℕ) (octets : List ℕ) → AreOctets octets → SpellsIn enumerated number octets n
     → length (number_octets number n) ≤ length octets
@@ -178,7 +174,7 @@ write_shortest o h urgent =
 
 pub write_back : (o : Order) → AllByRecursion IsParameter (order_parameters o) → IfSome o.priority IsPriority
     → write_of (write_octets o) ≡ Ok o
-write_back o h urgent = write_again _ o (write_shortest o h urgent).spelled
+write_back o h urgent = grind (arith, write_again, write_shortest)
 
 pub who_is_shortest : (w : WhoIs) → HasLimits w → IsShortest IsWhoIsBody (who_is_octets w) w
 unfolding plain_parameter
@@ -188,7 +184,7 @@ who_is_shortest (limits.Range low high) h =
     rw (← append-nil (number_octets 1 _)) (record { spelled = all.spelled; shortest = all.shortest })
 
 pub limits_back : (w : WhoIs) → HasLimits w → who_is_of (who_is_octets w) ≡ Some w
-limits_back w h = (who_is_is _ w).1 (who_is_shortest w h).spelled
+limits_back w h = grind (arith, who_is_is, who_is_shortest)
 
 pub who_is_back : (low high : ℕ) → low < 2 ^ 32 → high < 2 ^ 32
     → who_is_of (who_is_octets (limits.Range low high)) ≡ Some (limits.Range low high)
@@ -210,16 +206,14 @@ i_am_is_back i written = (introduction_is _ i).1 written.spelled
 
 pub introduction_back : (i : Introduction) → i.device.kind ≡ 8 → AllByRecursion IsDatum (introduction_values i)
     → introduction_of (i_am_octets i) ≡ Some i
-introduction_back i device h =
-    (introduction_is _ i).1
-    (record { device = device; spelled = whole_spell _ _ _ plain_spells (introduction_values i) h })
+introduction_back i device h = (introduction_is _ i).1 (grind (arith, whole_spell, plain_spells))
 
 pub error_shortest : (class code : ℕ) → IsWritten (enumerated class) → IsWritten (enumerated code)
     → IsShortest IsErrorBody (error_octets class code) (class, code)
 error_shortest class code a b = record {
   spelled = (
     [],
-    whole_spell _ plain IsWritten (λ x is. is.spelled) (enumerated class ∷ enumerated code ∷ []) (a, (b, tt)),
+    grind (arith, whole_spell),
   );
   shortest = λ other fit s. let all =
       all_least _ plain _ (λ x is. is) (enumerated class ∷ enumerated code ∷ []) other s.0 (a, (b, tt)) fit
@@ -250,7 +244,7 @@ all_append Is (x ∷ xs) ys h k = (h.0, all_append _ xs _ h.1 k)
 
 pub ack_known : (a : ReadAck) → AllByRecursion IsParameter (reference_parameters a.reference) → IsRegion 32 a.value
     → AllByRecursion IsParameter (ack_parameters a)
-ack_known a named region = all_append _ (reference_parameters _) _ named (region, tt)
+ack_known a named region = grind (arith, all_append)
 
 urgent_is : (p : Option ℕ) → IfSome p IsPriority → IfSome p (λ n. n < 2 ^ 32)
 urgent_is None h = tt
@@ -258,9 +252,9 @@ urgent_is (Some n) h = omega arith
 
 pub order_known : (o : Order) → AllByRecursion IsParameter (reference_parameters o.reference) → IsRegion 32 o.value
     → IfSome o.priority IsPriority → AllByRecursion IsParameter (order_parameters o)
-order_known = grind (arith, all_append, optional_is, urgent_is)
+order_known = grind (arith, all_append, urgent_is)
 
 -- what is written of an order
 pub order_is_written : (o : Order) → AllByRecursion IsParameter (reference_parameters o.reference) → IsRegion 32 o.value
     → IfSome o.priority IsPriority → IsShortest IsWriteBody (write_octets o) o
-order_is_written o named region urgent = write_shortest o (order_known o named region urgent) urgent
+order_is_written o named region urgent = grind (arith, write_shortest, order_known)

@@ -81,7 +81,7 @@ write_more : (body x v rest : List ℕ) (r : Reference) → reference_at body �
 write_more _ x v rest r named valued left =
     let t = to_front _ _ _ (reference_parameters r ++ value v ∷ [])
     (value_takes _ x v _ _ r [] named (needs_takes x _ (v, rest) valued) refl) in
-    let some : rest ≡ [] → ⊥ = λ empty. left (cc (empty, no_number 4)) in (
+    let some : rest ≡ [] → ⊥ = grind (arith, no_number) in (
       record { reference = r; value = v; priority = None },
       rest,
       record { front = t.0; spelled = record { spelled = t.1; urgent = tt }; whole = t.2 },
@@ -96,10 +96,7 @@ write_fault body reason e =
           [ inl missing ↦ rw missing.0 (inl missing.1) | inr invalid ↦ rw invalid tt ]
       | inr a ↦ elim (and_then_err _ (write_behind a.0.0) reason a.2) [
         | inl second ↦ elim (needs_fails a.0.1 _ reason second) [
-          | inl missing ↦ rw missing.0 (inr (
-            a.0.0,
-            rw missing.1 at (reference_takes body a.0 a.1),
-          ))
+          | inl missing ↦ rw missing.0 (grind (arith, reference_takes))
           | inr invalid ↦ rw invalid.0 tt
         ]
         | inr b ↦ elim (and_then_err _ _ reason b.2) [

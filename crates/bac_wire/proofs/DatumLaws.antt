@@ -1,19 +1,18 @@
 -- What the reader of values takes is spelled so, and what is spelled so is taken, whatever follows.
 use Rattle.std.proofs.{
-  Common.{◌≡◌, ℕ, zero, suc, ◌^◌, ◌<◌, ◌≤◌, Bool, cond, eqb, List, [], ◌++◌, length, take, Option, Some, refl, sym, ap},
+  Common.{◌≡◌, ℕ, zero, suc, ◌^◌, ◌<◌, ◌≤◌, Bool, cond, eqb, List, [], ◌++◌, length, take, Option, Some, refl, sym},
   Common.{subst, ◌∙◌, append_assoc, arith, inl, inr},
-  lemmas.{Option.{same_Some, some_pair_parts, none-some, cond_some}, Grind.common_steps},
+  lemmas.{Option.{same_Some, some_pair_parts, none-some}, Grind.common_steps},
   lemmas.Bool.{ltb-false, eqb-true, lt-ltb, le-ltb, eq-eqb, eqb-false},
   lemmas.List.{length-append, take_at, drop_at, take-append-drop, nil_from_length, length-take-le},
 }
 use Rattle.std.specs.Option.{option_map}
-use Rattle.byteorder.specs.Endian.{big_number, twos_complement}
+use Rattle.byteorder.specs.Endian.{big_number}
 use Rattle.bac_wire.specs.{
   declared.tag.{Shape.Shape, Shape.TheVariants.App},
   Identifier.{Identifier, number_of, identifier_of},
   Tag.SpellsTag,
-  Datum.{Datum, null, boolean, unsigned, signed, real, double, octet_string, bit_string, enumerated, date, time},
-  Datum.{object, tag_number, StandsFor, shape_number, tag_before, Spells, IsSound},
+  Datum.{Datum, boolean, bit_string, object, tag_number, StandsFor, shape_number, tag_before, Spells, IsSound},
   DatumReading.{exactly, number_within, chars_of, bits_of, contents_of, boolean_of, behind_at, with_shape, value_at},
 }
 use Rattle.bac_wire.proofs.{
@@ -25,7 +24,7 @@ use Rattle.bac_wire.proofs.{
 
 pub within_again : (most : ℕ) (contents : List ℕ) → 1 ≤ length contents → length contents ≤ most
     → number_within most contents ≡ Some (big_number (length contents) contents)
-within_again _ _ low high = rw (lt-ltb 0 _ low, le-ltb _ _ high) refl
+within_again _ _ low high = grind (arith, lt-ltb, le-ltb)
 
 pub same_identifier : (n : ℕ) (id : Identifier) → id.instance < 2 ^ 22 → n ≡ number_of id → identifier_of n ≡ id
 same_identifier = grind arith
@@ -39,8 +38,8 @@ contents_again : (contents : List ℕ) (value : Datum) → (tag_number value ≡
 unfolding contents_of
 contents_again _ (boolean b) other h = absurd (other refl)
 contents_again _ (bit_string unused x) _ h = bits_again _ _ x h
-contents_again _ (object id) other h = rw (eq-eqb _ 4 h.0, same_identifier _ _ h.1 h.2) refl
-contents_again _ _ other h = grind (arith, common_steps)
+contents_again _ (object id) other h = grind (arith, eq-eqb, same_identifier)
+contents_again _ _ other h = grind arith
 
 -- ---- what is read are the contents of the value
 
@@ -50,7 +49,7 @@ Holding number contents value = (tag_number value ≡ number) × StandsFor conte
 
 pub within_takes : (most : ℕ) (contents : List ℕ) (n : ℕ) → number_within most contents ≡ Some n → (1 ≤ length contents)
     × (length contents ≤ most) × (n ≡ big_number (length contents) contents)
-within_takes = grind (arith, common_steps)
+within_takes = grind arith
 
 -- the value under a function that was mapped
 mapped : {A B : Type 0} (f : A → B) (o : Option A) (y : B) → option_map f o ≡ Some y → (x : A) × (o ≡ Some x)
@@ -62,13 +61,13 @@ number_takes : (number most : ℕ) (make : List ℕ → ℕ → Datum)
     × (n ≡ big_number (length contents) contents) → Holding number contents (make contents n))
     → (contents : List ℕ) (value : Datum) → option_map (make contents) (number_within most contents) ≡ Some value
     → Holding number contents value
-number_takes = grind (arith, mapped)
+number_takes = grind arith
 
 exact_takes : (number count : ℕ) (make : List ℕ → Datum)
     → ((contents : List ℕ) → length contents ≡ count → Holding number contents (make contents))
     → (contents : List ℕ) (value : Datum) → option_map make (exactly count contents) ≡ Some value
     → Holding number contents value
-exact_takes = grind (arith, mapped, cond_some, eqb-true)
+exact_takes = grind (arith, mapped, eqb-true)
 
 chars_takes : (contents : List ℕ) (value : Datum) → chars_of contents ≡ Some value → Holding 7 contents value
 chars_takes = grind arith
@@ -79,30 +78,26 @@ bits_takes = grind arith
 contents_take : (number : ℕ) (contents : List ℕ) (value : Datum) → contents_of number contents ≡ Some value
     → Holding number contents value
 unfolding contents_of
-contents_take zero _ _ e = exact_takes 0 0 (λ _. null) (λ c h. (refl, nil_from_length c h)) _ _ e
-contents_take (suc (suc zero)) _ _ e = number_takes 2 8 (λ c n. unsigned n) (λ c n h. (refl, h)) _ _ e
-contents_take (suc (suc (suc zero))) _ _ e =
-    number_takes 3 8 (λ c n. signed _) (λ c n h. (refl, (h.0, h.1, ap (twos_complement _) h.2))) _ _ e
-contents_take (suc (suc (suc (suc zero)))) _ _ e = exact_takes 4 4 real (λ c h. (refl, (h, refl))) _ _ e
-contents_take (suc (suc (suc (suc (suc zero))))) _ _ e = exact_takes 5 8 double (λ c h. (refl, (h, refl))) _ _ e
-contents_take (suc (suc (suc (suc (suc (suc zero)))))) _ _ e = rw (← same_Some (octet_string _) _ e) (refl, refl)
+contents_take zero _ _ e = grind (arith, exact_takes, nil_from_length)
+contents_take (suc (suc zero)) _ _ e = grind (arith, number_takes)
+contents_take (suc (suc (suc zero))) _ _ e = grind (arith, number_takes)
+contents_take (suc (suc (suc (suc zero)))) _ _ e = grind (arith, exact_takes)
+contents_take (suc (suc (suc (suc (suc zero))))) _ _ e = grind (arith, exact_takes)
+contents_take (suc (suc (suc (suc (suc (suc zero)))))) _ _ e = grind (arith, same_Some)
 contents_take (suc (suc (suc (suc (suc (suc (suc zero))))))) _ _ e = chars_takes _ _ e
 contents_take (suc (suc (suc (suc (suc (suc (suc (suc zero)))))))) _ _ e = bits_takes _ _ e
-contents_take (suc (suc (suc (suc (suc (suc (suc (suc (suc zero))))))))) _ _ e =
-    number_takes 9 4 (λ c n. enumerated n) (λ c n h. (refl, h)) _ _ e
-contents_take (suc (suc (suc (suc (suc (suc (suc (suc (suc (suc zero)))))))))) _ _ e =
-    exact_takes 10 4 date (λ c h. (refl, (h, refl))) _ _ e
-contents_take (suc (suc (suc (suc (suc (suc (suc (suc (suc (suc (suc zero))))))))))) _ _ e =
-    exact_takes 11 4 time (λ c h. (refl, (h, refl))) _ _ e
-contents_take (suc (suc (suc (suc (suc (suc (suc (suc (suc (suc (suc (suc zero)))))))))))) contents _ e =
-    exact_takes 12 4 _ (λ contents e. (refl, (e, omega arith, omega arith))) _ _ e
-contents_take _ _ value e = absurd (none-some value (grind (arith, common_steps)))
+contents_take (suc (suc (suc (suc (suc (suc (suc (suc (suc zero))))))))) _ _ e = grind (arith, number_takes)
+contents_take (suc (suc (suc (suc (suc (suc (suc (suc (suc (suc zero)))))))))) _ _ e = grind (arith, exact_takes)
+contents_take (suc (suc (suc (suc (suc (suc (suc (suc (suc (suc (suc zero))))))))))) _ _ e = grind (arith, exact_takes)
+contents_take (suc (suc (suc (suc (suc (suc (suc (suc (suc (suc (suc (suc zero)))))))))))) _ _ e =
+    grind (arith, exact_takes)
+contents_take _ _ _ e = grind (arith, none-some, common_steps)
 
 -- ---- a value
 
 shaped_again : (value : Datum) (contents rest : List ℕ) → StandsFor contents value
     → behind_at (tag_number value) (shape_number value (length contents)) (contents ++ rest) ≡ found_at value rest
-shaped_again = grind (arith, le-ltb, length-append, take_at, drop_at, contents_again)
+shaped_again = grind (arith, length-append, take_at, drop_at, contents_again)
 
 value_again : (front : List ℕ) (value : Datum) (rest : List ℕ) → Spells front value
     → value_at (front ++ rest) ≡ Some (value, rest)
@@ -143,8 +138,7 @@ behind_takes number n after value rest e =
           let taken = contents_take _ _ _ bound.1 in
           let long : length (take n after) ≡ n = length-take-le n _ (ltb-false _ n here.0) in
           let count = shape_number_is _ _ (λ one. eqb-false _ 1 other.0 (sym taken.0 ∙ one)) ∙ long in
-          let whole : after ≡ take n after ++ rest = sym (take-append-drop n _)
-          ∙ ap (λ (w : List ℕ). take n after ++ w) same.1 in
+          let whole : after ≡ take n after ++ rest = grind (arith, take-append-drop) in
           rw (← same.0) (take n _, taken.0, count, taken.1, whole)
     ]
 
@@ -157,7 +151,7 @@ shape_takes _ (App n) tag _ value _ s e =
     let tagged : SpellsTag tag (tag_before value (length taken.0)) = rw (taken.1, taken.2) s in (
       tag ++ taken.0,
       record { contents = taken.0; tagged = record { front = tag; spelled = tagged; whole = refl }; held = taken.3 },
-      ap (λ (w : List ℕ). tag ++ w) taken.4 ∙ sym (append_assoc tag _ _),
+      grind (arith, append_assoc),
     )
 shape_takes _ _ _ _ _ _ s e = absurd cc
 

@@ -195,8 +195,7 @@ pub item_found : (depth : ℕ) (octets : List ℕ) (tag : Tag) (shape : Shape) (
     → found_at tag after ≡ tag_at octets → tag.shape ≡ shape
     → behind_item (behind_items (length octets)) depth tag shape after ≡ found
     → Finds (LeavesBehind depth octets) found
-item_found depth octets tag _ after found e is f =
-    let here = subst (λ s. behind_item (behind_items (length octets)) depth tag s after ≡ found) (sym is) f in
+item_found depth octets tag _ _ found e is f =
     let read : item_at (behind_items (length octets)) depth octets ≡ found = cc in
     subst (Finds _) read (finds_by _ (item_reads (length octets) depth octets (omega arith)))
 
@@ -283,8 +282,7 @@ pub region_found : (number k : ℕ) (octets front back : List ℕ) → front ≡
     → FindsRegion 32 number octets (Some k) → region_at number octets ≡ (behind_closing number back >>= found_at front)
 region_found _ k _ _ back f b finds =
     let r = subst (IsClosedRegion 32 _ _) (sym f) finds.found in
-    let same : back ≡ r.behind = b ∙ ap (drop k) r.whole
-    ∙ drop_at _ _ k (ap length f ∙ length-take-le k _ finds.within) in
+    let same : back ≡ r.behind = grind (arith, drop_at, length-take-le) in
     region_again _ _ _ r ∙ sym (rw (same, closed_again _ _ _ r.closed) refl)
 
 -- a region is found where a closing tag stands behind whole items, and not where none stands there
@@ -298,11 +296,11 @@ region_finds _ _ _ rest None l h = record {
       let same = one_left _ _ _ _ rest (region_leaves _ _ _ _ r) l in
       absurd (h _ (subst (λ w. IsClosedBy _ w r.rest) same r.closed));
 }
-region_finds _ _ octets rest (Some after) l h = record {
+region_finds _ _ _ rest (Some after) l h = record {
   within = omega arith;
   found = rw (take_front _ _ rest l.whole).2
       (record { behind = rest; rest = after; region = l.region; whole = l.whole; closed = h });
   all = λ front r.
       let same = one_left _ _ _ rest _ l (region_leaves _ _ _ _ r) in
-      ap Some (ap (λ w. length octets - length w) same ∙ (take_front _ _ _ r.whole).1);
+      ap Some (grind (arith, take_front));
 }

@@ -1,8 +1,7 @@
 -- Reading a parameter, or a value of one kind, finds what its relation says, and what is written of one is a spelling
 -- of it.
 use Rattle.std.proofs.{
-  Common.{◌≡◌, ℕ, ◌^◌, ◌<◌, List, [], ◌++◌, length, drop, Option, Some, None, refl, sym, ap, subst, ◌∙◌, append_assoc},
-  Common.arith,
+  Common.{◌≡◌, ℕ, ◌^◌, ◌<◌, List, [], ◌++◌, length, Option, Some, None, refl, sym, ap, subst, ◌∙◌, append_assoc, arith},
   lemmas.Bool.{eqb-true, eq-eqb, ltb-false, le-ltb},
   lemmas.List.{take_at, drop_at, take-append-drop, length-append, length-take-le},
   lemmas.Option.{none-some, some_pair_parts, cond_some},
@@ -26,7 +25,7 @@ use Rattle.bac_wire.proofs.{
   Readers.{reader_of, found_at, only_if, unless},
   TagLaws.{tag_reader, bind_some, plain_tag_spells},
   DatumLaws.{within_again, same_identifier, within_takes, value_reader},
-  PlainDatum.{count_low, count_four, count_fits, number_back},
+  PlainDatum.{count_low, count_four, count_fits},
   RegionReading.{no_octets, tag_parts, tag_again},
   ItemLaws.region_reader,
 }
@@ -42,28 +41,27 @@ counted_takes number _ tag (Context n) after contents rest e is f =
     let same = only_if _ f in
     let room = unless _ same.1 in
     let parts = some_pair_parts _ _ _ _ room.1 in
-    let long : n ≡ length contents = sym (length-take-le n _ (ltb-false _ n room.0)) ∙ ap length parts.0 in
+    let long : n ≡ length contents = grind (arith, length-take-le, ltb-false) in
     let tag_here = tag_parts tag _ _ (is ∙ ap Context long) (eqb-true _ _ same.0) in
     let taken = tag_reader.takes _ tag _ e in
-    let after_is : after ≡ contents ++ rest = sym (take-append-drop n _)
-    ∙ ap (λ (w : List ℕ). w ++ drop n after) parts.0 ∙ ap (λ (w : List ℕ). contents ++ w) parts.1 in
+    let after_is : after ≡ contents ++ rest = grind (arith, take-append-drop) in
     let here : SpellsContext number (taken.front ++ contents) contents =
     record { front = taken.front; spelled = subst (SpellsTag _) tag_here taken.spelled; whole = refl } in (
       taken.front ++ contents,
       here,
-      taken.whole ∙ ap (λ (w : List ℕ). taken.front ++ w) after_is ∙ sym (append_assoc _ _ rest),
+      grind (arith, append_assoc),
     )
 counted_takes _ _ _ _ _ contents rest e is f = absurd (none-some (contents, rest) f)
 
 counted_again : (number : ℕ) (contents rest : List ℕ)
     → counted_of number (context_tag number (length contents)) (Context (length contents)) (contents ++ rest)
     ≡ found_at contents rest
-counted_again = grind (arith, length-append, eq-eqb, le-ltb, take_at, drop_at)
+counted_again = grind (arith, length-append, le-ltb, take_at, drop_at)
 
 context_takes : (number : ℕ) (octets contents rest : List ℕ) → context_at number octets ≡ found_at contents rest
     → (front : List ℕ) × SpellsContext number front contents × (octets ≡ front ++ rest)
 unfolding context_at
-context_takes = grind (arith, bind_some, counted_takes)
+context_takes = grind (arith, counted_takes)
 
 context_again : (number : ℕ) (front contents rest : List ℕ) → SpellsContext number front contents
     → context_at number (front ++ rest) ≡ found_at contents rest
@@ -78,31 +76,17 @@ in_reader : {A : Type 0} (kind : A → Datum) (of : List ℕ → Option A)
     → (number : ℕ) → IsReader (SpellsIn kind number)
     (λ octets. context_at number octets >>= (λ c. of c.0 >>= (λ a. found_at a c.1)))
 in_reader _ of taken_as again_as _ = record {
-  takes = λ octets x rest e.
-      let a = bind_some (context_at _ _) _ (x, rest) e in
-      let b = bind_some _ _ (x, rest) a.2 in
-      let parts = some_pair_parts _ x _ _ b.2 in
-      let taken = context_takes _ _ _ _ a.1 in
-      record {
-        front = taken.0;
-        spelled = record { contents = a.0.0; context = taken.1; stands = rw parts.0 at (taken_as _ _ b.1) };
-        whole = taken.2 ∙ ap (λ (w : List ℕ). taken.0 ++ w) parts.1;
-      };
+  takes = grind (arith, bind_some, some_pair_parts, context_takes);
   again = λ front x rest s. rw (context_again _ _ _ _ s.context, again_as _ x s.stands) refl;
 }
 
 pub number_reader : (number : ℕ) → IsReader (SpellsIn enumerated number) (number_at number)
 unfolding number_at
-number_reader = in_reader _ _ (within_takes 4) (λ contents n s. within_again 4 _ s.0 s.1 ∙ ap Some (sym s.2))
+number_reader = in_reader _ _ (within_takes 4) (grind (arith, within_again))
 
 pub object_reader : (number : ℕ) → IsReader (SpellsIn values.object number) (object_at number)
 unfolding object_at
-object_reader = in_reader _ _
-    (λ contents id e.
-    let four = cond_some _ _ _ e in
-    subst (λ (o : Identifier). StandsFor contents (values.object o)) four.1
-    (eqb-true _ 4 four.0, omega arith, omega arith))
-    (λ contents id s. rw (eq-eqb _ 4 s.0) (ap Some (same_identifier _ _ s.1 s.2)))
+object_reader = in_reader _ _ (grind (arith, cond_some, eqb-true)) (grind (arith, eq-eqb, same_identifier))
 
 pub context_reader : (number : ℕ) → IsReader (SpellsContext number) (context_at number)
 context_reader _ = reader_of _ _ (context_takes _) (context_again _)
@@ -192,13 +176,13 @@ kind_step made _ takes again = record {
 }
 
 pub unsigned_step : IsStep Spells unsigned (kind_at unsigned_in)
-unsigned_step = kind_step _ _ (λ value x e. grind arith) (λ n. refl)
+unsigned_step = grind (arith, kind_step)
 
 pub enumerated_step : IsStep Spells enumerated (kind_at enumerated_in)
-enumerated_step = kind_step _ _ (λ value x e. grind arith) (λ n. refl)
+enumerated_step = grind (arith, kind_step)
 
 pub object_step : IsStep Spells values.object (kind_at object_in)
-object_step = kind_step _ _ (λ value x e. grind arith) (λ id. refl)
+object_step = grind (arith, kind_step)
 
 -- ---- what is written is a spelling
 
@@ -207,11 +191,11 @@ pub context_spells : (number : ℕ) (contents : List ℕ) → number < 255 → l
 context_spells = grind (arith, plain_tag_spells)
 
 pub number_spells : (number n : ℕ) → number < 255 → n < 2 ^ 32 → SpellsIn enumerated number (number_octets number n) n
-number_spells = grind (arith, count_low, count_four, context_spells, number_back, count_fits)
+number_spells = grind (arith, count_low, count_four, context_spells, count_fits)
 
 pub object_spells : (number : ℕ) (id : Identifier) → number < 255 → IsIdentifier id
     → SpellsIn values.object number (object_octets number id) id
-object_spells = grind (arith, context_spells, number_back)
+object_spells = grind (arith, context_spells)
 
 pub enclosed_spells : (number : ℕ) (region : List ℕ) → number < 255 → IsRegion 32 region
     → SpellsEnclosed number (enclosed_octets number region) region

@@ -1,10 +1,10 @@
 -- Lists that are read and written piece by piece, and functions that agree on the numbers up to a limit.
-use Rattle.std.proofs.Common.{◌≡◌, ℕ, ◌+◌, ◌<◌, ◌≤◌, List, map, ◌++◌, length, take, drop, get_or, arith, sym, ap, ◌∙◌}
+use Rattle.std.proofs.{
+  Common.{◌≡◌, ℕ, ◌+◌, ◌<◌, ◌≤◌, List, map, ◌++◌, length, take, drop, get_or, arith, sym, ap, ◌∙◌},
+  Math.Seq.{take-append_seam, take-add},
+  lemmas.{List.{take-take, take-append-drop}, Simd.take_more_put_chunk, List.FromFn.get_or-map-range_with_len},
+}
 use Rattle.std.specs.List.{range_with_len}
-use Rattle.std.proofs.Math.Seq.{take-append_seam, take-add}
-use Rattle.std.proofs.lemmas.List.{take-take, take-append-drop}
-use Rattle.std.proofs.lemmas.Simd.{take_more_put_chunk}
-use Rattle.std.proofs.lemmas.List.FromFn.{get_or-map-range_with_len}
 use lib.Lanes.{chunk, put_chunk}
 
 -- Functions with the same values up to here.
@@ -28,7 +28,4 @@ module _ (f : List ℕ → List ℕ) (xs ys : List ℕ) (i j n k l m : ℕ) (bef
       ∙ ap (λ (h : ℕ). take h (f (take i xs) ++ f more)) (sym size) ∙ take-append_seam (f (take i xs)) (f more)
 
   pub one_more : take (k + m) (put_chunk k ys (f (chunk i n xs))) ≡ f (take (i + n) xs)
-  one_more =
-      take_more_put_chunk k ys (f (chunk i n xs)) (k + m) (ap (λ (h : ℕ). k + h) (sym long)) room
-      ∙ ap (λ (zs : List ℕ). zs ++ f (chunk i n xs)) front
-      ∙ sym (apart (chunk i n xs)) ∙ ap f (sym (take-add i n xs))
+  one_more = grind (arith, take_more_put_chunk, front, take-add)

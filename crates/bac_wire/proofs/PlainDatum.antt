@@ -1,8 +1,7 @@
 -- The shortest spelling of a value is a spelling.
 use Rattle.std.proofs.{
   Common.{◌≡◌, ℕ, ℤ, pos, negsuc, suc, slice_index_or, ◌+◌, ◌-◌, ◌*◌, ◌^◌, ◌%◌, ◌<◌, ◌≤◌, zero, Bool, true, false},
-  Common.{cond, ltb, List, [], ◌∷◌, ◌++◌, length, take, refl, sym, ap, subst, ◌∙◌, arith, unwrap_or, Option, Some},
-  Common.None,
+  Common.{cond, ltb, List, [], ◌∷◌, ◌++◌, length, take, refl, sym, ap, ◌∙◌, arith, unwrap_or, Option, Some, None},
   lemmas.{Int.ints, Bool.{lt-ltb, le-ltb}, Grind.common_steps, List.{append-nil, take_at}},
 }
 use Rattle.std.specs.{Prelude.FitsSigned, Int.w64}
@@ -11,8 +10,7 @@ use Rattle.byteorder.specs.{
   Numbers.{big_number-reads_back, length-bytes_high_first},
 }
 use Rattle.bac_wire.{
-  specs.Tag.{IsTag, plain_tag},
-  specs.Datum.{Datum, signed, StandsFor, tag_before, Spells, octet_count, plain_contents, plain, InRange, IsDatum},
+  specs.{Tag.plain_tag, Datum.{Datum, signed, StandsFor, Spells, octet_count, plain_contents, plain, InRange, IsDatum}},
   specs.Inner.Datum.tagged,
   proofs.TagLaws.plain_tag_spells,
 }
@@ -44,19 +42,19 @@ count_is n = go _ _ _ _ _ _ _
     go false false false false false false false = refl
 
 pub count_low : (n : ℕ) → 1 ≤ octet_count n
-count_low n = subst (λ (k : ℕ). 1 ≤ k) (sym (count_is n)) (grind (arith, common_steps))
+count_low n = grind (arith, count_is, common_steps)
 
 pub cases_high : (n : ℕ) → count_by_cases n ≤ 8
-cases_high = grind (arith, common_steps)
+cases_high = grind arith
 
 pub count_high : (n : ℕ) → octet_count n ≤ 8
-count_high n = subst (λ (k : ℕ). k ≤ 8) (sym (count_is n)) (cases_high n)
+count_high n = grind (arith, count_is, cases_high)
 
 pub count_fits : (n : ℕ) → n < 2 ^ 64 → n < 256 ^ octet_count n
-count_fits = grind (arith, count_is)
+count_fits = grind arith
 
 pub count_four : (n : ℕ) → n < 2 ^ 32 → octet_count n ≤ 4
-count_four = grind (arith, count_is)
+count_four = grind arith
 
 -- the octets of a number give it back
 pub number_back : (k n : ℕ) → n < 256 ^ k → n ≡ big_number (length (big_bytes k n)) (big_bytes k n)
@@ -74,18 +72,13 @@ not_negative k n low same = rw (same, lt-ltb n _ low) refl
 
 negative : (k n x : ℕ) → x ≡ 2 ^ (8 * k) - suc n → 2 ^ (8 * k - 1) ≤ x → suc n ≤ 2 ^ (8 * k)
     → twos_complement k x ≡ negsuc n
-negative k n x e high fits = rw (le-ltb x _ high, e) (omega (arith, ints))
+negative k n x e high fits = grind (arith, le-ltb, ints)
 
 signed_back : (k n : ℕ) → 1 ≤ k → k ≤ 8 → 2 * n < 256 ^ k → (twos_complement k (low_bytes w64 k (pos n)) ≡ pos n)
     × (twos_complement k (low_bytes w64 k (negsuc n)) ≡ negsuc n)
-signed_back (suc (suc (suc (suc (suc (suc (suc (suc zero)))))))) n low high fits = (
-  not_negative 8 n (omega arith) (omega arith),
-  negative 8 n (low_bytes w64 8 (negsuc n)) (omega (arith, ints)) (omega (arith, ints)) (omega arith),
-)
-signed_back k n low high fits = (
-  not_negative k n (omega arith) (omega arith),
-  negative k n (low_bytes w64 k (negsuc n)) (omega (arith, ints)) (omega (arith, ints)) (omega arith),
-)
+signed_back (suc (suc (suc (suc (suc (suc (suc (suc zero)))))))) n low high fits =
+    grind (arith, not_negative, negative, ints)
+signed_back k n low high fits = grind (arith, not_negative, negative, ints)
 
 low_bytes_fit : (k : ℕ) (z : ℤ) → 1 ≤ k → k ≤ 8 → low_bytes w64 k z < 256 ^ k
 low_bytes_fit (suc (suc (suc (suc (suc (suc (suc (suc zero)))))))) z low high = omega arith
@@ -98,37 +91,33 @@ signed_parts k z low high e =
     let long = length-bytes_high_first k x in (
       rw long low,
       rw long high,
-      e ∙ ap (twos_complement k) (number_back k x (low_bytes_fit k z low high))
-          ∙ ap (λ (j : ℕ). twos_complement j (big_number (length (big_bytes k x)) (big_bytes k x))) (sym long),
+      grind (arith, number_back, low_bytes_fit),
     )
 
 signed_holds : (z : ℤ) → FitsSigned w64 z → StandsFor (plain_contents (signed z)) (signed z)
 signed_holds (pos n) h =
     let k : ℕ = octet_count (2 * n) in
     signed_parts k _ (count_low (2 * n)) (count_high (2 * n))
-    (sym (signed_back k n (count_low (2 * n)) (count_high (2 * n)) (count_fits _ (omega (arith, h)))).0)
+    (grind (arith, signed_back, count_low, count_high, count_fits))
 signed_holds (negsuc n) h =
     let k : ℕ = octet_count (2 * n) in
     signed_parts k _ (count_low (2 * n)) (count_high (2 * n))
-    (sym (signed_back k n (count_low (2 * n)) (count_high (2 * n)) (count_fits _ (omega (arith, h)))).1)
+    (sym (signed_back k n (count_low (2 * n)) (count_high (2 * n)) (count_fits _ (omega arith))).1)
 
 -- ---- the contents
 
 plain_holds : (value : Datum) → InRange value → StandsFor (plain_contents value) value
-plain_holds = grind (arith, count_low, count_high, number_back, count_fits, signed_holds, count_four)
-
-tag_fits : (value : Datum) → IsDatum value → IsTag (tag_before value (length (plain_contents value)))
-tag_fits = grind arith
+plain_holds = grind (arith, count_low, number_back, count_fits, signed_holds, count_four)
 
 pub plain_spells : (value : Datum) → IsDatum value → Spells (plain value) value
 unfolding plain
-plain_spells = grind (arith, plain_tag_spells, tag_fits, plain_holds)
+plain_spells = grind (arith, plain_tag_spells, plain_holds)
 
 -- a tag with a number below 15 and a count below 5 is one octet
 pub short_tagged : (number : ℕ) (contents : List ℕ) → number < 15 → length contents < 5
     → tagged number contents ≡ (16 * number + length contents) ∷ contents
 unfolding tagged plain_tag
-short_tagged = grind (arith, lt-ltb)
+short_tagged = grind arith
 
 -- the tag of four octets, and these
 pub four_tagged : (number : ℕ) (contents : List ℕ) → number < 15 → length contents ≡ 4
@@ -139,4 +128,4 @@ four_tagged = grind (arith, common_steps, short_tagged)
 -- the tag of a number in one octet, and the number
 pub one_tagged : (number n : ℕ) → number < 15 → n < 256
     → tagged number (big_bytes (octet_count n) n) ≡ (16 * number + 1) ∷ n ∷ []
-one_tagged = grind (arith, lt-ltb, short_tagged)
+one_tagged = grind (arith, short_tagged)

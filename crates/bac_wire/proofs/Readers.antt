@@ -18,14 +18,14 @@ found_at x rest = Some (x, rest)
 -- a front that was taken whole
 pub took : {A : Type 0} (Spells : List ℕ → A → Type 0) (front : List ℕ) (x y : A) (after rest : List ℕ)
     → found_at x after ≡ found_at y rest → Spells front x → Took Spells (front ++ after) y rest
-took = grind (arith, some_pair_parts)
+took = grind arith
 
 -- a front that was taken as one thing, and spells another one
 pub took_as : {A B : Type 0} (As : List ℕ → A → Type 0) (Spells : List ℕ → B → Type 0) (octets : List ℕ) (a : A)
     (x y : B) (after rest : List ℕ)
     → Took As octets a after → found_at x after ≡ found_at y rest → ((front : List ℕ) → As front a → Spells front x)
     → Took Spells octets y rest
-took_as As Spells _ a x y _ _ t e to = rw t.2 (took Spells _ x y _ _ e (to _ t.1))
+took_as As Spells _ a x y _ _ t e to = grind (arith, took)
 
 pub reader_of : {A : Type 0} (Spells : List ℕ → A → Type 0) (at : List ℕ → Option (A × List ℕ))
     → ((octets : List ℕ) (x : A) (rest : List ℕ) → at octets ≡ Some (x, rest) → Took Spells octets x rest)
@@ -56,7 +56,7 @@ unless false e = (refl, e)
 
 pub begins : {A : Type 0} (Spells : List ℕ → A → Type 0) (at : List ℕ → Option (A × List ℕ)) → IsReader Spells at
     → (octets : List ℕ) (x : A) (rest : List ℕ) → at octets ≡ found_at x rest → Begins Spells octets x rest
-begins Spells at reader _ x _ e = reader.takes _ x _ e
+begins Spells at reader _ x _ = reader.takes _ x _
 
 pub begins_read : {A : Type 0} (Spells : List ℕ → A → Type 0) (at : List ℕ → Option (A × List ℕ)) → IsReader Spells at
     → (octets : List ℕ) (x : A) (rest : List ℕ) → Begins Spells octets x rest → at octets ≡ found_at x rest
@@ -79,13 +79,7 @@ module _ {A : Type 0} (Spells : List ℕ → A → Type 0) (at : List ℕ → Op
         let here = take_front _ _ _ taken.whole in
         let spelled : Spells (take (length octets - length rest) octets) x = rw here.2 taken.spelled in
         let all : (other after : List ℕ) (y : A) → Spells other y → octets ≡ other ++ after → ◌≡◌ {A = Option (A × ℕ)}
-        (Some (x, length octets - length rest)) (Some (y, length other)) =
-        λ other after y t parts.
-        let both = some_pair_parts x y _ _ (e ∙ ap at parts ∙ reader.again _ y _ t) in
-        let there = take_front _ _ _ parts in
-        let same : length octets - length rest ≡ length other = ap (λ (w : List ℕ). length octets - length w) both.1
-        ∙ there.1 in
-        rw (both.0, same) refl in
+        (Some (x, length octets - length rest)) (Some (y, length other)) = grind (arith, some_pair_parts, take_front) in
         (here.0, record { spelled = (omega arith, spelled); all = all })
 
     -- where nothing was read nothing stands at the front

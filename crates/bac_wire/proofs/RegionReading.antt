@@ -1,11 +1,11 @@
 -- Reading items from left to right takes whole items, and finds again those that there are, whatever greater depth is
 -- allowed.
 use Rattle.std.proofs.{
-  lemmas.{Grind.common_steps, Bool.{le-ltb, ltb-false, eq-eqb}},
+  lemmas.{Grind.common_steps, Bool.{ltb-false, eq-eqb}},
   lemmas.List.{drop_at, length-append, nil_from_length, take-append-drop, length-take-le},
   lemmas.Option.{none-some, same_Some},
-  Common.{◌≡◌, ℕ, zero, suc, ◌<◌, ◌≤◌, eqb, List, [], ◌++◌, length, take, Option, Some, None, refl, sym, ap, subst},
-  Common.{◌∙◌, append_assoc, arith, inl, inr, Bool, true, false, cond},
+  Common.{◌≡◌, ℕ, zero, suc, ◌<◌, ◌≤◌, eqb, List, [], ◌++◌, length, take, Option, Some, None, refl, ap, subst, ◌∙◌},
+  Common.{append_assoc, arith, inl, inr, Bool, true, false, cond},
 }
 use Rattle.bac_wire.specs.{
   declared.tag.{Shape.Shape, Shape.TheVariants.{App, Context, Opening, Closing}, Tag.Tag},
@@ -56,13 +56,7 @@ closing_read _ _ _ c = ap tag_at c.whole ∙ tag_reader.again _ _ _ c.spelled
 
 closed_since : (tag : Tag) (number : ℕ) (octets rest : List ℕ) → tag_at octets ≡ found_at tag rest → tag.shape ≡ Closing
     → tag.number ≡ number → IsClosedBy number octets rest
-closed_since _ _ _ _ e shape same =
-    let taken = tag_reader.takes _ _ _ e in
-    record {
-      front = taken.front;
-      spelled = subst (SpellsTag _) (tag_parts _ _ _ shape same) taken.spelled;
-      whole = taken.whole;
-    }
+closed_since _ _ _ _ e shape same = grind (arith, tag_reader.takes, tag_parts)
 
 pub ended_since : (tag : Tag) (octets rest : List ℕ) → tag_at octets ≡ found_at tag rest → tag.shape ≡ Closing
     → HasEnded octets
@@ -99,10 +93,9 @@ tag_found _ _ _ t = refl
 pub ended_again : (count depth : ℕ) (octets : List ℕ) → HasEnded octets
     → behind_items (suc count) depth octets ≡ Some octets
 unfolding behind_items
-ended_again count depth _ ended = elim ended [
+ended_again _ _ _ ended = elim ended [
   | inl empty ↦ rw (empty, no_octets) refl
-  | inr closed ↦ rw (closing_read _ _ _ closed.2)
-      (tag_found (behind_items count) depth _ (closing_tag closed.0, closed.1))
+  | inr closed ↦ rw (closing_read _ _ _ closed.2) (grind (arith, tag_found))
 ]
 
 going_on : (items : ℕ → List ℕ → Option (List ℕ)) (depth : ℕ) (octets : List ℕ) (tag : Tag) (shape : Shape)
@@ -116,7 +109,7 @@ pub one_step : (count depth : ℕ) (octets : List ℕ) (tag : Tag) (after : List
     → (tag.shape ≡ Closing → ⊥)
     → behind_items (suc count) depth octets ≡ (item_at (behind_items count) depth octets >>= behind_items count depth)
 unfolding behind_items
-one_step = grind (arith, tag_found, going_on)
+one_step = grind (arith, going_on)
 
 -- ---- what is read is there
 
@@ -131,7 +124,7 @@ primitive_item (suc depth) _ p = inl p
 counted_behind : (depth : ℕ) (octets : List ℕ) (tag : Tag) (contents rest : List ℕ)
     → tag_at octets ≡ found_at tag (contents ++ rest)
     → Counts tag.number tag.shape (length contents) → LeavesBehind depth octets rest
-counted_behind _ _ tag contents rest e counted =
+counted_behind _ _ tag contents _ e counted =
     let taken = tag_reader.takes _ _ _ e in
     let item : IsPrimitive (taken.front ++ contents) =
     record {
@@ -143,7 +136,7 @@ counted_behind _ _ tag contents rest e counted =
     record {
       front = taken.front ++ contents;
       item = primitive_item _ _ item;
-      whole = taken.whole ∙ sym (append_assoc _ _ rest);
+      whole = grind (arith, append_assoc);
     }
 
 -- so many octets behind the tag
@@ -153,8 +146,7 @@ count_behind : (depth count : ℕ) (octets : List ℕ) (tag : Tag) (after rest :
     → LeavesBehind depth octets rest
 count_behind _ count _ _ after rest e counts f =
     let room = unless _ f in
-    let line : after ≡ take count after ++ rest = sym (take-append-drop _ _)
-    ∙ ap (λ (w : List ℕ). take count after ++ w) (same_Some _ _ room.1) in
+    let line : after ≡ take count after ++ rest = grind (arith, take-append-drop, same_Some) in
     counted_behind _ _ _ _ _ (e ∙ ap (found_at _) line) (counts _ (length-take-le _ _ (ltb-false _ _ room.0)))
 
 item_takes : (items : ℕ → List ℕ → Option (List ℕ)) (depth : ℕ) (octets : List ℕ) (tag : Tag) (shape : Shape)
@@ -166,15 +158,14 @@ item_takes _ _ _ tag (App n) _ _ takes e is f = elim (chosen (eqb tag.number 1) 
   | inl one ↦ counted_behind _ _ _ [] _ (e ∙ ap (found_at _) (same_Some _ _ one.1)) (rw (is, one.0) refl)
   | inr other ↦ count_behind _ n _ _ _ _ e (λ m same. rw (is, other.0) same) other.1
 ]
-item_takes _ _ _ _ (Context n) _ _ takes e is f = count_behind _ n _ _ _ _ e (λ m same. rw is same) f
+item_takes _ _ _ _ (Context n) _ _ takes e is f = grind (arith, count_behind)
 item_takes _ (suc depth) octets tag Opening _ rest takes e is f =
     let inside = bind_some _ _ _ f in
     let l = takes _ _ _ inside.1 in
     let c = closed_takes _ _ _ inside.2 in
     let taken = tag_reader.takes _ _ _ e in
     let opened = subst (SpellsTag _) (tag_parts _ _ _ is refl) taken.spelled in
-    let line : octets ≡ (taken.front ++ (l.front ++ c.front)) ++ rest = taken.whole
-    ∙ ap (λ (w : List ℕ). taken.front ++ w) (l.whole ∙ ap (λ (w : List ℕ). l.front ++ w) c.whole) ∙ simp append_assoc in
+    let line : octets ≡ (taken.front ++ (l.front ++ c.front)) ++ rest = grind (arith, append_assoc) in
     record {
       front = taken.front ++ _;
       item = inr (
@@ -207,15 +198,15 @@ more_takes : (items : ℕ → List ℕ → Option (List ℕ)) (depth : ℕ) (oct
     → Takes items → tag_at octets ≡ found_at tag after → tag.shape ≡ shape
     → behind_tag items depth octets tag shape after ≡ Some rest
     → LeavesRest depth octets rest
-more_takes _ _ _ tag Closing _ _ _ e is f = ended_leaves _ _ _ (ended_since tag _ _ e is) f
-more_takes _ _ _ tag _ _ rest takes e is f =
+more_takes _ _ _ tag Closing _ _ _ e is f = grind (arith, ended_leaves, ended_since)
+more_takes _ _ _ tag _ _ _ takes e is f =
     let a = bind_some _ _ _ f in
     let i = item_takes _ _ _ tag _ _ a.0 takes e is a.1 in
     let l = takes _ a.0 _ a.2 in
     record {
       front = i.front ++ l.front;
       region = more i.item l.region;
-      whole = i.whole ∙ ap (λ (w : List ℕ). i.front ++ w) l.whole ∙ sym (append_assoc _ _ rest);
+      whole = grind (arith, append_assoc);
       ended = l.ended;
     }
 
@@ -223,7 +214,7 @@ found_takes : (items : ℕ → List ℕ → Option (List ℕ)) (depth : ℕ) (oc
     (rest : List ℕ)
     → Takes items → tag_at octets ≡ read → behind_tag_found items depth octets read ≡ Some rest
     → LeavesRest depth octets rest
-found_takes = grind (arith, ended_leaves, none-some, more_takes)
+found_takes = grind (arith, ended_leaves, more_takes)
 
 pub items_take : (count depth : ℕ) (octets rest : List ℕ) → behind_items count depth octets ≡ Some rest
     → LeavesRest depth octets rest
@@ -240,7 +231,7 @@ Again items most = (depth top : ℕ) (front rest : List ℕ) → depth ≤ top �
 
 count_again : (count : ℕ) (contents rest : List ℕ) → length contents ≡ count
     → behind_count count (contents ++ rest) ≡ Some rest
-count_again = grind (arith, le-ltb, length-append, drop_at)
+count_again = grind (arith, length-append, drop_at)
 
 boolean_again : (b : Bool) (n : ℕ) (contents rest : List ℕ) → length contents ≡ cond b 0 n
     → cond b (Some (contents ++ rest)) (behind_count n (contents ++ rest)) ≡ Some rest
@@ -265,11 +256,7 @@ bracket_again _ _ _ top number _ inside rest again le short b =
     let line = append_assoc inside b.closing rest in
     let c : IsClosedBy number (b.closing ++ rest) rest =
     record { front = b.closing; spelled = b.closed; whole = refl } in
-    let within = again _ top _ _ le (omega (
-      arith,
-      after_shorter _ _ _ read,
-      ap length line,
-    )) b.parts (inr (number, rest, c)) in
+    let within = again _ top _ _ le (grind (arith, after_shorter)) b.parts (inr (number, rest, c)) in
     rw (read, line, within, closed_again _ _ rest c) refl
 
 pub item_again : (items : ℕ → List ℕ → Option (List ℕ)) (most depth top : ℕ) (item rest : List ℕ) → Again items most
@@ -284,7 +271,7 @@ item_again items _ (suc depth) (suc top) _ _ again le short i =
     ]
 
 pub item_shorter : (depth : ℕ) (item rest : List ℕ) → IsItem depth item → length rest < length (item ++ rest)
-item_shorter = grind (arith, common_steps, tag_shorter)
+item_shorter = grind (arith, common_steps)
 
 -- behind an item the others are read
 pub more_again : (count top : ℕ) (octets next : List ℕ) → item_at (behind_items count) top octets ≡ Some next

@@ -1,8 +1,7 @@
 -- No spelling of a value has fewer octets than the plain one.
 use Rattle.std.proofs.{
-  Common.{◌≡◌, ℕ, ℤ, pos, negsuc, zero, suc, ◌+◌, ◌-◌, ◌*◌, ◌^◌, ◌<◌, ◌≤◌, List, [], ◌∷◌, ◌++◌, length, sym, ap, subst},
-  Common.{◌∙◌, arith, inl, inr},
-  Math.Nat.pow-succ',
+  Common.{◌≡◌, ℕ, ℤ, pos, negsuc, zero, suc, ◌+◌, ◌-◌, ◌*◌, ◌^◌, ◌<◌, ◌≤◌, List, [], ◌∷◌, ◌++◌, length, ap, subst},
+  Common.{arith, inl, inr},
   lemmas.{Grind.common_steps, Int.ints, Bool.{cases_lt, lt-ltb, le-ltb}, List.length-append},
 }
 use Rattle.byteorder.{
@@ -10,7 +9,7 @@ use Rattle.byteorder.{
   specs.{Endian.{big_number, big_bytes, twos_complement}, Numbers.{big_from-lt, length-bytes_high_first}},
 }
 use Rattle.bac_wire.{
-  specs.{declared.tag.Shape.TheVariants.App, Front.{AreOctets, IsShortest}, Tag.{plain_length, plain_tag}},
+  specs.{declared.tag.Shape.TheVariants.App, Front.{AreOctets, IsShortest}, Tag.plain_tag},
   specs.Datum.{Datum, boolean, unsigned, signed, enumerated, tag_number, StandsFor, shape_number, tag_before, Spells},
   specs.Datum.{octet_count, signed_count, plain_contents, plain, InRange, IsDatum},
   proofs.{TagLaws.{tag_least, behind}, PlainDatum.{count_by_cases, count_is, cases_high, plain_spells}},
@@ -20,14 +19,14 @@ use Rattle.bac_wire.{
 
 cases_least : (k n : ℕ) → 1 ≤ k → n < 256 ^ k → count_by_cases n ≤ k
 cases_least (suc (suc (suc (suc (suc (suc (suc (suc zero)))))))) n _ _ = cases_high n
-cases_least k n low fits = grind (arith, common_steps, cases_high)
+cases_least k n low fits = grind (arith, cases_high)
 
 pub octet_count_least : (k n : ℕ) → 1 ≤ k → n < 256 ^ k → octet_count n ≤ k
-octet_count_least k n low fits = subst (λ (c : ℕ). c ≤ k) (sym (count_is n)) (cases_least k n low fits)
+octet_count_least k n low fits = grind (arith, count_is, cases_least)
 
 -- a bit less, doubled
 half_octets : (k : ℕ) → 1 ≤ k → 2 * 2 ^ (8 * k - 1) ≡ 256 ^ k
-half_octets = grind (arith, common_steps, pow256, pow-succ')
+half_octets = grind (arith, common_steps, pow256)
 
 signed_count_least : (k x : ℕ) (z : ℤ) → 1 ≤ k → x < 256 ^ k → z ≡ twos_complement k x → signed_count z ≤ k
 signed_count_least k x z low fits e =
@@ -38,8 +37,8 @@ signed_count_least k x z low fits e =
           let is : z ≡ pos x = rw (lt-ltb x (2 ^ (8 * k - 1)) small) at e in
           rw is (octet_count_least k (2 * x) low (omega arith))
       | inr large ↦
-          let is : z ≡ negsuc (2 ^ (8 * k) - suc x) = (rw (le-ltb x _ large) at e) ∙ omega (arith, ints) in
-          rw is (octet_count_least k (2 * (2 ^ _ - suc x)) low (omega arith))
+          let is : z ≡ negsuc (2 ^ (8 * k) - suc x) = grind (arith, le-ltb, ints) in
+          rw is (grind (arith, octet_count_least))
     ]
 
 -- ---- the contents
@@ -56,18 +55,15 @@ contents_least _ (unsigned n) fit h = unsigned_least _ n fit h.0 h.2
 contents_least _ (signed z) fit h =
     rw (length-bytes_high_first _ _) (signed_count_least _ _ z h.0 (big_from-lt 0 _ _ fit) h.2)
 contents_least _ (enumerated n) fit h = unsigned_least _ n fit h.0 h.2
-contents_least _ _ fit h = grind (arith, common_steps)
+contents_least _ _ fit h = grind arith
 
 -- ---- the tag before them
-
-plain_length_grows : (m n : ℕ) → m ≤ n → length (plain_length m) ≤ length (plain_length n)
-plain_length_grows = grind (arith, common_steps)
 
 tag_grows : (number m n : ℕ) → m ≤ n
     → length (plain_tag (record { number = number; shape = App m })) ≤ length
     (plain_tag (record { number = number; shape = App n }))
 unfolding plain_tag
-tag_grows = grind (arith, plain_length_grows, length-append)
+tag_grows = grind (arith, length-append)
 
 shape_number_grows : (value : Datum) (m n : ℕ) → m ≤ n → shape_number value m ≤ shape_number value n
 shape_number_grows (boolean b) m n le = omega arith
@@ -97,7 +93,7 @@ value_least _ value fit s =
     )
 
 pub plain_shortest : (value : Datum) → IsDatum value → IsShortest Spells (plain value) value
-plain_shortest _ h = record { spelled = plain_spells _ h; shortest = λ other fit s. value_least _ _ fit s }
+plain_shortest _ h = grind (arith, plain_spells, value_least)
 
 -- a value whose octets fit a frame has a spelling
 pub written_datum : (value : Datum) (before : ℕ) → InRange value → before + length (plain value) ≤ 1497 → IsDatum value

@@ -1,8 +1,8 @@
 -- What the reader of tags takes is spelled so, what is spelled so is taken, and the plain spelling is the shortest.
 use Rattle.std.proofs.{
-  Common.{◌≡◌, ℕ, ◌<◌, ltb, eqb, List, [], ◌∷◌, ◌++◌, Option, Some, None, refl, sym, ap, ◌∙◌, append_assoc, arith, inl},
-  Common.{inr, suc, ◌≤◌, cond, length, subst},
-  lemmas.{Grind.common_steps, Bool.{ltb-true, ltb-false, eqb-true}, List.length-append},
+  Common.{◌≡◌, ℕ, ◌<◌, ltb, eqb, List, [], ◌∷◌, ◌++◌, Option, Some, None, refl, ap, append_assoc, arith, inl, inr, suc},
+  Common.{◌≤◌, cond, length, subst},
+  lemmas.{Bool.{ltb-true, ltb-false, eqb-true}, List.length-append},
 }
 use Rattle.bac_wire.specs.{
   declared.tag.{Shape.Shape, Shape.TheVariants.App, Tag.Tag},
@@ -32,7 +32,7 @@ low_small = grind arith
 shape_again : (low : ℕ) (front : List ℕ) (shape : Shape) (rest : List ℕ) → SpellsShape low front shape
     → shape_at low (front ++ rest) ≡ Some (shape, rest)
 unfolding shape_at
-shape_again = grind (arith, low_small, length_again, common_steps)
+shape_again = grind (arith, low_small, length_again)
 
 tag_again : (front : List ℕ) (tag : Tag) (rest : List ℕ) → SpellsTag front tag
     → tag_at (front ++ rest) ≡ Some (tag, rest)
@@ -56,7 +56,7 @@ next_takes _ (octet ∷ octets) n _ is e =
 number_takes : (high : ℕ) (octets : List ℕ) (n : ℕ) (rest : List ℕ) → tag_number_at high octets ≡ found_at n rest
     → Took (SpellsNumber high) octets n rest
 unfolding tag_number_at
-number_takes = grind (arith, took, ltb-true, only_if, next_takes, eqb-true)
+number_takes = grind (arith, took, only_if, next_takes, eqb-true)
 
 two_takes : (a : ℕ) (octets : List ℕ) (n : ℕ) (rest : List ℕ) → a ≡ 254 → two_at octets ≡ found_at n rest
     → Took (SpellsLength 5) (a ∷ octets) n rest
@@ -85,7 +85,7 @@ long_length_takes (a ∷ octets) n _ e =
 length_takes : (low : ℕ) (octets : List ℕ) (n : ℕ) (rest : List ℕ) → length_at low octets ≡ found_at n rest
     → Took (SpellsLength low) octets n rest
 unfolding length_at
-length_takes = grind (arith, took, ltb-true, only_if, eqb-true, long_length_takes)
+length_takes = grind (arith, took, only_if, eqb-true, long_length_takes)
 
 shape_takes : (low : ℕ) (octets : List ℕ) (shape : Shape) (rest : List ℕ) → shape_at low octets ≡ found_at shape rest
     → Took (SpellsShape low) octets shape rest
@@ -120,9 +120,7 @@ tag_takes (initial ∷ octets) tag rest e =
     let number = number_takes _ octets _ _ first.1 in
     let shape = shape_takes _ _ _ _ second.1 in
     let front : List ℕ = initial ∷ (number.0 ++ shape.0) in
-    let line : initial ∷ octets ≡ front ++ second.0.1 =
-    ap (λ (w : List ℕ). initial ∷ w)
-    (number.2 ∙ ap (λ (w : List ℕ). number.0 ++ w) shape.2 ∙ sym (append_assoc _ shape.0 _)) in
+    let line : initial ∷ octets ≡ front ++ second.0.1 = grind (arith, append_assoc) in
     let spelled : SpellsTag front (tag_of first.0.0 second.0.0) =
     record {
       initial = initial;
@@ -145,19 +143,15 @@ one_tag = one_front _ _ tag_reader
 
 -- what holds of each branch of a test, where it is taken
 by_test : {A : Type 0} (P : A → Type 0) (m n : ℕ) {x y : A} → (m < n → P x) → (n ≤ m → P y) → P (cond (ltb m n) x y)
-by_test = grind (arith, ltb-true, ltb-false)
+by_test = grind (arith, ltb-true)
 
 low_half_below : (shape : Shape) → low_half shape < 16
 low_half_below (App n) = omega arith
 low_half_below _ = omega arith
 
-shape_octets_spell : (shape : Shape) (tag : Tag) → tag.shape ≡ shape → IsTag tag
-    → SpellsShape (low_half shape) (plain_length (count_of shape)) shape
-shape_octets_spell = grind arith
-
 pub plain_tag_spells : (tag : Tag) → IsTag tag → SpellsTag (plain_tag tag) tag
 unfolding plain_tag
-plain_tag_spells = grind (arith, low_half_below, by_test, shape_octets_spell)
+plain_tag_spells = grind (arith, low_half_below, by_test)
 
 -- ---- no spelling is shorter
 
@@ -167,9 +161,9 @@ number_least = grind arith
 
 length_least : (low : ℕ) (octets : List ℕ) (n : ℕ) → AreOctets octets → SpellsLength low octets n
     → length (plain_length n) ≤ length octets
-length_least _ (a ∷ b ∷ c ∷ []) n fit s = let first = fit 1 in let second = fit 2 in grind (arith, common_steps)
-length_least _ (a ∷ b ∷ c ∷ d ∷ e ∷ []) n fit s = grind (arith, common_steps)
-length_least _ _ n fit s = grind (arith, common_steps)
+length_least _ (a ∷ b ∷ c ∷ []) n fit s = let first = fit 1 in let second = fit 2 in grind arith
+length_least _ (a ∷ b ∷ c ∷ d ∷ e ∷ []) n fit s = grind arith
+length_least _ _ n fit s = grind arith
 
 shape_least : (low : ℕ) (octets : List ℕ) (shape : Shape) → AreOctets octets → SpellsShape low octets shape
     → length (plain_length (count_of shape)) ≤ length octets
@@ -188,7 +182,6 @@ tag_least _ tag fit s =
     let shape = shape_least _ _ _ later s.shape in
     omega (
       arith,
-      number,
       shape,
       ap length s.whole,
       length-append s.number_octets s.length_octets,
@@ -196,4 +189,4 @@ tag_least _ tag fit s =
     )
 
 pub plain_tag_shortest : (tag : Tag) → IsTag tag → IsShortest SpellsTag (plain_tag tag) tag
-plain_tag_shortest _ fits = record { spelled = plain_tag_spells _ fits; shortest = λ other fit s. tag_least _ _ fit s }
+plain_tag_shortest _ fits = grind (arith, plain_tag_spells, tag_least)

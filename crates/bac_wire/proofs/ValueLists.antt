@@ -1,16 +1,14 @@
 -- The values that a region is, from its front.
-use Rattle.std.proofs.Common.{◌≡◌, ℕ, zero, suc, ◌+◌, ◌<◌, ◌≤◌, List, [], ◌∷◌, length, Option, Some, None, refl, sym}
-use Rattle.std.proofs.Common.{◌∙◌, ap, subst, arith}
+use Rattle.std.proofs.{
+  Common.{◌≡◌, ℕ, zero, suc, ◌+◌, ◌<◌, ◌≤◌, List, [], ◌∷◌, length, Option, Some, None, refl, sym, ◌∙◌, ap, subst},
+  Common.arith,
+  lemmas.{Bool.Decides.nat_tests, Option.none-some},
+}
 use Rattle.std.specs.Prelude.{◌↔◌, option_map}
-use Rattle.std.proofs.lemmas.Bool.Decides.{nat_tests}
-use Rattle.std.proofs.lemmas.Option.{none-some}
-use Rattle.bac_wire.specs.Datum.{Datum, Spells}
-use Rattle.bac_wire.proofs.DatumLaws.{value_reader}
-use Rattle.bac_wire.proofs.RegionReading.{tag_shorter}
-use Rattle.bac_wire.specs.Front.{SpellsAll}
-use Rattle.bac_wire.proofs.Readers.{begins, begins_read}
-use Rattle.bac_wire.specs.Steps.{◌>>=◌}
-use Rattle.bac_wire.specs.DatumReading.{value_at, values_within, values_of}
+use Rattle.bac_wire.{
+  specs.{Datum.{Datum, Spells}, Front.SpellsAll, Steps.◌>>=◌, DatumReading.{value_at, values_within, values_of}},
+  proofs.{DatumLaws.value_reader, RegionReading.tag_shorter, Readers.{begins, begins_read}},
+}
 
 -- A value has an octet at least.
 pub value-shorter : (octets : List ℕ) (value : Datum) (rest : List ℕ) → value_at octets ≡ Some (value, rest)
@@ -55,7 +53,7 @@ values-none (x ∷ xs) e h = ap (then_others (length xs)) e
 pub values-first : (octets : List ℕ) (value : Datum) (rest : List ℕ) → value_at octets ≡ Some (value, rest) →
     values_of octets ≡ option_map (λ others. value ∷ others) (values_of rest)
 unfolding values_within
-values-first [] value rest e = absurd (let short = value-shorter [] value rest e in omega arith)
+values-first [] _ _ e = grind (arith, value-shorter)
 values-first (x ∷ xs) value rest e =
     let short = value-shorter (x ∷ xs) value rest e in
     let same = enough (length xs) (length rest) rest (omega arith) (omega arith) in
@@ -72,25 +70,25 @@ pub record Counted (region rest : List ℕ) (count : ℕ) : Type 0 where
   pub is : option_map length (values_of region) ≡ option_map (λ (n : ℕ). count + n) (option_map length (values_of rest))
 
 pub counted_none : (region : List ℕ) → Counted region region 0
-counted_none region = record { is = grind arith }
+counted_none _ = record { is = grind arith }
 
 pub counted_more : (region rest behind : List ℕ) (count : ℕ) (value : Datum) → Counted region rest count
     → value_at rest ≡ Some (value, behind) →
     Counted region behind (count + 1)
-counted_more region rest behind count value h found =
+counted_more _ rest behind _ value h found =
     let more = values-first rest value behind found in
     record { is = grind arith }
 
 pub counted_stuck : (region rest : List ℕ) (count : ℕ) → Counted region rest count → value_at rest ≡ None
     → 0 < length rest →
     None ≡ option_map length (values_of region)
-counted_stuck region rest count h none some = let stuck = values-none rest none some in grind arith
+counted_stuck _ _ _ h none some = grind (arith, values-none)
 
 pub counted_all : (region rest : List ℕ) (count : ℕ) → Counted region rest count → length rest ≡ 0
     → Some count ≡ option_map length (values_of region)
 unfolding values_within
-counted_all region [] count h e = grind arith
-counted_all region (x ∷ xs) count h e = absurd (omega arith)
+counted_all _ [] _ h e = grind arith
+counted_all _ (x ∷ xs) _ h e = absurd (omega arith)
 
 pub ruleset counted = (counted_none, counted_more, counted_stuck, counted_all, nat_tests)
 
@@ -122,11 +120,11 @@ spelled (value ∷ others) (x ∷ xs) e = go (λ rest. spelled others rest) (val
 -- what octets spell, their values are
 pub read_all : (values : List Datum) (octets : List ℕ) → SpellsAll Spells octets values → values_of octets ≡ Some values
 unfolding values_within
-read_all [] octets s = ap values_of s
+read_all [] _ s = ap values_of s
 read_all (value ∷ others) octets s =
     values-first octets value s.0 (begins_read Spells value_at value_reader octets value s.0 s.1)
     ∙ ap (option_map (λ more. value ∷ more)) (read_all others s.0 s.2)
 
 pub are_spelled : (region : List ℕ) (values : List Datum)
     → (values_of region ≡ Some values) ↔ SpellsAll Spells region values
-are_spelled region values = (spelled values region, read_all values region)
+are_spelled _ _ = grind (arith, spelled, read_all)

@@ -15,7 +15,7 @@ front = grind (arith, length-append, take_at, take_all)
 pub then_appends : {A B E F : Type 0} {old first mid second new : List ℕ} {x : A} {r : Result B F}
     → AppendsFront {E = E} old first mid (Ok x) → AppendsFront mid second new r
     → AppendsFront old (first ++ second) new r
-then_appends = grind (arith, length-append, append_assoc, take_at, take-take)
+then_appends = grind (arith, length-append, append_assoc, take-take)
 
 -- where the first writer has no room, there is none for both
 pub stops : {A B E F : Type 0} {old first new : List ℕ} {e : E} {r : Result B F} (second : List ℕ) → IsErr r

@@ -1,6 +1,6 @@
-use Rattle.std.proofs.{Common.arith, lemmas.{Grind.common_steps, List.Edits.map_over_more}}
+use Rattle.std.proofs.{Common.arith, lemmas.List.Edits.map_over_more}
 use Rattle.bac_device.specs.{Places.put, Inner.Places.write_seen}
 use Rattle.bac_device.proofs.device.put_in.Goals as goal
 
 pub loop-point-preserved : goal.loop-point-preserved
-loop-point-preserved c = grind (arith, common_steps, map_over_more (put (write_seen c.args.write.now)))
+loop-point-preserved c = grind (arith, map_over_more (put (write_seen c.args.write.now)))

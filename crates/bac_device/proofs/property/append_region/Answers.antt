@@ -15,7 +15,7 @@ one_more : (values : List Datum) (i : ℕ) (value : Datum) → Some value ≡ sl
 one_more values i value read =
     let within = slice_get_within values i value (sym read) in
     let here = get_or_from_slice_get values i value value (sym read) in
-    (rw here at (take_more values i value within), rw here at (length-flat_map-take plain values i value within))
+    (grind (arith, take_more), grind (arith, length-flat_map-take))
 
 pub unreachable-requires : goal.unreachable-requires
 unreachable-requires c =

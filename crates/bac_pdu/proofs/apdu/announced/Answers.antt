@@ -1,11 +1,11 @@
-use Rattle.std.proofs.{Common.{◌≡◌, ◌%◌, ◌∙◌, arith, bit_and}, lemmas.{Nat.and_mask, Bool.Decides.nat_tests}}
+use Rattle.std.proofs.{Common.{◌≡◌, ◌%◌, ◌∙◌, arith, bit_and}, lemmas.Nat.and_mask}
 use Rattle.bac_pdu.proofs.ApduLaws.{announced_other}
 use Rattle.bac_pdu.proofs.apdu.announced.Goals as goal
 
 pub returns-in_default : goal.returns-in_default
 returns-in_default c =
     let same : bit_and c.args.code 15 ≡ c.args.code % 16 = and_mask _ 4 in
-    let other = announced_other _ (λ e. let f = same ∙ e in grind (arith, nat_tests))
-    (λ e. let f = same ∙ e in grind (arith, nat_tests)) (λ e. let f = same ∙ e in grind (arith, nat_tests))
-    (λ e. let f = same ∙ e in grind (arith, nat_tests)) (λ e. let f = same ∙ e in grind (arith, nat_tests)) in
-    omega (arith, other)
+    let other = announced_other _ (λ e. let f = same ∙ e in grind arith)
+    (λ e. let f = same ∙ e in grind arith) (λ e. let f = same ∙ e in grind arith)
+    (λ e. let f = same ∙ e in grind arith) (λ e. let f = same ∙ e in grind arith) in
+    omega arith

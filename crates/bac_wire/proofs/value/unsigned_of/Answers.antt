@@ -6,5 +6,5 @@ pub returns-clause-fits : goal.returns-clause-fits
 returns-clause-fits c =
     let below = big_from-lt 0 (length c.args.contents.now) c.args.contents.now
     (λ k. omega (arith, c.type_inv.contents k)) in
-    let more : 256 ^ length c.args.contents.now ≤ 256 ^ c.args.most = pow-le-pow_right (omega arith) (omega arith) in
+    let more : 256 ^ length c.args.contents.now ≤ 256 ^ c.args.most = grind (arith, pow-le-pow_right) in
     omega arith
