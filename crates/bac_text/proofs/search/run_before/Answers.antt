@@ -5,9 +5,10 @@ use Rattle.std.proofs.{
 use lib.Lanes.{chunk}
 use Rattle.bac_text.{
   specs.{Search.ends_at, Inner.Search.{first_set, IsRunIn}, declared.search.End.End},
-  proofs.{Lanes.{run_in, lane_is, lanes_are}, search.run_before.Goals.{in-Blank, in-At, in-PastAscii}},
+  proofs.Lanes.{run_in, lane_is, lanes_are},
 }
 use Rattle.bac_text.proofs.search.run_before.Goals as goal
+use Rattle.bac_text.proofs.search.run_before.Goals.{in-Blank, in-At, in-PastAscii}
 
 pub returns : goal.returns
 returns g c =

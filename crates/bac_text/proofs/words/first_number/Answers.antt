@@ -4,9 +4,10 @@ use Rattle.std.proofs.{
 }
 use Rattle.bac_text.{
   specs.{Words.is_blank, Inner.Words.IsFirstNumber},
-  proofs.{FirstNumbers.first_number_is, words.first_number.Goals.{then-count-text, else-count-text}},
+  proofs.FirstNumbers.first_number_is,
 }
 use Rattle.bac_text.proofs.words.first_number.Goals as goal
+use Rattle.bac_text.proofs.words.first_number.Goals.{then-count-text, else-count-text}
 
 pub returns : goal.returns
 returns c =

@@ -1,9 +1,7 @@
 use Rattle.std.proofs.Common.{sym, ◌∙◌, arith}
-use Rattle.bac_script.proofs.{
-  Chunks.{cut_behind, none_up_to, none_held, cut_as_long},
-  input.Chunk.line_length.Goals.{then-self-lt-LINE_ROOM, else-self-lt-LINE_ROOM},
-}
+use Rattle.bac_script.proofs.Chunks.{cut_behind, none_up_to, none_held, cut_as_long}
 use Rattle.bac_script.proofs.input.Chunk.line_length.Goals as goal
+use Rattle.bac_script.proofs.input.Chunk.line_length.Goals.{then-self-lt-LINE_ROOM, else-self-lt-LINE_ROOM}
 
 pub returns-in-Some-clause-line : goal.returns-in-Some-clause-line
 returns-in-Some-clause-line c =

@@ -2,9 +2,10 @@ use Rattle.std.proofs.Common.{◌∙◌, ap, inr, take, arith}
 use Rattle.bac_script.proofs.{
   Chunks.{Placed, placed_moved, still_before, still_held, before_more, read_on, read_none, read_ended, last_on},
   Chunks.last_none,
-  input.Chunk.read_more.{Given.Over, Goals.{After-read, then-self, else-self}},
 }
 use Rattle.bac_script.proofs.input.Chunk.read_more.Goals as goal
+use Rattle.bac_script.proofs.input.Chunk.read_more.Given.{Over}
+use Rattle.bac_script.proofs.input.Chunk.read_more.Goals.{After-read, then-self, else-self}
 
 -- The chunk as it is read into: what is held was moved to the front, or there was room.
 ready : (g : Over) (c : After-read g) →
