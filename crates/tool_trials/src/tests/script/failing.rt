@@ -1,8 +1,8 @@
 //! Readers and writers that fail, one operation after another.
 use crate::tests::streams::{Asked, Progress, printed_after, telling, with_room};
 use arrayvec::ArrayVec;
-use bac_script::{TraceEnd, TraceFault, trace};
 use bac_print::Checked;
+use bac_script::{TraceEnd, TraceFault, trace};
 use std::alloc::Global;
 use std::io::{self, ErrorKind, Read};
 

@@ -1,7 +1,7 @@
 //! Texts of outcomes and of values.
 use crate::tests::is_text;
-use bac_script::{TraceFault, show_outcome, show_value};
 use bac_print::Checked;
+use bac_script::{TraceFault, show_outcome, show_value};
 use bac_tsm::Outcome;
 
 // What each outcome is printed as stands with the scripts. Here it is written, and what fails is told.
