@@ -50,11 +50,11 @@ examples: program
 	@port=$$(examples/free-port.sh); \
 	    examples/demo.sh $(PROGRAM) $$port | sed "s/$$port/47808/" | diff - examples/demo.out
 	@echo "examples/demo.sh: as it is to be"
-	@tests/program.sh $(PROGRAM)
-	@tests/lengths.py $(PROGRAM)
-	@tests/rows.py $(PROGRAM)
-	@tests/failing.py $(PROGRAM)
-	@tests/bacsite.py $(PROGRAM)
+	@tests/program/program.sh $(PROGRAM)
+	@tests/program/lengths.py $(PROGRAM)
+	@tests/program/rows.py $(PROGRAM)
+	@tests/program/failing.py $(PROGRAM)
+	@tests/program/bacsite.py $(PROGRAM)
 
 forget:
 	rm -rf crates/*/out/incremental crates/*/out/rlib
@@ -62,11 +62,11 @@ forget:
 lint: documents
 
 documents:
-	@tests/documents.py
-	@tests/reading.py
+	@tests/documents/documents.py
+	@tests/documents/reading.py
 
 reading:
-	@tests/reading.py --write
+	@tests/documents/reading.py --write
 
 .DEFAULT_GOAL := help
 .PHONY: help kit

@@ -6,7 +6,7 @@
 # make bench-loopback: its first part alone
 # make soak: random datagrams against bacdev, a random script through bactrace. DATAGRAMS=1000000 LINES=10000000, which
 #     take some two minutes
-# make interop: nmap and tshark against the device and the tools (tests/interop.py); it installs both. Under a minute
+# make interop: nmap and tshark against the device and the tools; it installs both. Under a minute
 # make holes: wrong bodies that no contract can refuse, each with the test that has to fail. A minute or two of
 #     processor time each, and 24 of them. JOBS=1
 
@@ -30,7 +30,7 @@ soak: program
 	@bench/soak_scripts.py $(LINES)
 
 interop: program
-	@tests/interop.py
+	@tests/program/interop.py
 
 holes:
-	@tests/holes.py --jobs $(JOBS)
+	@tests/bodies/holes.py --jobs $(JOBS)

@@ -26,13 +26,13 @@ uninstall:
 	@packaging/install.sh --remove
 
 lint: program
-	@tests/pages.py $(PROGRAM)
-	@tests/numbers.sh
-	@tests/completions.sh
-	@tests/install.sh $(PROGRAM)
-	@tests/targets.sh
+	@tests/package/pages.py $(PROGRAM)
+	@tests/documents/numbers.sh
+	@tests/package/completions.sh
+	@tests/package/install.sh $(PROGRAM)
+	@tests/documents/targets.sh
 	@if command -v shellcheck >/dev/null; then \
-	    shellcheck -x -P SCRIPTDIR $$(grep -l '^#!' */*.sh) && echo "shellcheck finds no fault with the scripts"; \
+	    shellcheck -x $$(grep -l '^#!' */*.sh tests/*/*.sh) && echo "shellcheck finds no fault with the scripts"; \
 	else \
 	    echo "shellcheck is not installed, left out"; \
 	fi
@@ -40,7 +40,7 @@ lint: program
 examples: guide
 
 guide: program
-	@BACTOOL=$(PROGRAM) tests/guide.sh
+	@BACTOOL=$(PROGRAM) tests/program/guide.sh
 
 deb: program
 	packaging/deb.sh $(PROGRAM) $(dir $(PROGRAM))

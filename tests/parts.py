@@ -47,7 +47,7 @@ def gently(*command):
 
 def bodies(name, *words):
     tried, failed = r"^(\d+) wrong bodies: .* of (\d+) twins", r"; (\d+) failed$"
-    return Part(name, gently("tests/wrong_bodies.py", *words), tried, failed)
+    return Part(name, gently("tests/bodies/wrong_bodies.py", *words), tried, failed)
 
 
 def build(command):
@@ -184,7 +184,7 @@ def gate(clock):
     with tempfile.TemporaryDirectory(prefix="gate-") as room:
         read_back = r"^(\d+) rows .* and (\d+) other texts|agree with the tree$"
         documents = Part("documents", ["make", "--no-print-directory", "documents"], read_back)
-        fit = Part("fit", ["tests/wrong_bodies.py", "--list"], "", r"of which (\d+)", shown=r"^crates/|fit")
+        fit = Part("fit", ["tests/bodies/wrong_bodies.py", "--list"], "", r"of which (\d+)", shown=r"^crates/|fit")
         passed, lost = run([[documents, fit]], clock, True)
         for rows in (beside([whole_proof(room)], others), [[examples()]]):
             more, lost = (0, lost) if lost else run(rows, clock, True)

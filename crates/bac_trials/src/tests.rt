@@ -1,5 +1,5 @@
 //! Worked rows of each crate that only a call can say, and hostile octets through the reader of datagrams, the client
-//! and the device. What scripts can say stands in tests/rows.
+//! and the device. What scripts can say stands in tests/program/rows.
 
 mod client;
 mod damage;

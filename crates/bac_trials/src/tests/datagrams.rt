@@ -1,5 +1,5 @@
-//! The datagrams of the worked examples, for the tests on hostile octets. What each of them does stands in tests/rows,
-//! as scripts.
+//! The datagrams of the worked examples, for the tests on hostile octets. What each of them does stands in
+//! tests/program/rows, as scripts.
 
 /// Their octets as digits.
 pub(crate) const DATAGRAMS: &str =

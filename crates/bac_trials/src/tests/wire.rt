@@ -1,4 +1,4 @@
-//! A frame at its limit, tags, and regions. Values, and what spells none, stand in tests/rows.
+//! A frame at its limit, tags, and regions. Values, and what spells none, stand in tests/program/rows.
 
 use crate::tests::{nested, octets};
 use bac_wire::{Frame, Shape, Tag, Value, is_region, read_tag, region, write_tag, write_value};

@@ -1,12 +1,12 @@
 #!/usr/bin/env python3
-"""Compares the documents with the tree and with one another. Usage: tests/documents.py; it ends with 1 where they
-differ, and says in what.
+"""Compares the documents with the tree and with one another. Usage: tests/documents/documents.py; it ends with 1
+where they differ, and says in what.
 
 - docs/CODE.md: each crate of crates.txt has a row, and stands in the drawing below the crates that it rests on. Where
   it has a heading, the tables below that name each file of src/ (column Code), specs/ (Definitions) and proofs/
   (Proofs), and none that isn't there; lists of modules (lib.rt, Lib.antt), worked examples and the answers to single
   functions are left out. `Beside the crates` names each other folder and file at the top, and each file of docs/,
-  tests/ and bench/.
+  bench/, tests/ and its rooms.
 - Each file of src/ begins with a line `//!` that says what it has, and each of specs/ and proofs/ with one `--`, but
   for lists of modules and answers to single functions. What the head of a library shows stands in its examples; the
   calls that it shows stand in bac_uses.
@@ -16,8 +16,8 @@ differ, and says in what.
 - README.md: what it shows of a script is what examples/ has, and the rule that it shows stands so in specs/. It has at
   most 120 lines and 1,500 words.
 - docs/PROTOCOL.md: the texts of faults are those of the code. Each row of a table is read back from outside: named in
-  tests/pins.txt, once, with the worked row or example that would fail were it wrong in a definition and in the code at
-  once. What is named there stands in the document, and the text which is named for it in its file.
+  pins.txt, once, with the worked row or example that would fail were it wrong in a definition and in the code at once.
+  What is named there stands in the document, and the text which is named for it in its file.
 - Links lead to what a package has: a document, or a file of examples/.
 - Lines have at most 120 columns, in the documents but for tables and what is printed; in scripts; and in src/, specs/
   and proofs/ but for attributes, which `rt fmt` lays out, and words that are longer.
@@ -28,10 +28,11 @@ import re
 import sys
 import textwrap
 
+sys.path.insert(0, os.path.dirname(__file__) + "/..")
 from tree import TOP, all_crates, sections, tables, text_of
 
 COLUMNS = {"Code": ("src", ".rt"), "Definitions": ("specs", ".antt"), "Proofs": ("proofs", ".antt")}
-WHOLE = ["docs/", "tests/", "bench/"]  # folders whose row names each file
+WHOLE = ["docs/", "bench/", "tests/", "tests/[a-z]*/"]  # folders whose row names each file
 PAGES = {"README.md", "CONTRIBUTING.md", "SECURITY.md", "CHANGELOG.md"}
 WELL_KNOWN = PAGES | {"LICENSE", ".gitignore", ".git", "crates", "out"}
 WIDTH = 120
@@ -91,7 +92,7 @@ def map_beside_the_crates(section):
     named = {name for row in rows(section) for name in names(row["Folder or file"])}
     tops = {name + "/" if os.path.isdir(name) else name for name in os.listdir(".") if name not in WELL_KNOWN}
     compare("beside the crates", {name for name in named if "/" not in name.rstrip("/")}, tops)
-    for folder in WHOLE:
+    for folder in (it for place in WHOLE for it in glob.glob(place)):
         told = [row["What it has"] for row in rows(section) if folder in names(row["Folder or file"])]
         said = {name for text in told for name in names(text) if re.fullmatch(r"[\w-]+\.\w+", name)}
         compare(folder, said, {name for name in os.listdir(folder) if os.path.isfile(folder + name)})
@@ -200,7 +201,7 @@ def on_one_line(text):
 def pins():
     """Each heading, the key below it, and the files and texts below the key."""
     heading, found = "", []
-    for line in text_of("tests/pins.txt").splitlines():
+    for line in text_of("tests/documents/pins.txt").splitlines():
         if line.startswith("## "):
             heading = line[3:]
         elif line.startswith("    "):
@@ -222,12 +223,12 @@ def rows_are_read_back(parts):
             DIFFERENCES.append(f"{heading}: {key}: nothing is named that reads it back")
         named.update(mine)
         for file, text in places:
-            file = file if "/" in file else f"tests/rows/{file}"
+            file = file if "/" in file else f"tests/program/rows/{file}"
             if not os.path.isfile(file) or on_one_line(text) not in on_one_line(text_of(file)):
                 DIFFERENCES.append(f"{heading}: {key}: {file} has no {text}")
     for heading, row in rows:
         if (heading, row) not in named:
-            DIFFERENCES.append(f"{heading}: nothing in tests/pins.txt reads this row back: {row[:100]}")
+            DIFFERENCES.append(f"{heading}: nothing in pins.txt reads this row back: {row[:100]}")
     return len(rows), len(found) - len(rows)
 
 

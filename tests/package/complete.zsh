@@ -1,5 +1,5 @@
 #!/usr/bin/env -S zsh -f
-# Prints what zsh completes a line to, one word a line. Usage: tests/complete.zsh LINE, in the repository's folder.
+# Prints what zsh completes a line to, one word a line. Usage, in the repository's folder: tests/package/complete.zsh LINE
 zmodload zsh/zpty
 zpty shell zsh -f -i
 send() { zpty -w shell "$1" }

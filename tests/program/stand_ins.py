@@ -1,4 +1,4 @@
-"""Stand-ins for controllers at ports of 127.0.0.1, and octets of values, for tests/bacsite.py."""
+"""Stand-ins for controllers at ports of 127.0.0.1, and octets of values, for bacsite.py."""
 import socket
 import struct
 import threading

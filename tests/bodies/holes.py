@@ -2,13 +2,14 @@
 """Sees that what no contract can refuse is refused by a test: puts in each wrong body that has a line `hole:`, runs the
 test which that line names, and says so where the test passes.
 
-Usage: tests/holes.py [--only PATTERN] [--jobs N]. The status is 0 where each test fails, and passes without a body.
+Usage: tests/bodies/holes.py [--only PATTERN] [--jobs N]. The status is 0 where each test fails, and passes without a
+body.
 
-A line `hole:` names a file: of src/tests/ of bac_trials or tool_trials, one of whose tests has to fail; of tests/rows/,
-one of whose rows has to; or a script of tests/, which has to. The trials are run by `rt try --test`, those of the
-file's module alone; the program is one that `rt try` makes, in which an index or a sum out of bounds also ends it.
-Nothing is proved here: tests/wrong_bodies.py does that. Each body takes a build of some 70 seconds of processor time,
-so this is no part of the gate.
+A line `hole:` names a file: of src/tests/ of bac_trials or tool_trials, one of whose tests has to fail; of
+tests/program/rows/, one of whose rows has to; or a script of tests/program/, which has to. The trials are run by
+`rt try --test`, those of the file's module alone; the program is one that `rt try` makes, in which an index or a sum
+out of bounds also ends it. Nothing is proved here: wrong_bodies.py does that. Each body takes a build of some 70
+seconds of processor time, so this is no part of the gate.
 """
 import argparse
 import collections
@@ -25,6 +26,7 @@ import tempfile
 import threading
 import time
 
+sys.path.insert(0, os.path.dirname(__file__) + "/..")
 from edits import ROOT, Edit
 from tree import copy_sources, free_port, text_of
 
@@ -126,12 +128,12 @@ def program_of(process):
 def of_program(room, test):
     """What the test says of what is not as it is to be."""
     program = built(room)
-    words = [f"{ROOT}/tests/rows.py", program, test] if test.endswith(".rows") else [f"{ROOT}/{test}", program]
+    words = [f"{ROOT}/tests/program/rows.py", program, test] if test.endswith(".rows") else [f"{ROOT}/{test}", program]
     words += ["calls"] * test.endswith("/failing.py")
     ran = run(["timeout", "300", *words], ROOT)
     if ran.returncode == 124:
         return ["it does not end in five minutes"]
-    wrong = [line for line in ran.stdout.splitlines() if line.startswith(("not as it is to be", "tests/rows/"))]
+    wrong = [line for line in ran.stdout.splitlines() if line.startswith(("not as it is to be", "tests/program/rows/"))]
     if (ran.returncode != 0) != bool(wrong):
         raise NotTried(f"status {ran.returncode}:\n{ran.stdout[-2000:]}{ran.stderr[-2000:]}")
     return wrong

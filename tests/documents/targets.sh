@@ -1,13 +1,13 @@
 #!/usr/bin/env bash
 # Tries what make says at first: alone it lists the targets and builds nothing; each target stands in that list; and
-# without the Rattle kit what needs it says so in one line. Usage: tests/targets.sh
+# without the Rattle kit what needs it says so in one line. Usage: tests/documents/targets.sh
 set -euo pipefail
-cd "$(dirname "$0")/.."
+cd "$(dirname "$0")/../.."
 room=$(mktemp -d)
 trap 'rm -r "$room"' EXIT
 
 wrong() {
-    echo "tests/targets.sh: $*" >&2
+    echo "tests/documents/targets.sh: $*" >&2
     exit 1
 }
 
@@ -39,4 +39,4 @@ for command in 'make -s try' 'make -s check' 'make -s test' ./build.py; do
     [ "$(grep -vc '^make: \*\*\*' "$room/told")" = 1 ] || wrong "$command, without rt: $(cat "$room/told")"
     grep -q 'needs rt.*README.md' "$room/told" || wrong "$command, without rt: $(cat "$room/told")"
 done
-echo "tests/targets.sh: make lists its targets, and says what it lacks"
+echo "tests/documents/targets.sh: make lists its targets, and says what it lacks"

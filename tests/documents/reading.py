@@ -1,11 +1,10 @@
 #!/usr/bin/env python3
-"""What has to be read to believe a promise: docs/reading/, made from the sources by what tests/sources.py tells.
+"""What has to be read to believe a promise: docs/reading/, made from the sources by what sources.py tells.
 
-Usage: tests/reading.py            compares docs/reading/, and the sizes that README.md tells, with the tree; says which
-                                   public calls stand on no page, which definitions lie in the wrong room, and which
-                                   names a file brings in that aren't there, or that it doesn't say; ends with 1 where
-                                   there are any
-       tests/reading.py --write    writes docs/reading/ anew (make reading)
+Usage: tests/documents/reading.py [--write]: compares docs/reading/, and the sizes that README.md tells, with the tree;
+says which public calls stand on no page, which definitions lie in the wrong room, and which names a file brings in that
+aren't there, or that it doesn't say; ends with 1 where there are any. With --write it writes docs/reading/ anew (make
+reading).
 """
 import collections
 import glob
@@ -15,6 +14,7 @@ import shutil
 import sys
 import textwrap
 
+sys.path.insert(0, os.path.dirname(__file__) + "/..")
 from sources import CLOSE, CRATES, DEFINITIONS, OPEN, PROBLEMS, SOURCES, TOKEN
 from sources import closed, defined, match_bracket, public_calls, read_tree, uses_in, without_uses
 from tree import TOP, text_of

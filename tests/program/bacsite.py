@@ -1,6 +1,6 @@
 #!/usr/bin/env python3
 """Tries site/bacsite over the built program, on bacdevs and on stand-ins that are slow, lossy, silent, wrong, or
-another device. Usage: tests/bacsite.py PROGRAM [WORD OF UNITTEST ..]; PYTHON names another Python to run bacsite by.
+another device. Usage: tests/program/bacsite.py PROGRAM [WORD OF UNITTEST ..]; PYTHON names another Python for bacsite.
 
 Expected values are those of IEEE 754 and of the standard's tables, by hand or by Python's struct and decimal. A row is
 words, `=>`, the status and standard output, where `;` ends a line; behind `!` stands how standard error begins, while
@@ -25,9 +25,10 @@ import time
 import unittest
 from concurrent.futures import ThreadPoolExecutor
 
+sys.path.insert(0, os.path.dirname(__file__) + "/..")
 from stand_ins import StandIn, an_object, bits, enumerated, real, string, tagged, unsigned
+from tree import TOP
 
-TOP = os.path.dirname(os.path.dirname(os.path.abspath(__file__)))
 TOOL = os.path.realpath(sys.argv.pop(1)) if len(sys.argv) > 1 else sys.exit(__doc__)
 IN = tempfile.mkdtemp()
 COMMAND = [os.environ.get("PYTHON", sys.executable), IN + "/bacsite"]
@@ -94,7 +95,7 @@ def surroundings():
     ask = "import locale; locale.setlocale(locale.LC_ALL, ''); print(locale.localeconv()['decimal_point'])"
     told = subprocess.run([sys.executable, "-c", ask], env=comma, stdout=subprocess.PIPE, stderr=subprocess.DEVNULL)
     if told.stdout != b",\n":
-        print("tests/bacsite.py: no locale with a decimal comma can be made, left out")
+        print("tests/program/bacsite.py: no locale with a decimal comma can be made, left out")
     return [{}, {**base, "LC_ALL": "C"}, {**base, "LC_ALL": "xx_XX.UTF-8"}, ascii_] + [comma] * (told.stdout == b",\n")
 
 
@@ -427,5 +428,6 @@ bacnet_value{point="out"} 72.3\nbacnet_value{point="q\\"\\\\"} 0\nbacnet_value{p
 if __name__ == "__main__":
     result = unittest.main(exit=False).result
     bad = len(result.failures) + len(result.errors)
-    print("tests/bacsite.py: %d calls, %s" % (calls, "%d not as they are to be" % bad if bad else "as they are to be"))
+    how = "%d not as they are to be" % bad if bad else "as they are to be"
+    print("tests/program/bacsite.py: %d calls, %s" % (calls, how))
     sys.exit(bad > 0)

@@ -1,7 +1,7 @@
 #!/usr/bin/env python3
 """Tries wrong bodies of functions, many in one check, and says of each by what the prover refuses it.
 
-tests/edits.py says what a wrong body is. Many bodies of a crate stand together in one copy of it, over the proofs that
+edits.py says what a wrong body is. Many bodies of a crate stand together in one copy of it, over the proofs that
 its last check or build kept. A body stands beside its function, as one more function with the same contract and
 answers, under a name of its own: so callers and other bodies see the right one. Bodies of methods with a trait's
 contract, and of functions that call one another, stand in the function's place, those of one function in different
@@ -36,6 +36,7 @@ import sys
 import tempfile
 import time
 
+sys.path.insert(0, os.path.dirname(__file__) + "/..")
 from edits import ROOT, Edit, functions_of, text_of
 from tree import copy_sources, crates_below, free_memory, processors
 

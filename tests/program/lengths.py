@@ -1,17 +1,19 @@
 #!/usr/bin/env python3
 """Sends a device a datagram of each length from 1,000 octets to the longest, 2,047, and answers a tool by some of them,
-over sockets of this machine: each is heard whole, and a longer one not at all. Usage: tests/lengths.py PROGRAM
+over sockets of this machine: each is heard whole, and a longer one not at all. Usage: tests/program/lengths.py PROGRAM
 
 The device is asked to write an octet string to a point that takes none, so it answers by an error (2, 9: the value has
 another type). The tool prints the octets of such a string. A datagram that lost an octet is not as long as it says, and
 would be ignored.
 """
 import contextlib
+import os
 import socket
 import subprocess
 import sys
 import time
 
+sys.path.insert(0, os.path.dirname(__file__) + "/..")
 from tree import free_port
 
 LONGEST = 2047
@@ -93,7 +95,7 @@ def heard_by_tools(program):
 def main(program):
     wrong = next((it for found in (heard_by_a_device, heard_by_tools) for it in found(program)), None)
     tried = f"{LONGEST - 999} requests and {len(SOME)} answers of up to {LONGEST} octets"
-    well = f"tests/lengths.py: {tried} are heard whole, and longer ones are not"
+    well = f"tests/program/lengths.py: {tried} are heard whole, and longer ones are not"
     print(f"not as it is to be: {wrong}" if wrong else well)
     return 1 if wrong else 0
 

@@ -4,8 +4,8 @@ status 4. And has each call of the program to the system fail so, by each of the
 sending, receiving, reading, writing. Every such run has to end with status 3 and the line of its fault, after a front
 of what it prints otherwise. But where a receive fails by what is silence, it goes on as if nothing had come; a device
 goes on where it can't send a reply, too. Where none fails, the program makes the calls that are wanted, and no others.
-Usage: tests/failing.py PROGRAM [calls]; it needs cc, and says so where there is none. With `calls` no request for
-memory is refused: a program that `rt try` makes has its memory from elsewhere.
+Usage: tests/program/failing.py PROGRAM [calls]; it needs cc, and says so where there is none. With `calls` no request
+for memory is refused: a program that `rt try` makes has its memory from elsewhere.
 """
 import errno
 import glob
@@ -17,6 +17,7 @@ import tempfile
 from collections import namedtuple
 from concurrent.futures import ThreadPoolExecutor
 
+sys.path.insert(0, os.path.dirname(__file__) + "/..")
 from tree import TOP, free_port, text_of
 
 # The errors, by what a receive that fails so is: a fault; a fault to the tool that sent, since its peer refuses what
@@ -134,7 +135,7 @@ def memory():
     for status, words in [(0, ["--help"]), (0, ["bacwp", "--help"]), *((2, words) for words in bad)]:
         requests += refused(status, words)
     requests += refused(2, ["bacwi", "1", "2", "--mac", "1.2.3"])
-    print(f"tests/failing.py: {requests} requests for memory refused, each told as it is to be", flush=True)
+    print(f"tests/program/failing.py: {requests} requests for memory refused, each told as it is to be", flush=True)
 
 
 def calls_of_the_system():
@@ -159,16 +160,17 @@ def calls_of_the_system():
     each("tell", [*READ, "--mac", "1.2.3"])
     # A device waits for a second at a time.
     each("socket bind setsockopt 1000000 recvfrom recvfromtell", [*DEVICE, "1"], 4)
-    print(f"tests/failing.py: {calls + devices()} calls failed in turn, each told as it is to be, or taken for silence")
+    calls += devices()
+    print(f"tests/program/failing.py: {calls} calls failed in turn, each told as it is to be, or taken for silence")
 
 
 try:
     if shutil.which("cc"):
-        library = ["cc", "-O1", "-shared", "-fPIC", "-o", f"{ROOM}/fail.so", f"{TOP}/tests/fail.c"]
+        library = ["cc", "-O1", "-shared", "-fPIC", "-o", f"{ROOM}/fail.so", f"{TOP}/tests/program/fail.c"]
         subprocess.run(library, check=True)
         for part in [calls_of_the_system] if sys.argv[2:] == ["calls"] else [memory, calls_of_the_system]:
             part()
     else:
-        print("tests/failing.py: left out, since it needs cc")
+        print("tests/program/failing.py: left out, since it needs cc")
 finally:
     shutil.rmtree(ROOM)

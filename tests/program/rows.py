@@ -1,8 +1,8 @@
 #!/usr/bin/env python3
-"""Runs the scripts and command lines of tests/rows/ by the built program, and compares output, errors and status.
+"""Runs the scripts and command lines of rows/ by the built program, and compares output, errors and status.
 
-Usage: tests/rows.py PROGRAM [FILE..]: all that there is, or the rows of these files alone. Each script is run twice:
-whole, and with one octet at each read, which needs cc.
+Usage: tests/program/rows.py PROGRAM [FILE..]: all that there is, or the rows of these files alone. Each script is run
+twice: whole, and with one octet at each read, which needs cc.
 
 Rows are parted by blank lines. The mark at the front of a line says what the rest of it is:
 
@@ -36,6 +36,7 @@ import tempfile
 from collections import namedtuple
 from concurrent.futures import ThreadPoolExecutor
 
+sys.path.insert(0, os.path.dirname(__file__) + "/..")
 from tree import TOP, free_port
 
 LETTERS = {
@@ -125,7 +126,7 @@ def row_cases(path):
 
 
 def generated(name, script, output):
-    return Case("tests/rows.py, " + name, SCRIPT, spelled(script), 0, spelled(output), "")
+    return Case("tests/program/rows.py, " + name, SCRIPT, spelled(script), 0, spelled(output), "")
 
 
 def sent(ticket, number):
@@ -245,7 +246,7 @@ def tell(case, ending, how):
 
 
 def main(program, files):
-    paths = files or sorted(glob.glob(os.path.relpath(TOP + "/tests/rows") + "/*.rows"))
+    paths = files or sorted(glob.glob(os.path.relpath(TOP + "/tests/program/rows") + "/*.rows"))
     rows = [case for path in paths for case in row_cases(path)]
     made = [*answers_under_each_number(), *damaged_answers(), *full_tables()]
     made += [errors_under_other_tags(), open_number(), retries()]
@@ -258,17 +259,17 @@ def main(program, files):
         runs = [(case, None, "") for case in cases]
         if shutil.which("cc"):
             library = os.path.join(room, "fail.so")
-            subprocess.run(["cc", "-O1", "-shared", "-fPIC", "-o", library, f"{TOP}/tests/fail.c"], check=True)
+            subprocess.run(["cc", "-O1", "-shared", "-fPIC", "-o", library, f"{TOP}/tests/program/fail.c"], check=True)
             runs += [(case, library, ", one octet at a read") for case in scripts]
         else:
-            print("tests/rows.py: one octet at a read is left out, since it needs cc")
+            print("tests/program/rows.py: one octet at a read is left out, since it needs cc")
         for (case, _, how), ending in zip(runs, pool.map(lambda each: run(room, each[0], each[1]), runs)):
             is_same = not case.parts or texts.setdefault(case.place, ending.output) == ending.output
             if not is_right(case, ending) or not is_same:
                 wrong.add((case.place, case.script, *case.words))
                 tell(case, ending, how)
     told = f"{len(scripts)} scripts and {len(cases) - len(scripts)} command lines"
-    print(f"tests/rows.py: {told}, {len(wrong)} not as they are to be")
+    print(f"tests/program/rows.py: {told}, {len(wrong)} not as they are to be")
     return 1 if wrong or not rows else 0
 
 

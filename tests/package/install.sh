@@ -1,9 +1,9 @@
 #!/bin/sh
 # Tries packaging/install.sh in a folder of its own: what it puts, replaces, refuses to replace, and takes away, also
-# where PREFIX was copied or moved. Usage: tests/install.sh PROGRAM
+# where PREFIX was copied or moved. Usage: tests/package/install.sh PROGRAM
 set -eu
 program=$(realpath "$1")
-cd "$(dirname "$0")/.."
+cd "$(dirname "$0")/../.."
 room=$(mktemp -d)
 trap 'rm -r "$room"' EXIT
 unset FORCE ZSH_COMPLETIONS
@@ -86,4 +86,4 @@ expect 0 '*taken away*' packaging/install.sh --remove
 
 expect 1 '*is not below*' env ZSH_COMPLETIONS=/usr/share/zsh packaging/install.sh "$program"
 [ "$(files)" = 1 ]
-echo "tests/install.sh: put, replaced, refused, moved and taken away as they are to be"
+echo "tests/package/install.sh: put, replaced, refused, moved and taken away as they are to be"

@@ -1,9 +1,9 @@
 #!/usr/bin/env python3
 """Runs the tools and nmap against bacdev through a relay that keeps every datagram, and has tshark read them all.
 
-Usage: tests/interop.py, once the program is built. It installs nmap and tshark by apt-get where they are missing; nmap
-needs root for UDP. It ends with 1 where something is not as it is to be, and says what: a tool or nmap that prints
-something else, a datagram that tshark finds malformed or reads as something else than it is.
+Usage: tests/program/interop.py, once the program is built. It installs nmap and tshark by apt-get where they are
+missing; nmap needs root for UDP. It ends with 1 where something is not as it is to be, and says what: a tool or nmap
+that prints something else, a datagram that tshark finds malformed or reads as something else than it is.
 """
 import os
 import re
@@ -16,6 +16,7 @@ import tempfile
 import threading
 import time
 
+sys.path.insert(0, os.path.dirname(__file__) + "/..")
 from tree import PROGRAM, TOP, free_port
 
 FAILURES = []

@@ -2,7 +2,7 @@
 # Asks bash, zsh and fish what each line completes to, and compares. It says which of them is not installed.
 # shellcheck disable=SC2317  # by_SHELL is called by its name
 set -euo pipefail
-cd "$(dirname "$0")/.."
+cd "$(dirname "$0")/../.."
 tools='bacdev bacrp bactrace bacwi bacwp'
 tags='0 1 10 11 12 2 3 4 5 6 7 8 9'
 failed=0
@@ -13,7 +13,7 @@ by_bash() {
 }
 
 by_zsh() {
-    tests/complete.zsh "$1"
+    tests/package/complete.zsh "$1"
 }
 
 by_fish() {

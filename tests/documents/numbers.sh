@@ -2,9 +2,9 @@
 # Asks Wireshark, which has the standard's numbers from another hand, what it calls each number of man/numbers.txt, and
 # compares the names. Where tshark is not installed, it says so and compares nothing.
 set -euo pipefail
-cd "$(dirname "$0")/.."
+cd "$(dirname "$0")/../.."
 if ! command -v tshark >/dev/null || ! command -v text2pcap >/dev/null; then
-    echo "tests/numbers.sh: tshark is not installed, left out"
+    echo "tests/documents/numbers.sh: tshark is not installed, left out"
     exit 0
 fi
 room=$(mktemp -d)
@@ -41,7 +41,7 @@ compare() {
     "${@:2}" | sort >"$room/theirs"
     count=$(wc -l <"$room/ours")
     if [ "$count" = 0 ] || comm -23 "$room/ours" "$room/theirs" | grep .; then
-        echo "tests/numbers.sh: Wireshark names those above otherwise, of the $count rows of '$1'" >&2
+        echo "tests/documents/numbers.sh: Wireshark names those above otherwise, of the $count rows of '$1'" >&2
         exit 1
     fi
     total=$((total + count))
@@ -56,4 +56,4 @@ compare 'Error classes' field error_class
 compare 'Error codes' field error_code
 compare 'Reject reasons' field reject_reason
 compare 'Abort reasons' field abort_reason
-echo "tests/numbers.sh: $total numbers, with the names that Wireshark has for them"
+echo "tests/documents/numbers.sh: $total numbers, with the names that Wireshark has for them"

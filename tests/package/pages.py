@@ -1,7 +1,7 @@
 #!/usr/bin/env python3
 """Compares the manual pages with the programs that they are of: words, options, ranges and defaults with each tool's
 help, faults with the code's texts, and with help and documents what has to be said twice: statuses, version, the
-warnings, how a fault is reported. Then mandoc reads them, where it is installed. Usage: tests/pages.py PROGRAM
+warnings, how a fault is reported. Then mandoc reads them, where it is installed. Usage: tests/package/pages.py PROGRAM
 """
 import functools
 import glob
@@ -11,6 +11,7 @@ import shutil
 import subprocess
 import sys
 
+sys.path.insert(0, os.path.dirname(__file__) + "/..")
 from tree import TOP, text_of
 
 sys.path.append(TOP + "/man")
@@ -179,10 +180,10 @@ def main():
     if tables.main(True):
         WRONG.append("a table of numbers is not as it is made")
     if not shutil.which("mandoc"):
-        print("tests/pages.py: mandoc is not installed, left out")
+        print("tests/package/pages.py: mandoc is not installed, left out")
     elif subprocess.run(["mandoc", "-Tlint", *sorted(glob.glob(f"{TOP}/man/*.[17]"))], check=False).returncode:
         WRONG.append("mandoc finds fault with the pages")
-    print("\n".join(WRONG) or f"tests/pages.py: pages, help, numbers and version {version} agree")
+    print("\n".join(WRONG) or f"tests/package/pages.py: pages, help, numbers and version {version} agree")
     return 1 if WRONG else 0
 
 

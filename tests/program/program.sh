@@ -1,9 +1,9 @@
 #!/bin/sh
 # Runs the built program as a device, whose port nobody else gets, which is reached at each address of this machine, and
-# which ends by its count. All else that the program prints is a row of tests/rows. Usage: tests/program.sh PROGRAM
+# which ends by its count. All else that the program prints is a row of rows/. Usage: tests/program/program.sh PROGRAM
 set -eu
 program=$(realpath "$1")
-cd "$(dirname "$0")/.."
+cd "$(dirname "$0")/../.."
 port=$(examples/free-port.sh)
 . tests/expect.sh
 
@@ -42,4 +42,4 @@ wait $device || status=$?
 trap - EXIT
 expect 0 0 echo $status
 
-echo "tests/program.sh: $count calls as they are to be"
+echo "tests/program/program.sh: $count calls as they are to be"

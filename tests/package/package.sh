@@ -2,10 +2,10 @@
 # Installs a Debian package in a root that has nothing but Debian's smallest set, runs the demonstration there, and
 # bacsite without Python and with it, finds the manual pages, completions and documents in their places, and takes the
 # package away again. Needs root, debootstrap and a mirror of Debian.
-# Usage: tests/package.sh PACKAGE.deb [ROOT], where ROOT keeps the system for the next time.
+# Usage: tests/package/package.sh PACKAGE.deb [ROOT], where ROOT keeps the system for the next time.
 set -euo pipefail
 package=$(realpath "$1")
-cd "$(dirname "$0")/.."
+cd "$(dirname "$0")/../.."
 root=${2:-}
 if [ -z "$root" ]; then
     root=$(mktemp -d)
