@@ -29,7 +29,7 @@ import sys
 import textwrap
 
 sys.path.insert(0, os.path.dirname(__file__) + "/..")
-from tree import TOP, all_crates, sections, tables, text_of
+from tree import TOP, all_crates, text_of
 
 COLUMNS = {"Code": ("src", ".rt"), "Definitions": ("specs", ".antt"), "Proofs": ("proofs", ".antt")}
 WHOLE = ["docs/", "bench/", "tests/", "tests/[a-z]*/"]  # folders whose row names each file
@@ -37,6 +37,26 @@ PAGES = {"README.md", "CONTRIBUTING.md", "SECURITY.md", "CHANGELOG.md"}
 WELL_KNOWN = PAGES | {"LICENSE", ".gitignore", ".git", "crates", "out"}
 WIDTH = 120
 DIFFERENCES = []
+
+
+def sections(text):
+    """The text below each heading of a document, by the heading's words."""
+    parts = re.split(r"^#+ (.*)$", text, flags=re.M)
+    return dict(zip(parts[1::2], parts[2::2]))
+
+
+def tables(text):
+    """The rows of the tables of a text, each as the names of its columns and its cells."""
+    head = None
+    for line in text.splitlines():
+        cells = [cell.strip() for cell in re.split(r"(?<!\\)\|", line)[1:-1]] if line.startswith("|") else None
+        if cells and head and not set(line) <= set("|-"):
+            yield head, cells
+        head = cells and (head or cells)
+
+
+def on_one_line(text):
+    return " ".join(text.split())
 
 
 def compare(what, said, there):
@@ -109,12 +129,12 @@ def heads_of_sources():
         examples = file.replace("lib.rt", "examples.rt")
         for shown in re.findall(r"^//! ```text\n(.*?)^//! ```$", text_of(file), re.M | re.S):
             clauses = re.split(r"(?=\bensures )", re.sub(r"^//!(?: *//.*)?", "", shown, flags=re.M))[1:]
-            there = " ".join(text_of(examples).split()) if os.path.isfile(examples) else ""
-            if not clauses or not all(" ".join(one.split()) in there for one in clauses):
+            there = on_one_line(text_of(examples)) if os.path.isfile(examples) else ""
+            if not clauses or not all(on_one_line(one) in there for one in clauses):
                 DIFFERENCES.append(f"{file}: what it shows is not in {examples}")
         for shown in re.findall(r"^//! ```rust\n(.*?)^//! ```$", text_of(file), re.M | re.S):
-            calls = " ".join(re.sub(r"^//!", "", shown, flags=re.M).split())
-            if not any(calls in " ".join(text_of(use).split()) for use in glob.glob("crates/bac_uses/src/*.rt")):
+            calls = on_one_line(re.sub(r"^//!", "", shown, flags=re.M))
+            if not any(calls in on_one_line(text_of(use)) for use in glob.glob("crates/bac_uses/src/*.rt")):
                 DIFFERENCES.append(f"{file}: the calls that it shows are not in bac_uses")
 
 
@@ -141,7 +161,7 @@ def equations(file, *names):
 
 def what_stands_twice(readme, proofs):
     headline = " ".join(row["Part"] for row in rows(proofs["The headline, part by part"]))
-    if headline not in " ".join(readme.split()):
+    if headline not in on_one_line(readme):
         DIFFERENCES.append("README.md: the headline is not that of docs/PROOFS.md, part by part")
     shown = re.findall(r"```\n(.*?)```", readme, re.S)
     lookahead = "crates/bac_tsm/specs/Lookahead.antt"
@@ -181,7 +201,7 @@ def functions_without_a_contract(readme, section):
     counts = f"{bare} of the {every} functions"
     if counts not in section:
         DIFFERENCES.append(f"docs/PROOFS.md: {counts} have no clause of their own")
-    if f"the program's {every} functions" not in " ".join(readme.split()):
+    if f"the program's {every} functions" not in on_one_line(readme):
         DIFFERENCES.append(f"README.md: the program has {every} functions")
 
 
@@ -192,10 +212,6 @@ def texts_of_faults(section):
     told = set(names(section[section.index("A fault is") :].split(". ")[0])) - {"bactool: "}
     for text in sorted(told ^ (texts - {"N"})):
         DIFFERENCES.append(f"docs/PROTOCOL.md: the fault {text} is told in one place alone")
-
-
-def on_one_line(text):
-    return " ".join(text.split())
 
 
 def pins():
