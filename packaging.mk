@@ -40,7 +40,7 @@ lint: program
 examples: guide
 
 guide: program
-	@BACTOOL=$(PROGRAM) tests/program/guide.sh
+	@tests/program/guide.sh $(PROGRAM)
 
 deb: program
 	packaging/deb.sh $(PROGRAM) $(dir $(PROGRAM))

@@ -1,6 +1,6 @@
 #!/usr/bin/env bash
 # Runs every command of docs/GUIDE.md in one shell, against the demonstration device, and compares what comes out with
-# what the guide shows. Usage: tests/program/guide.sh, once the program is built; BACTOOL names another program.
+# what the guide shows. Usage: tests/program/guide.sh PROGRAM
 #
 # A block that begins with ```console has commands behind `$ `, whose further lines begin with `> `; all other lines are
 # what they print. A block that begins with ```console and a program's name is left out where that program is not
@@ -8,13 +8,13 @@
 # leaves running is ended.
 set -euo pipefail
 export LC_ALL=C
+program=$(realpath "$1")
 cd "$(dirname "$0")/../.."
-bactool=$(realpath "${BACTOOL:-crates/bactool/out/bactool}")
 room=$(mktemp -d)
 trap 'rm -r "$room"' EXIT
 mkdir "$room/bin" "$room/work"
 for name in bactool bacrp bacwp bacwi bacdev bactrace; do
-    ln -s "$bactool" "$room/bin/$name"
+    ln -s "$program" "$room/bin/$name"
 done
 cp site/bacsite "$room/bin"
 cp -r examples "$room/work"
