@@ -9,7 +9,7 @@ import sys
 import tempfile
 import time
 
-sys.path.insert(0, os.path.dirname(os.path.abspath(__file__)) + "/../tests")
+sys.path.insert(0, os.path.dirname(__file__) + "/../tests")
 from tree import PROGRAM, TOP
 
 took = {(PROGRAM, "bactrace"): [], ("sha256sum",): [], ("wc", "-l"): [], ("cat",): []}

@@ -13,7 +13,7 @@ import sys
 import tempfile
 import time
 
-sys.path.insert(0, os.path.dirname(os.path.abspath(__file__)) + "/../tests")
+sys.path.insert(0, os.path.dirname(__file__) + "/../tests")
 from tree import PROGRAM, TOP, free_port, resident, text_of
 
 ROUNDS = int(sys.argv[1]) if len(sys.argv) > 1 else 15

@@ -10,16 +10,15 @@ there.
 """
 import os
 import random
-import socket
 import subprocess
 import sys
 import time
 from collections import Counter
 
-TOP = os.path.dirname(os.path.dirname(os.path.abspath(__file__)))
-sys.path[:0] = [TOP + "/crates/bac_trials/oracle", TOP + "/tests"]
+sys.path.insert(0, os.path.dirname(__file__) + "/../tests")
+sys.path.insert(0, os.path.dirname(__file__) + "/../crates/bac_trials/oracle")
 from count import region, tag
-from tree import PROGRAM, free_port, resident
+from tree import PROGRAM, free_port, local_socket, resident
 
 INSTANCE = 1234
 AT_MOST = 65535  # datagrams that one bacdev answers
@@ -237,9 +236,7 @@ class Served:
         port = free_port()
         self.process = subprocess.Popen([PROGRAM, "bacdev", str(INSTANCE), "--port", str(port)], stderr=subprocess.PIPE)
         self.peer = ("127.0.0.1", port)
-        self.tried, self.fence = (socket.socket(socket.AF_INET, socket.SOCK_DGRAM) for _ in range(2))
-        for one in (self.tried, self.fence):
-            one.bind(("127.0.0.1", 0))
+        self.tried, self.fence = local_socket(), local_socket()
         time.sleep(0.3)
         self.asked = 0
         if not self.is_past(5):

@@ -16,7 +16,7 @@ import threading
 import time
 from collections import Counter
 
-sys.path.insert(0, os.path.dirname(os.path.abspath(__file__)) + "/../tests")
+sys.path.insert(0, os.path.dirname(__file__) + "/../tests")
 from tree import PROGRAM, resident
 
 PLACES = int(os.environ.get("PLACES", 64))

@@ -6,7 +6,7 @@ import os
 import re
 import sys
 
-sys.path.insert(0, os.path.dirname(os.path.abspath(__file__)) + "/../tests")
+sys.path.insert(0, os.path.dirname(__file__) + "/../tests")
 from tree import TOP, text_of
 
 TABLES = {"Object types": "object-type", "Properties": "property-list", "Units": "units"}

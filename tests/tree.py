@@ -42,10 +42,16 @@ def processors():
     return len(os.sched_getaffinity(0))
 
 
+def local_socket():
+    """A UDP socket at a port of 127.0.0.1 that no other one of this machine has."""
+    it = socket.socket(socket.AF_INET, socket.SOCK_DGRAM)
+    it.bind(("127.0.0.1", 0))
+    return it
+
+
 def free_port():
     """A UDP port that no socket of this machine has."""
-    with socket.socket(socket.AF_INET, socket.SOCK_DGRAM) as it:
-        it.bind(("127.0.0.1", 0))
+    with local_socket() as it:
         return it.getsockname()[1]
 
 

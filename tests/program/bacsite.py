@@ -16,7 +16,6 @@ import re
 import resource
 import shutil
 import signal
-import socket
 import struct
 import subprocess
 import sys
@@ -27,7 +26,7 @@ from concurrent.futures import ThreadPoolExecutor
 
 sys.path.insert(0, os.path.dirname(__file__) + "/..")
 from stand_ins import StandIn, an_object, bits, enumerated, real, string, tagged, unsigned
-from tree import TOP
+from tree import TOP, free_port, local_socket
 
 TOOL = os.path.realpath(sys.argv.pop(1)) if len(sys.argv) > 1 else sys.exit(__doc__)
 IN = tempfile.mkdtemp()
@@ -104,11 +103,7 @@ class Tests(unittest.TestCase):
     def setUpClass(cls):
         os.symlink(TOOL, IN + "/bactool")
         shutil.copy(os.path.join(TOP, "site", "bacsite"), IN)
-        cls.odd, cls.dead = StandIn(77, VALUES), socket.socket(socket.AF_INET, socket.SOCK_DGRAM)
-        cls.dead.bind(("127.0.0.1", 0))
-        with socket.socket(socket.AF_INET, socket.SOCK_DGRAM) as free:
-            free.bind(("0.0.0.0", 0))
-            port = str(free.getsockname()[1])
+        cls.odd, cls.dead, port = StandIn(77, VALUES), local_socket(), str(free_port())
         device = subprocess.Popen([TOOL, "bacdev", "1000", "--port", port])
         for cleanup in (device.wait,), (device.terminate,), (shutil.rmtree, IN):  # the last one is the first
             cls.addClassCleanup(*cleanup)
@@ -369,8 +364,7 @@ bacnet_value{point="out"} 72.3\nbacnet_value{point="q\\"\\\\"} 0\nbacnet_value{p
 
     def test_signals_end_it_at_once(self):
         def ended(number, words):
-            with socket.socket(socket.AF_INET, socket.SOCK_DGRAM) as dead:
-                dead.bind(("127.0.0.1", 0))
+            with local_socket() as dead:
                 dead.settimeout(30)
                 here = "127.0.0.1:%d" % dead.getsockname()[1]
                 words = re.sub("LIST", path("some-%s" % here, "p HERE 0 1 85".replace("HERE", here)), words)

@@ -17,7 +17,7 @@ import threading
 import time
 
 sys.path.insert(0, os.path.dirname(__file__) + "/..")
-from tree import PROGRAM, TOP, free_port
+from tree import PROGRAM, TOP, free_port, local_socket
 
 FAILURES = []
 DEVICE = "127.0.0.1:47808"  # what the device is called in the lines that are kept, whichever port it has
@@ -136,8 +136,7 @@ class Relay:
     dissector knows for something else."""
 
     def __init__(self, device_port):
-        self.front = socket.socket(socket.AF_INET, socket.SOCK_DGRAM)
-        self.front.bind(("127.0.0.1", 0))
+        self.front = local_socket()
         self.port = self.front.getsockname()[1]
         self.device = ("127.0.0.1", device_port)
         self.clients, self.names, self.lines = {}, {}, []

@@ -14,7 +14,7 @@ import sys
 import time
 
 sys.path.insert(0, os.path.dirname(__file__) + "/..")
-from tree import free_port
+from tree import free_port, local_socket
 
 LONGEST = 2047
 POINT = bytes.fromhex("0c004000011955")  # analog-output 1, its present value
@@ -31,13 +31,6 @@ def datagram(length, head):
 
 def request(length):
     return datagram(length, bytes([0, 5, length % 256, 15]) + POINT)[0]
-
-
-def local_socket():
-    it = socket.socket(socket.AF_INET, socket.SOCK_DGRAM)
-    it.bind(("127.0.0.1", 0))
-    it.settimeout(10)
-    return it
 
 
 @contextlib.contextmanager
@@ -67,6 +60,7 @@ def answered(desk, lengths):
 def heard_by_a_device(program):
     port = free_port()
     with running(program, "bacdev", "1234", "--port", str(port)), local_socket() as desk:
+        desk.settimeout(10)
         desk.connect(("127.0.0.1", port))
         for length in range(1000, LONGEST + 1):
             heard = answered(desk, [LONGEST + 1, length])
@@ -80,6 +74,7 @@ def heard_by_tools(program):
     for length in SOME:
         answer, octets = datagram(length, head)
         with local_socket() as field:
+            field.settimeout(10)
             mac = "127.0.0.1:%d" % field.getsockname()[1]
             words = [program, "bacrp", "1234", "1", "1", "85", "--mac", mac, "--apdu-timeout", "5000"]
             with running(*words, stdout=subprocess.PIPE) as tool:

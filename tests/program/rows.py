@@ -45,8 +45,8 @@ LETTERS = {
     "M": "810a001101040005010c0c000000051955",
     "V": "810a0017010030010c0c0000000519553e444290999a3f",
     "A": "810a001501001000c4020004d22205c49103220104",
+    "S": f"--mac 127.0.0.1:{free_port()} --apdu-timeout 20",
 }
-LETTERS["S"] = f"--mac 127.0.0.1:{free_port()} --apdu-timeout 20"
 READ, SENT, DONE = "read P 0 5 85\n", "send 0 P M\n", "done 0 value 4290999a\n"
 PLACES = 64
 SCRIPT = ["bactool", "bactrace"]

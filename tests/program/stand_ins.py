@@ -1,9 +1,10 @@
 """Stand-ins for controllers at ports of 127.0.0.1, and octets of values, for bacsite.py."""
-import socket
 import struct
 import threading
 import time
 from contextlib import suppress
+
+from tree import local_socket
 
 
 def tagged(tag, octets):
@@ -29,8 +30,7 @@ class StandIn:
     def __init__(self, instance, values, delay=0.0, lose=0):
         self.values = {(8, 4194303, 75): an_object(8, instance), **values}
         self.delay, self.lose, self.asked, self.early, self.heard = delay, lose, [], 0, 0
-        self.socket = socket.socket(socket.AF_INET, socket.SOCK_DGRAM)
-        self.socket.bind(("127.0.0.1", 0))
+        self.socket = local_socket()
         self.address = "127.0.0.1:%d" % self.socket.getsockname()[1]
         threading.Thread(target=self.serve, daemon=True).start()
 
