@@ -26,7 +26,7 @@ from concurrent.futures import ThreadPoolExecutor
 
 sys.path.insert(0, os.path.dirname(__file__) + "/..")
 from stand_ins import StandIn, an_object, bits, enumerated, real, string, tagged, unsigned
-from tree import TOP, free_port, local_socket
+from tree import TOP, free_port, local_socket, text_of
 
 TOOL = os.path.realpath(sys.argv.pop(1)) if len(sys.argv) > 1 else sys.exit(__doc__)
 IN = tempfile.mkdtemp()
@@ -102,7 +102,7 @@ class Tests(unittest.TestCase):
     @classmethod
     def setUpClass(cls):
         os.symlink(TOOL, IN + "/bactool")
-        shutil.copy(os.path.join(TOP, "site", "bacsite"), IN)
+        shutil.copy(TOP + "/site/bacsite", IN)
         cls.odd, cls.dead, port = StandIn(77, VALUES), local_socket(), str(free_port())
         device = subprocess.Popen([TOOL, "bacdev", "1000", "--port", port])
         for cleanup in (device.wait,), (device.terminate,), (shutil.rmtree, IN):  # the last one is the first
@@ -168,8 +168,7 @@ class Tests(unittest.TestCase):
                     self.assertNotEqual(struct.pack(">f", float(short)).hex(), octets, text)
 
     def test_values(self):
-        with open(os.path.join(TOP, "man", "numbers.txt"), encoding="utf-8") as file:
-            section = file.read().split("\n= Properties")[1].split("\n= ")[0]
+        section = text_of("man/numbers.txt").split("\n= Properties")[1].split("\n= ")[0]
         names = dict(re.findall(r"^(\d+) \| ([\w-]+) \|", section, re.M))
         for (kind, instance), has in ODD.items():
             told = ["%d %s %s" % (number, names.get(str(number), "-"), shown) for number, _, shown in sorted(has)]
@@ -323,8 +322,7 @@ DEAD;device -;timeout
         path("points", 'out DEV 0 5 85\nq"\\ DEV 4 4 85\nnan ODD 0 1 85\nname ODD 0 2 77\nfar HERE 0 4 85\nbad x 1 1 1')
         self.rows("prometheus IN/points IN/new.prom => 1 ", before=lambda: os.umask(0o077))
         self.assertEqual(oct(os.stat(IN + "/new.prom").st_mode), "0o100644")
-        with open(IN + "/new.prom", encoding="utf-8") as file:
-            self.assertEqual(file.read(), """\
+        self.assertEqual(text_of(IN + "/new.prom"), """\
 # HELP bacnet_up Whether the point has a value.\n# TYPE bacnet_up gauge
 bacnet_up{point="out"} 1\nbacnet_up{point="q\\"\\\\"} 1\nbacnet_up{point="nan"} 0\nbacnet_up{point="name"} 1
 bacnet_up{point="far"} 1\nbacnet_up{point="bad"} 0
@@ -344,8 +342,7 @@ bacnet_value{point="out"} 72.3\nbacnet_value{point="q\\"\\\\"} 0\nbacnet_value{p
             prometheus IN/good /proc/b.prom => 3 !writing failed: /proc/b.prom""")
         self.rows("prometheus IN/good IN/keep.prom => 3 !writing failed: IN/keep.prom: File too large",
                   before=lambda: resource.setrlimit(resource.RLIMIT_FSIZE, (20, 20)))
-        with open(IN + "/keep.prom", encoding="utf-8") as file:
-            self.assertEqual((file.read(), sorted(os.listdir(IN))), ("old", there))
+        self.assertEqual((text_of(IN + "/keep.prom"), sorted(os.listdir(IN))), ("old", there))
 
     def test_streams(self):
         words, failed = ("read", NAMES["DEV"], "0", "5", "85"), (3, "bacsite: writing failed\n")
@@ -414,7 +411,7 @@ bacnet_value{point="out"} 72.3\nbacnet_value{point="q\\"\\\\"} 0\nbacnet_value{p
             self.assertEqual(run("check", "--tools", IN + "/odd", NAMES["DEV"], "0", "5", "85")[0], 3)
         path("odd/bactool", "#!/nowhere\n")
         self.rows("read --tools IN/odd DEV 0 5 85 => 1 cannot run IN/odd/bactool: No such file or directory")
-        words = [COMMAND[0], "-I", os.path.join(TOP, "site", "bacsite"), "read", NAMES["DEV"], "0", "5", "85"]
+        words = [COMMAND[0], "-I", TOP + "/site/bacsite", "read", NAMES["DEV"], "0", "5", "85"]
         done = subprocess.run(words, stdout=subprocess.PIPE, cwd="/", env={"PATH": IN})
         self.assertEqual(done.stdout, b"72.3\n")
 

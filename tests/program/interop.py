@@ -17,7 +17,7 @@ import threading
 import time
 
 sys.path.insert(0, os.path.dirname(__file__) + "/..")
-from tree import PROGRAM, TOP, free_port, local_socket
+from tree import PROGRAM, TOP, free_port, local_socket, text_of
 
 FAILURES = []
 DEVICE = "127.0.0.1:47808"  # what the device is called in the lines that are kept, whichever port it has
@@ -241,8 +241,7 @@ def read_by_tshark(lines):
 
 def compare_with_example(lines):
     """Each datagram of examples/tools.hex must be one that a tool or the device has written here."""
-    with open(TOP + "/examples/tools.hex") as example:
-        rows = [row.split() for row in example if not row.startswith("#")]
+    rows = [row.split() for row in text_of("examples/tools.hex").splitlines() if not row.startswith("#")]
     seen = {(line.split()[1] == DEVICE, line.split()[3]) for line in lines}
     missing = [octets for _, sender, _, octets in rows if (sender == DEVICE, octets) not in seen]
     compare("datagrams of examples/tools.hex that nothing has written here", missing, [])
