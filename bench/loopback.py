@@ -14,7 +14,7 @@ import tempfile
 import time
 
 sys.path.insert(0, os.path.dirname(__file__) + "/../tests")
-from tree import PROGRAM, TOP, free_port, resident, text_of
+from tree import PROGRAM, TOP, free_port, resident, server, text_of
 
 ROUNDS = int(sys.argv[1]) if len(sys.argv) > 1 else 15
 REPLIES, LONG_RUN, RUNS = os.environ.get("REPLIES", "20000"), "60000", 200
@@ -25,22 +25,13 @@ ROOM = tempfile.mkdtemp()
 UDP = f"{ROOM}/udp"
 
 
-def said(*words):
-    return subprocess.run(words, stdout=subprocess.PIPE, stderr=subprocess.DEVNULL, check=False, text=True).stdout
-
-
 @contextlib.contextmanager
-def server(kind):
-    """A server at a free port, once it answers: its process, and the port."""
+def serving(kind):
+    """A server at a free port: its process, and the port."""
     port = str(free_port())
     words = [UDP, "echo", port, "65535"] if kind == "echo" else [PROGRAM, "bacdev", "1234", "--port", port]
-    with subprocess.Popen(words) as process:
-        try:
-            if not any(said(UDP, "ask", port, REQUEST) or time.sleep(0.02) for _ in range(100)):
-                sys.exit(f"{kind} doesn't answer")
-            yield process.pid, port
-        finally:
-            process.kill()
+    with server(port, *words) as process:
+        yield process.pid, port
 
 
 def load(kind, port, outstanding, count):
@@ -62,7 +53,7 @@ def compare_servers():
     rates = {(kind, outstanding): [] for outstanding in (1, 32) for kind in REPLY}
     for _ in range(ROUNDS):
         for (kind, outstanding), found in rates.items():
-            with server(kind) as (_, port):
+            with serving(kind) as (_, port):
                 found.append(load(kind, port, outstanding, REPLIES))
     wide = lambda name, one, many: print(f"{name:34} {one:25}   {many}", flush=True)
     wide(f"replies a second, {ROUNDS} x {REPLIES}", "one outstanding", "32 outstanding")
@@ -79,14 +70,15 @@ def show_shares():
     """Where the time of bacdev goes under load, where perf is installed."""
     if not shutil.which("perf"):
         return
-    with server("bacdev") as (pid, port):
+    with serving("bacdev") as (pid, port):
         record = ["perf", "record", "-q", "-e", "cpu-clock", "-o", f"{ROOM}/perf", "-p", str(pid)]
         with subprocess.Popen(record, stderr=subprocess.DEVNULL) as watching:
             time.sleep(0.5)
             load("bacdev", port, 32, LONG_RUN)
             watching.send_signal(signal.SIGINT)
-    report = said("perf", "report", "-i", f"{ROOM}/perf", "--sort", "dso", "--stdio").splitlines()
-    shares = [line.split() for line in report if line.strip()[:1].isdigit()]
+    words = ["perf", "report", "-i", f"{ROOM}/perf", "--sort", "dso", "--stdio"]
+    report = subprocess.run(words, capture_output=True, check=False, text=True).stdout
+    shares = [line.split() for line in report.splitlines() if line.strip()[:1].isdigit()]
     print(f"{'its time by perf, 32 outstanding':34} {', '.join(f'{part[1]} {part[0]}' for part in shares)}")
 
 
@@ -104,7 +96,7 @@ def show_runs(name, *words):
 
 def compare_clients():
     row(f"\nmicroseconds a run, {RUNS} runs", "median", "least")
-    with server("bacdev") as (_, port):
+    with serving("bacdev") as (_, port):
         show_runs("true, a process alone", "true")
         show_runs("bactool --help, with its words", PROGRAM, "--help")
         show_runs("bare client, one question", UDP, "ask", port, REQUEST)
@@ -112,7 +104,7 @@ def compare_clients():
 
 
 def device_memory():
-    with server("bacdev") as (pid, port):
+    with serving("bacdev") as (pid, port):
         load("bacdev", port, 32, "1000")
         early = resident(pid)
         load("bacdev", port, 32, LONG_RUN)

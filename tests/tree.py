@@ -1,9 +1,13 @@
-"""What the scripts share: where the tree and the built program are, the files' texts, the crates, and the machine."""
+"""What scripts share: where tree and program are, the texts of files, the crates, and the machine with its ports."""
+import contextlib
 import glob
 import os
 import re
 import shutil
 import socket
+import subprocess
+import sys
+import time
 
 TOP = os.path.dirname(os.path.dirname(os.path.abspath(__file__)))
 PROGRAM = os.environ.get("BACTOOL", TOP + "/crates/bactool/out/bactool")
@@ -53,6 +57,23 @@ def free_port():
     """A UDP port that no socket of this machine has."""
     with local_socket() as it:
         return it.getsockname()[1]
+
+
+def is_taken(port):
+    """Whether a UDP socket of this machine has this port."""
+    return f":{int(port):04X} " in text_of("/proc/net/udp")
+
+
+@contextlib.contextmanager
+def server(port, *words, **how):
+    """A process of these words, once it has this port; in the end it is killed."""
+    with subprocess.Popen(words, **how) as process:
+        try:
+            if not any(is_taken(port) or time.sleep(0.01) for _ in range(1000)):
+                sys.exit(f"no socket at port {port}: {' '.join(words)}")
+            yield process
+        finally:
+            process.kill()
 
 
 def resident(process, what="VmRSS"):

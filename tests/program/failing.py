@@ -18,7 +18,7 @@ from collections import namedtuple
 from concurrent.futures import ThreadPoolExecutor
 
 sys.path.insert(0, os.path.dirname(__file__) + "/..")
-from tree import TOP, free_port, text_of
+from tree import TOP, free_port, is_taken, text_of
 
 # The errors, by what a receive that fails so is: a fault; a fault to the tool that sent, since its peer refuses what
 # was sent, or no way leads there, while a device has its peers from strangers; and silence to both, an interruption or
@@ -107,7 +107,7 @@ def lives_on(number, error):
     """A device whose call of this number fails so answers a later request, and has then taken so many datagrams."""
     with ThreadPoolExecutor() as pool:
         device = pool.submit(run, [*DEVICE, str(number - 3)], error=error, FAILED=number)
-        while f":{int(PORT):04X} " not in text_of("/proc/net/udp") and not device.done():
+        while not is_taken(PORT) and not device.done():
             pass
         words = [PROGRAM, *READ, "--mac", "127.0.0.1:" + PORT, "--apdu-timeout", "300", "--apdu-retries", "9"]
         heard = subprocess.run(words, check=False, stdout=subprocess.PIPE, text=True).stdout

@@ -17,7 +17,7 @@ import threading
 import time
 
 sys.path.insert(0, os.path.dirname(__file__) + "/..")
-from tree import PROGRAM, TOP, free_port, local_socket, text_of
+from tree import PROGRAM, TOP, free_port, local_socket, server, text_of
 
 FAILURES = []
 DEVICE = "127.0.0.1:47808"  # what the device is called in the lines that are kept, whichever port it has
@@ -118,16 +118,6 @@ def output_of(words, status=(0,)):
     if ended.returncode not in status:
         FAILURES.append("%s: status %d, %s" % (" ".join(words), ended.returncode, ended.stderr))
     return ended.stdout
-
-
-def device():
-    """A bacdev at a free port, and the port."""
-    port = free_port()
-    process = subprocess.Popen([PROGRAM, "bacdev", "1234", "--port", str(port)], stderr=subprocess.DEVNULL)
-    for _ in range(50):
-        if output_of([PROGRAM, "bacwi", "--mac", "127.0.0.1:%d" % port, "--apdu-timeout", "100"], (0, 1)):
-            return process, port
-    sys.exit("bacdev doesn't answer")
 
 
 class Relay:
@@ -263,16 +253,15 @@ def main():
         how = {"check": True, "stdin": subprocess.DEVNULL, "env": {**os.environ, "DEBIAN_FRONTEND": "noninteractive"}}
         subprocess.run(["apt-get", "update", "-q"], **how)
         subprocess.run(["apt-get", "install", "-qy", "--no-install-recommends", "nmap", "tshark"], **how)
-    process, port = device()
-    relay = Relay(port)
-    recorded = Recorded(relay)
-    ask_everything(recorded)
-    compare_with_example(relay.lines)
-    of_nmap = nmap_through(relay)
-    time.sleep(0.1)
-    lines = list(relay.lines)
-    process.kill()
-    process.wait()
+    port = free_port()
+    with server(port, PROGRAM, "bacdev", "1234", "--port", str(port), stderr=subprocess.DEVNULL):
+        relay = Relay(port)
+        recorded = Recorded(relay)
+        ask_everything(recorded)
+        compare_with_example(relay.lines)
+        of_nmap = nmap_through(relay)
+        time.sleep(0.1)
+        lines = list(relay.lines)
     briefs, texts, bad = read_by_tshark(lines)
     compare("datagrams that tshark lists", len(briefs), len(lines))
     foreign = recorded.by_hand + list(range(of_nmap, len(lines)))

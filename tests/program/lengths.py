@@ -11,10 +11,9 @@ import os
 import socket
 import subprocess
 import sys
-import time
 
 sys.path.insert(0, os.path.dirname(__file__) + "/..")
-from tree import free_port, local_socket
+from tree import free_port, local_socket, server
 
 LONGEST = 2047
 POINT = bytes.fromhex("0c004000011955")  # analog-output 1, its present value
@@ -33,33 +32,19 @@ def request(length):
     return datagram(length, bytes([0, 5, length % 256, 15]) + POINT)[0]
 
 
-@contextlib.contextmanager
-def running(*words, **how):
-    with subprocess.Popen(words, **how) as process:
-        try:
-            yield process
-        finally:
-            process.kill()
-
-
 def answered(desk, lengths):
-    """What comes back where requests of these lengths are sent, once the device has its socket; None where nothing
-    comes."""
-    for _ in range(200):
-        try:
-            for length in lengths:
-                desk.send(request(length))
-            return desk.recv(LONGEST)
-        except ConnectionRefusedError:
-            time.sleep(0.05)
-        except OSError:
-            return None
-    return None
+    """What comes back where requests of these lengths are sent; None where nothing comes."""
+    try:
+        for length in lengths:
+            desk.send(request(length))
+        return desk.recv(LONGEST)
+    except OSError:
+        return None
 
 
 def heard_by_a_device(program):
     port = free_port()
-    with running(program, "bacdev", "1234", "--port", str(port)), local_socket() as desk:
+    with server(port, program, "bacdev", "1234", "--port", str(port)), local_socket() as desk:
         desk.settimeout(10)
         desk.connect(("127.0.0.1", port))
         for length in range(1000, LONGEST + 1):
@@ -77,7 +62,7 @@ def heard_by_tools(program):
             field.settimeout(10)
             mac = "127.0.0.1:%d" % field.getsockname()[1]
             words = [program, "bacrp", "1234", "1", "1", "85", "--mac", mac, "--apdu-timeout", "5000"]
-            with running(*words, stdout=subprocess.PIPE) as tool:
+            with subprocess.Popen(words, stdout=subprocess.PIPE) as tool:
                 with contextlib.suppress(socket.timeout):
                     _, desk = field.recvfrom(LONGEST)
                     field.sendto(longer, desk)
