@@ -97,9 +97,9 @@ def in_turn(status, words, given=""):
     return count
 
 
-def each(calls, words, number=0):
+def each(calls, words, number=0, given=""):
     """The words make these calls and no others, and set a wait of so many microseconds."""
-    ended = run(words, EACH=1, FAILED=number)
+    ended = run(words, given, EACH=1, FAILED=number)
     expect(ended.said == calls, words, ended)
 
 
@@ -157,6 +157,8 @@ def calls_of_the_system():
     each("socket bind sendto setsockopt 7000 recvfrom sendto recvfrom write", [*WRITE, *SILENT, "--apdu-retries", "1"])
     each("socket bind sendto setsockopt 7000 recvfrom", ["bacwi", *SILENT])
     each("read", ["bactrace"])
+    # What the lines of one read print goes out at once.
+    each("read write read", ["bactrace"], given=SCRIPT)
     each("tell", [*READ, "--mac", "1.2.3"])
     # A device waits for a second at a time.
     each("socket bind setsockopt 1000000 recvfrom recvfromtell", [*DEVICE, "1"], 4)

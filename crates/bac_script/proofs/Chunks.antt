@@ -2,7 +2,7 @@
 use Rattle.std.proofs.{
   Common.{◌≡◌, ℕ, ◌+◌, ◌-◌, ◌<◌, ◌≤◌, List, [], ◌∷◌, ◌++◌, length, take, drop, Option, Some, None, refl, sym, ◌∙◌, ap},
   Common.{subst, inl, append-nil, arith, length-drop, ◌==◌, min, position, drop-drop, length-take-le, take-append-drop},
-  Common.{take-take, take_all},
+  Common.{◌⊎◌, inr, length-append, take-take, take_all},
   lemmas.{Grind.common_steps, List.{drop-append-le, take-append-le}, List.Edits.take-paste},
   lemmas.Slice.{between_is, take-put_mid},
   Math.Seq.{take-add, take-append-add},
@@ -26,6 +26,18 @@ pub range_skipped : (xs held : List ℕ) (start end n : ℕ) → slice_range xs 
 range_skipped = grind (arith, between_is, drop-drop)
 
 -- ---- a search that goes on behind what was searched
+
+-- So many of the first octets have no line feed, and are fewer than the longest line.
+pub record IsSearched (count : ℕ) (held : List ℕ) : Type 0 where
+  pub within : count ≤ length held
+  pub few : count < line_room
+  pub before : HasNoFeed (take count held)
+
+-- What was held when more was read has been searched.
+pub searched_on : {Same : Type 0} {held later : List ℕ} (last : List ℕ) → HasNoFeed held → length held < line_room
+    → (Same × (later ≡ held)) ⊎ (later ≡ held ++ last) → IsSearched (length held) later
+searched_on _ none short (inl same) = grind (arith, take_all)
+searched_on _ none short (inr more) = grind (arith, length-append, take-append-le, take_all)
 
 module _ (xs : List ℕ) (start count limit end : ℕ) (is : limit ≡ min end (start + line_room))
     (within : start + count ≤ end) (room : end ≤ length xs)
@@ -69,17 +81,19 @@ module _ (xs : List ℕ) (start count limit end : ℕ) (is : limit ≡ min end (
       )
 
   -- There is no line feed up to where was searched.
-  pub none_up_to : position (λ octet. octet == 10) (slice_range xs (start + count) limit) ≡ None → HasNoFeed front
+  none_up_to : position (λ octet. octet == 10) (slice_range xs (start + count) limit) ≡ None → HasNoFeed front
   none_up_to none =
       let rest = no_feed (drop count front) (ap (position (λ octet. octet == 10)) (sym here) ∙ none) in
       subst HasNoFeed (take-append-drop count front) (no_feed_on (take count front) (drop count front) searched rest)
 
   -- Nor among all that is held, where no more is.
-  pub none_held : HasNoFeed front → limit - start < line_room → HasNoFeed held × (length held < line_room)
-  none_held = grind (arith, take_all, size)
+  pub none_held : position (λ octet. octet == 10) (slice_range xs (start + count) limit) ≡ None →
+      limit - start < line_room → HasNoFeed held × (length held < line_room)
+  none_held = grind (arith, none_up_to, take_all, size)
 
-  pub cut_as_long : HasNoFeed front → line_room ≤ limit - start → (limit - start ≤ length held) × IsLineCut Open front
-  cut_as_long = grind (arith, size, long)
+  pub cut_as_long : position (λ octet. octet == 10) (slice_range xs (start + count) limit) ≡ None →
+      line_room ≤ limit - start → (limit - start ≤ length held) × IsLineCut Open front
+  cut_as_long = grind (arith, none_up_to, size, long)
 
 -- ---- octets that are read behind what is held
 
@@ -89,33 +103,27 @@ moved_held : (xs moved held : List ℕ) (start end : ℕ) → slice_range xs sta
 moved_held = grind (arith, common_steps, take-paste, length-drop)
 
 -- A chunk with room behind what is held.
-pub record Placed (xs : List ℕ) (start end searched : ℕ) (held : List ℕ) : Type 0 where
+pub record Placed (xs : List ℕ) (start end : ℕ) (held : List ℕ) : Type 0 where
   pub is : slice_range xs start end ≡ held
-  pub within : start + searched ≤ end
+  pub within : start ≤ end
   pub room : end < chunk_room
   pub size : length xs ≡ chunk_room
-  pub few : searched ≤ line_room
-  pub before : HasNoFeed (take searched (slice_range xs start end))
 
 -- Room was made by moving what is held to the front.
-pub placed_moved : (xs moved held : List ℕ) (start end searched : ℕ) → slice_range xs start end ≡ held
+pub placed_moved : (xs moved held : List ℕ) (start end : ℕ) → slice_range xs start end ≡ held
     → moved ≡ copy_within xs start end 0 → length moved ≡ chunk_room →
-    length xs ≡ chunk_room → start + searched ≤ end → end ≤ chunk_room → length held < line_room
-    → HasNoFeed (take searched (slice_range xs start end)) → Placed moved 0 (end - start) searched held
-placed_moved xs moved held start end searched is copied size size' within room short before =
+    length xs ≡ chunk_room → start ≤ end → end ≤ chunk_room → length held < line_room
+    → Placed moved 0 (end - start) held
+placed_moved xs moved held start end is copied size size' within room short =
     let long = range_size xs held start end is (omega (arith, room, size')) in
-    let same = moved_held xs moved held start end is copied (omega (arith, within)) (omega (arith, room, size')) in
     record {
-      is = same;
-      within = omega (arith, within);
+      is = moved_held xs moved held start end is copied within (omega (arith, room, size'));
+      within = omega arith;
       room = omega (arith, long, short);
       size = size;
-      few = omega (arith, long, short, within);
-      before = subst (λ (zs : List ℕ). HasNoFeed (take searched zs)) (is ∙ sym same) before;
     }
 
-module _ {xs : List ℕ} {start end searched : ℕ} {held : List ℕ} (p : Placed xs start end searched held) (ys : List ℕ)
-    (k : ℕ) where
+module _ {xs : List ℕ} {start end : ℕ} {held : List ℕ} (p : Placed xs start end held) (ys : List ℕ) (k : ℕ) where
   abbrev room : List ℕ
   room = put_mid end k xs ys
 
@@ -133,12 +141,6 @@ module _ {xs : List ℕ} {start end searched : ℕ} {held : List ℕ} (p : Place
 
   pub still_held : slice_range room start end ≡ held
   still_held = let e : end + 0 ≡ end = omega arith in rw (e, append-nil) at (more 0 (omega arith))
-
-  pub still_before : HasNoFeed (take searched (slice_range room start end))
-  still_before = grind (arith, searched, still_held)
-
-  pub before_more : (count : ℕ) → count ≤ length ys → HasNoFeed (take searched (slice_range room start (end + count)))
-  before_more = grind (arith, long, searched, range_size, more, take-append-le)
 
   pub read_on : {R : Type 0} {remaining : R → Option (List ℕ)} {reader reader' : Checked R} (count : ℕ)
       → count ≤ length ys → octets_of reader' ≡ octets_of reader ++ take count ys

@@ -1,7 +1,7 @@
 //! The lines of a reader, one at a time.
 
 ghost use Rattle.std.specs.Prelude.{◌≡◌, ◌≢◌, ◌==◌, ◌+◌, ◌<◌, ◌≤◌, ◌⊎◌, ◌++◌, [], length, take, drop, position, true};
-ghost use Rattle.std.specs.Prelude.{false, MatchOption, MatchResult};
+ghost use Rattle.std.specs.Prelude.{false, IfNone, MatchOption, MatchResult};
 ghost use Rattle.bac_print.specs.Checked.{has_failed, reads_of, last_of};
 ghost use Rattle.bac_print.specs.Page.{writer_of, Prints};
 ghost use Rattle.bac_script.specs.Inner.Feeds.{HasNoFeed};
@@ -27,8 +27,6 @@ pub(crate) struct Chunk {
     octets: [u8; CHUNK_ROOM],
     start: usize,
     end: usize,
-    // Among so many of the first octets that are held there is no line feed.
-    searched: usize,
 }
 
 /// The next line is so many of the first octets that are held. Where reading is over, it is all that was left.
@@ -50,17 +48,14 @@ pub(crate) enum Reading {
 }
 
 impl Model for Chunk {
-    ghost use Rattle.std.specs.Prelude.{ℕ, ◌+◌, ◌≤◌, List, take, slice_range};
-    ghost use Rattle.bac_script.specs.Inner.Feeds.{HasNoFeed};
-    ghost use Rattle.bac_script.specs.Inner.Limits.{chunk_room, line_room};
+    ghost use Rattle.std.specs.Prelude.{ℕ, ◌≤◌, List, slice_range};
+    ghost use Rattle.bac_script.specs.Inner.Limits.{chunk_room};
 
     ghost Value = { List ℕ };
 
     ghost view = { λ chunk. slice_range chunk.octets chunk.start chunk.end };
 
-    ghost invariant = { λ chunk. (chunk.start + chunk.searched ≤ chunk.end) × (chunk.end ≤ chunk_room)
-        × (chunk.searched ≤ line_room)
-        × HasNoFeed (take chunk.searched (slice_range chunk.octets chunk.start chunk.end)) };
+    ghost invariant = { λ chunk. (chunk.start ≤ chunk.end) × (chunk.end ≤ chunk_room) };
 }
 
 impl Chunk {
@@ -72,7 +67,6 @@ impl Chunk {
             octets: [0; CHUNK_ROOM],
             start: 0,
             end: 0,
-            searched: 0,
         }
     }
 
@@ -103,8 +97,9 @@ impl Chunk {
         ensures spared { ReadsNoMore reader.old reader.new }
         ensures room { most_to_come reader.new self.new ≤ most_to_come reader.old self.old }
     {
+        let mut searched = 0;
         loop {
-            if let Some(length) = self.line_length() {
+            if let Some(length) = self.line_length(&mut searched) {
                 let reading = Reading::Open;
                 return Ok(Next { reading, length });
             }
@@ -135,25 +130,27 @@ impl Chunk {
         ensures { self.new ≡ drop count self.old }
     {
         self.start += count;
-        self.searched = 0;
     }
 
-    // How many octets the next line has, where it is whole among those that are held. What was searched isn't searched
-    // again.
-    fn line_length(&mut self) -> Option<usize>
-        ensures held { self.new ≡ self.old }
-        ensures line { MatchOption result (HasNoFeed self.old × (length self.old < LINE_ROOM))
-            (λ count. (count ≤ length self.old) × IsLineCut Reading.Open (take count self.old)) }
+    // How many octets the next line has, where it is whole among those that are held. So many of the first were
+    // searched before, and aren't searched again. Where none is whole, all have been searched.
+    fn line_length(&self, searched: &mut usize) -> Option<usize>
+        requires within { searched.old ≤ length self.now }
+        requires few { searched.old < LINE_ROOM }
+        requires before { HasNoFeed (take searched.old self.now) }
+        ensures line { MatchOption result (HasNoFeed self.now × (length self.now < LINE_ROOM))
+            (λ count. (count ≤ length self.now) × IsLineCut Reading.Open (take count self.now)) }
+        ensures searched { IfNone result (searched.new ≡ length self.now) }
     {
         let limit = self.end.min(self.start + LINE_ROOM);
-        if let Some(position) = feed_position(&self.octets[self.start + self.searched..limit]) {
-            return Some(self.searched + position + 1);
+        if let Some(position) = feed_position(&self.octets[self.start + *searched..limit]) {
+            return Some(*searched + position + 1);
         }
-        self.searched = limit - self.start;
-        if self.searched < LINE_ROOM {
+        *searched = limit - self.start;
+        if *searched < LINE_ROOM {
             None
         } else {
-            Some(self.searched)
+            Some(*searched)
         }
     }
 

@@ -38,7 +38,6 @@ mod answer;
 mod client;
 mod comparing;
 mod config;
-mod datagram;
 mod due;
 mod event;
 mod examples;

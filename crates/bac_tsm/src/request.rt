@@ -1,22 +1,26 @@
-//! An open request.
+//! An open request, with the datagram that it is sent as.
 
-ghost use Rattle.std.specs.Prelude.{◌≡◌, ◌<◌, ◌≤◌, suc, length, nat_eq, true};
+ghost use Rattle.std.specs.Prelude.{◌≡◌, ◌<◌, ◌≤◌, suc, length};
 ghost use Rattle.bac_pdu.specs.Apdu.{longest_body};
 ghost use Rattle.bac_tsm.specs.Machine.{is_due, due_entry};
 ghost use Rattle.bac_pdu.specs.Peer.{station};
-ghost use Rattle.std.specs.Option.{option_map_or};
-ghost use Rattle.bac_tsm.specs.Answers.{same_station, is_answer_to};
-ghost use Rattle.bac_tsm.specs.Inner.Seen.{answer_seen};
+ghost use Rattle.bac_tsm.specs.Answers.{octets_of};
 ghost use Rattle.bac_tsm.specs.Client.{client_rules};
 ghost use Rattle.bac_tsm.specs.Inner.Waiting.{begun};
 
-use crate::answer::Answer;
 use crate::config::Config;
-use crate::datagram::{Datagram, write_request};
 use crate::due::Entry;
-use bac_pdu::Peer;
+use crate::limits::LONGEST_DATAGRAM;
+use arrayvec::ArrayVec;
+use bac_pdu::{Apdu, Peer, wrap_within, write_apdu};
 use bac_wire::Frame;
 use std::marker::Model;
+
+// A datagram that is kept to be sent.
+type Datagram = ArrayVec<u8, LONGEST_DATAGRAM>;
+
+// The code of the greatest APDU that a client takes, 1476 octets (clause 20.1.2.5).
+const GREATEST_APDU_CODE: u8 = 5;
 
 /// What a request is opened with: its ticket, whom it goes to, its service, its invoke id, and the clock at which it is
 /// sent.
@@ -136,29 +140,24 @@ impl OpenRequest {
         self.base = clock;
         self.count += 1;
     }
+}
 
-    /// The answer is to this request.
-    #[tactic(auto, unfolding(crate::specs::Answers::is_answer_to))]
-    pub(crate) fn is_answered_by(&self, answer: &Answer<'_>) -> bool
-        ensures { result ≡ is_answer_to self.now.request (answer_seen answer.now) }
-    {
-        self.is_to(&answer.peer)
-            && self.invoke_id == answer.invoke_id
-            && self.is_for(answer.service)
-    }
-
-    // The request went to this peer.
-    #[tactic(auto, using(crate::proofs::AnswersInWords::same_station_is, crate::proofs::AnswersInWords::same_station_refl))]
-    fn is_to(&self, peer: &Peer) -> bool
-        ensures { result ≡ same_station self.now.request.peer (station peer.now) }
-    {
-        self.peer.is_same(peer)
-    }
-
-    // The request is for this service, or none is named.
-    fn is_for(&self, service: Option<u8>) -> bool
-        ensures { result ≡ option_map_or (λ named. nat_eq self.now.request.service named) service true }
-    {
-        service.is_none_or(|named| self.service == named)
-    }
+// Makes the octets the datagram of a request (clause 20.1.2, behind the headers of Annex J and clause 6), which is
+// written in the frame. There is room for any route.
+fn write_request(datagram: &mut Datagram, asked: Asked, body: &[u8], frame: &mut Frame)
+    requires { length body.now ≤ longest_body }
+    ensures { datagram.new.items ≡ octets_of (station asked.peer) asked.service body.now asked.invoke_id }
+{
+    let request = Apdu::Confirmed {
+        part: None,
+        code: GREATEST_APDU_CODE,
+        id: asked.invoke_id,
+        service: asked.service,
+        body,
+    };
+    frame.clear();
+    let _ = write_apdu(frame, &request);
+    let _ = wrap_within(asked.peer, true, frame);
+    datagram.clear();
+    let _ = datagram.try_extend_from_slice(frame.as_slice());
 }

@@ -127,7 +127,7 @@ impl Table {
     {
         let slot = self.numbers[usize::from(answer.invoke_id)]?;
         let request = held(&self.slots, slot);
-        if !request.is_answered_by(answer) {
+        if !is_answered_by(request, answer) {
             return None;
         }
         let ticket = request.ticket();
@@ -293,6 +293,18 @@ fn held(slots: &[OpenRequest; PLACES], slot: u8) -> &OpenRequest
     ensures { result.now ≡ get_or slots.now slot nothing }
 {
     &slots[usize::from(slot)]
+}
+
+// The answer is to the request.
+#[tactic(auto, using(crate::proofs::AnswersInWords::same_station_is, crate::proofs::AnswersInWords::same_station_refl), unfolding(crate::specs::Answers::is_answer_to))]
+fn is_answered_by(request: &OpenRequest, answer: &Answer<'_>) -> bool
+    ensures { result ≡ is_answer_to request.now.request (answer_seen answer.now) }
+{
+    request.peer.is_same(&answer.peer)
+        && request.invoke_id == answer.invoke_id
+        && answer
+            .service
+            .is_none_or(|service| request.service == service)
 }
 
 // The slot that was sent longest ago.

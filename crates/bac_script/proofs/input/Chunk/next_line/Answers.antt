@@ -1,7 +1,7 @@
-use Rattle.std.proofs.Common.{◌≡◌, ◌<◌, length, List, ℕ, arith, refl, sym, ◌∙◌, subst, rules}
+use Rattle.std.proofs.Common.{◌≡◌, ◌<◌, length, List, ℕ, arith, refl, sym, subst, rules}
 use Rattle.bac_script.{
   specs.{Inner.Feeds.HasNoFeed, Inner.Limits.line_room, declared.input.Reading.TheVariants.Open},
-  proofs.Taken.{Takes-more, read_for_line, next_at_end},
+  proofs.{Chunks.searched_on, Taken.{Takes-more, read_for_line, next_at_end}},
 }
 use Rattle.bac_print.proofs.Printed.{◌⨾◌, prints_nothing}
 use Rattle.bac_script.proofs.input.Chunk.next_line.Goals as goal
@@ -16,13 +16,13 @@ loop-length-init g c = record {
   needed = search rules;
   spared = search rules;
   room = search rules;
+  searched = record { within = omega arith; few = omega arith; before = tt };
 }
 
 pub loop-length-preserved : goal.loop-length-preserved
 loop-length-preserved g c =
     record {
-      given = Takes-more c.loop-length.invariant.given
-          (rw c.line_length.ensures.held at c.read_more-reading.ensures.given);
+      given = Takes-more c.loop-length.invariant.given c.read_more-reading.ensures.given;
       printed = c.loop-length.invariant.printed ⨾ c.turn_in.ensures.printed;
       sound = grind arith;
       unended = grind arith;
@@ -30,9 +30,11 @@ loop-length-preserved g c =
       needed = read_for_line c.loop-length.invariant.given c.loop-length.invariant.printed c.turn_in.ensures.printed
           c.turn_in.ensures.empty (search rules) c.loop-length.invariant.needed
           c.loop-length.invariant.asked c.in_default.ensures.line.0 c.in_default.ensures.line.1
-          (rw c.line_length.ensures.held at c.read_more-reading.ensures.last) c.read_more-reading.ensures.once;
+          c.read_more-reading.ensures.last c.read_more-reading.ensures.once;
       spared = grind arith;
       room = grind arith;
+      searched = rw c.in_default.ensures.searched
+          (searched_on _ c.in_default.ensures.line.0 c.in_default.ensures.line.1 c.read_more-reading.ensures.last);
     }
 
 pub returns-then-failed-clause-printed : goal.returns-then-failed-clause-printed
@@ -44,7 +46,7 @@ returns-then-ne-clause-printed g c = c.loop-length.invariant.printed ⨾ c.turn_
 pub returns-then-ne-clause-next : goal.returns-then-ne-clause-next
 returns-then-ne-clause-next g c =
     let over : c.read_more-reading.result ≡ Open → ⊥ = grind arith in
-    let same = sym (c.read_more-reading.ensures.same over ∙ c.line_length.ensures.held) in
+    let same = sym (c.read_more-reading.ensures.same over) in
     next_at_end c.loop-length.reader c.read_more-reading.result over c.len-length.ensures
     (subst HasNoFeed same c.in_default.ensures.line.0)
     (subst (λ (xs : List ℕ). length xs < line_room) same c.in_default.ensures.line.1) c.loop-length.invariant.unended

@@ -4,6 +4,7 @@ use Rattle.bac_script.specs.{
   Input.ReadsNoMore,
   Inner.Input.{HasNotEnded, TakesAndKeeps, ReadForLine, may_read, most_to_come},
 }
+use Rattle.bac_script.proofs.Chunks.{IsSearched}
 use Rattle.bac_script.proofs.input.Chunk.next_line.Given as goal
 
 abbrev pub invariant-loop-length : goal.invariant-loop-length
@@ -16,6 +17,7 @@ invariant-loop-length g l = record {
   needed : ReadForLine l.fn.reader l.reader l.fn.page l.page l.fn.self l.self;
   spared : ReadsNoMore l.fn.reader l.reader;
   room : most_to_come l.reader l.self ≤ most_to_come l.fn.reader l.fn.self;
+  searched : IsSearched l.searched l.self;
 }
 
 abbrev pub decreases-loop-length : goal.decreases-loop-length

@@ -1,7 +1,6 @@
 use Rattle.std.proofs.Common.{◌∙◌, ap, inr, take, arith}
 use Rattle.bac_script.proofs.{
-  Chunks.{Placed, placed_moved, still_before, still_held, before_more, read_on, read_none, read_ended, last_on},
-  Chunks.last_none,
+  Chunks.{Placed, placed_moved, still_held, read_on, read_none, read_ended, last_on, last_none},
 }
 use Rattle.bac_script.proofs.input.Chunk.read_more.Goals as goal
 use Rattle.bac_script.proofs.input.Chunk.read_more.Given.{Over}
@@ -9,30 +8,27 @@ use Rattle.bac_script.proofs.input.Chunk.read_more.Goals.{After-read, then-self,
 
 -- The chunk as it is read into: what is held was moved to the front, or there was room.
 ready : (g : Over) (c : After-read g) →
-    Placed c.if-self.self-inside.octets c.if-self.self-inside.start c.if-self.self-inside.end
-    c.if-self.self-inside.searched c.args.self.now
+    Placed c.if-self.self-inside.octets c.if-self.self-inside.start c.if-self.self-inside.end c.args.self.now
 ready g c =
     let i = c.self.inside in
     let s = c.self.invariant in
     elim c.if-self.branch [
       | then-self w ↦
           rw w.self-inside-is
-          (placed_moved i.octets w.copy_within.new.self c.args.self.now i.start i.end i.searched c.self.view_is
+          (placed_moved i.octets w.copy_within.new.self c.args.self.now i.start i.end c.self.view_is
           w.copy_within.ensures.after (omega (arith, w.copy_within.ensures.len))
-          (omega arith) s.0 s.1 c.requires.short s.3)
+          (omega arith) s.0 s.1 c.requires.short)
       | else-self w ↦
           rw w.self-inside-is (record {
             is = c.self.view_is;
             within = s.0;
             room = omega (arith, w.if-self.false);
             size = omega arith;
-            few = s.2;
-            before = s.3;
           })
     ]
 
 pub invariant_of-self : goal.invariant_of-self
-invariant_of-self g c = let r = ready g c.before in (r.within, omega (arith, r.room), r.few, still_before r _ _)
+invariant_of-self g c = let r = ready g c.before in (r.within, omega (arith, r.room))
 
 pub returns-in_default-clause-given : goal.returns-in_default-clause-given
 returns-in_default-clause-given g c =
@@ -43,9 +39,7 @@ pub returns-in_default-clause-same : goal.returns-in_default-clause-same
 returns-in_default-clause-same g c = let r = ready g c.before in λ _. still_held r _ _
 
 pub invariant_of-self-then-count-eq0 : goal.invariant_of-self-then-count-eq0
-invariant_of-self-then-count-eq0 g c =
-    let r = ready g c.before.before in
-    (r.within, omega (arith, r.room), r.few, still_before r _ _)
+invariant_of-self-then-count-eq0 g c = let r = ready g c.before.before in (r.within, omega (arith, r.room))
 
 pub returns-then-count-eq0-clause-given : goal.returns-then-count-eq0-clause-given
 returns-then-count-eq0-clause-given g c =
@@ -57,12 +51,8 @@ returns-then-count-eq0-clause-same g c = let r = ready g c.before.before in λ _
 
 pub invariant_of-self-2 : goal.invariant_of-self-2
 invariant_of-self-2 g c =
-    let r = ready g c.before.before.before in (
-      omega (arith, r.within),
-      omega (arith, r.room, c.in-Ok.ensures.bound.0),
-      r.few,
-      before_more r _ _ _ c.in-Ok.ensures.bound.0,
-    )
+    let r = ready g c.before.before.before in
+    (omega (arith, r.within), omega (arith, r.room, c.in-Ok.ensures.bound.0))
 
 pub returns-clause-given : goal.returns-clause-given
 returns-clause-given g c =
