@@ -80,6 +80,14 @@ def body_of(crate, path, name):
     return "\n".join(text.split("\n")[found[0].body + 1 : found[0].last]) if found else ""
 
 
+def is_law(crate, by):
+    """Whether `FILE::NAME` is a function of this crate with an empty body."""
+    place, _, name = by.rpartition("::")
+    file = f"{ROOT}/crates/{crate}/src/{place}.rt"
+    text = text_of(file) if os.path.isfile(file) else ""
+    return bool(re.search(rf"(?m)^pub fn {name}\b.*(\n .*)*\n{{}}$", text))
+
+
 class Pair(collections.namedtuple("Pair", "path within old new")):
     """What an edit replaces in a file, and by what: the first behind the head of the named function, else the only."""
 
@@ -113,6 +121,7 @@ class Edit:
                 self.pairs.append(Pair(said["file"], said.get("in"), old, said[word]))
         self.has_twin, self.calls_right = "twin" in said, "body" in said
         self.hole, self.answer, self.by = (said.get(word, "") for word in ("hole", "answer", "by"))
+        self.law = self.by if is_law(crate, self.by) else ""
         names = (it.strip("`,.") for it in self.hole.split())
         self.test = next((it for it in names if "/" in it and os.path.isfile(f"{ROOT}/{it}")), "")
         self.is_unfit = self.unfit()

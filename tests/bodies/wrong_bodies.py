@@ -8,8 +8,9 @@ contract, and of functions that call one another, stand in the function's place,
 rounds: a caller is proved from the contracts of what it calls, which no edit changes. What is refused for nothing but a
 callee, or was not tried since a callee was not, is tried again, and so is what doesn't compile beside its function. A
 function that no edit touches must stay proved, but for its callees, and so must one with a twin. Rounds are about as
-large as one another and go side by side. An edit of a constant or a type may stand in must-fail alone: it has a round
-of its own, in which the function that refuses it is proved anew, with those that it calls. A body is refused by a
+large as one another and go side by side. An edit of a constant or a type may stand in must-fail alone: in its round the
+function that refuses it is proved anew, with those that it calls, and nothing else is edited but what other laws refuse
+in other files. A body is refused by a
 
     clause  of the function, or its type's invariant; false: there are values at which it does not hold; open: no proof
             is found; limit: none in time
@@ -63,6 +64,8 @@ class Body(Edit):
         self.twin, self.kind, self.why, self.tries, self.took = None, "", [], 0, 0.0
 
     def touches(self, symbol):
+        if self.law:
+            return symbol == f"{self.crate}::{self.law}"
         mine = [self.copy.symbols] if self.copy else [it.symbols for _, it in self.functions]
         return self.is_wide or any(it.match(symbol) for it in mine)
 
@@ -215,9 +218,25 @@ def joined(round, edit):
     return more and (more, keys | edit.keys, [*group, edit])
 
 
+def wide_rounds_of(edits, are_alone):
+    """Edits of constants and types in rounds. Those of one round stand in different files, and different laws refuse
+    them: a law speaks of clones, of `==` or of numbers, and no other edit of the round changes what it speaks of."""
+    rounds = []
+    for edit in edits:
+        places = {it.path for it in edit.pairs}
+        is_apart = lambda other: other.law not in ("", edit.law) and not places & {it.path for it in other.pairs}
+        are_apart = lambda group: bool(edit.law) and not are_alone and all(map(is_apart, group))
+        group = next(filter(are_apart, rounds), None)
+        if group:
+            group.append(edit)
+        else:
+            rounds.append([edit])
+    return [(functools.reduce(lambda texts, edit: edit.applied(texts), group, {}), group) for group in rounds]
+
+
 def rounds_of(edits, are_alone):
     """The edits in rounds of about one size, each with its texts. No two of a round touch one function."""
-    alone = [(edit.applied({}), [edit]) for edit in edits if edit.is_wide]
+    wide = wide_rounds_of([edit for edit in edits if edit.is_wide], are_alone)
     edits = [edit for edit in edits if not edit.is_wide]
     of_key = collections.Counter(key for it in edits if not it.copy for key in it.keys)
     busy = lambda edit: 0 if edit.copy else max((of_key[key] for key in edit.keys), default=0)
@@ -232,7 +251,7 @@ def rounds_of(edits, are_alone):
             rounds[at] = more
         else:
             rounds.append(({} if edit.copy else edit.applied({}), edit.keys, [edit]))
-    return alone + [(texts, group) for texts, _, group in rounds if group]
+    return wide + [(texts, group) for texts, _, group in rounds if group]
 
 
 def sample_of(edits):
