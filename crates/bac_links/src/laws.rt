@@ -28,8 +28,7 @@ use crate::ending::{Exit, Purpose as Aim};
 use crate::fault::ToolFault;
 use crate::link::{Link, LinkFault};
 use crate::memory::{MemoryLink, Step};
-use crate::socket::Socket;
-use crate::udp::{Refused, UdpLink};
+use crate::udp::{Refused, Socket, UdpLink};
 use std::alloc::Allocator;
 use std::io::Write;
 
