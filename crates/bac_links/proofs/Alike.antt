@@ -6,7 +6,7 @@ use Rattle.bac_links.specs.{
   Answered.{AskAlike, Printed, OneText},
   Asking.Plays,
   Ending.{ending_line, exit_of},
-  Call.{Comes, move, Calls, Tells},
+  Call.{Comes, move, Tells},
   declared.{ending.Purpose.Purpose, ending.Exit.Exit, fault.ToolFault.ToolFault},
   declared.fault.ToolFault.TheVariants.{SendFailed, ReceiveFailed, TurnsSpent, WriteFailed},
 }
@@ -30,20 +30,20 @@ module _ (purpose : Purpose) (call : Call) where
       pub answers : result ≢ Err WriteFailed → result ≡ result_of comes
       pub prints : Printed contents before after (line_of comes) result
 
-    fails : (fault : ToolFault) → (after ≡ before) × Calls purpose call seen left (Err fault)
+    fails : (fault : ToolFault) → (after ≡ before) × Plays (move purpose call) seen left (Err fault)
         → Plays (move purpose call) seen left (Err fault) × Took contents before after []
     fails fault tells = (
-      tells.1.plays,
+      tells.1,
       subst (λ (w : Checked W). Took contents before w []) (sym tells.0) (Took-none before),
     )
 
     pub went : (result : Result Exit ToolFault) → Tells purpose call contents before after seen left result
         → Went result
     went (Ok exit) tells =
-        record { comes = Ok tells.0; plays = tells.3.plays; answers = λ other. ap Ok tells.1; prints = tells.2 }
+        record { comes = Ok tells.0; plays = tells.3; answers = λ other. ap Ok tells.1; prints = tells.2 }
     went (Err WriteFailed) tells = record {
       comes = Ok tells.0;
-      plays = tells.2.plays;
+      plays = tells.2;
       answers = λ other. absurd (other refl);
       prints = tells.1;
     }

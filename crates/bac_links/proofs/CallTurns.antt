@@ -17,9 +17,9 @@ use Rattle.bac_links.specs.{
   Limits.most_turns,
   History.{Heard, Silence, Arrival, Failure, Entry, Waited, Timed, Posted, Unposted, Account, GainsAll, Gains},
   Ending.{ending_line, exit_of},
-  Asking.{Move, Asks, Ends, ForTime, ToSend, question_of, Follows, waits_in, turn_after},
+  Asking.{Move, Asks, Ends, ForTime, ToSend, question_of, Follows, Plays, waits_in, turn_after},
   Handed.{handed, handed_of},
-  Call.{rules_for, events_of, end_in, sent_last, IsAccepted, Comes, or_ended, or_sent, move_behind, move, Calls, Tells},
+  Call.{rules_for, events_of, end_in, sent_last, Comes, or_ended, or_sent, move_behind, move, Tells},
   Inner.CallSteps.{posts, wait_of, begun_at, endings, GainsLost, heard_step, timeouts, AsksNothing, IsAlone, CarriesOn},
   Inner.CallSteps.Underway,
   declared.{ending.Purpose.Purpose, ending.Exit.Exit, fault.ToolFault.ToolFault},
@@ -28,7 +28,7 @@ use Rattle.bac_links.specs.{
 use Rattle.bac_links.proofs.{
   Asking.{last_push, follows_push, waits_push, turn_begins, turns_over},
   Histories.gains_both,
-  CallEvents.{is_accepted, carries_on, ends_next, sends_next, carried_alone, submitted, begins, begins_sent},
+  CallEvents.{carries_on, ends_next, sends_next, carried_alone, submitted, begins, begins_sent},
 }
 use Rattle.bac_text.specs.declared.jobs.Call.{Call}
 
@@ -57,7 +57,7 @@ one_or_none = grind (arith, cases_Bool)
 pub handed_push : (more : List Entry) (x : Entry) → handed (more ++ x ∷ []) ≡ handed more ++ handed_of x
 handed_push = grind (arith, flat_map-append, append-nil)
 
-quiet_handed : (more : List Entry) → All AsksNothing (handed more)
+pub quiet_handed : (more : List Entry) → All AsksNothing (handed more)
 quiet_handed [] = All-nil _
 quiet_handed (Waited wait Silence ∷ more) = quiet_handed more
 quiet_handed (Waited wait Failure ∷ more) = quiet_handed more
@@ -96,9 +96,6 @@ module _ {purpose : Purpose} {call : Call} {time : ℕ} (more : List Entry) {cli
   -- And one that it is not handed.
   same_so : (x : Entry) → handed_of x ≡ [] → CarriesOn purpose call time (handed (more ++ x ∷ [])) client
   same_so = grind (arith, handed_push, append-nil)
-
-  accepted_so : (more : List Entry) → IsAccepted purpose call (events_of purpose call (Timed time ∷ more))
-  accepted_so more = is_accepted _ call time _ far.short (quiet_handed more)
 
   -- What is heard in a call whose request stays open.
   heard_on : (wait : ℕ) (heard : Heard) (left : Client)
@@ -185,15 +182,12 @@ module _ {purpose : Purpose} {call : Call} {time : ℕ} (more : List Entry) {cli
     -- What is due could not be sent.
     loses : (to : Station) (octets : List ℕ) → due ≡ Posted to octets ∷ [] →
         GainsAll (Timed time ∷ (more ++ Unposted to octets ∷ [])) seen left
-        → Calls purpose call seen left (Err SendFailed)
+        → Plays (move purpose call) seen left (Err SendFailed)
     loses to octets one gains = record {
-      plays = record {
-        gained = Timed time ∷ (more ++ Unposted to octets ∷ []);
-        gains = gains;
-        follows = follows_sent (Unposted to octets) to octets one refl;
-        over = behind purpose call (Timed time ∷ more) (Unposted to octets);
-      };
-      request = accepted_so more carried (more ++ Unposted to octets ∷ []);
+      gained = Timed time ∷ (more ++ Unposted to octets ∷ []);
+      gains = gains;
+      follows = follows_sent (Unposted to octets) to octets one refl;
+      over = behind purpose call (Timed time ∷ more) (Unposted to octets);
     }
 
 -- ---- a turn
@@ -210,11 +204,9 @@ module _ {purpose : Purpose} {call : Call} {seen mid next : Account} {client : C
   follows_waited : Follows (move purpose call) [] (Timed far.time ∷ waited)
   follows_waited = grind (arith, follows_push, turn_begins)
 
-  comes : (r : Comes) → move purpose call (Timed far.time ∷ waited) ≡ Ends r → Calls purpose call seen next r
-  comes r over = record {
-    plays = record { gained = Timed far.time ∷ waited; gains = gains_waited; follows = follows_waited; over = over };
-    request = accepted_so far.more far.carried waited;
-  }
+  comes : (r : Comes) → move purpose call (Timed far.time ∷ waited) ≡ Ends r → Plays (move purpose call) seen next r
+  comes r over =
+      record { gained = Timed far.time ∷ waited; gains = gains_waited; follows = follows_waited; over = over }
 
   behind_waited : heard ≢ Failure → (e : Option End)
       → end_in purpose call (events_of purpose call (Timed far.time ∷ waited)) ≡ e →
@@ -226,11 +218,11 @@ module _ {purpose : Purpose} {call : Call} {seen mid next : Account} {client : C
   -- An answer ends the call.
   pub answered : (outcome : Outcome) → heard ≢ Failure →
       endings (heard_step (rules_of client) client.state heard).notes ≡ Some outcome ∷ []
-      → Calls purpose call seen next (Ok (Some outcome))
+      → Plays (move purpose call) seen next (Ok (Some outcome))
   answered outcome received one =
       comes (Ok (Some outcome)) (behind_waited received _ (heard_end far.more far.carried _ heard _ one))
 
-  pub unheard : heard ≡ Failure → Calls purpose call seen next (Err ReceiveFailed)
+  pub unheard : heard ≡ Failure → Plays (move purpose call) seen next (Err ReceiveFailed)
   unheard failure =
       comes (Err ReceiveFailed)
       (ap (λ (h : Heard). move purpose call (Timed far.time ∷ (far.more ++ Waited (wait_of call) h ∷ []))) failure
@@ -290,25 +282,22 @@ module _ {purpose : Purpose} {call : Call} {seen mid next : Account} {client : C
 
       -- The time runs out.
       pub timed_out : {last : Account} → endings ticked.notes ≡ timeouts true
-          → GainsAll (Timed now ∷ posts ticked.notes) next last → Calls purpose call seen last (Ok None)
+          → GainsAll (Timed now ∷ posts ticked.notes) next last → Plays (move purpose call) seen last (Ok None)
       timed_out {last} one ticks = record {
-        plays = record {
-          gained = Timed far.time ∷ timed;
-          gains = subst (λ (xs : List Entry). GainsAll (Timed far.time ∷ xs) seen last)
-              (ap (λ (xs : List Entry). timed ++ xs) (unsent_at_end (rules_of middle) middle.state now alone one)
-              ∙ append-nil timed) (gains_timed _ ticks);
-          follows = follows_timed;
-          over = behind purpose call (Timed far.time ∷ waited) (Timed now) ∙ ap (λ (e : Option End). or_ended e
-              (or_sent (sent_last purpose call (events_of purpose call (Timed far.time ∷ timed)))
-              (turn_after (wait_of call) (waits_in timed))))
-              (ends_so waited hears (Timed now) (Tick now) tt refl None one);
-        };
-        request = accepted_so waited hears timed;
+        gained = Timed far.time ∷ timed;
+        gains = subst (λ (xs : List Entry). GainsAll (Timed far.time ∷ xs) seen last)
+            (ap (λ (xs : List Entry). timed ++ xs) (unsent_at_end (rules_of middle) middle.state now alone one)
+            ∙ append-nil timed) (gains_timed _ ticks);
+        follows = follows_timed;
+        over = behind purpose call (Timed far.time ∷ waited) (Timed now) ∙ ap (λ (e : Option End). or_ended e
+            (or_sent (sent_last purpose call (events_of purpose call (Timed far.time ∷ timed)))
+            (turn_after (wait_of call) (waits_in timed))))
+            (ends_so waited hears (Timed now) (Tick now) tt refl None one);
       }
 
       -- The request could not be sent again.
       pub unsent : {last : Account} → endings ticked.notes ≡ [] → GainsLost ticked.notes (Timed now ∷ []) next last
-          → Calls purpose call seen last (Err SendFailed)
+          → Plays (move purpose call) seen last (Err SendFailed)
       unsent none_then lost =
           loses timed (carried_then none_then _ refl) follows_timed _ (next_then none_then) turned _ _ lost.2
           (gains_timed _ lost.3)
@@ -334,34 +323,31 @@ module _ (purpose : Purpose) (call : Call) (time : ℕ) (short : length call.bod
   begun gains = goes_on [] carried_first (refl, tt) _ next_first refl (grind (arith, begins_sent, one_or_none)) gains
 
   pub unbegun : {seen left : Account} → GainsLost (sent client.state 0) (Timed time ∷ []) seen left
-      → Calls purpose call seen left (Err SendFailed)
+      → Plays (move purpose call) seen left (Err SendFailed)
   unbegun lost = loses [] carried_first (refl, tt) _ next_first refl _ _ lost.2 lost.3
 
 -- ---- the end
 
 -- All turns went by.
 pub spent : {purpose : Purpose} {call : Call} {seen left : Account} {client : Client} (n : ℕ) → n ≡ most_turns
-    → Underway purpose call seen left client n → Calls purpose call seen left (Err TurnsSpent)
+    → Underway purpose call seen left client n → Plays (move purpose call) seen left (Err TurnsSpent)
 spent {call} n all far = record {
-  plays = record {
-    gained = Timed far.time ∷ far.more;
-    gains = far.gains;
-    follows = far.follows;
-    over = far.next ∙ turns_over _ n (omega (arith, all));
-  };
-  request = accepted_so far.more far.carried far.more;
+  gained = Timed far.time ∷ far.more;
+  gains = far.gains;
+  follows = far.follows;
+  over = far.next ∙ turns_over _ n (omega (arith, all));
 }
 
-module _ {W : Type 0} {purpose : Purpose} {call : Call} (contents : W → Option (List ℕ)) (before after : Checked W)
+module _ {W : Type 0} (purpose : Purpose) (call : Call) (contents : W → Option (List ℕ)) (before after : Checked W)
     {seen left : Account} where
   -- A call that fails so tells it.
-  pub fails_so : (fault : ToolFault) → fault ≢ WriteFailed → after ≡ before → Calls purpose call seen left (Err fault)
-      → Tells purpose call contents before after seen left (Err fault)
+  pub fails_so : (fault : ToolFault) → fault ≢ WriteFailed → after ≡ before
+      → Plays (move purpose call) seen left (Err fault) → Tells purpose call contents before after seen left (Err fault)
   fails_so = grind arith
 
   -- What is shown of an end is what the call tells.
   pub shown_so : (ending : Option Outcome) (result : Result Exit ToolFault)
       → TookOrFailed contents before after (ending_line purpose ending) result →
       IfOk result (λ exit. exit ≡ exit_of purpose ending) → IfErr result (λ fault. fault ≡ WriteFailed) →
-      Calls purpose call seen left (Ok ending) → Tells purpose call contents before after seen left result
+      Plays (move purpose call) seen left (Ok ending) → Tells purpose call contents before after seen left result
   shown_so = grind arith

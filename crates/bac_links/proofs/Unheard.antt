@@ -12,7 +12,7 @@ pub not_ended : {W : Type 0} (contents : W → Option (List ℕ)) (purpose : Pur
     (before after : Checked W)
     (seen : Account) (exit : Exit) → Tells purpose call contents before after seen seen (Ok exit) → ⊥
 not_ended _ purpose call _ _ seen _ tells =
-    let plays = tells.3.plays in
+    let plays = tells.3 in
     let none = played _ seen seen _ [] plays (sym (append-nil _)) in
     let over : Asks ForTime ≡ Ends (Ok tells.0) = ap (move purpose call) (sym none) ∙ plays.over in
     cc

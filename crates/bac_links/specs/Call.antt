@@ -58,7 +58,7 @@ module _ (purpose : Purpose) (call : Call) where
     request = request_of (rules_for call) 0 (station call.to) (service_of purpose) call.body.items 1;
   }
 
-  -- The request of the call is the one that is accepted.
+  -- Among these events one request is accepted, that of the call.
   abbrev pub IsAccepted : List Event → Type 0
   IsAccepted events = accepted (rules_for call) 0 events (length events) ≡ asked ∷ []
 
@@ -95,17 +95,12 @@ module _ (purpose : Purpose) (call : Call) where
   abbrev pub move : List Entry → Move Comes
   move gained = move_behind gained (last_or None gained)
 
-  -- The history of the link gained what a call asks, until it comes to this; and its request was accepted.
-  pub record Calls (seen left : Account) (comes : Comes) : Type 0 where
-    pub plays : Plays move seen left comes
-    pub request : IsAccepted (events_of plays.gained)
-
   module _ {W : Type 0} (contents : W → Option (List ℕ)) (before after : Checked W) (seen left : Account) where
     -- What a call prints, answers, and asks of its link: the line of how the request ended, or a front of it where the
     -- writer failed; after any other fault nothing.
     abbrev pub Tells : Result Exit ToolFault → Type 0
     Tells (Ok exit) = (ending : Option Outcome) × (exit ≡ exit_of purpose ending)
-        × Took contents before after (ending_line purpose ending) × Calls seen left (Ok ending)
+        × Took contents before after (ending_line purpose ending) × Plays move seen left (Ok ending)
     Tells (Err WriteFailed) = (ending : Option Outcome) × TakesFront contents before after (ending_line purpose ending)
-        × Calls seen left (Ok ending)
-    Tells (Err fault) = (after ≡ before) × Calls seen left (Err fault)
+        × Plays move seen left (Ok ending)
+    Tells (Err fault) = (after ≡ before) × Plays move seen left (Err fault)

@@ -1,8 +1,9 @@
 //! What holds of the definitions that the contracts cite, and of the public types. Each function has an empty body, and
 //! its clauses are the laws.
 
-ghost use Rattle.std.specs.Prelude.{◌≡◌, ◌≢◌, ◌≤◌, ◌+◌, ◌*◌, ◌++◌, ℕ, suc, ⊤, List, Result, Ok, Err};
+ghost use Rattle.std.specs.Prelude.{◌≡◌, ◌≢◌, ◌≤◌, ◌+◌, ◌*◌, ◌++◌, ℕ, suc, ⊤, List, length, Result, Ok, Err};
 ghost use Rattle.bac_wire.specs.Copies.{MakesCopies, EqualsBy};
+ghost use Rattle.bac_pdu.specs.Apdu.{longest_body};
 ghost use Rattle.bac_device.specs.Places.{Write as Change};
 ghost use Rattle.bac_device.specs.Device.{DeviceState, points_of, Holds};
 ghost use Rattle.bac_device.specs.Turns.{AreDefined};
@@ -13,7 +14,7 @@ ghost use Rattle.bac_links.specs.Limits.{longest_datagram};
 ghost use Rattle.bac_links.specs.History.{Entry, Account};
 ghost use Rattle.bac_links.specs.Answered.{AskAlike, OneText};
 ghost use Rattle.bac_links.specs.Asking.{waits_in};
-ghost use Rattle.bac_links.specs.Call.{Tells};
+ghost use Rattle.bac_links.specs.Call.{IsAccepted, Tells, events_of};
 ghost use Rattle.bac_links.specs.Memory.{PlaysItsScenes};
 ghost use Rattle.bac_links.specs.Progress.{AreTold, ArePrompt};
 ghost use Rattle.bac_links.specs.Search.{Searched};
@@ -57,6 +58,16 @@ pub fn a_call_ends_in_time<W: Write>()
         → Tells purpose call W.contents before after seen left result → left.history ≡ seen.history ++ gained
         → AreTold time_behind 0 gained → ArePrompt time_behind longest (waits_in gained)
         → time_behind (waits_in gained) ≤ time_behind 0 + suc call.retries * (call.timeout + longest) }
+{}
+
+/// Among the events of a call, whatever it comes to, the look-ahead accepts one request, that of the call. So what is
+/// proved of a request that is accepted holds of it. Its body is short enough: `as_slice` says so of each that the code
+/// has.
+pub fn a_call_is_accepted<W: Write>()
+    ensures { (purpose : Purpose) (call : Call) (before after : Checked W) (seen left : Account)
+        (result : Result Ended Fault) (gained : List Entry) → length call.body.items ≤ longest_body
+        → Tells purpose call W.contents before after seen left result → left.history ≡ seen.history ++ gained
+        → IsAccepted purpose call (events_of purpose call gained) }
 {}
 
 /// No call ends with an exit over a link, a socket or another, whose history gained nothing.
