@@ -17,9 +17,9 @@ use Rattle.bac_links.specs.{
   Limits.most_turns,
   History.{Heard, Silence, Arrival, Failure, Entry, Waited, Timed, Posted, Unposted, Account, GainsAll, Gains},
   Ending.{ending_line, exit_of},
-  Asking.{Move, Asks, Ends, ForTime, ToSend, question_of, Follows, Plays, waits_in, turn_after},
+  Asking.{Move, Asks, Ends, ForTime, ToSend, question_of, Follows, Plays, next_move, waits_in, turn_after},
   Handed.{handed, handed_of},
-  Call.{rules_for, events_of, end_in, sent_last, Comes, or_ended, or_sent, move_behind, move, Tells},
+  Call.{rules_for, events_of, end_in, sent_last, Comes, or_ended, or_sent, move, Tells},
   Inner.CallSteps.{posts, wait_of, begun_at, endings, GainsLost, heard_step, timeouts, AsksNothing, IsAlone, CarriesOn},
   Inner.CallSteps.Underway,
   declared.{ending.Purpose.Purpose, ending.Exit.Exit, fault.ToolFault.ToolFault},
@@ -121,21 +121,21 @@ module _ {purpose : Purpose} {call : Call} {time : ℕ} (more : List Entry) {cli
 module _ (purpose : Purpose) (call : Call) where
   -- The move behind one more entry.
   abbrev Behind : List Entry → Entry → Move Comes → Type 0
-  Behind gained x next = move purpose call (gained ++ x ∷ []) ≡ next
+  Behind gained x next = next_move (move purpose call) (gained ++ x ∷ []) ≡ next
 
   behind : (gained : List Entry) (x : Entry)
-      → move purpose call (gained ++ x ∷ []) ≡ move_behind purpose call (gained ++ x ∷ []) (Some x)
+      → next_move (move purpose call) (gained ++ x ∷ []) ≡ move purpose call (gained ++ x ∷ []) (Some x)
   behind = grind (arith, last_push)
 
   behind_wait : (gained : List Entry) (wait : ℕ) (heard : Heard) → heard ≢ Failure →
-      move purpose call (gained ++ Waited wait heard ∷ [])
+      next_move (move purpose call) (gained ++ Waited wait heard ∷ [])
       ≡ or_ended (end_in purpose call (events_of purpose call (gained ++ Waited wait heard ∷ []))) (Asks ForTime)
   behind_wait = grind (arith, behind)
 
   -- Behind a time at which the request stays open it is sent where it is due, and then a turn begins.
   behind_time : (gained : List Entry) (now : ℕ)
       → end_in purpose call (events_of purpose call (gained ++ Timed now ∷ [])) ≡ None →
-      move purpose call (gained ++ Timed now ∷ [])
+      next_move (move purpose call) (gained ++ Timed now ∷ [])
       ≡ or_sent (sent_last purpose call (events_of purpose call (gained ++ Timed now ∷ [])))
       (turn_after (wait_of call) (waits_in (gained ++ Timed now ∷ [])))
   behind_time = grind (arith, behind)
@@ -145,7 +145,7 @@ module _ (purpose : Purpose) (call : Call) where
 module _ {purpose : Purpose} {call : Call} {time : ℕ} (more : List Entry) {client : Client} {n : ℕ}
     (carried : CarriesOn purpose call time (handed more) client)
     (follows : Follows (move purpose call) [] (Timed time ∷ more)) (due : List Entry)
-    (next : move purpose call (Timed time ∷ more) ≡ or_sent due (turn_after (wait_of call) n))
+    (next : next_move (move purpose call) (Timed time ∷ more) ≡ or_sent due (turn_after (wait_of call) n))
     (turns : waits_in more ≡ n) where
   follows_sent : (x : Entry) (to : Station) (octets : List ℕ) → due ≡ Posted to octets ∷ []
       → ToSend to octets ≡ question_of x → Follows (move purpose call) [] (Timed time ∷ (more ++ x ∷ []))
@@ -204,13 +204,14 @@ module _ {purpose : Purpose} {call : Call} {seen mid next : Account} {client : C
   follows_waited : Follows (move purpose call) [] (Timed far.time ∷ waited)
   follows_waited = grind (arith, follows_push, turn_begins)
 
-  comes : (r : Comes) → move purpose call (Timed far.time ∷ waited) ≡ Ends r → Plays (move purpose call) seen next r
+  comes : (r : Comes) → next_move (move purpose call) (Timed far.time ∷ waited) ≡ Ends r
+      → Plays (move purpose call) seen next r
   comes r over =
       record { gained = Timed far.time ∷ waited; gains = gains_waited; follows = follows_waited; over = over }
 
   behind_waited : heard ≢ Failure → (e : Option End)
       → end_in purpose call (events_of purpose call (Timed far.time ∷ waited)) ≡ e →
-      move purpose call (Timed far.time ∷ waited) ≡ or_ended e (Asks ForTime)
+      next_move (move purpose call) (Timed far.time ∷ waited) ≡ or_ended e (Asks ForTime)
   behind_waited received e is =
       behind_wait purpose call (Timed far.time ∷ far.more) (wait_of call) heard received
       ∙ ap (λ (e : Option End). or_ended e (Asks ForTime)) is
@@ -225,7 +226,8 @@ module _ {purpose : Purpose} {call : Call} {seen mid next : Account} {client : C
   pub unheard : heard ≡ Failure → Plays (move purpose call) seen next (Err ReceiveFailed)
   unheard failure =
       comes (Err ReceiveFailed)
-      (ap (λ (h : Heard). move purpose call (Timed far.time ∷ (far.more ++ Waited (wait_of call) h ∷ []))) failure
+      (ap (λ (h : Heard). next_move (move purpose call) (Timed far.time ∷ (far.more ++ Waited (wait_of call) h ∷ [])))
+      failure
       ∙ behind purpose call (Timed far.time ∷ far.more) (Waited (wait_of call) Failure))
 
   module _ {middle : Client} (received : heard ≢ Failure)
@@ -264,7 +266,7 @@ module _ {purpose : Purpose} {call : Call} {seen mid next : Account} {client : C
       carried_then = search (arith, on_so, hears)
 
       next_then : endings ticked.notes ≡ []
-          → move purpose call (Timed far.time ∷ timed)
+          → next_move (move purpose call) (Timed far.time ∷ timed)
           ≡ or_sent (posts ticked.notes) (turn_after (wait_of call) (suc n))
       next_then none_then =
           behind_time purpose call (Timed far.time ∷ waited) now (carried_then none_then _ refl).unended
@@ -314,7 +316,7 @@ module _ (purpose : Purpose) (call : Call) (time : ℕ) (short : length call.bod
   carried_first : CarriesOn purpose call time [] client
   carried_first = grind (arith, begins)
 
-  next_first : move purpose call (Timed time ∷ [])
+  next_first : next_move (move purpose call) (Timed time ∷ [])
       ≡ or_sent (posts (sent client.state 0)) (turn_after (wait_of call) 0)
   next_first = grind (arith, common_steps, behind_time, begins_sent)
 

@@ -9,9 +9,9 @@ use Rattle.bac_print.{specs.{declared.checked.Checked.Checked, Checked.Took}, pr
 use Rattle.bac_links.specs.{
   Limits.most_turns,
   History.{Heard, Failure, Entry, Waited, Timed, Posted, Unposted, Account, GainsAll, Gains},
-  Asking.{Asks, Ends, ForTime, Follows, waits_in, times_in, turn_after},
-  Search.{Found, found_by, found_line, greatest_of, passed_in, who_is_to, found_of_entry, found_in, behind_time},
-  Search.{search_behind, search_move, Searched},
+  Asking.{Asks, Ends, ForTime, Follows, next_move, waits_in, times_in, turn_after},
+  Search.{Found, found_by, found_line, greatest_of, passed_in, who_is_to, found_in, behind_time},
+  Search.{search_move, Searched},
   declared.{ending.Exit.Exit, ending.Exit.TheVariants.{Good, Bad}, fault.ToolFault.ToolFault},
   declared.fault.ToolFault.TheVariants.{SendFailed, ReceiveFailed, TurnsSpent, WriteFailed},
   Inner.SearchSteps.{search_wait, found_lines, has_found, Listens},
@@ -33,7 +33,7 @@ pub record SearchGoes {W : Type 0} (search : Search) (contents : W → Option (L
   pub more : List Entry
   pub gains : GainsAll (searched search first more) seen link
   pub follows : Follows (search_move search) [] (searched search first more)
-  pub next : search_move search (searched search first more) ≡ turn_after (search_wait search) n
+  pub next : next_move (search_move search) (searched search first more) ≡ turn_after (search_wait search) n
   pub turns : waits_in more ≡ n
   pub time : greatest ≡ greatest_of first (times_in more)
   pub any_is : any ≡ has_found (found_in search more)
@@ -51,15 +51,15 @@ greatest-push _ [] _ = refl
 greatest-push greatest (x ∷ times) time = greatest-push (max greatest x) times time
 
 found-push : (search : Search) (more : List Entry) (x : Entry)
-    → found_in search (more ++ x ∷ []) ≡ found_in search more ++ found_of_entry search x
+    → found_in search (more ++ x ∷ []) ≡ found_in search more ++ found_by search.who x
 found-push = grind (arith, flat_map-append, append-nil)
 
 behind : (search : Search) (gained : List Entry) (x : Entry)
-    → search_move search (gained ++ x ∷ []) ≡ search_behind search (gained ++ x ∷ []) (Some x)
+    → next_move (search_move search) (gained ++ x ∷ []) ≡ search_move search (gained ++ x ∷ []) (Some x)
 behind = grind (arith, last_push)
 
 pub behind_wait : (search : Search) (gained : List Entry) (wait : ℕ) (heard : Heard) → heard ≢ Failure
-    → search_move search (gained ++ Waited wait heard ∷ []) ≡ Asks ForTime
+    → next_move (search_move search) (gained ++ Waited wait heard ∷ []) ≡ Asks ForTime
 behind_wait = grind (arith, behind)
 
 -- ---- a turn
@@ -91,14 +91,16 @@ module _ {W : Type 0} {search : Search} {contents : W → Option (List ℕ)} {be
     abbrev all : List Entry
     all = searched search first timed
 
-    found_next : found_in search timed ≡ found_in search goes.more ++ found_by search.who heard
+    found_next : found_in search timed
+        ≡ found_in search goes.more ++ found_by search.who (Waited (search_wait search) heard)
     found_next = found-push search (waited heard listens.1) _ ∙ append-nil _ ∙ found-push search goes.more _
 
     printed_next : Took contents before after (found_lines (found_in search timed))
     printed_next =
         subst (Took contents before after)
         (sym (ap found_lines found_next
-        ∙ flat_map-append found_line (found_in search goes.more) (found_by search.who heard)))
+        ∙ flat_map-append found_line (found_in search goes.more)
+        (found_by search.who (Waited (search_wait search) heard))))
         (Took-more goes.printed listens.4)
 
     any_next : (any || some) ≡ has_found (found_in search timed)
@@ -118,7 +120,7 @@ module _ {W : Type 0} {search : Search} {contents : W → Option (List ℕ)} {be
         follows_push (search_move search) [] (searched search first (waited heard listens.1)) (Timed now)
         (follows_waited heard listens.1) (behind_wait search (searched search first goes.more) _ heard listens.2)
 
-    next_timed : search_move search all ≡ behind_time search all (suc n)
+    next_timed : next_move (search_move search) all ≡ behind_time search all (suc n)
     next_timed = behind search (searched search first (waited heard listens.1)) _ ∙ ap (behind_time search all) turned
 
     passed : max greatest now - first ≡ passed_in (times_in all)

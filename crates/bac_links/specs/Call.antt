@@ -1,7 +1,7 @@
 -- A call: one request, what it asks of its link, and how it ends.
 use Rattle.std.specs.Prelude.{◌≡◌, ℕ, ◌-◌, List, [], ◌∷◌, length, Option, Some, None}
 use Rattle.std.specs.Prelude.{Result, Ok, Err}
-use Rattle.std.specs.List.{flat_map, last_or}
+use Rattle.std.specs.List.{flat_map}
 use Rattle.bac_pdu.specs.Peer.{station}
 use Rattle.bac_tsm.specs.Events.{Outcome, Event, Ask, Note, Sent, Rules}
 use Rattle.bac_tsm.specs.Events.{request_of}
@@ -81,19 +81,15 @@ module _ (purpose : Purpose) (call : Call) where
 
   -- The next move of a call, behind what came last: the time comes first, and after each wait but one that brings the
   -- end; behind a time the request is sent where it is due; and then the next turn begins.
-  abbrev pub move_behind : List Entry → Option Entry → Move Comes
-  move_behind gained None = Asks ForTime
-  move_behind gained (Some (Timed time)) =
+  abbrev pub move : List Entry → Option Entry → Move Comes
+  move gained None = Asks ForTime
+  move gained (Some (Timed time)) =
       or_ended (end_in (events_of gained))
       (or_sent (sent_last (events_of gained)) (turn_after (turn_wait call.timeout) (waits_in gained)))
-  move_behind gained (Some (Posted to octets)) = turn_after (turn_wait call.timeout) (waits_in gained)
-  move_behind gained (Some (Unposted to octets)) = Ends (Err SendFailed)
-  move_behind gained (Some (Waited wait Failure)) = Ends (Err ReceiveFailed)
-  move_behind gained (Some (Waited wait heard)) = or_ended (end_in (events_of gained)) (Asks ForTime)
-
-  -- The next move of a call: what came last is the last of the entries.
-  abbrev pub move : List Entry → Move Comes
-  move gained = move_behind gained (last_or None gained)
+  move gained (Some (Posted to octets)) = turn_after (turn_wait call.timeout) (waits_in gained)
+  move gained (Some (Unposted to octets)) = Ends (Err SendFailed)
+  move gained (Some (Waited wait Failure)) = Ends (Err ReceiveFailed)
+  move gained (Some (Waited wait heard)) = or_ended (end_in (events_of gained)) (Asks ForTime)
 
   module _ {W : Type 0} (contents : W → Option (List ℕ)) (before after : Checked W) (seen left : Account) where
     -- What a call prints, answers, and asks of its link: the line of how the request ended, or a front of it where the

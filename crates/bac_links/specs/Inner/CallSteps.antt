@@ -8,7 +8,7 @@ use Rattle.bac_tsm.specs.Laws.{state_at}
 use Rattle.bac_pdu.specs.Apdu.{longest_body}
 use Rattle.bac_tsm.specs.Client.{Client}
 use Rattle.bac_links.specs.History.{Heard, Silence, Arrival, Failure, Entry, Timed, Posted, Unposted, Account, GainsAll}
-use Rattle.bac_links.specs.Asking.{Follows, waits_in, turn_after}
+use Rattle.bac_links.specs.Asking.{Follows, next_move, waits_in, turn_after}
 use Rattle.bac_links.specs.Handed.{handed}
 use Rattle.bac_links.specs.Limits.{turn_wait}
 use Rattle.bac_links.specs.Call.{service_of, rules_for, post_in, end_in, move}
@@ -88,5 +88,5 @@ pub record Underway (purpose : Purpose) (call : Call) (seen left : Account) (cli
   pub gains : GainsAll (Timed time ∷ more) seen left
   pub carried : CarriesOn purpose call time (handed more) client
   pub follows : Follows (move purpose call) [] (Timed time ∷ more)
-  pub next : move purpose call (Timed time ∷ more) ≡ turn_after (wait_of call) n
+  pub next : next_move (move purpose call) (Timed time ∷ more) ≡ turn_after (wait_of call) n
   pub turns : waits_in more ≡ n

@@ -3,7 +3,7 @@ use Rattle.bac_pdu.specs.Apdu.{longest_body}
 use Rattle.bac_links.{
   specs.{
     History.{Entry, Waited, Timed, Posted, Unposted},
-    Asking.{Ends, Follows},
+    Asking.{Ends, Follows, next_move},
     Handed.handed,
     Call.{Comes, IsAccepted, events_of, move},
     declared.ending.Purpose.Purpose,
@@ -16,7 +16,7 @@ use Rattle.bac_text.specs.declared.jobs.Call.{Call}
 module _ (purpose : Purpose) (call : Call) where
   -- Who follows the moves of a call to its end asks for the time first.
   accepted_in : (comes : Comes) (gained : List Entry) → length call.body.items ≤ longest_body
-      → Follows (move purpose call) [] gained → move purpose call gained ≡ Ends comes
+      → Follows (move purpose call) [] gained → next_move (move purpose call) gained ≡ Ends comes
       → IsAccepted purpose call (events_of purpose call gained)
   accepted_in _ [] short follows over = cc
   accepted_in _ (Timed time ∷ more) short follows over =
