@@ -23,7 +23,8 @@ module _ (purpose : Purpose) (call : Call) where
   line_of (Err fault) = []
 
   -- What a call comes to, what it answers, and what it prints.
-  module _ {W : Type 0} (contents : W → Option (List ℕ)) (before after : Checked W) (seen left : Account) where
+  module _ {Origin W : Type 0} (contents : W → Option (List ℕ)) (before after : Checked W)
+      (seen left : Account Origin) where
     pub record Went (result : Result Exit ToolFault) : Type 0 where
       pub comes : Comes
       pub plays : Plays (move purpose call) seen left comes
@@ -66,7 +67,7 @@ module _ (purpose : Purpose) (call : Call) where
     abbrev PrintAlike : Result Exit ToolFault → Result Exit ToolFault → Type 0
     PrintAlike = OneText contents before after contents' before' after'
 
-    pub calls_so_far : AskAlike (Tells purpose call contents before after)
+    pub calls_so_far : {Origin Other : Type 0} → AskAlike Origin Other (Tells purpose call contents before after)
         (Tells purpose call contents' before' after') (λ r. ⊥) EndAlike PrintAlike
     calls_so_far seen left seen' left' result result' first rest first' rest' tells tells' gains gains' same =
         let a = went contents before after seen left result tells in

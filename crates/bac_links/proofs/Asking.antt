@@ -88,14 +88,15 @@ module _ {R : Type 0} (move : List Entry → Option Entry → Move R) where
     so_far = grind (arith, go_on, follows_behind)
 
 -- What was gained, by a history as it stands.
-pub played : {R : Type 0} (move : List Entry → Option Entry → Move R) (seen left : Account) (result : R)
+pub played : {Origin R : Type 0} (move : List Entry → Option Entry → Move R) (seen left : Account Origin) (result : R)
     (gained : List Entry) → (plays : Plays move seen left result) → left.history ≡ seen.history ++ gained
     → plays.gained ≡ gained
 played = grind (arith, append_cancel_left)
 
 -- Two that play to their ends: they stop together.
-module _ {R A : Type 0} (move : List Entry → Option Entry → Move R) (EndAlike PrintAlike : A → A → Type 0)
-    (seen left other_seen other_left : Account) (first rest other other_rest : List Entry) (c d : R) (r s : A)
+module _ {Origin Other R A : Type 0} (move : List Entry → Option Entry → Move R) (EndAlike PrintAlike : A → A → Type 0)
+    (seen left : Account Origin) (other_seen other_left : Account Other) (first rest other other_rest : List Entry)
+    (c d : R) (r s : A)
     (plays : Plays move seen left c) (others : Plays move other_seen other_left d)
     (ends : c ≡ d → plays.gained ≡ first ++ rest → others.gained ≡ other ++ other_rest → rest ≡ [] → other_rest ≡ []
     → first ≡ other → EndAlike r s × PrintAlike r s) where

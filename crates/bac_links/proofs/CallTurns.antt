@@ -151,7 +151,7 @@ module _ {purpose : Purpose} {call : Call} {time : ℕ} (more : List Entry) {cli
       → ToSend to octets ≡ question_of x → Follows (move purpose call) [] (Timed time ∷ (more ++ x ∷ []))
   follows_sent = grind (arith, follows_push)
 
-  module _ {seen left : Account} where
+  module _ {Origin : Type 0} {seen left : Account Origin} where
     -- What is due was sent, or nothing is.
     goes_on : OneOrNone due → GainsAll (Timed time ∷ (more ++ due)) seen left → Underway purpose call seen left client n
     goes_on (inl none) gains = record {
@@ -192,8 +192,8 @@ module _ {purpose : Purpose} {call : Call} {time : ℕ} (more : List Entry) {cli
 
 -- ---- a turn
 
-module _ {purpose : Purpose} {call : Call} {seen mid next : Account} {client : Client} {n : ℕ} (within : n < most_turns)
-    (far : Underway purpose call seen mid client n) (heard : Heard)
+module _ {Origin : Type 0} {purpose : Purpose} {call : Call} {seen mid next : Account Origin} {client : Client} {n : ℕ}
+    (within : n < most_turns) (far : Underway purpose call seen mid client n) (heard : Heard)
     (gains : Gains (Waited (wait_of call) heard) mid next) where
   abbrev waited : List Entry
   waited = far.more ++ Waited (wait_of call) heard ∷ []
@@ -257,7 +257,7 @@ module _ {purpose : Purpose} {call : Call} {seen mid next : Account} {client : C
       turned : waits_in timed ≡ suc n
       turned = grind (arith, waits_push)
 
-      gains_timed : {last : Account} (rest : List Entry) → GainsAll (Timed now ∷ rest) next last
+      gains_timed : {last : Account Origin} (rest : List Entry) → GainsAll (Timed now ∷ rest) next last
           → GainsAll (Timed far.time ∷ (timed ++ rest)) seen last
       gains_timed = grind (arith, append_assoc, gains_both, gains_waited)
 
@@ -274,7 +274,7 @@ module _ {purpose : Purpose} {call : Call} {seen mid next : Account} {client : C
           ∙ ap (λ (k : ℕ). or_sent (posts ticked.notes) (turn_after (wait_of call) k)) turned
 
       -- The call goes on.
-      pub on : {last : Account} {after : Client} → endings ticked.notes ≡ timeouts false
+      pub on : {last : Account Origin} {after : Client} → endings ticked.notes ≡ timeouts false
           → after ≡ keeping middle ticked.after → GainsAll (Timed now ∷ posts ticked.notes) next last
           → Underway purpose call seen last after (suc n)
       on none_then after_is ticks =
@@ -283,7 +283,7 @@ module _ {purpose : Purpose} {call : Call} {seen mid next : Account} {client : C
           (gains_timed _ ticks)
 
       -- The time runs out.
-      pub timed_out : {last : Account} → endings ticked.notes ≡ timeouts true
+      pub timed_out : {last : Account Origin} → endings ticked.notes ≡ timeouts true
           → GainsAll (Timed now ∷ posts ticked.notes) next last → Plays (move purpose call) seen last (Ok None)
       timed_out {last} one ticks = record {
         gained = Timed far.time ∷ timed;
@@ -298,8 +298,8 @@ module _ {purpose : Purpose} {call : Call} {seen mid next : Account} {client : C
       }
 
       -- The request could not be sent again.
-      pub unsent : {last : Account} → endings ticked.notes ≡ [] → GainsLost ticked.notes (Timed now ∷ []) next last
-          → Plays (move purpose call) seen last (Err SendFailed)
+      pub unsent : {last : Account Origin} → endings ticked.notes ≡ []
+          → GainsLost ticked.notes (Timed now ∷ []) next last → Plays (move purpose call) seen last (Err SendFailed)
       unsent none_then lost =
           loses timed (carried_then none_then _ refl) follows_timed _ (next_then none_then) turned _ _ lost.2
           (gains_timed _ lost.3)
@@ -320,19 +320,20 @@ module _ (purpose : Purpose) (call : Call) (time : ℕ) (short : length call.bod
       ≡ or_sent (posts (sent client.state 0)) (turn_after (wait_of call) 0)
   next_first = grind (arith, common_steps, behind_time, begins_sent)
 
-  pub begun : {seen left : Account} → GainsAll (Timed time ∷ posts (sent client.state 0)) seen left
-      → Underway purpose call seen left client 0
+  pub begun : {Origin : Type 0} {seen left : Account Origin}
+      → GainsAll (Timed time ∷ posts (sent client.state 0)) seen left → Underway purpose call seen left client 0
   begun gains = goes_on [] carried_first (refl, tt) _ next_first refl (grind (arith, begins_sent, one_or_none)) gains
 
-  pub unbegun : {seen left : Account} → GainsLost (sent client.state 0) (Timed time ∷ []) seen left
+  pub unbegun : {Origin : Type 0} {seen left : Account Origin}
+      → GainsLost (sent client.state 0) (Timed time ∷ []) seen left
       → Plays (move purpose call) seen left (Err SendFailed)
   unbegun lost = loses [] carried_first (refl, tt) _ next_first refl _ _ lost.2 lost.3
 
 -- ---- the end
 
 -- All turns went by.
-pub spent : {purpose : Purpose} {call : Call} {seen left : Account} {client : Client} (n : ℕ) → n ≡ most_turns
-    → Underway purpose call seen left client n → Plays (move purpose call) seen left (Err TurnsSpent)
+pub spent : {Origin : Type 0} {purpose : Purpose} {call : Call} {seen left : Account Origin} {client : Client} (n : ℕ)
+    → n ≡ most_turns → Underway purpose call seen left client n → Plays (move purpose call) seen left (Err TurnsSpent)
 spent {call} n all far = record {
   gained = Timed far.time ∷ far.more;
   gains = far.gains;
@@ -340,8 +341,8 @@ spent {call} n all far = record {
   over = far.next ∙ turns_over _ n (omega (arith, all));
 }
 
-module _ {W : Type 0} (purpose : Purpose) (call : Call) (contents : W → Option (List ℕ)) (before after : Checked W)
-    {seen left : Account} where
+module _ {Origin W : Type 0} (purpose : Purpose) (call : Call) (contents : W → Option (List ℕ))
+    (before after : Checked W) {seen left : Account Origin} where
   -- A call that fails so tells it.
   pub fails_so : (fault : ToolFault) → fault ≢ WriteFailed → after ≡ before
       → Plays (move purpose call) seen left (Err fault) → Tells purpose call contents before after seen left (Err fault)

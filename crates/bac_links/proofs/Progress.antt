@@ -203,8 +203,8 @@ module _ (purpose : Purpose) (call : Call) where
   in_time _ _ (Posted to octets ∷ more) follows told prompt = let asks = follows.0 in cc
   in_time _ _ (Unposted to octets ∷ more) follows told prompt = let asks = follows.0 in cc
 
-pub told_in_time : {W : Type 0} (contents : W → Option (List ℕ)) (purpose : Purpose) (call : Call)
-    (before after : Checked W) (seen left : Account) (result : Result Exit ToolFault) (gained : List Entry)
+pub told_in_time : {Origin W : Type 0} (contents : W → Option (List ℕ)) (purpose : Purpose) (call : Call)
+    (before after : Checked W) (seen left : Account Origin) (result : Result Exit ToolFault) (gained : List Entry)
     (time_behind : ℕ → ℕ) (longest : ℕ) → Tells purpose call contents before after seen left result
     → left.history ≡ seen.history ++ gained → AreTold time_behind 0 gained
     → ArePrompt time_behind longest (waits_in gained)

@@ -28,8 +28,8 @@ abbrev pub searched : Search → ℕ → List Entry → List Entry
 searched search first more = Timed first ∷ Posted (station search.to) (who_is_to search) ∷ more
 
 -- A search after n turns.
-pub record SearchGoes {W : Type 0} (search : Search) (contents : W → Option (List ℕ)) (before after : Checked W)
-    (seen link : Account) (first greatest : ℕ) (any : Bool) (n : ℕ) : Type 0 where
+pub record SearchGoes {Origin W : Type 0} (search : Search) (contents : W → Option (List ℕ)) (before after : Checked W)
+    (seen link : Account Origin) (first greatest : ℕ) (any : Bool) (n : ℕ) : Type 0 where
   pub more : List Entry
   pub gains : GainsAll (searched search first more) seen link
   pub follows : Follows (search_move search) [] (searched search first more)
@@ -64,11 +64,11 @@ behind_wait = grind (arith, behind)
 
 -- ---- a turn
 
-module _ {W : Type 0} {search : Search} {contents : W → Option (List ℕ)} {before middle : Checked W}
-    {seen mid : Account} {first greatest : ℕ} {any : Bool} {n : ℕ}
+module _ {Origin W : Type 0} {search : Search} {contents : W → Option (List ℕ)} {before middle : Checked W}
+    {seen mid : Account Origin} {first greatest : ℕ} {any : Bool} {n : ℕ}
     (goes : SearchGoes search contents before middle seen mid first greatest any n) (within : n < most_turns) where
   -- One wait more.
-  module _ {left : Account} (heard : Heard) (hears : Gains (Waited (search_wait search) heard) mid left) where
+  module _ {left : Account Origin} (heard : Heard) (hears : Gains (Waited (search_wait search) heard) mid left) where
     abbrev waited : List Entry
     waited = goes.more ++ Waited (search_wait search) heard ∷ []
 
@@ -79,9 +79,9 @@ module _ {W : Type 0} {search : Search} {contents : W → Option (List ℕ)} {be
     follows_waited = grind (arith, follows_push, turn_begins)
 
   -- A wait that goes well, and the time after it.
-  module _ {after : Checked W} {left : Account} {some : Bool}
+  module _ {after : Checked W} {left : Account Origin} {some : Bool}
       (listens : Listens search.who (search_wait search) contents middle after mid left (Ok some))
-      (now : ℕ) {last : Account} (asks : Gains (Timed now) left last) where
+      (now : ℕ) {last : Account Origin} (asks : Gains (Timed now) left last) where
     abbrev heard : Heard
     heard = listens.0
 
@@ -153,7 +153,7 @@ module _ {W : Type 0} {search : Search} {contents : W → Option (List ℕ)} {be
     }
 
   -- A wait that fails.
-  pub fails : (after : Checked W) (left : Account) (fault : ToolFault) {wait : ℕ} → wait ≡ search_wait search
+  pub fails : (after : Checked W) (left : Account Origin) (fault : ToolFault) {wait : ℕ} → wait ≡ search_wait search
       → Listens search.who wait contents middle after mid left (Err fault) →
       Searched search contents before after seen left (Err fault)
   fails after _ ReceiveFailed same listens =
@@ -186,15 +186,15 @@ module _ {W : Type 0} {search : Search} {contents : W → Option (List ℕ)} {be
   fails _ _ _ _ listens = absurd listens
 
 -- A search begins with its Who-Is sent.
-pub begun : {W : Type 0} (search : Search) {contents : W → Option (List ℕ)} {before : Checked W}
-    {seen mid link : Account} (first : ℕ) → Gains (Timed first) seen mid →
+pub begun : {Origin W : Type 0} (search : Search) {contents : W → Option (List ℕ)} {before : Checked W}
+    {seen mid link : Account Origin} (first : ℕ) → Gains (Timed first) seen mid →
     Gains (Posted (station search.to) (who_is_to search)) mid link
     → SearchGoes search contents before before seen link first first false 0
 begun = grind (arith, common_steps, gains_both)
 
 -- Or with one that could not be sent.
-pub unbegun : {W : Type 0} (search : Search) {contents : W → Option (List ℕ)} {before : Checked W}
-    {seen mid link : Account} (first : ℕ) → Gains (Timed first) seen mid →
+pub unbegun : {Origin W : Type 0} (search : Search) {contents : W → Option (List ℕ)} {before : Checked W}
+    {seen mid link : Account Origin} (first : ℕ) → Gains (Timed first) seen mid →
     Gains (Unposted (station search.to) (who_is_to search)) mid link
     → Searched search contents before before seen link (Err SendFailed)
 unbegun search {before} {seen} {mid} {link} first asks sends = record {
@@ -207,8 +207,8 @@ unbegun search {before} {seen} {mid} {link} first asks sends = record {
   printed = Took-none _;
 }
 
-pub spent : {W : Type 0} {search : Search} {contents : W → Option (List ℕ)} {before after : Checked W}
-    {seen link : Account} {first greatest : ℕ} {any : Bool} (n : ℕ) → n ≡ most_turns →
+pub spent : {Origin W : Type 0} {search : Search} {contents : W → Option (List ℕ)} {before after : Checked W}
+    {seen link : Account Origin} {first greatest : ℕ} {any : Bool} (n : ℕ) → n ≡ most_turns →
     SearchGoes search contents before after seen link first greatest any n
     → Searched search contents before after seen link (Err TurnsSpent)
 spent {search} {first} n all goes = record {

@@ -35,7 +35,7 @@ module _ (search : Search) where
           ⊎ ((result ≡ Err WriteFailed) × (next_move (search_move search) gained ≡ Asks ForTime))
       printed : Printed contents before after (lines_in gained) result
 
-    module _ (seen left : Account) where
+    module _ {Origin : Type 0} (seen left : Account Origin) where
       whole : (result : Result Exit ToolFault) (it : IsWhole search contents before after seen left result)
           → Printed contents before after (lines_in it.plays.gained) result → Stops result it.plays.gained
       whole _ it printed = record { follows = it.plays.follows; over = inl it.plays.over; printed = printed }
@@ -77,7 +77,7 @@ module _ (search : Search) where
           (whole (Err TurnsSpent) it it.printed)
       stops (Err WriteFailed) _ it gains =
           subst (Stops (Err WriteFailed))
-          (append_cancel_left seen.history _ _ (ap (λ (s : Account). s.history) (sym it.gains) ∙ gains)) (cut it)
+          (append_cancel_left seen.history _ _ (ap (λ (s : Account Origin). s.history) (sym it.gains) ∙ gains)) (cut it)
 
 -- Two searches that are answered alike.
 module _ {V W : Type 0} (contents : V → Option (List ℕ)) (contents' : W → Option (List ℕ)) (search : Search)
@@ -155,8 +155,9 @@ module _ {V W : Type 0} (contents : V → Option (List ℕ)) (contents' : W → 
         go (inr p) (inl q) = let both = sym p.1 ∙ q in cc
         go (inr p) (inr q) = p.0 ∙ sym q.0
 
-  pub searches_so_far : AskAlike (Searched search contents before after) (Searched search contents' before' after')
-      (λ result. result ≡ Err WriteFailed) (λ result other. result ≡ other) PrintAlike
+  pub searches_so_far : {Origin Other : Type 0} → AskAlike Origin Other (Searched search contents before after)
+      (Searched search contents' before' after') (λ result. result ≡ Err WriteFailed)
+      (λ result other. result ≡ other) PrintAlike
   searches_so_far seen left seen' left' result result' first rest first' rest' tells tells' gains gains' same =
       let a = stops search contents _ _ seen left _ _ tells gains in
       let b = stops search contents' before' after' seen' left' result' (first' ++ rest') tells' gains' in

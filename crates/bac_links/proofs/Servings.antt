@@ -79,7 +79,8 @@ module _ (count : ℕ) (before : DeviceState) where
       ∙ ap (λ (rs : List Reply). or_reply (last_or None rs) next) e
 
 -- A server after n waits.
-pub record ServeGoes (before device : DeviceState) (seen link : Account) (count came replied n : ℕ) : Type 0 where
+pub record ServeGoes {Origin : Type 0} (before device : DeviceState) (seen link : Account Origin)
+    (count came replied n : ℕ) : Type 0 where
   pub gained : List Entry
   pub gains : GainsAll gained seen link
   pub follows : Follows (serve_move count before) [] gained
@@ -89,10 +90,11 @@ pub record ServeGoes (before device : DeviceState) (seen link : Account) (count 
   pub came_is : came ≡ length (arrivals_in gained)
   pub replied_is : replied ≡ reply_count (replies_of before (arrivals_in gained))
 
-pub serves_none : {device : DeviceState} {seen : Account} {count : ℕ} → ServeGoes device device seen seen count 0 0 0
+pub serves_none : {Origin : Type 0} {device : DeviceState} {seen : Account Origin} {count : ℕ}
+    → ServeGoes device device seen seen count 0 0 0
 serves_none = grind (arith, gains_none)
 
-module _ {before device : DeviceState} {seen mid : Account} {count came replied n : ℕ}
+module _ {Origin : Type 0} {before device : DeviceState} {seen mid : Account Origin} {count came replied n : ℕ}
     (goes : ServeGoes before device seen mid count came replied n) where
   -- How it ends.
   served : (result : Result ℕ ToolFault) → next_move (serve_move count before) goes.gained ≡ Ends result
@@ -119,11 +121,11 @@ module _ {before device : DeviceState} {seen mid : Account} {count came replied 
     abbrev waited : List Entry
     waited = goes.gained ++ Waited serve_wait heard ∷ []
 
-    gains_waited : {left : Account} (rest : List Entry) → GainsAll (Waited serve_wait heard ∷ rest) mid left
+    gains_waited : {left : Account Origin} (rest : List Entry) → GainsAll (Waited serve_wait heard ∷ rest) mid left
         → GainsAll (waited ++ rest) seen left
     gains_waited = grind (arith, append_assoc, gains_both)
 
-    gains_one : {left : Account} → GainsAll (Waited serve_wait heard ∷ []) mid left → GainsAll waited seen left
+    gains_one : {left : Account Origin} → GainsAll (Waited serve_wait heard ∷ []) mid left → GainsAll waited seen left
     gains_one more = gains_both _ _ seen mid _ goes.gains more
 
     -- What holds of these entries behind the wait, where they are no further waits.
@@ -146,14 +148,14 @@ module _ {before device : DeviceState} {seen mid : Account} {count came replied 
       device_is : after ≡ device_behind before (arrivals_in gained)
       device_is = grind (arith, behind-append)
 
-      on_with : {left : Account} (brings : Brought) → came_in brings ≡ length (brought_by heard)
+      on_with : {left : Account Origin} (brings : Brought) → came_in brings ≡ length (brought_by heard)
           → replied_in brings ≡ reply_count (replies_of device (brought_by heard)) → GainsAll gained seen left
           → Follows (serve_move count before) [] gained
           → next_move (serve_move count before) gained ≡ serve_next count before gained
           → ServeGoes before after seen left count (came + came_in brings) (replied + replied_in brings) (suc n)
       on_with = grind (arith, device_is, length-append, replies_are, flat_map-append)
 
-      fails_with : {left : Account} (result : Result ℕ ToolFault) → GainsAll gained seen left
+      fails_with : {left : Account Origin} (result : Result ℕ ToolFault) → GainsAll gained seen left
           → Follows (serve_move count before) [] gained → next_move (serve_move count before) gained ≡ Ends result
           → Serves count before after seen left result
       fails_with _ gains follows over = record {
@@ -174,7 +176,7 @@ module _ {before device : DeviceState} {seen mid : Account} {count came replied 
         → sends_of rs ≡ [] → next_move (serve_move count before) waited ≡ serve_next count before waited
     next_silent = grind (arith, behind_wait)
 
-  module _ {after : DeviceState} {left : Account} (within : n < most_turns) (fewer : came < count) where
+  module _ {after : DeviceState} {left : Account Origin} (within : n < most_turns) (fewer : came < count) where
     pub serve_on : (brings : Brought) → ServesOne device after mid left (Ok brings) →
         ServeGoes before after seen left count (came + came_in brings) (replied + replied_in brings) (suc n)
     serve_on brings (heard, leaves, received, came_so, replied_so, gains) =

@@ -8,9 +8,9 @@ use Rattle.bac_links.{
 }
 use Rattle.bac_text.specs.declared.jobs.Call.{Call}
 
-pub not_ended : {W : Type 0} (contents : W → Option (List ℕ)) (purpose : Purpose) (call : Call)
+pub not_ended : {Origin W : Type 0} (contents : W → Option (List ℕ)) (purpose : Purpose) (call : Call)
     (before after : Checked W)
-    (seen : Account) (exit : Exit) → Tells purpose call contents before after seen seen (Ok exit) → ⊥
+    (seen : Account Origin) (exit : Exit) → Tells purpose call contents before after seen seen (Ok exit) → ⊥
 not_ended _ purpose call _ _ seen _ tells =
     let plays = tells.3 in
     let none = played _ seen seen _ [] plays (sym (append-nil _)) in

@@ -37,12 +37,12 @@ Follows move before (entry ∷ later) =
     (next_move move before ≡ Asks (question_of entry)) × Follows move (before ++ entry ∷ []) later
 
 -- The history of a link gained what a tool asks, one thing after another, until it is over with this result.
-pub record Plays {R : Type 0} (move : List Entry → Option Entry → Move R) (seen left : Account) (result : R) : Type 0
-  where
-    pub gained : List Entry
-    pub gains : GainsAll gained seen left
-    pub follows : Follows move [] gained
-    pub over : next_move move gained ≡ Ends result
+pub record Plays {Origin R : Type 0} (move : List Entry → Option Entry → Move R) (seen left : Account Origin)
+    (result : R) : Type 0 where
+  pub gained : List Entry
+  pub gains : GainsAll gained seen left
+  pub follows : Follows move [] gained
+  pub over : next_move move gained ≡ Ends result
 
 -- How many waits there were.
 abbrev pub waits_in : List Entry → ℕ

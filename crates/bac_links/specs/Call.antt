@@ -91,7 +91,8 @@ module _ (purpose : Purpose) (call : Call) where
   move gained (Some (Waited wait Failure)) = Ends (Err ReceiveFailed)
   move gained (Some (Waited wait heard)) = or_ended (end_in (events_of gained)) (Asks ForTime)
 
-  module _ {W : Type 0} (contents : W → Option (List ℕ)) (before after : Checked W) (seen left : Account) where
+  module _ {Origin W : Type 0} (contents : W → Option (List ℕ)) (before after : Checked W)
+      (seen left : Account Origin) where
     -- What a call prints, answers, and asks of its link: the line of how the request ended, or a front of it where the
     -- writer failed; after any other fault nothing.
     abbrev pub Tells : Result Exit ToolFault → Type 0

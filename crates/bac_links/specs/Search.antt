@@ -93,7 +93,8 @@ module _ (search : Search) where
   search_move gained (Some (Waited wait Failure)) = Ends (Err ReceiveFailed)
   search_move gained (Some (Waited wait heard)) = Asks ForTime
 
-  module _ {W : Type 0} (contents : W → Option (List ℕ)) (before after : Checked W) (seen left : Account) where
+  module _ {Origin W : Type 0} (contents : W → Option (List ℕ)) (before after : Checked W)
+      (seen left : Account Origin) where
     -- A search that comes to its end, or meets a fault of its link: the lines of the devices that were found.
     pub record IsWhole (result : Result Exit ToolFault) : Type 0 where
       pub plays : Plays search_move seen left result

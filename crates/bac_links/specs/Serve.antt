@@ -63,7 +63,7 @@ module _ (count : ℕ) (device : DeviceState) where
 
 -- What a device that serves over a link answers and sends, and what is left of both, however the server ends and
 -- whatever the link is.
-pub record Serves (count : ℕ) (before after : DeviceState) (seen left : Account) (result : Result ℕ ToolFault) : Type 0
-  where
-    pub plays : Plays (serve_move count before) seen left result
-    pub device : after ≡ device_behind before (arrivals_in plays.gained)
+pub record Serves {Origin : Type 0} (count : ℕ) (before after : DeviceState) (seen left : Account Origin)
+    (result : Result ℕ ToolFault) : Type 0 where
+  pub plays : Plays (serve_move count before) seen left result
+  pub device : after ≡ device_behind before (arrivals_in plays.gained)

@@ -157,12 +157,12 @@ fn turn<'d, L: Link>(
     requires { L.has_failed link.old ≡ false }
     ensures fault { L.has_failed link.new ≡ is_link_fault result }
     ensures ok { IfOk result
-        (λ ending. (purpose : Purpose) (call : Call) (seen : Account) (n : ℕ) → wait_ms ≡ wait_of call
+        (λ ending. (purpose : Purpose) (call : Call) (seen : Account L.Origin) (n : ℕ) → wait_ms ≡ wait_of call
         → n < most_turns → Underway purpose call seen (L.seen link.old) client.old n →
         MatchOption ending (Underway purpose call seen (L.seen link.new) client.new (suc n))
         (λ end. Plays (move purpose call) seen (L.seen link.new) (Ok (ending_seen end)))) }
     ensures err { IfErr result (λ fault. (fault ≢ ToolFault.WriteFailed)
-        × ((purpose : Purpose) (call : Call) (seen : Account) (n : ℕ) → wait_ms ≡ wait_of call
+        × ((purpose : Purpose) (call : Call) (seen : Account L.Origin) (n : ℕ) → wait_ms ≡ wait_of call
         → n < most_turns → Underway purpose call seen (L.seen link.old) client.old n →
         Plays (move purpose call) seen (L.seen link.new) (Err fault))) }
 {

@@ -10,7 +10,7 @@ ghost use Rattle.bac_pdu.specs.Peer.{station};
 ghost use Rattle.bac_links.specs.Limits.{longest_datagram};
 ghost use Rattle.bac_links.specs.History.{heard_by, Waited, Timed, Gains, posted};
 ghost use Rattle.bac_links.specs.Socket.{IsAddressOf, heard_from, is_quiet, peer_at, time_by};
-ghost use Rattle.bac_links.specs.Socket.{Logs, Binds, Sends, Times, Waits, limits, account_over};
+ghost use Rattle.bac_links.specs.Socket.{Logs, Binds, Sends, Times, Waits, OverSocket, limits, account_over};
 ghost use Rattle.bac_links.specs.SystemCall.{Bind, Limit, SendTo, Receive, Elapsed};
 ghost use Rattle.bac_links.specs.Keeps.{Keeps};
 
@@ -118,6 +118,8 @@ impl<S: Socket + Drop> UdpLink<S> {
 }
 
 impl<S: Socket + Drop> Link for UdpLink<S> {
+    ghost Origin = { OverSocket };
+
     ghost seen = { λ link. account_over link.refused (S.log link.made_of.value) link.history.entries };
 
     ghost has_failed = { λ link. link.failed };

@@ -40,7 +40,7 @@ abbrev pub endings : List Note → List (Option Outcome)
 endings = flat_map ending_in
 
 -- These notes are one send, which the link could not make.
-abbrev pub GainsLost : List Note → List Entry → Account → Account → Type 0
+abbrev pub GainsLost : {Origin : Type 0} → List Note → List Entry → Account Origin → Account Origin → Type 0
 GainsLost notes gained before after =
     (to : Station) × (octets : List ℕ) × (posts notes ≡ Posted to octets ∷ [])
     × GainsAll (gained ++ Unposted to octets ∷ []) before after
@@ -82,7 +82,8 @@ pub record CarriesOn (purpose : Purpose) (call : Call) (time : ℕ) (later : Lis
   }
 
 -- The history of a link gained what a call asks in n turns, with its request open.
-pub record Underway (purpose : Purpose) (call : Call) (seen left : Account) (client : Client) (n : ℕ) : Type 0 where
+pub record Underway {Origin : Type 0} (purpose : Purpose) (call : Call) (seen left : Account Origin) (client : Client)
+    (n : ℕ) : Type 0 where
   pub time : ℕ
   pub more : List Entry
   pub gains : GainsAll (Timed time ∷ more) seen left

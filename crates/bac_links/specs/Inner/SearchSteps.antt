@@ -22,8 +22,8 @@ abbrev pub has_found : List Found → Bool
 has_found found = nat_lt 0 (length found)
 
 -- What a wait hears, and what is printed of that.
-abbrev pub Listens : {W : Type 0} → WhoIs → ℕ → (W → Option (List ℕ)) → Checked W → Checked W → Account → Account
-    → Result Bool ToolFault → Type 0
+abbrev pub Listens : {Origin W : Type 0} → WhoIs → ℕ → (W → Option (List ℕ)) → Checked W → Checked W → Account Origin
+    → Account Origin → Result Bool ToolFault → Type 0
 Listens who wait contents before after seen left (Ok any) =
     (heard : Heard) × Gains (Waited wait heard) seen left × (heard ≢ Failure)
     × (any ≡ has_found (found_by who (Waited wait heard)))

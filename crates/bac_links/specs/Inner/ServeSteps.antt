@@ -37,7 +37,8 @@ abbrev pub sends_of : List (Option (Station × List ℕ)) → List Entry
 sends_of replies = map (λ (reply : Station × List ℕ). Posted reply.0 reply.1) (flat_map option_to_list replies)
 
 -- One wait, and the answer to what it brought.
-abbrev pub ServesOne : DeviceState → DeviceState → Account → Account → Result Brought ToolFault → Type 0
+abbrev pub ServesOne : {Origin : Type 0} → DeviceState → DeviceState → Account Origin → Account Origin
+    → Result Brought ToolFault → Type 0
 ServesOne before after seen left (Ok brings) =
     (heard : Heard) × LeavesDevice before heard after
     × (heard ≢ Failure) × (came_in brings ≡ length (brought_by heard))
