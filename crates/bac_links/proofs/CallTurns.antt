@@ -1,13 +1,13 @@
 -- One turn of a call; and how the call ends, or fails.
 use Rattle.std.proofs.{
-  lemmas.{Grind.common_steps, Bool.cases_Bool, List.append-nil, List.Concat.flat_map-append},
+  lemmas.{Bool.cases_Bool, List.append-nil, List.Concat.flat_map-append},
   lemmas.List.Elements.{All-nil, All-cons},
   Common.{◌≡◌, ◌≢◌, ◌⊎◌, ℕ, suc, ◌<◌, ◌≤◌, List, [], ◌∷◌, ◌++◌, length, Option, Some, None, Result, Ok, Err, IfOk},
-  Common.{IfErr, true, false, inl, inr, refl, sym, ap, ◌∙◌, arith, append_assoc, subst, All},
+  Common.{IfErr, Bool, if◌then◌else◌, true, false, inl, inr, refl, sym, ap, ◌∙◌, arith, append_assoc, subst, All},
 }
 use Rattle.bac_pdu.specs.{Peer.Station, Apdu.longest_body}
 use Rattle.bac_tsm.specs.{
-  Events.{Outcome, Event, Data, Tick, Rules},
+  Events.{Outcome, Event, Data, Tick, Sent, Rules},
   Lookahead.{Accepted, End, send_notes},
   Machine.{State, Stepped, to_send, sent, step},
   Client.{Client, rules_of, keeping},
@@ -19,8 +19,9 @@ use Rattle.bac_links.specs.{
   Ending.{ending_line, exit_of},
   Asking.{Move, Asks, Ends, ForTime, ToSend, question_of, Follows, Plays, next_move, waits_in, turn_after},
   Handed.{handed, handed_of},
-  Call.{rules_for, events_of, end_in, sent_last, Comes, or_ended, or_sent, move, Tells},
-  Inner.CallSteps.{posts, wait_of, begun_at, endings, GainsLost, heard_step, timeouts, AsksNothing, IsAlone, CarriesOn},
+  Call.{rules_for, asked, events_of, end_in, is_sent_last, Comes, or_ended, move, Tells},
+  Inner.CallSteps.{posts, sent_last, or_sent, wait_of, begun_at, endings, GainsLost, heard_step, timeouts, AsksNothing},
+  Inner.CallSteps.{IsAlone, CarriesOn},
   Inner.CallSteps.Underway,
   declared.{ending.Purpose.Purpose, ending.Exit.Exit, fault.ToolFault.ToolFault},
   declared.fault.ToolFault.TheVariants.{SendFailed, ReceiveFailed, TurnsSpent, WriteFailed},
@@ -132,13 +133,31 @@ module _ (purpose : Purpose) (call : Call) where
       ≡ or_ended (end_in purpose call (events_of purpose call (gained ++ Waited wait heard ∷ []))) (Asks ForTime)
   behind_wait = grind (arith, behind)
 
-  -- Behind a time at which the request stays open it is sent where it is due, and then a turn begins.
+  -- Behind a time the request is sent where it is due, if it has not ended.
+  behind_now : (gained : List Entry) (now : ℕ) → next_move (move purpose call) (gained ++ Timed now ∷ [])
+      ≡ or_ended (end_in purpose call (events_of purpose call (gained ++ Timed now ∷ [])))
+      (or_sent (sent_last purpose call (events_of purpose call (gained ++ Timed now ∷ [])))
+      (turn_after (wait_of call) (waits_in (gained ++ Timed now ∷ []))))
+  behind_now gained now =
+      let all = gained ++ Timed now ∷ [] in
+      behind gained (Timed now)
+      ∙ ap (or_ended (end_in purpose call (events_of purpose call all)))
+      (due (is_sent_last purpose call (events_of purpose call all)) (turn_after (wait_of call) (waits_in all)))
+    where
+      due : (b : Bool) (other : Move Comes)
+          → (if b then Asks (ToSend (asked purpose call).request.peer (asked purpose call).request.octets) else other)
+          ≡ or_sent (posts (if b then Sent (asked purpose call).request.ticket (asked purpose call).request.peer
+          (asked purpose call).request.octets ∷ [] else [])) other
+      due true other = refl
+      due false other = refl
+
+  -- Where it stays open a turn begins then.
   behind_time : (gained : List Entry) (now : ℕ)
       → end_in purpose call (events_of purpose call (gained ++ Timed now ∷ [])) ≡ None →
       next_move (move purpose call) (gained ++ Timed now ∷ [])
       ≡ or_sent (sent_last purpose call (events_of purpose call (gained ++ Timed now ∷ [])))
       (turn_after (wait_of call) (waits_in (gained ++ Timed now ∷ [])))
-  behind_time = grind (arith, behind)
+  behind_time = grind (arith, behind_now)
 
 -- ---- behind a time, with the request open
 
@@ -291,7 +310,7 @@ module _ {Origin : Type 0} {purpose : Purpose} {call : Call} {seen mid next : Ac
             (ap (λ (xs : List Entry). timed ++ xs) (unsent_at_end (rules_of middle) middle.state now alone one)
             ∙ append-nil timed) (gains_timed _ ticks);
         follows = follows_timed;
-        over = behind purpose call (Timed far.time ∷ waited) (Timed now) ∙ ap (λ (e : Option End). or_ended e
+        over = behind_now purpose call (Timed far.time ∷ waited) now ∙ ap (λ (e : Option End). or_ended e
             (or_sent (sent_last purpose call (events_of purpose call (Timed far.time ∷ timed)))
             (turn_after (wait_of call) (waits_in timed))))
             (ends_so waited hears (Timed now) (Tick now) tt refl None one);
@@ -318,7 +337,10 @@ module _ (purpose : Purpose) (call : Call) (time : ℕ) (short : length call.bod
 
   next_first : next_move (move purpose call) (Timed time ∷ [])
       ≡ or_sent (posts (sent client.state 0)) (turn_after (wait_of call) 0)
-  next_first = grind (arith, common_steps, behind_time, begins_sent)
+  next_first =
+      behind_time purpose call [] time carried_first.unended
+      ∙ ap (λ (d : List Entry). or_sent d (turn_after (wait_of call) 0))
+      (begins_sent purpose call time short ∙ ap (λ (c : Client). posts (sent c.state 0)) (sym client_is))
 
   pub begun : {Origin : Type 0} {seen left : Account Origin}
       → GainsAll (Timed time ∷ posts (sent client.state 0)) seen left → Underway purpose call seen left client 0
