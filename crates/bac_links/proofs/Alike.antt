@@ -6,7 +6,7 @@ use Rattle.bac_links.specs.{
   Answered.{AskAlike, Printed, OneText},
   Asking.Plays,
   Ending.{ending_line, exit_of},
-  Call.{Comes, move, Calls, Tells},
+  Call.{Comes, move, Tells},
   declared.{ending.Purpose.Purpose, ending.Exit.Exit, fault.ToolFault.ToolFault},
   declared.fault.ToolFault.TheVariants.{SendFailed, ReceiveFailed, TurnsSpent, WriteFailed},
 }
@@ -23,27 +23,28 @@ module _ (purpose : Purpose) (call : Call) where
   line_of (Err fault) = []
 
   -- What a call comes to, what it answers, and what it prints.
-  module _ {W : Type 0} (contents : W → Option (List ℕ)) (before after : Checked W) (seen left : Account) where
+  module _ {Origin W : Type 0} (contents : W → Option (List ℕ)) (before after : Checked W)
+      (seen left : Account Origin) where
     pub record Went (result : Result Exit ToolFault) : Type 0 where
       pub comes : Comes
       pub plays : Plays (move purpose call) seen left comes
       pub answers : result ≢ Err WriteFailed → result ≡ result_of comes
       pub prints : Printed contents before after (line_of comes) result
 
-    fails : (fault : ToolFault) → (after ≡ before) × Calls purpose call seen left (Err fault)
+    fails : (fault : ToolFault) → (after ≡ before) × Plays (move purpose call) seen left (Err fault)
         → Plays (move purpose call) seen left (Err fault) × Took contents before after []
     fails fault tells = (
-      tells.1.plays,
+      tells.1,
       subst (λ (w : Checked W). Took contents before w []) (sym tells.0) (Took-none before),
     )
 
     pub went : (result : Result Exit ToolFault) → Tells purpose call contents before after seen left result
         → Went result
     went (Ok exit) tells =
-        record { comes = Ok tells.0; plays = tells.3.plays; answers = λ other. ap Ok tells.1; prints = tells.2 }
+        record { comes = Ok tells.0; plays = tells.3; answers = λ other. ap Ok tells.1; prints = tells.2 }
     went (Err WriteFailed) tells = record {
       comes = Ok tells.0;
-      plays = tells.2.plays;
+      plays = tells.2;
       answers = λ other. absurd (other refl);
       prints = tells.1;
     }
@@ -66,7 +67,7 @@ module _ (purpose : Purpose) (call : Call) where
     abbrev PrintAlike : Result Exit ToolFault → Result Exit ToolFault → Type 0
     PrintAlike = OneText contents before after contents' before' after'
 
-    pub calls_so_far : AskAlike (Tells purpose call contents before after)
+    pub calls_so_far : {Origin Other : Type 0} → AskAlike Origin Other (Tells purpose call contents before after)
         (Tells purpose call contents' before' after') (λ r. ⊥) EndAlike PrintAlike
     calls_so_far seen left seen' left' result result' first rest first' rest' tells tells' gains gains' same =
         let a = went contents before after seen left result tells in

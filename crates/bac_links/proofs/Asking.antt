@@ -7,7 +7,7 @@ use Rattle.std.{
 use Rattle.bac_links.specs.{
   History.{Entry, Waited, Timed, Posted, Unposted, Account},
   Answered.{answer_of, answers_of, GoOnAlike},
-  Asking.{Move, Asks, Ends, ForDatagram, question_of, Follows, Plays, waits_in, times_in, turn_after},
+  Asking.{Move, Asks, Ends, ForDatagram, question_of, next_move, Follows, Plays, waits_in, times_in, turn_after},
   Limits.most_turns,
   declared.fault.{ToolFault.ToolFault, ToolFault.TheVariants.TurnsSpent},
 }
@@ -44,13 +44,13 @@ module _ {X : Type 0} (wait n : ℕ) where
 one_entry : (x y : Entry) → question_of x ≡ question_of y → answer_of x ≡ answer_of y → x ≡ y
 one_entry = grind arith
 
-module _ {R : Type 0} (move : List Entry → Move R) where
+module _ {R : Type 0} (move : List Entry → Option Entry → Move R) where
   pub follows_push : (before xs : List Entry) (x : Entry) → Follows move before xs
-      → move (before ++ xs) ≡ Asks (question_of x) → Follows move before (xs ++ x ∷ [])
-  follows_push _ [] x _ due = (ap move (sym (append-nil _)) ∙ due, tt)
+      → next_move move (before ++ xs) ≡ Asks (question_of x) → Follows move before (xs ++ x ∷ [])
+  follows_push _ [] x _ due = (ap (next_move move) (sym (append-nil _)) ∙ due, tt)
   follows_push _ (y ∷ xs) x follows due = (
     follows.0,
-    follows_push _ xs x follows.1 (ap move (append_assoc _ _ xs) ∙ due),
+    follows_push _ xs x follows.1 (ap (next_move move) (append_assoc _ _ xs) ∙ due),
   )
 
   follows_behind : (before xs ys : List Entry) → Follows move before (xs ++ ys) → Follows move (before ++ xs) ys
@@ -75,8 +75,9 @@ module _ {R : Type 0} (move : List Entry → Move R) where
   -- And so they go on.
   module _ {A : Type 0} (IsCutOff : A → Type 0) (EndAlike PrintAlike : A → A → Type 0)
       (first rest other_rest : List Entry) (r s : A)
-      (cut : rest ≡ [] → (x : Entry) → move first ≡ Asks (question_of x) → IsCutOff r × PrintAlike r s)
-      (other_cut : other_rest ≡ [] → (x : Entry) → move first ≡ Asks (question_of x) → IsCutOff s × PrintAlike r s)
+      (cut : rest ≡ [] → (x : Entry) → next_move move first ≡ Asks (question_of x) → IsCutOff r × PrintAlike r s)
+      (other_cut : other_rest ≡ [] → (x : Entry) → next_move move first ≡ Asks (question_of x)
+      → IsCutOff s × PrintAlike r s)
       (ends : rest ≡ [] → other_rest ≡ [] → EndAlike r s × PrintAlike r s) where
     go_on : (xs ys : List Entry) → rest ≡ xs → other_rest ≡ ys → Follows move first xs → Follows move first ys
         → GoOnAlike IsCutOff EndAlike PrintAlike r s xs ys
@@ -87,13 +88,15 @@ module _ {R : Type 0} (move : List Entry → Move R) where
     so_far = grind (arith, go_on, follows_behind)
 
 -- What was gained, by a history as it stands.
-pub played : {R : Type 0} (move : List Entry → Move R) (seen left : Account) (result : R) (gained : List Entry)
-    → (plays : Plays move seen left result) → left.history ≡ seen.history ++ gained → plays.gained ≡ gained
+pub played : {Origin R : Type 0} (move : List Entry → Option Entry → Move R) (seen left : Account Origin) (result : R)
+    (gained : List Entry) → (plays : Plays move seen left result) → left.history ≡ seen.history ++ gained
+    → plays.gained ≡ gained
 played = grind (arith, append_cancel_left)
 
 -- Two that play to their ends: they stop together.
-module _ {R A : Type 0} (move : List Entry → Move R) (EndAlike PrintAlike : A → A → Type 0)
-    (seen left other_seen other_left : Account) (first rest other other_rest : List Entry) (c d : R) (r s : A)
+module _ {Origin Other R A : Type 0} (move : List Entry → Option Entry → Move R) (EndAlike PrintAlike : A → A → Type 0)
+    (seen left : Account Origin) (other_seen other_left : Account Other) (first rest other other_rest : List Entry)
+    (c d : R) (r s : A)
     (plays : Plays move seen left c) (others : Plays move other_seen other_left d)
     (ends : c ≡ d → plays.gained ≡ first ++ rest → others.gained ≡ other ++ other_rest → rest ≡ [] → other_rest ≡ []
     → first ≡ other → EndAlike r s × PrintAlike r s) where
@@ -106,10 +109,11 @@ module _ {R A : Type 0} (move : List Entry → Move R) (EndAlike PrintAlike : A 
       let p = subst (Follows move []) here plays.follows in
       let q = subst (Follows move []) there others.follows in
       let one = same_so_far move [] _ _ rest _ p q same in
-      let over : rest ≡ [] → move first ≡ Ends c = λ none.
-      ap move (sym (append-nil _) ∙ sym (ap (λ (xs : List Entry). first ++ xs) none) ∙ sym here) ∙ plays.over in
-      let other_over : other_rest ≡ [] → move first ≡ Ends d = λ none.
-      ap move (one ∙ sym (append-nil _) ∙ sym (ap (λ (xs : List Entry). other ++ xs) none) ∙ sym there)
+      let over : rest ≡ [] → next_move move first ≡ Ends c = λ none.
+      ap (next_move move) (sym (append-nil _) ∙ sym (ap (λ (xs : List Entry). first ++ xs) none) ∙ sym here)
+      ∙ plays.over in
+      let other_over : other_rest ≡ [] → next_move move first ≡ Ends d = λ none.
+      ap (next_move move) (one ∙ sym (append-nil _) ∙ sym (ap (λ (xs : List Entry). other ++ xs) none) ∙ sym there)
       ∙ others.over in (
         one,
         so_far move (λ r. ⊥) EndAlike PrintAlike _ rest _ r s (λ none x asks. absurd (never c x (over none) asks))
@@ -118,8 +122,8 @@ module _ {R A : Type 0} (move : List Entry → Move R) (EndAlike PrintAlike : A 
             _ one p q,
       )
     where
-      never : (e : R) (x : Entry) → move first ≡ Ends e → move first ≡ Asks (question_of x) → ⊥
+      never : (e : R) (x : Entry) → next_move move first ≡ Ends e → next_move move first ≡ Asks (question_of x) → ⊥
       never e x over asks = let no = sym over ∙ asks in cc
 
-      both : move first ≡ Ends c → move first ≡ Ends d → c ≡ d
+      both : next_move move first ≡ Ends c → next_move move first ≡ Ends d → c ≡ d
       both over other_over = let same = sym over ∙ other_over in cc

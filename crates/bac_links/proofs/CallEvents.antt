@@ -23,8 +23,8 @@ use Rattle.bac_tsm.proofs.{
   Laws.{quiet_unsent, sent_first, by_number, few_open},
 }
 use Rattle.bac_links.specs.{
-  Call.{post_in, rules_for, service_of, asked, end_in, sent_last, IsAccepted},
-  Inner.CallSteps.{posts, begun_at, ending_in, endings, AsksNothing, IsAlone, CarriesOn},
+  Call.{rules_for, service_of, asked, end_in, IsAccepted},
+  Inner.CallSteps.{post_in, posts, sent_last, begun_at, ending_in, endings, AsksNothing, IsAlone, CarriesOn},
   declared.ending.Purpose.Purpose,
 }
 use Rattle.bac_text.specs.declared.jobs.Call.{Call}

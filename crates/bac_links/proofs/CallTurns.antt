@@ -1,13 +1,13 @@
 -- One turn of a call; and how the call ends, or fails.
 use Rattle.std.proofs.{
-  lemmas.{Grind.common_steps, Bool.cases_Bool, List.append-nil, List.Concat.flat_map-append},
+  lemmas.{Bool.cases_Bool, List.append-nil, List.Concat.flat_map-append},
   lemmas.List.Elements.{All-nil, All-cons},
   Common.{◌≡◌, ◌≢◌, ◌⊎◌, ℕ, suc, ◌<◌, ◌≤◌, List, [], ◌∷◌, ◌++◌, length, Option, Some, None, Result, Ok, Err, IfOk},
-  Common.{IfErr, true, false, inl, inr, refl, sym, ap, ◌∙◌, arith, append_assoc, subst, All},
+  Common.{IfErr, Bool, if◌then◌else◌, true, false, inl, inr, refl, sym, ap, ◌∙◌, arith, append_assoc, subst, All},
 }
 use Rattle.bac_pdu.specs.{Peer.Station, Apdu.longest_body}
 use Rattle.bac_tsm.specs.{
-  Events.{Outcome, Event, Data, Tick, Rules},
+  Events.{Outcome, Event, Data, Tick, Sent, Rules},
   Lookahead.{Accepted, End, send_notes},
   Machine.{State, Stepped, to_send, sent, step},
   Client.{Client, rules_of, keeping},
@@ -17,10 +17,11 @@ use Rattle.bac_links.specs.{
   Limits.most_turns,
   History.{Heard, Silence, Arrival, Failure, Entry, Waited, Timed, Posted, Unposted, Account, GainsAll, Gains},
   Ending.{ending_line, exit_of},
-  Asking.{Move, Asks, Ends, ForTime, ToSend, question_of, Follows, waits_in, turn_after},
+  Asking.{Move, Asks, Ends, ForTime, ToSend, question_of, Follows, Plays, next_move, waits_in, turn_after},
   Handed.{handed, handed_of},
-  Call.{rules_for, events_of, end_in, sent_last, IsAccepted, Comes, or_ended, or_sent, move_behind, move, Calls, Tells},
-  Inner.CallSteps.{posts, wait_of, begun_at, endings, GainsLost, heard_step, timeouts, AsksNothing, IsAlone, CarriesOn},
+  Call.{rules_for, asked, events_of, end_in, is_sent_last, Comes, or_ended, move, Tells},
+  Inner.CallSteps.{posts, sent_last, or_sent, wait_of, begun_at, endings, GainsLost, heard_step, timeouts, AsksNothing},
+  Inner.CallSteps.{IsAlone, CarriesOn},
   Inner.CallSteps.Underway,
   declared.{ending.Purpose.Purpose, ending.Exit.Exit, fault.ToolFault.ToolFault},
   declared.fault.ToolFault.TheVariants.{SendFailed, ReceiveFailed, TurnsSpent, WriteFailed},
@@ -28,7 +29,7 @@ use Rattle.bac_links.specs.{
 use Rattle.bac_links.proofs.{
   Asking.{last_push, follows_push, waits_push, turn_begins, turns_over},
   Histories.gains_both,
-  CallEvents.{is_accepted, carries_on, ends_next, sends_next, carried_alone, submitted, begins, begins_sent},
+  CallEvents.{carries_on, ends_next, sends_next, carried_alone, submitted, begins, begins_sent},
 }
 use Rattle.bac_text.specs.declared.jobs.Call.{Call}
 
@@ -57,7 +58,7 @@ one_or_none = grind (arith, cases_Bool)
 pub handed_push : (more : List Entry) (x : Entry) → handed (more ++ x ∷ []) ≡ handed more ++ handed_of x
 handed_push = grind (arith, flat_map-append, append-nil)
 
-quiet_handed : (more : List Entry) → All AsksNothing (handed more)
+pub quiet_handed : (more : List Entry) → All AsksNothing (handed more)
 quiet_handed [] = All-nil _
 quiet_handed (Waited wait Silence ∷ more) = quiet_handed more
 quiet_handed (Waited wait Failure ∷ more) = quiet_handed more
@@ -97,9 +98,6 @@ module _ {purpose : Purpose} {call : Call} {time : ℕ} (more : List Entry) {cli
   same_so : (x : Entry) → handed_of x ≡ [] → CarriesOn purpose call time (handed (more ++ x ∷ [])) client
   same_so = grind (arith, handed_push, append-nil)
 
-  accepted_so : (more : List Entry) → IsAccepted purpose call (events_of purpose call (Timed time ∷ more))
-  accepted_so more = is_accepted _ call time _ far.short (quiet_handed more)
-
   -- What is heard in a call whose request stays open.
   heard_on : (wait : ℕ) (heard : Heard) (left : Client)
       → endings (heard_step (rules_of client) client.state heard).notes ≡ [] →
@@ -124,37 +122,55 @@ module _ {purpose : Purpose} {call : Call} {time : ℕ} (more : List Entry) {cli
 module _ (purpose : Purpose) (call : Call) where
   -- The move behind one more entry.
   abbrev Behind : List Entry → Entry → Move Comes → Type 0
-  Behind gained x next = move purpose call (gained ++ x ∷ []) ≡ next
+  Behind gained x next = next_move (move purpose call) (gained ++ x ∷ []) ≡ next
 
   behind : (gained : List Entry) (x : Entry)
-      → move purpose call (gained ++ x ∷ []) ≡ move_behind purpose call (gained ++ x ∷ []) (Some x)
+      → next_move (move purpose call) (gained ++ x ∷ []) ≡ move purpose call (gained ++ x ∷ []) (Some x)
   behind = grind (arith, last_push)
 
   behind_wait : (gained : List Entry) (wait : ℕ) (heard : Heard) → heard ≢ Failure →
-      move purpose call (gained ++ Waited wait heard ∷ [])
+      next_move (move purpose call) (gained ++ Waited wait heard ∷ [])
       ≡ or_ended (end_in purpose call (events_of purpose call (gained ++ Waited wait heard ∷ []))) (Asks ForTime)
   behind_wait = grind (arith, behind)
 
-  -- Behind a time at which the request stays open it is sent where it is due, and then a turn begins.
+  -- Behind a time the request is sent where it is due, if it has not ended.
+  behind_now : (gained : List Entry) (now : ℕ) → next_move (move purpose call) (gained ++ Timed now ∷ [])
+      ≡ or_ended (end_in purpose call (events_of purpose call (gained ++ Timed now ∷ [])))
+      (or_sent (sent_last purpose call (events_of purpose call (gained ++ Timed now ∷ [])))
+      (turn_after (wait_of call) (waits_in (gained ++ Timed now ∷ []))))
+  behind_now gained now =
+      let all = gained ++ Timed now ∷ [] in
+      behind gained (Timed now)
+      ∙ ap (or_ended (end_in purpose call (events_of purpose call all)))
+      (due (is_sent_last purpose call (events_of purpose call all)) (turn_after (wait_of call) (waits_in all)))
+    where
+      due : (b : Bool) (other : Move Comes)
+          → (if b then Asks (ToSend (asked purpose call).request.peer (asked purpose call).request.octets) else other)
+          ≡ or_sent (posts (if b then Sent (asked purpose call).request.ticket (asked purpose call).request.peer
+          (asked purpose call).request.octets ∷ [] else [])) other
+      due true other = refl
+      due false other = refl
+
+  -- Where it stays open a turn begins then.
   behind_time : (gained : List Entry) (now : ℕ)
       → end_in purpose call (events_of purpose call (gained ++ Timed now ∷ [])) ≡ None →
-      move purpose call (gained ++ Timed now ∷ [])
+      next_move (move purpose call) (gained ++ Timed now ∷ [])
       ≡ or_sent (sent_last purpose call (events_of purpose call (gained ++ Timed now ∷ [])))
       (turn_after (wait_of call) (waits_in (gained ++ Timed now ∷ [])))
-  behind_time = grind (arith, behind)
+  behind_time = grind (arith, behind_now)
 
 -- ---- behind a time, with the request open
 
 module _ {purpose : Purpose} {call : Call} {time : ℕ} (more : List Entry) {client : Client} {n : ℕ}
     (carried : CarriesOn purpose call time (handed more) client)
     (follows : Follows (move purpose call) [] (Timed time ∷ more)) (due : List Entry)
-    (next : move purpose call (Timed time ∷ more) ≡ or_sent due (turn_after (wait_of call) n))
+    (next : next_move (move purpose call) (Timed time ∷ more) ≡ or_sent due (turn_after (wait_of call) n))
     (turns : waits_in more ≡ n) where
   follows_sent : (x : Entry) (to : Station) (octets : List ℕ) → due ≡ Posted to octets ∷ []
       → ToSend to octets ≡ question_of x → Follows (move purpose call) [] (Timed time ∷ (more ++ x ∷ []))
   follows_sent = grind (arith, follows_push)
 
-  module _ {seen left : Account} where
+  module _ {Origin : Type 0} {seen left : Account Origin} where
     -- What is due was sent, or nothing is.
     goes_on : OneOrNone due → GainsAll (Timed time ∷ (more ++ due)) seen left → Underway purpose call seen left client n
     goes_on (inl none) gains = record {
@@ -185,21 +201,18 @@ module _ {purpose : Purpose} {call : Call} {time : ℕ} (more : List Entry) {cli
     -- What is due could not be sent.
     loses : (to : Station) (octets : List ℕ) → due ≡ Posted to octets ∷ [] →
         GainsAll (Timed time ∷ (more ++ Unposted to octets ∷ [])) seen left
-        → Calls purpose call seen left (Err SendFailed)
+        → Plays (move purpose call) seen left (Err SendFailed)
     loses to octets one gains = record {
-      plays = record {
-        gained = Timed time ∷ (more ++ Unposted to octets ∷ []);
-        gains = gains;
-        follows = follows_sent (Unposted to octets) to octets one refl;
-        over = behind purpose call (Timed time ∷ more) (Unposted to octets);
-      };
-      request = accepted_so more carried (more ++ Unposted to octets ∷ []);
+      gained = Timed time ∷ (more ++ Unposted to octets ∷ []);
+      gains = gains;
+      follows = follows_sent (Unposted to octets) to octets one refl;
+      over = behind purpose call (Timed time ∷ more) (Unposted to octets);
     }
 
 -- ---- a turn
 
-module _ {purpose : Purpose} {call : Call} {seen mid next : Account} {client : Client} {n : ℕ} (within : n < most_turns)
-    (far : Underway purpose call seen mid client n) (heard : Heard)
+module _ {Origin : Type 0} {purpose : Purpose} {call : Call} {seen mid next : Account Origin} {client : Client} {n : ℕ}
+    (within : n < most_turns) (far : Underway purpose call seen mid client n) (heard : Heard)
     (gains : Gains (Waited (wait_of call) heard) mid next) where
   abbrev waited : List Entry
   waited = far.more ++ Waited (wait_of call) heard ∷ []
@@ -210,15 +223,14 @@ module _ {purpose : Purpose} {call : Call} {seen mid next : Account} {client : C
   follows_waited : Follows (move purpose call) [] (Timed far.time ∷ waited)
   follows_waited = grind (arith, follows_push, turn_begins)
 
-  comes : (r : Comes) → move purpose call (Timed far.time ∷ waited) ≡ Ends r → Calls purpose call seen next r
-  comes r over = record {
-    plays = record { gained = Timed far.time ∷ waited; gains = gains_waited; follows = follows_waited; over = over };
-    request = accepted_so far.more far.carried waited;
-  }
+  comes : (r : Comes) → next_move (move purpose call) (Timed far.time ∷ waited) ≡ Ends r
+      → Plays (move purpose call) seen next r
+  comes r over =
+      record { gained = Timed far.time ∷ waited; gains = gains_waited; follows = follows_waited; over = over }
 
   behind_waited : heard ≢ Failure → (e : Option End)
       → end_in purpose call (events_of purpose call (Timed far.time ∷ waited)) ≡ e →
-      move purpose call (Timed far.time ∷ waited) ≡ or_ended e (Asks ForTime)
+      next_move (move purpose call) (Timed far.time ∷ waited) ≡ or_ended e (Asks ForTime)
   behind_waited received e is =
       behind_wait purpose call (Timed far.time ∷ far.more) (wait_of call) heard received
       ∙ ap (λ (e : Option End). or_ended e (Asks ForTime)) is
@@ -226,14 +238,15 @@ module _ {purpose : Purpose} {call : Call} {seen mid next : Account} {client : C
   -- An answer ends the call.
   pub answered : (outcome : Outcome) → heard ≢ Failure →
       endings (heard_step (rules_of client) client.state heard).notes ≡ Some outcome ∷ []
-      → Calls purpose call seen next (Ok (Some outcome))
+      → Plays (move purpose call) seen next (Ok (Some outcome))
   answered outcome received one =
       comes (Ok (Some outcome)) (behind_waited received _ (heard_end far.more far.carried _ heard _ one))
 
-  pub unheard : heard ≡ Failure → Calls purpose call seen next (Err ReceiveFailed)
+  pub unheard : heard ≡ Failure → Plays (move purpose call) seen next (Err ReceiveFailed)
   unheard failure =
       comes (Err ReceiveFailed)
-      (ap (λ (h : Heard). move purpose call (Timed far.time ∷ (far.more ++ Waited (wait_of call) h ∷ []))) failure
+      (ap (λ (h : Heard). next_move (move purpose call) (Timed far.time ∷ (far.more ++ Waited (wait_of call) h ∷ [])))
+      failure
       ∙ behind purpose call (Timed far.time ∷ far.more) (Waited (wait_of call) Failure))
 
   module _ {middle : Client} (received : heard ≢ Failure)
@@ -263,7 +276,7 @@ module _ {purpose : Purpose} {call : Call} {seen mid next : Account} {client : C
       turned : waits_in timed ≡ suc n
       turned = grind (arith, waits_push)
 
-      gains_timed : {last : Account} (rest : List Entry) → GainsAll (Timed now ∷ rest) next last
+      gains_timed : {last : Account Origin} (rest : List Entry) → GainsAll (Timed now ∷ rest) next last
           → GainsAll (Timed far.time ∷ (timed ++ rest)) seen last
       gains_timed = grind (arith, append_assoc, gains_both, gains_waited)
 
@@ -272,7 +285,7 @@ module _ {purpose : Purpose} {call : Call} {seen mid next : Account} {client : C
       carried_then = search (arith, on_so, hears)
 
       next_then : endings ticked.notes ≡ []
-          → move purpose call (Timed far.time ∷ timed)
+          → next_move (move purpose call) (Timed far.time ∷ timed)
           ≡ or_sent (posts ticked.notes) (turn_after (wait_of call) (suc n))
       next_then none_then =
           behind_time purpose call (Timed far.time ∷ waited) now (carried_then none_then _ refl).unended
@@ -280,7 +293,7 @@ module _ {purpose : Purpose} {call : Call} {seen mid next : Account} {client : C
           ∙ ap (λ (k : ℕ). or_sent (posts ticked.notes) (turn_after (wait_of call) k)) turned
 
       -- The call goes on.
-      pub on : {last : Account} {after : Client} → endings ticked.notes ≡ timeouts false
+      pub on : {last : Account Origin} {after : Client} → endings ticked.notes ≡ timeouts false
           → after ≡ keeping middle ticked.after → GainsAll (Timed now ∷ posts ticked.notes) next last
           → Underway purpose call seen last after (suc n)
       on none_then after_is ticks =
@@ -289,26 +302,23 @@ module _ {purpose : Purpose} {call : Call} {seen mid next : Account} {client : C
           (gains_timed _ ticks)
 
       -- The time runs out.
-      pub timed_out : {last : Account} → endings ticked.notes ≡ timeouts true
-          → GainsAll (Timed now ∷ posts ticked.notes) next last → Calls purpose call seen last (Ok None)
+      pub timed_out : {last : Account Origin} → endings ticked.notes ≡ timeouts true
+          → GainsAll (Timed now ∷ posts ticked.notes) next last → Plays (move purpose call) seen last (Ok None)
       timed_out {last} one ticks = record {
-        plays = record {
-          gained = Timed far.time ∷ timed;
-          gains = subst (λ (xs : List Entry). GainsAll (Timed far.time ∷ xs) seen last)
-              (ap (λ (xs : List Entry). timed ++ xs) (unsent_at_end (rules_of middle) middle.state now alone one)
-              ∙ append-nil timed) (gains_timed _ ticks);
-          follows = follows_timed;
-          over = behind purpose call (Timed far.time ∷ waited) (Timed now) ∙ ap (λ (e : Option End). or_ended e
-              (or_sent (sent_last purpose call (events_of purpose call (Timed far.time ∷ timed)))
-              (turn_after (wait_of call) (waits_in timed))))
-              (ends_so waited hears (Timed now) (Tick now) tt refl None one);
-        };
-        request = accepted_so waited hears timed;
+        gained = Timed far.time ∷ timed;
+        gains = subst (λ (xs : List Entry). GainsAll (Timed far.time ∷ xs) seen last)
+            (ap (λ (xs : List Entry). timed ++ xs) (unsent_at_end (rules_of middle) middle.state now alone one)
+            ∙ append-nil timed) (gains_timed _ ticks);
+        follows = follows_timed;
+        over = behind_now purpose call (Timed far.time ∷ waited) now ∙ ap (λ (e : Option End). or_ended e
+            (or_sent (sent_last purpose call (events_of purpose call (Timed far.time ∷ timed)))
+            (turn_after (wait_of call) (waits_in timed))))
+            (ends_so waited hears (Timed now) (Tick now) tt refl None one);
       }
 
       -- The request could not be sent again.
-      pub unsent : {last : Account} → endings ticked.notes ≡ [] → GainsLost ticked.notes (Timed now ∷ []) next last
-          → Calls purpose call seen last (Err SendFailed)
+      pub unsent : {last : Account Origin} → endings ticked.notes ≡ []
+          → GainsLost ticked.notes (Timed now ∷ []) next last → Plays (move purpose call) seen last (Err SendFailed)
       unsent none_then lost =
           loses timed (carried_then none_then _ refl) follows_timed _ (next_then none_then) turned _ _ lost.2
           (gains_timed _ lost.3)
@@ -325,43 +335,44 @@ module _ (purpose : Purpose) (call : Call) (time : ℕ) (short : length call.bod
   carried_first : CarriesOn purpose call time [] client
   carried_first = grind (arith, begins)
 
-  next_first : move purpose call (Timed time ∷ [])
+  next_first : next_move (move purpose call) (Timed time ∷ [])
       ≡ or_sent (posts (sent client.state 0)) (turn_after (wait_of call) 0)
-  next_first = grind (arith, common_steps, behind_time, begins_sent)
+  next_first =
+      behind_time purpose call [] time carried_first.unended
+      ∙ ap (λ (d : List Entry). or_sent d (turn_after (wait_of call) 0))
+      (begins_sent purpose call time short ∙ ap (λ (c : Client). posts (sent c.state 0)) (sym client_is))
 
-  pub begun : {seen left : Account} → GainsAll (Timed time ∷ posts (sent client.state 0)) seen left
-      → Underway purpose call seen left client 0
+  pub begun : {Origin : Type 0} {seen left : Account Origin}
+      → GainsAll (Timed time ∷ posts (sent client.state 0)) seen left → Underway purpose call seen left client 0
   begun gains = goes_on [] carried_first (refl, tt) _ next_first refl (grind (arith, begins_sent, one_or_none)) gains
 
-  pub unbegun : {seen left : Account} → GainsLost (sent client.state 0) (Timed time ∷ []) seen left
-      → Calls purpose call seen left (Err SendFailed)
+  pub unbegun : {Origin : Type 0} {seen left : Account Origin}
+      → GainsLost (sent client.state 0) (Timed time ∷ []) seen left
+      → Plays (move purpose call) seen left (Err SendFailed)
   unbegun lost = loses [] carried_first (refl, tt) _ next_first refl _ _ lost.2 lost.3
 
 -- ---- the end
 
 -- All turns went by.
-pub spent : {purpose : Purpose} {call : Call} {seen left : Account} {client : Client} (n : ℕ) → n ≡ most_turns
-    → Underway purpose call seen left client n → Calls purpose call seen left (Err TurnsSpent)
+pub spent : {Origin : Type 0} {purpose : Purpose} {call : Call} {seen left : Account Origin} {client : Client} (n : ℕ)
+    → n ≡ most_turns → Underway purpose call seen left client n → Plays (move purpose call) seen left (Err TurnsSpent)
 spent {call} n all far = record {
-  plays = record {
-    gained = Timed far.time ∷ far.more;
-    gains = far.gains;
-    follows = far.follows;
-    over = far.next ∙ turns_over _ n (omega (arith, all));
-  };
-  request = accepted_so far.more far.carried far.more;
+  gained = Timed far.time ∷ far.more;
+  gains = far.gains;
+  follows = far.follows;
+  over = far.next ∙ turns_over _ n (omega (arith, all));
 }
 
-module _ {W : Type 0} {purpose : Purpose} {call : Call} (contents : W → Option (List ℕ)) (before after : Checked W)
-    {seen left : Account} where
+module _ {Origin W : Type 0} (purpose : Purpose) (call : Call) (contents : W → Option (List ℕ))
+    (before after : Checked W) {seen left : Account Origin} where
   -- A call that fails so tells it.
-  pub fails_so : (fault : ToolFault) → fault ≢ WriteFailed → after ≡ before → Calls purpose call seen left (Err fault)
-      → Tells purpose call contents before after seen left (Err fault)
+  pub fails_so : (fault : ToolFault) → fault ≢ WriteFailed → after ≡ before
+      → Plays (move purpose call) seen left (Err fault) → Tells purpose call contents before after seen left (Err fault)
   fails_so = grind arith
 
   -- What is shown of an end is what the call tells.
   pub shown_so : (ending : Option Outcome) (result : Result Exit ToolFault)
       → TookOrFailed contents before after (ending_line purpose ending) result →
       IfOk result (λ exit. exit ≡ exit_of purpose ending) → IfErr result (λ fault. fault ≡ WriteFailed) →
-      Calls purpose call seen left (Ok ending) → Tells purpose call contents before after seen left result
+      Plays (move purpose call) seen left (Ok ending) → Tells purpose call contents before after seen left result
   shown_so = grind arith

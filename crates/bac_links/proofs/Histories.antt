@@ -3,13 +3,14 @@ use Rattle.std.proofs.{Common.{List, [], ◌++◌, append_assoc, sym, ap, ◌∙
 use Rattle.bac_links.specs.History.{Entry, Account, GainsAll}
 
 -- An account with this history.
-abbrev with_history : Account → List Entry → Account
+abbrev with_history : {Origin : Type 0} → Account Origin → List Entry → Account Origin
 with_history a entries = record a { history = entries }
 
-pub gains_both : (xs ys : List Entry) (a b c : Account) → GainsAll xs a b → GainsAll ys b c → GainsAll (xs ++ ys) a c
-gains_both xs ys a b c first second =
-    second ∙ ap (λ (s : Account). with_history s (s.history ++ ys)) first
+pub gains_both : {Origin : Type 0} (xs ys : List Entry) (a b c : Account Origin) → GainsAll xs a b → GainsAll ys b c
+    → GainsAll (xs ++ ys) a c
+gains_both {Origin} xs ys a b c first second =
+    second ∙ ap (λ (s : Account Origin). with_history s (s.history ++ ys)) first
     ∙ ap (with_history a) (append_assoc a.history xs ys)
 
-pub gains_none : (a : Account) → GainsAll [] a a
+pub gains_none : {Origin : Type 0} (a : Account Origin) → GainsAll [] a a
 gains_none a = sym (ap (with_history a) (append-nil a.history))

@@ -11,8 +11,8 @@ use Rattle.bac_links.specs.{
 }
 
 -- with a status below 3 the writer took the line of how the request ended, and the status is that of this end
-pub line_of : {W : Type 0} (purpose : Purpose) (call : Call) (contents : W → Option (List ℕ))
-    (before after : Checked W) (seen left : Account) (answer : Result Exit ToolFault)
+pub line_of : {Origin W : Type 0} (purpose : Purpose) (call : Call) (contents : W → Option (List ℕ))
+    (before after : Checked W) (seen left : Account Origin) (answer : Result Exit ToolFault)
     → Tells purpose call contents before after seen left answer → status_of answer < 3
     → (ending : Option Outcome) × (status_of answer ≡ status_of (Ok (exit_of purpose ending)))
     × Took contents before after (ending_line purpose ending)

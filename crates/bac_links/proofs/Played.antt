@@ -12,8 +12,8 @@ use Rattle.std.specs.{
 }
 use Rattle.bac_pdu.specs.Peer.{NetworkAddress, Station}
 use Rattle.bac_links.specs.{
-  History.{Heard, Silence, Arrival, Failure, Entry, Waited, Timed, Posted, Unposted, posted, Scene},
-  Played.{Stage, at_first, heard_next, behind_wait, behind, IsPlayed, ArePlayed, Sending, sending_in, sendings},
+  History.{Heard, Silence, Arrival, Failure, Entry, Waited, Timed, Posted, Unposted, posted},
+  Played.{Scene, Stage, at_first, heard_next, behind_wait, behind, IsPlayed, ArePlayed, Sending, sending_in, sendings},
   Stands.{behind_all, Stands},
 }
 

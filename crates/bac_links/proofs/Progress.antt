@@ -13,9 +13,9 @@ use Rattle.bac_tsm.{
 use Rattle.bac_print.specs.declared.checked.Checked.{Checked}
 use Rattle.bac_links.specs.{
   History.{Heard, Silence, Arrival, Failure, Entry, Waited, Timed, Posted, Unposted, Account},
-  Asking.{Asks, Question, ForDatagram, ForTime, question_of, Follows, waits_in},
+  Asking.{Asks, Question, ForDatagram, ForTime, question_of, Follows, next_move, waits_in},
   Handed.handed_of,
-  Call.{rules_for, asked, end_in, events_of, move_behind, move, Tells},
+  Call.{rules_for, asked, end_in, events_of, move, Tells},
   Progress.{AreTold, ArePrompt},
   declared.{ending.Purpose.Purpose, ending.Exit.Exit, fault.ToolFault.ToolFault},
 }
@@ -68,7 +68,7 @@ module _ (purpose : Purpose) (call : Call) where
   -- What is asked but the time is asked once the time was told, of a call whose request is open.
   ready : (gained : List Entry) (last : Entry) (question : Question) → (question ≡ ForTime → ⊥)
       → ((to : Station) (octets : List ℕ) → last ≡ Posted to octets → IsOpen gained)
-      → move_behind purpose call gained (Some last) ≡ Asks question → IsTimely last × IsOpen gained
+      → move purpose call gained (Some last) ≡ Asks question → IsTimely last × IsOpen gained
   ready = grind arith
 
   -- ---- one entry after another
@@ -125,17 +125,17 @@ module _ (purpose : Purpose) (call : Call) where
 
     -- Behind a send nothing else has changed.
     at_send : (before : List Entry) (last x : Entry) (n now : ℕ) → IsAt before last n now → handed_of x ≡ []
-        → (question_of x ≡ ForTime → ⊥) → move purpose call (Timed first ∷ before) ≡ Asks (question_of x)
+        → (question_of x ≡ ForTime → ⊥) → next_move (move purpose call) (Timed first ∷ before) ≡ Asks (question_of x)
         → IsAt (before ++ x ∷ []) x n now
     at_send = grind (arith, common_steps, ready, append-nil, events_push, last_push)
 
     at_wait : (before : List Entry) (last : Entry) (wait : ℕ) (heard : Heard) (n now : ℕ) → IsAt before last n now
-        → move purpose call (Timed first ∷ before) ≡ Asks (ForDatagram wait)
+        → next_move (move purpose call) (Timed first ∷ before) ≡ Asks (ForDatagram wait)
         → time_behind (suc n) ≤ time_behind n + longest
         → IsAt (before ++ Waited wait heard ∷ []) (Waited wait heard) (suc n) now
     at_wait before last wait heard n now is asks prompt =
         let asked = ready (Timed first ∷ before) last (ForDatagram wait) (λ e. cc) is.sent
-        (ap (move_behind purpose call (Timed first ∷ before)) (sym is.came_last) ∙ asks) in
+        (ap (move purpose call (Timed first ∷ before)) (sym is.came_last) ∙ asks) in
         let soon = open_in_time before now is.steady asked.1 in
         let told = is.told asked.0 in
         record {
@@ -203,13 +203,13 @@ module _ (purpose : Purpose) (call : Call) where
   in_time _ _ (Posted to octets ∷ more) follows told prompt = let asks = follows.0 in cc
   in_time _ _ (Unposted to octets ∷ more) follows told prompt = let asks = follows.0 in cc
 
-pub told_in_time : {W : Type 0} (contents : W → Option (List ℕ)) (purpose : Purpose) (call : Call)
-    (before after : Checked W) (seen left : Account) (result : Result Exit ToolFault) (gained : List Entry)
+pub told_in_time : {Origin W : Type 0} (contents : W → Option (List ℕ)) (purpose : Purpose) (call : Call)
+    (before after : Checked W) (seen left : Account Origin) (result : Result Exit ToolFault) (gained : List Entry)
     (time_behind : ℕ → ℕ) (longest : ℕ) → Tells purpose call contents before after seen left result
     → left.history ≡ seen.history ++ gained → AreTold time_behind 0 gained
     → ArePrompt time_behind longest (waits_in gained)
     → time_behind (waits_in gained) ≤ time_behind 0 + suc call.retries * (call.timeout + longest)
 told_in_time contents purpose call before after seen left result gained time_behind longest tells gains =
     let it = went purpose call contents before after seen left result tells in
-    in_time purpose call time_behind longest gained (subst (Follows _ []) (played _ seen left _ _ it.plays gains)
-    it.plays.follows)
+    in_time purpose call time_behind longest gained (subst (Follows (move purpose call) [])
+    (played _ seen left _ _ it.plays gains) it.plays.follows)

@@ -9,9 +9,9 @@ use Rattle.bac_print.{specs.{declared.checked.Checked.Checked, Checked.Took}, pr
 use Rattle.bac_links.specs.{
   Limits.most_turns,
   History.{Heard, Failure, Entry, Waited, Timed, Posted, Unposted, Account, GainsAll, Gains},
-  Asking.{Asks, Ends, ForTime, Follows, waits_in, times_in, turn_after},
-  Search.{Found, found_by, found_line, greatest_of, passed_in, who_is_to, found_of_entry, found_in, behind_time},
-  Search.{search_behind, search_move, Searched},
+  Asking.{Asks, Ends, ForTime, Follows, next_move, waits_in, times_in, turn_after},
+  Search.{Found, found_by, found_line, greatest_of, passed_in, who_is_to, found_in, behind_time},
+  Search.{search_move, Searched},
   declared.{ending.Exit.Exit, ending.Exit.TheVariants.{Good, Bad}, fault.ToolFault.ToolFault},
   declared.fault.ToolFault.TheVariants.{SendFailed, ReceiveFailed, TurnsSpent, WriteFailed},
   Inner.SearchSteps.{search_wait, found_lines, has_found, Listens},
@@ -28,12 +28,12 @@ abbrev pub searched : Search → ℕ → List Entry → List Entry
 searched search first more = Timed first ∷ Posted (station search.to) (who_is_to search) ∷ more
 
 -- A search after n turns.
-pub record SearchGoes {W : Type 0} (search : Search) (contents : W → Option (List ℕ)) (before after : Checked W)
-    (seen link : Account) (first greatest : ℕ) (any : Bool) (n : ℕ) : Type 0 where
+pub record SearchGoes {Origin W : Type 0} (search : Search) (contents : W → Option (List ℕ)) (before after : Checked W)
+    (seen link : Account Origin) (first greatest : ℕ) (any : Bool) (n : ℕ) : Type 0 where
   pub more : List Entry
   pub gains : GainsAll (searched search first more) seen link
   pub follows : Follows (search_move search) [] (searched search first more)
-  pub next : search_move search (searched search first more) ≡ turn_after (search_wait search) n
+  pub next : next_move (search_move search) (searched search first more) ≡ turn_after (search_wait search) n
   pub turns : waits_in more ≡ n
   pub time : greatest ≡ greatest_of first (times_in more)
   pub any_is : any ≡ has_found (found_in search more)
@@ -51,24 +51,24 @@ greatest-push _ [] _ = refl
 greatest-push greatest (x ∷ times) time = greatest-push (max greatest x) times time
 
 found-push : (search : Search) (more : List Entry) (x : Entry)
-    → found_in search (more ++ x ∷ []) ≡ found_in search more ++ found_of_entry search x
+    → found_in search (more ++ x ∷ []) ≡ found_in search more ++ found_by search.who x
 found-push = grind (arith, flat_map-append, append-nil)
 
 behind : (search : Search) (gained : List Entry) (x : Entry)
-    → search_move search (gained ++ x ∷ []) ≡ search_behind search (gained ++ x ∷ []) (Some x)
+    → next_move (search_move search) (gained ++ x ∷ []) ≡ search_move search (gained ++ x ∷ []) (Some x)
 behind = grind (arith, last_push)
 
 pub behind_wait : (search : Search) (gained : List Entry) (wait : ℕ) (heard : Heard) → heard ≢ Failure
-    → search_move search (gained ++ Waited wait heard ∷ []) ≡ Asks ForTime
+    → next_move (search_move search) (gained ++ Waited wait heard ∷ []) ≡ Asks ForTime
 behind_wait = grind (arith, behind)
 
 -- ---- a turn
 
-module _ {W : Type 0} {search : Search} {contents : W → Option (List ℕ)} {before middle : Checked W}
-    {seen mid : Account} {first greatest : ℕ} {any : Bool} {n : ℕ}
+module _ {Origin W : Type 0} {search : Search} {contents : W → Option (List ℕ)} {before middle : Checked W}
+    {seen mid : Account Origin} {first greatest : ℕ} {any : Bool} {n : ℕ}
     (goes : SearchGoes search contents before middle seen mid first greatest any n) (within : n < most_turns) where
   -- One wait more.
-  module _ {left : Account} (heard : Heard) (hears : Gains (Waited (search_wait search) heard) mid left) where
+  module _ {left : Account Origin} (heard : Heard) (hears : Gains (Waited (search_wait search) heard) mid left) where
     abbrev waited : List Entry
     waited = goes.more ++ Waited (search_wait search) heard ∷ []
 
@@ -79,9 +79,9 @@ module _ {W : Type 0} {search : Search} {contents : W → Option (List ℕ)} {be
     follows_waited = grind (arith, follows_push, turn_begins)
 
   -- A wait that goes well, and the time after it.
-  module _ {after : Checked W} {left : Account} {some : Bool}
+  module _ {after : Checked W} {left : Account Origin} {some : Bool}
       (listens : Listens search.who (search_wait search) contents middle after mid left (Ok some))
-      (now : ℕ) {last : Account} (asks : Gains (Timed now) left last) where
+      (now : ℕ) {last : Account Origin} (asks : Gains (Timed now) left last) where
     abbrev heard : Heard
     heard = listens.0
 
@@ -91,14 +91,16 @@ module _ {W : Type 0} {search : Search} {contents : W → Option (List ℕ)} {be
     abbrev all : List Entry
     all = searched search first timed
 
-    found_next : found_in search timed ≡ found_in search goes.more ++ found_by search.who heard
+    found_next : found_in search timed
+        ≡ found_in search goes.more ++ found_by search.who (Waited (search_wait search) heard)
     found_next = found-push search (waited heard listens.1) _ ∙ append-nil _ ∙ found-push search goes.more _
 
     printed_next : Took contents before after (found_lines (found_in search timed))
     printed_next =
         subst (Took contents before after)
         (sym (ap found_lines found_next
-        ∙ flat_map-append found_line (found_in search goes.more) (found_by search.who heard)))
+        ∙ flat_map-append found_line (found_in search goes.more)
+        (found_by search.who (Waited (search_wait search) heard))))
         (Took-more goes.printed listens.4)
 
     any_next : (any || some) ≡ has_found (found_in search timed)
@@ -118,7 +120,7 @@ module _ {W : Type 0} {search : Search} {contents : W → Option (List ℕ)} {be
         follows_push (search_move search) [] (searched search first (waited heard listens.1)) (Timed now)
         (follows_waited heard listens.1) (behind_wait search (searched search first goes.more) _ heard listens.2)
 
-    next_timed : search_move search all ≡ behind_time search all (suc n)
+    next_timed : next_move (search_move search) all ≡ behind_time search all (suc n)
     next_timed = behind search (searched search first (waited heard listens.1)) _ ∙ ap (behind_time search all) turned
 
     passed : max greatest now - first ≡ passed_in (times_in all)
@@ -151,7 +153,7 @@ module _ {W : Type 0} {search : Search} {contents : W → Option (List ℕ)} {be
     }
 
   -- A wait that fails.
-  pub fails : (after : Checked W) (left : Account) (fault : ToolFault) {wait : ℕ} → wait ≡ search_wait search
+  pub fails : (after : Checked W) (left : Account Origin) (fault : ToolFault) {wait : ℕ} → wait ≡ search_wait search
       → Listens search.who wait contents middle after mid left (Err fault) →
       Searched search contents before after seen left (Err fault)
   fails after _ ReceiveFailed same listens =
@@ -184,15 +186,15 @@ module _ {W : Type 0} {search : Search} {contents : W → Option (List ℕ)} {be
   fails _ _ _ _ listens = absurd listens
 
 -- A search begins with its Who-Is sent.
-pub begun : {W : Type 0} (search : Search) {contents : W → Option (List ℕ)} {before : Checked W}
-    {seen mid link : Account} (first : ℕ) → Gains (Timed first) seen mid →
+pub begun : {Origin W : Type 0} (search : Search) {contents : W → Option (List ℕ)} {before : Checked W}
+    {seen mid link : Account Origin} (first : ℕ) → Gains (Timed first) seen mid →
     Gains (Posted (station search.to) (who_is_to search)) mid link
     → SearchGoes search contents before before seen link first first false 0
 begun = grind (arith, common_steps, gains_both)
 
 -- Or with one that could not be sent.
-pub unbegun : {W : Type 0} (search : Search) {contents : W → Option (List ℕ)} {before : Checked W}
-    {seen mid link : Account} (first : ℕ) → Gains (Timed first) seen mid →
+pub unbegun : {Origin W : Type 0} (search : Search) {contents : W → Option (List ℕ)} {before : Checked W}
+    {seen mid link : Account Origin} (first : ℕ) → Gains (Timed first) seen mid →
     Gains (Unposted (station search.to) (who_is_to search)) mid link
     → Searched search contents before before seen link (Err SendFailed)
 unbegun search {before} {seen} {mid} {link} first asks sends = record {
@@ -205,8 +207,8 @@ unbegun search {before} {seen} {mid} {link} first asks sends = record {
   printed = Took-none _;
 }
 
-pub spent : {W : Type 0} {search : Search} {contents : W → Option (List ℕ)} {before after : Checked W}
-    {seen link : Account} {first greatest : ℕ} {any : Bool} (n : ℕ) → n ≡ most_turns →
+pub spent : {Origin W : Type 0} {search : Search} {contents : W → Option (List ℕ)} {before after : Checked W}
+    {seen link : Account Origin} {first greatest : ℕ} {any : Bool} (n : ℕ) → n ≡ most_turns →
     SearchGoes search contents before after seen link first greatest any n
     → Searched search contents before after seen link (Err TurnsSpent)
 spent {search} {first} n all goes = record {

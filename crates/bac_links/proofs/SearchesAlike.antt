@@ -6,9 +6,9 @@ use Rattle.std.proofs.{
 }
 use Rattle.bac_print.specs.{declared.checked.Checked.Checked, Checked.TakesFront}
 use Rattle.bac_links.specs.{
-  History.{Entry, Waited, Account},
+  History.{Heard, Entry, Waited, Account},
   Answered.{AskAlike, Printed, OneText},
-  Asking.{Asks, Ends, ForTime, question_of, Follows},
+  Asking.{Asks, Ends, ForTime, question_of, Follows, next_move},
   Search.{found_by, found_line, found_in, search_move, IsWhole, IsCutOff, Searched},
   declared.ending.Exit.Exit,
   declared.fault.{ToolFault.ToolFault, ToolFault.TheVariants.{SendFailed, ReceiveFailed, TurnsSpent, WriteFailed}},
@@ -31,11 +31,11 @@ module _ (search : Search) where
     -- After these entries it is over, or it was cut off behind a wait; and their lines were printed.
     record Stops (result : Result Exit ToolFault) (gained : List Entry) : Type 0 where
       follows : Follows (search_move search) [] gained
-      over : (search_move search gained ≡ Ends result)
-          ⊎ ((result ≡ Err WriteFailed) × (search_move search gained ≡ Asks ForTime))
+      over : (next_move (search_move search) gained ≡ Ends result)
+          ⊎ ((result ≡ Err WriteFailed) × (next_move (search_move search) gained ≡ Asks ForTime))
       printed : Printed contents before after (lines_in gained) result
 
-    module _ (seen left : Account) where
+    module _ {Origin : Type 0} (seen left : Account Origin) where
       whole : (result : Result Exit ToolFault) (it : IsWhole search contents before after seen left result)
           → Printed contents before after (lines_in it.plays.gained) result → Stops result it.plays.gained
       whole _ it printed = record { follows = it.plays.follows; over = inl it.plays.over; printed = printed }
@@ -47,7 +47,7 @@ module _ (search : Search) where
         over = inr (
           refl,
           behind_wait search it.earlier it.wait it.heard (λ e.
-              let none = ap (found_by _) (sym e) ∙ it.finds in
+              let none = ap (λ (h : Heard). found_by search.who (Waited it.wait h)) (sym e) ∙ it.finds in
               cc),
         );
         printed = (
@@ -77,7 +77,7 @@ module _ (search : Search) where
           (whole (Err TurnsSpent) it it.printed)
       stops (Err WriteFailed) _ it gains =
           subst (Stops (Err WriteFailed))
-          (append_cancel_left seen.history _ _ (ap (λ (s : Account). s.history) (sym it.gains) ∙ gains)) (cut it)
+          (append_cancel_left seen.history _ _ (ap (λ (s : Account Origin). s.history) (sym it.gains) ∙ gains)) (cut it)
 
 -- Two searches that are answered alike.
 module _ {V W : Type 0} (contents : V → Option (List ℕ)) (contents' : W → Option (List ℕ)) (search : Search)
@@ -96,12 +96,12 @@ module _ {V W : Type 0} (contents : V → Option (List ℕ)) (contents' : W → 
     there none =
         subst (Stops search contents' _ _ _) (ap (λ (xs : List Entry). first' ++ xs) none ∙ append-nil _ ∙ sym one) b
 
-    cut_here : rest ≡ [] → (x : Entry) → search_move search first ≡ Asks (question_of x)
+    cut_here : rest ≡ [] → (x : Entry) → next_move (search_move search) first ≡ Asks (question_of x)
         → (result ≡ Err WriteFailed) × PrintAlike result result'
     cut_here none x asks = go (here none).over
       where
-        go : (search_move search first ≡ Ends result)
-            ⊎ ((result ≡ Err WriteFailed) × (search_move search first ≡ Asks ForTime))
+        go : (next_move (search_move search) first ≡ Ends result)
+            ⊎ ((result ≡ Err WriteFailed) × (next_move (search_move search) first ≡ Asks ForTime))
             → (result ≡ Err WriteFailed) × PrintAlike result result'
         go (inl over) = absurd (let both = sym over ∙ asks in cc)
         go (inr cut) = (
@@ -120,12 +120,12 @@ module _ {V W : Type 0} (contents : V → Option (List ℕ)) (contents' : W → 
           ),
         )
 
-    cut_there : rest' ≡ [] → (x : Entry) → search_move search first ≡ Asks (question_of x)
+    cut_there : rest' ≡ [] → (x : Entry) → next_move (search_move search) first ≡ Asks (question_of x)
         → (result' ≡ Err WriteFailed) × PrintAlike result result'
     cut_there none x asks = go (there none).over
       where
-        go : (search_move search first ≡ Ends result')
-            ⊎ ((result' ≡ Err WriteFailed) × (search_move search first ≡ Asks ForTime))
+        go : (next_move (search_move search) first ≡ Ends result')
+            ⊎ ((result' ≡ Err WriteFailed) × (next_move (search_move search) first ≡ Asks ForTime))
             → (result' ≡ Err WriteFailed) × PrintAlike result result'
         go (inl over) = absurd (let both = sym over ∙ asks in cc)
         go (inr cut) = (
@@ -146,17 +146,18 @@ module _ {V W : Type 0} (contents : V → Option (List ℕ)) (contents' : W → 
     ends none none' =
         (go (here none).over (there none').over, (lines_in search first, (here none).printed, (there none').printed))
       where
-        go : (search_move search first ≡ Ends result)
-            ⊎ ((result ≡ Err WriteFailed) × (search_move search first ≡ Asks ForTime))
-            → (search_move search first ≡ Ends result')
-            ⊎ ((result' ≡ Err WriteFailed) × (search_move search first ≡ Asks ForTime)) → result ≡ result'
+        go : (next_move (search_move search) first ≡ Ends result)
+            ⊎ ((result ≡ Err WriteFailed) × (next_move (search_move search) first ≡ Asks ForTime))
+            → (next_move (search_move search) first ≡ Ends result')
+            ⊎ ((result' ≡ Err WriteFailed) × (next_move (search_move search) first ≡ Asks ForTime)) → result ≡ result'
         go (inl p) (inl q) = let both = sym p ∙ q in cc
         go (inl p) (inr q) = let both = sym p ∙ q.1 in cc
         go (inr p) (inl q) = let both = sym p.1 ∙ q in cc
         go (inr p) (inr q) = p.0 ∙ sym q.0
 
-  pub searches_so_far : AskAlike (Searched search contents before after) (Searched search contents' before' after')
-      (λ result. result ≡ Err WriteFailed) (λ result other. result ≡ other) PrintAlike
+  pub searches_so_far : {Origin Other : Type 0} → AskAlike Origin Other (Searched search contents before after)
+      (Searched search contents' before' after') (λ result. result ≡ Err WriteFailed)
+      (λ result other. result ≡ other) PrintAlike
   searches_so_far seen left seen' left' result result' first rest first' rest' tells tells' gains gains' same =
       let a = stops search contents _ _ seen left _ _ tells gains in
       let b = stops search contents' before' after' seen' left' result' (first' ++ rest') tells' gains' in

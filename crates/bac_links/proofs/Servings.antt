@@ -10,10 +10,10 @@ use Rattle.bac_device.specs.{Device.DeviceState, Turns.Arrival as Came, Reply.re
 use Rattle.bac_links.specs.{
   Limits.{most_turns, serve_wait},
   History.{Heard, Silence, Arrival, Failure, Entry, Waited, Posted, Unposted, Account, GainsAll},
-  Asking.{Ends, ToSend, question_of, Follows, waits_in, turn_after},
-  Serve.{came_by, came_of_entry, arrivals_in, device_next, device_behind, replies_of, reply_count, or_reply},
-  Serve.{serve_next, serve_behind, serve_move, Serves},
-  Inner.ServeSteps.{came_in, replied_in, sends_of, LeavesDevice, ServesOne},
+  Asking.{Ends, ToSend, question_of, Follows, next_move, waits_in, turn_after},
+  Serve.{came_by, arrivals_in, device_next, device_behind, replies_of, reply_count, or_reply},
+  Serve.{serve_next, serve_move, Serves},
+  Inner.ServeSteps.{brought_by, came_in, replied_in, sends_of, LeavesDevice, ServesOne},
   declared.serving.Brought.Brought,
   declared.fault.{ToolFault.ToolFault, ToolFault.TheVariants.{SendFailed, ReceiveFailed, TurnsSpent}},
 }
@@ -30,7 +30,7 @@ AtMostOne [] = Unit {0}
 AtMostOne (r ∷ []) = Unit {0}
 AtMostOne (r ∷ s ∷ rs) = ⊥
 
-one_at_most : (device : DeviceState) (heard : Heard) → AtMostOne (replies_of device (came_by heard))
+one_at_most : (device : DeviceState) (heard : Heard) → AtMostOne (replies_of device (brought_by heard))
 one_at_most = grind arith
 
 -- ---- datagrams one after another
@@ -47,25 +47,25 @@ replies-append device (x ∷ xs) ys =
     ap (λ (rs : List Reply). reply_of device x.from x.datagram ∷ rs) (replies-append (device_next _ x) xs ys)
 
 arrivals-push : (gained : List Entry) (x : Entry)
-    → arrivals_in (gained ++ x ∷ []) ≡ arrivals_in gained ++ came_of_entry x
+    → arrivals_in (gained ++ x ∷ []) ≡ arrivals_in gained ++ came_by x
 arrivals-push = grind (arith, flat_map-append, append-nil)
 
 -- ---- the next move
 
 module _ (count : ℕ) (before : DeviceState) where
   behind : (gained : List Entry) (x : Entry)
-      → serve_move count before (gained ++ x ∷ []) ≡ serve_behind count before (gained ++ x ∷ []) (Some x)
+      → next_move (serve_move count before) (gained ++ x ∷ []) ≡ serve_move count before (gained ++ x ∷ []) (Some x)
   behind = grind (arith, last_push)
 
   -- The replies after one wait more.
   replies-push : (gained : List Entry) (device : DeviceState) → device ≡ device_behind before (arrivals_in gained)
       → (x : Entry) → replies_of before (arrivals_in (gained ++ x ∷ []))
-      ≡ replies_of before (arrivals_in gained) ++ replies_of device (came_of_entry x)
+      ≡ replies_of before (arrivals_in gained) ++ replies_of device (came_by x)
   replies-push = grind (arith, arrivals-push, replies-append)
 
   behind_wait : (gained : List Entry) (device : DeviceState) → device ≡ device_behind before (arrivals_in gained)
-      → (heard : Heard) → heard ≢ Failure → (rs : List Reply) → replies_of device (came_by heard) ≡ rs →
-      serve_move count before (gained ++ Waited serve_wait heard ∷ [])
+      → (heard : Heard) → heard ≢ Failure → (rs : List Reply) → replies_of device (brought_by heard) ≡ rs →
+      next_move (serve_move count before) (gained ++ Waited serve_wait heard ∷ [])
       ≡ or_reply (last_or None rs) (serve_next count before (gained ++ Waited serve_wait heard ∷ []))
   behind_wait _ _ is Failure received rs e = absurd (received refl)
   behind_wait gained _ is Silence _ rs e =
@@ -79,23 +79,25 @@ module _ (count : ℕ) (before : DeviceState) where
       ∙ ap (λ (rs : List Reply). or_reply (last_or None rs) next) e
 
 -- A server after n waits.
-pub record ServeGoes (before device : DeviceState) (seen link : Account) (count came replied n : ℕ) : Type 0 where
+pub record ServeGoes {Origin : Type 0} (before device : DeviceState) (seen link : Account Origin)
+    (count came replied n : ℕ) : Type 0 where
   pub gained : List Entry
   pub gains : GainsAll gained seen link
   pub follows : Follows (serve_move count before) [] gained
-  pub next : serve_move count before gained ≡ serve_next count before gained
+  pub next : next_move (serve_move count before) gained ≡ serve_next count before gained
   pub turns : waits_in gained ≡ n
   pub device_is : device ≡ device_behind before (arrivals_in gained)
   pub came_is : came ≡ length (arrivals_in gained)
   pub replied_is : replied ≡ reply_count (replies_of before (arrivals_in gained))
 
-pub serves_none : {device : DeviceState} {seen : Account} {count : ℕ} → ServeGoes device device seen seen count 0 0 0
+pub serves_none : {Origin : Type 0} {device : DeviceState} {seen : Account Origin} {count : ℕ}
+    → ServeGoes device device seen seen count 0 0 0
 serves_none = grind (arith, gains_none)
 
-module _ {before device : DeviceState} {seen mid : Account} {count came replied n : ℕ}
+module _ {Origin : Type 0} {before device : DeviceState} {seen mid : Account Origin} {count came replied n : ℕ}
     (goes : ServeGoes before device seen mid count came replied n) where
   -- How it ends.
-  served : (result : Result ℕ ToolFault) → serve_move count before goes.gained ≡ Ends result
+  served : (result : Result ℕ ToolFault) → next_move (serve_move count before) goes.gained ≡ Ends result
       → Serves count before device seen mid result
   served _ over = record {
     plays = record { gained = goes.gained; gains = goes.gains; follows = goes.follows; over = over };
@@ -108,7 +110,7 @@ module _ {before device : DeviceState} {seen mid : Account} {count came replied 
       (goes.next
       ∙ rw (le-leb count (length (arrivals_in goes.gained)) (omega (arith, all, goes.came_is)), ← goes.replied_is) refl)
 
-  turn_so : came < count → serve_move count before goes.gained ≡ turn_after serve_wait n
+  turn_so : came < count → next_move (serve_move count before) goes.gained ≡ turn_after serve_wait n
   turn_so = grind (arith, lt-leb)
 
   pub serve_spent : n ≡ most_turns → came < count → Serves count before device seen mid (Err TurnsSpent)
@@ -119,42 +121,42 @@ module _ {before device : DeviceState} {seen mid : Account} {count came replied 
     abbrev waited : List Entry
     waited = goes.gained ++ Waited serve_wait heard ∷ []
 
-    gains_waited : {left : Account} (rest : List Entry) → GainsAll (Waited serve_wait heard ∷ rest) mid left
+    gains_waited : {left : Account Origin} (rest : List Entry) → GainsAll (Waited serve_wait heard ∷ rest) mid left
         → GainsAll (waited ++ rest) seen left
     gains_waited = grind (arith, append_assoc, gains_both)
 
-    gains_one : {left : Account} → GainsAll (Waited serve_wait heard ∷ []) mid left → GainsAll waited seen left
+    gains_one : {left : Account Origin} → GainsAll (Waited serve_wait heard ∷ []) mid left → GainsAll waited seen left
     gains_one more = gains_both _ _ seen mid _ goes.gains more
 
     -- What holds of these entries behind the wait, where they are no further waits.
     record IsBehind (gained : List Entry) : Type 0 where
-      brought : arrivals_in gained ≡ arrivals_in goes.gained ++ came_by heard
+      brought : arrivals_in gained ≡ arrivals_in goes.gained ++ brought_by heard
       waits : waits_in gained ≡ suc n
 
     behind_waited : IsBehind waited
     behind_waited = grind (arith, arrivals-push, waits_push)
 
-    behind_sent : (x : Entry) → came_of_entry x ≡ [] → waits_in (x ∷ []) ≡ 0 → IsBehind (waited ++ x ∷ [])
+    behind_sent : (x : Entry) → came_by x ≡ [] → waits_in (x ∷ []) ≡ 0 → IsBehind (waited ++ x ∷ [])
     behind_sent = grind (arith, arrivals-push, append-nil, waits_push)
 
     module _ {after : DeviceState} (leaves : LeavesDevice device heard after) (gained : List Entry)
         (is : IsBehind gained) where
       replies_are : replies_of before (arrivals_in gained)
-          ≡ replies_of before (arrivals_in goes.gained) ++ replies_of device (came_by heard)
+          ≡ replies_of before (arrivals_in goes.gained) ++ replies_of device (brought_by heard)
       replies_are = grind (arith, replies-append)
 
       device_is : after ≡ device_behind before (arrivals_in gained)
       device_is = grind (arith, behind-append)
 
-      on_with : {left : Account} (brings : Brought) → came_in brings ≡ length (came_by heard)
-          → replied_in brings ≡ reply_count (replies_of device (came_by heard)) → GainsAll gained seen left
+      on_with : {left : Account Origin} (brings : Brought) → came_in brings ≡ length (brought_by heard)
+          → replied_in brings ≡ reply_count (replies_of device (brought_by heard)) → GainsAll gained seen left
           → Follows (serve_move count before) [] gained
-          → serve_move count before gained ≡ serve_next count before gained
+          → next_move (serve_move count before) gained ≡ serve_next count before gained
           → ServeGoes before after seen left count (came + came_in brings) (replied + replied_in brings) (suc n)
       on_with = grind (arith, device_is, length-append, replies_are, flat_map-append)
 
-      fails_with : {left : Account} (result : Result ℕ ToolFault) → GainsAll gained seen left
-          → Follows (serve_move count before) [] gained → serve_move count before gained ≡ Ends result
+      fails_with : {left : Account Origin} (result : Result ℕ ToolFault) → GainsAll gained seen left
+          → Follows (serve_move count before) [] gained → next_move (serve_move count before) gained ≡ Ends result
           → Serves count before after seen left result
       fails_with _ gains follows over = record {
         plays = record { gained = gained; gains = gains; follows = follows; over = over };
@@ -166,28 +168,28 @@ module _ {before device : DeviceState} {seen mid : Account} {count came replied 
       follows_waited = grind (arith, follows_push, turn_so, turn_begins)
 
       follows_sent : heard ≢ Failure → (x : Entry) (reply : Station × List ℕ)
-          → replies_of device (came_by heard) ≡ Some reply ∷ [] → ToSend reply.0 reply.1 ≡ question_of x
+          → replies_of device (brought_by heard) ≡ Some reply ∷ [] → ToSend reply.0 reply.1 ≡ question_of x
           → Follows (serve_move count before) [] (waited ++ x ∷ [])
       follows_sent = grind (arith, follows_push, follows_waited, behind_wait)
 
-    next_silent : heard ≢ Failure → (rs : List Reply) → replies_of device (came_by heard) ≡ rs → AtMostOne rs
-        → sends_of rs ≡ [] → serve_move count before waited ≡ serve_next count before waited
+    next_silent : heard ≢ Failure → (rs : List Reply) → replies_of device (brought_by heard) ≡ rs → AtMostOne rs
+        → sends_of rs ≡ [] → next_move (serve_move count before) waited ≡ serve_next count before waited
     next_silent = grind (arith, behind_wait)
 
-  module _ {after : DeviceState} {left : Account} (within : n < most_turns) (fewer : came < count) where
+  module _ {after : DeviceState} {left : Account Origin} (within : n < most_turns) (fewer : came < count) where
     pub serve_on : (brings : Brought) → ServesOne device after mid left (Ok brings) →
         ServeGoes before after seen left count (came + came_in brings) (replied + replied_in brings) (suc n)
     serve_on brings (heard, leaves, received, came_so, replied_so, gains) =
-        go (replies_of device (came_by heard)) refl (one_at_most device heard) gains
+        go (replies_of device (brought_by heard)) refl (one_at_most device heard) gains
       where
-        silent : (rs : List Reply) → replies_of device (came_by heard) ≡ rs → AtMostOne rs → sends_of rs ≡ []
+        silent : (rs : List Reply) → replies_of device (brought_by heard) ≡ rs → AtMostOne rs → sends_of rs ≡ []
             → GainsAll (Waited serve_wait heard ∷ []) mid left →
             ServeGoes before after seen left count (came + came_in brings) (replied + replied_in brings) (suc n)
         silent rs e few none more =
             on_with heard leaves (waited heard) (behind_waited heard) brings came_so replied_so (gains_one heard more)
             (follows_waited heard within fewer) (next_silent heard received rs e few none)
 
-        go : (rs : List Reply) → replies_of device (came_by heard) ≡ rs → AtMostOne rs
+        go : (rs : List Reply) → replies_of device (brought_by heard) ≡ rs → AtMostOne rs
             → GainsAll (Waited serve_wait heard ∷ sends_of rs) mid left →
             ServeGoes before after seen left count (came + came_in brings) (replied + replied_in brings) (suc n)
         go [] e few more = silent [] e few refl more

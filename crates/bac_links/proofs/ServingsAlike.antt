@@ -11,8 +11,8 @@ module _ (count : ℕ) (before after after' : DeviceState) where
   abbrev EndAlike : Result ℕ ToolFault → Result ℕ ToolFault → Type 0
   EndAlike result result' = (result ≡ result') × (after ≡ after')
 
-  pub servings_so_far : AskAlike (Serves count before after) (Serves count before after') (λ r. ⊥) EndAlike
-      (λ result result'. Unit {0})
+  pub servings_so_far : {Origin Other : Type 0} → AskAlike Origin Other (Serves count before after)
+      (Serves count before after') (λ r. ⊥) EndAlike (λ result result'. Unit {0})
   servings_so_far seen left seen' left' result result' first rest first' rest' serves serves' gains gains' same =
       to_the_end (serve_move count before) EndAlike (λ r r'. Unit {0}) seen left seen' left' first rest first' rest'
       result result' result result' serves.plays serves'.plays

@@ -2,17 +2,17 @@
 use Rattle.std.proofs.{Common.{◌≡◌, ℕ, List, [], Option, Ok, sym, ap, ◌∙◌}, lemmas.List.append-nil}
 use Rattle.bac_print.specs.declared.checked.Checked.{Checked}
 use Rattle.bac_links.{
-  specs.{History.Account, Asking.{Asks, Ends, ForTime}, Call.{move, Tells}, declared.ending.Purpose.Purpose},
+  specs.{History.Account, Asking.{Asks, Ends, ForTime, next_move}, Call.{move, Tells}, declared.ending.Purpose.Purpose},
   specs.declared.ending.Exit.Exit,
   proofs.Asking.played,
 }
 use Rattle.bac_text.specs.declared.jobs.Call.{Call}
 
-pub not_ended : {W : Type 0} (contents : W → Option (List ℕ)) (purpose : Purpose) (call : Call)
+pub not_ended : {Origin W : Type 0} (contents : W → Option (List ℕ)) (purpose : Purpose) (call : Call)
     (before after : Checked W)
-    (seen : Account) (exit : Exit) → Tells purpose call contents before after seen seen (Ok exit) → ⊥
+    (seen : Account Origin) (exit : Exit) → Tells purpose call contents before after seen seen (Ok exit) → ⊥
 not_ended _ purpose call _ _ seen _ tells =
-    let plays = tells.3.plays in
+    let plays = tells.3 in
     let none = played _ seen seen _ [] plays (sym (append-nil _)) in
-    let over : Asks ForTime ≡ Ends (Ok tells.0) = ap (move purpose call) (sym none) ∙ plays.over in
+    let over : Asks ForTime ≡ Ends (Ok tells.0) = ap (next_move (move purpose call)) (sym none) ∙ plays.over in
     cc

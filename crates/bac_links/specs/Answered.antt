@@ -35,11 +35,12 @@ GoOnAlike IsCutOff EndAlike PrintAlike result other (entry ∷ later) (other_ent
 GoOnAlike IsCutOff EndAlike PrintAlike result other [] other_rest = IsCutOff result × PrintAlike result other
 GoOnAlike IsCutOff EndAlike PrintAlike result other rest [] = IsCutOff other × PrintAlike result other
 
-module _ {A : Type 0} (Runs Others : Account → Account → A → Type 0) (IsCutOff : A → Type 0)
+module _ (Origin Other : Type 0) {A : Type 0} (Runs : Account Origin → Account Origin → A → Type 0)
+    (Others : Account Other → Account Other → A → Type 0) (IsCutOff : A → Type 0)
     (EndAlike PrintAlike : A → A → Type 0) where
   -- Two runs, over any two links: as far as they were answered alike they asked alike, and so they go on.
   abbrev pub AskAlike : Type 0
-  AskAlike = (seen left other_seen other_left : Account) (result other : A)
+  AskAlike = (seen left : Account Origin) (other_seen other_left : Account Other) (result other : A)
       (first rest other_first other_rest : List Entry) → Runs seen left result → Others other_seen other_left other
       → left.history ≡ seen.history ++ (first ++ rest)
       → other_left.history ≡ other_seen.history ++ (other_first ++ other_rest)

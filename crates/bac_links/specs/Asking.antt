@@ -1,5 +1,7 @@
 -- How a tool goes on: by all that it was asked and answered, what it asks of its link next, or that it is over.
-use Rattle.std.specs.Prelude.{◌≡◌, ℕ, zero, suc, nat_lt, if◌then◌else◌, List, [], ◌∷◌, ◌++◌, ⊤, Result, Err}
+use Rattle.std.specs.Prelude.{◌≡◌, ℕ, zero, suc, nat_lt, if◌then◌else◌, List, [], ◌∷◌, ◌++◌, ⊤, Option, None}
+use Rattle.std.specs.Prelude.{Result, Err}
+use Rattle.std.specs.List.{last_or}
 use Rattle.bac_pdu.specs.Peer.{Station}
 use Rattle.bac_links.specs.Limits.{most_turns}
 use Rattle.bac_links.specs.History.{Entry, Waited, Timed, Posted, Unposted, Account, GainsAll}
@@ -24,18 +26,23 @@ pub data Move (R : Type 0) : Type 0 where
   Asks : (question : Question) → Move R
   Ends : (result : R) → Move R
 
+-- The next move behind these entries: a tool has its moves by all of them, and by the last.
+abbrev pub next_move : {R : Type 0} → (List Entry → Option Entry → Move R) → List Entry → Move R
+next_move move entries = move entries (last_or None entries)
+
 -- Behind `before`, each of `later` was asked by the move that is due there.
-abbrev pub Follows : {R : Type 0} → (List Entry → Move R) → (before later : List Entry) → Type 0
+abbrev pub Follows : {R : Type 0} → (List Entry → Option Entry → Move R) → (before later : List Entry) → Type 0
 Follows move before [] = ⊤
 Follows move before (entry ∷ later) =
-    (move before ≡ Asks (question_of entry)) × Follows move (before ++ entry ∷ []) later
+    (next_move move before ≡ Asks (question_of entry)) × Follows move (before ++ entry ∷ []) later
 
 -- The history of a link gained what a tool asks, one thing after another, until it is over with this result.
-pub record Plays {R : Type 0} (move : List Entry → Move R) (seen left : Account) (result : R) : Type 0 where
+pub record Plays {Origin R : Type 0} (move : List Entry → Option Entry → Move R) (seen left : Account Origin)
+    (result : R) : Type 0 where
   pub gained : List Entry
   pub gains : GainsAll gained seen left
   pub follows : Follows move [] gained
-  pub over : move gained ≡ Ends result
+  pub over : next_move move gained ≡ Ends result
 
 -- How many waits there were.
 abbrev pub waits_in : List Entry → ℕ

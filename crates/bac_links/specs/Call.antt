@@ -1,16 +1,16 @@
 -- A call: one request, what it asks of its link, and how it ends.
-use Rattle.std.specs.Prelude.{◌≡◌, ℕ, ◌-◌, List, [], ◌∷◌, length, Option, Some, None}
+use Rattle.std.specs.Prelude.{◌≡◌, ℕ, ◌-◌, nat_eq, Bool, if◌then◌else◌, List, [], ◌∷◌, length, Option, Some, None}
 use Rattle.std.specs.Prelude.{Result, Ok, Err}
-use Rattle.std.specs.List.{flat_map, last_or}
+use Rattle.std.specs.List.{list_any}
 use Rattle.bac_pdu.specs.Peer.{station}
-use Rattle.bac_tsm.specs.Events.{Outcome, Event, Ask, Note, Sent, Rules}
+use Rattle.bac_tsm.specs.Events.{Outcome, Event, Ask, Rules}
 use Rattle.bac_tsm.specs.Events.{request_of}
-use Rattle.bac_tsm.specs.Lookahead.{Accepted, End, accepted, end, send_notes}
+use Rattle.bac_tsm.specs.Lookahead.{Accepted, End, accepted, end, sends}
 use Rattle.bac_tsm.specs.Client.{client_rules}
 use Rattle.bac_links.specs.Limits.{turn_wait}
 use Rattle.bac_links.specs.History.{Failure, Entry, Waited, Timed, Posted, Unposted, Account}
 use Rattle.bac_links.specs.Handed.{handed}
-use Rattle.bac_links.specs.Asking.{Move, Asks, Ends, ForTime, question_of, Plays, waits_in, turn_after}
+use Rattle.bac_links.specs.Asking.{Move, Asks, Ends, ForTime, ToSend, Plays, waits_in, turn_after}
 use Rattle.bac_links.specs.declared.ending.Purpose.{Purpose}
 use Rattle.bac_links.specs.declared.ending.Purpose.TheVariants.{Reading, Writing}
 use Rattle.bac_text.specs.declared.jobs.Call.{Call}
@@ -30,11 +30,6 @@ service_of Writing = 15
 abbrev pub rules_for : Call → Rules
 rules_for call = client_rules call.timeout call.retries
 
--- The send in a note.
-abbrev pub post_in : Note → List Entry
-post_in (Sent ticket peer octets) = Posted peer octets ∷ []
-post_in _ = []
-
 -- What a call comes to: how its request ended, by an outcome or by a timeout; or what failed.
 abbrev pub Comes : Type 0
 Comes = Result (Option Outcome) ToolFault
@@ -43,11 +38,6 @@ Comes = Result (Option Outcome) ToolFault
 abbrev pub or_ended : Option End → Move Comes → Move Comes
 or_ended (Some x) other = Ends (Ok x.outcome)
 or_ended None other = other
-
--- Where a send is due it is asked for.
-abbrev pub or_sent : List Entry → Move Comes → Move Comes
-or_sent (send ∷ more) other = Asks (question_of send)
-or_sent [] other = other
 
 module _ (purpose : Purpose) (call : Call) where
   -- The request of a call. It is asked for after one event, by a client that has none open, so it has the first ticket
@@ -58,7 +48,7 @@ module _ (purpose : Purpose) (call : Call) where
     request = request_of (rules_for call) 0 (station call.to) (service_of purpose) call.body.items 1;
   }
 
-  -- The request of the call is the one that is accepted.
+  -- Among these events one request is accepted, that of the call.
   abbrev pub IsAccepted : List Event → Type 0
   IsAccepted events = accepted (rules_for call) 0 events (length events) ≡ asked ∷ []
 
@@ -66,9 +56,9 @@ module _ (purpose : Purpose) (call : Call) where
   abbrev pub end_in : List Event → Option End
   end_in events = end (rules_for call) events asked
 
-  -- What is sent of the request at the last of these events, as the look-ahead says.
-  abbrev pub sent_last : List Event → List Entry
-  sent_last events = flat_map post_in (send_notes (rules_for call) events (length events - 1) asked)
+  -- The request is sent at the last of these events, as the look-ahead says.
+  abbrev pub is_sent_last : List Event → Bool
+  is_sent_last events = list_any (nat_eq (length events - 1)) (sends (rules_for call) events asked)
 
   -- The request is asked for behind the first event.
   abbrev pub with_request : List Event → List Event
@@ -81,31 +71,24 @@ module _ (purpose : Purpose) (call : Call) where
 
   -- The next move of a call, behind what came last: the time comes first, and after each wait but one that brings the
   -- end; behind a time the request is sent where it is due; and then the next turn begins.
-  abbrev pub move_behind : List Entry → Option Entry → Move Comes
-  move_behind gained None = Asks ForTime
-  move_behind gained (Some (Timed time)) =
+  abbrev pub move : List Entry → Option Entry → Move Comes
+  move gained None = Asks ForTime
+  move gained (Some (Timed time)) =
       or_ended (end_in (events_of gained))
-      (or_sent (sent_last (events_of gained)) (turn_after (turn_wait call.timeout) (waits_in gained)))
-  move_behind gained (Some (Posted to octets)) = turn_after (turn_wait call.timeout) (waits_in gained)
-  move_behind gained (Some (Unposted to octets)) = Ends (Err SendFailed)
-  move_behind gained (Some (Waited wait Failure)) = Ends (Err ReceiveFailed)
-  move_behind gained (Some (Waited wait heard)) = or_ended (end_in (events_of gained)) (Asks ForTime)
+      (if is_sent_last (events_of gained) then Asks (ToSend asked.request.peer asked.request.octets)
+      else turn_after (turn_wait call.timeout) (waits_in gained))
+  move gained (Some (Posted to octets)) = turn_after (turn_wait call.timeout) (waits_in gained)
+  move gained (Some (Unposted to octets)) = Ends (Err SendFailed)
+  move gained (Some (Waited wait Failure)) = Ends (Err ReceiveFailed)
+  move gained (Some (Waited wait heard)) = or_ended (end_in (events_of gained)) (Asks ForTime)
 
-  -- The next move of a call: what came last is the last of the entries.
-  abbrev pub move : List Entry → Move Comes
-  move gained = move_behind gained (last_or None gained)
-
-  -- The history of the link gained what a call asks, until it comes to this; and its request was accepted.
-  pub record Calls (seen left : Account) (comes : Comes) : Type 0 where
-    pub plays : Plays move seen left comes
-    pub request : IsAccepted (events_of plays.gained)
-
-  module _ {W : Type 0} (contents : W → Option (List ℕ)) (before after : Checked W) (seen left : Account) where
+  module _ {Origin W : Type 0} (contents : W → Option (List ℕ)) (before after : Checked W)
+      (seen left : Account Origin) where
     -- What a call prints, answers, and asks of its link: the line of how the request ended, or a front of it where the
     -- writer failed; after any other fault nothing.
     abbrev pub Tells : Result Exit ToolFault → Type 0
     Tells (Ok exit) = (ending : Option Outcome) × (exit ≡ exit_of purpose ending)
-        × Took contents before after (ending_line purpose ending) × Calls seen left (Ok ending)
+        × Took contents before after (ending_line purpose ending) × Plays move seen left (Ok ending)
     Tells (Err WriteFailed) = (ending : Option Outcome) × TakesFront contents before after (ending_line purpose ending)
-        × Calls seen left (Ok ending)
-    Tells (Err fault) = (after ≡ before) × Calls seen left (Err fault)
+        × Plays move seen left (Ok ending)
+    Tells (Err fault) = (after ≡ before) × Plays move seen left (Err fault)

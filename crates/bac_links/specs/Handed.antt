@@ -2,16 +2,11 @@
 use Rattle.std.specs.Prelude.{List, [], ◌∷◌}
 use Rattle.std.specs.List.{flat_map}
 use Rattle.bac_tsm.specs.Events.{Event, Data, Tick}
-use Rattle.bac_links.specs.History.{Heard, Arrival, Entry, Waited, Timed}
+use Rattle.bac_links.specs.History.{Arrival, Entry, Waited, Timed}
 
--- What the client is handed of a wait: the datagram that was heard, if there was one.
-abbrev pub data_in : Heard → List Event
-data_in (Arrival from octets) = Data from octets ∷ []
-data_in _ = []
-
--- What the client is handed of an entry: what was heard, or the time that was told.
+-- What the client is handed of an entry: the datagram that was heard, or the time that was told.
 abbrev pub handed_of : Entry → List Event
-handed_of (Waited wait heard) = data_in heard
+handed_of (Waited wait (Arrival from octets)) = Data from octets ∷ []
 handed_of (Timed time) = Tick time ∷ []
 handed_of _ = []
 

@@ -1,9 +1,7 @@
--- What a link was made of, and what it was asked and answered, one thing after another.
+-- What a link was asked and answered, one thing after another; and what it was made of.
 use Rattle.std.specs.Prelude.{◌≡◌, ℕ, List, [], ◌∷◌, ◌++◌, Option, Some, None, Result, Ok, Err}
 use Rattle.bac_pdu.specs.declared.peer.Peer.{Peer}
 use Rattle.bac_pdu.specs.Peer.{Station, station}
-use Rattle.bac_links.specs.SystemCall.{SystemCall}
-use Rattle.bac_links.specs.declared.udp.Refused.{Refused}
 
 -- What a receive hears.
 pub data Heard : Type 0 where
@@ -19,30 +17,17 @@ pub data Entry : Type 0 where
   Posted : (to : Station) (octets : List ℕ) → Entry
   Unposted : (to : Station) (octets : List ℕ) → Entry
 
--- What one receive of a link in memory hears, and the time then. A receive that fails leaves the time as it was.
-pub record Scene : Type 0 where
-  pub heard : Heard
-  pub time : Option ℕ
-
--- What a link was made of, which never changes: in memory the scenes that it hears, one after another; over a socket,
--- what becomes of a datagram that is refused, and the calls of the system that the socket had made before. Of another
--- link this is not known.
-pub data Made : Type 0 where
-  OfScenes : (scenes : List Scene) → Made
-  OverSocket : (refused : Refused) (calls : List SystemCall) → Made
-  Unknown : Made
-
--- What contracts see of a link: what it was made of, and all that it was asked and answered.
-pub record Account : Type 0 where
-  pub made : Made
+-- What contracts see of a link: what it was made of, as its kind says it, and all that it was asked and answered.
+pub record Account (Origin : Type 0) : Type 0 where
+  pub made : Origin
   pub history : List Entry
 
 -- The history of a link gains these entries, and it was made of the same.
-abbrev pub GainsAll : List Entry → Account → Account → Type 0
+abbrev pub GainsAll : {Origin : Type 0} → List Entry → Account Origin → Account Origin → Type 0
 GainsAll gained before after = after ≡ record before { history = before.history ++ gained }
 
 -- It gains this one entry.
-abbrev pub Gains : Entry → Account → Account → Type 0
+abbrev pub Gains : {Origin : Type 0} → Entry → Account Origin → Account Origin → Type 0
 Gains entry = GainsAll (entry ∷ [])
 
 -- What is heard where `receive` answers this and leaves these octets in its datagram.

@@ -1,9 +1,9 @@
 -- The scenes that the steps of a link in memory are, and what contracts see of such a link.
-use Rattle.std.specs.Prelude.{ℕ, List, [], map, length, nat_le, if◌then◌else◌, Some, None}
+use Rattle.std.specs.Prelude.{ℕ, List, map, length, nat_le, if◌then◌else◌, Some, None}
 use Rattle.bac_pdu.specs.Peer.{Station, station}
 use Rattle.bac_links.specs.Limits.{longest_datagram}
-use Rattle.bac_links.specs.History.{Heard, Silence, Arrival, Failure, Entry, Scene, Made, OfScenes, Account}
-use Rattle.bac_links.specs.Played.{at_first, ArePlayed, Sending, sendings}
+use Rattle.bac_links.specs.History.{Heard, Silence, Arrival, Failure, Entry, Account}
+use Rattle.bac_links.specs.Played.{Scene, at_first, ArePlayed, Sending, sendings}
 use Rattle.bac_links.specs.declared.memory.Step.{Step}
 use Rattle.bac_links.specs.declared.memory.Step.TheVariants.{Quiet, Packet, Broken}
 use Rattle.bac_links.specs.declared.memory.Kept.{Kept}
@@ -29,25 +29,20 @@ scene_of_kept (kept.Packet time from octets) = record { heard = coming (station 
 scene_of_kept kept.Broken = record { heard = Failure; time = None }
 
 -- The account of a link that was made of these scenes.
-abbrev pub account_of : List Scene → List Entry → Account
-account_of scenes history = record { made = OfScenes scenes; history = history }
+abbrev pub account_of : List Scene → List Entry → Account (List Scene)
+account_of scenes history = record { made = scenes; history = history }
 
 -- The account of a link in memory with these steps, which was asked and answered this.
-abbrev pub account_with : {A : Type 0} → List (Kept A) → List Entry → Account
+abbrev pub account_with : {A : Type 0} → List (Kept A) → List Entry → Account (List Scene)
 account_with steps = account_of (map scene_of_kept steps)
 
--- The scenes that a link was made of, if it is one in memory.
-abbrev pub scenes_of : Made → List Scene
-scenes_of (OfScenes scenes) = scenes
-scenes_of _ = []
-
 -- What a link in memory was asked was answered as its scenes say.
-abbrev pub PlaysItsScenes : Account → Type 0
-PlaysItsScenes account = ArePlayed (at_first (scenes_of account.made)) account.history
+abbrev pub PlaysItsScenes : Account (List Scene) → Type 0
+PlaysItsScenes account = ArePlayed (at_first account.made) account.history
 
 -- What a link in memory has sent, one thing after another.
-abbrev pub sent_by : Account → List Sending
-sent_by account = sendings (at_first (scenes_of account.made)) account.history
+abbrev pub sent_by : Account (List Scene) → List Sending
+sent_by account = sendings (at_first account.made) account.history
 
 abbrev pub sending_of : {A : Type 0} → Record A → Sending
 sending_of r = record { time = r.time; to = station r.to; octets = r.octets.items }

@@ -1,7 +1,12 @@
 -- What a link in memory answers and sends, by the scenes that it was made of and what it was asked so far.
-use Rattle.std.specs.Prelude.{◌≡◌, ℕ, ◌+◌, ◌-◌, ◌^◌, min, List, [], ◌∷◌, ◌++◌, ⊤, unwrap_or}
+use Rattle.std.specs.Prelude.{◌≡◌, ℕ, ◌+◌, ◌-◌, ◌^◌, min, List, [], ◌∷◌, ◌++◌, ⊤, Option, unwrap_or}
 use Rattle.bac_pdu.specs.Peer.{Station}
-use Rattle.bac_links.specs.History.{Heard, Silence, Entry, Waited, Timed, Posted, Scene}
+use Rattle.bac_links.specs.History.{Heard, Silence, Entry, Waited, Timed, Posted}
+
+-- What one receive of a link in memory hears, and the time then. A receive that fails leaves the time as it was.
+pub record Scene : Type 0 where
+  pub heard : Heard
+  pub time : Option ℕ
 
 -- Where a link in memory stands: the scenes that are to come, and its time.
 pub record Stage : Type 0 where

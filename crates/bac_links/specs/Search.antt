@@ -2,7 +2,7 @@
 use Rattle.std.specs.Prelude.{◌≡◌, ℕ, zero, suc, ◌-◌, nat_le, nat_lt, max, ◌==◌, false, List, [], ◌∷◌, ◌++◌, length}
 use Rattle.std.specs.Prelude.{decimal, if◌then◌else◌, Option, Some, None, Result, Ok, Err}
 use Rattle.std.specs.Option.{option_to_list}
-use Rattle.std.specs.List.{flat_map, last_or}
+use Rattle.std.specs.List.{flat_map}
 use Rattle.bac_wire.specs.Steps.{◌>>=◌}
 use Rattle.bac_print.specs.declared.checked.Checked.{Checked}
 use Rattle.bac_print.specs.Checked.{Took}
@@ -42,9 +42,9 @@ found_of who from octets = do
   device ← introduced_in message
   if asks who device.device.instance then Some (record { peer = delivery.peer; device = device }) else None
 
--- The device that a wait finds, if it finds one.
-abbrev pub found_by : WhoIs → Heard → List Found
-found_by who (Arrival from octets) = option_to_list (found_of who from octets)
+-- The device that is found by an entry, if one is.
+abbrev pub found_by : WhoIs → Entry → List Found
+found_by who (Waited wait (Arrival from octets)) = option_to_list (found_of who from octets)
 found_by who _ = []
 
 -- The line that is printed of a device.
@@ -71,14 +71,9 @@ module _ (search : Search) where
   abbrev pub who_is_to : List ℕ
   who_is_to = wrapped (station search.to).route false (laid_out (unconfirmed 8 (who_is_octets search.who)))
 
-  -- The device that is found by this entry, if one is.
-  abbrev pub found_of_entry : Entry → List Found
-  found_of_entry (Waited wait heard) = found_by search.who heard
-  found_of_entry _ = []
-
   -- The devices that the waits among these entries find, in their order.
   abbrev pub found_in : List Entry → List Found
-  found_in = flat_map found_of_entry
+  found_in = flat_map (found_by search.who)
 
   -- Behind a time and so many waits: behind none the Who-Is is due; else the search is over once the timeout has
   -- passed. It is good to have found a device.
@@ -90,19 +85,16 @@ module _ (search : Search) where
       else turn_after (turn_wait search.timeout) (suc n)
 
   -- The next move of a search, behind what came last: the time comes first, and after each wait.
-  abbrev pub search_behind : List Entry → Option Entry → Move (Result Exit ToolFault)
-  search_behind gained None = Asks ForTime
-  search_behind gained (Some (Timed time)) = behind_time gained (waits_in gained)
-  search_behind gained (Some (Posted to octets)) = turn_after (turn_wait search.timeout) (waits_in gained)
-  search_behind gained (Some (Unposted to octets)) = Ends (Err SendFailed)
-  search_behind gained (Some (Waited wait Failure)) = Ends (Err ReceiveFailed)
-  search_behind gained (Some (Waited wait heard)) = Asks ForTime
+  abbrev pub search_move : List Entry → Option Entry → Move (Result Exit ToolFault)
+  search_move gained None = Asks ForTime
+  search_move gained (Some (Timed time)) = behind_time gained (waits_in gained)
+  search_move gained (Some (Posted to octets)) = turn_after (turn_wait search.timeout) (waits_in gained)
+  search_move gained (Some (Unposted to octets)) = Ends (Err SendFailed)
+  search_move gained (Some (Waited wait Failure)) = Ends (Err ReceiveFailed)
+  search_move gained (Some (Waited wait heard)) = Asks ForTime
 
-  -- The next move of a search.
-  abbrev pub search_move : List Entry → Move (Result Exit ToolFault)
-  search_move gained = search_behind gained (last_or None gained)
-
-  module _ {W : Type 0} (contents : W → Option (List ℕ)) (before after : Checked W) (seen left : Account) where
+  module _ {Origin W : Type 0} (contents : W → Option (List ℕ)) (before after : Checked W)
+      (seen left : Account Origin) where
     -- A search that comes to its end, or meets a fault of its link: the lines of the devices that were found.
     pub record IsWhole (result : Result Exit ToolFault) : Type 0 where
       pub plays : Plays search_move seen left result
@@ -116,7 +108,7 @@ module _ (search : Search) where
       pub gains : GainsAll (earlier ++ Waited wait heard ∷ []) seen left
       pub follows : Follows search_move [] (earlier ++ Waited wait heard ∷ [])
       pub last : Found
-      pub finds : found_by search.who heard ≡ last ∷ []
+      pub finds : found_by search.who (Waited wait heard) ≡ last ∷ []
       pub taken : List ℕ
       pub rest : List ℕ
       pub line : found_line last ≡ taken ++ rest

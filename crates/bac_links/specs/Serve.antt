@@ -7,24 +7,19 @@ use Rattle.bac_device.specs.Device.{DeviceState}
 use Rattle.bac_device.specs.Reply.{reply_of, write_in_datagram, with_write}
 use Rattle.bac_device.specs.Turns.{Arrival as Came}
 use Rattle.bac_links.specs.Limits.{serve_wait}
-use Rattle.bac_links.specs.History.{Heard, Arrival, Failure, Entry, Waited, Unposted, Account}
+use Rattle.bac_links.specs.History.{Arrival, Failure, Entry, Waited, Unposted, Account}
 use Rattle.bac_links.specs.Asking.{Move, Asks, Ends, ToSend, Plays, waits_in, turn_after}
 use Rattle.bac_links.specs.declared.fault.ToolFault.{ToolFault}
 use Rattle.bac_links.specs.declared.fault.ToolFault.TheVariants.{SendFailed, ReceiveFailed}
 
--- The datagram that a wait brings, if it brings one.
-abbrev pub came_by : Heard → List Came
-came_by (Arrival from octets) = record { from = from; datagram = octets } ∷ []
+-- The datagram that came by an entry, if one did.
+abbrev pub came_by : Entry → List Came
+came_by (Waited wait (Arrival from octets)) = record { from = from; datagram = octets } ∷ []
 came_by _ = []
-
--- The datagram that came by this entry, if one did.
-abbrev pub came_of_entry : Entry → List Came
-came_of_entry (Waited wait heard) = came_by heard
-came_of_entry _ = []
 
 -- The datagrams that came, in their order.
 abbrev pub arrivals_in : List Entry → List Came
-arrivals_in = flat_map came_of_entry
+arrivals_in = flat_map came_by
 
 -- A device once it has taken a datagram.
 abbrev pub device_next : DeviceState → Came → DeviceState
@@ -59,20 +54,16 @@ module _ (count : ℕ) (device : DeviceState) where
       else turn_after serve_wait (waits_in gained)
 
   -- The next move of a server, behind what came last: the reply to a datagram is sent before the next wait.
-  abbrev pub serve_behind : List Entry → Option Entry → Move (Result ℕ ToolFault)
-  serve_behind gained (Some (Waited wait Failure)) = Ends (Err ReceiveFailed)
-  serve_behind gained (Some (Waited wait (Arrival from octets))) =
+  abbrev pub serve_move : List Entry → Option Entry → Move (Result ℕ ToolFault)
+  serve_move gained (Some (Waited wait Failure)) = Ends (Err ReceiveFailed)
+  serve_move gained (Some (Waited wait (Arrival from octets))) =
       or_reply (last_or None (replies_of device (arrivals_in gained))) (serve_next gained)
-  serve_behind gained (Some (Unposted to octets)) = Ends (Err SendFailed)
-  serve_behind gained _ = serve_next gained
-
-  -- The next move of a server.
-  abbrev pub serve_move : List Entry → Move (Result ℕ ToolFault)
-  serve_move gained = serve_behind gained (last_or None gained)
+  serve_move gained (Some (Unposted to octets)) = Ends (Err SendFailed)
+  serve_move gained _ = serve_next gained
 
 -- What a device that serves over a link answers and sends, and what is left of both, however the server ends and
 -- whatever the link is.
-pub record Serves (count : ℕ) (before after : DeviceState) (seen left : Account) (result : Result ℕ ToolFault) : Type 0
-  where
-    pub plays : Plays (serve_move count before) seen left result
-    pub device : after ≡ device_behind before (arrivals_in plays.gained)
+pub record Serves {Origin : Type 0} (count : ℕ) (before after : DeviceState) (seen left : Account Origin)
+    (result : Result ℕ ToolFault) : Type 0 where
+  pub plays : Plays (serve_move count before) seen left result
+  pub device : after ≡ device_behind before (arrivals_in plays.gained)

@@ -14,7 +14,7 @@ use Rattle.std.specs.declared.net.socket_addr.SocketAddr.TheVariants.{V4, V6}
 use Rattle.bac_pdu.specs.Peer.{Station, station}
 use Rattle.bac_pdu.specs.declared.peer.Peer.{Peer}
 use Rattle.bac_links.specs.History.{Heard, Silence, Arrival, Failure, Entry, Waited, Timed, Posted, Unposted}
-use Rattle.bac_links.specs.History.{Made, OverSocket, Account}
+use Rattle.bac_links.specs.History.{Account}
 use Rattle.bac_links.specs.Limits.{longest_datagram}
 use Rattle.bac_links.specs.SystemCall.{SystemCall, Bind, Limit, SendTo, Receive, Elapsed}
 use Rattle.bac_links.specs.declared.udp.Refused.{Refused}
@@ -129,14 +129,16 @@ module _ (refused : Refused) where
       (first : List SystemCall) × (rest : List SystemCall) × (calls ≡ first ++ rest) × CallsFor waits time entry first
       × AreCallsFor (waits_behind waits entry) (time_behind time entry) later rest
 
+-- What a link over a socket was made of: what becomes of a datagram that is refused, and the calls of the system that
+-- the socket had made before.
+pub record OverSocket : Type 0 where
+  pub refused : Refused
+  pub calls : List SystemCall
+
 -- The account of a link over a socket that had made these calls.
-abbrev pub account_over : Refused → (calls : List SystemCall) → List Entry → Account
-account_over refused calls history = record { made = OverSocket refused calls; history = history }
+abbrev pub account_over : Refused → (calls : List SystemCall) → List Entry → Account OverSocket
+account_over refused calls history = record { made = record { refused = refused; calls = calls }; history = history }
 
 -- Behind the calls that the socket had made before, its log has those for the entries of the history, and no others.
-abbrev pub LogsSince : Made → List Entry → (log : List SystemCall) → Type 0
-LogsSince (OverSocket refused calls) history log = Logs (AreCallsFor refused 0 0 history) calls log
-LogsSince _ history log = ⊥
-
-abbrev pub LogsHistory : Account → (log : List SystemCall) → Type 0
-LogsHistory account = LogsSince account.made account.history
+abbrev pub LogsHistory : Account OverSocket → (log : List SystemCall) → Type 0
+LogsHistory account = Logs (AreCallsFor account.made.refused 0 0 account.history) account.made.calls

@@ -1,7 +1,7 @@
 -- Where a link in memory stands behind all that it was asked.
 use Rattle.std.specs.Prelude.{◌≡◌, ℕ, List, [], ◌∷◌, drop}
-use Rattle.bac_links.specs.History.{Entry, Scene}
-use Rattle.bac_links.specs.Played.{Stage, at_first, behind, ArePlayed, Sending, sendings}
+use Rattle.bac_links.specs.History.{Entry}
+use Rattle.bac_links.specs.Played.{Scene, Stage, at_first, behind, ArePlayed, Sending, sendings}
 
 abbrev pub behind_all : Stage → List Entry → Stage
 behind_all stage [] = stage

@@ -9,7 +9,8 @@ ghost use Rattle.bac_links.specs.Limits.{most_turns, turn_wait};
 ghost use Rattle.bac_links.specs.History.{Heard, Failure, Waited, Timed, Account, GainsAll, Gains};
 ghost use Rattle.bac_links.specs.Fault.{is_link_fault, is_write_fault};
 ghost use Rattle.bac_links.specs.Inner.Ending.{ending_seen};
-ghost use Rattle.bac_links.specs.Call.{Calls, Tells, service_of};
+ghost use Rattle.bac_links.specs.Asking.{Plays};
+ghost use Rattle.bac_links.specs.Call.{Tells, move, service_of};
 ghost use Rattle.bac_links.specs.Inner.CallSteps.{posts, wait_of, endings, GainsLost, heard_step, IsAlone, timeouts};
 ghost use Rattle.bac_links.specs.Inner.CallSteps.{answers, Underway};
 ghost use Rattle.bac_links.specs.declared.ending.Purpose.{Purpose};
@@ -121,7 +122,7 @@ fn begin<L: Link>(purpose: Purpose, call: &Call, link: &mut L) -> Result<Client,
     ensures ok { IfOk result
         (λ client. Underway purpose call.now (L.seen link.old) (L.seen link.new) client 0) }
     ensures err { IfErr result (λ fault. (fault ≡ ToolFault.SendFailed)
-        × Calls purpose call.now (L.seen link.old) (L.seen link.new) (Err ToolFault.SendFailed)) }
+        × Plays (move purpose call.now) (L.seen link.old) (L.seen link.new) (Err ToolFault.SendFailed)) }
 {
     let config = Config {
         timeout: call.timeout,
@@ -156,14 +157,14 @@ fn turn<'d, L: Link>(
     requires { L.has_failed link.old ≡ false }
     ensures fault { L.has_failed link.new ≡ is_link_fault result }
     ensures ok { IfOk result
-        (λ ending. (purpose : Purpose) (call : Call) (seen : Account) (n : ℕ) → wait_ms ≡ wait_of call
+        (λ ending. (purpose : Purpose) (call : Call) (seen : Account L.Origin) (n : ℕ) → wait_ms ≡ wait_of call
         → n < most_turns → Underway purpose call seen (L.seen link.old) client.old n →
         MatchOption ending (Underway purpose call seen (L.seen link.new) client.new (suc n))
-        (λ end. Calls purpose call seen (L.seen link.new) (Ok (ending_seen end)))) }
+        (λ end. Plays (move purpose call) seen (L.seen link.new) (Ok (ending_seen end)))) }
     ensures err { IfErr result (λ fault. (fault ≢ ToolFault.WriteFailed)
-        × ((purpose : Purpose) (call : Call) (seen : Account) (n : ℕ) → wait_ms ≡ wait_of call
+        × ((purpose : Purpose) (call : Call) (seen : Account L.Origin) (n : ℕ) → wait_ms ≡ wait_of call
         → n < most_turns → Underway purpose call seen (L.seen link.old) client.old n →
-        Calls purpose call seen (L.seen link.new) (Err fault))) }
+        Plays (move purpose call) seen (L.seen link.new) (Err fault))) }
 {
     match hear(client, link, wait_ms, datagram) {
         Ok(Some(outcome)) => Ok(Some(Ending::Answered(outcome))),

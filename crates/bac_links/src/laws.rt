@@ -1,8 +1,9 @@
 //! What holds of the definitions that the contracts cite, and of the public types. Each function has an empty body, and
 //! its clauses are the laws.
 
-ghost use Rattle.std.specs.Prelude.{◌≡◌, ◌≢◌, ◌≤◌, ◌+◌, ◌*◌, ◌++◌, ℕ, suc, ⊤, List, Result, Ok, Err};
+ghost use Rattle.std.specs.Prelude.{◌≡◌, ◌≢◌, ◌≤◌, ◌+◌, ◌*◌, ◌++◌, ℕ, suc, ⊤, List, length, Result, Ok, Err};
 ghost use Rattle.bac_wire.specs.Copies.{MakesCopies, EqualsBy};
+ghost use Rattle.bac_pdu.specs.Apdu.{longest_body};
 ghost use Rattle.bac_device.specs.Places.{Write as Change};
 ghost use Rattle.bac_device.specs.Device.{DeviceState, points_of, Holds};
 ghost use Rattle.bac_device.specs.Turns.{AreDefined};
@@ -13,7 +14,7 @@ ghost use Rattle.bac_links.specs.Limits.{longest_datagram};
 ghost use Rattle.bac_links.specs.History.{Entry, Account};
 ghost use Rattle.bac_links.specs.Answered.{AskAlike, OneText};
 ghost use Rattle.bac_links.specs.Asking.{waits_in};
-ghost use Rattle.bac_links.specs.Call.{Tells};
+ghost use Rattle.bac_links.specs.Call.{IsAccepted, Tells, events_of};
 ghost use Rattle.bac_links.specs.Memory.{PlaysItsScenes};
 ghost use Rattle.bac_links.specs.Progress.{AreTold, ArePrompt};
 ghost use Rattle.bac_links.specs.Search.{Searched};
@@ -28,22 +29,21 @@ use crate::ending::{Exit, Purpose as Aim};
 use crate::fault::ToolFault;
 use crate::link::{Link, LinkFault};
 use crate::memory::{MemoryLink, Step};
-use crate::socket::Socket;
-use crate::udp::{Refused, UdpLink};
+use crate::udp::{Refused, Socket, UdpLink};
 use std::alloc::Allocator;
 use std::io::Write;
 
 /// However a server ends, and whatever its link is, the device has its info and its points as before.
-pub fn a_server_keeps_its_points()
-    ensures { (count : ℕ) (before after : DeviceState) (seen left : Account) (result : Result ℕ Fault)
+pub fn a_server_keeps_its_points<L: Link>()
+    ensures { (count : ℕ) (before after : DeviceState) (seen left : Account L.Origin) (result : Result ℕ Fault)
         → Serves count before after seen left result
         → (after.info ≡ before.info) × (points_of after ≡ points_of before) }
 {}
 
 /// For any writes that leave the points as they stand in the device before, the replies of a server are those of the
 /// definition; and however it ends, the points stand afterwards as the writes that it accepted leave them.
-pub fn a_server_replies_as_defined()
-    ensures { (count : ℕ) (before after : DeviceState) (seen left : Account) (result : Result ℕ Fault)
+pub fn a_server_replies_as_defined<L: Link>()
+    ensures { (count : ℕ) (before after : DeviceState) (seen left : Account L.Origin) (result : Result ℕ Fault)
         (gained : List Entry) (writes : List Change)
         → Serves count before after seen left result → left.history ≡ seen.history ++ gained → Holds before writes
         → AreDefined before writes (arrivals_in gained) (replies_of before (arrivals_in gained)) after }
@@ -52,17 +52,27 @@ pub fn a_server_replies_as_defined()
 /// No call waits for ever. Take any clock whose times are those that the link told, as the link's own: where by it no
 /// turn takes longer than so long, the call ends, its last wait with it, within the timeout and so long, for each time
 /// that the request is sent (clause 5.4.4).
-pub fn a_call_ends_in_time<W: Write>()
-    ensures { (purpose : Purpose) (call : Call) (before after : Checked W) (seen left : Account)
+pub fn a_call_ends_in_time<L: Link, W: Write>()
+    ensures { (purpose : Purpose) (call : Call) (before after : Checked W) (seen left : Account L.Origin)
         (result : Result Ended Fault) (gained : List Entry) (time_behind : ℕ → ℕ) (longest : ℕ)
         → Tells purpose call W.contents before after seen left result → left.history ≡ seen.history ++ gained
         → AreTold time_behind 0 gained → ArePrompt time_behind longest (waits_in gained)
         → time_behind (waits_in gained) ≤ time_behind 0 + suc call.retries * (call.timeout + longest) }
 {}
 
+/// Among the events of a call, whatever it comes to, the look-ahead accepts one request, that of the call. So what is
+/// proved of a request that is accepted holds of it. Its body is short enough: `as_slice` says so of each that the code
+/// has.
+pub fn a_call_is_accepted<L: Link, W: Write>()
+    ensures { (purpose : Purpose) (call : Call) (before after : Checked W) (seen left : Account L.Origin)
+        (result : Result Ended Fault) (gained : List Entry) → length call.body.items ≤ longest_body
+        → Tells purpose call W.contents before after seen left result → left.history ≡ seen.history ++ gained
+        → IsAccepted purpose call (events_of purpose call gained) }
+{}
+
 /// No call ends with an exit over a link, a socket or another, whose history gained nothing.
-pub fn no_call_ends_unheard<W: Write>()
-    ensures { (purpose : Purpose) (call : Call) (before after : Checked W) (seen : Account) (exit : Ended)
+pub fn no_call_ends_unheard<L: Link, W: Write>()
+    ensures { (purpose : Purpose) (call : Call) (before after : Checked W) (seen : Account L.Origin) (exit : Ended)
         → Tells purpose call W.contents before after seen seen (Ok exit) → ⊥ }
 {}
 
@@ -70,19 +80,20 @@ pub fn no_call_ends_unheard<W: Write>()
 /// and into any two writers. As far as they were answered alike, they asked alike; then they ask the same next, or both
 /// are over. Where neither writer failed they ended alike, and both printed the same line; where one failed, it took a
 /// front of that line.
-pub fn a_call_is_a_function<V: Write, W: Write>()
+pub fn a_call_is_a_function<K: Link, L: Link, V: Write, W: Write>()
     ensures { (purpose : Purpose) (call : Call) (before after : Checked V) (other_before other_after : Checked W)
-        → AskAlike (Tells purpose call V.contents before after) (Tells purpose call W.contents other_before other_after)
-        (λ result. ⊥)
+        → AskAlike K.Origin L.Origin (Tells purpose call V.contents before after)
+        (Tells purpose call W.contents other_before other_after) (λ result. ⊥)
         (λ result other. result ≢ Err Fault.WriteFailed → other ≢ Err Fault.WriteFailed → result ≡ other)
         (OneText V.contents before after W.contents other_before other_after) }
 {}
 
 /// A search is a function of what it is for and of what its link answers, in the same sense as a call; it stops before
 /// the other only where its writer failed, and then it printed a front of what the other printed.
-pub fn a_search_is_a_function<V: Write, W: Write>()
+pub fn a_search_is_a_function<K: Link, L: Link, V: Write, W: Write>()
     ensures { (search : Search) (before after : Checked V) (other_before other_after : Checked W)
-        → AskAlike (Searched search V.contents before after) (Searched search W.contents other_before other_after)
+        → AskAlike K.Origin L.Origin (Searched search V.contents before after)
+        (Searched search W.contents other_before other_after)
         (λ result. result ≡ Err Fault.WriteFailed) (λ result other. result ≡ other)
         (OneText V.contents before after W.contents other_before other_after) }
 {}
@@ -91,9 +102,9 @@ pub fn a_search_is_a_function<V: Write, W: Write>()
 /// Take two servers of as many, over any two links and over devices in the same state. As far as they were answered
 /// alike, they asked and sent alike; then they do the same next, or both are over with the same answer, and afterwards
 /// the devices are in the same state.
-pub fn a_server_is_a_function()
+pub fn a_server_is_a_function<K: Link, L: Link>()
     ensures { (count : ℕ) (before after other_after : DeviceState)
-        → AskAlike (Serves count before after) (Serves count before other_after) (λ result. ⊥)
+        → AskAlike K.Origin L.Origin (Serves count before after) (Serves count before other_after) (λ result. ⊥)
         (λ result other. (result ≡ other) × (after ≡ other_after)) (λ result other. ⊤) }
 {}
 

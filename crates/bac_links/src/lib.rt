@@ -29,7 +29,6 @@ mod log;
 mod memory;
 mod search;
 mod serving;
-mod socket;
 mod udp;
 
 pub use call::{run_read, run_write};
@@ -41,5 +40,4 @@ pub use log::{CallNote, Log};
 pub use memory::{MemoryLink, Step};
 pub use search::run_whois;
 pub use serving::serve;
-pub use socket::{Socket, SystemSocket};
-pub use udp::{Refused, UdpLink};
+pub use udp::{Refused, Socket, SystemSocket, UdpLink};

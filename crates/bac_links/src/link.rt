@@ -16,8 +16,11 @@ pub struct LinkFault;
 
 /// What sends and receives datagrams, and knows the time. Once a send or a receive has failed, neither is called again.
 pub trait Link {
-    // What the link was made of, and what it was asked and answered so far.
-    ghost seen: { Self → Account };
+    // What a link of this kind is made of.
+    ghost Origin: { Type 0 } = { Unit {0} };
+
+    // What the link was made of, which never changes, and what it was asked and answered so far.
+    ghost seen: { Self → Account Origin };
 
     // A send or a receive has failed.
     ghost has_failed: { Self → Bool };

@@ -1,13 +1,13 @@
 //! A link in memory.
 ghost use Rattle.std.specs.Prelude.{◌≡◌, ◌++◌, ◌∷◌, [], false, length, map, IfOk, OnOk, OnErr, is_err, slice_get};
-ghost use Rattle.std.specs.Prelude.{IfNone, IfSome, IsTrue, MatchOption, Some, None};
+ghost use Rattle.std.specs.Prelude.{IfNone, IfSome, IsTrue, List, MatchOption, Some, None};
 ghost use Rattle.std.specs.Option.{option_flatten, option_to_list};
 ghost use Rattle.std.specs.Result.{result_ok};
 ghost use Rattle.bac_pdu.specs.Peer.{station};
 ghost use Rattle.bac_links.specs.History.{heard_by, Waited, Timed, Gains, posted};
 ghost use Rattle.bac_links.specs.Memory.{account_of, account_with, scene_of_step, scene_of_kept, sent_by, sending_of};
 ghost use Rattle.bac_links.specs.Memory.{unrouted};
-ghost use Rattle.bac_links.specs.Played.{heard_next, behind_wait};
+ghost use Rattle.bac_links.specs.Played.{Scene, heard_next, behind_wait};
 ghost use Rattle.bac_links.specs.Stands.{Stands};
 
 use crate::datagram::Datagram;
@@ -104,6 +104,8 @@ impl<A: Allocator> MemoryLink<A> {
 }
 
 impl<A: Allocator + Copy> Link for MemoryLink<A> {
+    ghost Origin = { List Scene };
+
     ghost seen = { λ link. account_with link.steps.items link.history.entries };
 
     ghost has_failed = { λ link. link.failed };

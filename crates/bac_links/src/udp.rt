@@ -1,27 +1,30 @@
-//! A link over a UDP socket.
-ghost use Rattle.std.specs.Prelude.{◌≡◌, ◌≢◌, ◌+◌, ◌*◌, ◌++◌, [], None, IfOk, IfNone, IfSome, MatchOption, OnOk, OnErr};
-ghost use Rattle.std.specs.Prelude.{length, Ok, false, is_ok, is_err, max, vec_len};
+//! A link over a UDP socket, and the socket.
+ghost use Rattle.std.specs.Prelude.{◌≡◌, ◌≢◌, ◌≤◌, ◌+◌, ◌*◌, ◌∷◌, ◌++◌, [], None, IfOk, IfNone, IfSome, MatchOption};
+ghost use Rattle.std.specs.Prelude.{OnOk, OnErr, length, Ok, false, is_ok, is_err, max, take, vec_len};
 ghost use Rattle.std.specs.Duration.{as_nanos};
+ghost use Rattle.std.specs.Io.{WritesAtMost};
+ghost use Rattle.std.specs.IoError.{error_kind};
 ghost use Rattle.std.specs.Option.{option_flatten};
-ghost use Rattle.std.specs.Result.{result_ok};
+ghost use Rattle.std.specs.Result.{result_ok, result_map_both};
 ghost use Rattle.bac_pdu.specs.Peer.{station};
 ghost use Rattle.bac_links.specs.Limits.{longest_datagram};
 ghost use Rattle.bac_links.specs.History.{heard_by, Waited, Timed, Gains, posted};
 ghost use Rattle.bac_links.specs.Socket.{IsAddressOf, heard_from, is_quiet, peer_at, time_by};
-ghost use Rattle.bac_links.specs.Socket.{Logs, Binds, Sends, Times, Waits, limits, account_over};
+ghost use Rattle.bac_links.specs.Socket.{Logs, Binds, Sends, Times, Waits, OverSocket, limits, account_over};
+ghost use Rattle.bac_links.specs.SystemCall.{Bind, Limit, SendTo, Receive, Elapsed};
 ghost use Rattle.bac_links.specs.Keeps.{Keeps};
 
 use crate::datagram::{DATAGRAM_OCTETS, Datagram};
 use crate::history::History;
 use crate::link::{Link, LinkFault};
-use crate::socket::{Socket, SystemSocket};
+use crate::log::{CallNote, Log};
 use bac_pdu::Peer;
 use std::alloc::Global;
 use std::io;
 use std::io::ErrorKind;
-use std::net::{Ipv4Addr, Net, SocketAddr, SocketAddrV4};
+use std::net::{Ipv4Addr, Net, SocketAddr, SocketAddrV4, UdpSocket};
 use std::snapshot::Snapshot;
-use std::time::{Clock, Duration};
+use std::time::{Clock, Duration, Instant};
 
 // One octet more than a datagram may have, so that a longer one is seen.
 const BUFFER_OCTETS: usize = DATAGRAM_OCTETS + 1;
@@ -115,6 +118,8 @@ impl<S: Socket + Drop> UdpLink<S> {
 }
 
 impl<S: Socket + Drop> Link for UdpLink<S> {
+    ghost Origin = { OverSocket };
+
     ghost seen = { λ link. account_over link.refused (S.log link.made_of.value) link.history.entries };
 
     ghost has_failed = { λ link. link.failed };
@@ -300,5 +305,104 @@ fn time_by(passed: io::Result<Duration>, before: u64) -> u64
     match passed {
         Ok(passed) => u64::try_from(passed.as_millis()).unwrap_or(u64::MAX),
         Err(_) => before,
+    }
+}
+
+/// A UDP socket and its clock, which remember what they were asked and answered. Each method is one call of the system.
+pub trait Socket {
+    ghost use Rattle.std.specs.Prelude.{List};
+    ghost use Rattle.bac_links.specs.SystemCall.{SystemCall};
+
+    // The calls of the system so far.
+    ghost log: { Self → List SystemCall };
+
+    /// A receive waits at most so long from now on.
+    fn set_read_timeout(&mut self, limit: Duration) -> io::Result<()>
+        ensures { log self.new ≡ log self.old ++ Limit (as_nanos limit) (is_ok result) ∷ [] };
+
+    /// Sends a datagram to this address, and tells how many octets went.
+    fn send_to(&mut self, octets: &[u8], to: SocketAddr) -> io::Result<usize>
+        ensures bound { WritesAtMost result octets.now }
+        ensures log { log self.new ≡ log self.old ++ SendTo octets.now to (result_ok result) ∷ [] };
+
+    /// Waits for a datagram, puts as much of it there as there is room for, and tells how much and from where it came.
+    fn recv_from(&mut self, room: &mut [u8]) -> io::Result<(usize, SocketAddr)>
+        ensures within { IfOk result (λ came. came.0 ≤ length room.new) }
+        ensures log { log self.new ≡ log self.old ++ Receive (length room.old)
+            (result_map_both (λ came. (take came.0 room.new, came.1)) error_kind result) ∷ [] };
+
+    /// How long ago the socket was made.
+    fn elapsed(&mut self) -> io::Result<Duration>
+        ensures { log self.new ≡ log self.old ++ Elapsed (result_ok result) ∷ [] };
+}
+
+/// A UDP socket of the system, and its clock.
+///
+/// This is what is trusted of a socket: that each of these five functions makes the one call of `std` which has its
+/// name, with its own arguments, notes that, and answers what it answered.
+#[derive(Drop)]
+pub struct SystemSocket<R: Clock + Drop> {
+    rt: R,
+    socket: UdpSocket,
+    made: Instant,
+    log: Log,
+}
+
+impl<R: Net + Clock + Clone + Drop> SystemSocket<R> {
+    // A socket at this address, or at a free port of it where the port is 0. It keeps a duplicate of the one that was
+    // bound, whose descriptor is past those of the standard streams, also where one of these is closed.
+    fn bind(rt: &R, at: SocketAddr) -> Result<Self, LinkFault>
+        ensures { IfOk result (λ socket. socket.log.calls ≡ Bind at ∷ []) }
+    {
+        let bound = UdpSocket::bind(rt, at).map_err(|_| LinkFault)?;
+        Ok(SystemSocket {
+            socket: bound.try_clone().map_err(|_| LinkFault)?,
+            made: Instant::now(rt).map_err(|_| LinkFault)?,
+            rt: rt.clone().map_err(|_| LinkFault)?,
+            log: Log::new().and(&CallNote::Bind(at)),
+        })
+    }
+}
+
+impl<R: Clock + Drop> Socket for SystemSocket<R> {
+    ghost log = { λ socket. socket.log.calls };
+
+    fn set_read_timeout(&mut self, limit: Duration) -> io::Result<()>
+        ensures log { self.new.log.calls ≡ self.old.log.calls ++ Limit (as_nanos limit) (is_ok result) ∷ [] }
+        ensures left { self.new ≡ record self.old { log = self.new.log } }
+    {
+        let done = self.socket.set_read_timeout(Some(limit));
+        self.log = self.log.and(&CallNote::Limit(limit, &done));
+        done
+    }
+
+    fn send_to(&mut self, octets: &[u8], to: SocketAddr) -> io::Result<usize>
+        ensures bound { WritesAtMost result octets.now }
+        ensures log { self.new.log.calls ≡ self.old.log.calls ++ SendTo octets.now to (result_ok result) ∷ [] }
+        ensures left { self.new ≡ record self.old { log = self.new.log } }
+    {
+        let sent = self.socket.send_to(octets, to);
+        self.log = self.log.and(&CallNote::SendTo(octets, to, &sent));
+        sent
+    }
+
+    fn recv_from(&mut self, room: &mut [u8]) -> io::Result<(usize, SocketAddr)>
+        ensures within { IfOk result (λ came. came.0 ≤ length room.new) }
+        ensures log { self.new.log.calls ≡ self.old.log.calls ++ Receive (length room.old)
+            (result_map_both (λ came. (take came.0 room.new, came.1)) error_kind result) ∷ [] }
+        ensures left { self.new ≡ record self.old { log = self.new.log } }
+    {
+        let came = self.socket.recv_from(room);
+        self.log = self.log.and(&CallNote::Receive(room, &came));
+        came
+    }
+
+    fn elapsed(&mut self) -> io::Result<Duration>
+        ensures log { self.new.log.calls ≡ self.old.log.calls ++ Elapsed (result_ok result) ∷ [] }
+        ensures left { self.new ≡ record self.old { log = self.new.log } }
+    {
+        let passed = self.made.elapsed(&self.rt);
+        self.log = self.log.and(&CallNote::Elapsed(&passed));
+        passed
     }
 }

@@ -58,8 +58,9 @@ is_printed : {X : Type 0} (shown : X → Option (List ℕ)) (writer : X) (wrote 
 is_printed shown writer wrote text (Err WriteFailed) (taken, rest, e, took) = inr (tt, (rest, cc (e, took.passed)))
 is_printed shown writer wrote text _ took = inl took.passed
 
-module _ {V W : Type 0} (contents : V → Option (List ℕ)) (contents' : W → Option (List ℕ)) (writer : V) (writer' : W)
-    (wrote : Checked V) (wrote' : Checked W) (seen left seen' left' : Account) (answer answer' : Result Exit ToolFault)
+module _ {Origin Other V W : Type 0} (contents : V → Option (List ℕ)) (contents' : W → Option (List ℕ)) (writer : V)
+    (writer' : W) (wrote : Checked V) (wrote' : Checked W) (seen left : Account Origin) (seen' left' : Account Other)
+    (answer answer' : Result Exit ToolFault)
     (first rest first' rest' : List Entry) (gains : left.history ≡ seen.history ++ (first ++ rest))
     (gains' : left'.history ≡ seen'.history ++ (first' ++ rest')) (same : answers_of first ≡ answers_of first')
     (Refused : Type 0) where
@@ -159,8 +160,8 @@ not_refused _ (Help e) refusal taken = absurd (rw taken at refusal.1)
 not_refused _ (Words e) refusal taken = absurd (rw taken at refusal.1)
 not_refused _ _ refusal _ = absurd refusal
 
-none_gained : {L : Type 0} (seen : L → Account) (opened opened' : Option (Result L LinkFault)) (gained : List Entry)
-    → opened ≡ None → Gained seen opened opened' gained → gained ≡ []
+none_gained : {Origin L : Type 0} (seen : L → Account Origin) (opened opened' : Option (Result L LinkFault))
+    (gained : List Entry) → opened ≡ None → Gained seen opened opened' gained → gained ≡ []
 none_gained seen None opened' gained e gains = gains
 none_gained seen (Some socket) opened' gained e gains = cc
 
@@ -174,8 +175,9 @@ none_answered (x ∷ xs) e = cc
 
 -- ---- two runs
 
-module _ {N L R W M K S V : Type 0} {gives : N → Binding → Result L LinkFault → Type 0} {out : Outside L R W}
-    {gives' : M → Binding → Result K LinkFault → Type 0} {out' : Outside K S V} {words : List Text}
+module _ {N Origin L R W M Other K S V : Type 0} {gives : N → Binding → Result L LinkFault → Type 0}
+    {out : Outside Origin L R W} {gives' : M → Binding → Result K LinkFault → Type 0} {out' : Outside Other K S V}
+    {words : List Text}
     (one : Run gives out words) (other : Run gives' out' words) (first rest first' rest' : List Entry)
     (h : AreGivenAlike one other first rest first' rest') where
   abbrev GoesOn : Report → Report → List Entry → List Entry → Type 0

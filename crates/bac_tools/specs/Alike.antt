@@ -26,8 +26,8 @@ abbrev pub is_socket : {L : Type 0} → Option (Result L LinkFault) → Bool
 is_socket opened = is_some (option_and_then result_ok opened)
 
 -- What the socket that the network gave was asked and answered since then.
-abbrev pub Gained : {L : Type 0} → (L → Account) → Option (Result L LinkFault) → Option (Result L LinkFault)
-    → List Entry → Type 0
+abbrev pub Gained : {Origin L : Type 0} → (L → Account Origin) → Option (Result L LinkFault)
+    → Option (Result L LinkFault) → List Entry → Type 0
 Gained seen (Some (Ok link)) (Some (Ok link')) gained = (seen link').history ≡ (seen link).history ++ gained
 Gained seen opened opened' gained = gained ≡ []
 
@@ -47,8 +47,8 @@ abbrev pub IsPrinted : (printed text : List ℕ) → Report → Type 0
 IsPrinted printed text report = (printed ≡ text) ⊎ (IsCutOff report × IsFrontOf printed text)
 
 -- A whole run with these words, and what its socket was asked and answered.
-pub record Run {N L R W : Type 0} (gives : N → Binding → Result L LinkFault → Type 0) (out : Outside L R W)
-    (words : List Text) : Type 0 where
+pub record Run {N Origin L R W : Type 0} (gives : N → Binding → Result L LinkFault → Type 0)
+    (out : Outside Origin L R W) (words : List Text) : Type 0 where
   pub network : N
   pub reader : R
   pub reader' : Checked R
@@ -59,8 +59,9 @@ pub record Run {N L R W : Type 0} (gives : N → Binding → Result L LinkFault 
   pub gained : List Entry
   pub gains : Gained out.seen program.opened ran.socket gained
 
-module _ {N L R W M K S V : Type 0} {gives : N → Binding → Result L LinkFault → Type 0} {out : Outside L R W}
-    {gives' : M → Binding → Result K LinkFault → Type 0} {out' : Outside K S V} {words : List Text}
+module _ {N Origin L R W M Other K S V : Type 0} {gives : N → Binding → Result L LinkFault → Type 0}
+    {out : Outside Origin L R W} {gives' : M → Binding → Result K LinkFault → Type 0} {out' : Outside Other K S V}
+    {words : List Text}
     (one : Run gives out words) (other : Run gives' out' words) where
   -- Where neither was cut off they have the same report; but where `clap` does not take the words, each tells of help,
   -- or of words that are refused, by an error that `clap` may give at these.

@@ -4,8 +4,8 @@ use Rattle.bac_links.specs.History.{Account}
 
 -- What is seen of a link: what it was asked, and whether it has failed; the octets that a reader has left, and those
 -- of a writer, where they are known.
-pub record Outside (L R W : Type 0) : Type 0 where
-  pub seen : L → Account
+pub record Outside (Origin L R W : Type 0) : Type 0 where
+  pub seen : L → Account Origin
   pub failed : L → Bool
   pub remaining : R → Option (List ℕ)
   pub contents : W → Option (List ℕ)

@@ -30,7 +30,8 @@ use Rattle.bac_tools.specs.declared.report.Report.{Report}
 abbrev pub texts_of : {Z : Type 0} → Result (IntoIter (String Z) Z) Error → Result (List Text) ErrorKind
 texts_of typed = result_map_both (λ words. map string_bytes (into_iter_items words)) error_kind typed
 
-module _ {N L R W : Type 0} (gives : N → Binding → Result L LinkFault → Type 0) (out : Outside L R W) where
+module _ {N Origin L R W : Type 0} (gives : N → Binding → Result L LinkFault → Type 0)
+    (out : Outside Origin L R W) where
   -- What the network gives where a socket is asked for.
   abbrev pub IsGiven : N → Option Binding → Option (Result L LinkFault) → Type 0
   IsGiven network None opened = opened ≡ None

@@ -29,7 +29,8 @@ use Rattle.bac_tools.specs.declared.report.Fault.TheVariants as faults
 use Rattle.bac_tools.specs.declared.report.Report.{Report}
 
 -- A demonstration device: its replies to the datagrams that come. However many they are, its exit is good.
-pub record DevicePlays (serve : Serve) (seen left : Account) (answer : Result Exit ToolFault) : Type 0 where
+pub record DevicePlays {Origin : Type 0} (serve : Serve) (seen left : Account Origin) (answer : Result Exit ToolFault)
+    : Type 0 where
   pub device : DeviceState
   pub served : Result ℕ ToolFault
   pub serves : Serves serve.count (device_after serve.info demo_points []) device seen left served
@@ -37,8 +38,8 @@ pub record DevicePlays (serve : Serve) (seen left : Account) (answer : Result Ex
 
 -- ---- the tools over a link: what each does to its writer and its link, and its answer
 
-module _ {W : Type 0} (contents : W → Option (List ℕ)) (writer writer' : Checked W) (seen left : Account)
-    (answer : Result Exit ToolFault) where
+module _ {Origin W : Type 0} (contents : W → Option (List ℕ)) (writer writer' : Checked W)
+    (seen left : Account Origin) (answer : Result Exit ToolFault) where
   -- A request tells its events, its sends, its end and the line of that, by the look-ahead; a search the devices that
   -- it finds, and their lines; a device its replies, and it prints nothing.
   abbrev pub ToolRuns : Job → Type 0
@@ -50,7 +51,7 @@ module _ {W : Type 0} (contents : W → Option (List ℕ)) (writer writer' : Che
 
 -- ---- the whole
 
-module _ {L R W : Type 0} (out : Outside L R W) (reader reader' : Checked R) (writer writer' : Checked W)
+module _ {Origin L R W : Type 0} (out : Outside Origin L R W) (reader reader' : Checked R) (writer writer' : Checked W)
     (report : Report) where
   -- A job was run over a link: the report is that of the tool's answer. Link and writer have failed exactly where it is
   -- their fault.

@@ -1,23 +1,39 @@
 -- One turn of a call, by the steps of the client.
-use Rattle.std.specs.Prelude.{◌≡◌, ℕ, ◌≤◌, Bool, true, false, List, [], ◌∷◌, ◌++◌, length, Option, Some, None}
+use Rattle.std.specs.Prelude.{◌≡◌, ℕ, ◌-◌, ◌≤◌, Bool, true, false, List, [], ◌∷◌, ◌++◌, length, Option, Some, None}
 use Rattle.std.specs.List.{All, flat_map}
 use Rattle.bac_pdu.specs.Peer.{Station, station}
 use Rattle.bac_tsm.specs.Events.{Outcome, Data, Event, Ask, Tick, Note, Sent, Refused, Done, Dropped, TimedOut, Rules}
 use Rattle.bac_tsm.specs.Machine.{State, Waiting, Stepped, step}
 use Rattle.bac_tsm.specs.Laws.{state_at}
+use Rattle.bac_tsm.specs.Lookahead.{send_notes}
 use Rattle.bac_pdu.specs.Apdu.{longest_body}
 use Rattle.bac_tsm.specs.Client.{Client}
 use Rattle.bac_links.specs.History.{Heard, Silence, Arrival, Failure, Entry, Timed, Posted, Unposted, Account, GainsAll}
-use Rattle.bac_links.specs.Asking.{Follows, waits_in, turn_after}
+use Rattle.bac_links.specs.Asking.{Move, Asks, question_of, Follows, next_move, waits_in, turn_after}
 use Rattle.bac_links.specs.Handed.{handed}
 use Rattle.bac_links.specs.Limits.{turn_wait}
-use Rattle.bac_links.specs.Call.{service_of, rules_for, post_in, end_in, move}
+use Rattle.bac_links.specs.Call.{Comes, service_of, rules_for, asked, end_in, move}
 use Rattle.bac_links.specs.declared.ending.Purpose.{Purpose}
 use Rattle.bac_text.specs.declared.jobs.Call.{Call}
+
+-- The send in a note.
+abbrev pub post_in : Note → List Entry
+post_in (Sent ticket peer octets) = Posted peer octets ∷ []
+post_in _ = []
 
 -- The sends among notes.
 abbrev pub posts : List Note → List Entry
 posts = flat_map post_in
+
+-- What is sent of the request of a call at the last of these events.
+abbrev pub sent_last : Purpose → Call → List Event → List Entry
+sent_last purpose call events =
+    posts (send_notes (rules_for call) events (length events - 1) (asked purpose call))
+
+-- Where a send is due it is asked for.
+abbrev pub or_sent : List Entry → Move Comes → Move Comes
+or_sent (send ∷ more) other = Asks (question_of send)
+or_sent [] other = other
 
 -- How long a turn waits.
 abbrev pub wait_of : Call → ℕ
@@ -40,7 +56,7 @@ abbrev pub endings : List Note → List (Option Outcome)
 endings = flat_map ending_in
 
 -- These notes are one send, which the link could not make.
-abbrev pub GainsLost : List Note → List Entry → Account → Account → Type 0
+abbrev pub GainsLost : {Origin : Type 0} → List Note → List Entry → Account Origin → Account Origin → Type 0
 GainsLost notes gained before after =
     (to : Station) × (octets : List ℕ) × (posts notes ≡ Posted to octets ∷ [])
     × GainsAll (gained ++ Unposted to octets ∷ []) before after
@@ -82,11 +98,12 @@ pub record CarriesOn (purpose : Purpose) (call : Call) (time : ℕ) (later : Lis
   }
 
 -- The history of a link gained what a call asks in n turns, with its request open.
-pub record Underway (purpose : Purpose) (call : Call) (seen left : Account) (client : Client) (n : ℕ) : Type 0 where
+pub record Underway {Origin : Type 0} (purpose : Purpose) (call : Call) (seen left : Account Origin) (client : Client)
+    (n : ℕ) : Type 0 where
   pub time : ℕ
   pub more : List Entry
   pub gains : GainsAll (Timed time ∷ more) seen left
   pub carried : CarriesOn purpose call time (handed more) client
   pub follows : Follows (move purpose call) [] (Timed time ∷ more)
-  pub next : move purpose call (Timed time ∷ more) ≡ turn_after (wait_of call) n
+  pub next : next_move (move purpose call) (Timed time ∷ more) ≡ turn_after (wait_of call) n
   pub turns : waits_in more ≡ n

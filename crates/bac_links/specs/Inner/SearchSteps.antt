@@ -22,16 +22,18 @@ abbrev pub has_found : List Found → Bool
 has_found found = nat_lt 0 (length found)
 
 -- What a wait hears, and what is printed of that.
-abbrev pub Listens : {W : Type 0} → WhoIs → ℕ → (W → Option (List ℕ)) → Checked W → Checked W → Account → Account
-    → Result Bool ToolFault → Type 0
+abbrev pub Listens : {Origin W : Type 0} → WhoIs → ℕ → (W → Option (List ℕ)) → Checked W → Checked W → Account Origin
+    → Account Origin → Result Bool ToolFault → Type 0
 Listens who wait contents before after seen left (Ok any) =
     (heard : Heard) × Gains (Waited wait heard) seen left × (heard ≢ Failure)
-    × (any ≡ has_found (found_by who heard)) × Took contents before after (found_lines (found_by who heard))
+    × (any ≡ has_found (found_by who (Waited wait heard)))
+    × Took contents before after (found_lines (found_by who (Waited wait heard)))
 Listens who wait contents before after seen left (Err SendFailed) = ⊥
 Listens who wait contents before after seen left (Err ReceiveFailed) = Gains (Waited wait Failure) seen left
     × Took contents before after []
 Listens who wait contents before after seen left (Err TurnsSpent) = ⊥
 Listens who wait contents before after seen left (Err WriteFailed) =
     (heard : Heard) × Gains (Waited wait heard) seen left
-    × (last : Found) × (found_by who heard ≡ last ∷ []) × (taken rest : List ℕ) × (found_line last ≡ taken ++ rest)
+    × (last : Found) × (found_by who (Waited wait heard) ≡ last ∷ []) × (taken rest : List ℕ)
+    × (found_line last ≡ taken ++ rest)
     × Took contents before after taken

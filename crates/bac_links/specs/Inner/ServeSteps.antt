@@ -4,6 +4,7 @@ use Rattle.std.specs.Option.{option_to_list}
 use Rattle.std.specs.List.{flat_map}
 use Rattle.bac_pdu.specs.Peer.{Station}
 use Rattle.bac_device.specs.Device.{DeviceState}
+use Rattle.bac_device.specs.Turns.{Arrival as Came}
 use Rattle.bac_links.specs.Limits.{serve_wait}
 use Rattle.bac_links.specs.History.{Heard, Failure, Entry, Waited, Posted, Unposted, Account, GainsAll, Gains}
 use Rattle.bac_links.specs.Serve.{came_by, device_behind, replies_of, reply_count}
@@ -23,24 +24,29 @@ replied_in Nothing = 0
 replied_in Ignored = 0
 replied_in Answered = 1
 
+-- The datagram that a wait brings which heard this, if it brings one.
+abbrev pub brought_by : Heard → List Came
+brought_by heard = came_by (Waited serve_wait heard)
+
 -- A wait that heard this leaves this device.
 abbrev pub LeavesDevice : DeviceState → Heard → DeviceState → Type 0
-LeavesDevice before heard after = after ≡ device_behind before (came_by heard)
+LeavesDevice before heard after = after ≡ device_behind before (brought_by heard)
 
 -- The sends of these replies.
 abbrev pub sends_of : List (Option (Station × List ℕ)) → List Entry
 sends_of replies = map (λ (reply : Station × List ℕ). Posted reply.0 reply.1) (flat_map option_to_list replies)
 
 -- One wait, and the answer to what it brought.
-abbrev pub ServesOne : DeviceState → DeviceState → Account → Account → Result Brought ToolFault → Type 0
+abbrev pub ServesOne : {Origin : Type 0} → DeviceState → DeviceState → Account Origin → Account Origin
+    → Result Brought ToolFault → Type 0
 ServesOne before after seen left (Ok brings) =
     (heard : Heard) × LeavesDevice before heard after
-    × (heard ≢ Failure) × (came_in brings ≡ length (came_by heard))
-    × (replied_in brings ≡ reply_count (replies_of before (came_by heard)))
-    × GainsAll (Waited serve_wait heard ∷ sends_of (replies_of before (came_by heard))) seen left
+    × (heard ≢ Failure) × (came_in brings ≡ length (brought_by heard))
+    × (replied_in brings ≡ reply_count (replies_of before (brought_by heard)))
+    × GainsAll (Waited serve_wait heard ∷ sends_of (replies_of before (brought_by heard))) seen left
 ServesOne before after seen left (Err SendFailed) =
     (heard : Heard) × (reply : Station × List ℕ) × LeavesDevice before heard after
-    × (heard ≢ Failure) × (replies_of before (came_by heard) ≡ Some reply ∷ [])
+    × (heard ≢ Failure) × (replies_of before (brought_by heard) ≡ Some reply ∷ [])
     × GainsAll (Waited serve_wait heard ∷ Unposted reply.0 reply.1 ∷ []) seen left
 ServesOne before after seen left (Err ReceiveFailed) = (after ≡ before) × Gains (Waited serve_wait Failure) seen left
 ServesOne before after seen left (Err TurnsSpent) = ⊥

@@ -10,7 +10,9 @@ returns-in_err-client-clause-told g c =
 pub returns-in_err-ending-clause-told : goal.returns-in_err-ending-clause-told
 returns-in_err-ending-clause-told g c =
     let p = err_from_is_err_and c.from_residual-in_err-ending.result c.from_residual-in_err-ending.ensures.1 in
-    rw (p.1, p.2) (fails_so _ _ _ _ c.in_err-ending.ensures.err.0 c.loop-turn.invariant.unwritten
+    rw (p.1, p.2)
+    (fails_so c.args.purpose c.args.call.now g.W.Write.contents _ _ _ c.in_err-ending.ensures.err.0
+    c.loop-turn.invariant.unwritten
     (c.in_err-ending.ensures.err.1 c.args.purpose c.args.call.now _ _ c.turn_wait-wait_ms.ensures
     (rw c.most_turns-turn-end.ensures at c.loop-turn-test.true) c.loop-turn.invariant.so_far))
 
@@ -19,7 +21,8 @@ returns-in-Some-clause-told g c =
     let ended = rw c.in-Some.is at
     (c.in_ok-ending.ensures.ok c.args.purpose c.args.call.now _ _ c.turn_wait-wait_ms.ensures
     (rw c.most_turns-turn-end.ensures at c.loop-turn-test.true) c.loop-turn.invariant.so_far) in
-    rw (← c.loop-turn.invariant.unwritten) (shown_so _ _ _ (ending_seen c.in-Some.ending) c.show_ending.result
+    rw (← c.loop-turn.invariant.unwritten)
+    (shown_so c.args.purpose c.args.call.now g.W.Write.contents _ _ (ending_seen c.in-Some.ending) c.show_ending.result
     c.show_ending.ensures.text c.show_ending.ensures.exit c.show_ending.ensures.fault ended)
 
 pub loop-turn-preserved : goal.loop-turn-preserved

@@ -2,4 +2,5 @@ use Rattle.bac_links.proofs.SearchesAlike.{searches_so_far}
 use Rattle.bac_links.proofs.laws.a_search_is_a_function.Goals as goal
 
 pub returns : goal.returns
-returns g c = λ search. searches_so_far g.V.Write.contents g.W.Write.contents search
+returns g c = λ search before after other_before other_after.
+    searches_so_far g.V.Write.contents g.W.Write.contents search before after other_before other_after

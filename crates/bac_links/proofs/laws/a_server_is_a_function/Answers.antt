@@ -2,4 +2,4 @@ use Rattle.bac_links.proofs.ServingsAlike.{servings_so_far}
 use Rattle.bac_links.proofs.laws.a_server_is_a_function.Goals as goal
 
 pub returns : goal.returns
-returns c = servings_so_far
+returns g c = λ count before after other_after. servings_so_far count before after other_after

@@ -41,6 +41,6 @@ kept device (arrival ∷ arrivals) =
     (later.0 ∙ first.0, later.1 ∙ first.1)
 
 pub returns : goal.returns
-returns c = λ count before after seen left result serves.
+returns g c = λ count before after seen left result serves.
     let all = kept before (arrivals_in serves.plays.gained) in
     (ap (λ (d : DeviceState). d.info) serves.device ∙ all.0, ap points_of serves.device ∙ all.1)

@@ -7,7 +7,7 @@ use Rattle.bac_links.{
 use Rattle.bac_links.proofs.laws.a_server_replies_as_defined.Goals as goal
 
 pub returns : goal.returns
-returns c = λ count before after seen left result gained writes serves gains holds.
+returns g c = λ count before after seen left result gained writes serves gains holds.
     let is = played (serve_move count before) seen left result gained serves.plays gains in
     let left_so = serves.device ∙ ap (λ (xs : List Entry). device_behind before (arrivals_in xs)) is in
     subst (AreDefined before writes (arrivals_in gained) (replies_of before (arrivals_in gained))) (sym left_so)

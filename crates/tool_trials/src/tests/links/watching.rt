@@ -1,5 +1,6 @@
 //! What has gone out before a tool waits, and how often it asks for the time.
-ghost use Rattle.std.specs.Prelude.{◌≡◌, false, IfOk};
+ghost use Rattle.std.specs.Prelude.{◌≡◌, false, IfOk, List};
+ghost use Rattle.bac_links.specs.Played.{Scene};
 
 use super::*;
 use crate::tests::streams::{Progress, telling};
@@ -33,6 +34,8 @@ fn watch<'a>(alloc: Global, steps: &[Step<'_>], written: &'a Cell<usize>) -> Wat
 }
 
 impl Link for Watching<'_> {
+    ghost Origin = { List Scene };
+
     ghost seen = { λ watching. ⟦<MemoryLink as Link>⟧.seen watching.link };
 
     ghost has_failed = { λ watching. ⟦<MemoryLink as Link>⟧.has_failed watching.link };
