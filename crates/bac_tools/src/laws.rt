@@ -12,10 +12,11 @@ use std::io::{Read, Write};
 
 /// The program is a function of its words, of what its socket answers and of what it reads. Take two runs with the same
 /// words; where both asked for a socket, both had one or neither; and the readers gave the same octets, and met their
-/// end as often. As far as the sockets were answered alike, the runs asked and sent the same. Then they ask the same
-/// next; or both are over with the same report; or one was cut off, since there was no memory for its words, or its
-/// writer failed. However that is, both printed one text, or a front of it where they were cut off. Where `clap` does
-/// not take the words, each report tells of an error that `clap` may give at these.
+/// end as often, or where one run was cut off, its reader gave a front of what the other's gave and did not meet its
+/// end. As far as the sockets were answered alike, the runs asked and sent the same. Then they ask the same next; or
+/// both are over with the same report; or one was cut off, since there was no memory for its words, or its writer
+/// failed. However that is, both printed one text, or a front of it where they were cut off. Where `clap` does not take
+/// the words, each report tells of an error that `clap` may give at these.
 pub fn the_program_is_a_function<M: Network, N: Network, R: Read, S: Read, V: Write, W: Write>()
     ensures { (words : List Text)
         (one : Run M.gives
