@@ -1,10 +1,10 @@
 -- What is taken from a reader through a chunk of octets that were read and not yet taken.
-use Rattle.std.specs.Prelude.{◌≡◌, ℕ, ◌-◌, ◌^◌, ◌≤◌, max, false, true, List, [], Option, ◌⊎◌}
+use Rattle.std.specs.Prelude.{◌≡◌, ℕ, ◌+◌, ◌-◌, ◌^◌, ◌≤◌, min, max, false, true, List, [], Option, ◌⊎◌}
 use Rattle.std.specs.Io.KnownBytes.{IsAtEnd}
 use Rattle.bac_print.specs.declared.checked.Checked.{Checked}
 use Rattle.bac_script.specs.declared.input.Reading.{Reading}
 use Rattle.bac_script.specs.declared.input.Reading.TheVariants.{Open, AtEnd, Failed}
-use Rattle.bac_print.specs.Checked.{inner_of, has_failed, has_ended, ends_of, ends_with, reads_of}
+use Rattle.bac_print.specs.Checked.{inner_of, has_failed, has_ended, ends_of, reads_of}
 
 -- The reads that a script may make.
 abbrev pub most_reads : ℕ
@@ -14,7 +14,7 @@ most_reads = 2 ^ 32 - 1
 -- none.
 pub record HasEnded {R : Type 0} (remaining : R → Option (List ℕ)) (before after : Checked R) : Type 0 where
   pub last : has_ended after ≡ true
-  pub once : ends_of after ≡ ends_with (ends_of before) true
+  pub once : ends_of after ≡ min (ends_of before + 1) (2 ^ 64 - 1)
   pub known : IsAtEnd (remaining (inner_of after))
 
 -- The reads are spent: a script may make no more.
