@@ -1,16 +1,20 @@
 -- A script is a function of its octets and of whether they ended.
 use Rattle.std.proofs.{
-  Common.{◌≡◌, ◌≢◌, ℕ, List, [], ◌++◌, length, Option, Result, Err, sym, ◌∙◌, ap, subst, arith, append_assoc},
-  Common.{MatchOption, append-nil},
+  Common.{◌≡◌, ◌≢◌, ◌⊎◌, ℕ, ◌+◌, ◌≤◌, Bool, true, ◌&&◌, List, [], ◌∷◌, ◌++◌, length, Option, Some, None, Result},
+  Common.{Ok, Err, sym, ◌∙◌, ap, subst, arith, append_assoc, IfSome, MatchOption, append-nil},
 }
-use Rattle.bac_print.specs.{declared.checked.Checked.Checked, Checked.{fresh, ends_of, octets_of}}
+use Rattle.std.specs.Prelude.{⊤}
+use Rattle.bac_print.specs.{declared.checked.Checked.Checked, Checked.{fresh, has_failed, ends_of, reads_of, octets_of}}
 use Rattle.bac_script.specs.{
   declared.input.{Reading.Reading, Reading.TheVariants.{Open, AtEnd, Failed}},
-  declared.tracing.{TraceEnd.TraceEnd, TraceFault.TraceFault, TraceFault.TheVariants.WriteFailed},
-  Input.ReaderStands,
+  declared.line.{LineFault.LineFault, LineFault.TheVariants.{Bad, TooLong}},
+  declared.tracing.{TraceEnd.TraceEnd, TraceFault.TraceFault},
+  declared.tracing.TraceFault.TheVariants.{BadLine, LineTooLong, ReadFailed, WriteFailed},
+  Input.{most_reads, ReaderStands},
+  Line.{Said, said},
   Tracing.Traces,
   Alike.{IsFrontOf, GaveSame, GaveFront, IsWritten, AreAlike},
-  Script.{lines, text, text_of, all_said, first_fault, EndsAs, Runs},
+  Script.{lines, is_nothing, text, text_of, all_said, fault_or, fault_from, first_fault, EndsAs, Runs},
 }
 use Rattle.bac_script.proofs.{Courses.RunsWhole, Fronts.text_front}
 
@@ -41,6 +45,53 @@ is_written = grind arith
 whole_of : (octets : List ℕ) (reading : Reading) (written : List ℕ) (answer : Result TraceEnd TraceFault)
     → answer ≢ Err WriteFailed → Runs octets reading written answer → RunsWhole octets reading written answer
 whole_of = grind arith
+
+-- ---- a run that could not read on
+
+-- The fault is that of a line.
+abbrev IsOfLine : TraceFault → Type 0
+IsOfLine (BadLine n) = ⊤
+IsOfLine (LineTooLong n) = ⊤
+IsOfLine _ = ⊥
+
+faults_of_lines : (is_first : Bool) (n : ℕ) (lines : List (List ℕ)) → IfSome (fault_from is_first n lines) IsOfLine
+faults_of_lines is_first n [] = tt
+faults_of_lines is_first n (line ∷ lines) =
+    go (said is_first line) (λ one. faults_of_lines (is_first && is_nothing one) (n + 1) lines)
+  where
+    go : (s : Result Said LineFault)
+        → ((one : Said) → IfSome (fault_from (is_first && is_nothing one) (n + 1) lines) IsOfLine) →
+        IfSome (fault_or n s (λ one. fault_from (is_first && is_nothing one) (n + 1) lines)) IsOfLine
+    go (Ok one) later = later one
+    go (Err Bad) later = tt
+    go (Err TooLong) later = tt
+
+abbrev unread : Result TraceEnd TraceFault
+unread = Err ReadFailed
+
+no_fault : (fault : Option TraceFault) {Ends : Type 0} → IfSome fault IsOfLine
+    → MatchOption fault Ends (λ fault. unread ≡ Err fault) → Ends
+no_fault None _ ends = ends
+no_fault (Some (BadLine n)) _ e = cc
+no_fault (Some (LineTooLong n)) _ e = cc
+no_fault (Some ReadFailed) bad e = absurd bad
+no_fault (Some WriteFailed) bad e = absurd bad
+
+-- A run ends with `ReadFailed` only where its reader failed or its reads are spent.
+pub read_fails : {R W : Type 0} {remaining : R → Option (List ℕ)} {contents : W → Option (List ℕ)}
+    (reader reader' : Checked R) (writer writer' : Checked W)
+    → Traces remaining contents reader reader' writer writer' unread →
+    (has_failed reader' ≡ true) ⊎ (most_reads ≤ reads_of reader')
+read_fails {remaining = remaining} reader reader' writer writer' run =
+    go run.reading run.read.stopped
+    (no_fault _ (faults_of_lines true 1 (lines run.given run.reading)) run.runs.1)
+  where
+    go : (reading : Reading) → ReaderStands remaining reading reader reader' []
+        → EndsAs reading (length (lines run.given run.reading)) unread
+        → (has_failed reader' ≡ true) ⊎ (most_reads ≤ reads_of reader')
+    go Failed stands ends = stands.1
+    go AtEnd stands ends = cc
+    go Open stands ends = absurd ends
 
 -- ---- two runs
 
