@@ -11,8 +11,9 @@ use Rattle.std.specs.{
 }
 use Rattle.bac_print.specs.{
   declared.checked.Checked.Checked,
+  Inner.Checked.HasNotRead,
   StreamCall.{StreamCall, ReadCall, WriteCall, FlushCall},
-  Checked.{inner_of, calls_of, has_failed, octets_of, passes_none, gone, HasNotRead, OnlyWrites, Took, Gave},
+  Checked.{inner_of, calls_of, has_failed, octets_of, passes_none, gone, OnlyWrites, Took, Gave},
 }
 
 pub Consumes-kept : (a b : Option (List ℕ)) → Keeps a b → Consumes a b []

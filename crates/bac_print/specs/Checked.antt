@@ -1,5 +1,5 @@
 -- What contracts see of a checked reader or writer.
-use Rattle.std.specs.Prelude.{◌≡◌, ◌≢◌, ℕ, ◌+◌, ◌-◌, ◌^◌, min, Bool, false, ◌&&◌, ◌||◌, ◌==◌, nat_lt, if◌then◌else◌}
+use Rattle.std.specs.Prelude.{◌≡◌, ◌≢◌, ℕ, Bool, false, ◌&&◌, ◌||◌, ◌==◌, nat_lt}
 use Rattle.std.specs.Prelude.{List, [], ◌∷◌, ◌++◌, length, take, Option, Result, Ok, Err, is_err}
 use Rattle.std.specs.Io.KnownBytes.{Appends, Consumes}
 use Rattle.std.specs.Result.{result_unwrap_or}
@@ -22,7 +22,7 @@ has_failed checked = checked.failed
 abbrev pub has_ended : {T : Type 0} → Checked T → Bool
 has_ended checked = checked.ended
 
--- So many reads gave nothing, though there was room.
+-- So many reads gave nothing, though there was room. The count stays at 2^64 - 1.
 abbrev pub ends_of : {T : Type 0} → Checked T → ℕ
 ends_of checked = checked.ends
 
@@ -36,10 +36,6 @@ octets_of checked = checked.inner.transcript.octets
 -- The octets that passed by the last read, or the last write.
 abbrev pub last_of : {T : Type 0} → Checked T → List ℕ
 last_of checked = checked.inner.transcript.last
-
--- What is known of its reads is as before.
-abbrev pub HasNotRead : {T : Type 0} → Checked T → Checked T → Type 0
-HasNotRead before after = after ≡ record after { ended = before.ended; ends = before.ends; reads = before.reads }
 
 -- Nothing was asked, and nothing passed yet.
 abbrev pub nothing_passed : Transcript
@@ -59,10 +55,6 @@ fresh stream = record {
 abbrev pub passes_none : {E : Type 0} → Result ℕ E → List ℕ → Bool
 passes_none (Ok count) octets = count == 0 && nat_lt 0 (length octets)
 passes_none (Err e) octets = false
-
--- One more read that gave nothing, where this is one. The count stays at 2^64 - 1.
-abbrev pub ends_with : ℕ → Bool → ℕ
-ends_with ends is = if is then min (ends + 1) (2 ^ 64 - 1) else ends
 
 -- The octets that passed: what a read gave of its room, or a write took of its text.
 abbrev pub gone : {E : Type 0} → Result ℕ E → List ℕ → List ℕ

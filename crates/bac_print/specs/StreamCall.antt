@@ -1,5 +1,5 @@
 -- One call of a reader or a writer, with what it answered.
-use Rattle.std.specs.Prelude.{ℕ, List, take, Result, Ok, Err}
+use Rattle.std.specs.Prelude.{ℕ, List, Result}
 use Rattle.std.specs.declared.io.Error.{Error}
 
 -- A read into room for so many octets, and the octets that it gave; a write of these octets, and how many of them were
@@ -8,8 +8,3 @@ pub data StreamCall : Type 0 where
   ReadCall : (room : ℕ) (given : Result (List ℕ) Error) → StreamCall
   WriteCall : (octets : List ℕ) (taken : Result ℕ Error) → StreamCall
   FlushCall : (done : Result (Unit {0}) Error) → StreamCall
-
--- What a read gave: so many octets of its room, from the first. Or it failed.
-abbrev pub given : {E : Type 0} → Result ℕ E → List ℕ → Result (List ℕ) E
-given (Ok count) room = Ok (take count room)
-given (Err e) room = Err e

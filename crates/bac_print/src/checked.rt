@@ -1,10 +1,11 @@
 //! Readers and writers that remember whether they failed.
-ghost use Rattle.std.specs.Prelude.{◌≡◌, ◌+◌, ◌-◌, ◌^◌, [], ◌∷◌, ◌++◌, ◌||◌, length, min, is_err};
+ghost use Rattle.std.specs.Prelude.{◌≡◌, ◌+◌, ◌-◌, ◌^◌, [], ◌∷◌, ◌++◌, ◌||◌, length, take, min, is_err, if◌then◌else◌};
 ghost use Rattle.std.specs.Io.{ReadsAtMost, WritesAtMost};
 ghost use Rattle.std.specs.Io.KnownBytes.{ReadConsumes, WriteAppends, Keeps};
-ghost use Rattle.bac_print.specs.StreamCall.{ReadCall, WriteCall, FlushCall, given};
+ghost use Rattle.bac_wire.specs.Steps.{result_seen};
+ghost use Rattle.bac_print.specs.StreamCall.{ReadCall, WriteCall, FlushCall};
 ghost use Rattle.bac_print.specs.Checked.{inner_of, calls_of, has_failed, has_ended, ends_of, reads_of, octets_of};
-ghost use Rattle.bac_print.specs.Checked.{last_of, gone, HasNotRead, fresh, passes_none, ends_with};
+ghost use Rattle.bac_print.specs.Checked.{last_of, gone, fresh, passes_none};
 
 use crate::noted::Noted;
 use std::io::{self, Read, Write};
@@ -72,13 +73,14 @@ impl<R: Read> Read for Checked<R> {
 
     fn read(&mut self, buf: &mut [u8]) -> io::Result<usize>
         ensures bound { ReadsAtMost result buf.new }
-        ensures asked { calls_of self.new
-            ≡ calls_of self.old ++ ReadCall (length buf.old) (given result buf.new) ∷ [] }
+        ensures asked { calls_of self.new ≡ calls_of self.old
+            ++ ReadCall (length buf.old) (result_seen (λ count. take count buf.new) result) ∷ [] }
         ensures bytes { ReadConsumes (R.remaining (inner_of self.old)) (R.remaining (inner_of self.new))
             result buf.new }
         ensures failed { has_failed self.new ≡ (has_failed self.old || is_err result) }
         ensures ended { has_ended self.new ≡ passes_none result buf.new }
-        ensures ends { ends_of self.new ≡ ends_with (ends_of self.old) (passes_none result buf.new) }
+        ensures ends { ends_of self.new
+            ≡ (if passes_none result buf.new then min (ends_of self.old + 1) (2 ^ 64 - 1) else ends_of self.old) }
         ensures passed { octets_of self.new ≡ octets_of self.old ++ gone result buf.new }
         ensures last { last_of self.new ≡ gone result buf.new }
         ensures reads { reads_of self.new ≡ min (reads_of self.old + 1) (2 ^ 64 - 1) }
@@ -106,7 +108,7 @@ impl<W: Write> Write for Checked<W> {
         ensures failed { has_failed self.new ≡ (has_failed self.old || is_err result || passes_none result buf.now) }
         ensures passed { octets_of self.new ≡ octets_of self.old ++ gone result buf.now }
         ensures last { last_of self.new ≡ gone result buf.now }
-        ensures reads { HasNotRead self.old self.new }
+        ensures reads { self.new ≡ record self.old { inner = self.new.inner; failed = self.new.failed } }
     {
         let outcome = self.inner.write(buf);
         match outcome {

@@ -1,16 +1,20 @@
 -- A script is a function of its octets and of whether they ended.
 use Rattle.std.proofs.{
-  Common.{◌≡◌, ◌≢◌, ◌⊎◌, ℕ, List, [], ◌∷◌, ◌++◌, length, Option, Result, Err, refl, sym, ◌∙◌, ap, inl, inr, arith},
-  Common.{append_assoc, MatchOption, append-nil},
+  Common.{◌≡◌, ◌≢◌, ◌⊎◌, ℕ, ◌+◌, ◌≤◌, Bool, true, ◌&&◌, List, [], ◌∷◌, ◌++◌, length, Option, Some, None, Result},
+  Common.{Ok, Err, sym, ◌∙◌, ap, subst, arith, append_assoc, IfSome, MatchOption, append-nil},
 }
-use Rattle.bac_print.specs.{declared.checked.Checked.Checked, Checked.{fresh, ends_of, octets_of}}
+use Rattle.std.specs.Prelude.{⊤}
+use Rattle.bac_print.specs.{declared.checked.Checked.Checked, Checked.{fresh, has_failed, ends_of, reads_of, octets_of}}
 use Rattle.bac_script.specs.{
   declared.input.{Reading.Reading, Reading.TheVariants.{Open, AtEnd, Failed}},
-  declared.tracing.{TraceEnd.TraceEnd, TraceFault.TraceFault, TraceFault.TheVariants.WriteFailed},
-  Input.ReaderStands,
+  declared.line.{LineFault.LineFault, LineFault.TheVariants.{Bad, TooLong}},
+  declared.tracing.{TraceEnd.TraceEnd, TraceFault.TraceFault},
+  declared.tracing.TraceFault.TheVariants.{BadLine, LineTooLong, ReadFailed, WriteFailed},
+  Input.{most_reads, ReaderStands},
+  Line.{Said, said},
   Tracing.Traces,
-  Alike.{IsFrontOf, AreAlike},
-  Script.{lines, text, text_of, all_said, first_fault, EndsAs, Runs},
+  Alike.{IsFrontOf, GaveSame, GaveFront, IsWritten, AreAlike},
+  Script.{lines, is_nothing, text, text_of, all_said, fault_or, fault_from, first_fault, EndsAs, Runs},
 }
 use Rattle.bac_script.proofs.{Courses.RunsWhole, Fronts.text_front}
 
@@ -34,24 +38,62 @@ front_of : (octets : List ℕ) (reading : Reading) (written : List ℕ) (answer 
     → Runs octets reading written answer → IsFrontOf written (text octets reading)
 front_of = grind (arith, append-nil)
 
+is_written : (octets : List ℕ) (reading : Reading) (written : List ℕ) (answer : Result TraceEnd TraceFault)
+    → Runs octets reading written answer → IsWritten written (text octets reading) answer
+is_written = grind arith
+
 whole_of : (octets : List ℕ) (reading : Reading) (written : List ℕ) (answer : Result TraceEnd TraceFault)
     → answer ≢ Err WriteFailed → Runs octets reading written answer → RunsWhole octets reading written answer
 whole_of = grind arith
 
+-- ---- a run that could not read on
+
+-- The fault is that of a line.
+abbrev IsOfLine : TraceFault → Type 0
+IsOfLine (BadLine n) = ⊤
+IsOfLine (LineTooLong n) = ⊤
+IsOfLine _ = ⊥
+
+faults_of_lines : (is_first : Bool) (n : ℕ) (lines : List (List ℕ)) → IfSome (fault_from is_first n lines) IsOfLine
+faults_of_lines is_first n [] = tt
+faults_of_lines is_first n (line ∷ lines) =
+    go (said is_first line) (λ one. faults_of_lines (is_first && is_nothing one) (n + 1) lines)
+  where
+    go : (s : Result Said LineFault)
+        → ((one : Said) → IfSome (fault_from (is_first && is_nothing one) (n + 1) lines) IsOfLine) →
+        IfSome (fault_or n s (λ one. fault_from (is_first && is_nothing one) (n + 1) lines)) IsOfLine
+    go (Ok one) later = later one
+    go (Err Bad) later = tt
+    go (Err TooLong) later = tt
+
+abbrev unread : Result TraceEnd TraceFault
+unread = Err ReadFailed
+
+no_fault : (fault : Option TraceFault) {Ends : Type 0} → IfSome fault IsOfLine
+    → MatchOption fault Ends (λ fault. unread ≡ Err fault) → Ends
+no_fault None _ ends = ends
+no_fault (Some (BadLine n)) _ e = cc
+no_fault (Some (LineTooLong n)) _ e = cc
+no_fault (Some ReadFailed) bad e = absurd bad
+no_fault (Some WriteFailed) bad e = absurd bad
+
+-- A run ends with `ReadFailed` only where its reader failed or its reads are spent.
+pub read_fails : {R W : Type 0} {remaining : R → Option (List ℕ)} {contents : W → Option (List ℕ)}
+    (reader reader' : Checked R) (writer writer' : Checked W)
+    → Traces remaining contents reader reader' writer writer' unread →
+    (has_failed reader' ≡ true) ⊎ (most_reads ≤ reads_of reader')
+read_fails {remaining = remaining} reader reader' writer writer' run =
+    go run.reading run.read.stopped
+    (no_fault _ (faults_of_lines true 1 (lines run.given run.reading)) run.runs.1)
+  where
+    go : (reading : Reading) → ReaderStands remaining reading reader reader' []
+        → EndsAs reading (length (lines run.given run.reading)) unread
+        → (has_failed reader' ≡ true) ⊎ (most_reads ≤ reads_of reader')
+    go Failed stands ends = stands.1
+    go AtEnd stands ends = cc
+    go Open stands ends = absurd ends
+
 -- ---- two runs
-
--- Two fronts of one list.
-one_more : (x : ℕ) (xs ys : List ℕ) → IsFrontOf xs ys ⊎ IsFrontOf ys xs → IsFrontOf (x ∷ xs) (x ∷ ys)
-    ⊎ IsFrontOf (x ∷ ys) (x ∷ xs)
-one_more = grind arith
-
-fronts : (xs ys rest others : List ℕ) → xs ++ rest ≡ ys ++ others → IsFrontOf xs ys ⊎ IsFrontOf ys xs
-fronts [] ys _ _ e = inl (ys, refl)
-fronts (x ∷ xs) [] _ _ e = inr (x ∷ xs, refl)
-fronts (x ∷ xs) (y ∷ ys) rest others e =
-    let same : x ≡ y = cc in
-    let later : xs ++ rest ≡ ys ++ others = cc in
-    rw (← same) (one_more x xs ys (fronts xs ys rest others later))
 
 same_answer : (fault : Option TraceFault) (reading other : Reading) (count : ℕ)
     (answer answer' : Result TraceEnd TraceFault) → ends reading ≡ ends other →
@@ -66,20 +108,16 @@ module _ (octets : List ℕ) (reading other : Reading) (alike : ends reading ≡
   same_text = grind (arith, same_lines)
 
   pub runs_alike : AreAlike written answer written' answer'
-  runs_alike =
-      let front = front_of octets reading written answer runs in
-      let front' = front_of octets other written' answer' runs' in
-      record {
-        same = λ all all'. let whole = whole_of octets reading written answer all runs in
-            let whole' = whole_of octets other written' answer' all' runs' in (
-              whole.0 ∙ same_text ∙ sym whole'.0,
-              same_answer (first_fault (lines octets other)) reading other (length (lines octets other)) answer answer'
-                  alike (rw (← same_lines octets reading other alike) whole.1) whole'.1,
-            );
-        front = λ all'. (front.0, (whole_of octets other written' answer' all' runs').0 ∙ sym same_text ∙ front.1);
-        other_front = λ all. (front'.0, (whole_of octets reading written answer all runs).0 ∙ same_text ∙ front'.1);
-        either = fronts written written' front.0 front'.0 (sym front.1 ∙ same_text ∙ front'.1);
-      }
+  runs_alike = record {
+    text = text octets other;
+    wrote = subst (λ (xs : List ℕ). IsWritten written xs answer) same_text
+        (is_written octets reading written answer runs);
+    other_wrote = is_written octets other written' answer' runs';
+    same = λ all all'. let whole = whole_of octets reading written answer all runs in
+        let whole' = whole_of octets other written' answer' all' runs' in
+        same_answer (first_fault (lines octets other)) reading other (length (lines octets other)) answer answer' alike
+        (rw (← same_lines octets reading other alike) whole.1) whole'.1;
+  }
 
 module _ {R S V W : Type 0} {remaining : R → Option (List ℕ)} {remaining' : S → Option (List ℕ)}
     {contents : V → Option (List ℕ)} {contents' : W → Option (List ℕ)}
@@ -88,25 +126,29 @@ module _ {R S V W : Type 0} {remaining : R → Option (List ℕ)} {remaining' : 
     (run : Traces remaining contents (fresh reader) reader' (fresh writer) writer' answer)
     (other : Traces remaining' contents' (fresh other_reader) other_reader' (fresh other_writer) other_writer'
     other_answer) where
-  pub traces_alike : octets_of reader' ≡ octets_of other_reader' → ends_of reader' ≡ ends_of other_reader'
+  pub traces_alike : GaveSame reader' other_reader'
       → AreAlike (octets_of writer') answer (octets_of other_writer') other_answer
   traces_alike = grind (arith, ends_are, runs_alike)
 
-  -- A run whose reader gave less, and did not end, wrote a front of what a whole one wrote.
-  pub traces_front : IsFrontOf (octets_of reader') (octets_of other_reader') → ends_of reader' ≡ 0
-      → other_answer ≢ Err WriteFailed → IsFrontOf (octets_of writer') (octets_of other_writer')
-  traces_front less unended whole =
+  -- A run whose reader gave less, and did not end, wrote a front of the other's text.
+  pub traces_front : GaveFront reader' other_reader' → (text : List ℕ) × IsFrontOf (octets_of writer') text
+      × IsWritten (octets_of other_writer') text other_answer
+  traces_front less =
       let front = front_of run.given run.reading run.written answer run.runs in
       let lines_are = same_lines run.given run.reading Open
-      (sym (ends_are remaining run.reading reader reader' run.read.stopped) ∙ unended) in
+      (sym (ends_are remaining run.reading reader reader' run.read.stopped) ∙ less.1) in
       let open_text : text run.given Open ≡ run.written ++ front.0 =
       ap (λ (all : List (List ℕ)). text_of (all_said all)) (sym lines_are) ∙ front.1 in
-      let given : other.given ≡ run.given ++ less.0 =
-      sym other.read.gave.passed ∙ less.1 ∙ ap (λ (xs : List ℕ). xs ++ less.0) run.read.gave.passed in
-      let more = text_front run.given less.0 other.reading in (
-        front.0 ++ more.0,
-        other.took.passed ∙ (whole_of other.given other.reading other.written other_answer whole other.runs).0
-            ∙ ap (λ (xs : List ℕ). text xs other.reading) given ∙ more.1 ∙ ap (λ (xs : List ℕ). xs ++ more.0) open_text
-            ∙ append_assoc run.written front.0 more.0
-            ∙ ap (λ (xs : List ℕ). xs ++ (front.0 ++ more.0)) (sym run.took.passed),
+      let given : other.given ≡ run.given ++ less.0.0 =
+      sym other.read.gave.passed ∙ less.0.1 ∙ ap (λ (xs : List ℕ). xs ++ less.0.0) run.read.gave.passed in
+      let more = text_front run.given less.0.0 other.reading in (
+        text other.given other.reading,
+        (
+          front.0 ++ more.0,
+          ap (λ (xs : List ℕ). text xs other.reading) given ∙ more.1 ∙ ap (λ (xs : List ℕ). xs ++ more.0) open_text
+              ∙ append_assoc run.written front.0 more.0
+              ∙ ap (λ (xs : List ℕ). xs ++ (front.0 ++ more.0)) (sym run.took.passed),
+        ),
+        subst (λ (xs : List ℕ). IsWritten xs (text other.given other.reading) other_answer) (sym other.took.passed)
+            (is_written other.given other.reading other.written other_answer other.runs),
       )

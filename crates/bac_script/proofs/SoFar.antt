@@ -2,7 +2,7 @@
 use Rattle.std.proofs.{
   Common.{◌≡◌, ◌≢◌, ℕ, ◌+◌, ◌<◌, ◌≤◌, Bool, true, false, List, [], ◌∷◌, ◌++◌, length, take, drop, Option, Some, None},
   Common.{Result, Ok, Err, refl, sym, ◌∙◌, ap, subst, inl, inr, append_assoc, arith, ◌&&◌, append-nil, length-append},
-  Common.take-append-drop,
+  Common.{take-append-drop, ◌⊎◌},
   lemmas.List.append_cancel_right,
 }
 use Rattle.bac_tsm.specs.Client.{Client}
@@ -20,7 +20,7 @@ use Rattle.bac_script.specs.{
   Inner.{Input.{HasNotEnded, TakesAndKeeps, ReadForLine, empty_reads, IsLineCut}, Feeds.HasNoFeed, Limits.line_room},
   Inner.{Tracing.RunsOn, Running.{Stage, Stands, new_client, device_with, ran}},
   Script.{lines, is_nothing, fault_at, first_fault, text, Runs},
-  Tracing.{Traces, IsNeeded, IsToldFirst},
+  Tracing.{LastIsNeeded, Traces, IsToldFirst},
 }
 use Rattle.bac_script.proofs.{
   Pieces.{NextLine, next_ended, next_long, next_last, lines-rest, lines-last, lines-ended, said-whole_long},
@@ -41,6 +41,10 @@ abbrev GoesOn : List ℕ → List ℕ → Stage → Bool → ℕ → Type 0
 GoesOn octets text stage is_first count =
     (more : List ℕ) (reading : Reading)
     → whole (lines (octets ++ more) reading) ≡ behind text (course stage is_first count (lines more reading))
+
+-- Nothing was read, or the last read was needed.
+abbrev IsNeeded : {R : Type 0} → Checked R → Checked R → List ℕ → Type 0
+IsNeeded reader reader' given = ((reader' ≡ reader) × (given ≡ [])) ⊎ LastIsNeeded reader reader' given
 
 -- The lines so far were taken and run.
 pub record SoFar {R W : Type 0} (remaining : R → Option (List ℕ)) (contents : W → Option (List ℕ))

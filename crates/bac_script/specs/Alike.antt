@@ -1,5 +1,7 @@
 -- That two runs of one script are alike.
-use Rattle.std.specs.Prelude.{◌≡◌, ◌≢◌, ◌⊎◌, ℕ, List, ◌++◌, Result, Err}
+use Rattle.std.specs.Prelude.{◌≡◌, ◌≢◌, ℕ, List, ◌++◌, Result, Err}
+use Rattle.bac_print.specs.Checked.{ends_of, octets_of}
+use Rattle.bac_print.specs.declared.checked.Checked.{Checked}
 use Rattle.bac_script.specs.declared.tracing.TraceEnd.{TraceEnd}
 use Rattle.bac_script.specs.declared.tracing.TraceFault.{TraceFault}
 use Rattle.bac_script.specs.declared.tracing.TraceFault.TheVariants.{WriteFailed}
@@ -8,11 +10,23 @@ use Rattle.bac_script.specs.declared.tracing.TraceFault.TheVariants.{WriteFailed
 abbrev pub IsFrontOf : List ℕ → List ℕ → Type 0
 IsFrontOf front whole = (rest : List ℕ) × (whole ≡ front ++ rest)
 
--- Where no writer failed, both runs wrote the same and ended alike. Where one writer failed, its run wrote a front of
--- what the other run wrote. Where both failed, one of them wrote a front of what the other wrote.
+-- The readers gave the same octets, and met their end as often.
+abbrev pub GaveSame : {R S : Type 0} → Checked R → Checked S → Type 0
+GaveSame reader other = (octets_of reader ≡ octets_of other) × (ends_of reader ≡ ends_of other)
+
+-- The first reader gave a front of what the second gave, and did not meet its end.
+abbrev pub GaveFront : {R S : Type 0} → Checked R → Checked S → Type 0
+GaveFront reader other = IsFrontOf (octets_of reader) (octets_of other) × (ends_of reader ≡ 0)
+
+-- With this answer this was written of a text: all of it; or, where the writer failed, a front of it.
+abbrev pub IsWritten : (written text : List ℕ) → Result TraceEnd TraceFault → Type 0
+IsWritten written text (Err WriteFailed) = IsFrontOf written text
+IsWritten written text answer = written ≡ text
+
+-- Both runs wrote one text, or a front of it where their writer failed. Where neither failed they ended alike.
 pub record AreAlike (written : List ℕ) (answer : Result TraceEnd TraceFault) (other : List ℕ)
     (other_answer : Result TraceEnd TraceFault) : Type 0 where
-  pub same : answer ≢ Err WriteFailed → other_answer ≢ Err WriteFailed → (written ≡ other) × (answer ≡ other_answer)
-  pub front : other_answer ≢ Err WriteFailed → IsFrontOf written other
-  pub other_front : answer ≢ Err WriteFailed → IsFrontOf other written
-  pub either : IsFrontOf written other ⊎ IsFrontOf other written
+  pub text : List ℕ
+  pub wrote : IsWritten written text answer
+  pub other_wrote : IsWritten other text other_answer
+  pub same : answer ≢ Err WriteFailed → other_answer ≢ Err WriteFailed → answer ≡ other_answer

@@ -18,16 +18,12 @@ pub record LastIsNeeded {R : Type 0} (reader reader' : Checked R) (given : List 
   pub asked : reads_of reader' ≤ reads_of reader + length before + 1
   pub going : first_fault (lines before Open) ≡ None
 
--- Nothing was read, or the last read was needed.
-abbrev pub IsNeeded : {R : Type 0} → Checked R → Checked R → List ℕ → Type 0
-IsNeeded reader reader' given = ((reader' ≡ reader) × (given ≡ [])) ⊎ LastIsNeeded reader reader' given
-
--- The reader gave these octets, and reading stopped so.
+-- The reader gave these octets, and reading stopped so. Nothing was read, or the last read was needed.
 pub record HasRead {R : Type 0} (remaining : R → Option (List ℕ)) (reader reader' : Checked R) (given : List ℕ)
     (reading : Reading) : Type 0 where
   pub gave : Gave remaining reader reader' given
   pub stopped : ReaderStands remaining reading reader reader' []
-  pub needed : IsNeeded reader reader' given
+  pub needed : ((reader' ≡ reader) × (given ≡ [])) ⊎ LastIsNeeded reader reader' given
   pub spared : ReadsNoMore reader reader'
 
 -- However the run ended, the text of the lines that were whole before the last read was written. So it was out before

@@ -1,8 +1,7 @@
 //! A script, run as it is read.
 
-ghost use Rattle.std.specs.Prelude.{◌≡◌, ◌⊎◌, ◌↔◌, true, false, Err, []};
+ghost use Rattle.std.specs.Prelude.{◌≡◌, ◌↔◌, true, false, Err, []};
 ghost use Rattle.bac_print.specs.Checked.{has_failed};
-ghost use Rattle.bac_script.specs.Input.{AreSpent};
 ghost use Rattle.bac_script.specs.Inner.Running.{new_client};
 ghost use Rattle.bac_script.specs.Script.{fault_at};
 ghost use Rattle.bac_print.specs.Page.{held, writer_of};
@@ -60,7 +59,6 @@ pub fn trace<R: Read, W: Write>(
     requires reader { has_failed reader.old ≡ false }
     requires writer { has_failed writer.old ≡ false }
     ensures script { Traces R.remaining W.contents reader.old reader.new writer.old writer.new result }
-    ensures read_failed { result ≡ Err TraceFault.ReadFailed → (has_failed reader.new ≡ true) ⊎ AreSpent reader.new }
     ensures write_failed { (has_failed writer.new ≡ true) ↔ (result ≡ Err TraceFault.WriteFailed) }
 {
     let mut page = Page::new(writer);
@@ -90,7 +88,6 @@ fn run_script<R: Read, W: Write>(
     requires reader { has_failed reader.old ≡ false }
     requires page { held page.old ≡ [] }
     ensures script { RunsOn R.remaining W.contents reader.old reader.new page.old page.new result }
-    ensures read_failed { result ≡ Err TraceFault.ReadFailed → (has_failed reader.new ≡ true) ⊎ AreSpent reader.new }
     ensures write_failed { result ≡ Err TraceFault.WriteFailed → has_failed (writer_of page.new) ≡ true }
 {
     let mut chunk = Chunk::new();

@@ -8,7 +8,6 @@ ghost use Rattle.bac_text.specs.Pairs.{body_of, words_behind};
 
 use crate::pairs::{PairFault, read_pairs};
 use crate::words::WordSource;
-use arrayvec::ArrayVec;
 use bac_pdu::{LONGEST_BODY, ReadRequest, WriteRequest, write_read, write_write};
 use bac_wire::{Frame, ObjectId};
 
@@ -74,44 +73,4 @@ impl BodyRoom {
         }
         Ok(self.body.as_slice())
     }
-}
-
-/// The body of the ReadProperty request (clause 15.5), to be kept.
-pub fn body_of_read(request: &ReadRequest) -> ArrayVec<u8, LONGEST_BODY>
-    ensures { result.items ≡ read_octets (reference request.now) }
-{
-    let mut room = BodyRoom::new();
-    kept(room.body_of_read(request))
-}
-
-/// Reads words, and makes the body of the WriteProperty request that they order (clause 15.9), to be kept.
-///
-/// # Errors
-///
-/// Those of [`BodyRoom::body_of_write`].
-pub fn body_of_write<'a, S: WordSource<'a>>(
-    object: ObjectId,
-    property: u32,
-    index: Option<u32>,
-    priority: Option<u8>,
-    words: &mut S,
-) -> Result<ArrayVec<u8, LONGEST_BODY>, PairFault>
-    requires { IfSome priority IsPriority }
-    ensures body { result_seen (λ body. body.items) result ≡
-        body_of (identifier object) property index priority (S.left words.old) }
-    ensures left { S.left words.new ≡ words_behind result (S.left words.old) }
-{
-    let mut room = BodyRoom::new();
-    let body = room.body_of_write(object, property, index, priority, words)?;
-    Ok(kept(body))
-}
-
-// A copy of the body, in room of its own.
-fn kept(body: &[u8]) -> ArrayVec<u8, LONGEST_BODY>
-    requires { length body.now ≤ LONGEST_BODY }
-    ensures { result.items ≡ body.now }
-{
-    let mut room = ArrayVec::new();
-    let _ = room.try_extend_from_slice(body);
-    room
 }

@@ -32,7 +32,7 @@ mod value_words;
 mod words;
 
 pub use bac_pdu::LONGEST_BODY;
-pub use bodies::{BodyRoom, body_of_read, body_of_write};
+pub use bodies::BodyRoom;
 pub use hex_digits::{LONGEST_DATAGRAM, LONGEST_LINE, read_datagram};
 pub use jobs::{Call, Job, Search, Serve};
 pub use numbers::read_number;

@@ -1,6 +1,5 @@
 //! The parameters of a request, as words give them.
-ghost use Rattle.std.specs.Prelude.{◌≡◌, ◌≤◌, IfSome};
-ghost use Rattle.bac_pdu.specs.Property.{IsPriority};
+ghost use Rattle.std.specs.Prelude.{◌≡◌, ◌≤◌};
 ghost use Rattle.bac_text.specs.Parameters.{priority_from, write_index_of};
 
 use crate::numbers::read_number;
@@ -19,8 +18,7 @@ pub fn read_write_index(word: &[u8]) -> Option<Option<u32>>
 /// The priority, where the number is not 0.
 pub fn priority_from(number: u8) -> Option<u8>
     requires { number ≤ 16 }
-    ensures value { result ≡ priority_from number }
-    ensures priority { IfSome result IsPriority }
+    ensures { result ≡ priority_from number }
 {
     match number {
         0 => None,

@@ -15,8 +15,8 @@ use Rattle.bac_links.{
   specs.declared.{fault.ToolFault.ToolFault, fault.ToolFault.TheVariants.WriteFailed, link.LinkFault.LinkFault},
 }
 use Rattle.bac_script.{
-  proofs.Functions.traces_alike,
-  specs.Alike.AreAlike as ScriptsAlike,
+  proofs.Functions.{traces_alike, traces_front},
+  specs.Alike.{GaveSame, IsWritten},
   specs.declared.tracing.{TraceEnd.TraceEnd, TraceFault.TraceFault},
 }
 use Rattle.bac_words.{
@@ -127,28 +127,13 @@ module _ {Origin Other V W : Type 0} (contents : V → Option (List ℕ)) (conte
 
 -- ---- two scripts
 
-cut_or_not : (answer : Result TraceEnd TraceFault) → (answer ≡ Err stops.WriteFailed) ⊎ (answer ≢ Err stops.WriteFailed)
-cut_or_not (Err stops.WriteFailed) = inl refl
-cut_or_not _ = inr (λ e. cc)
-
 stopped_cut : (answer : Result TraceEnd TraceFault) → answer ≡ Err stops.WriteFailed → IsCutOff (trace_report answer)
 stopped_cut _ failed = rw failed tt
 
-script_text : (written other : List ℕ) (r s : Result TraceEnd TraceFault) → ScriptsAlike written r other s
-    → (text : List ℕ) × IsPrinted written text (trace_report r) × IsPrinted other text (trace_report s)
-script_text written other r s alike = elim (cut_or_not r) [
-  | inl cut ↦ elim (cut_or_not s) [
-    | inl cut' ↦ elim alike.either [
-      | inl front ↦ (other, inr (stopped_cut r cut, front), inl refl)
-      | inr front ↦ (written, inl refl, inr (stopped_cut s cut', front))
-    ]
-    | inr whole' ↦ (other, inr (stopped_cut r cut, alike.front whole'), inl refl)
-  ]
-  | inr whole ↦ elim (cut_or_not s) [
-    | inl cut' ↦ (written, inl refl, inr (stopped_cut s cut', alike.other_front whole))
-    | inr whole' ↦ (written, inl refl, inl (sym (alike.same whole whole').0))
-  ]
-]
+text_printed : (written text : List ℕ) (answer : Result TraceEnd TraceFault) → IsWritten written text answer
+    → IsPrinted written text (trace_report answer)
+text_printed written text (Err stops.WriteFailed) front = inr (tt, front)
+text_printed written text _ whole = inl whole
 
 -- ---- one run
 
@@ -272,22 +257,52 @@ module _ {N Origin L R W M Other K S V : Type 0} {gives : N → Binding → Resu
   opened job (Some (Ok l)) p (Some (Err g)) p' r s gains gains' e = let both = e refl refl in cc
   opened _ _ _ _ _ r s gains gains' e = grind arith
 
-  scripts : RunsScript out (fresh one.reader) one.reader' (fresh one.writer) one.writer' one.ran.report →
-      RunsScript out' (fresh other.reader) other.reader' (fresh other.writer) other.writer' other.ran.report →
-      EndAlike one other one.ran.report other.ran.report × PrintAlike one other one.ran.report other.ran.report
-  scripts r s =
-      let both = traces_alike one.reader other.reader one.reader' other.reader' one.writer other.writer one.writer'
-      other.writer' r.answer s.answer r.script s.script h.octets h.ends in
-      let text = script_text (octets_of one.writer') (octets_of other.writer') r.answer s.answer both in (
-        λ uncut uncut'. let same = both.same (λ e. uncut (subst IsCutOff (sym r.reported) (stopped_cut r.answer e)))
-            (λ e. uncut' (subst IsCutOff (sym s.reported) (stopped_cut s.answer e))) in
-            inl (r.reported ∙ ap trace_report same.1 ∙ sym s.reported),
-        (
-          text.0,
-          subst (IsPrinted (octets_of one.writer') text.0) (sym r.reported) text.1,
-          subst (IsPrinted (octets_of other.writer') text.0) (sym s.reported) text.2,
-        ),
-      )
+  module _ (r : RunsScript out (fresh one.reader) one.reader' (fresh one.writer) one.writer' one.ran.report)
+      (s : RunsScript out' (fresh other.reader) other.reader' (fresh other.writer) other.writer' other.ran.report)
+    where
+      abbrev ScriptsEnd : Type 0
+      ScriptsEnd = EndAlike one other one.ran.report other.ran.report
+          × PrintAlike one other one.ran.report other.ran.report
+
+      ours_printed : (text : List ℕ) → IsWritten (octets_of one.writer') text r.answer
+          → IsPrinted (octets_of one.writer') text one.ran.report
+      ours_printed text wrote =
+          subst (IsPrinted (octets_of one.writer') text) (sym r.reported)
+          (text_printed (octets_of one.writer') text r.answer wrote)
+
+      theirs_printed : (text : List ℕ) → IsWritten (octets_of other.writer') text s.answer
+          → IsPrinted (octets_of other.writer') text other.ran.report
+      theirs_printed text wrote =
+          subst (IsPrinted (octets_of other.writer') text) (sym s.reported)
+          (text_printed (octets_of other.writer') text s.answer wrote)
+
+      read_same : GaveSame one.reader' other.reader' → ScriptsEnd
+      read_same same =
+          let both = traces_alike one.reader other.reader one.reader' other.reader' one.writer other.writer one.writer'
+          other.writer' r.answer s.answer r.script s.script same in (
+            λ uncut uncut'.
+                let ends = both.same (λ e. uncut (subst IsCutOff (sym r.reported) (stopped_cut r.answer e)))
+                (λ e. uncut' (subst IsCutOff (sym s.reported) (stopped_cut s.answer e))) in
+                inl (r.reported ∙ ap trace_report ends ∙ sym s.reported),
+            (both.text, ours_printed both.text both.wrote, theirs_printed both.text both.other_wrote),
+          )
+
+      scripts : ScriptsEnd
+      scripts = elim h.read [
+        | inl same ↦ read_same same
+        | inr less ↦ elim less [
+          | inl ours ↦ let front = traces_front one.reader other.reader one.reader' other.reader' one.writer
+              other.writer one.writer' other.writer' r.answer s.answer r.script s.script ours.1 in (
+                λ uncut uncut'. absurd (uncut ours.0),
+                (front.0, inr (ours.0, front.1), theirs_printed front.0 front.2),
+              )
+          | inr theirs ↦ let front = traces_front other.reader one.reader other.reader' one.reader' other.writer
+              one.writer other.writer' one.writer' s.answer r.answer s.script r.script theirs.1 in (
+                λ uncut uncut'. absurd (uncut' theirs.0),
+                (front.0, ours_printed front.0 front.2, inr (theirs.0, front.1)),
+              )
+        ]
+      ]
 
   jobs : (job : Job) (o p : Option (Result L LinkFault)) (o' p' : Option (Result K LinkFault))
       → IsGiven gives out one.network (binding_of job) o →

@@ -3,13 +3,13 @@ use Rattle.std.specs.Prelude.{◌≡◌, ◌⊎◌, ◌++◌, ℕ, ⊤, Bool, Is
 use Rattle.std.specs.Prelude.{Result, Ok, IsErrAnd}
 use Rattle.std.specs.Result.{result_ok}
 use Rattle.clap.specs.Words.{Text}
-use Rattle.bac_print.specs.Checked.{ends_of, fresh, octets_of}
+use Rattle.bac_print.specs.Checked.{fresh, octets_of}
 use Rattle.bac_print.specs.declared.checked.Checked.{Checked}
 use Rattle.bac_links.specs.Answered.{answers_of, GoOnAlike}
 use Rattle.bac_links.specs.History.{Account, Entry}
 use Rattle.bac_links.specs.declared.fault.ToolFault.TheVariants as tools
 use Rattle.bac_links.specs.declared.link.LinkFault.{LinkFault}
-use Rattle.bac_script.specs.Alike.{IsFrontOf}
+use Rattle.bac_script.specs.Alike.{IsFrontOf, GaveFront, GaveSame}
 use Rattle.bac_script.specs.declared.tracing.TraceFault.TheVariants as stops
 use Rattle.bac_words.specs.Line.{IsRefusal}
 use Rattle.bac_words.specs.declared.faults.UsageFault.TheVariants.{Memory}
@@ -77,15 +77,16 @@ module _ {N Origin L R W M Other K S V : Type 0} {gives : N → Binding → Resu
 
   module _ (first rest other_first other_rest : List Entry) where
     -- Where both asked for a socket, both had one or neither; so far the sockets were answered alike; and the readers
-    -- gave the same octets and met their end as often.
+    -- gave the same octets and met their end as often, or that of a run that was cut off gave a front of what the other
+    -- gave and did not meet its end.
     pub record AreGivenAlike : Type 0 where
       pub socket : IsTrue (is_some one.program.opened) → IsTrue (is_some other.program.opened)
           → is_socket one.program.opened ≡ is_socket other.program.opened
       pub gained : one.gained ≡ first ++ rest
       pub other_gained : other.gained ≡ other_first ++ other_rest
       pub answers : answers_of first ≡ answers_of other_first
-      pub octets : octets_of one.reader' ≡ octets_of other.reader'
-      pub ends : ends_of one.reader' ≡ ends_of other.reader'
+      pub read : GaveSame one.reader' other.reader' ⊎ (IsCutOff one.ran.report × GaveFront one.reader' other.reader')
+          ⊎ (IsCutOff other.ran.report × GaveFront other.reader' one.reader')
 
     -- So far they asked and sent the same; and they go on alike.
     pub record AreAlike : Type 0 where

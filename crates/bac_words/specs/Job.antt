@@ -1,6 +1,6 @@
 -- What the words of a tool ask for, and the first thing that is wrong with them.
-use Rattle.std.specs.Prelude.{◌<◌, ℕ, List, [], Option, Some, None, Result, Ok, Err, codes, map, unwrap_or}
-use Rattle.std.specs.Prelude.{option_and_then, option_map, if◌then◌else◌, ⊤}
+use Rattle.std.specs.Prelude.{◌<◌, ℕ, List, [], Option, Some, None, Result, Ok, codes, map, unwrap_or}
+use Rattle.std.specs.Prelude.{option_and_then, option_map, ok_or, if◌then◌else◌, ⊤}
 use Rattle.std.specs.Result.{result_map_both}
 use Rattle.std.specs.Str.{bytes_eq}
 use Rattle.arrayvec.specs.ArrayVec.{ArrayVec}
@@ -9,6 +9,7 @@ use Rattle.clap_laws.specs.Numbers.{number_of}
 use Rattle.bac_wire.specs.Identifier.{Identifier}
 use Rattle.bac_pdu.specs.declared.peer.Peer.{Peer}
 use Rattle.bac_pdu.specs.Property.{Reference, read_octets}
+use Rattle.bac_pdu.specs.Steps.{◌>>=◌}
 use Rattle.bac_pdu.specs.declared.discovery.WhoIs.{WhoIs}
 use Rattle.bac_pdu.specs.declared.discovery.WhoIs.TheVariants.{All, Range}
 use Rattle.bac_text.specs.Address.{plain_peer_of}
@@ -22,11 +23,6 @@ use Rattle.bac_words.specs.declared.faults.UsageFault.{UsageFault}
 use Rattle.bac_words.specs.declared.faults.UsageFault.TheVariants.{BadIndex, BadMac}
 use Rattle.bac_words.specs.Fault.{usage_of}
 use Rattle.bac_words.specs.Marks.{unmarked}
-
--- What is made of a value that has to be there; where it is not, the fault.
-abbrev pub with_given : {A B : Type 0} → Option A → UsageFault → (A → Result B UsageFault) → Result B UsageFault
-with_given None fault next = Err fault
-with_given (Some x) fault next = next x
 
 -- The number of a word that has to be there.
 abbrev pub needed_number : Text → List Row → ℕ
@@ -77,9 +73,9 @@ reference_given rows =
     record { object = object_given rows; property = property_given rows; index = number_of (codes "index") rows }
 
 abbrev pub read_order : List Row → Result Job UsageFault
-read_order rows =
-    with_given (peer_given rows) BadMac
-    (λ to. Ok (job.Read (call_given to rows (record { items = read_octets (reference_given rows) }))))
+read_order rows = do
+  to ← ok_or (peer_given rows) BadMac
+  Ok (job.Read (call_given to rows (record { items = read_octets (reference_given rows) })))
 
 -- The body of the request, by the same reading of pairs as that of a script.
 abbrev pub body_given : List Row → Option ℕ → Result (List ℕ) PairFault
@@ -87,9 +83,10 @@ body_given rows index = body_of (object_given rows) (property_given rows) index
     (priority_from (needed_number (codes "priority") rows)) (pairs_given rows)
 
 abbrev pub write_order : List Row → Result Job UsageFault
-write_order rows =
-    with_given (peer_given rows) BadMac (λ to. with_given (index_given rows) BadIndex (λ index. result_map_both
-    (λ body. job.Write (call_given to rows (record { items = body }))) usage_of (body_given rows index)))
+write_order rows = do
+  to ← ok_or (peer_given rows) BadMac
+  index ← ok_or (index_given rows) BadIndex
+  result_map_both (λ body. job.Write (call_given to rows (record { items = body }))) usage_of (body_given rows index)
 
 -- The limits of a search: one number is both of them, and no number is no limit.
 abbrev pub limits : Option ℕ → Option ℕ → WhoIs
@@ -97,10 +94,10 @@ limits None most = All
 limits (Some least) most = Range least (unwrap_or most least)
 
 abbrev pub search_order : List Row → Result Job UsageFault
-search_order rows =
-    let who = limits (number_of (codes "min") rows) (number_of (codes "max") rows) in
-    with_given (peer_given rows) BadMac
-    (λ to. Ok (job.WhoIs (record { to = to; timeout = timeout_given rows; port = port_given rows; who = who })))
+search_order rows = do
+  to ← ok_or (peer_given rows) BadMac
+  let who = limits (number_of (codes "min") rows) (number_of (codes "max") rows) in
+      Ok (job.WhoIs (record { to = to; timeout = timeout_given rows; port = port_given rows; who = who }))
 
 abbrev pub serve_order : List Row → Result Job UsageFault
 serve_order rows =

@@ -1,6 +1,6 @@
 //! From the words to the job.
 
-ghost use Rattle.std.specs.Prelude.{◌≡◌, ◌<◌, ◌⊎◌, IfOk, IfSome, IsSomeAnd, Some, codes};
+ghost use Rattle.std.specs.Prelude.{◌≡◌, ◌<◌, ◌≤◌, ◌⊎◌, IfOk, IfSome, IsSomeAnd, Some, codes, length};
 ghost use Rattle.std.specs.Prelude.{IsErrAnd, option_map};
 ghost use Rattle.clap.specs.Words.{found_of, rows_of, subcommand_rows_of};
 ghost use Rattle.clap.specs.Walk.{texts};
@@ -27,8 +27,8 @@ use arrayvec::ArrayVec;
 use bac_device::DeviceInfo;
 use bac_pdu::{Peer, ReadRequest, WhoIs};
 use bac_text::{
-    Call, Job, LONGEST_BODY, PairFault, Search, Serve, body_of_read, body_of_write, plain_peer_in,
-    priority_from, read_write_index,
+    BodyRoom, Call, Job, LONGEST_BODY, PairFault, Search, Serve, plain_peer_in, priority_from,
+    read_write_index,
 };
 use bac_wire::ObjectId;
 use clap::ArgMatches;
@@ -82,7 +82,9 @@ fn read_job(matches: &ArgMatches<'_>) -> Result<Job, UsageFault>
     let Some(to) = peer(matches) else {
         return Err(UsageFault::BadMac);
     };
-    Ok(Job::Read(call(matches, to, body_of_read(&request))))
+    let mut room = BodyRoom::new();
+    let body = kept(room.body_of_read(&request));
+    Ok(Job::Read(call(matches, to, body)))
 }
 
 fn write_job(matches: &ArgMatches<'_>) -> Result<Job, UsageFault>
@@ -158,13 +160,25 @@ fn write_body(
 {
     let pairs = matches.get_strs("tag value").unwrap_or(&[]);
     let mut words = TypedWords::new(pairs);
-    body_of_write(
+    let mut room = BodyRoom::new();
+    let body = room.body_of_write(
         object(matches),
         needed(matches, "property"),
         index,
         priority(matches),
         &mut words,
-    )
+    )?;
+    Ok(kept(body))
+}
+
+// A copy of the body, to be handed on.
+fn kept(body: &[u8]) -> ArrayVec<u8, LONGEST_BODY>
+    requires { length body.now ≤ LONGEST_BODY }
+    ensures { result.items ≡ body.now }
+{
+    let mut room = ArrayVec::new();
+    let _ = room.try_extend_from_slice(body);
+    room
 }
 
 // The limits of a search: one number is both of them, and no number is no limit.

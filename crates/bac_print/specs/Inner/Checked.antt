@@ -1,10 +1,12 @@
--- The transcript of a reader or a writer, one call later.
-use Rattle.std.specs.Prelude.{ℕ, List, [], ◌∷◌, ◌++◌, length, Result}
+-- The transcript of a reader or a writer, one call later; and what no write changes.
+use Rattle.std.specs.Prelude.{◌≡◌, ℕ, List, [], ◌∷◌, ◌++◌, length, take, Result}
 use Rattle.std.specs.declared.io.Error.{Error}
+use Rattle.bac_wire.specs.Steps.{result_seen}
+use Rattle.bac_print.specs.declared.checked.Checked.{Checked}
 use Rattle.bac_print.specs.declared.transcript.Made.{Made}
 use Rattle.bac_print.specs.declared.transcript.Made.TheVariants as made
 use Rattle.bac_print.specs.declared.transcript.Transcript.{Transcript}
-use Rattle.bac_print.specs.StreamCall.{StreamCall, ReadCall, WriteCall, FlushCall, given}
+use Rattle.bac_print.specs.StreamCall.{StreamCall, ReadCall, WriteCall, FlushCall}
 use Rattle.bac_print.specs.Checked.{gone}
 
 -- This call was made, and these octets passed by it.
@@ -13,7 +15,8 @@ having_passed call octets before =
     record { calls = before.calls ++ call ∷ []; octets = before.octets ++ octets; last = octets }
 
 abbrev pub with_read : ℕ → Result ℕ Error → List ℕ → Transcript → Transcript
-with_read room answer octets = having_passed (ReadCall room (given answer octets)) (gone answer octets)
+with_read room answer octets =
+    having_passed (ReadCall room (result_seen (λ count. take count octets) answer)) (gone answer octets)
 
 abbrev pub with_write : List ℕ → Result ℕ Error → Transcript → Transcript
 with_write octets answer = having_passed (WriteCall octets answer) (gone answer octets)
@@ -26,3 +29,7 @@ abbrev pub with_call : Made → Transcript → Transcript
 with_call (made.Read room answer) = with_read (length room.now) answer.now room.now
 with_call (made.Write octets answer) = with_write octets.now answer.now
 with_call (made.Flush answer) = with_flush answer.now
+
+-- What is known of its reads is as before.
+abbrev pub HasNotRead : {T : Type 0} → Checked T → Checked T → Type 0
+HasNotRead before after = after ≡ record before { inner = after.inner; failed = after.failed }

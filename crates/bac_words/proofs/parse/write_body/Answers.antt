@@ -1,7 +1,27 @@
-use Rattle.std.{proofs.Common.{◌∙◌, ap, codes, refl, map, List, [], Option, unwrap_or}, specs.Borrow.Bor}
+use Rattle.std.{
+  proofs.{Common.{◌∙◌, ap, codes, refl, map, List, [], Option, unwrap_or}, lemmas.Result.err_from_is_err_and},
+  specs.Borrow.Bor,
+}
 use Rattle.clap.{specs.{Words.found_of, Walk.{Text, texts}}, proofs.WalkLemmas.raw_values-rows}
 use Rattle.bac_words.{specs.Marks.unmarked, proofs.Given.pairs_typed}
 use Rattle.bac_words.proofs.parse.write_body.Goals as goal
+
+pub returns-in_err-body : goal.returns-in_err-body
+returns-in_err-body c =
+    let given = ap (λ (o : Option (List Text)). map unmarked (unwrap_or o []))
+    (c.get_strs.ensures ∙ raw_values-rows (found_of c.args.matches.now) (codes "tag value")) in
+    let typed = ap (λ (b : Bor (List (Bor Text))). map unmarked (texts b.now)) c.unwrap_or-pairs.ensures
+    ∙ pairs_typed c.get_strs.result _ refl ∙ given in
+    let failed = err_from_is_err_and c.from_residual.result c.from_residual.ensures.1 in
+    rw (
+      failed.1,
+      failed.2,
+      ← c.object.ensures,
+      ← c.needed.ensures.value,
+      ← c.priority.ensures.value,
+      ← typed,
+      ← c.new-words.ensures,
+    ) c.in_err-body.ensures.body
 
 pub returns : goal.returns
 returns c =
@@ -9,5 +29,11 @@ returns c =
     (c.get_strs.ensures ∙ raw_values-rows (found_of c.args.matches.now) (codes "tag value")) in
     let typed = ap (λ (b : Bor (List (Bor Text))). map unmarked (texts b.now)) c.unwrap_or-pairs.ensures
     ∙ pairs_typed c.get_strs.result _ refl ∙ given in
-    rw (← c.object.ensures, ← c.needed.ensures.value, ← c.priority.ensures.value, ← typed, ← c.new-words.ensures)
-    c.body_of_write.ensures.body
+    rw (
+      c.kept.ensures,
+      ← c.object.ensures,
+      ← c.needed.ensures.value,
+      ← c.priority.ensures.value,
+      ← typed,
+      ← c.new-words.ensures,
+    ) c.in_ok-body.ensures.body
