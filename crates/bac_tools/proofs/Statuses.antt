@@ -28,8 +28,8 @@ trace_status : (answer : Result TraceEnd TraceFault) → IsTold (trace_report an
 trace_status (Ok _) = lit≤ tt
 trace_status (Err _) = refl
 
-module _ {N L R W : Type 0} (gives : N → Binding → Result L LinkFault → Type 0) (out : Outside L R W) (network : N)
-    (reader reader' : Checked R) (writer writer' : Checked W) (ran : Ran N L) where
+module _ {N Origin L R W : Type 0} (gives : N → Binding → Result L LinkFault → Type 0) (out : Outside Origin L R W)
+    (network : N) (reader reader' : Checked R) (writer writer' : Checked W) (ran : Ran N L) where
   opened_status : (job : Job) (o p : Option (Result L LinkFault))
       → RunsOpened out reader reader' writer writer' ran.report job o p → IsTold ran.report
   opened_status job (Some (Err fault)) p r = subst IsTold (sym r.3) refl
