@@ -1,7 +1,14 @@
 use Rattle.bac_links.proofs.Lines.{line_of}
+use Rattle.bac_links.specs.Socket.{account_over}
 use Rattle.bac_links.specs.declared.ending.Purpose.TheVariants.{Reading}
 use Rattle.bac_uses.proofs.links.read_over_udp.Goals as goal
 
 pub returns-in-Ok : goal.returns-in-Ok
-returns-in-Ok g c =
-    λ below. rw c.status.ensures (line_of Reading _ _ _ _ _ _ _ c.run_read.ensures.told (rw c.status.ensures at below))
+returns-in-Ok g c = λ below.
+    let link = c.in-Ok.link in
+    let left = c.run_read.new.link in
+    rw c.status.ensures
+    (line_of Reading c.args.call.now g.W.Write.contents _ _
+    (account_over link.refused link.made_of.value.log.calls link.history.entries)
+    (account_over left.refused left.made_of.value.log.calls left.history.entries) _ c.run_read.ensures.told
+    (rw c.status.ensures at below))
