@@ -1,7 +1,7 @@
 //! The program: its words, UDP sockets, standard input and output.
 #![tactic(auto)]
 
-ghost use Rattle.std.specs.Prelude.{◌≡◌, [], IfOk, Result};
+ghost use Rattle.std.specs.Prelude.{◌≡◌, [], false, IfOk, Result};
 ghost use Rattle.std.specs.Process.{exit_status};
 ghost use Rattle.std.specs.declared.io.Error.{Error};
 ghost use Rattle.bac_links.specs.Socket.{Binds, account_over};
@@ -34,7 +34,10 @@ impl Network for Sockets<'_> {
         × (⟦<UdpLink<SystemSocket<HostRuntime>> as Link>⟧.seen link
         ≡ account_over binding.refused link.socket.log.calls [])) };
 
-    fn bind(self, binding: Binding) -> Result<UdpLink<SystemSocket<HostRuntime>>, LinkFault> {
+    fn bind(self, binding: Binding) -> Result<UdpLink<SystemSocket<HostRuntime>>, LinkFault>
+        ensures gives { ⟦<Sockets<'static> as Network>⟧.gives self.entry binding result }
+        ensures sound { IfOk result (λ link. ⟦<UdpLink<SystemSocket<HostRuntime>> as Link>⟧.has_failed link ≡ false) }
+    {
         UdpLink::bind_with(self.rt, self.rt.alloc(), binding.at, binding.refused)
     }
 }
