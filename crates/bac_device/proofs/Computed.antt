@@ -20,16 +20,16 @@ use Rattle.bac_device.specs.{
   Property.{element, kind_property, point_property},
   Kind.one_value,
   Places.{place, standing_after, written_value},
-  Device.{device_text, device_number, device_property},
-  Reply.{property_of, read_property, ordered_write, accepted_write, read_reply, write_reply, write_in_body, full_reply},
-  Reply.{write_in_request, reply_apdu, write_in_apdu, reply_of, write_in_datagram},
+  Device.{fixed_value, device_property},
+  Access.{property_of, read_property, ordered_write, accepted_write},
+  Reply.{read_reply, write_reply, full_reply, reply_of, write_in_datagram},
 }
 
 unfoldable pub computed : Unit {0}
 unfolding tag_number_at long_length_at length_at shape_at tag_at contents_of value_at context_at number_at object_at
     behind_opening enclosed_at kind_at behind_closing behind_items region_at tagged plain plain_tag wrapped front_octets
     address_at header_at link_at carried parts_at apdu_of reference_at read_of write_of plain_parameter element
-    kind_property point_property one_value place standing_after written_value device_text device_number device_property
-    property_of read_property ordered_write accepted_write read_reply write_reply write_in_body full_reply
-    write_in_request reply_apdu write_in_apdu reply_of write_in_datagram
+    kind_property point_property one_value place standing_after written_value fixed_value device_property
+    property_of read_property ordered_write accepted_write read_reply write_reply full_reply reply_of
+    write_in_datagram
 computed = tt

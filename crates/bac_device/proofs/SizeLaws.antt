@@ -5,7 +5,7 @@ use Rattle.std.proofs.{
   lemmas.{Bool.cond_both, Option.{none-some, some_pair_parts}},
 }
 use Rattle.std.specs.Option.{option_map, option_and_then, ForSome}
-use Rattle.bac_wire.specs.{Datum.plain, Tag.plain_tag}
+use Rattle.bac_wire.specs.{Datum.plain, Tag.plain_tag, Steps.◌>>=◌}
 use Rattle.bac_pdu.specs.{
   declared.{peer.Peer.Peer, discovery.WhoIs.WhoIs},
   Discovery.asks,
@@ -21,7 +21,7 @@ use Rattle.bac_device.specs.{
   Device.{DeviceState, device_after},
   Size.{FitsRequest, ReplyFits, RepliesFit},
   Turns.{Arrival, replies_to},
-  Reply.{fitting, i_am, reply_message, reply_apdu, reply_of, who_is_reply, writes_after},
+  Reply.{fitting, i_am, reply_message, reply_of, who_is_reply, writes_after},
 }
 
 -- a route leads to whom a datagram is from
@@ -33,14 +33,14 @@ carried_routable _ _ _ carries =
 
 -- what is sent to the peer of a delivery where this is the reply
 abbrev sent : Delivery → Option Message → Option (Station × List ℕ)
-sent d reply = option_map (λ apdu. (d.peer, wrapped d.peer.route false apdu)) (option_map laid_out reply)
+sent d reply = reply >>= (λ m. Some (d.peer, wrapped d.peer.route false (laid_out m)))
 
 -- What is sent to whom a datagram is from takes the APDU of the reply, where each such reply is short.
 reply_takes : (device : DeviceState) (from to : Station) (datagram reply : List ℕ) (d : Delivery) (m : Message)
     (P : Message → Type 0) → Carries from datagram d → IsLaidOut d.apdu m
     → ((x : Message) → P x → length (laid_out x) ≤ 1476) → IfSome (reply_message device d.broadcast m) P
     → reply_of device from datagram ≡ Some (to, reply) → (x : Message) × P x × Takes to.route false (laid_out x) reply
-unfolding reply_of reply_apdu
+unfolding reply_of
 reply_takes device from to datagram reply d m P carries laid short all e =
     go (reply_message device d.broadcast m) all
     (rw ((carried_is from datagram d).1 carries, (apdu_is d.apdu m).1 laid) at e)

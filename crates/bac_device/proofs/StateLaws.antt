@@ -1,16 +1,27 @@
 -- A device whose places are those after some writes.
 use Rattle.std.proofs.{
   Common.{◌≡◌, ℕ, Bool, true, false, cond, List, [], ◌∷◌, ◌++◌, map, find, Option, Some, None, refl, IfSome, sym, ap},
-  Common.{subst, ◌∙◌, append-nil, arith},
-  lemmas.{Grind.common_steps, Option.{none-some, same_Some}, Simd.map-map},
+  Common.{subst, ◌∙◌, append-nil, arith, if◌then◌else◌},
+  lemmas.{Bool.cases_Bool, Grind.common_steps, Option.{none-some, same_Some}, Simd.map-map},
 }
 use Rattle.std.specs.Option.{option_map, option_and_then, option_to_list}
-use Rattle.bac_pdu.specs.Peer.{Station}
+use Rattle.std.specs.Result.{result_ok}
+use Rattle.bac_pdu.specs.{
+  declared.apdu.Part.Part,
+  Peer.Station,
+  DatagramReading.carried,
+  Apdu.{Message, confirmed},
+  ApduReading.apdu_of,
+  Property.Order,
+}
+use Rattle.bac_wire.specs.Steps.{◌>>=◌}
 use Rattle.bac_wire.specs.Identifier.{Identifier}
 use Rattle.bac_device.specs.{
   Info.Info,
   Inner.Places.IsUrgent,
-  Reply.{with_write, reply_to, writes_after},
+  Access.accepted_write,
+  Reply.{with_write, reply_to, writes_after, order_in, write_in_datagram},
+  Inner.Reply.{write_in_request, write_in_body},
   Point.{Given, Description, description_of},
   Places.{Write, Standing, NoneTo, standing_after, present, place_at, put},
   Device.{DeviceState, points_of, device_after, Holds, with_point, standing_at, point_at, present_after, place_after},
@@ -62,6 +73,33 @@ write_held device writes (Some write) holds urgent =
     ap (λ (s : List Standing). record { info = device.info; standings = s })
     (ap (map (put write)) before ∙ map-map (put write) (standing_after writes) (points_of device)
     ∙ map_same _ _ (λ point. put_after writes write point urgent.0 urgent.1) (points_of device))
+
+-- the write that a request orders, as the code finds it
+pub request_write : (device : DeviceState) (part : Option Part) (code id service : ℕ) (body : List ℕ)
+    → (order_in (confirmed part code id service body) >>= (λ o. result_ok (accepted_write device o)))
+    ≡ write_in_request device part service body
+unfolding write_in_request write_in_body
+request_write _ None _ _ _ _ = grind (arith, cases_Bool)
+request_write _ (Some part) _ _ _ _ = refl
+
+chained : {A B : Type 0} (P : B → Type 0) (o : Option A) (f : A → Option B)
+    → ((a : A) → o ≡ Some a → IfSome (f a) P) → IfSome (o >>= f) P
+chained P None f each = tt
+chained P (Some a) f each = each a refl
+
+-- what holds of the write that each order comes to holds of the write in a datagram
+pub each_ordered : (P : Write → Type 0) (device : DeviceState) (from : Station) (datagram : List ℕ)
+    → ((message : Message) (o : Order) → order_in message ≡ Some o → IfSome (result_ok (accepted_write device o)) P)
+    → IfSome (write_in_datagram device from datagram) P
+unfolding write_in_datagram
+each_ordered P device from datagram each =
+    chained P (carried from datagram) _ (λ d _.
+    chained P (apdu_of d.apdu) _ (λ message _.
+    chained P (if d.broadcast then None else order_in message) _ (λ o is. each message o (ordered d.broadcast _ is))))
+  where
+    ordered : {o : Order} (b : Bool) (found : Option Order) → (if b then None else found) ≡ Some o → found ≡ Some o
+    ordered true found is = absurd (none-some _ is)
+    ordered false found is = is
 
 -- ---- one more point
 

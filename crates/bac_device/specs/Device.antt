@@ -1,5 +1,5 @@
 -- The device: what it keeps, its own properties, and what can be added to it (clause 12.11).
-use Rattle.std.specs.Prelude.{ℕ, ◌==◌, ◌&&◌, ◌||◌, Bool, nat_eq, if◌then◌else◌, List, [], ◌∷◌, ◌++◌}
+use Rattle.std.specs.Prelude.{ℕ, ◌==◌, ◌&&◌, ◌||◌, Bool, false, nat_eq, if◌then◌else◌, List, [], ◌∷◌, ◌++◌}
 use Rattle.std.specs.Prelude.{length, map, find, codes, Option, Result, Err, ◌≡◌}
 use Rattle.std.specs.List.{list_any}
 use Rattle.std.specs.Map.{lookup}
@@ -14,7 +14,7 @@ use Rattle.bac_device.specs.Info.{Info}
 use Rattle.bac_device.specs.Limits.{device_room, no_instance, greatest_apdu, no_segmentation, own_vendor}
 use Rattle.bac_device.specs.Point.{Given, Description, description_of, same_object}
 use Rattle.bac_device.specs.Places.{Write, Standing, standing_after, present, place_at}
-use Rattle.bac_device.specs.Property.{Property, single, array, empty_list, point_objects}
+use Rattle.bac_device.specs.Property.{Property, single, array, point_objects}
 
 -- What a device keeps: what it is known by, and its points as they stand.
 pub record DeviceState : Type 0 where
@@ -87,22 +87,17 @@ device_object info = record { kind = 8; instance = info.instance }
 abbrev pub is_device : Info → Identifier → Bool
 is_device info object = (object.kind == 8) && ((object.instance == info.instance) || (object.instance == no_instance))
 
--- The texts that each device of this kind has, by the number of the property.
-unfoldable pub device_text : ℕ → Option (List ℕ)
-device_text number = lookup (nat_eq number) (
-    (121, codes "Property tools")  -- vendor-name
-    ∷ (70, codes "bacdev")  -- model-name
-    ∷ (44, codes "1")  -- firmware-revision
-    ∷ (12, codes "1")  -- application-software-version
-    ∷ (28, codes "Small BACnet/IP device")  -- description
-    ∷ [])
-
--- The numbers that each device of this kind has, by the number of the property.
-unfoldable pub device_number : ℕ → Option Datum
-device_number number = lookup (nat_eq number) (
+-- The values that each device of this kind has, by the number of the property.
+unfoldable pub fixed_value : ℕ → Option Datum
+fixed_value number = lookup (nat_eq number) (
     (79, enumerated 8)  -- object-type: device
     ∷ (112, enumerated 0)  -- system-status: operational
+    ∷ (121, char_string 0 (codes "Property tools"))  -- vendor-name
     ∷ (120, unsigned own_vendor)  -- vendor-identifier
+    ∷ (70, char_string 0 (codes "bacdev"))  -- model-name
+    ∷ (44, char_string 0 (codes "1"))  -- firmware-revision
+    ∷ (12, char_string 0 (codes "1"))  -- application-software-version
+    ∷ (28, char_string 0 (codes "Small BACnet/IP device"))  -- description
     ∷ (98, unsigned 1)  -- protocol-version
     ∷ (139, unsigned 4)  -- protocol-revision
     ∷ (62, unsigned greatest_apdu)  -- max-apdu-length-accepted
@@ -112,17 +107,12 @@ device_number number = lookup (nat_eq number) (
     ∷ (155, unsigned 1)  -- database-revision
     ∷ [])
 
--- The properties that follow from what the device keeps, and its list of address bindings, by their numbers.
-abbrev pub kept_property : DeviceState → ℕ → Option Property
-kept_property device number = lookup (nat_eq number) (
+-- The properties of the device by their numbers: those that follow from what it keeps, its list of address bindings,
+-- which has no element, and those that each device of this kind has.
+unfoldable pub device_property : DeviceState → ℕ → Option Property
+device_property device number = option_or (lookup (nat_eq number) (
     (75, single (values.object (device_object device.info)))  -- object-identifier
     ∷ (76, array (values.object (device_object device.info) ∷ point_objects device.standings))  -- object-list
     ∷ (77, single (char_string 0 device.info.name))  -- object-name
-    ∷ (30, empty_list)  -- device-address-binding
-    ∷ [])
-
--- The property of the device of this number: one that it keeps, or one that each device of this kind has.
-unfoldable pub device_property : DeviceState → ℕ → Option Property
-device_property device number =
-    option_or (kept_property device number)
-    (option_map single (option_or (option_map (char_string 0) (device_text number)) (device_number number)))
+    ∷ (30, record { is_array = false; values = [] })  -- device-address-binding
+    ∷ [])) (option_map single (fixed_value number))

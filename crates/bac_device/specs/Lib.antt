@@ -6,6 +6,7 @@ pub mod Places
 pub mod Property
 pub mod Failure
 pub mod Device
+pub mod Access
 pub mod Reply
 pub mod Size
 pub mod Demo

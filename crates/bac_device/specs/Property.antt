@@ -27,10 +27,6 @@ single value = record { is_array = false; values = value ∷ [] }
 abbrev pub array : List Datum → Property
 array values = record { is_array = true; values = values }
 
--- A list without elements, which is no array.
-abbrev pub empty_list : Property
-empty_list = record { is_array = false; values = [] }
-
 -- The identifiers of the points.
 abbrev pub point_objects : List Standing → List Datum
 point_objects standings = map (λ standing. object standing.point.object) standings
@@ -68,9 +64,9 @@ kind_property standing number =
     then Some (single (value_of standing.point.kind.family standing.point.start))
     else option_map single (extra_value standing.point.kind.family standing.point.kind.role standing.point.extra number)
 
--- The properties that every point has, by their numbers.
-abbrev pub common_value : Standing → ℕ → Option Datum
-common_value standing number = lookup (nat_eq number) (
+-- The property of a point of this number: one value that every point has, or one of its type.
+unfoldable pub point_property : Standing → ℕ → Option Property
+point_property standing number = option_or (option_map single (lookup (nat_eq number) (
     (75, object standing.point.object)  -- object-identifier
     ∷ (77, char_string 0 standing.point.name)  -- object-name
     ∷ (79, enumerated standing.point.object.kind)  -- object-type
@@ -78,9 +74,4 @@ common_value standing number = lookup (nat_eq number) (
     ∷ (36, enumerated 0)  -- event-state: normal
     ∷ (81, boolean false)  -- out-of-service
     ∷ (111, bit_string 4 (0 ∷ []))  -- status-flags: four, none set
-    ∷ [])
-
--- The property of a point of this number: one that every point has, or one of its type.
-unfoldable pub point_property : Standing → ℕ → Option Property
-point_property standing number =
-    option_or (option_map single (common_value standing number)) (kind_property standing number)
+    ∷ []))) (kind_property standing number)

@@ -1,13 +1,14 @@
--- What the device replies to a datagram, and which write it accepts (clauses 5.4, 15.5, 15.9 and 16.10).
-use Rattle.std.specs.Prelude.{ℕ, ◌==◌, nat_le, Bool, true, false, not, ◌&&◌, ◌||◌, if◌then◌else◌, List, ◌++◌, length}
-use Rattle.std.specs.Prelude.{map, Option, Some, None, is_some, is_none, Result, Ok, Err}
-use Rattle.std.specs.Option.{option_and_then, option_map, option_to_list, ok_or}
+-- What the device replies to a datagram, and which write it makes then (clauses 5.4, 15.5, 15.9 and 16.10).
+use Rattle.std.specs.Prelude.{ℕ, ◌==◌, nat_le, Bool, true, false, if◌then◌else◌, List, ◌++◌, length, map, Option, Some}
+use Rattle.std.specs.Prelude.{None, Result, Ok, Err}
+use Rattle.std.specs.Option.{option_and_then, option_to_list}
 use Rattle.std.specs.Result.{result_ok}
 use Rattle.bac_wire.specs.Identifier.{Identifier}
+use Rattle.bac_wire.specs.Steps.{◌>>=◌}
 use Rattle.bac_pdu.specs.declared.apdu.Part.{Part}
 use Rattle.bac_pdu.specs.declared.reject.RejectReason.{RejectReason}
 use Rattle.bac_pdu.specs.Peer.{Station}
-use Rattle.bac_pdu.specs.Datagram.{Delivery, wrapped}
+use Rattle.bac_pdu.specs.Datagram.{wrapped}
 use Rattle.bac_pdu.specs.DatagramReading.{carried}
 use Rattle.bac_pdu.specs.Apdu.{Message, confirmed, unconfirmed, simple_ack, complex_ack, error, reject}
 use Rattle.bac_pdu.specs.Apdu.{abort, laid_out, announced_size}
@@ -15,70 +16,18 @@ use Rattle.bac_pdu.specs.ApduReading.{apdu_of}
 use Rattle.bac_pdu.specs.Property.{Reference, Order, ReadAck, ack_octets}
 use Rattle.bac_pdu.specs.PropertyReading.{read_of, write_of}
 use Rattle.bac_pdu.specs.Reject.{reason_number}
-use Rattle.bac_pdu.specs.Discovery.{Introduction, asks, i_am_octets}
+use Rattle.bac_pdu.specs.Discovery.{asks, i_am_octets}
 use Rattle.bac_pdu.specs.Failure.{error_octets}
 use Rattle.bac_pdu.specs.ValueReading.{who_is_of}
 use Rattle.bac_device.specs.declared.failure.Failure.{Failure}
-use Rattle.bac_device.specs.declared.failure.Failure.TheVariants.{UnknownObject, UnknownProperty, NotAnArray}
-use Rattle.bac_device.specs.declared.failure.Failure.TheVariants.{WriteDenied}
 use Rattle.bac_device.specs.Info.{Info}
 use Rattle.bac_device.specs.Limits.{greatest_apdu, no_segmentation, own_vendor}
-use Rattle.bac_pdu.specs.Steps.{◌>>=◌}
-use Rattle.bac_device.specs.Kind.{is_commandable}
 use Rattle.bac_device.specs.Point.{Description}
-use Rattle.bac_device.specs.Places.{Write, Standing, written_value, put}
-use Rattle.bac_device.specs.Property.{Property, element, region_octets, point_property}
+use Rattle.bac_device.specs.Places.{Write, put}
+use Rattle.bac_device.specs.Property.{Property, region_octets}
 use Rattle.bac_device.specs.Failure.{error_class, error_code}
-use Rattle.bac_device.specs.Device.{DeviceState, device_after, device_object, is_device, standing_at, device_property}
-
--- ---- ReadProperty (clause 15.5)
-
--- The property of this number of the object, or why there is none: no such object, or no such property.
-unfoldable pub property_of : DeviceState → Identifier → ℕ → Result Property Failure
-property_of device object number =
-    if is_device device.info object then ok_or (device_property device number) UnknownProperty
-    else do
-      standing ← ok_or (standing_at device object) UnknownObject
-      ok_or (point_property standing number) UnknownProperty
-
--- What is asked for: a property, or an element of it; or why it can't be read.
-unfoldable pub read_property : DeviceState → Reference → Result Property Failure
-read_property device r = do
-  property ← property_of device r.object r.property
-  element property r.index
-
--- ---- WriteProperty (clause 15.9)
-
--- The point whose present value the reference names, where points of its type can be written.
-abbrev pub commanded_point : DeviceState → Reference → Option Standing
-commanded_point device r =
-    if not (r.property == 85) || is_device device.info r.object then None
-    else option_and_then (λ standing. if is_commandable standing.point.kind.role then Some standing else None)
-    (standing_at device r.object)
-
--- The priority of a write: 16, the least urgent, where it names none. Priority 6 is kept for minimum on and off times
--- (clause 19.2), and is refused.
-abbrev pub urgency : Option ℕ → Result ℕ Failure
-urgency None = Ok 16
-urgency (Some priority) = if priority == 6 then Err WriteDenied else Ok priority
-
--- The write that an order asks of a point, or the first failure that applies: priority 6, a value of another type, a
--- value out of range.
-unfoldable pub ordered_write : Standing → Order → Result Write Failure
-ordered_write standing o = do
-  priority ← urgency o.priority
-  value ← written_value standing.point o.value
-  Ok (record { object = o.reference.object; priority = priority; value = value })
-
--- The write that is ordered, or the first failure that applies: an unknown object, an unknown property, an index at
--- what is no array, a property that can't be written, and then those of the point.
-unfoldable pub accepted_write : DeviceState → Order → Result Write Failure
-accepted_write device o = do
-  property ← property_of device o.reference.object o.reference.property
-  if is_some o.reference.index && not property.is_array then Err NotAnArray
-      else do
-        standing ← ok_or (commanded_point device o.reference) WriteDenied
-        ordered_write standing o
+use Rattle.bac_device.specs.Device.{DeviceState, device_after, device_object, is_device}
+use Rattle.bac_device.specs.Access.{read_property, accepted_write}
 
 -- ---- the replies to confirmed requests
 
@@ -115,10 +64,6 @@ unfoldable pub write_reply : DeviceState → ℕ → List ℕ → Message
 write_reply device id body =
     unless_rejected id (λ o. unless_failed id 15 (λ _. simple_ack id 15) (accepted_write device o)) (write_of body)
 
--- The write that the body of a WriteProperty orders and the device accepts.
-unfoldable pub write_in_body : DeviceState → List ℕ → Option Write
-write_in_body device body = option_and_then (λ o. result_ok (accepted_write device o)) (result_ok (write_of body))
-
 -- An Abort of the server: segmentation not supported (4, clause 18.10).
 abbrev pub refused : ℕ → Message
 refused id = abort true id 4
@@ -132,28 +77,20 @@ full_reply device None id service body =
     else if service == 15 then write_reply device id body
     else reject id 9
 
--- The write that a request orders and the device accepts: a WriteProperty that comes whole.
-unfoldable pub write_in_request : DeviceState → Option Part → ℕ → List ℕ → Option Write
-write_in_request device part service body = if is_none part && service == 15 then write_in_body device body else None
-
 -- The reply, or an Abort where it would have more octets than the requester announced (clause 5.4.5).
 abbrev pub fitting : ℕ → ℕ → Message → Message
 fitting code id full = if nat_le (length (laid_out full)) (announced_size code) then full else refused id
 
 -- ---- Who-Is (clause 16.10)
 
--- What the device says of itself: its identifier, the greatest APDU that it takes, no segmentation, and its vendor.
-abbrev pub own_introduction : Info → Introduction
-own_introduction info = record {
+-- The I-Am of the device: its identifier, the greatest APDU that it takes, no segmentation, and its vendor.
+abbrev pub i_am : Info → Message
+i_am info = unconfirmed 0 (i_am_octets (record {
   device = device_object info;
   max_apdu = greatest_apdu;
   segmentation = no_segmentation;
   vendor = own_vendor;
-}
-
--- The I-Am of the device.
-abbrev pub i_am : Info → Message
-i_am info = unconfirmed 0 (i_am_octets (own_introduction info))
+}))
 
 -- The I-Am, where the body of a Who-Is asks for the device.
 unfoldable pub who_is_reply : Info → List ℕ → Option Message
@@ -170,35 +107,26 @@ reply_message device broadcast (confirmed part code id service body) =
 reply_message device broadcast (unconfirmed service body) = if service == 8 then who_is_reply device.info body else None
 reply_message device broadcast _ = None
 
--- The write that an APDU orders and the device accepts.
-abbrev pub write_in_message : DeviceState → Bool → Message → Option Write
-write_in_message device broadcast (confirmed part code id service body) =
-    if broadcast then None else write_in_request device part service body
-write_in_message device broadcast _ = None
+-- What a WriteProperty (15) that comes whole orders.
+abbrev pub order_in : Message → Option Order
+order_in (confirmed None code id service body) = if service == 15 then result_ok (write_of body) else None
+order_in _ = None
 
--- The octets of the reply to the octets of an APDU.
-unfoldable pub reply_apdu : DeviceState → Bool → List ℕ → Option (List ℕ)
-reply_apdu device broadcast apdu =
-    option_and_then (λ message. option_map laid_out (reply_message device broadcast message)) (apdu_of apdu)
-
--- The write that the octets of an APDU order and the device accepts.
-unfoldable pub write_in_apdu : DeviceState → Bool → List ℕ → Option Write
-write_in_apdu device broadcast apdu = option_and_then (write_in_message device broadcast) (apdu_of apdu)
-
--- The reply to what a datagram carries, as a unicast to its peer.
-abbrev pub reply_delivery : DeviceState → Delivery → Option (Station × List ℕ)
-reply_delivery device delivery =
-    option_map (λ apdu. (delivery.peer, wrapped delivery.peer.route false apdu))
-    (reply_apdu device delivery.broadcast delivery.apdu)
-
--- The reply of the device, as it stands, to a datagram from there: to whom it goes, and which datagram it is.
+-- The reply of the device, as it stands, to a datagram from there: to whom it goes, and the unicast that takes it.
 unfoldable pub reply_of : DeviceState → Station → List ℕ → Option (Station × List ℕ)
-reply_of device from datagram = option_and_then (reply_delivery device) (carried from datagram)
+reply_of device from datagram = do
+  delivery ← carried from datagram
+  message ← apdu_of delivery.apdu
+  reply ← reply_message device delivery.broadcast message
+  Some (delivery.peer, wrapped delivery.peer.route false (laid_out reply))
 
--- The write in a datagram from there that the device, as it stands, accepts.
+-- The write that a datagram from there orders and the device, as it stands, accepts; none of one that was sent to all.
 unfoldable pub write_in_datagram : DeviceState → Station → List ℕ → Option Write
-write_in_datagram device from datagram =
-    option_and_then (λ delivery. write_in_apdu device delivery.broadcast delivery.apdu) (carried from datagram)
+write_in_datagram device from datagram = do
+  delivery ← carried from datagram
+  message ← apdu_of delivery.apdu
+  order ← if delivery.broadcast then None else order_in message
+  result_ok (accepted_write device order)
 
 -- The device once the write is made, if there is one.
 abbrev pub with_write : DeviceState → Option Write → DeviceState

@@ -16,7 +16,7 @@ FitsRequest (unconfirmed service body) apdu = length apdu ≡ 15
 FitsRequest _ apdu = ⊥
 
 -- Whatever request the datagram from there carries, the reply takes to its station an APDU that fits the request. A
--- datagram takes only one APDU to a station (law `one_record` of bac_pdu, `taken`).
+-- datagram takes only one APDU to a station (law `wrapped_round` of bac_pdu, `one`).
 abbrev pub ReplyFits : Station → List ℕ → Station × List ℕ → Type 0
 ReplyFits from datagram reply = (delivery : Delivery) (request : Message) → Carries from datagram delivery
     → IsLaidOut delivery.apdu request

@@ -4,7 +4,7 @@ ghost use Rattle.std.specs.Prelude.{◌≡◌, IfOk, IfSome};
 ghost use Rattle.bac_wire.specs.Steps.{result_seen};
 ghost use Rattle.bac_pdu.specs.Property.{order, IsPriority};
 ghost use Rattle.bac_device.specs.Inner.Places.{write_seen};
-ghost use Rattle.bac_device.specs.Reply as spec;
+ghost use Rattle.bac_device.specs.Access as spec;
 
 use crate::device::Device;
 use crate::failure::Failure;
@@ -20,7 +20,7 @@ const MINIMUM_TIMES: u8 = 6;
 
 impl Device {
     /// The write that a request orders, where the device accepts it; else why it does not.
-    #[tactic(auto, unfolding(crate::specs::Reply::accepted_write))]
+    #[tactic(auto, unfolding(crate::specs::Access::accepted_write))]
     pub(crate) fn accepted_write(&self, request: &WriteRequest<'_>) -> Result<PlaceWrite, Failure>
         requires { IfSome request.now.priority IsPriority }
         ensures { result_seen write_seen result ≡ spec.accepted_write self.now (order request.now) }
@@ -41,7 +41,7 @@ impl Device {
 }
 
 // The write that a request orders of a point.
-#[tactic(auto, unfolding(crate::specs::Reply::ordered_write))]
+#[tactic(auto, unfolding(crate::specs::Access::ordered_write))]
 fn ordered_write(point: &StandingPoint, request: &WriteRequest<'_>) -> Result<PlaceWrite, Failure>
     requires { IfSome request.now.priority IsPriority }
     ensures { result_seen write_seen result ≡ spec.ordered_write point.now (order request.now) }

@@ -5,7 +5,7 @@ ghost use Rattle.std.specs.Prelude.{Err, Some, None};
 ghost use Rattle.std.specs.List.{list_any};
 ghost use Rattle.std.specs.Option.{option_map, option_and_then, option_copied};
 ghost use Rattle.std.specs.Str.{bytes_eq};
-ghost use Rattle.bac_wire.specs.Datum.{datum, IsSound};
+ghost use Rattle.bac_wire.specs.Datum.{datum, char_string, IsSound};
 ghost use Rattle.bac_wire.specs.Identifier.{identifier};
 ghost use Rattle.bac_device.specs.Limits.{device_room};
 ghost use Rattle.bac_device.specs.Kind.{value_of};
@@ -16,8 +16,9 @@ ghost use Rattle.bac_wire.specs.Steps.{result_seen};
 ghost use Rattle.bac_device.specs.Property.{single};
 ghost use Rattle.bac_device.specs.Inner.Property.{property_seen, IsSoundProperty};
 ghost use Rattle.bac_device.specs.Device.{Holds, points_of, device_after, standing_at, present_after, place_after};
-ghost use Rattle.bac_device.specs.Device.{add_point, device_text, device_number, device_property};
-ghost use Rattle.bac_device.specs.Reply.{property_of, commanded_point, with_write};
+ghost use Rattle.bac_device.specs.Device.{add_point, fixed_value, device_property};
+ghost use Rattle.bac_device.specs.Access.{property_of, commanded_point};
+ghost use Rattle.bac_device.specs.Reply.{with_write};
 
 use crate::failure::Failure;
 use crate::info::DeviceInfo;
@@ -148,7 +149,7 @@ impl Device {
     }
 
     /// The property of this number of the object.
-    #[tactic(auto, unfolding(crate::specs::Reply::property_of))]
+    #[tactic(auto, unfolding(crate::specs::Access::property_of))]
     pub(crate) fn property(&self, object: ObjectId, number: u32) -> Result<Property<'_>, Failure>
         ensures value { result_seen property_seen result ≡ property_of self.now (identifier object) number }
         ensures sound { IfOk result IsSoundProperty }
@@ -161,7 +162,7 @@ impl Device {
     }
 
     /// The point whose present value this property is, where it can be written.
-    #[tactic(auto, unfolding(crate::specs::Reply::property_of, crate::specs::Property::point_property))]
+    #[tactic(auto, unfolding(crate::specs::Access::property_of, crate::specs::Property::point_property))]
     pub(crate) fn commanded_point(&self, object: ObjectId, number: u32) -> Option<&StandingPoint>
         ensures point { option_copied result
             ≡ commanded_point self.now (record { object = identifier object; property = number; index = None }) }
@@ -210,10 +211,7 @@ impl Device {
             OBJECT_LIST => Some(Property::ObjectList(self.info.object(), self.points.as_slice())),
             OBJECT_NAME => Some(Property::Single(Value::Chars(UTF_8, self.info.name().as_bytes()))),
             DEVICE_ADDRESS_BINDING => Some(Property::EmptyList),
-            _ => match fixed_text(number) {
-                Some(text) => Some(Property::Single(Value::Chars(UTF_8, text.as_bytes()))),
-                None => Some(Property::Single(fixed_number(number)?)),
-            },
+            _ => Some(Property::Single(fixed_value(number)?)),
         }
     }
 
@@ -248,31 +246,21 @@ fn put_in(points: &mut [StandingPoint], write: &PlaceWrite)
     }
 }
 
-// The text of a property of every device of this kind.
-#[tactic(auto, unfolding(crate::specs::Device::device_text))]
-fn fixed_text(number: u32) -> Option<&'static str>
-    ensures { option_map (λ text. text.now) result ≡ device_text number }
-{
-    match number {
-        VENDOR_NAME => Some("Property tools"),
-        MODEL_NAME => Some("bacdev"),
-        FIRMWARE_REVISION => Some("1"),
-        APPLICATION_SOFTWARE_VERSION => Some("1"),
-        DESCRIPTION => Some("Small BACnet/IP device"),
-        _ => None,
-    }
-}
-
-// The number of a property of every device of this kind.
-#[tactic(auto, unfolding(crate::specs::Device::device_number))]
-fn fixed_number(number: u32) -> Option<Value<'static>>
-    ensures value { option_map datum result ≡ device_number number }
+// The value of a property of every device of this kind.
+#[tactic(auto, unfolding(crate::specs::Device::fixed_value))]
+fn fixed_value(number: u32) -> Option<Value<'static>>
+    ensures value { option_map datum result ≡ fixed_value number }
     ensures sound { IfSome result (λ value. IsSound (datum value)) }
 {
     match number {
         OBJECT_TYPE => Some(Value::Enumerated(u32::from(DEVICE))),
         SYSTEM_STATUS => Some(Value::Enumerated(OPERATIONAL)),
+        VENDOR_NAME => Some(text("Property tools")),
         VENDOR_IDENTIFIER => Some(Value::Unsigned(VENDOR)),
+        MODEL_NAME => Some(text("bacdev")),
+        FIRMWARE_REVISION => Some(text("1")),
+        APPLICATION_SOFTWARE_VERSION => Some(text("1")),
+        DESCRIPTION => Some(text("Small BACnet/IP device")),
         PROTOCOL_VERSION => Some(Value::Unsigned(1)),
         PROTOCOL_REVISION => Some(Value::Unsigned(4)),
         MAX_APDU_LENGTH_ACCEPTED => Some(Value::Unsigned(MAX_APDU)),
@@ -282,4 +270,12 @@ fn fixed_number(number: u32) -> Option<Value<'static>>
         DATABASE_REVISION => Some(Value::Unsigned(1)),
         _ => None,
     }
+}
+
+// A text as a value.
+fn text(octets: &'static str) -> Value<'static>
+    ensures value { datum result ≡ char_string 0 octets.now }
+    ensures sound { IsSound (datum result) }
+{
+    Value::Chars(UTF_8, octets.as_bytes())
 }

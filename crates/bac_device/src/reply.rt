@@ -16,7 +16,9 @@ ghost use Rattle.bac_device.specs.Inner.Property.{property_seen, IsSoundProperty
 ghost use Rattle.bac_device.specs.Failure.{error_class, error_code};
 ghost use Rattle.bac_device.specs.Device.{Holds, points_of, device_after};
 ghost use Rattle.bac_device.specs.Size.{ReplyFits};
+ghost use Rattle.bac_device.specs.Access.{read_property};
 ghost use Rattle.bac_device.specs.Reply as spec;
+ghost use Rattle.bac_device.specs.Inner.Reply.{reply_apdu, write_in_apdu, write_in_request, write_in_body};
 
 use crate::device::Device;
 use crate::failure::Failure;
@@ -60,7 +62,7 @@ impl Device {
     }
 
     // The same, where the frame is empty at first.
-    #[tactic(auto, unfolding(crate::specs::Reply::reply_of, crate::specs::Reply::write_in_datagram))]
+    #[tactic(auto, unfolding(crate::specs::Reply::reply_of, crate::specs::Reply::write_in_datagram, crate::specs::Inner::Reply::reply_apdu, crate::specs::Inner::Reply::write_in_apdu))]
     fn answer_into(&mut self, from: Peer, datagram: &[u8], frame: &mut Frame) -> Option<Peer>
         requires { frame.old ≡ [] }
         ensures reply { option_map (λ peer. (station peer, frame.new)) result
@@ -81,14 +83,14 @@ impl Device {
 
     // Appends the reply to the octets of an APDU to an empty frame; an accepted write is made. None where there is no
     // reply.
-    #[tactic(auto, unfolding(crate::specs::Reply::reply_apdu, crate::specs::Reply::write_in_apdu))]
+    #[tactic(auto, using(crate::proofs::StateLaws::request_write), unfolding(crate::specs::Inner::Reply::reply_apdu, crate::specs::Inner::Reply::write_in_apdu))]
     fn reply(&mut self, broadcast: bool, apdu: &[u8], frame: &mut Frame) -> Option<()>
         requires { frame.old ≡ [] }
-        ensures reply { option_map (λ _. frame.new) result ≡ spec.reply_apdu self.old broadcast apdu.now }
+        ensures reply { option_map (λ _. frame.new) result ≡ reply_apdu self.old broadcast apdu.now }
         ensures silent { IfNone result (frame.new ≡ []) }
         ensures few { length frame.new ≤ 1476 }
-        ensures after { self.new ≡ spec.with_write self.old (spec.write_in_apdu self.old broadcast apdu.now) }
-        ensures urgent { IfSome (spec.write_in_apdu self.old broadcast apdu.now) IsUrgent }
+        ensures after { self.new ≡ spec.with_write self.old (write_in_apdu self.old broadcast apdu.now) }
+        ensures urgent { IfSome (write_in_apdu self.old broadcast apdu.now) IsUrgent }
     {
         match read_apdu(apdu)? {
             Apdu::Confirmed {
@@ -123,8 +125,8 @@ impl Device {
         ensures reply { frame.new
             ≡ laid_out (spec.fitting code id (spec.full_reply self.old part id service body.now)) }
         ensures few { length frame.new ≤ 1476 }
-        ensures after { self.new ≡ spec.with_write self.old (spec.write_in_request self.old part service body.now) }
-        ensures urgent { IfSome (spec.write_in_request self.old part service body.now) IsUrgent }
+        ensures after { self.new ≡ spec.with_write self.old (write_in_request self.old part service body.now) }
+        ensures urgent { IfSome (write_in_request self.old part service body.now) IsUrgent }
     {
         match self.full_reply(part, id, service, body, frame) {
             Ok(()) if frame.len() <= usize::from(announced(code)) => {}
@@ -133,7 +135,7 @@ impl Device {
     }
 
     // Appends the whole reply to a confirmed request to an empty frame; an accepted write is made.
-    #[tactic(auto, unfolding(crate::specs::Reply::full_reply, crate::specs::Reply::write_in_request))]
+    #[tactic(auto, unfolding(crate::specs::Reply::full_reply, crate::specs::Inner::Reply::write_in_request))]
     fn full_reply(
         &mut self,
         part: Option<Part>,
@@ -146,8 +148,8 @@ impl Device {
         ensures ok { OnOk result (frame.new ≡ laid_out (spec.full_reply self.old part id service body.now)) }
         ensures full { OnErr result
             (frame_room < length (laid_out (spec.full_reply self.old part id service body.now))) }
-        ensures after { self.new ≡ spec.with_write self.old (spec.write_in_request self.old part service body.now) }
-        ensures urgent { IfSome (spec.write_in_request self.old part service body.now) IsUrgent }
+        ensures after { self.new ≡ spec.with_write self.old (write_in_request self.old part service body.now) }
+        ensures urgent { IfSome (write_in_request self.old part service body.now) IsUrgent }
     {
         if part.is_some() {
             make_abort(id, frame);
@@ -178,13 +180,13 @@ impl Device {
     }
 
     // Appends the reply to a WriteProperty with this body to an empty frame; an accepted write is made.
-    #[tactic(auto, unfolding(crate::specs::Reply::write_reply, crate::specs::Reply::write_in_body))]
+    #[tactic(auto, unfolding(crate::specs::Reply::write_reply, crate::specs::Inner::Reply::write_in_body))]
     fn write_reply(&mut self, id: u8, body: &[u8], frame: &mut Frame) -> Result<(), Full>
         requires { frame.old ≡ [] }
         ensures ok { OnOk result (frame.new ≡ laid_out (spec.write_reply self.old id body.now)) }
         ensures full { OnErr result (frame_room < length (laid_out (spec.write_reply self.old id body.now))) }
-        ensures after { self.new ≡ spec.with_write self.old (spec.write_in_body self.old body.now) }
-        ensures urgent { IfSome (spec.write_in_body self.old body.now) IsUrgent }
+        ensures after { self.new ≡ spec.with_write self.old (write_in_body self.old body.now) }
+        ensures urgent { IfSome (write_in_body self.old body.now) IsUrgent }
     {
         let request = match read_write(body) {
             Ok(request) => request,
@@ -206,9 +208,9 @@ impl Device {
     }
 
     // The property that a request asks for, or the element of it.
-    #[tactic(auto, unfolding(crate::specs::Reply::read_property))]
+    #[tactic(auto, unfolding(crate::specs::Access::read_property))]
     fn read_property(&self, request: &ReadRequest) -> Result<Property<'_>, Failure>
-        ensures value { result_seen property_seen result ≡ spec.read_property self.now (reference request.now) }
+        ensures value { result_seen property_seen result ≡ read_property self.now (reference request.now) }
         ensures sound { IfOk result IsSoundProperty }
     {
         let property = self.property(request.object, request.property)?;

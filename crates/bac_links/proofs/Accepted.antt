@@ -1,12 +1,12 @@
 -- A write that a device accepts is at a priority that there is; so its replies, one after another, are those of the
 -- definition.
 use Rattle.std.{
-  proofs.Common.{◌≡◌, ℕ, Bool, List, [], ◌∷◌, ◌++◌, Option, Some, None, Result, Ok, Err, IfSome, refl, ap, ◌∙◌, arith},
+  proofs.Common.{◌≡◌, ℕ, Bool, List, [], ◌∷◌, ◌++◌, Option, Result, Ok, Err, IfSome, refl, ap, ◌∙◌, arith, subst},
   proofs.lemmas.Bool.cases_Bool,
-  specs.{Prelude.if◌then◌else◌, Option.{ok_or, option_and_then, option_to_list}, Result.result_ok},
+  specs.{Prelude.if◌then◌else◌, Option.{ok_or, option_to_list}, Result.result_ok},
 }
 use Rattle.bac_pdu.{
-  specs.{Peer.Station, declared.apdu.Part.Part, Apdu.Message, Property.{Order, IsPriority}, PropertyReading.write_of},
+  specs.{Peer.Station, Apdu.Message, Property.{Order, IsPriority}, PropertyReading.write_of},
   specs.Steps.◌>>=◌,
   proofs.WriteLaws.write_is,
 }
@@ -16,11 +16,11 @@ use Rattle.bac_device.specs.{
   Places.{Write, Standing},
   Inner.Places.IsUrgent,
   Device.{DeviceState, device_after, Holds},
-  Reply.{urgency, ordered_write, accepted_write, write_in_body, write_in_request, write_in_message, write_in_apdu},
-  Reply.{write_in_datagram, reply_to, writes_after},
+  Access.{urgency, ordered_write, accepted_write},
+  Reply.{order_in, write_in_datagram, reply_to, writes_after},
   Turns.{Arrival, AreDefined, all_writes, replies_to},
 }
-use Rattle.bac_device.proofs.StateLaws.{points_after, write_held, after_holds}
+use Rattle.bac_device.proofs.StateLaws.{points_after, write_held, after_holds, each_ordered}
 use Rattle.bac_links.specs.Serve.{device_next, device_behind, replies_of}
 
 -- ---- one write
@@ -39,15 +39,6 @@ if_ok : {A E : Type 0} (P : A → Type 0) (r : Result A E) → ((a : A) → r �
 if_ok P (Ok a) h = h a refl
 if_ok P (Err failure) h = tt
 
-was_ok : {A E : Type 0} (r : Result A E) (a : A) → result_ok r ≡ Some a → r ≡ Ok a
-was_ok (Ok x) a e = cc
-was_ok (Err failure) a e = cc
-
-if_then : {A B : Type 0} (P : B → Type 0) (f : A → Option B) (o : Option A)
-    → ((a : A) → o ≡ Some a → IfSome (f a) P) → IfSome (option_and_then f o) P
-if_then P f None h = tt
-if_then P f (Some a) h = h a refl
-
 urgency_is : (priority : Option ℕ) (n : ℕ) → IfSome priority IsPriority → urgency priority ≡ Ok n → IsPriority n
 urgency_is = grind arith
 
@@ -61,27 +52,23 @@ accepted_urgent : (device : DeviceState) (o : Order) (write : Write) → IfSome 
 unfolding accepted_write
 accepted_urgent = grind (arith, stepped, passed, ordered_urgent)
 
-body_urgent : (device : DeviceState) (body : List ℕ) → IfSome (write_in_body device body) IsUrgent
-unfolding write_in_body
-body_urgent device body =
-    if_then IsUrgent _ (result_ok (write_of body)) (λ o is.
-    if_ok IsUrgent (accepted_write device o)
-    (λ write made.
-    accepted_urgent device o write ((write_is body (Ok o)).0 (was_ok (write_of body) o is)).whole.urgent made))
+made_urgent : (device : DeviceState) (o : Order) → IfSome o.priority IsPriority
+    → IfSome (result_ok (accepted_write device o)) IsUrgent
+made_urgent device o urgent =
+    if_ok IsUrgent (accepted_write device o) (λ write made. accepted_urgent device o write urgent made)
 
-request_urgent : (device : DeviceState) (part : Option Part) (service : ℕ) (body : List ℕ)
-    → IfSome (write_in_request device part service body) IsUrgent
-unfolding write_in_request
-request_urgent = grind (arith, cases_Bool, body_urgent)
+body_urgent : (body : List ℕ) → IfSome (result_ok (write_of body)) (λ o. IfSome o.priority IsPriority)
+body_urgent body = if_ok _ (write_of body) (λ o is. ((write_is body (Ok o)).0 is).whole.urgent)
 
-message_urgent : (device : DeviceState) (broadcast : Bool) (message : Message)
-    → IfSome (write_in_message device broadcast message) IsUrgent
-message_urgent = grind (arith, request_urgent)
+order_urgent : (message : Message) → IfSome (order_in message) (λ o. IfSome o.priority IsPriority)
+order_urgent = grind (arith, cases_Bool, body_urgent)
 
 datagram_urgent : (device : DeviceState) (from : Station) (datagram : List ℕ)
     → IfSome (write_in_datagram device from datagram) IsUrgent
-unfolding write_in_datagram write_in_apdu
-datagram_urgent = grind (arith, if_then, message_urgent)
+datagram_urgent device from datagram =
+    let urgent = λ (found : Option Order). IfSome found (λ o. IfSome o.priority IsPriority) in
+    each_ordered IsUrgent device from datagram (λ message o is.
+    made_urgent device o (subst urgent is (order_urgent message)))
 
 -- ---- one datagram after another
 

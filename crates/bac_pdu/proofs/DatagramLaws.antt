@@ -10,7 +10,6 @@ use Rattle.std.specs.Prelude.{IfSome, ◌↔◌, is_some, OnOk, Result}
 use Rattle.byteorder.specs.{Endian.big_number, Numbers.big_number-reads_back}
 use Rattle.bac_wire.{
   proofs.{Readers.{IsReader, Took, took, took_as, found_at, only_if, unless, chosen}, TagLaws.bind_some},
-  specs.Front.IsSingle,
 }
 use Rattle.bac_pdu.specs.{
   Bits.bit,
@@ -340,11 +339,6 @@ pub local_front : (expect : Bool) (size : ℕ) (header : List ℕ) → size ≤ 
     ≡ front_octets None expect size
 unfolding front_octets
 local_front = grind arith
-
--- octets of which each spelling is read back spell one thing
-pub single : {A : Type 0} (Spells : List ℕ → A → Type 0) (read : List ℕ → Option A)
-    → ((octets : List ℕ) (x : A) → Spells octets x → read octets ≡ Some x) → IsSingle Spells
-single = grind arith
 
 -- an APDU behind its front takes it to the station
 pub put_front_takes : {T E : Type 0} (result : Result T E) (to : Option NetworkAddress) (expect : Bool) (apdu : List ℕ)

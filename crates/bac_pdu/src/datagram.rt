@@ -4,7 +4,7 @@ ghost use Rattle.std.specs.Prelude.{◌≡◌, ◌<◌, ◌≤◌, ◌+◌, ◌^
 ghost use Rattle.std.specs.Option.{option_map};
 ghost use Rattle.bac_wire.specs.Limits.{frame_room};
 ghost use Rattle.bac_pdu.specs.Peer.{station, IsRoutable};
-ghost use Rattle.bac_pdu.specs.Datagram.{delivery, Takes, wrapped, front_count};
+ghost use Rattle.bac_pdu.specs.Datagram.{delivery, Takes, wrapped};
 ghost use Rattle.bac_pdu.specs.Inner.Datagram.{front_octets};
 ghost use Rattle.bac_pdu.specs.DatagramReading.{link_at, origin_at, carried};
 
@@ -83,9 +83,7 @@ pub fn open_datagram(from: Peer, datagram: &[u8]) -> Option<Carried<'_>>
 pub fn wrap(to: Peer, expect: bool, apdu: &[u8], frame: &mut Frame) -> Result<(), Full>
     ensures ok { OnOk result (frame.new ≡ wrapped (station to).route expect apdu.now) }
     ensures whole { OnOk result (Takes (station to).route expect apdu.now frame.new) }
-    ensures size { OnOk result (length frame.new ≡ front_count (station to).route + length apdu.now) }
-    ensures fits { OnOk result (front_count (station to).route + length apdu.now ≤ frame_room) }
-    ensures cause { OnErr result (frame_room < front_count (station to).route + length apdu.now) }
+    ensures fits { OnOk result (length (wrapped (station to).route expect apdu.now) ≤ frame_room) }
     ensures full { OnErr result (frame_room < length (wrapped (station to).route expect apdu.now)) }
     ensures room { OnErr result (1480 < length apdu.now) }
     ensures err { OnErr result (frame.new ≡ frame.old) }
@@ -102,9 +100,7 @@ pub fn wrap(to: Peer, expect: bool, apdu: &[u8], frame: &mut Frame) -> Result<()
 pub fn wrap_within(to: Peer, expect: bool, frame: &mut Frame) -> Result<(), Full>
     ensures ok { OnOk result (frame.new ≡ wrapped (station to).route expect frame.old) }
     ensures whole { OnOk result (Takes (station to).route expect frame.old frame.new) }
-    ensures size { OnOk result (length frame.new ≡ front_count (station to).route + length frame.old) }
-    ensures fits { OnOk result (front_count (station to).route + length frame.old ≤ frame_room) }
-    ensures cause { OnErr result (frame_room < front_count (station to).route + length frame.old) }
+    ensures fits { OnOk result (length (wrapped (station to).route expect frame.old) ≤ frame_room) }
     ensures full { OnErr result (frame_room < length (wrapped (station to).route expect frame.old)) }
     ensures room { OnErr result (1480 < length frame.old) }
     ensures err { OnErr result (frame.new ≡ frame.old) }

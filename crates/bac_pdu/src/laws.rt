@@ -1,7 +1,7 @@
 //! What holds of the definitions that the contracts cite. Each function has an empty body, and its clause is the law;
 //! those at the end are `clone` or `==` of types, and say what a clone is, or what is compared.
 
-ghost use Rattle.std.specs.Prelude.{◌≡◌, ◌↔◌, ◌+◌, ◌<◌, ◌≤◌, ◌^◌, ◌++◌, ℕ, Bool, false, List, [], ◌∷◌, length};
+ghost use Rattle.std.specs.Prelude.{◌≡◌, ◌↔◌, ◌+◌, ◌<◌, ◌^◌, ◌++◌, ℕ, Bool, false, List, [], ◌∷◌, length};
 ghost use Rattle.std.specs.Prelude.{Option, Some, None, IfSome, Result, Ok};
 ghost use Rattle.std.specs.List.{AllByRecursion};
 ghost use Rattle.bac_wire.specs.Datum.{IsDatum, enumerated};
@@ -9,7 +9,6 @@ ghost use Rattle.bac_pdu.specs.declared.discovery.WhoIs.{WhoIs};
 ghost use Rattle.bac_pdu.specs.declared.discovery.WhoIs.TheVariants.{Range};
 ghost use Rattle.bac_pdu.specs.declared.reject.RejectReason.{RejectReason};
 ghost use Rattle.bac_pdu.specs.Peer.{Station, NetworkAddress, IsRoutable, network_address, station};
-ghost use Rattle.bac_wire.specs.Front.{IsSingle};
 ghost use Rattle.bac_wire.specs.Copies.{MakesCopies, EqualsBy};
 ghost use Rattle.bac_pdu.specs.Datagram.{Delivery, Carries, Takes, front_count, wrapped};
 ghost use Rattle.bac_pdu.specs.DatagramReading.{carried};
@@ -35,7 +34,8 @@ use crate::reject::RejectReason;
 use crate::route::{ADDRESS_OCTETS, Route};
 use crate::service::{I_AM, READ_PROPERTY, WHO_IS, WRITE_PROPERTY};
 
-/// The function that reads each kind of octets finds what the standard says that they are, and nothing else.
+/// The function that reads each kind of octets finds what the standard says that they are, and nothing else; so octets
+/// are one thing of each kind at most.
 pub fn in_words()
     ensures carried { (from : Station) (datagram : List ℕ) (delivery : Delivery)
         → (carried from datagram ≡ Some delivery) ↔ Carries from datagram delivery }
@@ -71,30 +71,16 @@ pub fn come_back()
         → error_of (error_octets class code ++ rest) ≡ Some (class, code) }
 {}
 
-/// What is written round an APDU is a datagram in the standard's words, of so many octets; an answer is written in
-/// three parts.
+/// What is written round an APDU is a datagram in the standard's words, of so many octets, and takes no other APDU to
+/// the station; an answer is written in three parts.
 pub fn wrapped_round()
     ensures words { (to : Option NetworkAddress) (expect : Bool) (apdu : List ℕ) → IfSome to IsRoutable
         → length (wrapped to expect apdu) < 65536 → Takes to expect apdu (wrapped to expect apdu) }
-    ensures short { (to : Option NetworkAddress) (expect : Bool) (apdu : List ℕ) → IfSome to IsRoutable
-        → length (wrapped to expect apdu) ≤ 17 + length apdu }
+    ensures one { (to : Option NetworkAddress) (expect : Bool) (datagram a b : List ℕ)
+        → Takes to expect a datagram → Takes to expect b datagram → a ≡ b }
     ensures length { (to : Option NetworkAddress) (expect : Bool) (apdu : List ℕ)
         → length (wrapped to expect apdu) ≡ front_count to + length apdu }
     ensures parts { (a : ReadAck) → ack_octets a ≡ (ack_front a.reference ++ a.value) ++ ack_end }
-{}
-
-/// Octets are one thing of each kind at most, and a datagram takes one APDU to a station at most.
-pub fn one_record()
-    ensures delivery { (from : Station) → IsSingle (Carries from) }
-    ensures taken { (to : Option NetworkAddress) (expect : Bool)
-        → IsSingle (λ datagram apdu. Takes to expect apdu datagram) }
-    ensures apdu { IsSingle IsLaidOut }
-    ensures read { IsSingle IsReadBody }
-    ensures write { IsSingle IsWriteBody }
-    ensures ack { IsSingle IsAckBody }
-    ensures who_is { IsSingle IsWhoIsBody }
-    ensures i_am { IsSingle IsIAmBody }
-    ensures error { IsSingle IsErrorBody }
 {}
 
 /// The numbers that the code names: of the services and of the object type of devices, as the standard has them (clause

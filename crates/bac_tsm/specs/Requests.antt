@@ -1,9 +1,8 @@
 -- A request as it was accepted, its end, and the notes on it.
-use Rattle.std.specs.Prelude.{ℕ, List, [], ◌∷◌, map, Option, Some, None, nat_lt, nat_eq, Bool, false, if◌then◌else◌}
+use Rattle.std.specs.Prelude.{ℕ, List, [], ◌∷◌, map, Option, Some, None, nat_lt, nat_eq, if◌then◌else◌}
 use Rattle.std.specs.Prelude.{Result, Ok, Err}
 use Rattle.std.specs.List.{fold}
-use Rattle.std.specs.Option.{option_map_or, option_to_list}
-use Rattle.std.specs.Result.{result_ok}
+use Rattle.std.specs.Option.{option_map_or}
 use Rattle.bac_tsm.specs.declared.client.SubmitFault.{SubmitFault}
 use Rattle.bac_tsm.specs.Events.{Outcome, Event, Data, Note, Sent, Refused, Done, Dropped, TimedOut, Request, Rules}
 
@@ -23,10 +22,6 @@ earlier_end None late = late
 earlier_end (Some early) None = Some early
 earlier_end (Some early) (Some late) = if nat_lt early.position late.position then Some early else Some late
 
--- There is an end, and it lies before position i.
-abbrev pub is_over : ℕ → Option End → Bool
-is_over i end = option_map_or (λ e. nat_lt e.position i) end false
-
 -- The outcome that the event gives to a request, if it is an answer to it.
 abbrev pub outcome_of_event : Rules → Request → Option Event → Option Outcome
 outcome_of_event rules request (Some (Data peer bytes)) = rules.outcome_of request peer bytes
@@ -43,10 +38,6 @@ numbers_of requests = map (λ a. a.request.invoke_id) requests
 -- The request, where there is no reason to refuse it.
 abbrev pub unless_refused : Option SubmitFault → Accepted → Result Accepted SubmitFault
 unless_refused refusal request = option_map_or Err refusal (Ok request)
-
--- The request that was accepted, if one was.
-abbrev pub ok_to_list : Result Accepted SubmitFault → List Accepted
-ok_to_list result = option_to_list (result_ok result)
 
 -- The note on an end, if it is at position i: the outcome, or that the time ran out where there is none.
 abbrev pub end_notes : ℕ → Request → Option End → List Note

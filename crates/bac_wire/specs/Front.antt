@@ -22,10 +22,6 @@ SpellsTo Spells octets (x ∷ xs) rest = (next : List ℕ) × Begins Spells octe
 abbrev pub SpellsAll : {A : Type 0} → (List ℕ → A → Type 0) → List ℕ → List A → Type 0
 SpellsAll Spells octets xs = SpellsTo Spells octets xs []
 
--- Octets spell at most one thing.
-abbrev pub IsSingle : {A : Type 0} → (List ℕ → A → Type 0) → Type 0
-IsSingle {A} Spells = (octets : List ℕ) (x y : A) → Spells octets x → Spells octets y → x ≡ y
-
 -- A function that reads from left to right: what it takes is spelled at the front, and what is spelled it takes,
 -- whatever follows.
 pub record IsReader {A : Type 0} (Spells : List ℕ → A → Type 0) (at : List ℕ → Option (A × List ℕ)) : Type 0 where

@@ -1,16 +1,16 @@
 -- A property as the code keeps it.
-use Rattle.std.specs.Prelude.{◌∷◌, map}
+use Rattle.std.specs.Prelude.{false, [], ◌∷◌, map}
 use Rattle.bac_wire.specs.Identifier.{identifier}
 use Rattle.bac_wire.specs.Datum.{datum, object, IsSound}
 use Rattle.bac_device.specs.declared.property.Property.{Property as AnyProperty}
 use Rattle.bac_device.specs.declared.property.Property.TheVariants.{Single, EmptyList, ObjectList, PriorityArray}
 use Rattle.bac_device.specs.Kind.{place_value}
-use Rattle.bac_device.specs.Property.{Property, single, array, empty_list, point_objects}
+use Rattle.bac_device.specs.Property.{Property, single, array, point_objects}
 
 -- A property as the code has it, without where its parts lie in memory.
 abbrev pub property_seen : AnyProperty → Property
 property_seen (Single value) = single (datum value)
-property_seen EmptyList = empty_list
+property_seen EmptyList = record { is_array = false; values = [] }
 property_seen (ObjectList device points) = array (object (identifier device) ∷ point_objects points.now)
 property_seen (PriorityArray family places) = array (map (place_value family) places.now)
 

@@ -6,7 +6,7 @@ use Rattle.bac_device.specs.{
   Property.single,
   Places.Standing,
   Device.DeviceState,
-  Reply.{property_of, commanded_point, ordered_write, accepted_write},
+  Access.{property_of, commanded_point, ordered_write, accepted_write},
 }
 use Rattle.bac_device.proofs.device.Device.accepted_write.Goals as goal
 

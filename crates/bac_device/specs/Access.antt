@@ -1,0 +1,62 @@
+-- What is read of a device, and which writes it accepts (clauses 15.5 and 15.9).
+use Rattle.std.specs.Prelude.{ℕ, ◌==◌, not, ◌&&◌, ◌||◌, if◌then◌else◌, Option, Some, None, is_some, Result, Ok, Err}
+use Rattle.std.specs.Option.{option_and_then, ok_or}
+use Rattle.bac_wire.specs.Identifier.{Identifier}
+use Rattle.bac_pdu.specs.Property.{Reference, Order}
+use Rattle.bac_pdu.specs.Steps.{◌>>=◌}
+use Rattle.bac_device.specs.declared.failure.Failure.{Failure}
+use Rattle.bac_device.specs.declared.failure.Failure.TheVariants.{UnknownObject, UnknownProperty, NotAnArray}
+use Rattle.bac_device.specs.declared.failure.Failure.TheVariants.{WriteDenied}
+use Rattle.bac_device.specs.Kind.{is_commandable}
+use Rattle.bac_device.specs.Places.{Write, Standing, written_value}
+use Rattle.bac_device.specs.Property.{Property, element, point_property}
+use Rattle.bac_device.specs.Device.{DeviceState, is_device, standing_at, device_property}
+
+-- ---- ReadProperty (clause 15.5)
+
+-- The property of this number of the object, or why there is none: no such object, or no such property.
+unfoldable pub property_of : DeviceState → Identifier → ℕ → Result Property Failure
+property_of device object number =
+    if is_device device.info object then ok_or (device_property device number) UnknownProperty
+    else do
+      standing ← ok_or (standing_at device object) UnknownObject
+      ok_or (point_property standing number) UnknownProperty
+
+-- What is asked for: a property, or an element of it; or why it can't be read.
+unfoldable pub read_property : DeviceState → Reference → Result Property Failure
+read_property device r = do
+  property ← property_of device r.object r.property
+  element property r.index
+
+-- ---- WriteProperty (clause 15.9)
+
+-- The point whose present value the reference names, where points of its type can be written.
+abbrev pub commanded_point : DeviceState → Reference → Option Standing
+commanded_point device r =
+    if not (r.property == 85) || is_device device.info r.object then None
+    else option_and_then (λ standing. if is_commandable standing.point.kind.role then Some standing else None)
+    (standing_at device r.object)
+
+-- The priority of a write: 16, the least urgent, where it names none. Priority 6 is kept for minimum on and off times
+-- (clause 19.2), and is refused.
+abbrev pub urgency : Option ℕ → Result ℕ Failure
+urgency None = Ok 16
+urgency (Some priority) = if priority == 6 then Err WriteDenied else Ok priority
+
+-- The write that an order asks of a point, or the first failure that applies: priority 6, a value of another type, a
+-- value out of range.
+unfoldable pub ordered_write : Standing → Order → Result Write Failure
+ordered_write standing o = do
+  priority ← urgency o.priority
+  value ← written_value standing.point o.value
+  Ok (record { object = o.reference.object; priority = priority; value = value })
+
+-- The write that is ordered, or the first failure that applies: an unknown object, an unknown property, an index at
+-- what is no array, a property that can't be written, and then those of the point.
+unfoldable pub accepted_write : DeviceState → Order → Result Write Failure
+accepted_write device o = do
+  property ← property_of device o.reference.object o.reference.property
+  if is_some o.reference.index && not property.is_array then Err NotAnArray
+      else do
+        standing ← ok_or (commanded_point device o.reference) WriteDenied
+        ordered_write standing o

@@ -1,0 +1,34 @@
+-- The reply and the write, from the octets of an APDU down to the body of a WriteProperty, as the code finds them.
+use Rattle.std.specs.Prelude.{ℕ, ◌==◌, ◌&&◌, Bool, if◌then◌else◌, List, Option, Some, None, is_none}
+use Rattle.std.specs.Result.{result_ok}
+use Rattle.bac_wire.specs.Steps.{◌>>=◌}
+use Rattle.bac_pdu.specs.declared.apdu.Part.{Part}
+use Rattle.bac_pdu.specs.Apdu.{laid_out}
+use Rattle.bac_pdu.specs.ApduReading.{apdu_of}
+use Rattle.bac_pdu.specs.PropertyReading.{write_of}
+use Rattle.bac_device.specs.Places.{Write}
+use Rattle.bac_device.specs.Device.{DeviceState}
+use Rattle.bac_device.specs.Access.{accepted_write}
+use Rattle.bac_device.specs.Reply.{reply_message, order_in}
+
+-- The octets of the reply to the octets of an APDU.
+unfoldable pub reply_apdu : DeviceState → Bool → List ℕ → Option (List ℕ)
+reply_apdu device broadcast apdu = do
+  message ← apdu_of apdu
+  reply ← reply_message device broadcast message
+  Some (laid_out reply)
+
+-- The write that the octets of an APDU order and the device accepts.
+unfoldable pub write_in_apdu : DeviceState → Bool → List ℕ → Option Write
+write_in_apdu device broadcast apdu = do
+  message ← apdu_of apdu
+  order ← if broadcast then None else order_in message
+  result_ok (accepted_write device order)
+
+-- The write that the body of a WriteProperty orders and the device accepts.
+unfoldable pub write_in_body : DeviceState → List ℕ → Option Write
+write_in_body device body = result_ok (write_of body) >>= (λ o. result_ok (accepted_write device o))
+
+-- The write that a request orders and the device accepts.
+unfoldable pub write_in_request : DeviceState → Option Part → ℕ → List ℕ → Option Write
+write_in_request device part service body = if is_none part && service == 15 then write_in_body device body else None
