@@ -2,18 +2,18 @@
 -- what the relations say.
 use Rattle.std.proofs.{
   Common.{◌≡◌, ℕ, suc, ◌+◌, ◌-◌, ◌<◌, ◌≤◌, List, [], ◌∷◌, ◌++◌, length, take, drop, Option, Some, None, refl, sym, ap},
-  Common.{subst, ◌∙◌, append_assoc, arith, inl},
+  Common.{subst, ◌∙◌, append_assoc, arith, inl, ◌↔◌},
   lemmas.List.{append_cancel_left, append_cancel_right, append-nil, drop_at, length-take-le},
   lemmas.Option.{none-some, some_pair_parts, same_Some},
 }
 use Rattle.std.specs.Option.{option_map}
 use Rattle.bac_wire.specs.{
   declared.tag.{Shape.Shape, Shape.TheVariants.{Opening, Closing}, Tag.Tag},
-  Inner.{Front.Finds, Region.{HasEnded, LeavesRest, CountsBehind, LeavesBehind}},
+  Inner.{Front.Finds, Region.{CountsBehind, LeavesBehind}},
   Tag.SpellsTag,
   Steps.◌>>=◌,
   TagReading.tag_at,
-  Region.{opening_tag, closing_tag, IsSequence, none, more, IsItem, IsRegion, IsClosedRegion},
+  Region.{opening_tag, closing_tag, IsSequence, none, more, IsItem, IsRegion, HasEnded, LeavesRest, IsClosedRegion},
   Region.{FindsRegion, SpellsClosed, Opens, here, past, into},
   ItemReading.{behind_count, behind_closing, behind_item, behind_items, region_at},
 }
@@ -141,11 +141,23 @@ items_read _ _ _ short = record {
   again = λ rest l. left_again _ _ _ _ _ (omega arith) short l;
 }
 
+-- the function and the relation say the same
+pub items_is : (depth : ℕ) (octets rest : List ℕ)
+    → (behind_items (length octets + 1) depth octets ≡ Some rest) ↔ LeavesRest depth octets rest
+items_is _ _ _ =
+    let reads = items_read _ _ _ (omega arith) in
+    (reads.takes _, reads.again _)
+
 pub whole_region : (depth : ℕ) (octets rest : List ℕ) → LeavesRest depth octets rest → rest ≡ [] → IsRegion depth octets
 whole_region = grind (arith, append-nil)
 
 pub region_whole : (depth : ℕ) (octets : List ℕ) → IsRegion depth octets → LeavesRest depth octets []
 region_whole = grind (arith, append-nil)
+
+-- a region leaves nothing
+pub whole_is : (depth : ℕ) (octets : List ℕ)
+    → (behind_items (length octets + 1) depth octets ≡ Some []) ↔ IsRegion depth octets
+whole_is = grind (arith, whole_region, items_is, region_whole)
 
 -- ---- the items of the code
 

@@ -14,8 +14,8 @@ use Rattle.bac_wire.specs.{
   TagReading.tag_at,
   ItemReading.{behind_count, closing_of, behind_closing, behind_item, behind_tag, behind_tag_found, behind_items},
   Front.Begins,
-  Region.{closing_tag, Counts, IsPrimitive, none, more, IsBracketed, IsItem, IsRegion},
-  Inner.Region.{HasEnded, LeavesRest, LeavesBehind},
+  Region.{closing_tag, Counts, IsPrimitive, none, more, IsBracketed, IsItem, IsRegion, HasEnded, LeavesRest},
+  Inner.Region.LeavesBehind,
 }
 use Rattle.bac_wire.proofs.{Readers.{found_at, chosen, unless}, TagLaws.{tag_reader, bind_some}}
 

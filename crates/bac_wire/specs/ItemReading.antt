@@ -1,4 +1,4 @@
--- Reading items from left to right: the octets behind them. `SpellsClosed` says what that means.
+-- Reading items from left to right: the octets behind them. `LeavesRest` and `SpellsClosed` say what that means.
 use Rattle.std.specs.Prelude.{ℕ, zero, suc, ◌-◌, nat_lt, ◌==◌, if◌then◌else◌, List, [], ◌∷◌, length, take, drop, Option}
 use Rattle.std.specs.Prelude.{Some, None}
 use Rattle.bac_wire.specs.declared.tag.Shape.{Shape}
@@ -42,7 +42,7 @@ behind_tag_found items depth (x ∷ xs) None = None
 behind_tag_found items depth octets (Some t) = behind_tag items depth octets t.0 t.0.shape t.1
 
 -- The octets behind the items at the front. Each step takes an item or goes into one; `steps` ends the recursion, and
--- one more than there are octets is enough.
+-- one more than there are octets is enough (law `regions`, `rest`).
 unfoldable pub behind_items : (steps depth : ℕ) → List ℕ → Option (List ℕ)
 behind_items zero depth octets = None
 behind_items (suc steps) depth octets = behind_tag_found (behind_items steps) depth octets (tag_at octets)

@@ -52,7 +52,18 @@ IsItem (suc depth) octets = IsPrimitive octets
 abbrev pub IsRegion : ℕ → List ℕ → Type 0
 IsRegion depth octets = IsSequence (IsItem depth) octets
 
--- ---- a region that a closing tag ends
+-- ---- what stands behind the items at the front
+
+-- Nothing is left, or a closing tag begins what is left.
+abbrev pub HasEnded : List ℕ → Type 0
+HasEnded octets = (octets ≡ []) ⊎ ((number : ℕ) × (rest : List ℕ) × Begins SpellsTag octets (closing_tag number) rest)
+
+-- The octets are whole items, and then this rest, which is empty or begins with a closing tag.
+pub record LeavesRest (depth : ℕ) (octets rest : List ℕ) : Type 0 where
+  pub front : List ℕ
+  pub region : IsRegion depth front
+  pub whole : octets ≡ front ++ rest
+  pub ended : HasEnded rest
 
 -- The octets begin with this front, which is whole items, and a closing tag of this number stands behind it.
 pub record IsClosedRegion (depth number : ℕ) (octets front : List ℕ) : Type 0 where

@@ -6,8 +6,7 @@ ghost use Rattle.bac_wire.specs.Limits.{deepest};
 ghost use Rattle.bac_wire.specs.Inner.Front.{Finds};
 ghost use Rattle.bac_wire.specs.TagReading.{tag_at};
 ghost use Rattle.bac_wire.specs.ItemReading.{behind_closing};
-ghost use Rattle.bac_wire.specs.Region.{IsRegion, FindsRegion};
-ghost use Rattle.bac_wire.specs.Inner.Region.{LeavesRest};
+ghost use Rattle.bac_wire.specs.Region.{IsRegion, FindsRegion, LeavesRest};
 ghost use Rattle.bac_wire.specs.Inner.Region.{CountsBehind, LeavesBehind};
 
 use crate::tag::{Shape, Tag, tag_and_rest};

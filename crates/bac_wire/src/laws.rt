@@ -2,7 +2,7 @@
 //! function has an empty body, and its clauses are the laws.
 
 ghost use Rattle.bac_wire.specs.declared.tag.Tag.{Tag};
-ghost use Rattle.std.specs.Prelude.{◌≡◌, ℕ, ◌^◌, ◌<◌, ◌≤◌, ◌↔◌, List, ◌++◌, Some};
+ghost use Rattle.std.specs.Prelude.{◌≡◌, ℕ, ◌+◌, ◌^◌, ◌<◌, ◌≤◌, ◌↔◌, List, [], ◌++◌, length, Some};
 ghost use Rattle.bac_wire.specs.Limits.{frame_room, deepest};
 ghost use Rattle.bac_wire.specs.Front.{IsPrefixFree, IsReadBack, IsReader, IsShortest, SpellsAll};
 ghost use Rattle.bac_wire.specs.Tag.{SpellsTag, IsTag, plain_tag};
@@ -10,8 +10,8 @@ ghost use Rattle.bac_wire.specs.TagReading.{tag_at};
 ghost use Rattle.bac_wire.specs.Identifier.{Identifier, IsIdentifier, identifier};
 ghost use Rattle.bac_wire.specs.Datum.{Datum, IsDatum, IsSound, Spells, datum, plain, enumerated, object};
 ghost use Rattle.bac_wire.specs.DatumReading.{value_at, values_of};
-ghost use Rattle.bac_wire.specs.Region.{IsItem, IsRegion, IsClosedRegion, Opens, SpellsClosed, closing_tag};
-ghost use Rattle.bac_wire.specs.ItemReading.{region_at};
+ghost use Rattle.bac_wire.specs.Region.{IsItem, IsRegion, IsClosedRegion, LeavesRest, Opens, SpellsClosed, closing_tag};
+ghost use Rattle.bac_wire.specs.ItemReading.{behind_items, region_at};
 ghost use Rattle.bac_wire.specs.Parameter.{SpellsContext, SpellsIn, SpellsEnclosed, number_octets, object_octets};
 ghost use Rattle.bac_wire.specs.Parameter.{enclosed_octets};
 ghost use Rattle.bac_wire.specs.Copies.{MakesCopies, EqualsBy};
@@ -59,11 +59,16 @@ pub fn items()
         → octets ≡ front ++ rest → count ≤ depth }
 {}
 
-/// Regions: a body has one end of its region, whatever depth is allowed and whatever the closing tag's number, and
-/// `region_at` reads the region that a closing tag of its number ends.
+/// Regions: a body has one end of its region, whatever depth is allowed and whatever the closing tag's number.
+/// `behind_items` finds what whole items leave, and nothing where the whole list is a region; `region_at` reads the
+/// region that a closing tag of its number ends.
 pub fn regions()
     ensures one { (depth other number another : ℕ) (octets a b : List ℕ) → IsClosedRegion depth number octets a
         → IsClosedRegion other another octets b → (a ≡ b) × (number ≡ another) }
+    ensures rest { (depth : ℕ) (octets rest : List ℕ)
+        → (behind_items (length octets + 1) depth octets ≡ Some rest) ↔ LeavesRest depth octets rest }
+    ensures whole { (depth : ℕ) (octets : List ℕ)
+        → (behind_items (length octets + 1) depth octets ≡ Some []) ↔ IsRegion depth octets }
     ensures reading { (number : ℕ) → IsReader (SpellsClosed number) (region_at number) }
 {}
 

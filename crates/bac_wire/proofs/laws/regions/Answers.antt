@@ -1,8 +1,10 @@
-use Rattle.bac_wire.proofs.ItemLaws.{one_region, region_reader}
+use Rattle.bac_wire.proofs.ItemLaws.{one_region, items_is, region_reader, whole_is}
 use Rattle.bac_wire.proofs.laws.regions.Goals as goal
 
 pub returns : goal.returns
 returns c = record {
   one = one_region;
+  rest = items_is;
+  whole = whole_is;
   reading = region_reader;
 }
