@@ -54,7 +54,6 @@ examples: program
 	@tests/program/lengths.py $(PROGRAM)
 	@tests/program/rows.py $(PROGRAM)
 	@tests/program/failing.py $(PROGRAM)
-	@tests/program/steps.py $(PROGRAM)
 	@tests/program/bacsite.py $(PROGRAM)
 
 forget:
