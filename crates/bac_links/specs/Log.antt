@@ -4,8 +4,8 @@ use Rattle.std.specs.Result.{result_ok, result_map_both}
 use Rattle.std.specs.IoError.{error_kind}
 use Rattle.std.specs.Duration.{as_nanos}
 use Rattle.bac_links.specs.SystemCall.{SystemCall, Bind, Limit, SendTo, Receive, Elapsed}
-use Rattle.bac_links.specs.declared.log.CallNote.{CallNote}
-use Rattle.bac_links.specs.declared.log.CallNote.TheVariants as note
+use Rattle.bac_links.specs.declared.history.CallNote.{CallNote}
+use Rattle.bac_links.specs.declared.history.CallNote.TheVariants as note
 
 -- The call, with its answer, of which a note tells.
 abbrev pub call_of : CallNote → SystemCall

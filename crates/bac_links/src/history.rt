@@ -1,13 +1,18 @@
-//! What a link was asked and answered. It exists only in proofs: it takes no memory, and its methods do nothing.
+//! What a link was asked and answered, and the calls of the system that its socket made. Both exist only in proofs:
+//! they take no memory, and their methods do nothing.
 ghost use Rattle.std.specs.Prelude.{◌≡◌, List, [], ◌∷◌, ◌++◌};
 ghost use Rattle.std.specs.Borrow.{ftrue};
 ghost use Rattle.bac_pdu.specs.Peer.{station};
 ghost use Rattle.bac_links.specs.History.{heard_by, Entry, Waited, Timed, posted};
+ghost use Rattle.bac_links.specs.SystemCall.{SystemCall};
 
 use crate::datagram::Datagram;
 use crate::link::LinkFault;
 use bac_pdu::Peer;
+use std::io;
 use std::marker::Model;
+use std::net::SocketAddr;
+use std::time::Duration;
 
 /// All that a link was asked and answered so far. A clause reads it as `entries`.
 #[derive(Drop)]
@@ -79,5 +84,43 @@ impl History {
             Ok(()) => Note::Sent(to, octets),
             Err(_) => Note::Unsent(to, octets),
         })
+    }
+}
+
+/// All calls of the system that a socket made so far, with the answers. A clause reads it as `calls`.
+#[derive(Drop)]
+pub struct Log {
+    pub ghost calls: { List SystemCall },
+}
+
+impl Model for Log {
+    ghost also_owns = { λ _. ftrue };
+}
+
+/// One call of the system, with its answer.
+#[derive(Clone, Copy, Drop)]
+pub enum CallNote<'a> {
+    Bind(SocketAddr),
+    Limit(Duration, &'a io::Result<()>),
+    SendTo(&'a [u8], SocketAddr, &'a io::Result<usize>),
+    Receive(&'a [u8], &'a io::Result<(usize, SocketAddr)>),
+    Elapsed(&'a io::Result<Duration>),
+}
+
+impl Log {
+    ghost use Rattle.bac_links.specs.Log.{logged};
+
+    /// No call was made yet.
+    pub fn new() -> Log
+        ensures { result.calls ≡ [] }
+    {
+        Log {}
+    }
+
+    /// The log, and this call behind it.
+    pub fn and(&self, _note: &CallNote<'_>) -> Log
+        ensures { result.calls ≡ logged self.now.calls _note.now }
+    {
+        Log {}
     }
 }

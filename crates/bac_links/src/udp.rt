@@ -15,9 +15,8 @@ ghost use Rattle.bac_links.specs.SystemCall.{Bind, Limit, SendTo, Receive, Elaps
 ghost use Rattle.bac_links.specs.Keeps.{Keeps};
 
 use crate::datagram::{DATAGRAM_OCTETS, Datagram};
-use crate::history::History;
+use crate::history::{CallNote, History, Log};
 use crate::link::{Link, LinkFault};
-use crate::log::{CallNote, Log};
 use bac_pdu::Peer;
 use std::alloc::Global;
 use std::io;

@@ -4,7 +4,7 @@ use Rattle.std.specs.Prelude.{List, [], ◌∷◌, ◌++◌, length, take, Optio
 use Rattle.std.specs.Io.KnownBytes.{Appends, Consumes}
 use Rattle.std.specs.Result.{result_unwrap_or}
 use Rattle.bac_print.specs.declared.checked.Checked.{Checked}
-use Rattle.bac_print.specs.declared.transcript.Transcript.{Transcript}
+use Rattle.bac_print.specs.declared.noted.Transcript.{Transcript}
 use Rattle.bac_print.specs.StreamCall.{StreamCall, WriteCall}
 
 -- The reader or writer within.

@@ -23,7 +23,6 @@ mod noted;
 mod outcomes;
 mod page;
 mod peer_texts;
-mod transcript;
 mod values;
 
 pub use checked::{Checked, WriteFailed};

@@ -3,9 +3,9 @@ use Rattle.std.specs.Prelude.{◌≡◌, ℕ, List, [], ◌∷◌, ◌++◌, len
 use Rattle.std.specs.declared.io.Error.{Error}
 use Rattle.bac_wire.specs.Steps.{result_seen}
 use Rattle.bac_print.specs.declared.checked.Checked.{Checked}
-use Rattle.bac_print.specs.declared.transcript.Made.{Made}
-use Rattle.bac_print.specs.declared.transcript.Made.TheVariants as made
-use Rattle.bac_print.specs.declared.transcript.Transcript.{Transcript}
+use Rattle.bac_print.specs.declared.noted.Made.{Made}
+use Rattle.bac_print.specs.declared.noted.Made.TheVariants as made
+use Rattle.bac_print.specs.declared.noted.Transcript.{Transcript}
 use Rattle.bac_print.specs.StreamCall.{StreamCall, ReadCall, WriteCall, FlushCall}
 use Rattle.bac_print.specs.Checked.{gone}
 

@@ -3,10 +3,10 @@ use Rattle.bac_print.specs.Checked.{nothing_passed}
 use Rattle.bac_print.proofs.{
   Walks.{[], ◌∷◌, refl, proved, raw, ◌$◌, ◌∵◌, !, qed, done, drop, fjoin, suffices, agg, enter, returns, no_more},
   Walks.{alloc_all, pass_all, free_all, look_at, sets, nothing, on_entry, says, ends_at, none, none_made},
-  transcript.Transcript.new.Statement.statement,
+  noted.Transcript.new.Statement.statement,
 }
-use Rattle.bac_print.specs.contracts.transcript.Transcript.new as f
-use Rattle.bac_print.proofs.transcript.Transcript.new.Code as code
+use Rattle.bac_print.specs.contracts.noted.Transcript.new as f
+use Rattle.bac_print.proofs.noted.Transcript.new.Code as code
 
 pub new_spec : {M : Type 1} → statement M
 new_spec 𝓤 𝓛 𝓜 𝓡 wired =

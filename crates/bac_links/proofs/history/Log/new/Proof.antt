@@ -3,9 +3,9 @@ use Rattle.bac_print.proofs.{
   Walks.{[], ◌∷◌, refl, proved, raw, ◌$◌, ◌∵◌, !, qed, done, drop, fjoin, suffices, agg, enter, returns, no_more},
   Walks.{alloc_all, pass_all, free_all, look_at, sets, nothing, on_entry, says, ends_at, none, none_made},
 }
-use Rattle.bac_links.proofs.log.Log.new.Statement.{statement}
-use Rattle.bac_links.specs.contracts.log.Log.new as f
-use Rattle.bac_links.proofs.log.Log.new.Code as code
+use Rattle.bac_links.proofs.history.Log.new.Statement.{statement}
+use Rattle.bac_links.specs.contracts.history.Log.new as f
+use Rattle.bac_links.proofs.history.Log.new.Code as code
 
 pub new_spec : {M : Type 1} → statement M
 new_spec 𝓤 𝓛 𝓜 𝓡 wired =
