@@ -180,9 +180,8 @@ def test(clock):
 
 
 def gate(clock):
-    # `rt ci` goes beside it, and each further process of a crate loads the crates below once more.
-    sparing = {"RT_JOBS": str(max(processors() // 2, 1))}
-    others = [build(gently("./build.py"))._replace(settings=sparing), bodies("wrong bodies")]
+    # `rt ci` goes beside it, and each further process of a crate would load the crates below once more
+    others = [build(gently("./build.py", "--sparing")), bodies("wrong bodies")]
     with tempfile.TemporaryDirectory(prefix="gate-") as room:
         read_back = r"^(\d+) rows .* and (\d+) other texts|agree with the tree$"
         documents = Part("documents", ["make", "--no-print-directory", "documents"], read_back)

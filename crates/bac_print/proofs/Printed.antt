@@ -5,7 +5,7 @@ use Rattle.std.proofs.{
 }
 use Rattle.bac_print.{
   specs.declared.{checked.Checked.Checked, page.Page.Page},
-  specs.{Checked.has_failed, Page.{held, Writes, Wrote, Prints}},
+  specs.{Checked.has_failed, Page.{Writes, Wrote, Prints}},
   proofs.Known.Took-more,
 }
 use Rattle.hex.specs.Hex.{encode_with, encode_lower}
