@@ -1,6 +1,6 @@
 -- What the look-ahead says of the events of a call, one event after another.
 use Rattle.std.proofs.{
-  lemmas.{Grind.common_steps, List.{append-nil, length_push, take-append-le}, List.Concat.flat_map-append},
+  lemmas.{Grind.common_steps, List.{append-nil, length_push, take-append-le}},
   lemmas.{List.Elements.All-nil, Option.{slice_get_within, get_or_from_slice_get}, Bool.{cases_eq, cases_lt}},
   lemmas.Bool.Decides.nat_tests,
   Common.{◌≡◌, ℕ, zero, suc, ◌-◌, ◌<◌, ◌≤◌, List, [], ◌∷◌, ◌++◌, flat_map, length, Option, Some, None, Result, Ok},
@@ -83,7 +83,7 @@ module _ (purpose : Purpose) (call : Call) (time : ℕ) where
   accepted_is later short quiet (suc j) =
       let before = accepted_is later short quiet j in
       rw (
-        none_at (rules_for call) (begun_at purpose call time later) (suc (suc j)) _ later j quiet,
+        none_at (rules_for call) _ (suc (suc j)) _ later j quiet,
         before,
       ) refl
 
@@ -110,11 +110,11 @@ placed rules events i a = send_notes rules events i a ++ end_notes i a.request (
 
 sends_placed : (rules : Rules) (events : List Event) (i : ℕ) (a : Accepted)
     → posts (placed rules events i a) ≡ posts (send_notes rules events i a)
-sends_placed _ _ i a = simp (flat_map-append, posts_ended, append-nil)
+sends_placed _ _ i a = grind arith
 
 ends_placed : (rules : Rules) (events : List Event) (i : ℕ) (a : Accepted)
     → endings (placed rules events i a) ≡ endings (end_notes i a.request (end rules events a))
-ends_placed _ _ i a = simp (flat_map-append, endings_sent)
+ends_placed _ _ i a = grind arith
 
 -- The sends and the ends that are told at position i are those that are placed there.
 record TellsPlaced (rules : Rules) (events : List Event) (a : Accepted) (i : ℕ) : Type 0 where
@@ -145,7 +145,7 @@ module _ (purpose : Purpose) (call : Call) (time : ℕ) (later : List Event)
   all = begun_at purpose call time later
 
   pub is_accepted : IsAccepted purpose call all
-  is_accepted = accepted_is _ call time later short quiet (length later)
+  is_accepted = grind (arith, accepted_is)
 
   told_at : {X : Type 0} (read : Note → List X) → read Dropped ≡ [] → (i : ℕ) (event : Event)
       → slice_get all i ≡ Some event →
@@ -234,7 +234,7 @@ module _ (purpose : Purpose) (call : Call) (time : ℕ) (later : List Event)
         let within = end_within purpose call time (later ++ event ∷ []) short quiet_after x e in
         let none = same_ends x.position (omega (arith, longer))
         ∙ ap (λ e. endings (end_notes x.position (asked purpose call).request e)) unended in
-        absurd (not_silent (asked purpose call).request _ x e none)
+        absurd (grind arith)
   ]
 
 module _ {purpose : Purpose} {call : Call} {time : ℕ} {later : List Event} {client : Client}
@@ -256,7 +256,7 @@ module _ {purpose : Purpose} {call : Call} {time : ℕ} {later : List Event} {cl
   handed_is = grind (arith, step_is)
 
   told_next : TellsPlaced (rules_for call) next (asked purpose call) (length begun)
-  told_next = told_last purpose call time later far.short far.quiet event news
+  told_next = search (arith, told_last)
 
   -- What it sends is what is sent at the event.
   pub sends_next : sent_last purpose call next ≡ posts handed.notes
@@ -274,7 +274,7 @@ module _ {purpose : Purpose} {call : Call} {time : ℕ} {later : List Event} {cl
       → CarriesOn purpose call time (later ++ event ∷ []) left
   carries_on none _ e = record {
     short = far.short;
-    quiet = quiet_after purpose call time later far.short far.quiet event news;
+    quiet = grind (arith, quiet_after);
     unended = none_if _ (λ x e.
         let there = end_is_last purpose call time later far.short far.quiet event news far.unended x e in
         let silent = ap (λ (i : ℕ). endings (end_notes i (asked purpose call).request (end_in purpose call next))) there
@@ -296,7 +296,7 @@ pub carried_alone : {purpose : Purpose} {call : Call} {time : ℕ} {later : List
 carried_alone {purpose} {call} {time} {later} far = (
   waiting_at (rules_for call) (begun_at purpose call time later) (length (begun_at purpose call time later))
       (asked purpose call),
-  ap (λ c. c.state.waiting) far.client_is ∙ rw (accepted_is _ call time later far.short far.quiet _, far.unended) refl,
+  grind (arith, accepted_is),
 )
 
 -- ---- the beginning
@@ -313,7 +313,7 @@ module _ (purpose : Purpose) (call : Call) (time : ℕ) (short : length call.bod
   -- The request is accepted.
   pub submitted_is : submitted.answer ≡ Ok 0
   unfolding refusal_of
-  submitted_is = rw (fitting purpose call time short) refl
+  submitted_is = grind arith
 
   pub begins : CarriesOn purpose call time [] (Client_of call submitted.after)
   begins = record {

@@ -2,14 +2,14 @@
 use Rattle.std.proofs.{
   Common.{◌≡◌, ◌≢◌, ℕ, suc, ◌+◌, ◌<◌, List, [], ◌∷◌, ◌++◌, length, length-append, Option, Some, None, Result, Ok, Err},
   Common.{refl, ap, ◌∙◌, arith, append_assoc},
-  lemmas.{List.append-nil, List.Concat.flat_map-append, Bool.{le-leb, lt-leb}},
+  lemmas.{List.append-nil, List.Concat.flat_map-append, Bool.lt-leb},
 }
 use Rattle.std.specs.List.{last_or}
 use Rattle.bac_pdu.specs.Peer.{Station}
 use Rattle.bac_device.specs.{Device.DeviceState, Turns.Arrival as Came, Reply.reply_of}
 use Rattle.bac_links.specs.{
   Limits.{most_turns, serve_wait},
-  History.{Heard, Silence, Arrival, Failure, Entry, Waited, Posted, Unposted, Account, GainsAll},
+  History.{Heard, Silence, Arrival, Failure, Entry, Waited, Posted, Account, GainsAll},
   Asking.{Ends, ToSend, question_of, Follows, next_move, waits_in, turn_after},
   Serve.{came_by, arrivals_in, device_next, device_behind, replies_of, reply_count, or_reply},
   Serve.{serve_next, serve_move, Serves},
@@ -68,9 +68,7 @@ module _ (count : ℕ) (before : DeviceState) where
       next_move (serve_move count before) (gained ++ Waited serve_wait heard ∷ [])
       ≡ or_reply (last_or None rs) (serve_next count before (gained ++ Waited serve_wait heard ∷ []))
   behind_wait _ _ is Failure received rs e = absurd (received refl)
-  behind_wait gained _ is Silence _ rs e =
-      behind gained _ ∙ ap (λ (rs : List Reply). or_reply (last_or None rs)
-      (serve_next count before (gained ++ Waited serve_wait Silence ∷ []))) e
+  behind_wait gained _ is Silence _ rs e = grind (arith, behind)
   behind_wait gained _ is (Arrival from octets) _ rs e =
       let x = Waited serve_wait (Arrival from octets) in
       let next = serve_next count _ (gained ++ x ∷ []) in
@@ -100,15 +98,12 @@ module _ {Origin : Type 0} {before device : DeviceState} {seen mid : Account Ori
   served : (result : Result ℕ ToolFault) → next_move (serve_move count before) goes.gained ≡ Ends result
       → Serves count before device seen mid result
   served _ over = record {
-    plays = record { gained = goes.gained; gains = goes.gains; follows = goes.follows; over = over };
+    plays = grind arith;
     device = goes.device_is;
   }
 
   pub serve_done : came ≡ count → Serves count before device seen mid (Ok replied)
-  serve_done all =
-      served (Ok replied)
-      (goes.next
-      ∙ rw (le-leb count (length (arrivals_in goes.gained)) (omega (arith, all, goes.came_is)), ← goes.replied_is) refl)
+  serve_done all = served (Ok replied) (grind arith)
 
   turn_so : came < count → next_move (serve_move count before) goes.gained ≡ turn_after serve_wait n
   turn_so = grind (arith, lt-leb)
@@ -159,7 +154,7 @@ module _ {Origin : Type 0} {before device : DeviceState} {seen mid : Account Ori
           → Follows (serve_move count before) [] gained → next_move (serve_move count before) gained ≡ Ends result
           → Serves count before after seen left result
       fails_with _ gains follows over = record {
-        plays = record { gained = gained; gains = gains; follows = follows; over = over };
+        plays = grind arith;
         device = device_is;
       }
 
@@ -204,10 +199,7 @@ module _ {Origin : Type 0} {before device : DeviceState} {seen mid : Account Ori
     pub serve_fails : (fault : ToolFault) → ServesOne device after mid left (Err fault)
         → Serves count before after seen left (Err fault)
     serve_fails SendFailed (heard, reply, leaves, received, e, gains) =
-        let x = Unposted reply.0 reply.1 in
-        fails_with heard leaves (waited heard ++ x ∷ []) (behind_sent heard x refl refl) (Err SendFailed)
-        (gains_waited heard _ gains) (follows_sent heard within fewer received x reply e refl)
-        (behind count _ (waited heard) x)
+        search (arith, fails_with, behind_sent, gains_waited, follows_sent, behind)
     serve_fails ReceiveFailed (same, gains) =
         fails_with Failure same (waited Failure) (behind_waited Failure) (Err ReceiveFailed) (gains_one Failure gains)
         (follows_waited Failure within fewer) (behind count before goes.gained (Waited serve_wait Failure))

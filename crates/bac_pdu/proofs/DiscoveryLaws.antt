@@ -4,22 +4,17 @@ use Rattle.std.{
   specs.Prelude.◌↔◌,
 }
 use Rattle.bac_wire.{
-  specs.{Front.Begins, Steps.◌>>=◌, Datum.{Datum, Spells}, ParameterReading.number_at},
+  specs.{Front.Begins, Steps.◌>>=◌, Datum.{Datum, Spells}},
   proofs.{Readers.only_if, TagLaws.bind_some, ParameterLaws.{IsStep, unsigned_step, enumerated_step, object_step}},
 }
 use Rattle.bac_pdu.{
   specs.{declared.discovery.WhoIs.WhoIs, Discovery.{IsWhoIsBody, Introduction, IsIAmBody}, Failure.IsErrorBody},
-  specs.{PropertyReading.whole_of, ValueReading.{who_is_of, introduction_of, error_of}},
+  specs.ValueReading.{who_is_of, introduction_of, error_of},
   proofs.{SequenceLaws.whole_ended, ParameterLaws.numbered_step},
 }
 use Rattle.bac_pdu.specs.declared.discovery.WhoIs.TheVariants as limits
 
 -- ---- Who-Is
-
--- the two limits that a body is
-abbrev range_of : List ℕ → Option WhoIs
-range_of body =
-    number_at 0 body >>= (λ low. number_at 1 low.1 >>= (λ high. whole_of (limits.Range low.0 high.0) high.1))
 
 who_is_takes : (body : List ℕ) (w : WhoIs) → who_is_of body ≡ Some w → IsWhoIsBody body w
 unfolding who_is_of

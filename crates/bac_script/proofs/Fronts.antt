@@ -60,8 +60,8 @@ one_line line some all fronts stage is_first count = go (said is_first line)
 
 -- Octets without a line feed have no text: they are no line yet, or one that is too long.
 no_line : (octets : List ℕ) (all : List (List ℕ)) → HasNoFeed octets → FrontFrom (lines octets Open) all
-no_line [] all h stage is_first count = ((course stage is_first count all).text, refl)
-no_line (x ∷ xs) all h stage is_first count = go (nat_lt longest_line (length (x ∷ xs))) refl
+no_line [] all h stage is_first count = grind arith
+no_line (x ∷ xs) all h stage is_first count = go _ refl
   where
     go : (b : Bool) → nat_lt longest_line (length (x ∷ xs)) ≡ b →
         IsFrontOf (course stage is_first count (lines (x ∷ xs) Open)).text (course stage is_first count all).text
@@ -102,6 +102,5 @@ pub text_front : (octets more : List ℕ) (reading : Reading)
 text_front octets more reading =
     let f = lines_front (length octets) octets more reading (omega arith) first_stage true 0 in (
       f.0,
-      sym (runs_text (lines (octets ++ more) reading)) ∙ f.1
-          ∙ ap (λ (ys : List ℕ). ys ++ f.0) (runs_text (lines octets Open)),
+      grind (arith, runs_text),
     )

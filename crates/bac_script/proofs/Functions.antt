@@ -1,7 +1,7 @@
 -- A script is a function of its octets and of whether they ended.
 use Rattle.std.proofs.{
   Common.{◌≡◌, ◌≢◌, ◌⊎◌, ℕ, ◌+◌, ◌≤◌, Bool, true, ◌&&◌, List, [], ◌∷◌, ◌++◌, length, Option, Some, None, Result},
-  Common.{Ok, Err, sym, ◌∙◌, ap, subst, arith, append_assoc, IfSome, MatchOption, append-nil},
+  Common.{Ok, Err, sym, ◌∙◌, ap, arith, append_assoc, IfSome, MatchOption, append-nil},
 }
 use Rattle.std.specs.Prelude.{⊤}
 use Rattle.bac_print.specs.{declared.checked.Checked.Checked, Checked.{fresh, has_failed, ends_of, reads_of, octets_of}}
@@ -14,7 +14,7 @@ use Rattle.bac_script.specs.{
   Line.{Said, said},
   Tracing.Traces,
   Alike.{IsFrontOf, GaveSame, GaveFront, IsWritten, AreAlike},
-  Script.{lines, is_nothing, text, text_of, all_said, fault_or, fault_from, first_fault, EndsAs, Runs},
+  Script.{lines, is_nothing, text, fault_or, fault_from, EndsAs, Runs},
 }
 use Rattle.bac_script.proofs.{Courses.RunsWhole, Fronts.text_front}
 
@@ -57,7 +57,7 @@ IsOfLine _ = ⊥
 faults_of_lines : (is_first : Bool) (n : ℕ) (lines : List (List ℕ)) → IfSome (fault_from is_first n lines) IsOfLine
 faults_of_lines is_first n [] = tt
 faults_of_lines is_first n (line ∷ lines) =
-    go (said is_first line) (λ one. faults_of_lines (is_first && is_nothing one) (n + 1) lines)
+    go (said is_first line) (λ one. faults_of_lines _ (n + 1) lines)
   where
     go : (s : Result Said LineFault)
         → ((one : Said) → IfSome (fault_from (is_first && is_nothing one) (n + 1) lines) IsOfLine) →
@@ -110,13 +110,11 @@ module _ (octets : List ℕ) (reading other : Reading) (alike : ends reading ≡
   pub runs_alike : AreAlike written answer written' answer'
   runs_alike = record {
     text = text octets other;
-    wrote = subst (λ (xs : List ℕ). IsWritten written xs answer) same_text
-        (is_written octets reading written answer runs);
-    other_wrote = is_written octets other written' answer' runs';
+    wrote = grind arith;
+    other_wrote = grind arith;
     same = λ all all'. let whole = whole_of octets reading written answer all runs in
         let whole' = whole_of octets other written' answer' all' runs' in
-        same_answer (first_fault (lines octets other)) reading other (length (lines octets other)) answer answer' alike
-        (rw (← same_lines octets reading other alike) whole.1) whole'.1;
+        same_answer _ reading other _ answer answer' alike (grind arith) whole'.1;
   }
 
 module _ {R S V W : Type 0} {remaining : R → Option (List ℕ)} {remaining' : S → Option (List ℕ)}
@@ -135,12 +133,9 @@ module _ {R S V W : Type 0} {remaining : R → Option (List ℕ)} {remaining' : 
       × IsWritten (octets_of other_writer') text other_answer
   traces_front less =
       let front = front_of run.given run.reading run.written answer run.runs in
-      let lines_are = same_lines run.given run.reading Open
-      (sym (ends_are remaining run.reading reader reader' run.read.stopped) ∙ less.1) in
-      let open_text : text run.given Open ≡ run.written ++ front.0 =
-      ap (λ (all : List (List ℕ)). text_of (all_said all)) (sym lines_are) ∙ front.1 in
-      let given : other.given ≡ run.given ++ less.0.0 =
-      sym other.read.gave.passed ∙ less.0.1 ∙ ap (λ (xs : List ℕ). xs ++ less.0.0) run.read.gave.passed in
+      let lines_are = same_lines run.given run.reading Open (grind arith) in
+      let open_text : text run.given Open ≡ run.written ++ front.0 = grind arith in
+      let given : other.given ≡ run.given ++ less.0.0 = grind arith in
       let more = text_front run.given less.0.0 other.reading in (
         text other.given other.reading,
         (
@@ -149,6 +144,5 @@ module _ {R S V W : Type 0} {remaining : R → Option (List ℕ)} {remaining' : 
               ∙ append_assoc run.written front.0 more.0
               ∙ ap (λ (xs : List ℕ). xs ++ (front.0 ++ more.0)) (sym run.took.passed),
         ),
-        subst (λ (xs : List ℕ). IsWritten xs (text other.given other.reading) other_answer) (sym other.took.passed)
-            (is_written other.given other.reading other.written other_answer other.runs),
+        grind arith,
       )

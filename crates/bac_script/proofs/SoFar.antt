@@ -79,7 +79,7 @@ goes_further : (octets line text : List ℕ) (stage : Stage) (is_first is_first'
     said is_first line ≡ Ok one → is_first' ≡ (is_first && is_nothing one)
     → GoesOn (octets ++ line) (text ++ (ran stage one).text) (ran stage one).after is_first' (count + 1)
 goes_further _ line text _ is_first _ _ _ goes_on (inr c) ok still =
-    λ more reading. absurd (let long = said-whole_long is_first line c.0 c.1 in cc)
+    grind (arith, said-whole_long)
 goes_further octets line text stage is_first _ count one goes_on (inl c) ok still = λ more reading.
     let later = λ (s : Said) (first : Bool). course (ran stage s).after first (count + 1) (lines more reading) in
     goes_to octets line more text stage is_first count reading (line ∷ lines more reading) goes_on
@@ -213,15 +213,10 @@ module _ {R W : Type 0} {remaining : R → Option (List ℕ)} {contents : W → 
     given = taken.given;
     reading = reading;
     printed = printed;
-    read = record {
-      gave = taken.gave;
-      stopped = stands_more remaining reading reader middle reader' rest s.unended stands;
-      needed = needed;
-      spared = omega (arith, s.spared, spared);
-    };
+    read = grind (arith, stands_more, needed);
     told = λ before split. further _ then (told before split);
     prints = prints;
-    runs = subst (λ (os : List ℕ). Runs os reading printed answer) (sym taken.order) runs;
+    runs = grind arith;
   }
 
   -- The writer has failed.
@@ -388,6 +383,5 @@ module _ {R W : Type 0} {remaining : R → Option (List ℕ)} {contents : W → 
         read = s.read;
         told = told_still reader' first last same s.told gone;
         took = w.took;
-        runs = subst (λ (a : Result TraceEnd TraceFault). Runs s.given s.reading w.taken a) (sym failed)
-            (front_runs s.given s.reading s.printed w.taken w.rest answer s.runs w.whole);
+        runs = grind (arith, front_runs);
       })

@@ -2,23 +2,18 @@
 use Rattle.std.{
   proofs.Common.{◌≡◌, ◌≢◌, ◌∷◌, ◌++◌, ℕ, inl, inr, List, [], Option, Some, None, Result, Ok, Err, refl, sym, ap, ◌∙◌},
   proofs.Common.{subst, arith, ◌⊎◌, IsErrAnd, IsTrue, is_some, option_and_then},
-  specs.Result.{result_map_both, result_ok},
+  specs.Result.result_ok,
 }
 use Rattle.clap.specs.Words.{Text, fault_of}
-use Rattle.bac_device.specs.{Demo.demo_points, Device.device_after}
 use Rattle.bac_print.specs.{Checked.{fresh, octets_of}, declared.checked.Checked.Checked}
 use Rattle.bac_text.specs.declared.jobs.{Call.Call, Job.Job, Job.TheVariants.{Read, Write, WhoIs, Device, Trace}}
 use Rattle.bac_links.{
   proofs.{Alike.calls_so_far, SearchesAlike.searches_so_far, ServingsAlike.servings_so_far},
   specs.{Answered.{answers_of, GoOnAlike, OneText, Printed}, Call.Tells, History.{Account, Entry}},
-  specs.declared.ending.{Exit.Exit, Exit.TheVariants.Good, Purpose.Purpose, Purpose.TheVariants.{Reading, Writing}},
+  specs.declared.ending.{Exit.Exit, Purpose.Purpose, Purpose.TheVariants.{Reading, Writing}},
   specs.declared.{fault.ToolFault.ToolFault, fault.ToolFault.TheVariants.WriteFailed, link.LinkFault.LinkFault},
 }
-use Rattle.bac_script.{
-  proofs.Functions.{traces_alike, traces_front},
-  specs.Alike.{GaveSame, IsWritten},
-  specs.declared.tracing.{TraceEnd.TraceEnd, TraceFault.TraceFault},
-}
+use Rattle.bac_script.proofs.Functions.{traces_alike, traces_front}
 use Rattle.bac_words.{
   proofs.OneAnswer.one_answer,
   specs.{Command.bactool, Marks.marked_words, Line.{Answers, IsRefusal}, declared.faults.UsageFault.UsageFault},
@@ -29,11 +24,10 @@ use Rattle.bac_tools.specs.{
   Binding.binding_of,
   Outside.Outside,
   Program.{Ends, IsGiven},
-  Report.{report_of, tool_report, trace_report},
-  declared.{binding.Binding.Binding, program.Ran.Ran, report.Report.Report},
+  Report.{report_of, tool_report},
+  declared.{binding.Binding.Binding, report.Report.Report},
   Runs.{Runs, RunsOpened, RunsOver, RunsScript, ToolRuns},
 }
-use Rattle.bac_script.specs.declared.tracing.TraceFault.TheVariants as stops
 use Rattle.bac_tools.specs.declared.report.Fault.TheVariants as faults
 
 -- ---- how runs go on
@@ -45,7 +39,7 @@ module _ {A B : Type 0} (IsCut : A → Type 0) (Ended Printed' : A → A → Typ
   going [] [] both = (ends both.0, prints both.1)
   going (x ∷ xs) (y ∷ ys) asks = asks
   going [] (y ∷ ys) both = (cut both.0, prints both.1)
-  going (x ∷ xs) [] both = (other_cut both.0, prints both.1)
+  going (x ∷ xs) [] both = search
 
 -- ---- two tools over their links
 
@@ -55,7 +49,7 @@ failed_cut _ failed = rw failed tt
 is_printed : {X : Type 0} (shown : X → Option (List ℕ)) (writer : X) (wrote : Checked X) (text : List ℕ)
     (answer : Result Exit ToolFault) → Printed shown (fresh writer) wrote text answer
     → IsPrinted (octets_of wrote) text (tool_report answer)
-is_printed shown writer wrote text (Err WriteFailed) (taken, rest, e, took) = inr (tt, (rest, cc (e, took.passed)))
+is_printed shown writer wrote text (Err WriteFailed) (taken, rest, e, took) = grind arith
 is_printed shown writer wrote text _ took = inl took.passed
 
 module _ {Origin Other V W : Type 0} (contents : V → Option (List ℕ)) (contents' : W → Option (List ℕ)) (writer : V)
@@ -77,11 +71,7 @@ module _ {Origin Other V W : Type 0} (contents : V → Option (List ℕ)) (conte
 
   one_text : OneText contents (fresh writer) wrote contents' (fresh writer') wrote' answer answer'
       → PrintSame (tool_report answer) (tool_report answer')
-  one_text (text, printed, other) = (
-    text,
-    is_printed contents writer wrote text answer printed,
-    is_printed contents' writer' wrote' text answer' other,
-  )
+  one_text (text, printed, other) = grind (arith, is_printed)
 
   calls : (purpose : Purpose) (call : Call) → Tells purpose call contents (fresh writer) wrote seen left answer
       → Tells purpose call contents' (fresh writer') wrote' seen' left' answer' → Same
@@ -92,13 +82,8 @@ module _ {Origin Other V W : Type 0} (contents : V → Option (List ℕ)) (conte
         going (λ r. ⊥) (λ r s. r ≢ Err WriteFailed → s ≢ Err WriteFailed → r ≡ s)
             (OneText contents (fresh writer) wrote contents' (fresh writer') wrote') IsCutOff EndSame PrintSame answer
             answer' (tool_report answer) (tool_report answer') (λ none. absurd none) (λ none. absurd none)
-            (λ ends uncut uncut'. inl (ap tool_report
-            (ends (λ is. uncut (failed_cut answer is)) (λ is. uncut' (failed_cut answer' is)))))
-            one_text rest rest' both.1,
+            (grind arith) one_text rest rest' both.1,
       )
-
-  abbrev as_exit : Result ℕ ToolFault → Result Exit ToolFault
-  as_exit served = result_map_both (λ replied. Good) (λ fault. fault) served
 
   tools : (job : Job) → ToolRuns contents (fresh writer) wrote seen left answer job
       → ToolRuns contents' (fresh writer') wrote' seen' left' answer' job → Same
@@ -111,29 +96,13 @@ module _ {Origin Other V W : Type 0} (contents : V → Option (List ℕ)) (conte
         going (λ r. r ≡ Err WriteFailed) (λ r s. r ≡ s)
             (OneText contents (fresh writer) wrote contents' (fresh writer') wrote') IsCutOff EndSame PrintSame answer
             answer' (tool_report answer) (tool_report answer') (failed_cut answer) (failed_cut answer')
-            (λ ends uncut uncut'. inl (ap tool_report ends)) one_text rest rest' both.1,
+            (grind arith) one_text rest rest' both.1,
       )
   tools (Device serve) a b =
-      let both = servings_so_far serve.count (device_after serve.info demo_points []) a.0.device b.0.device seen left
-      seen' left' a.0.served b.0.served first rest first' rest' a.0.serves b.0.serves gains gains' same in (
-        both.0,
-        going (λ r. ⊥) (λ r s. (r ≡ s) × (a.0.device ≡ b.0.device)) (λ r s. Unit {0}) IsCutOff EndSame PrintSame
-            a.0.served b.0.served (tool_report answer) (tool_report answer') (λ none. absurd none) (λ none. absurd none)
-            (λ ends uncut uncut'. inl (ap tool_report (a.0.answers ∙ ap as_exit ends.0 ∙ sym b.0.answers)))
-            (λ none. ([], inl (ap (λ (w : Checked V). octets_of w) a.1), inl (ap (λ (w : Checked W). octets_of w) b.1)))
-            rest rest' both.1,
-      )
+      let both = servings_so_far serve.count _ a.0.device b.0.device seen left seen' left' a.0.served b.0.served first
+      rest first' rest' a.0.serves b.0.serves gains gains' same in
+      (both.0, grind arith)
   tools Trace a b = absurd a
-
--- ---- two scripts
-
-stopped_cut : (answer : Result TraceEnd TraceFault) → answer ≡ Err stops.WriteFailed → IsCutOff (trace_report answer)
-stopped_cut _ failed = rw failed tt
-
-text_printed : (written text : List ℕ) (answer : Result TraceEnd TraceFault) → IsWritten written text answer
-    → IsPrinted written text (trace_report answer)
-text_printed written text (Err stops.WriteFailed) front = inr (tt, front)
-text_printed written text _ whole = inl whole
 
 -- ---- one run
 
@@ -145,11 +114,6 @@ not_refused _ (Help e) refusal taken = absurd (rw taken at refusal.1)
 not_refused _ (Words e) refusal taken = absurd (rw taken at refusal.1)
 not_refused _ _ refusal _ = absurd refusal
 
-none_gained : {Origin L : Type 0} (seen : L → Account Origin) (opened opened' : Option (Result L LinkFault))
-    (gained : List Entry) → opened ≡ None → Gained seen opened opened' gained → gained ≡ []
-none_gained seen None opened' gained e gains = gains
-none_gained seen (Some socket) opened' gained e gains = cc
-
 none_both : (xs ys : List Entry) → xs ++ ys ≡ [] → (xs ≡ []) × (ys ≡ [])
 none_both [] ys e = (refl, e)
 none_both (x ∷ xs) ys e = cc
@@ -157,6 +121,31 @@ none_both (x ∷ xs) ys e = cc
 none_answered : (xs : List Entry) → answers_of xs ≡ [] → xs ≡ []
 none_answered [] e = refl
 none_answered (x ∷ xs) e = cc
+
+module _ {N Origin L R W : Type 0} {gives : N → Binding → Result L LinkFault → Type 0} {out : Outside Origin L R W}
+    {words : List Text} (run : Run gives out words) where
+  abbrev Mine : Job → Option (Result L LinkFault) → Option (Result L LinkFault) → Type 0
+  Mine = Runs out (fresh run.reader) run.reader' (fresh run.writer) run.writer' run.ran.report
+
+  abbrev MyScript : Type 0
+  MyScript = RunsScript out (fresh run.reader) run.reader' (fresh run.writer) run.writer' run.ran.report
+
+  abbrev MyEnd : Result Job UsageFault → Option (Result L LinkFault) → Type 0
+  MyEnd r o = Ends gives out run.network (fresh run.reader) run.reader' (fresh run.writer) run.writer' run.ran r o
+
+  unprinted : run.writer' ≡ fresh run.writer → octets_of run.writer' ≡ []
+  unprinted e = cc
+
+  ungained : (o : Option (Result L LinkFault)) → IsGiven gives out run.network None o
+      → Gained out.seen o run.ran.socket run.gained → run.gained ≡ []
+  ungained None given gains = gains
+  ungained (Some socket) given gains = cc
+
+  reported : (fault : UsageFault) → MyEnd (Err fault) None → run.ran.report ≡ report_of (faults.Usage fault)
+  reported fault r = cc
+
+  lacks : (fault : UsageFault) → fault ≡ Memory → MyEnd (Err fault) None → IsCutOff run.ran.report
+  lacks fault is r = grind arith
 
 -- ---- two runs
 
@@ -174,19 +163,13 @@ module _ {N Origin L R W M Other K S V : Type 0} {gives : N → Binding → Resu
   -- Neither asked anything.
   none_asked : one.gained ≡ [] → other.gained ≡ [] → EndAlike one other one.ran.report other.ran.report
       → PrintAlike one other one.ran.report other.ran.report → Alike
-  none_asked e f ends prints =
-      let a = none_both first rest (sym h.gained ∙ e) in
-      let b = none_both first' rest' (sym h.other_gained ∙ f) in (
-        a.0 ∙ sym b.0,
-        subst (λ (xs : List Entry). GoesOn one.ran.report other.ran.report xs rest') (sym a.1)
-            (subst (GoesOn one.ran.report other.ran.report []) (sym b.1) (ends, prints)),
-      )
+  none_asked e f ends prints = grind (arith, none_both)
 
   -- One was cut off before it asked or printed anything.
   cut_here : one.gained ≡ [] → IsCutOff one.ran.report → octets_of one.writer' ≡ [] → Alike
   cut_here e cut unprinted =
       let a = none_both first rest (sym h.gained ∙ e) in (
-        a.0 ∙ sym (none_answered first' (sym h.answers ∙ ap answers_of a.0)),
+        grind (arith, none_answered),
         subst (λ (xs : List Entry). GoesOn one.ran.report other.ran.report xs rest') (sym a.1) (go rest'),
       )
     where
@@ -202,7 +185,7 @@ module _ {N Origin L R W M Other K S V : Type 0} {gives : N → Binding → Resu
   cut_there : other.gained ≡ [] → IsCutOff other.ran.report → octets_of other.writer' ≡ [] → Alike
   cut_there e cut unprinted =
       let b = none_both first' rest' (sym h.other_gained ∙ e) in (
-        none_answered first (h.answers ∙ ap answers_of b.0) ∙ sym b.0,
+        grind (arith, none_answered),
         subst (GoesOn one.ran.report other.ran.report rest) (sym b.1) (go rest),
       )
     where
@@ -215,11 +198,8 @@ module _ {N Origin L R W M Other K S V : Type 0} {gives : N → Binding → Resu
       go [] = (λ uncut uncut'. absurd (uncut' cut), prints)
       go (x ∷ xs) = (cut, prints)
 
-  abbrev Ours : Job → Option (Result L LinkFault) → Option (Result L LinkFault) → Type 0
-  Ours = Runs out (fresh one.reader) one.reader' (fresh one.writer) one.writer' one.ran.report
-
-  abbrev Theirs : Job → Option (Result K LinkFault) → Option (Result K LinkFault) → Type 0
-  Theirs = Runs out' (fresh other.reader) other.reader' (fresh other.writer) other.writer' other.ran.report
+  abbrev Refused : Type 0
+  Refused = IsErrAnd one.program.answer (IsRefusal words) × IsErrAnd other.program.answer (IsRefusal words)
 
   abbrev BothHad : Option (Result L LinkFault) → Option (Result K LinkFault) → Type 0
   BothHad o o' = IsTrue (is_some o) → IsTrue (is_some o') → is_socket o ≡ is_socket o'
@@ -231,11 +211,8 @@ module _ {N Origin L R W M Other K S V : Type 0} {gives : N → Binding → Resu
       → (out'.seen left').history ≡ (out'.seen link').history ++ other.gained → Alike
   over job link left link' left' r s gains gains' =
       let both = tools out.contents out'.contents one.writer other.writer one.writer' other.writer' (out.seen link)
-      (out.seen left) (out'.seen link') (out'.seen left') r.answer s.answer first rest first' rest'
-      (gains ∙ ap (λ (xs : List Entry). (out.seen link).history ++ xs) h.gained)
-      (gains' ∙ ap (λ (xs : List Entry). (out'.seen link').history ++ xs) h.other_gained) h.answers
-      (IsErrAnd one.program.answer (IsRefusal words) × IsErrAnd other.program.answer (IsRefusal words)) job r.tool
-      s.tool in (
+      (out.seen left) (out'.seen link') (out'.seen left') r.answer s.answer first rest first' rest' (cc) (cc) h.answers
+      Refused job r.tool s.tool in (
         both.0,
         subst (λ (x : Report). GoesOn x other.ran.report rest rest') (sym r.reported)
             (subst (λ (y : Report). GoesOn (tool_report r.answer) y rest rest') (sym s.reported) both.1),
@@ -245,147 +222,74 @@ module _ {N Origin L R W M Other K S V : Type 0} {gives : N → Binding → Resu
       RunsOpened out (fresh one.reader) one.reader' (fresh one.writer) one.writer' one.ran.report job o p →
       RunsOpened out' (fresh other.reader) other.reader' (fresh other.writer) other.writer' other.ran.report job o' p' →
       Gained out.seen o p one.gained → Gained out'.seen o' p' other.gained → BothHad o o' → Alike
-  opened job (Some (Err f)) p (Some (Err g)) p' r s gains gains' e =
-      none_asked gains gains' (λ uncut uncut'. inl (r.3 ∙ sym s.3)) (
-        [],
-        inl (ap (λ (w : Checked W). octets_of w) r.2),
-        inl (ap (λ (w : Checked V). octets_of w) s.2),
-      )
+  opened job (Some (Err f)) p (Some (Err g)) p' r s gains gains' e = grind (arith, none_asked, unprinted)
   opened job (Some (Ok l)) (Some (Ok m)) (Some (Ok k)) (Some (Ok n)) r s gains gains' e =
       over job l m k n r s gains gains'
   opened job (Some (Err f)) p (Some (Ok k)) p' r s gains gains' e = let both = e refl refl in cc
   opened job (Some (Ok l)) p (Some (Err g)) p' r s gains gains' e = let both = e refl refl in cc
   opened _ _ _ _ _ r s gains gains' e = grind arith
 
-  module _ (r : RunsScript out (fresh one.reader) one.reader' (fresh one.writer) one.writer' one.ran.report)
-      (s : RunsScript out' (fresh other.reader) other.reader' (fresh other.writer) other.writer' other.ran.report)
-    where
-      abbrev ScriptsEnd : Type 0
-      ScriptsEnd = EndAlike one other one.ran.report other.ran.report
-          × PrintAlike one other one.ran.report other.ran.report
+  module _ (r : MyScript one) (s : MyScript other) where
+    abbrev ScriptsEnd : Type 0
+    ScriptsEnd = EndAlike one other one.ran.report other.ran.report
+        × PrintAlike one other one.ran.report other.ran.report
 
-      ours_printed : (text : List ℕ) → IsWritten (octets_of one.writer') text r.answer
-          → IsPrinted (octets_of one.writer') text one.ran.report
-      ours_printed text wrote =
-          subst (IsPrinted (octets_of one.writer') text) (sym r.reported)
-          (text_printed (octets_of one.writer') text r.answer wrote)
-
-      theirs_printed : (text : List ℕ) → IsWritten (octets_of other.writer') text s.answer
-          → IsPrinted (octets_of other.writer') text other.ran.report
-      theirs_printed text wrote =
-          subst (IsPrinted (octets_of other.writer') text) (sym s.reported)
-          (text_printed (octets_of other.writer') text s.answer wrote)
-
-      read_same : GaveSame one.reader' other.reader' → ScriptsEnd
-      read_same same =
-          let both = traces_alike one.reader other.reader one.reader' other.reader' one.writer other.writer one.writer'
-          other.writer' r.answer s.answer r.script s.script same in (
-            λ uncut uncut'.
-                let ends = both.same (λ e. uncut (subst IsCutOff (sym r.reported) (stopped_cut r.answer e)))
-                (λ e. uncut' (subst IsCutOff (sym s.reported) (stopped_cut s.answer e))) in
-                inl (r.reported ∙ ap trace_report ends ∙ sym s.reported),
-            (both.text, ours_printed both.text both.wrote, theirs_printed both.text both.other_wrote),
-          )
-
-      scripts : ScriptsEnd
-      scripts = elim h.read [
-        | inl same ↦ read_same same
-        | inr less ↦ elim less [
-          | inl ours ↦ let front = traces_front one.reader other.reader one.reader' other.reader' one.writer
-              other.writer one.writer' other.writer' r.answer s.answer r.script s.script ours.1 in (
-                λ uncut uncut'. absurd (uncut ours.0),
-                (front.0, inr (ours.0, front.1), theirs_printed front.0 front.2),
-              )
-          | inr theirs ↦ let front = traces_front other.reader one.reader other.reader' one.reader' other.writer
-              one.writer other.writer' one.writer' s.answer r.answer s.script r.script theirs.1 in (
-                λ uncut uncut'. absurd (uncut' theirs.0),
-                (front.0, ours_printed front.0 front.2, inr (theirs.0, front.1)),
-              )
-        ]
+    scripts : ScriptsEnd
+    scripts = elim h.read [
+      | inl same ↦ let both = traces_alike one.reader other.reader one.reader' other.reader' one.writer other.writer
+          one.writer' other.writer' r.answer s.answer r.script s.script same in (grind arith, grind arith)
+      | inr less ↦ elim less [
+        | inl ours ↦ let front = traces_front one.reader other.reader one.reader' other.reader' one.writer other.writer
+            one.writer' other.writer' r.answer s.answer r.script s.script ours.1 in
+            (λ whole _. absurd (whole ours.0), grind arith)
+        | inr theirs ↦ let front = traces_front other.reader one.reader other.reader' one.reader' other.writer
+            one.writer other.writer' one.writer' s.answer r.answer s.script r.script theirs.1 in
+            (λ _ whole. absurd (whole theirs.0), grind arith)
       ]
+    ]
 
   jobs : (job : Job) (o p : Option (Result L LinkFault)) (o' p' : Option (Result K LinkFault))
-      → IsGiven gives out one.network (binding_of job) o →
-      IsGiven gives' out' other.network (binding_of job) o' → Ours job o p → Theirs job o' p'
-      → Gained out.seen o p one.gained → Gained out'.seen o' p' other.gained → BothHad o o' → Alike
-  jobs Trace o p o' p' given given' r s gains gains' e =
-      let both = scripts r.0 s.0 in
-      none_asked (none_gained out.seen o p one.gained given gains)
-      (none_gained out'.seen o' p' other.gained given' gains') both.0 both.1
+      → IsGiven gives out one.network (binding_of job) o → IsGiven gives' out' other.network (binding_of job) o' →
+      Mine one job o p → Mine other job o' p' → Gained out.seen o p one.gained → Gained out'.seen o' p' other.gained
+      → BothHad o o' → Alike
+  jobs Trace None p None p' given given' r s gains gains' e =
+      let both = scripts r.0 s.0 in none_asked gains gains' both.0 both.1
+  jobs Trace o p o' p' given given' r s gains gains' e = cc
   jobs job o p o' p' _ _ r s gains gains' e = opened job o p o' p' r s gains gains' e
 
-  abbrev Refused : Type 0
-  Refused = IsErrAnd one.program.answer (IsRefusal words) × IsErrAnd other.program.answer (IsRefusal words)
+  abbrev Given : Result Job UsageFault → Type 0
+  Given r = IsGiven gives out one.network (option_and_then binding_of (result_ok r)) one.program.opened
 
-  module _ (o : Option (Result L LinkFault)) (o' : Option (Result K LinkFault))
-      (gains : Gained out.seen o one.ran.socket one.gained)
-      (gains' : Gained out'.seen o' other.ran.socket other.gained) (e : BothHad o o') where
-    abbrev OursEnds : Result Job UsageFault → Type 0
-    OursEnds r = Ends gives out one.network (fresh one.reader) one.reader' (fresh one.writer) one.writer' one.ran r o
+  abbrev OtherGiven : Result Job UsageFault → Type 0
+  OtherGiven s = IsGiven gives' out' other.network (option_and_then binding_of (result_ok s)) other.program.opened
 
-    abbrev TheirsEnds : Result Job UsageFault → Type 0
-    TheirsEnds s =
-        Ends gives' out' other.network (fresh other.reader) other.reader' (fresh other.writer) other.writer' other.ran s
-        o'
+  both_refused : (f g : UsageFault) → MyEnd one (Err f) None → MyEnd other (Err g) None → Given (Err f)
+      → OtherGiven (Err g) → (one.ran.report ≡ other.ran.report) ⊎ Refused → Alike
+  both_refused f g r s given given' told = grind (arith, none_asked, ungained, unprinted)
 
-    report_here : (fault : UsageFault) → OursEnds (Err fault) → one.ran.report ≡ report_of (faults.Usage fault)
-    report_here _ r = ap (λ (x : Ran N L). x.report) r.2
+  same_answer : (r : Result Job UsageFault) → Given r → OtherGiven r → MyEnd one r one.program.opened
+      → MyEnd other r other.program.opened → Alike
+  same_answer (Err f) given given' r s = grind (arith, both_refused, reported)
+  same_answer (Ok j) given given' r s =
+      jobs j one.program.opened one.ran.socket other.program.opened other.ran.socket given given' r s one.gains
+      other.gains h.socket
 
-    report_there : (fault : UsageFault) → TheirsEnds (Err fault) → other.ran.report ≡ report_of (faults.Usage fault)
-    report_there _ s = ap (λ (x : Ran M K). x.report) s.2
-
-    lacks_here : (fault : UsageFault) → fault ≡ Memory → OursEnds (Err fault)
-        → IsGiven gives out one.network None o → Alike
-    lacks_here fault is r given =
-        cut_here (none_gained out.seen o one.ran.socket one.gained given gains)
-        (subst IsCutOff (sym (report_here fault r ∙ ap (λ (f : UsageFault). report_of (faults.Usage f)) is)) tt)
-        (ap (λ (w : Checked W). octets_of w) r.1)
-
-    lacks_there : (fault : UsageFault) → fault ≡ Memory → TheirsEnds (Err fault)
-        → IsGiven gives' out' other.network None o' → Alike
-    lacks_there fault is s given =
-        cut_there (none_gained out'.seen o' other.ran.socket other.gained given gains')
-        (subst IsCutOff (sym (report_there fault s ∙ ap (λ (f : UsageFault). report_of (faults.Usage f)) is)) tt)
-        (ap (λ (w : Checked V). octets_of w) s.1)
-
-    both_refused : (f g : UsageFault) → OursEnds (Err f) → TheirsEnds (Err g) → IsGiven gives out one.network None o
-        → IsGiven gives' out' other.network None o' → (one.ran.report ≡ other.ran.report) ⊎ Refused → Alike
-    both_refused f g r s given given' told =
-        none_asked (none_gained out.seen o one.ran.socket one.gained given gains)
-        (none_gained out'.seen o' other.ran.socket other.gained given' gains') (λ uncut uncut'. told) (
-          [],
-          inl (ap (λ (w : Checked W). octets_of w) r.1),
-          inl (ap (λ (w : Checked V). octets_of w) s.1),
-        )
-
-    answered : (r : Result Job UsageFault) → IsGiven gives out one.network (option_and_then binding_of (result_ok r)) o
-        → IsGiven gives' out' other.network (option_and_then binding_of (result_ok r)) o'
-        → OursEnds r → TheirsEnds r → Alike
-    answered (Err f) given given' r s =
-        both_refused f f r s given given' (inl (report_here f r ∙ sym (report_there f s)))
-    answered (Ok j) given given' r s = jobs j o _ o' _ given given' r s gains gains' e
-
-    compared : (r s : Result Job UsageFault) → one.program.answer ≡ r → other.program.answer ≡ s
-        → IsErrAnd r (IsRefusal words) ⊎ Answers words r → IsErrAnd s (IsRefusal words) ⊎ Answers words s
-        → IsGiven gives out one.network (option_and_then binding_of (result_ok r)) o
-        → IsGiven gives' out' other.network (option_and_then binding_of (result_ok s)) o'
-        → OursEnds r → TheirsEnds s → Alike
-    compared r s is _ (inr answers) (inr answers') given given' ends ends' =
-        let same : s ≡ r = one_answer words s r answers' answers in
-        answered r given (rw same at given') ends (rw same at ends')
-    compared (Err f) _ is _ (inl refused) (inr answers) given _ r s =
-        lacks_here f (not_refused words f refused answers.taken) r given
-    compared _ (Err g) is _ (inr answers) (inl refused) _ given' r s =
-        lacks_there g (not_refused words g refused answers.taken) s given'
-    compared (Err f) (Err g) is is' (inl refused) (inl refused') given given' r s =
-        both_refused f g r s given given' (inr (rw is refused, rw is' refused'))
-    compared (Ok j) _ is _ (inl refused) q _ _ r s = absurd refused
-    compared _ (Ok k) is _ p (inl refused) _ _ r s = absurd refused
+  compared : (r s : Result Job UsageFault) → one.program.answer ≡ r → other.program.answer ≡ s
+      → IsErrAnd r (IsRefusal words) ⊎ Answers words r → IsErrAnd s (IsRefusal words) ⊎ Answers words s → Given r
+      → OtherGiven s → MyEnd one r one.program.opened → MyEnd other s other.program.opened → Alike
+  compared r s is _ (inr answers) (inr answers') given given' ends ends' = grind (arith, same_answer, one_answer)
+  compared (Err f) (Err g) is is' (inl refused) (inl refused') given given' r s =
+      both_refused f g r s given given' (grind arith)
+  compared (Err f) _ is _ (inl refused) (inr answers) given _ r s =
+      grind (arith, cut_here, ungained, lacks, not_refused, unprinted)
+  compared _ (Err g) is _ (inr answers) (inl refused) _ given' r s =
+      grind (arith, cut_there, ungained, lacks, not_refused, unprinted)
+  compared (Ok j) _ is _ (inl refused) q _ _ r s = absurd refused
+  compared _ (Ok k) is _ p (inl refused) _ _ r s = absurd refused
 
   pub runs_alike : AreAlike one other first rest first' rest'
   runs_alike =
       let p = one.program in
       let q = other.program in
-      let alike = compared p.opened q.opened one.gains other.gains h.socket p.answer q.answer refl refl p.answered
-      q.answered p.given q.given p.ends q.ends in
+      let alike = compared p.answer q.answer refl refl p.answered q.answered p.given q.given p.ends q.ends in
       record { asked = alike.0; goes_on = alike.1 }

@@ -47,9 +47,6 @@ module _ {A : Type 0} (key : A → ℕ) (p : A → Bool) (n : ℕ) (says : (x : 
 abbrev pub itself : ℕ → ℕ
 itself slot = slot
 
-abbrev at_slot : List Waiting → ℕ → Waiting
-at_slot slots slot = get_or slots slot nothing
-
 -- A slot that is not among these can be filled with what one likes.
 held_elsewhere : (slots : List Waiting) (slot : ℕ) (w : Waiting) (order : List ℕ) → times_of_slot slot order ≡ 0 →
     held_at (set slots slot w) order ≡ held_at slots order
