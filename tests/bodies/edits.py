@@ -7,6 +7,8 @@ reads them, and some of its own:
     new: TEXT       what stands there in the wrong body
     body: TEXT      instead of these two: the whole wrong body of the function that `in:` names. What it calls by that
                     name is the right function
+    clause: NAMES   the clauses, of what the function ensures, that refuse this body: it and its twin are tried against
+                    these alone. A function with answers has all of its clauses, but for a `body:`
     twin: TEXT      what stands there in a right body of the same shape, which must be proved: so the wrong one is not
                     refused for its shape
     by: FUNCTION    the function that refuses an edit of a constant or a type
@@ -16,6 +18,7 @@ reads them, and some of its own:
 """
 import collections
 import functools
+import glob
 import os
 import re
 
@@ -26,6 +29,7 @@ text_of = functools.cache(tree.text_of)
 # The layout is rt fmt's: a function ends at the first line that is its indent and a bracket.
 HEAD = re.compile(r"( *)(?:pub(?:\([^)]*\))? )?(?:const |unsafe )*fn (\w+)")
 IMPL = re.compile(r"impl(?:<.*?>)? (?:(?:\w+::)*(\w+)(<.*>)? for )?(?:\w+::)*(\w+)")
+CLAUSE = re.compile(r" *(requires|ensures)\*?(?: (\w+))? \{")
 CYCLE = re.compile(r" *#\[cycle\((\w+)\)\]")
 # The lines of a function, from 0 on, where its body and its attributes begin, the names that a check has for it, its
 # own, what it is proved with, and where it may stand twice, if it may.
@@ -70,6 +74,17 @@ def functions_of(crate, path, text):
     for it in found:
         all_of[it.key].append(it.symbols)
     return [it._replace(symbols=re.compile("|".join(all_of[it.key]))) for it in found]
+
+
+@functools.cache
+def module_of(crate, path, owner=""):
+    """The module, its parts, where a check has what this file holds: of a type's method, that of the type."""
+    home = f"{ROOT}/crates/{crate}"
+    files = sorted(os.path.relpath(it, home) for it in glob.glob(f"{home}/src/**/*.rt", recursive=True))
+    declares = re.compile(rf"(?m)^(pub(\(.*?\))? )?(struct|enum) {owner}\b")
+    of_owner = (it for it in [path, *files] if owner and declares.search(text_of(f"{home}/{it}")))
+    place = next(of_owner, path)[len("src/") : -len(".rt")]
+    return [it for it in place.split("/") if it not in ("lib", "main")]
 
 
 def body_of(crate, path, name):
@@ -121,6 +136,7 @@ class Edit:
                 self.pairs.append(Pair(said["file"], said.get("in"), old, said[word]))
         self.has_twin, self.calls_right = "twin" in said, "body" in said
         self.hole, self.answer, self.by = (said.get(word, "") for word in ("hole", "answer", "by"))
+        self.promised = said.get("clause", "").split()
         self.law = self.by if is_law(crate, self.by) else ""
         names = (it.strip("`,.") for it in self.hole.split())
         self.test = next((it for it in names if "/" in it and os.path.isfile(f"{ROOT}/{it}")), "")
@@ -158,6 +174,8 @@ class Edit:
             return "its test has it in its function's place, where it can't call the right one"
         if self.calls_right and not all(it.beside for _, it in self.functions):
             return "it calls a function beside which it may not stand"
+        if self.promised and not (set(self.promised) < set(self.clauses()) and self.is_free()):
+            return "its `clause:` doesn't name some of the clauses of a function, or that has answers"
         return "" if self.pairs else "it has no `new:`"
 
     def applied(self, texts):
@@ -169,6 +187,42 @@ class Edit:
             texts = {**texts, it.path: text}
         return texts
 
+    def head(self):
+        """The lines of its function in front of the body."""
+        path, of = self.functions[0]
+        return text_of(f"{ROOT}/crates/{self.crate}/{path}").split("\n")[of.start : of.body]
+
+    def clauses(self):
+        """The names of what its function ensures, in order."""
+        found = (CLAUSE.match(line) for line in self.head())
+        return [it[2] for it in found if it and it[1] == "ensures"]
+
+    def is_free(self):
+        """Whether no proof of its function names the function's clauses."""
+        symbols, proofs = self.functions[0][1].symbols, f"{ROOT}/crates/{self.crate}/proofs"
+        places = (os.path.relpath(it, proofs).split("/") for it, _, _ in os.walk(proofs))
+        return self.calls_right or not any(symbols.match("::".join([self.crate, *it])) for it in places)
+
+    def promises(self):
+        """These lines with no clauses of what the function ensures but those that are to refuse this edit."""
+        kept, is_kept = [], True
+        for line in self.head():
+            begins = CLAUSE.match(line)
+            is_kept = begins[1] == "requires" or begins[2] in self.promised if begins else is_kept
+            kept += [line] * is_kept
+        return kept
+
+    def place(self):
+        """The folder below proofs/ of what refuses this edit, its parts; empty where the edit stands in a function's
+        own place."""
+        if self.is_wide:
+            return self.by.split("::")
+        if not self.copy:
+            return []
+        path, of = self.functions[0]
+        owner = self.copy.owner or of.shown.split("::")[:-1]
+        return [*module_of(self.crate, path, *owner), *owner, self.copy.name]
+
     def stand_beside(self, number):
         """Puts this edit into a copy of its function, named by this number, where it touches one that may be twice."""
         if self.is_unfit or self.is_wide or len(self.functions) > 1 or not self.functions[0][1].beside:
@@ -177,6 +231,8 @@ class Edit:
         own = of.shown.split("::")[-1]
         fewer = sum(it.old.count("\n") for it in self.pairs)  # what stands in a body is one line
         name, lines = f"{own}_again_{number}", self.applied({})[path].split("\n")[of.start : of.last + 1 - fewer]
+        if self.promised:
+            lines[: of.body - of.start] = self.promises()
         head = of.first - of.start
         lines[head] = re.sub(rf"\bfn {own}\b", f"fn {name}", lines[head], count=1)
         lines = [of.beside.head, *lines, "}"] if of.beside.head else lines

@@ -1,16 +1,16 @@
 #!/usr/bin/env python3
 """Tries wrong bodies of functions, many in one check, and says of each by what the prover refuses it.
 
-edits.py says what a wrong body is. Many bodies of a crate stand together in one copy of it, over the proofs that
-its last check or build kept. A body stands beside its function, as one more function with the same contract and
-answers, under a name of its own: so callers and other bodies see the right one. Bodies of methods with a trait's
-contract, and of functions that call one another, stand in the function's place, those of one function in different
-rounds: a caller is proved from the contracts of what it calls, which no edit changes. What is refused for nothing but a
-callee, or was not tried since a callee was not, is tried again, and so is what doesn't compile beside its function. A
-function that no edit touches must stay proved, but for its callees, and so must one with a twin. Rounds are about as
-large as one another and go side by side. An edit of a constant or a type may stand in must-fail alone: in its round the
-function that refuses it is proved anew, with those that it calls, and nothing else is edited but what other laws refuse
-in other files. A body is refused by a
+edits.py says what a wrong body is. Many bodies of a crate stand together in one copy of it, over the proofs that its
+last check or build kept. A body stands beside its function, as one more function with the same contract and answers,
+under a name of its own: so callers and other bodies see the right one. Where it names clauses, it and its twin have
+these alone of what the function ensures. Bodies of methods with a trait's contract, and of functions that call one
+another, stand in the function's place, those of one function in different rounds: a caller is proved from the contracts
+of what it calls, which no edit changes. What is refused for nothing but a callee, or was not tried since a callee was
+not, is tried again, and so is what doesn't compile beside its function. A function that no edit touches must stay
+proved, but for its callees, and so must one with a twin. Rounds are about as large as one another and go side by side.
+An edit of a constant or a type may stand in must-fail alone: in its round the function that refuses it is proved anew,
+with those that it calls, and nothing else is edited but what other laws refuse in other files. A body is refused by a
 
     clause  of the function, or its type's invariant; false: there are values at which it does not hold; open: no proof
             is found; limit: none in time
@@ -54,6 +54,9 @@ CHECKED = re.compile(r"checked (\S+), \d+ of \d+")
 VERDICT = re.compile(r"fn (\S+): (proved|not proved|no proof|could not tell)(.*)")
 REFUSED = re.compile(r"(?m)^(?:\./)?(src/\S+?):(\d+):\d+: error.*")
 NAMES = re.compile(r"has no field|is not in scope|has no `|was not admitted")
+# A goal that no function has. Where a file of answers has a fault, `rattle` offers no beginning of another; else it
+# goes over all that is left open once more, up to a third of a check. So what has to be refused answers this goal.
+NO_GOAL = "no_goal"
 
 
 class Body(Edit):
@@ -62,6 +65,8 @@ class Body(Edit):
     def __init__(self, crate, file, is_twin=False):
         super().__init__(crate, file, is_twin)
         self.twin, self.kind, self.why, self.tries, self.took = None, "", [], 0, 0.0
+        # Nothing is left open but the goal that it doesn't have.
+        self.proved = ["proved"] if is_twin or self.hole else ["proved", "not proved"]
 
     def touches(self, symbol):
         if self.law:
@@ -76,7 +81,7 @@ class Body(Edit):
         self.why, self.tries = sorted({told for _, told in found}), self.tries + 1
         if found:
             self.kind = min((kind for kind, _ in found), key=KINDS.index)
-        elif mine and all(row["verdict"] == "proved" or (self.is_twin and row["calls"]) for row in mine):
+        elif mine and all(row["verdict"] in self.proved or (self.is_twin and row["calls"]) for row in mine):
             self.kind = "PROVED"
         elif self.tries > 2 or not any(row["calls"] or row["waits"] for row in mine):
             self.kind, self.why = "bad", ["no contract was tried: " + "; ".join(row["verdict"] for row in mine)]
@@ -120,7 +125,7 @@ def rows_of(said, crate):
             calls, waits = bool(re.search("it (calls|passes)", verdict[3])), ": a call of `" in verdict[3]
             rows[verdict[1]] = {"verdict": verdict[2] + verdict[3], "found": found, "calls": calls, "waits": waits}
             found = []
-    for symbol, goal, text in answers if rows else []:
+    for symbol, goal, text in (it for it in answers if rows and it[1] != NO_GOAL):
         row = rows.setdefault(symbol, {"verdict": "not proved", "found": [], "calls": False, "waits": False})
         is_searched = goal and re.match(r"`(search|grind|omega)`", text)
         kind = kind_of(goal) if is_searched else "name" if NAMES.search(text) else "step"
@@ -169,13 +174,20 @@ class Round:
             copied = [it for it in self.edits if it.copy and not it.calls_right and parts[-1] == it.copy.own]
             for it in copied:
                 if it.functions[0][1].symbols.match("::".join([self.crate, *parts])):
-                    mine = [*parts[:-2], *(it.copy.owner or parts[-2:-1]), it.copy.name]
+                    mine = it.place()
                     shutil.copytree(place, "/".join([proofs, *mine]))
                     for file in glob.glob("/".join([proofs, *mine, "*.antt"])):
                         with open(file, "r+", encoding="utf-8") as answers:
                             text = answers.read().replace(f"proofs.{'.'.join(parts)}.", f"proofs.{'.'.join(mine)}.")
                             answers.seek(0)
                             answers.write(text)
+        for place in {tuple(it.place()) for it in self.edits if not it.is_twin and not it.hole} - {()}:
+            file = "/".join([proofs, *place, "Answers.antt"])
+            os.makedirs(os.path.dirname(file), exist_ok=True)
+            with open(file, "a", encoding="utf-8") as answers:
+                if not answers.tell():
+                    answers.write(f"use Rattle.{self.crate}.proofs.{'.'.join(place)}.Goals as goal\n")
+                answers.write(f"\npub {NO_GOAL} : goal.{NO_GOAL}\n{NO_GOAL} c = ?\n")
 
     def copy(self, folder, part, by=shutil.copy2):
         if os.path.isdir(f"{ROOT}/crates/{part}"):
