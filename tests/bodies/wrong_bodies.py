@@ -55,7 +55,8 @@ VERDICT = re.compile(r"fn (\S+): (proved|not proved|no proof|could not tell)(.*)
 REFUSED = re.compile(r"(?m)^(?:\./)?(src/\S+?):(\d+):\d+: error.*")
 NAMES = re.compile(r"has no field|is not in scope|has no `|was not admitted")
 # A goal that no function has. Where a file of answers has a fault, `rattle` offers no beginning of another; else it
-# goes over all that is left open once more, up to a third of a check. So what has to be refused answers this goal.
+# goes over all that is left open once more, up to a third of a check. So what has to be refused answers this goal, and
+# is tried again without it where nothing else is found.
 NO_GOAL = "no_goal"
 
 
@@ -65,8 +66,7 @@ class Body(Edit):
     def __init__(self, crate, file, is_twin=False):
         super().__init__(crate, file, is_twin)
         self.twin, self.kind, self.why, self.tries, self.took = None, "", [], 0, 0.0
-        # Nothing is left open but the goal that it doesn't have.
-        self.proved = ["proved"] if is_twin or self.hole else ["proved", "not proved"]
+        self.is_offered = is_twin or bool(self.hole)
 
     def touches(self, symbol):
         if self.law:
@@ -81,8 +81,10 @@ class Body(Edit):
         self.why, self.tries = sorted({told for _, told in found}), self.tries + 1
         if found:
             self.kind = min((kind for kind, _ in found), key=KINDS.index)
-        elif mine and all(row["verdict"] in self.proved or (self.is_twin and row["calls"]) for row in mine):
+        elif mine and all(row["verdict"] == "proved" or (self.is_twin and row["calls"]) for row in mine):
             self.kind = "PROVED"
+        elif not self.is_offered:
+            self.is_offered, self.tries = True, 0  # a fault in its answers hides a type's invariant that is left open
         elif self.tries > 2 or not any(row["calls"] or row["waits"] for row in mine):
             self.kind, self.why = "bad", ["no contract was tried: " + "; ".join(row["verdict"] for row in mine)]
 
@@ -181,7 +183,7 @@ class Round:
                             text = answers.read().replace(f"proofs.{'.'.join(parts)}.", f"proofs.{'.'.join(mine)}.")
                             answers.seek(0)
                             answers.write(text)
-        for place in {tuple(it.place()) for it in self.edits if not it.is_twin and not it.hole} - {()}:
+        for place in {tuple(it.place()) for it in self.edits if not it.is_offered} - {()}:
             file = "/".join([proofs, *place, "Answers.antt"])
             os.makedirs(os.path.dirname(file), exist_ok=True)
             with open(file, "a", encoding="utf-8") as answers:
