@@ -5,10 +5,11 @@
 then what runs the program, alone, since clocks and sockets are in it. A part that fails ends no other.
 
 `gate` is what a change has to pass. First it looks whether the documents agree with the tree, and whether the wrong
-bodies fit the code. Then `rt ci` proves and tests everything from nothing, in a copy of the tree, since it sets aside
-what is kept of the proofs. Beside it come the build and all wrong bodies. Last comes what runs the program. Where a
-part fails, the others are ended. The copy has no must-fail/: for its edits `rt ci` would prove each crate once more,
-and the wrong bodies try them over what the build kept. In the tree itself `rt ci` and `rt must-fail` try them too.
+bodies fit the code. Then `rt ci` proves, builds and tests everything from nothing, in a copy of the tree, since it sets
+aside what is kept of the proofs. Beside it come the proofs that the wrong bodies start from, and all of these. Last
+comes what runs the program, which is the one that `rt ci` built. Where a part fails, the others are ended. The copy has
+no must-fail/: for its edits `rt ci` would prove each crate once more, and the wrong bodies try them over what was kept.
+In the tree itself `rt ci` and `rt must-fail` try them too.
 
 Two parts go side by side where there are 4 GB of free memory for each processor. How far a part is stands here,
 behind the minutes since the beginning; all that it says is in out/parts, and the end of that is shown where it fails.
@@ -28,6 +29,7 @@ from collections import namedtuple
 from tree import TOP, free_memory, processors
 
 LOGS = "out/parts"
+PROGRAM = "crates/bactool/out/bactool"
 SIGNALS = (signal.SIGINT, signal.SIGTERM, signal.SIGHUP)
 QUIET = 300  # seconds after which a line says what is at work, where nothing else was said
 
@@ -180,14 +182,15 @@ def test(clock):
 
 
 def gate(clock):
-    # `rt ci` goes beside it, and each further process of a crate would load the crates below once more
+    # beside `rt ci`, which builds the program; each further process of a crate would load the crates below once more
     others = [build(gently("./build.py", "--sparing")), bodies("wrong bodies")]
     with tempfile.TemporaryDirectory(prefix="gate-") as room:
         read_back = r"^(\d+) rows .* and (\d+) other texts|agree with the tree$"
         documents = Part("documents", ["make", "--no-print-directory", "documents"], read_back)
         fit = Part("fit", ["tests/bodies/wrong_bodies.py", "--list"], "", r"of which (\d+)", shown=r"^crates/|fit")
+        program = Part("program", ["install", f"{room}/tree/{PROGRAM}", PROGRAM], "")
         passed, lost = run([[documents, fit]], clock, True)
-        for rows in (beside([whole_proof(room)], others), [[examples()]]):
+        for rows in (beside([whole_proof(room)], others), [[program, examples()]]):
             more, lost = (0, lost) if lost else run(rows, clock, True)
             passed += more
         return passed, lost

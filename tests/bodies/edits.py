@@ -8,7 +8,8 @@ reads them, and some of its own:
     body: TEXT      instead of these two: the whole wrong body of the function that `in:` names. What it calls by that
                     name is the right function
     clause: NAMES   the clauses, of what the function ensures, that refuse this body: it and its twin are tried against
-                    these alone. A function with answers has all of its clauses, but for a `body:`
+                    these alone. A function with answers has all of its clauses, but for a `body:`. `invariant` is that
+                    of a type. Behind a `by:` that names a law, all its clauses that this edit leaves open
     twin: TEXT      what stands there in a right body of the same shape, which must be proved: so the wrong one is not
                     refused for its shape
     by: FUNCTION    the function that refuses an edit of a constant or a type
@@ -30,6 +31,7 @@ text_of = functools.cache(tree.text_of)
 HEAD = re.compile(r"( *)(?:pub(?:\([^)]*\))? )?(?:const |unsafe )*fn (\w+)")
 IMPL = re.compile(r"impl(?:<.*?>)? (?:(?:\w+::)*(\w+)(<.*>)? for )?(?:\w+::)*(\w+)")
 CLAUSE = re.compile(r" *(requires|ensures)\*?(?: (\w+))? \{")
+INVARIANT = "invariant"  # in a line `clause:`, what refuses a body where no clause does
 CYCLE = re.compile(r" *#\[cycle\((\w+)\)\]")
 # The lines of a function, from 0 on, where its body and its attributes begin, the names that a check has for it, its
 # own, what it is proved with, and where it may stand twice, if it may.
@@ -95,12 +97,12 @@ def body_of(crate, path, name):
     return "\n".join(text.split("\n")[found[0].body + 1 : found[0].last]) if found else ""
 
 
-def is_law(crate, by):
-    """Whether `FILE::NAME` is a function of this crate with an empty body."""
+def law_of(crate, by):
+    """The lines of `FILE::NAME` where that is a function of this crate with an empty body, else none."""
     place, _, name = by.rpartition("::")
     file = f"{ROOT}/crates/{crate}/src/{place}.rt"
-    text = text_of(file) if os.path.isfile(file) else ""
-    return bool(re.search(rf"(?m)^pub fn {name}\b.*(\n .*)*\n{{}}$", text))
+    found = re.search(rf"(?m)^pub fn {name}\b.*(\n .*)*\n{{}}$", text_of(file) if os.path.isfile(file) else "")
+    return found[0].split("\n") if found else []
 
 
 class Pair(collections.namedtuple("Pair", "path within old new")):
@@ -137,7 +139,7 @@ class Edit:
         self.has_twin, self.calls_right = "twin" in said, "body" in said
         self.hole, self.answer, self.by = (said.get(word, "") for word in ("hole", "answer", "by"))
         self.promised = said.get("clause", "").split()
-        self.law = self.by if is_law(crate, self.by) else ""
+        self.law = self.by if law_of(crate, self.by) else ""
         names = (it.strip("`,.") for it in self.hole.split())
         self.test = next((it for it in names if "/" in it and os.path.isfile(f"{ROOT}/{it}")), "")
         self.is_unfit = self.unfit()
@@ -174,8 +176,10 @@ class Edit:
             return "its test has it in its function's place, where it can't call the right one"
         if self.calls_right and not all(it.beside for _, it in self.functions):
             return "it calls a function beside which it may not stand"
-        if self.promised and not (set(self.promised) < set(self.clauses()) and self.is_free()):
-            return "its `clause:` doesn't name some of the clauses of a function, or that has answers"
+        if self.promised and not (self.law or (self.functions and self.is_free())):
+            return "it has a `clause:`, and its function has answers, or no law refuses it"
+        if self.promised and not set(self.promised) <= {*self.clauses(), INVARIANT}:
+            return "its `clause:` names what is not ensured"
         return "" if self.pairs else "it has no `new:`"
 
     def applied(self, texts):
@@ -193,8 +197,8 @@ class Edit:
         return text_of(f"{ROOT}/crates/{self.crate}/{path}").split("\n")[of.start : of.body]
 
     def clauses(self):
-        """The names of what its function ensures, in order."""
-        found = (CLAUSE.match(line) for line in self.head())
+        """The names of what its function ensures, or the law that refuses it, in order."""
+        found = map(CLAUSE.match, law_of(self.crate, self.law) if self.law else self.head())
         return [it[2] for it in found if it and it[1] == "ensures"]
 
     def is_free(self):

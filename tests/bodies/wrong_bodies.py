@@ -10,7 +10,7 @@ of what it calls, which no edit changes. What is refused for nothing but a calle
 not, is tried again, and so is what doesn't compile beside its function. A function that no edit touches must stay
 proved, but for its callees, and so must one with a twin. Rounds are about as large as one another and go side by side.
 An edit of a constant or a type may stand in must-fail alone: in its round the function that refuses it is proved anew,
-with those that it calls, and nothing else is edited but what other laws refuse in other files. A body is refused by a
+with those that it calls, and nothing else is edited but what other clauses of laws refuse. A body is refused by a
 
     clause  of the function, or its type's invariant; false: there are values at which it does not hold; open: no proof
             is found; limit: none in time
@@ -38,7 +38,7 @@ import tempfile
 import time
 
 sys.path.insert(0, os.path.dirname(__file__) + "/..")
-from edits import ROOT, Edit, functions_of, text_of
+from edits import INVARIANT, ROOT, Edit, functions_of, text_of
 from tree import copy_sources, crates_below, free_memory, processors
 
 KINDS = ["clause", "safety", "step", "name", "PROVED", "bad"]
@@ -66,7 +66,7 @@ class Body(Edit):
     def __init__(self, crate, file, is_twin=False):
         super().__init__(crate, file, is_twin)
         self.twin, self.kind, self.why, self.tries, self.took = None, "", [], 0, 0.0
-        self.is_offered = is_twin or bool(self.hole)
+        self.is_offered = is_twin or bool(self.hole) or INVARIANT in self.promised
 
     def touches(self, symbol):
         if self.law:
@@ -74,10 +74,17 @@ class Body(Edit):
         mine = [self.copy.symbols] if self.copy else [it.symbols for _, it in self.functions]
         return self.is_wide or any(it.match(symbol) for it in mine)
 
+    def opens(self, goal):
+        """Whether this edit may leave open such a goal of what it touches: of a law, of the clauses that it names."""
+        clause = re.search(r"-clause-(\w+)", goal)
+        if not (self.law and self.promised):
+            return True
+        return clause[1] in self.promised if clause else len(self.clauses()) == 1
+
     def judge(self, rows):
         """Says by what the functions of this edit are refused. Where for a callee alone, it stays without a kind."""
         mine = [row for symbol, row in rows.items() if self.touches(symbol)]
-        found = [it for row in mine for it in row["found"]]
+        found = [it for row in mine for it in row["found"] if self.opens(it[1])]
         self.why, self.tries = sorted({told for _, told in found}), self.tries + 1
         if found:
             self.kind = min((kind for kind, _ in found), key=KINDS.index)
@@ -209,7 +216,7 @@ class Round:
                     it.write(text)
             self.answer(f"{here}/proofs")
             how = {"cwd": here, "stdin": subprocess.DEVNULL, "stdout": subprocess.PIPE, "stderr": subprocess.STDOUT}
-            only = [word for it in self.edits if it.is_wide for word in ("--only", it.by)]
+            only = [word for by in {it.by for it in self.edits if it.is_wide} for word in ("--only", by)]
             with subprocess.Popen(["rt", "check", "--jobs", "1", *only], text=True, errors="replace", **how) as ran:
                 self.running.add(ran.pid)
                 said, last = [], time.monotonic()
@@ -233,19 +240,21 @@ def joined(round, edit):
 
 
 def wide_rounds_of(edits, are_alone):
-    """Edits of constants and types in rounds. Those of one round stand in different files, and different laws refuse
-    them: a law speaks of clones, of `==` or of numbers, and no other edit of the round changes what it speaks of."""
+    """Edits of constants and types in rounds, each with its texts. No two of a round leave open the same clause of a
+    law, and none replaces what another brought."""
     rounds = []
     for edit in edits:
-        places = {it.path for it in edit.pairs}
-        is_apart = lambda other: other.law not in ("", edit.law) and not places & {it.path for it in other.pairs}
-        are_apart = lambda group: bool(edit.law) and not are_alone and all(map(is_apart, group))
-        group = next(filter(are_apart, rounds), None)
-        if group:
-            group.append(edit)
+        opened = {(edit.law, clause) for clause in edit.promised}
+        for at, (texts, others, group) in enumerate(rounds if opened and not are_alone else ()):
+            brought = [it for other in group for it in other.pairs]
+            is_in = lambda it: any(it.path == other.path and it.old in other.new for other in brought)
+            is_apart = others and not opened & others and not any(map(is_in, edit.pairs))
+            if is_apart and (more := edit.applied(texts)):
+                rounds[at] = (more, opened | others, [*group, edit])
+                break
         else:
-            rounds.append([edit])
-    return [(functools.reduce(lambda texts, edit: edit.applied(texts), group, {}), group) for group in rounds]
+            rounds.append((edit.applied({}), opened, [edit]))
+    return [(texts, group) for texts, _, group in rounds]
 
 
 def rounds_of(edits, are_alone):
@@ -313,9 +322,9 @@ def judge_round(said, round):
             it.copy = None
         else:
             it.kind, it.why = "bad", [f"no contract was tried: {errors[0][2] if errors else said[-300:]}"]
-    refused = {symbol: row["found"] for symbol, row in rows.items() if row["found"]}
-    untouched = [symbol for symbol in refused if not any(it.touches(symbol) for it in group)]
-    return [f"{symbol}: no edit touches it, and it is refused: {refused[symbol]}" for symbol in untouched]
+    is_told = lambda symbol, goal: any(it.touches(symbol) and it.opens(goal) for it in group)
+    strange = [(symbol, goal) for symbol, row in rows.items() for _, goal in row["found"] if not is_told(symbol, goal)]
+    return [f"{symbol}: no edit touches it, and it is refused: {goal}" for symbol, goal in strange]
 
 
 def counted(edits):
