@@ -7,8 +7,9 @@ under a name of its own: so callers and other bodies see the right one. Where it
 these alone of what the function ensures. Bodies of methods with a trait's contract, and of functions that call one
 another, stand in the function's place, those of one function in different rounds: a caller is proved from the contracts
 of what it calls, which no edit changes. What is refused for nothing but a callee, or was not tried since a callee was
-not, is tried again, and so is what doesn't compile beside its function. A function that no edit touches must stay
-proved, but for its callees, and so must one with a twin. Rounds are about as large as one another and go side by side.
+not, is tried again, and so is what doesn't compile beside its function. A check is asked for these alone, and for the
+modules of what stands in its function's place: a function there that no edit touches must stay proved, but for its
+callees, and so must one with a twin. Rounds are about as large as one another and go side by side.
 An edit of a constant or a type may stand in must-fail alone: in its round the function that refuses it is proved anew,
 with those that it calls, and nothing else is edited but what other clauses of laws refuse. A body is refused by a
 
@@ -38,7 +39,7 @@ import tempfile
 import time
 
 sys.path.insert(0, os.path.dirname(__file__) + "/..")
-from edits import INVARIANT, ROOT, Edit, functions_of, text_of
+from edits import INVARIANT, ROOT, Edit, functions_of, module_of, text_of
 from tree import copy_sources, crates_below, free_memory, processors
 
 KINDS = ["clause", "safety", "step", "name", "PROVED", "bad"]
@@ -73,6 +74,11 @@ class Body(Edit):
             return symbol == f"{self.crate}::{self.law}"
         mine = [self.copy.symbols] if self.copy else [it.symbols for _, it in self.functions]
         return self.is_wide or any(it.match(symbol) for it in mine)
+
+    def asked(self):
+        """What a check that tries this edit is asked for: a copy, the module of what is edited in place, or a law."""
+        modules = ("::".join(module_of(self.crate, path)) or of.shown for path, of in self.functions)
+        return [self.by] if self.is_wide else [self.copy.name] if self.copy else modules
 
     def opens(self, goal):
         """Whether this edit may leave open such a goal of what it touches: of a law, of the clauses that it names."""
@@ -216,7 +222,8 @@ class Round:
                     it.write(text)
             self.answer(f"{here}/proofs")
             how = {"cwd": here, "stdin": subprocess.DEVNULL, "stdout": subprocess.PIPE, "stderr": subprocess.STDOUT}
-            only = [word for by in {it.by for it in self.edits if it.is_wide} for word in ("--only", by)]
+            names = sorted({name for it in self.edits for name in it.asked()})
+            only = [word for name in names for word in ("--only", name)]
             with subprocess.Popen(["rt", "check", "--jobs", "1", *only], text=True, errors="replace", **how) as ran:
                 self.running.add(ran.pid)
                 said, last = [], time.monotonic()
