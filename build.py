@@ -5,8 +5,8 @@ With --tests it runs the tests of the trials, over what is kept of the crates be
 of bac_trials are proved first. To prove those of tool_trials takes 12 to 19 minutes of processor time: so they are
 run as the sources stand, by `rt try`, until `rt test` was run there.
 
-With --sparing each crate is proved by one process, and the program is proved alone and not built: that takes less
-processor time, and more of the clock where nothing else is at work.
+With --sparing it proves what lies below the program alone, each crate by one process: that takes less processor time,
+and more of the clock where nothing else is at work.
 
 Crates that don't rest on one another are proved side by side, as many as there are processors and memory for; RT_JOBS
 is another number of processors to use. On a terminal one line moves; elsewhere there is a line for each crate, and one
@@ -58,14 +58,14 @@ def processors():
 class Work:
     """A crate at work in its room."""
 
-    def __init__(self, crate, below, jobs, is_built):
+    def __init__(self, crate, below, jobs):
         self.crate, self.jobs, self.seconds, self.status = crate, jobs, 0, None
         self.home, self.room, self.log = f"crates/{crate}", f"{ROOMS}/{crate}", f"{ROOMS}/{crate}.log"
         self.held = os.open(self.home, os.O_RDONLY)
         fcntl.flock(self.held, fcntl.LOCK_EX)  # as rt does, so that it waits
         self.enter(below)
         self.is_proved = crate != "tool_trials" or os.path.isfile(f"{self.room}/{self.home}/out/{crate}_tests")
-        verb = "test" if crate in TRIALS else "lib" if crate != PROGRAM else "run" if is_built else "check"
+        verb = "test" if crate in TRIALS else "run" if crate == PROGRAM else "lib"
         command = ["rt", verb, "--jobs", str(jobs), *(["--", "--help"] if verb == "run" else [])]
         command = command if self.is_proved else ["rt", "try", "--test", "--seconds", "900"]
         with open(self.log, "w", encoding="utf-8") as log:
@@ -161,7 +161,7 @@ def build(crates, screen, is_done, is_sparing=False):
             for crate in ready[: places - len(working)]:
                 most = 1 if is_sparing else size(crate) // PROCESS_CODE
                 share = max(min(-(-free * long[crate] // among), most), 1)
-                working.append(Work(crate, crates[crate], share, not is_sparing))
+                working.append(Work(crate, crates[crate], share))
                 free, among = free - share, among - long[crate]
                 del left[crate]
             time.sleep(0.5)
@@ -194,9 +194,12 @@ def main(words):
         return 1
     os.makedirs(ROOMS, exist_ok=True)
     crates = needed(TRIALS if wants_tests else [PROGRAM])
+    if is_sparing:
+        del crates[PROGRAM]
     if wants_tests:
         return 0 if build(crates, Screen(len(TRIALS)), lambda crate: crate not in TRIALS) else 1
-    print(f"Proving {len(crates)} crates, the last of which is the program.", flush=True)
+    last = "" if is_sparing else ", the last of which is the program"
+    print(f"Proving {len(crates)} crates{last}.", flush=True)
     if not all(os.path.isdir(f"crates/{crate}/out") for crate in crates):
         print(COST, flush=True)
     if not build(crates, Screen(len(crates)), lambda crate: False, is_sparing):

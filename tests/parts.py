@@ -188,7 +188,7 @@ def gate(clock):
         read_back = r"^(\d+) rows .* and (\d+) other texts|agree with the tree$"
         documents = Part("documents", ["make", "--no-print-directory", "documents"], read_back)
         fit = Part("fit", ["tests/bodies/wrong_bodies.py", "--list"], "", r"of which (\d+)", shown=r"^crates/|fit")
-        program = Part("program", ["install", f"{room}/tree/{PROGRAM}", PROGRAM], "")
+        program = Part("program", ["install", "-D", f"{room}/tree/{PROGRAM}", PROGRAM], "")
         passed, lost = run([[documents, fit]], clock, True)
         for rows in (beside([whole_proof(room)], others), [[program, examples()]]):
             more, lost = (0, lost) if lost else run(rows, clock, True)

@@ -46,7 +46,7 @@ KINDS = ["clause", "safety", "step", "name", "PROVED", "bad"]
 STRENGTHS = ["false", "open", "limit"]
 CHECK_MEMORY = 3000000000  # what a check takes of the machine's memory, in octets
 SAMPLE = 8
-LARGEST = 80  # bodies of a round
+LARGEST = 240  # bodies of a round
 # What a check prints of a goal, of an answer, of a function, once as it goes and once at its end, and of a text that it
 # does not take as a program.
 NOTE = re.compile(r"note: src/\S+ .*not proved.*?\(`(\S+)`\)(.*)")
@@ -156,6 +156,11 @@ def link(source, to):
         shutil.copy2(source, to)
 
 
+def keep(source, to):
+    """The same for a file of proofs, in whose place a check puts another. To what else it keeps it may write."""
+    (link if source.endswith(".oantt") else shutil.copy2)(source, to)
+
+
 class Round:
     """A check of bodies of a crate together, in a copy of it and of those below, with what checks kept of them."""
 
@@ -204,7 +209,7 @@ class Round:
                     answers.write(f"use Rattle.{self.crate}.proofs.{'.'.join(place)}.Goals as goal\n")
                 answers.write(f"\npub {NO_GOAL} : goal.{NO_GOAL}\n{NO_GOAL} c = ?\n")
 
-    def copy(self, folder, part, by=shutil.copy2):
+    def copy(self, folder, part, by):
         if os.path.isdir(f"{ROOT}/crates/{part}"):
             shutil.copytree(f"{ROOT}/crates/{part}", f"{folder}/crates/{part}", copy_function=by)
 
@@ -214,8 +219,7 @@ class Round:
             copy_sources(folder)
             for it in crates_below()[self.crate] - {self.crate}:
                 self.copy(folder, f"{it}/out/rlib", link)
-            for it in ("rlib", "incremental"):
-                self.copy(folder, f"{self.crate}/out/{it}")
+            self.copy(folder, f"{self.crate}/out/incremental", keep)
             here = f"{folder}/crates/{self.crate}"
             for path, text in self.texts.items():
                 with open(f"{here}/{path}", "w", encoding="utf-8") as it:
@@ -395,13 +399,13 @@ class Bodies:
 
 
 def try_all(crates, jobs):
-    """Tries the bodies of these crates, those of the upper ones first, which are dearer, and prints a line a round."""
+    """Tries the bodies of these crates, the largest rounds first, and prints a line a round."""
     whole, began, waiting = sum(len(it.edits) for it in crates), time.monotonic(), {}
     with concurrent.futures.ThreadPoolExecutor(jobs) as pool:
 
         def begin(rounds):
-            dear = lambda it: (list(crates_below()).index(it.crate), len(it.edits))
-            waiting.update((pool.submit(it.check), it) for it in sorted(rounds, key=dear, reverse=True))
+            largest_first = sorted(rounds, key=lambda it: len(it.edits), reverse=True)
+            waiting.update((pool.submit(it.check), it) for it in largest_first)
 
         try:
             begin([it for crate in crates for it in crate.rounds()])
@@ -463,8 +467,8 @@ def main():
         print(f"{len(edits)} bodies, of which {len(unfit)} don't fit the code")
         return 1 if unfit or not edits else 0
     is_kept = lambda crate: os.path.isdir(f"{ROOT}/crates/{crate}/out/incremental")
-    built = crates_below()["bactool"]  # a crate that the program doesn't rest on is proved here, from nothing
-    unkept = ", ".join(it for it, group in tried.items() if group and it in built and not is_kept(it))
+    below = crates_below()["bactool"] - {"bactool"}  # the bodies of any other crate are tried from nothing, if need be
+    unkept = ", ".join(it for it, group in tried.items() if group and it in below and not is_kept(it))
     if unkept:
         print(f"no kept proofs of {unkept}: run `make program` first, or each check proves them from nothing")
         return 2
