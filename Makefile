@@ -7,7 +7,7 @@
 # make test: over what make demo keeps: the tests of the crates, the examples, rows and guide, and some wrong bodies of
 #     each crate; 5 to 10 minutes
 # make gate: what a change has to pass: proves every crate and its tests from nothing, tries every wrong body, and runs
-#     everything; three quarters of an hour to an hour with four processors on a slow day, an hour and a half with two
+#     everything; half an hour to three quarters with four processors, an hour and more with two
 # make examples: runs each script of examples/, the demonstration, the program's own tests, those of bacsite and the
 #     guide, and compares what they write. Two minutes
 # make forget: takes away what the prover keeps, 3.2 GB, but not the program; the next check proves from nothing

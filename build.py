@@ -1,12 +1,9 @@
 #!/usr/bin/env python3
-"""Proves the crates that the program rests on, and builds the program. Usage: ./build.py [--tests | --sparing]
+"""Proves the crates that the program rests on, and builds the program. Usage: ./build.py [--tests]
 
 With --tests it runs the tests of the trials, over what is kept of the crates below, and says how many passed. Those
 of bac_trials are proved first. To prove those of tool_trials takes 12 to 19 minutes of processor time: so they are
 run as the sources stand, by `rt try`, until `rt test` was run there.
-
-With --sparing it proves what lies below the program alone, each crate by one process: that takes less processor time,
-and more of the clock where nothing else is at work.
 
 Crates that don't rest on one another are proved side by side, as many as there are processors and memory for; RT_JOBS
 is another number of processors to use. On a terminal one line moves; elsewhere there is a line for each crate, and one
@@ -149,7 +146,7 @@ def chains(crates):
     return found
 
 
-def build(crates, screen, is_done, is_sparing=False):
+def build(crates, screen, is_done):
     """Answers whether each crate was proved. Those of which is_done says so are left as they are."""
     done = set(filter(is_done, crates))
     left, working, kept, long = {it: crates[it] for it in crates if it not in done}, [], len(done), chains(crates)
@@ -159,8 +156,7 @@ def build(crates, screen, is_done, is_sparing=False):
             ready = sorted((crate for crate in left if left[crate] <= done), key=long.get, reverse=True)
             free, among = processors() - sum(work.jobs for work in working), sum(map(long.get, ready))
             for crate in ready[: places - len(working)]:
-                most = 1 if is_sparing else size(crate) // PROCESS_CODE
-                share = max(min(-(-free * long[crate] // among), most), 1)
+                share = max(min(-(-free * long[crate] // among), size(crate) // PROCESS_CODE), 1)
                 working.append(Work(crate, crates[crate], share))
                 free, among = free - share, among - long[crate]
                 del left[crate]
@@ -186,7 +182,7 @@ def build(crates, screen, is_done, is_sparing=False):
 
 
 def main(words):
-    wants_tests, is_sparing = words == ["--tests"], words == ["--sparing"]
+    wants_tests = words == ["--tests"]
     os.chdir(os.path.dirname(os.path.abspath(__file__)))
     if not shutil.which("rt"):
         needs = "This needs rt, a command of the Rattle kit, which is not in the PATH;"
@@ -194,18 +190,14 @@ def main(words):
         return 1
     os.makedirs(ROOMS, exist_ok=True)
     crates = needed(TRIALS if wants_tests else [PROGRAM])
-    if is_sparing:
-        del crates[PROGRAM]
     if wants_tests:
         return 0 if build(crates, Screen(len(TRIALS)), lambda crate: crate not in TRIALS) else 1
-    last = "" if is_sparing else ", the last of which is the program"
-    print(f"Proving {len(crates)} crates{last}.", flush=True)
+    print(f"Proving {len(crates)} crates, the last of which is the program.", flush=True)
     if not all(os.path.isdir(f"crates/{crate}/out") for crate in crates):
         print(COST, flush=True)
-    if not build(crates, Screen(len(crates)), lambda crate: False, is_sparing):
+    if not build(crates, Screen(len(crates)), lambda crate: False):
         return 1
-    if not is_sparing:
-        os.utime(f"crates/{PROGRAM}/out/{PROGRAM}")  # make compares its time with those of the sources
+    os.utime(f"crates/{PROGRAM}/out/{PROGRAM}")  # make compares its time with those of the sources
     return 0
 
 

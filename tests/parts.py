@@ -6,10 +6,10 @@ then what runs the program, alone, since clocks and sockets are in it. A part th
 
 `gate` is what a change has to pass. First it looks whether the documents agree with the tree, and whether the wrong
 bodies fit the code. Then `rt ci` proves, builds and tests everything from nothing, in a copy of the tree, since it sets
-aside what is kept of the proofs. Beside it come the proofs that the wrong bodies start from, and all of these. Last
-comes what runs the program, which is the one that `rt ci` built. Where a part fails, the others are ended. The copy has
-no must-fail/: for its edits `rt ci` would prove each crate once more, and the wrong bodies try them over what was kept.
-In the tree itself `rt ci` and `rt must-fail` try them too.
+aside what is kept of the proofs. Beside it come all wrong bodies, those of a crate once `rt ci` has proved the crates
+below. Last comes what runs the program, which is the one that `rt ci` built. Where a part fails, the others are ended.
+The copy has no must-fail/: for its edits `rt ci` would prove each crate once more, and they are tried with the wrong
+bodies. In the tree itself `rt ci` and `rt must-fail` try them too.
 
 Two parts go side by side where there are 4 GB of free memory for each processor. How far a part is stands here,
 behind the minutes since the beginning; all that it says is in out/parts, and the end of that is shown where it fails.
@@ -50,10 +50,6 @@ def gently(*command):
 def bodies(name, *words):
     tried, failed = r"^(\d+) wrong bodies: .* of (\d+) twins", r"; (\d+) failed$"
     return Part(name, gently("tests/bodies/wrong_bodies.py", *words), tried, failed)
-
-
-def build(command):
-    return Part("build", command, r"^ *\d+ of \d+ +\w+ +proved")
 
 
 def examples():
@@ -174,7 +170,7 @@ def test(clock):
     passed, lost = 0, {}
     others = ("_trials", "/bac_uses")  # the program doesn't rest on them
     is_kept = all(os.path.isdir(f"{it}/out/incremental") for it in glob.glob("crates/*") if not it.endswith(others))
-    first = [] if is_kept else [[[build(["./build.py"])]]]
+    first = [] if is_kept else [[[Part("build", ["./build.py"], r"^ *\d+ of \d+ +\w+ +proved")]]]
     for rows in (*first, beside([trials], [bodies("wrong bodies", "--sample")]), [[examples()]]):
         more, also = run(rows, clock, False)
         passed, lost = passed + more, {**lost, **also}
@@ -182,15 +178,14 @@ def test(clock):
 
 
 def gate(clock):
-    # beside `rt ci`, which builds the program; each further process of a crate would load the crates below once more
-    others = [build(gently("./build.py", "--sparing")), bodies("wrong bodies")]
     with tempfile.TemporaryDirectory(prefix="gate-") as room:
         read_back = r"^(\d+) rows .* and (\d+) other texts|agree with the tree$"
         documents = Part("documents", ["make", "--no-print-directory", "documents"], read_back)
         fit = Part("fit", ["tests/bodies/wrong_bodies.py", "--list"], "", r"of which (\d+)", shown=r"^crates/|fit")
+        tried = bodies("wrong bodies", "--over", f"{room}/tree")
         program = Part("program", ["install", "-D", f"{room}/tree/{PROGRAM}", PROGRAM], "")
         passed, lost = run([[documents, fit]], clock, True)
-        for rows in (beside([whole_proof(room)], others), [[program, examples()]]):
+        for rows in (beside([whole_proof(room)], [tried]), [[program, examples()]]):
             more, lost = (0, lost) if lost else run(rows, clock, True)
             passed += more
         return passed, lost

@@ -1,17 +1,16 @@
 #!/usr/bin/env python3
 """Tries wrong bodies of functions, many in one check, and says of each by what the prover refuses it.
 
-edits.py says what a wrong body is. Many bodies of a crate stand together in one copy of it, over the proofs that its
-last check or build kept. A body stands beside its function, as one more function with the same contract and answers,
-under a name of its own: so callers and other bodies see the right one. Where it names clauses, it and its twin have
+edits.py says what a wrong body is. Many bodies of a crate stand together in one copy of it, where every other function
+has a stub for its body (stubs.py), over the libraries of the crates below. A body stands beside its function, as one
+more function with the same contract and answers, under a name of its own. Where it names clauses, it and its twin have
 these alone of what the function ensures. Bodies of methods with a trait's contract, and of functions that call one
-another, stand in the function's place, those of one function in different rounds: a caller is proved from the contracts
-of what it calls, which no edit changes. What is refused for nothing but a callee, or was not tried since a callee was
-not, is tried again, and so is what doesn't compile beside its function. A check is asked for these alone, and for the
-modules of what stands in its function's place: a function there that no edit touches must stay proved, but for its
-callees, and so must one with a twin. Rounds are about as large as one another and go side by side.
-An edit of a constant or a type may stand in must-fail alone: in its round the function that refuses it is proved anew,
-with those that it calls, and nothing else is edited but what other clauses of laws refuse. A body is refused by a
+another, stand in the function's place, those of one function in different rounds. What is refused for nothing but a
+callee, or was not tried since a callee was not, is tried again, and so is what doesn't compile beside its function. A
+check is asked for these alone, and for the modules of what stands in its function's place: what no edit touches there
+must be proved. Rounds are about as large as one another and go side by side.
+An edit of a constant or a type may stand in must-fail alone: in its round the function that refuses it has its own
+body, and nothing else is edited but what other clauses of laws refuse. A body is refused by a
 
     clause  of the function, or its type's invariant; false: there are values at which it does not hold; open: no proof
             is found; limit: none in time
@@ -40,13 +39,14 @@ import time
 
 sys.path.insert(0, os.path.dirname(__file__) + "/..")
 from edits import INVARIANT, ROOT, Edit, functions_of, module_of, text_of
-from tree import copy_sources, crates_below, free_memory, processors
+from stubs import LINKED, put_stubs
+from tree import all_crates, crates_below, free_memory, processors
 
 KINDS = ["clause", "safety", "step", "name", "PROVED", "bad"]
 STRENGTHS = ["false", "open", "limit"]
 CHECK_MEMORY = 3000000000  # what a check takes of the machine's memory, in octets
 SAMPLE = 8
-LARGEST = 240  # bodies of a round
+LARGEST = 160  # bodies of a round
 # What a check prints of a goal, of an answer, of a function, once as it goes and once at its end, and of a text that it
 # does not take as a program.
 NOTE = re.compile(r"note: src/\S+ .*not proved.*?\(`(\S+)`\)(.*)")
@@ -68,6 +68,13 @@ class Body(Edit):
         super().__init__(crate, file, is_twin)
         self.twin, self.kind, self.why, self.tries, self.took = None, "", [], 0, 0.0
         self.is_offered = is_twin or bool(self.hole) or INVARIANT in self.promised
+
+    def has(self, path, function):
+        """Whether this function of a file of the crate is what it tries, or in an edit of a type what refuses it."""
+        if self.copy:
+            return function.shown.split("::")[-1] == self.copy.name
+        is_by = self.is_wide and function.symbols.match(f"{self.crate}::{self.by}")
+        return bool(is_by) or (path, function.shown) in [(file, of.shown) for file, of in self.functions]
 
     def touches(self, symbol):
         if self.law:
@@ -148,21 +155,24 @@ def rows_of(said, crate):
     return rows
 
 
-def link(source, to):
-    """A second name for a file that nothing writes to, or a copy where the folders are of two file systems."""
-    try:
-        os.link(source, to)
-    except OSError:
-        shutil.copy2(source, to)
+def library(tree, crate):
+    return f"{tree}/crates/{crate}/out/rlib/{crate}.rlib"
 
 
-def keep(source, to):
-    """The same for a file of proofs, in whose place a check puts another. To what else it keeps it may write."""
-    (link if source.endswith(".oantt") else shutil.copy2)(source, to)
+def command(crate, tree):
+    """The words of a check, as `rt check` has them, over the libraries of the crates below that this tree has."""
+    kit = os.path.realpath(shutil.which("rt")).removesuffix("/bin/rt")
+    ours = {it: library(tree, it) for it in crates_below()[crate] - {crate}}
+    root = "main" if os.path.isfile(f"{ROOT}/crates/{crate}/src/main.rt") else "lib"
+    words = [f"{kit}/bin/rattle", "check", "--crate-name", crate, f"src/{root}.rt", f"--links={crate}={LINKED}"]
+    words += [f"--extern={it}={ours.get(it, f'{kit}/rlibs/{it}.rlib')}" for it in ("std", *all_crates()[crate])]
+    words += [f"-Ldependency={it}" for it in (f"{kit}/rlibs", *map(os.path.dirname, ours.values()))]
+    logic = [f"--antt-project={kit}/rattle/logic/antt-project.json", f"--logic-built={kit}/logic_built"]
+    return [*words, *logic, "--progress"]
 
 
 class Round:
-    """A check of bodies of a crate together, in a copy of it and of those below, with what checks kept of them."""
+    """A check of bodies of a crate together, in a copy of it with stubs."""
 
     running = set()
 
@@ -209,26 +219,21 @@ class Round:
                     answers.write(f"use Rattle.{self.crate}.proofs.{'.'.join(place)}.Goals as goal\n")
                 answers.write(f"\npub {NO_GOAL} : goal.{NO_GOAL}\n{NO_GOAL} c = ?\n")
 
-    def copy(self, folder, part, by):
-        if os.path.isdir(f"{ROOT}/crates/{part}"):
-            shutil.copytree(f"{ROOT}/crates/{part}", f"{folder}/crates/{part}", copy_function=by)
-
     def check(self):
         """What the check says, and its processor seconds."""
-        with tempfile.TemporaryDirectory(prefix="wrong-bodies-") as folder:
-            copy_sources(folder)
-            for it in crates_below()[self.crate] - {self.crate}:
-                self.copy(folder, f"{it}/out/rlib", link)
-            self.copy(folder, f"{self.crate}/out/incremental", keep)
-            here = f"{folder}/crates/{self.crate}"
+        with tempfile.TemporaryDirectory(prefix="wrong-bodies-") as here:
+            for part in ("src", "specs", "proofs"):
+                if os.path.isdir(f"{ROOT}/crates/{self.crate}/{part}"):
+                    shutil.copytree(f"{ROOT}/crates/{self.crate}/{part}", f"{here}/{part}")
             for path, text in self.texts.items():
                 with open(f"{here}/{path}", "w", encoding="utf-8") as it:
                     it.write(text)
             self.answer(f"{here}/proofs")
+            put_stubs(self.crate, here, lambda *function: any(it.has(*function) for it in self.edits))
             how = {"cwd": here, "stdin": subprocess.DEVNULL, "stdout": subprocess.PIPE, "stderr": subprocess.STDOUT}
             names = sorted({name for it in self.edits for name in it.asked()})
-            only = [word for name in names for word in ("--only", name)]
-            with subprocess.Popen(["rt", "check", "--jobs", "1", *only], text=True, errors="replace", **how) as ran:
+            words = [*command(self.crate, self.bodies.options.over), *(f"--only={name}" for name in names)]
+            with subprocess.Popen(words, text=True, errors="replace", **how) as ran:
                 self.running.add(ran.pid)
                 said, last = [], time.monotonic()
                 for line in ran.stdout:
@@ -357,6 +362,11 @@ class Bodies:
         self.crate, self.edits, self.left, self.options, self.are_alone = crate, edits, edits, options, False
         self.strange, self.count, self.open, self.seconds, self.bare = [], 0, 0, 0.0, clauses_of(crate)
 
+    def is_ready(self):
+        """Whether the libraries below are there."""
+        below = crates_below()[self.crate] - {self.crate}
+        return all(os.path.isdir(library(self.options.over, it)) for it in below)
+
     def rounds(self):
         """Rounds of what is left."""
         found = [Round(self, self.count + at, *it) for at, it in enumerate(rounds_of(self.left, self.are_alone), 1)]
@@ -399,25 +409,27 @@ class Bodies:
 
 
 def try_all(crates, jobs):
-    """Tries the bodies of these crates, the largest rounds first, and prints a line a round."""
-    whole, began, waiting = sum(len(it.edits) for it in crates), time.monotonic(), {}
+    """Tries the bodies of these crates, each once those below are there, and prints a line a round. Of the rounds that
+    wait the largest is the next."""
+    whole, began, idle, left, working = sum(len(it.edits) for it in crates), time.monotonic(), crates, [], {}
     with concurrent.futures.ThreadPoolExecutor(jobs) as pool:
-
-        def begin(rounds):
-            largest_first = sorted(rounds, key=lambda it: len(it.edits), reverse=True)
-            waiting.update((pool.submit(it.check), it) for it in largest_first)
-
         try:
-            begin([it for crate in crates for it in crate.rounds()])
-            while waiting:
-                for it in concurrent.futures.wait(waiting, return_when=concurrent.futures.FIRST_COMPLETED).done:
-                    round, (said, seconds) = waiting.pop(it), it.result()
+            while idle or left or working:
+                left += [round for it in idle if it.is_ready() for round in it.rounds()]
+                idle = [it for it in idle if not it.count]
+                left.sort(key=lambda it: len(it.edits))
+                while left and len(working) < jobs:
+                    round = left.pop()
+                    working[pool.submit(round.check)] = round
+                time.sleep(0 if working else 1)
+                for it in concurrent.futures.wait(working, 1, concurrent.futures.FIRST_COMPLETED).done:
+                    round, (said, seconds) = working.pop(it), it.result()
                     round.bodies.judge(round, said, seconds)
                     done = sum(bool(edit.kind) for crate in crates for edit in crate.edits)
                     passed = "{}:{:02}".format(*divmod(int(time.monotonic() - began), 60))
                     told = f"{round.crate} round {round.number} of {round.bodies.count}: {counted(round.edits)}"
                     print(f"{done:3} of {whole}, {passed}: {told}; {seconds:.0f} processor seconds", flush=True)
-                    begin(round.bodies.further())
+                    left += round.bodies.further()
         except BaseException:
             pool.shutdown(wait=False, cancel_futures=True)
             for pid in list(Round.running):
@@ -439,6 +451,16 @@ def edits_of(crate, options):
     return sample_of(edits) if options.sample and not any(it.is_unfit for it in edits) else edits
 
 
+def build(crates):
+    """Has `rt` make anew what is not as the sources, of the libraries of these crates. Says which is not there."""
+    for it in (it for it in all_crates() if it in crates):
+        if not os.path.isdir(library(ROOT, it)):
+            return f"no library of {it}: run `make program` first"
+        if subprocess.run(["rt", "lib"], cwd=f"{ROOT}/crates/{it}", stdout=subprocess.DEVNULL).returncode:
+            return f"{it} is not proved"
+    return ""
+
+
 def strays():
     """What stands in a folder of edits, and is none of a crate."""
     files = (it for part in ("must-fail", "wrong") for it in glob.glob(f"{ROOT}/crates/*/{part}/*"))
@@ -453,6 +475,7 @@ def main():
     flag("--clauses", help="print the clauses of public functions that no body leaves open")
     flag("--sample", help=f"take {SAMPLE} of each crate that one check holds, those of must-fail first, without twins")
     word("--only", default="", metavar="PATTERN", help="take the bodies whose CRATE/NAME the pattern is found in")
+    word("--over", metavar="TREE", help="take the crates below from this tree, each once `rt ci` has put it there")
     jobs = max(1, min(processors(), free_memory() // CHECK_MEMORY))
     word("--jobs", type=int, default=jobs, metavar="N", help="the checks at a time (%(default)s here)")
     word("crates", nargs="*", help="take these crates alone")
@@ -466,12 +489,11 @@ def main():
     if options.list or unfit or not edits:
         print(f"{len(edits)} bodies, of which {len(unfit)} don't fit the code")
         return 1 if unfit or not edits else 0
-    is_kept = lambda crate: os.path.isdir(f"{ROOT}/crates/{crate}/out/incremental")
-    below = crates_below()["bactool"] - {"bactool"}  # the bodies of any other crate are tried from nothing, if need be
-    unkept = ", ".join(it for it, group in tried.items() if group and it in below and not is_kept(it))
-    if unkept:
-        print(f"no kept proofs of {unkept}: run `make program` first, or each check proves them from nothing")
+    below = set().union(*(crates_below()[it] - {it} for it, group in tried.items() if group))
+    if not options.over and (lacking := build(below)):
+        print(lacking)
         return 2
+    options.over = options.over or ROOT
     crates = [Bodies(crate, group, options) for crate, group in tried.items() if group]
     try_all(crates, options.jobs)
     failed = [line for it in crates for line in it.strange]
