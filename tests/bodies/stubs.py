@@ -51,11 +51,11 @@ def put_stubs(crate, home, is_tried):
         lines = text.split("\n")
         found = [it for it in functions_of(crate, path, text) if may_be_stub(lines, it) and not is_tried(path, it)]
         for it in reversed(found):
-            lines[it.body + 1 : it.last] = [STUB] + [None] * (it.last - it.body - 2)
+            lines[it.body + 1 : it.last] = [STUB] + [""] * (it.last - it.body - 2)  # what stands below keeps its line
         if path in ("src/lib.rt", "src/main.rt"):
             lines.append("mod nowhere;\n")
         with open(file, "w", encoding="utf-8") as it:
-            it.write("\n".join(line for line in lines if line is not None))
+            it.write("\n".join(lines))
         gone += [it.symbols for it in found]
     with open(f"{home}/src/nowhere.rt", "w", encoding="utf-8") as it:
         it.write(NOWHERE)

@@ -331,13 +331,14 @@ def judge_round(said, round):
         it.judge(rows)
     # Where the check takes a text for no program, no function of the round is tried: the others are tried again.
     errors = [] if rows else [(it[1], int(it[2]) - 1, it[0]) for it in REFUSED.finditer(said)]
-    is_hit = lambda path, first, last: any(path == file and first <= at <= last for file, at, _ in errors)
-    hit = [it for it in group for place in round.at(it) if is_hit(*place)]
+    within = lambda path, first, last: [text for file, at, text in errors if path == file and first <= at <= last]
+    hit = {it: text for it in group for place in round.at(it) for text in within(*place)[:1]}
+    other = errors[0][2] if errors else said[-300:]
     for it in [] if rows else hit or group:
         if it.copy and not it.calls_right:
             it.copy = None
         else:
-            it.kind, it.why = "bad", [f"no contract was tried: {errors[0][2] if errors else said[-300:]}"]
+            it.kind, it.why = "bad", [f"no contract was tried: {hit.get(it, other)}"]
     is_told = lambda symbol, goal: any(it.touches(symbol) and it.opens(goal) for it in group)
     strange = [(symbol, goal) for symbol, row in rows.items() for _, goal in row["found"] if not is_told(symbol, goal)]
     return [f"{symbol}: no edit touches it, and it is refused: {goal}" for symbol, goal in strange]
