@@ -8,7 +8,7 @@
 #     take some two minutes
 # make interop: nmap and tshark against the device and the tools; it installs both. Under a minute
 # make holes: wrong bodies that no contract can refuse, each with the test that has to fail. A minute or two of
-#     processor time each, and 24 of them. JOBS=1
+#     processor time each, and some thirty of them. JOBS=1
 
 ROUNDS ?= 15
 ROOM ?= $(HOME)/.cache/bactool-bench
