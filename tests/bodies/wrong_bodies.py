@@ -1,8 +1,8 @@
 #!/usr/bin/env python3
 """Tries wrong bodies of functions, many in one check, and says of each by what the prover refuses it.
 
-edits.py says what a wrong body is. Many bodies of a crate stand together in one copy of it, where every other function
-has a stub for its body (stubs.py), over the libraries of the crates below. A body stands beside its function, as one
+edits.py says what a wrong body is. Many bodies of a crate stand together in one copy of it, where other functions
+have stubs for bodies (stubs.py), over the libraries of the crates below. A body stands beside its function, as one
 more function with the same contract and answers, under a name of its own. Where it names clauses, it and its twin have
 these alone of what the function ensures. Bodies of methods with a trait's contract, and of functions that call one
 another, stand in the function's place, those of one function in different rounds. What is refused for nothing but a
