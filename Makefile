@@ -4,8 +4,8 @@
 # make demo: the same, and shows what it does, with a small device on this machine
 # make check: proves every crate, without tests and wrong bodies, over what earlier checks kept; for daily work. A few
 #     minutes where little has changed
-# make test: over what make demo keeps: the tests of the crates, the examples, rows and guide, and some wrong bodies of
-#     each crate; 5 to 10 minutes
+# make test: over what make demo keeps: the tests of the crates, the examples, rows and guide, make lint, and some wrong
+#     bodies of each crate; 5 to 10 minutes
 # make gate: what a change has to pass: proves every crate and its tests from nothing, tries every wrong body, and runs
 #     everything; half an hour to three quarters with four processors, an hour and more with two
 # make examples: runs each script of examples/, the demonstration, the program's own tests, those of bacsite and the
@@ -31,7 +31,7 @@ try:
 	@cd crates/bactool && rt try -- bactrace <../../examples/first.trace
 
 demo: program
-	@examples/demo.sh $(PROGRAM) $$(examples/free-port.sh)
+	@examples/with-port.sh examples/demo.sh $(PROGRAM)
 
 check:
 	rt all check
@@ -47,14 +47,14 @@ examples: program
 	    $(PROGRAM) bactrace < $$script | diff - $${script%.trace}.out || exit 1; \
 	    echo "$$script: as it is to be"; \
 	done
-	@port=$$(examples/free-port.sh); \
-	    examples/demo.sh $(PROGRAM) $$port | sed "s/$$port/47808/" | diff - examples/demo.out
+	@examples/with-port.sh examples/demo.sh $(PROGRAM) | sed -E 's/(--port |127\.0\.0\.1:)[0-9]+/\147808/' | \
+	    diff - examples/demo.out
 	@echo "examples/demo.sh: as it is to be"
 	@tests/program/program.sh $(PROGRAM)
 	@tests/program/lengths.py $(PROGRAM)
 	@tests/program/rows.py $(PROGRAM)
 	@tests/program/failing.py $(PROGRAM)
-	@tests/program/bacsite.py $(PROGRAM)
+	@tests/site/run.py $(PROGRAM)
 
 forget:
 	rm -rf crates/*/out/incremental crates/*/out/rlib

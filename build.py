@@ -90,7 +90,7 @@ class Work:
 
     def came(self):
         """What came of it, once it has ended; "" where it is not well."""
-        tests = re.findall(r"^test result: ok\. (\d+) passed; 0 failed", self.said(), re.M)
+        tests = re.findall(r"^test result: ok\. ([1-9]\d*) passed; 0 failed", self.said(), re.M)
         if self.status != 0 or (self.crate in TRIALS and not tests):
             return ""
         return f"{tests[-1]} tests passed{', not proved' * (not self.is_proved)}" if tests else "proved"

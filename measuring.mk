@@ -1,8 +1,9 @@
 # What measures and tries the built program from outside, none of it in the gate. docs/SPEED.md has what was measured.
 #
 # make bench: what the program costs. Over 127.0.0.1: bacdev beside a bare echo server, bacrp beside a bare client,
-#     memory; then a script of a million lines, and replies, values and the client's calls in memory, proved first
-#     (some minutes, kept in ROOM for the next time). ROUNDS=15 ROOM=~/.cache/bactool-bench
+#     memory; then a script of a million lines, instructions by callgrind, where valgrind is installed, and replies,
+#     values and the client's calls in memory, proved first (some minutes, kept in ROOM for the next time). ROUNDS=15
+#     ROOM=~/.cache/bactool-bench
 # make bench-loopback: its first part alone
 # make soak: random datagrams against bacdev, a random script through bactrace. DATAGRAMS=1000000 LINES=10000000, which
 #     take some two minutes
@@ -20,6 +21,7 @@ JOBS ?= 1
 
 bench: bench-loopback
 	@bench/lines.py
+	@bench/instructions.py
 	@mkdir -p $(ROOM) && bench/run.sh $(ROOM)
 
 bench-loopback: program

@@ -6,9 +6,10 @@
 # make uninstall: takes away what make install put, where it is still as it was put, with the same PREFIX and DESTDIR.
 #     It builds nothing. A second
 # make lint: the manual pages by mandoc and against the help, the numbers against Wireshark's names, the completions in
-#     bash, zsh and fish, make install in a folder of its own, the documents against the tree, that something reads each
-#     row of the rules back, what make says at first, and the scripts by shellcheck. What mandoc, tshark, shellcheck
-#     and a shell would look at is left out where it is not installed. Up to a minute
+#     bash, zsh and fish, make install in a folder of its own, the package by dpkg and lintian, the documents against
+#     the tree, that something reads each row of the rules back, what make says at first, build.py and parts.py where
+#     something fails, bacsite by mypy and pylint, and the scripts by shellcheck. What one of these or a shell would
+#     look at is left out where it is not installed. A minute
 # make guide: runs every command of docs/GUIDE.md, and compares what comes out; make examples runs it too. Half a minute
 # make deb: a Debian package in crates/bactool/out, of the same octets each time; needs dpkg-deb and binutils. A second
 
@@ -27,12 +28,17 @@ uninstall:
 
 lint: program
 	@tests/package/pages.py $(PROGRAM)
+	@tests/package/facts.py $(PROGRAM)
 	@tests/documents/numbers.sh
-	@tests/package/completions.sh
+	@tests/package/completions.py $(PROGRAM)
+	@tests/site/lint.sh
 	@tests/package/install.sh $(PROGRAM)
+	@tests/package/deb.py $(PROGRAM)
 	@tests/documents/targets.sh
+	@tests/false_rt.py
 	@if command -v shellcheck >/dev/null; then \
-	    shellcheck -x $$(grep -l '^#!' */*.sh tests/*/*.sh) && echo "shellcheck finds no fault with the scripts"; \
+	    scripts=$$(grep -lE '^#!.*\b(ba)?sh$$' .ci/run */*.sh tests/*/*.sh) && shellcheck -x $$scripts && \
+	        echo "shellcheck: $$(echo $$scripts | wc -w) scripts without a fault"; \
 	else \
 	    echo "shellcheck is not installed, left out"; \
 	fi
@@ -40,7 +46,7 @@ lint: program
 examples: guide
 
 guide: program
-	@tests/program/guide.sh $(PROGRAM)
+	@tests/program/guide.py $(PROGRAM)
 
 deb: program
 	packaging/deb.sh $(PROGRAM) $(dir $(PROGRAM))

@@ -32,10 +32,13 @@ for program in "$top"/bench/*.rattle; do
 done
 for program in "$top"/bench/*.rattle; do
     cd "$room/crates/bench_$(basename "$program" .rattle)"
-    rt run
+    rt run >run.log 2>&1 || { tail run.log; exit 1; }
 done
 
 before=$(load)
+for name in bench_values bench_kinds; do
+    "$room/crates/$name/out/$name"
+done
 for _ in $(seq "$runs"); do
     "$room/crates/bench_clients/out/bench_clients"
 done >"$room/times"

@@ -18,7 +18,7 @@ from collections import Counter
 sys.path.insert(0, os.path.dirname(__file__) + "/../tests")
 sys.path.insert(0, os.path.dirname(__file__) + "/../crates/bac_trials/oracle")
 from count import region, tag
-from tree import PROGRAM, free_port, local_socket, resident
+from tree import PROGRAM, free_port, is_taken, local_socket, resident
 
 INSTANCE = 1234
 AT_MOST = 65535  # datagrams that one bacdev answers
@@ -237,7 +237,8 @@ class Served:
         self.process = subprocess.Popen([PROGRAM, "bacdev", str(INSTANCE), "--port", str(port)], stderr=subprocess.PIPE)
         self.peer = ("127.0.0.1", port)
         self.tried, self.fence = local_socket(), local_socket()
-        time.sleep(0.3)
+        while not is_taken(port) and self.process.poll() is None:
+            time.sleep(0.01)
         self.asked = 0
         if not self.is_past(5):
             sys.exit("bacdev doesn't answer")

@@ -4,7 +4,7 @@
 Usage: examples/capture.py CAPTURE.pcap < LINES
 
 A line has the time in seconds, who sends and to whom (ADDRESS:PORT), and the octets; lines that begin with # are
-skipped. examples/tools.pcap is made so of examples/tools.hex.
+skipped. examples/tools.pcap and late.pcap are made so of tools.hex and late.hex.
 """
 import socket
 import struct
@@ -45,4 +45,4 @@ def main(path):
             capture.write(struct.pack("<IIII", micros // 1_000_000, micros % 1_000_000, len(whole), len(whole)) + whole)
 
 
-main(sys.argv[1])
+main(sys.argv[1]) if len(sys.argv) == 2 else sys.exit(__doc__)

@@ -1,5 +1,5 @@
 #!/usr/bin/env python3
-"""Makes man/bactool-numbers.7, docs/NUMBERS.md and the tables of site/bacsite from man/numbers.txt. Usage:
+"""Makes man/bactool-numbers.7 and docs/NUMBERS.md from site/bacsite/numbers.txt, which bacsite reads itself. Usage:
 man/tables.py [--check], which writes none of them, and ends with 1 where one is not as it is made.
 """
 import os
@@ -9,8 +9,7 @@ import sys
 sys.path.insert(0, os.path.dirname(__file__) + "/../tests")
 from tree import TOP, text_of
 
-TABLES = {"Object types": "object-type", "Properties": "property-list", "Units": "units"}
-MADE = "Made from man/numbers.txt by man/tables.py: change it there."
+MADE = "Made from site/bacsite/numbers.txt by man/tables.py: change it there."
 PAGE = rf""".\" {MADE}
 .Dd November 26, 2026
 .Dt BACTOOL-NUMBERS 7
@@ -45,7 +44,7 @@ enumerations of ANSI/ASHRAE 135 (clauses 12, 18, 20.2 and 21). Not all are here,
 
 def sections():
     """Each section: its title, how many columns a heading of its list joins (0: a table), its text, and its rows."""
-    for section in re.split(r"(?m)^= ", text_of("man/numbers.txt"))[1:]:
+    for section in re.split(r"(?m)^= ", text_of("site/bacsite/numbers.txt"))[1:]:
         head, *lines = [line for line in section.splitlines() if line and line[0] != "#"]
         text = " ".join(line[2:] for line in lines if line.startswith(": "))
         joins = int((re.findall(r"list (\d)", head) or [0])[0])
@@ -84,34 +83,12 @@ def in_document(title, _, text, rows):
     return f"## {title}\n\n" + (folded(text.split(), 120) + "\n" if text else "") + "".join(lines)
 
 
-def tag(told):
-    """The tag of the value where others look like it; p, as the present value; -, none or parts; ?, not known."""
-    if re.search("present value|by the object type", told):
-        return ":p"
-    if told[:1].isdigit():
-        return f":{told[0]}" if re.match("[23459] ", told) else ""
-    return ":-" if told == "-" else ":?"
-
-
-def of_bacsite(title, _, text, rows):
-    """The words of the tables: the name of one, and its rows NUMBER:NAME or NUMBER:NAME:TAG."""
-    if title in TABLES:
-        yield TABLES[title]
-        yield from (":".join(row[:2]) + ("" if title == "Units" else tag(row[2])) for row in rows[1:])
-    for properties, meanings in rows[1:] if title == "What numbers of a value mean" else ():
-        words = [(f"{at} " * (not it[0].isdigit()) + it).split() for at, it in enumerate(meanings.split(", "))]
-        for name in properties.split(", "):
-            yield from (name, *(f"{number}:{'-'.join(meaning)}" for number, *meaning in words))
-
-
 def main(checks):
     parts = list(sections())
-    tables = folded((word for part in parts for word in of_bacsite(*part)), 120)
     wrong = 0
     for path, text in [
         ("man/bactool-numbers.7", PAGE + "".join(on_page(*part) for part in parts) + FOOT),
         ("docs/NUMBERS.md", DOCUMENT + "\n".join(in_document(*part) for part in parts)),
-        ("site/bacsite", re.sub(r'(?s)(?<=\nNUMBERS = """\n).*?(?="""\n)', lambda _: tables, text_of("site/bacsite"))),
     ]:
         if not checks:
             with open(f"{TOP}/{path}", "w", encoding="utf-8") as file:

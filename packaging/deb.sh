@@ -2,7 +2,7 @@
 # Packs the built program as a Debian package. Usage: packaging/deb.sh PROGRAM FOLDER, which gets
 # bactool_VERSION_ARCH.deb. The version is that of the program's help (packaging/version.sh), and all times are the day
 # that CHANGELOG.md gives to it: the same program and files give the same octets. MAINTAINER, as `Name <address>`, names
-# the one who makes the package; without it no address stands there.
+# the one who makes the package; without it an address stands there that reaches nobody.
 set -euo pipefail
 program=$(realpath "$1")
 folder=$(realpath "$2")
@@ -12,7 +12,7 @@ date=$(sed -n "s/^## $version (\\(.*\\))\$/\\1/p" CHANGELOG.md)
 [ -n "$date" ] || { echo "packaging/deb.sh: CHANGELOG.md has no date of the version $version" >&2; exit 1; }
 SOURCE_DATE_EPOCH=$(date -u -d "$date" +%s)
 export SOURCE_DATE_EPOCH
-maintainer=${MAINTAINER:-bactool authors}
+maintainer=${MAINTAINER:-bactool authors <bactool@bactool.invalid>}
 architecture=$(dpkg --print-architecture)
 room=$(mktemp -d)
 trap 'rm -r "$room"' EXIT
@@ -38,8 +38,7 @@ done
         while read -r line; do
             fold -s -w 74 <<<"$line" | sed '1s/^/  * /; 2,$s/^/    /; s/ *$//'
         done
-    case $maintainer in *'<'*) signed=$maintainer ;; *) signed="$maintainer <>" ;; esac
-    printf '\n -- %s  %s\n' "$signed" "$(LC_ALL=C date -u -d "$date" '+%a, %d %b %Y %H:%M:%S +0000')"
+    printf '\n -- %s  %s\n' "$maintainer" "$(LC_ALL=C date -u -d "$date" '+%a, %d %b %Y %H:%M:%S +0000')"
 } | gzip -9n >"$doc/changelog.gz"
 {
     printf 'Format: https://www.debian.org/doc/packaging-manuals/copyright-format/1.0/\nUpstream-Name: bactool\n\n'
@@ -78,5 +77,4 @@ Description: BACnet/IP tools whose behaviour is proved
 $(fold -s -w 78 <<<"$report" | sed 's/^/ /; s/ *$//')
 CONTROL
 (cd "$root" && find usr -type f -print0 | LC_ALL=C sort -z | xargs -0 md5sum) >"$root/DEBIAN/md5sums"
-find "$root" -exec touch -h -d "@$SOURCE_DATE_EPOCH" {} +
 dpkg-deb --build --root-owner-group -Zgzip "$root" "$folder/bactool_${version}_$architecture.deb"

@@ -110,14 +110,16 @@ lay_out() {
     esac
     version=$(packaging/version.sh "$program")
     put "$program" 755 bin/bactool
-    put site/bacsite 755 bin/bacsite
+    packaging/onefile.py "$room/bacsite"
+    put "$room/bacsite" 755 bin/bacsite
     for page in man/*.[17]; do
         put "$page" 644 "share/man/man${page##*.}/${page##*/}"
     done
+    completions/make.py "$room/completions"
     for name in bactool bacsite; do
-        put completions/$name.bash 644 $bash/$name
-        put completions/_$name 644 "$zsh/_$name"
-        put completions/$name.fish 644 $fish/$name.fish
+        put "$room/completions/$name.bash" 644 $bash/$name
+        put "$room/completions/_$name" 644 "$zsh/_$name"
+        put "$room/completions/$name.fish" 644 $fish/$name.fish
     done
     for tool in $tools; do
         link bactool "bin/$tool"

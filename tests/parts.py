@@ -2,18 +2,22 @@
 """Runs what is tried of the tree, part by part, and ends with a line of counts. Usage: tests/parts.py test|gate
 
 `test` is for whoever has the built program: the tests of the trials, and beside them some wrong bodies of each crate;
-then what runs the program, alone, since clocks and sockets are in it. A part that fails ends no other.
+then what runs the program, alone, since clocks and sockets are in it, and make lint. A part that fails ends no other.
 
 `gate` is what a change has to pass. First it looks whether the documents agree with the tree, and whether the wrong
 bodies fit the code. Then `rt ci` proves, builds and tests everything from nothing, in a copy of the tree, since it sets
 aside what is kept of the proofs. Beside it come all wrong bodies, those of a crate once `rt ci` has proved the crates
-below. Last comes what runs the program, which is the one that `rt ci` built. Where a part fails, the others are ended.
+below. Last come what runs the program, which is the one that `rt ci` built, and make lint. Where a part fails, the
+others are ended.
 The copy has no must-fail/: for its edits `rt ci` would prove each crate once more, and they are tried with the wrong
 bodies. In the tree itself `rt ci` and `rt must-fail` try them too.
 
 Two parts go side by side where there are 4 GB of free memory for each processor. How far a part is stands here,
 behind the minutes since the beginning; all that it says is in out/parts, and the end of that is shown where it fails.
-The last line is `N passed, M failed`, with the names of the parts that failed.
+The last line is `N passed, M failed, K skipped`: so much was left out, as for a tool that is not installed here. Above
+it stand the names of the parts that failed; what was left out; and how many wrong bodies are shown wrong, how many only
+refused, and how many are holes. A row that counts 0 has failed, since nothing was tried there; and so has a script of
+make examples or make lint that says nothing.
 """
 import glob
 import os
@@ -31,11 +35,15 @@ from tree import TOP, free_memory, processors
 LOGS = "out/parts"
 PROGRAM = "crates/bactool/out/bactool"
 SIGNALS = (signal.SIGINT, signal.SIGTERM, signal.SIGHUP)
+LEFT_OUT, SHOWN = [], []  # what the parts say of what was left out, and of what shows the wrong bodies wrong
 QUIET = 300  # seconds after which a line says what is at work, where nothing else was said
 
 # A part: its command; the numbers of what it tried and of what failed, in what it says (where none stands, each find is
-# one); which lines are shown as they come; which one says that it will fail; where it runs, and with what settings.
-Part = namedtuple("Part", "name command tried failed shown lost place settings", defaults=["", ".", None, ".", {}])
+# one); which lines are shown as they come; which one says that it will fail; where it runs, and with what settings; and
+# the scripts of it that have to say what they did.
+Part = namedtuple(
+    "Part", "name command tried failed shown lost place settings scripts", defaults=["", ".", None, ".", {}, ()]
+)
 
 
 def beside(*rows):
@@ -52,9 +60,13 @@ def bodies(name, *words):
     return Part(name, gently("tests/bodies/wrong_bodies.py", *words), tried, failed)
 
 
-def examples():
-    tried = r"(\d+) (?:calls|scripts|command lines|requests|commands)\b|: as it is to be$"
-    return Part("examples", ["make", "--no-print-directory", "examples"], tried, r"(\d+) not as they are to be")
+def target(name):
+    """A target of make that runs the built program, each script of which says what it did behind its own path."""
+    command = ["make", "--no-print-directory", name]
+    listed = subprocess.run([*command, "-n"], check=True, stdout=subprocess.PIPE, text=True).stdout
+    scripts = re.findall(r"(?m)^tests/\S+", listed)
+    tried, failed = r"^[\w./]+: (\d+) (?!not )|^examples/\S+: as it is to be$", r"(\d+) not as they are to be"
+    return Part(name, command, tried, failed, scripts=scripts)
 
 
 def whole_proof(room):
@@ -112,14 +124,18 @@ class Work:
         return ended or self.is_lost
 
     def counts(self):
-        """How many passed and failed. A part that says no number where one is looked for has failed."""
+        """How many passed and failed. A part that says no number where one is looked for has failed, or that says 0."""
         self.lines.seek(0)
         said = self.lines.read()
-        found = re.finditer(self.part.tried, said, re.M) if self.part.tried else []
-        tried = sum(sum(int(it) for it in row.groups() if it) if any(row.groups()) else 1 for row in found)
+        rows = [row.groups() for row in re.finditer(self.part.tried, said, re.M)] if self.part.tried else []
+        tried = [sum(int(it) for it in row if it) if any(row) else 1 for row in rows]
         failed = sum(map(int, re.findall(self.part.failed, said, re.M))) if self.part.failed else 0
-        is_bad = self.is_lost or self.process.returncode != 0 or bool(self.part.tried and not tried)
-        return max(tried - failed, 0), failed or int(is_bad)
+        is_empty = bool(self.part.tried) and (0 in tried or not tried)
+        silent = [it for it in self.part.scripts if not re.search(rf"^{re.escape(it)}: ", said, re.M)]
+        is_bad = self.is_lost or self.process.returncode != 0 or is_empty or bool(silent)
+        LEFT_OUT.extend(it for it in said.splitlines() if re.search(r"(?<!none )left out", it))
+        SHOWN.extend(re.findall(r"^\d+ wrong bodies: .*?(?=; refused by)", said, re.M))
+        return max(sum(tried) - failed, 0), failed or int(is_bad)
 
     def tell(self):
         """Says what came of it, behind the end of what it said where it failed."""
@@ -163,7 +179,7 @@ def run(rows, clock, ends_at_failure):
 
 
 def test(clock):
-    print("Here: the tests of both trials, some wrong bodies of each crate, the examples, rows and guide.")
+    print("Here: the tests of both trials, some wrong bodies of each crate, examples, rows and guide, and make lint.")
     print("Left to make gate: proofs from nothing, and all other wrong bodies.")
     sys.stdout.flush()
     trials = Part("trials", ["./build.py", "--tests"], r"(\d+) tests passed")
@@ -171,7 +187,8 @@ def test(clock):
     others = ("_trials", "/bac_uses")  # the program doesn't rest on them
     is_kept = all(os.path.isdir(f"{it}/out/incremental") for it in glob.glob("crates/*") if not it.endswith(others))
     first = [] if is_kept else [[[Part("build", ["./build.py"], r"^ *\d+ of \d+ +\w+ +proved")]]]
-    for rows in (*first, beside([trials], [bodies("wrong bodies", "--sample")]), [[examples()]]):
+    program = [target("examples"), target("lint")]
+    for rows in (*first, beside([trials], [bodies("wrong bodies", "--sample")]), [program]):
         more, also = run(rows, clock, False)
         passed, lost = passed + more, {**lost, **also}
     return passed, lost
@@ -179,13 +196,15 @@ def test(clock):
 
 def gate(clock):
     with tempfile.TemporaryDirectory(prefix="gate-") as room:
-        read_back = r"^(\d+) rows .* and (\d+) other texts|agree with the tree$"
-        documents = Part("documents", ["make", "--no-print-directory", "documents"], read_back)
-        fit = Part("fit", ["tests/bodies/wrong_bodies.py", "--list"], "", r"of which (\d+)", shown=r"^crates/|fit")
+        documents = Part("documents", ["make", "--no-print-directory", "documents"], r"^[\w./]+: (\d+) ")
+        fit = r"^[1-9]\d* bodies, of which \d+ don't fit", r"of which (\d+)"
+        fit = Part("fit", ["tests/bodies/wrong_bodies.py", "--list"], *fit, shown=r"^crates/|fit")
         tried = bodies("wrong bodies", "--over", f"{room}/tree")
+        told = r"^(\d+) bodies and twins with", r", (\d+) not told"
+        told = Part("self test", gently("tests/bodies/self_test.py"), *told)
         program = Part("program", ["install", "-D", f"{room}/tree/{PROGRAM}", PROGRAM], "")
         passed, lost = run([[documents, fit]], clock, True)
-        for rows in (beside([whole_proof(room)], [tried]), [[program, examples()]]):
+        for rows in (beside([whole_proof(room)], [told, tried]), [[program, target("examples"), target("lint")]]):
             more, lost = (0, lost) if lost else run(rows, clock, True)
             passed += more
         return passed, lost
@@ -197,7 +216,8 @@ def main(words):
     os.chdir(TOP)
     os.makedirs(LOGS, exist_ok=True)
     passed, lost = (test if words == ["test"] else gate)(Clock())
-    print(f"{passed} passed, {sum(lost.values())} failed{': ' * bool(lost)}{', '.join(lost)}")
+    print("\n".join([*LEFT_OUT, *SHOWN, *(f"failed: {name}" for name in lost)]))
+    print(f"{passed} passed, {sum(lost.values())} failed, {len(LEFT_OUT)} skipped")
     return 1 if lost else 0
 
 

@@ -1,5 +1,6 @@
 """What scripts share: where tree and program are, the texts of files, the crates, and the machine with its ports."""
 import contextlib
+import fcntl
 import glob
 import os
 import re
@@ -7,10 +8,12 @@ import shutil
 import socket
 import subprocess
 import sys
+import tempfile
 import time
 
 TOP = os.path.dirname(os.path.dirname(os.path.abspath(__file__)))
 PROGRAM = os.environ.get("BACTOOL", TOP + "/crates/bactool/out/bactool")
+HELD = []  # locks of the ports that this process was given
 
 
 def text_of(path):
@@ -53,15 +56,24 @@ def local_socket():
     return it
 
 
-def free_port():
-    """A UDP port that no socket of this machine has."""
-    with local_socket() as it:
-        return it.getsockname()[1]
+def free_port(first=47808):
+    """The first UDP port from this one on that no socket of this machine has. Until this process ends, no other call
+    gives it, nor does examples/with-port.sh."""
+    for port in range(first, 65536):
+        lock = open(f"{tempfile.gettempdir()}/bactool-port-{port}-{os.getuid()}", "a", encoding="utf-8")
+        with contextlib.suppress(BlockingIOError):
+            fcntl.flock(lock, fcntl.LOCK_EX | fcntl.LOCK_NB)
+            if not is_taken(port):
+                HELD.append(lock)
+                return port
+        lock.close()
+    sys.exit(f"no UDP port from {first} on is free")
 
 
 def is_taken(port):
-    """Whether a UDP socket of this machine has this port."""
-    return f":{int(port):04X} " in text_of("/proc/net/udp")
+    """Whether a UDP socket of this machine has this port, for IPv4 or IPv6."""
+    tables = "".join(text_of(path) for path in glob.glob("/proc/net/udp*") if path.endswith(("udp", "udp6")))
+    return bool(re.search(rf"(?m)^ *\d+: [0-9A-F]+:{int(port):04X} ", tables))
 
 
 @contextlib.contextmanager

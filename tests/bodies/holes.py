@@ -27,8 +27,8 @@ import threading
 import time
 
 sys.path.insert(0, os.path.dirname(__file__) + "/..")
-from edits import ROOT, Edit
-from tree import copy_sources, free_port, text_of
+from edits import ROOT, Edit, entries_of
+from tree import all_crates, copy_sources, free_port, text_of
 
 TRIALS = re.compile(r"(crates/(?:bac|tool)_trials)/src/tests/")
 MOST = 1800  # seconds that a build may take, on a machine with much else to do
@@ -157,8 +157,7 @@ def main():
     parser.add_argument("--only", default="", metavar="PATTERN", help="take those whose name the pattern is found in")
     parser.add_argument("--jobs", type=int, default=1, metavar="N", help="the builds at a time")
     options = parser.parse_args()
-    files = [it for it in sorted(glob.glob(f"{ROOT}/crates/*/wrong/*.edit")) if "\nhole: " in text_of(it)]
-    edits = [Edit(it.split("/")[-3], it) for it in files]
+    edits = [Edit(it, entry) for it in all_crates() for entry in entries_of(it, ["wrong"]) if "\nhole: " in entry.text]
     unfit = [f"{it.name}: {it.is_unfit}" for it in edits if it.is_unfit]
     if unfit:
         sys.exit("\n".join(unfit))

@@ -8,10 +8,13 @@ import contextlib
 import glob
 import os
 import re
+import secrets
 
 from edits import functions_of
 
-STUB = "crate::nowhere::never()"
+# Another name in each run: no wrong body, and no twin, can call what is there for the stubs alone.
+PLACE = f"nowhere_{secrets.token_hex(8)}"
+STUB = f"crate::{PLACE}::never()"
 # No function meets this contract, so nothing behind a call of it is ever reached. It passes for one of the C library,
 # for which a check does not look.
 NOWHERE = """ghost use Rattle.std.specs.Prelude.{◌≡◌, false, true};
@@ -53,11 +56,11 @@ def put_stubs(crate, home, is_tried):
         for it in reversed(found):
             lines[it.body + 1 : it.last] = [STUB] + [""] * (it.last - it.body - 2)  # what stands below keeps its line
         if path in ("src/lib.rt", "src/main.rt"):
-            lines.append("mod nowhere;\n")
+            lines.append(f"mod {PLACE};\n")
         with open(file, "w", encoding="utf-8") as it:
             it.write("\n".join(lines))
         gone += [it.symbols for it in found]
-    with open(f"{home}/src/nowhere.rt", "w", encoding="utf-8") as it:
+    with open(f"{home}/src/{PLACE}.rt", "w", encoding="utf-8") as it:
         it.write(NOWHERE)
     for place, _, _ in list(os.walk(proofs)):
         name = "::".join([crate, *os.path.relpath(place, proofs).split("/")])

@@ -16,11 +16,23 @@ body, and nothing else is edited but what other clauses of laws refuse. A body i
             is found; limit: none in time
     safety  a callee's `requires`, an index, a sum, a cast
     step    only a loop's invariant that is not kept, or an answer in a proof file that no longer proves its goal
-    name    only an answer that names what the edit took away: a right body may be refused so as well, and a twin tells
+    name    only an answer that names what the edit took away
 
-or it is PROVED, which is a hole in the contract. The status is 0 where each body is refused by a clause or for safety
-(or by an answer alone, where its twin is proved or a line says why), and each twin and each known hole is proved.
-Bodies that no longer fit the code are all named before any check.
+or it is PROVED, which is a hole in the contract. That a body is refused does not yet show that it is wrong: a right one
+for which the prover finds no proof is refused as well. It is shown wrong
+
+    by values   which the prover found and its kernel checked: they are as all that is known there says, and a clause,
+                or what a callee requires, is false at them. Of a loop, a closure or a function of its own less is known
+                than holds, and a right body that brings one may be refused so: it is not shown wrong
+    by a proof  that at the arguments which its line `at:` names it leaves the clause false. It is tried under a
+                contract that says so; and so is the right body, and must be refused: else there are no such arguments
+    by a twin   a right body of the same shape, which is proved, and says more than what stood there in other words
+                (twins.py). This is as good as the twin: whoever reads the two has to see that they differ in the
+                mistake alone
+
+The status is 0 where each body is refused, each twin and each known hole is proved, and no crate has more bodies that
+are refused and not shown wrong than not_shown.txt says. A body that only an answer refuses has to have a twin. Bodies
+that no longer fit the code are all named before any check.
 """
 import argparse
 import collections
@@ -38,7 +50,9 @@ import tempfile
 import time
 
 sys.path.insert(0, os.path.dirname(__file__) + "/..")
-from edits import INVARIANT, ROOT, Edit, functions_of, module_of, text_of
+import twins
+from edits import CONTROL, EMPTIED, INVARIANT, REFUTED, ROOT, TWIN, WRONG, Edit
+from edits import entries_of, functions_of, module_of, outside_impls, text_of
 from stubs import LINKED, put_stubs
 from tree import all_crates, crates_below, free_memory, processors
 
@@ -47,6 +61,11 @@ STRENGTHS = ["false", "open", "limit"]
 CHECK_MEMORY = 3000000000  # what a check takes of the machine's memory, in octets
 SAMPLE = 8
 LARGEST = 160  # bodies of a round
+NOT_SHOWN = os.path.dirname(os.path.abspath(__file__)) + "/not_shown.txt"
+BY_VALUES, BY_PROOF, BY_TWIN = SHOWN = ["by values", "by a proof", "by a twin"]
+HOLE, REFUSED_ONLY = "holes", "refused and not shown"
+# Of what these do, the prover knows no more than an invariant or a contract says, if there is one.
+BRINGS = re.compile(r"\b(for|while|loop|fn|impl)\b|\|[\w\s,&*()_:]*\|(?!\|)")
 # What a check prints of a goal, of an answer, of a function, once as it goes and once at its end, and of a text that it
 # does not take as a program.
 NOTE = re.compile(r"note: src/\S+ .*not proved.*?\(`(\S+)`\)(.*)")
@@ -62,12 +81,12 @@ NO_GOAL = "no_goal"
 
 
 class Body(Edit):
-    """A wrong body, or its twin, and what came of it."""
+    """A wrong body, or what is tried beside it, and what came of it."""
 
-    def __init__(self, crate, file, is_twin=False):
-        super().__init__(crate, file, is_twin)
-        self.twin, self.kind, self.why, self.tries, self.took = None, "", [], 0, 0.0
-        self.is_offered = is_twin or bool(self.hole) or INVARIANT in self.promised
+    def __init__(self, crate, entry, part=WRONG):
+        super().__init__(crate, entry, part)
+        self.beside, self.kind, self.why, self.tries, self.took = {}, "", [], 0, 0.0
+        self.is_offered = part in (TWIN, REFUTED) or bool(self.hole) or INVARIANT in self.promised
 
     def has(self, path, function):
         """Whether this function of a file of the crate is what it tries, or in an edit of a type what refuses it."""
@@ -84,8 +103,11 @@ class Body(Edit):
 
     def asked(self):
         """What a check that tries this edit is asked for: a copy, the module of what is edited in place, or a law."""
-        modules = ("::".join(module_of(self.crate, path)) or of.shown for path, of in self.functions)
-        return [self.by] if self.is_wide else [self.copy.name] if self.copy else modules
+        modules = ["::".join(module_of(self.crate, path)) or of.shown for path, of in self.functions]
+        if self.is_wide:  # with an `impl` that it brings: what that promises has to be kept
+            brings = (it.path for it in self.pairs if outside_impls(it.new) != it.new)
+            return [self.by, *("::".join(module_of(self.crate, path)) for path in brings)]
+        return [self.copy.name] if self.copy else modules
 
     def opens(self, goal):
         """Whether this edit may leave open such a goal of what it touches: of a law, of the clauses that it names."""
@@ -101,23 +123,58 @@ class Body(Edit):
         self.why, self.tries = sorted({told for _, told in found}), self.tries + 1
         if found:
             self.kind = min((kind for kind, _ in found), key=KINDS.index)
-        elif mine and all(row["verdict"] == "proved" or (self.is_twin and row["calls"]) for row in mine):
+        elif mine and all(row["verdict"] == "proved" or (self.part and row["calls"]) for row in mine):
             self.kind = "PROVED"
+        elif mine and self.part == TWIN and self.law and self.promised and all(row["found"] for row in mine):
+            self.kind = "PROVED"  # other edits leave open other clauses of this law
         elif not self.is_offered:
             self.is_offered, self.tries = True, 0  # a fault in its answers hides a type's invariant that is left open
         elif self.tries > 2 or not any(row["calls"] or row["waits"] for row in mine):
             self.kind, self.why = "bad", ["no contract was tried: " + "; ".join(row["verdict"] for row in mine)]
 
     def is_well(self):
-        if self.is_twin or self.hole:
+        if self.part == CONTROL:
+            return self.kind not in ("PROVED", "bad")
+        if self.part.startswith(EMPTIED):
+            return True
+        if self.part or self.hole:
             return self.kind == "PROVED"
-        is_told = bool(self.answer) or self.is_wide or (self.twin.kind == "PROVED" if self.twin else self.has_twin)
+        is_told = self.beside[TWIN].kind == "PROVED" if TWIN in self.beside else self.has_twin
         return self.kind in ("clause", "safety") or (self.kind in ("step", "name") and is_told)
+
+    def shown(self):
+        """By what this body is shown to be wrong, if it is."""
+        if self.kind == "PROVED":
+            return HOLE
+        proved = [part for part, it in self.beside.items() if it.kind == "PROVED"]
+        if self.kind in ("clause", "safety") and "false" in self.strengths() and not self.brings():
+            return BY_VALUES
+        if REFUTED in proved and CONTROL not in proved:
+            return BY_PROOF
+        return BY_TWIN if TWIN in proved and self.kind != "bad" and not self.idle() else REFUSED_ONLY
+
+    def idle(self):
+        """Why its twin shows nothing, or ""."""
+        twin = self.beside.get(TWIN)
+        if not twin or self.is_wide:
+            return ""
+        if any(part.startswith(EMPTIED) and it.kind == "PROVED" for part, it in self.beside.items()):
+            return "a branch of its twin is never taken"
+        olds = [twins.call_of(self.head())] if self.calls_right else [it.old for it in self.pairs]
+        return twins.fault(olds, [it.new for it in self.pairs], [it.new for it in twin.pairs])
+
+    def brings(self):
+        """Whether it brings a loop or a closure that did not stand there."""
+        count = lambda text: len(BRINGS.findall(text))
+        return any(count(it.new) > (0 if self.calls_right else count(it.old)) for it in self.pairs)
 
     def strength(self):
         """Of a body that a clause refuses: whether one is shown false, or left open, or only not decided in time."""
-        told = {it.split(" ")[-1] for it in self.why if kind_of(it) == "clause"}
+        told = self.strengths()
         return next((it for it in STRENGTHS if it in told), "")
+
+    def strengths(self):
+        return {it.split(" ")[-1] for it in self.why if kind_of(it) == self.kind}
 
 
 def kind_of(goal):
@@ -201,7 +258,7 @@ class Round:
         """Gives each copy of a function the answers of that function, which name their own place."""
         for place, _, _ in list(os.walk(proofs)):
             parts = os.path.relpath(place, proofs).split("/")
-            copied = [it for it in self.edits if it.copy and not it.calls_right and parts[-1] == it.copy.own]
+            copied = [it for it in self.edits if it.copy and not it.is_apart and parts[-1] == it.copy.own]
             for it in copied:
                 if it.functions[0][1].symbols.match("::".join([self.crate, *parts])):
                     mine = it.place()
@@ -335,7 +392,7 @@ def judge_round(said, round):
     hit = {it: text for it in group for place in round.at(it) for text in within(*place)[:1]}
     other = errors[0][2] if errors else said[-300:]
     for it in [] if rows else hit or group:
-        if it.copy and not it.calls_right:
+        if it.copy and not it.is_apart:
             it.copy = None
         else:
             it.kind, it.why = "bad", [f"no contract was tried: {hit.get(it, other)}"]
@@ -345,15 +402,36 @@ def judge_round(said, round):
 
 
 def counted(edits):
-    """How many bodies there are, by what they are refused, and how many twins are proved."""
-    bodies, twins = [it for it in edits if not it.is_twin], [it for it in edits if it.is_twin]
+    """How many bodies there are, how many of them are shown wrong, by what they are refused, and what twins are."""
+    bodies, twins = ([it for it in edits if it.part == part] for part in (WRONG, TWIN))
+    shown = collections.Counter(it.shown() for it in bodies if it.kind)
     kinds = collections.Counter(it.kind for it in bodies)
-    strengths = collections.Counter(it.strength() for it in bodies if it.kind == "clause")
-    told = [f"{kinds[it]} {it}" for it in KINDS if kinds[it]]
-    by = ", ".join(f"{strengths[it]} {it}" for it in STRENGTHS if strengths[it])
-    told = [f"{it} ({by})" if it.endswith("clause") else it for it in told]
+    by = ", ".join(f"{shown[it]} {it}" for it in SHOWN)
+    told = f"{sum(shown[it] for it in SHOWN)} shown wrong ({by})"
+    told += f", {shown[REFUSED_ONLY]} {REFUSED_ONLY}, {shown[HOLE]} {HOLE}"
+    refused = ", ".join(f"{kinds[it]} {it}" for it in KINDS if kinds[it] and it != "PROVED")
     proved = sum(it.kind == "PROVED" for it in twins)
-    return f"{len(bodies)} wrong bodies: {', '.join(told)}; {proved} of {len(twins)} twins proved"
+    return f"{len(bodies)} wrong bodies: {told}; refused by: {refused or 'none'}; {proved} of {len(twins)} twins proved"
+
+
+def allowed():
+    """How many bodies of a crate may be refused and not shown wrong."""
+    rows = (line.split() for line in text_of(NOT_SHOWN).splitlines() if line and line[0] != "#")
+    return {crate.rstrip(":"): int(count) for crate, count in rows} if os.path.isfile(NOT_SHOWN) else {}
+
+
+def too_many(crates):
+    """The crates with more bodies that are refused and not shown wrong than may be; says where fewer are."""
+    most, found = allowed(), []
+    for it in crates:
+        names = [body.name for body in it.edits if not body.part and body.shown() == REFUSED_ONLY]
+        may = most.get(it.crate, 0)
+        if len(names) > may:
+            told = ", ".join(name.partition("/")[2] for name in names)
+            found.append(f"{it.crate}: {len(names)} {REFUSED_ONLY}, and {may} may be: {told}")
+        elif len(names) < may:
+            print(f"{it.crate}: {len(names)} {REFUSED_ONLY}: write this number for {may} in tests/bodies/not_shown.txt")
+    return found
 
 
 class Bodies:
@@ -389,7 +467,7 @@ class Bodies:
         self.left = [it for it in self.left if not it.kind]
         self.are_alone = self.are_alone or any(it.tries > 1 for it in self.left)
         for it in self.left:
-            it.copy = it.copy if it.calls_right or not it.tries else None
+            it.copy = it.copy if it.is_apart or not it.tries else None
         if not self.left:
             self.tell()
         return self.rounds()
@@ -402,10 +480,10 @@ class Bodies:
             bare = ((path, name, clause or "its clause") for path, name, clause in self.bare)
             lines += [f"    no body leaves open {path}: {name}: {clause}" for path, name, clause in bare]
         for it in self.edits:
-            if it.is_well() and (self.options.goals or it.kind in ("step", "name")):
-                told = it.answer or ("it is outside a function" if it.is_wide else "its twin is proved")
-                reason = f" ({told})" if it.kind in ("step", "name") else ""
-                lines.append(f"    {it.name}: {it.kind}{reason}, {it.took:.0f} s: {'; '.join(it.why)}")
+            shown = "" if it.part else it.shown()
+            if self.options.goals or (shown == REFUSED_ONLY and self.options.shown):
+                shown += f" ({it.idle()})" if shown == REFUSED_ONLY and it.idle() else ""
+                lines.append(f"    {it.name}: {it.kind}, {shown or it.part}, {it.took:.0f} s: {'; '.join(it.why)}")
         print("\n".join(lines), flush=True)
 
 
@@ -440,13 +518,25 @@ def try_all(crates, jobs):
 
 
 def edits_of(crate, options):
-    files = (it for part in ("must-fail", "wrong") for it in sorted(glob.glob(f"{ROOT}/crates/{crate}/{part}/*.edit")))
-    edits = [it for it in (Body(crate, file) for file in files) if re.search(options.only, it.name)]
+    edits = [it for it in (Body(crate, entry) for entry in entries_of(crate)) if re.search(options.only, it.name)]
+    names = collections.Counter(it.name for it in edits)
+    for it in edits:
+        it.is_unfit = it.is_unfit or f"{names[it.name]} have this name" * (names[it.name] > 1)
     if options.sample:
         edits = [it for it in edits if it.is_unfit or not it.is_wide]
+    return with_twins(edits, options)
+
+
+def with_twins(edits, options):
+    """These bodies and their twins, each of which has a place; of a sample what one round holds, without twins."""
     for it in edits if not options.sample else ():
-        it.twin = Body(crate, it.file, is_twin=True) if it.has_twin else None
-    edits += [it.twin for it in edits if it.twin]
+        parts = [TWIN] * it.has_twin + [REFUTED, CONTROL] * bool(it.condition)
+        it.beside = {part: Body(it.crate, it.entry, part) for part in parts}
+        twin = it.beside.get(TWIN)
+        if twin and len(it.functions) == 1 and it.functions[0][1].beside and not twin.is_unfit:
+            parts = (f"{EMPTIED}{at}" for at in range(len(twin.emptied())))
+            it.beside.update({part: Body(it.crate, it.entry, part) for part in parts})
+    edits += [other for it in edits for other in it.beside.values()]
     for number, it in enumerate(edits):
         it.stand_beside(number)
     return sample_of(edits) if options.sample and not any(it.is_unfit for it in edits) else edits
@@ -464,15 +554,21 @@ def build(crates):
 
 def strays():
     """What stands in a folder of edits, and is none of a crate."""
-    files = (it for part in ("must-fail", "wrong") for it in glob.glob(f"{ROOT}/crates/*/{part}/*"))
-    return sorted(it for it in files if it.split("/")[-3] not in crates_below() or not it.endswith((".edit", ".md")))
+    found = []
+    for part, end in (("must-fail", ".edit"), ("wrong", ".edits")):
+        for home in glob.glob(f"{ROOT}/crates/*/{part}"):
+            files = (it for it in glob.glob(f"{home}/**/*", recursive=True) if os.path.isfile(it))
+            is_known = os.path.basename(os.path.dirname(home)) in crates_below()
+            found += [it for it in files if not is_known or not it.endswith((end, ".md"))]
+    return sorted(found)
 
 
 def main():
     parser = argparse.ArgumentParser(description=__doc__, formatter_class=argparse.RawDescriptionHelpFormatter)
     flag, word = functools.partial(parser.add_argument, action="store_true"), parser.add_argument
     flag("--list", help="try nothing: name the bodies that don't fit the code")
-    flag("--goals", help="print each refusal, and the seconds that it took")
+    flag("--goals", help="print each refusal, by what it is shown, and the seconds that it took")
+    flag("--shown", help="print the bodies that are refused and not shown wrong")
     flag("--clauses", help="print the clauses of public functions that no body leaves open")
     flag("--sample", help=f"take {SAMPLE} of each crate that one check holds, those of must-fail first, without twins")
     word("--only", default="", metavar="PATTERN", help="take the bodies whose CRATE/NAME the pattern is found in")
@@ -484,7 +580,8 @@ def main():
     crates = [it for it in crates_below() if not options.crates or it in options.crates]
     tried = {crate: edits_of(crate, options) for crate in crates}
     edits = [it for group in tried.values() for it in group]
-    unfit = dict.fromkeys(f"{os.path.relpath(it.file, ROOT)}: {it.is_unfit}" for it in edits if it.is_unfit)
+    of_file = lambda it: f"{os.path.relpath(it.file, ROOT)}: {it.entry.name}"
+    unfit = dict.fromkeys(f"{of_file(it)}: {it.is_unfit}" for it in edits if it.is_unfit)
     unfit.update(dict.fromkeys(f"{os.path.relpath(it, ROOT)}: no edit of a crate of crates.txt" for it in strays()))
     print("".join(f"{it}\n" for it in unfit), end="")
     if options.list or unfit or not edits:
@@ -500,6 +597,7 @@ def main():
     failed = [line for it in crates for line in it.strange]
     bad = ((it, " (a known hole)" * bool(it.hole)) for it in edits if not it.is_well())
     failed += [f"{it.name}: {it.kind}: {'; '.join(it.why)}{known}" for it, known in bad]
+    failed += [] if options.only or options.sample else too_many(crates)
     print("".join(f"FAILED {it}\n" for it in failed), end="")
     print(f"{counted(edits)}; {sum(it.seconds for it in crates):.0f} processor seconds; {len(failed)} failed")
     return 1 if failed else 0

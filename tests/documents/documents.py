@@ -2,26 +2,27 @@
 """Compares the documents with the tree and with one another. Usage: tests/documents/documents.py; it ends with 1
 where they differ, and says in what.
 
-- docs/CODE.md: each crate of crates.txt has a row, and stands in the drawing below the crates that it rests on. Where
-  it has a heading, the tables below that name each file of src/ (column Code), specs/ (Definitions) and proofs/
-  (Proofs), and none that isn't there; lists of modules (lib.rt, Lib.antt), worked examples and the answers to single
-  functions are left out. `Beside the crates` names each other folder and file at the top, and each file of docs/,
-  bench/, tests/ and its rooms.
+- docs/CODE.md: each crate of crates.txt has a row, and stands in the drawing below the crates that it rests on.
+  `Beside the crates` names each other folder and file at the top, and each file of docs/, bench/, tests/ and its rooms.
 - Each file of src/ begins with a line `//!` that says what it has, and each of specs/ and proofs/ with one `--`, but
   for lists of modules and answers to single functions. What the head of a library shows stands in its examples; the
   calls that it shows stand in bac_uses.
-- docs/PROOFS.md: each name in backquotes stands in the code or is a file of it, and each law is a function; the
-  headline's parts are the README's sentence.
-- Functions that have no contract: docs/PROOFS.md names those of the code, and it and README.md count them rightly.
-- README.md: what it shows of a script is what examples/ has, and the rule that it shows stands so in specs/. It has at
-  most 120 lines and 1,500 words.
+- docs/PROOFS.md, and what README.md says is proved: each name in backquotes is defined in the sources, is a clause, a
+  file or a crate, or one of std's; a law is a function, and a name behind a function, as in "`run`, `notes`", one of
+  its clauses. PROOFS names and counts rightly the functions that have no contract.
+- README.md: the lines of its box stand in docs/GUIDE.md, whose commands are run, and the rule stands so in specs/. It
+  names each crate of the program, and the functions that PROOFS says are trusted. It has at most 125 lines and 1,300
+  words.
 - docs/PROTOCOL.md: the texts of faults are those of the code. Each row of a table is read back from outside: named in
   pins.txt, once, with the worked row or example that would fail were it wrong in a definition and in the code at once.
   What is named there stands in the document, and the text which is named for it in its file.
+- No type has a `Drop` that is written by hand, which could do anything when a value is let go. Each public constant,
+  and the clone and the `==` of each public type, is said by a law.
 - Links lead to what a package has: a document, or a file of examples/.
 - Lines have at most 120 columns, in the documents but for tables and what is printed; in scripts; and in src/, specs/
   and proofs/ but for attributes, which `rt fmt` lays out, and words that are longer.
 """
+import collections
 import glob
 import os
 import re
@@ -31,7 +32,9 @@ import textwrap
 sys.path.insert(0, os.path.dirname(__file__) + "/..")
 from tree import TOP, all_crates, text_of
 
-COLUMNS = {"Code": ("src", ".rt"), "Definitions": ("specs", ".antt"), "Proofs": ("proofs", ".antt")}
+SOURCES = [("src", ".rt"), ("specs", ".antt"), ("proofs", ".antt")]
+OF_STD = {"arrayvec", "byteorder", "clap", "hex", "thiserror", "std", "fault_of", "map", "filter", "flat_map"}
+TRIALS = {"bac_uses", "bac_trials", "tool_trials"}  # crates that the program does not rest on
 WHOLE = ["docs/", "bench/", "tests/", "tests/[a-z]*/"]  # folders whose row names each file
 PAGES = {"README.md", "CONTRIBUTING.md", "SECURITY.md", "CHANGELOG.md"}
 WELL_KNOWN = PAGES | {"LICENSE", ".gitignore", ".git", "crates", "out"}
@@ -74,25 +77,10 @@ def names(text):
     return re.findall(r"`([^`]+)`", text)
 
 
-def files(folder, ending):
-    """The files below a crate's folder, without their ending. Folders of proofs/ hold the answers to single functions;
-    what lies in Inner belongs to the topic of its name."""
-    found = set()
-    for place, folders, there in os.walk(folder):
-        inside = os.path.relpath(place, folder)
-        inside = "" if inside == "Inner" else inside
-        stems = (name[: -len(ending)] for name in there if name.endswith(ending))
-        found |= {os.path.normpath(os.path.join(inside, stem)) for stem in stems}
-        if folder.endswith("proofs"):
-            folders.clear()
-    return found - {"lib", "Lib", "Inner", "examples", "Examples"}
-
-
 def map_of_crates(parts):
     below = all_crates()
     every = set(below)
     compare("the table of crates", {names(row["Crate"])[0] for row in rows(parts["The crates"])}, every)
-    compare("the headings", {name for name in parts if re.fullmatch(r"[a-z_]+", name)} | every, every)
     drawn = re.search(r"```\n(.*?)```", parts["The crates"], re.S)[1].splitlines()
     line_of = {name: number for number, line in enumerate(drawn) for name in line.split()}
     compare("the drawing", set(line_of), every)
@@ -100,12 +88,6 @@ def map_of_crates(parts):
         for lower in sorted(set(below[crate]) & set(line_of)):
             if line_of[lower] >= line_of[crate]:
                 DIFFERENCES.append(f"the drawing: {crate} rests on {lower}, which is not on a line above it")
-    for crate in sorted(every & set(parts)):
-        for column, (folder, ending) in COLUMNS.items():
-            said = [name for row in rows(parts[crate]) for name in names(row.get(column, ""))]
-            compare(f"{crate}/{folder}", set(said), files(f"crates/{crate}/{folder}", ending))
-            twice = sorted(name for name in set(said) if said.count(name) > 1)
-            DIFFERENCES.extend(f"{crate}/{folder}: {name} stands twice" for name in twice)
 
 
 def map_beside_the_crates(section):
@@ -138,19 +120,37 @@ def heads_of_sources():
                 DIFFERENCES.append(f"{file}: the calls that it shows are not in bac_uses")
 
 
-def names_of_proofs(text):
-    known = set()
-    for file in glob.glob("crates/*/**/*.*", recursive=True):
-        if file.endswith((".rt", ".antt", ".edit")) and "/out/" not in file:
-            known |= {os.path.splitext(os.path.basename(file))[0], *re.findall(r"\w+", text_of(file))}
-    known |= set(os.listdir("crates"))
-    functions = {name for file in glob.glob("crates/*/src/*.rt") for name in re.findall(r"\bfn (\w+)", text_of(file))}
+def names_of_sources():
+    """Each name that the sources define, and the clauses of each function."""
+    known, clauses = set(os.listdir("crates")) | OF_STD, collections.defaultdict(set)
+    for folder, ending in [*SOURCES, ("wrong", ".edits"), ("must-fail", ".edit")]:
+        for file in glob.glob(f"crates/*/{folder}/**/*{ending}", recursive=True):
+            known.add(os.path.splitext(os.path.basename(file))[0])
+            text = text_of(file)
+            if ending == ".rt":
+                text = re.sub(r"//.*", "", text)
+                known |= set(re.findall(r"\b(?:struct|enum|trait|const|type|mod|ghost) +(\w+)", text))
+                known |= set(re.findall(r"^ +([A-Z]\w*)(?=[,({])", text, re.M))
+                for part in re.split(r"(?=\bfn \w+)", text)[1:]:
+                    clauses[re.match(r"fn (\w+)", part)[1]] |= set(re.findall(r"\bensures (\w+) *\{", part))
+            elif ending == ".antt":
+                words = "(?:(?:abbrev|record|data|pub|unfoldable) +)*"
+                known |= set(re.findall(rf"^ *{words}(\w+)(?: [^:\n]*)? :", re.sub("--.*", "", text), re.M))
+            elif ending == ".edits":
+                known |= set(re.findall(r"^\[(\w+)\]$", text, re.M))
+    return known | set().union(*clauses.values()) | set(clauses), clauses
+
+
+def names_of_proofs(document, text, known, clauses):
     for name in sorted(name for laws in re.findall(r"laws? ((?:`\w+`(?:, | and )?)+)", text) for name in names(laws)):
-        if name not in functions:
-            DIFFERENCES.append(f"docs/PROOFS.md: no law {name} stands in the code")
-    for name in sorted(set(re.findall(r"`((?:\w+::)*[A-Za-z_]\w*)`", text))):
-        if name.split("::")[-1] not in known:
-            DIFFERENCES.append(f"docs/PROOFS.md: no {name} stands in the code")
+        if name not in clauses:
+            DIFFERENCES.append(f"{document}: no law {name} stands in the code")
+    for name in sorted(set(re.findall(r"`((?:\w+::)*[A-Za-z_]\w+)`", text))):
+        if name.split("::")[-1] not in (clauses if "::" in name else known):
+            DIFFERENCES.append(f"{document}: nothing in the sources is {name}")
+    for function, clause in re.findall(r"`(?:\w+::)?(\w+)`, `(\w+)`", text):
+        if function in clauses and clause not in clauses and clause not in clauses[function]:
+            DIFFERENCES.append(f"{document}: {function} has no clause {clause}")
 
 
 def equations(file, *names):
@@ -160,26 +160,32 @@ def equations(file, *names):
 
 
 def what_stands_twice(readme, proofs):
-    headline = " ".join(row["Part"] for row in rows(proofs["The headline, part by part"]))
-    if headline not in on_one_line(readme):
-        DIFFERENCES.append("README.md: the headline is not that of docs/PROOFS.md, part by part")
-    shown = re.findall(r"```\n(.*?)```", readme, re.S)
     lookahead = "crates/bac_tsm/specs/Lookahead.antt"
-    rule = equations(lookahead, "due", "end", "sends_within", "sends")
-    for text, file in [(text_of("examples/first.out"), "examples/first.out"), (rule, lookahead)]:
-        if text not in shown:
-            DIFFERENCES.append(f"README.md: it does not show what is in {file}")
-    for counted, most in (readme.splitlines(), 120), (readme.split(), 1500):
+    boxes = re.findall(r"^```(\w*)\n(.*?)^```$", readme, re.M | re.S)
+    if ("", equations(lookahead, "due", "end", "sends_within", "sends")) not in boxes:
+        DIFFERENCES.append(f"README.md: it does not show what is in {lookahead}")
+    guide = text_of("docs/GUIDE.md").splitlines()
+    for line in "".join(box for kind, box in boxes if kind == "console").splitlines() or ["of a run"]:
+        if line not in [*guide, ".."]:
+            DIFFERENCES.append(f"README.md: docs/GUIDE.md has no line {line}")
+    proved = sections(readme)["What is proved"]
+    said = {name for row in rows(proved) for name in names(row["Crate"])}
+    for crate in sorted(said ^ (set(all_crates()) - TRIALS)):
+        DIFFERENCES.append(f"README.md: the crate {crate} is in one place alone, its table or crates.txt")
+    trusted = {name for row in rows(proofs["What is trusted of the system"]) for name in names(row["Function"])}
+    for name in sorted(trusted - set(names(proved.partition("**Trusted**")[2]))):
+        DIFFERENCES.append(f"README.md: it does not say that {name} is trusted")
+    for counted, most in (readme.splitlines(), 125), (readme.split(), 1300):
         if len(counted) > most:
             DIFFERENCES.append(f"README.md: {len(counted)} lines or words, where {most} are to do")
 
 
-def functions_without_a_contract(readme, section):
+def functions_without_a_contract(section):
     """A function of a trait's impl has the trait's contract; any other one has what stands at it."""
     every, bare, none = 0, 0, set()
     for file in glob.glob("crates/*/src/**/*.rt", recursive=True):
         crate = file.split("/")[1]
-        if crate.endswith("_trials") or crate == "bac_uses":
+        if crate in TRIALS:
             continue
         owner = ""
         for part in re.split(r"(?=\bfn \w+)|(?=^impl\b)|(?=^\}$)", re.sub(r"//.*", "", text_of(file)), flags=re.M):
@@ -201,17 +207,38 @@ def functions_without_a_contract(readme, section):
     counts = f"{bare} of the {every} functions"
     if counts not in section:
         DIFFERENCES.append(f"docs/PROOFS.md: {counts} have no clause of their own")
-    if f"the program's {every} functions" not in on_one_line(readme):
-        DIFFERENCES.append(f"README.md: the program has {every} functions")
 
 
 def texts_of_faults(section):
-    texts = set()
-    for file in glob.glob("crates/*/src/*.rt"):
-        texts |= {text.replace("{0}", "N") for text in re.findall(r'#\[error\("(.*?)"\)\]', text_of(file))}
+    """The texts are those of the definitions, with N for a number."""
+    equation = re.compile(r"(?m)^(?:\w+_fault_text|usage_told|fault_told)\b.* = (.*codes .*)$")
+    said = [it for file in glob.glob("crates/*/specs/*.antt") for it in equation.findall(text_of(file))]
+    texts = {"".join(it or "N" for it in re.findall(r'codes "(.*?)"|decimal \w+', text)) for text in said}
     told = set(names(section[section.index("A fault is") :].split(". ")[0])) - {"bactool: "}
-    for text in sorted(told ^ (texts - {"N"})):
+    for text in sorted(told ^ texts):
         DIFFERENCES.append(f"docs/PROTOCOL.md: the fault {text} is told in one place alone")
+
+
+def drops_by_hand():
+    for file in glob.glob("crates/*/src/**/*.rt", recursive=True):
+        for found in re.findall(r"(?m)^ *impl\b[^{;]*?\bDrop\s+for\s+\w+", text_of(file)):
+            DIFFERENCES.append(f"{file}: a `Drop` by hand: {on_one_line(found)}")
+
+
+def public_names_without_a_law():
+    for crate in sorted(all_crates()):
+        if crate.endswith("_trials") or crate == "bac_uses":
+            continue
+        text = "\n".join(map(text_of, glob.glob(f"crates/{crate}/src/**/*.rt", recursive=True)))
+        laws = "\n".join(re.findall(r"(?ms)^pub fn [^{]*?\bensures.*?^\{\}$", text))
+        other = {new: old for old, new in re.findall(r"\b(\w+) as (\w+)", text)}
+        said = {(other.get(name, name), what) for name, what in re.findall(r"⟦<(\w+)\S* as (\w+)>⟧", laws)}
+        derived = re.findall(r"(?m)^#\[derive\((.*?)\)\]\n(?:#\[.*\]\n)*pub (?:struct|enum) (\w+)", text)
+        kinds = {(name, what) for whats, name in derived for what in whats.split(", ")}
+        kinds |= {(name, what) for what, name in re.findall(r"(?m)^impl(?:<.*?>)? (\w+) for (\w+)", text)}
+        bare = {name for name, what in kinds - said if what in ("Clone", "PartialEq")}
+        bare |= {it for it in re.findall(r"(?m)^ *pub const (\w+):", text) if not re.search(rf"\b{it} ≡", laws)}
+        DIFFERENCES.extend(f"crates/{crate}: no law says what {it} is, or its clone or `==`" for it in sorted(bare))
 
 
 def pins():
@@ -232,7 +259,7 @@ def rows_are_read_back(parts):
     rows = [(heading, " | ".join(cells)) for heading, section in parts.items() for _, cells in tables(section)]
     named, found = set(), pins()
     for heading, key, places in found:
-        mine = [row for row in rows if row[0] == heading and row[1].startswith(key)]
+        mine = [row for row in rows if row == (heading, key)]
         if len(mine) > 1 or not mine and key not in on_one_line(parts.get(heading, "")):
             DIFFERENCES.append(f"{heading}: {key}: it stands {len(mine)} times in docs/PROTOCOL.md")
         if not places:
@@ -249,9 +276,9 @@ def rows_are_read_back(parts):
 
 
 def wide_lines():
-    places = [f"crates/*/{folder}/**/*{ending}" for folder, ending in COLUMNS.values()]
-    places += ["Makefile", "*.mk", "*.py", "crates/*/oracle/*.py", "site/bacsite"]
-    folders = ["bench", "examples", "man", "packaging", "tests"]
+    places = [f"crates/*/{folder}/**/*{ending}" for folder, ending in SOURCES]
+    places += ["Makefile", "*.mk", "*.py", "crates/*/oracle/*.py", "site/bacsite/*.py"]
+    folders = ["bench", "completions", "examples", "man", "packaging", "tests"]
     places += [f"{folder}/**/*{ending}" for folder in folders for ending in (".py", ".sh", ".c")]
     for file in sorted(file for place in places for file in glob.glob(place, recursive=True)):
         for number, line in enumerate(text_of(file).splitlines(), 1):
@@ -284,17 +311,21 @@ def main():
     map_of_crates(parts)
     map_beside_the_crates(parts["Beside the crates"])
     heads_of_sources()
-    names_of_proofs(text_of("docs/PROOFS.md"))
-    proofs = sections(text_of("docs/PROOFS.md"))
-    what_stands_twice(text_of("README.md"), proofs)
-    functions_without_a_contract(text_of("README.md"), proofs["Functions without a clause"])
+    readme, proofs = text_of("README.md"), text_of("docs/PROOFS.md")
+    known, clauses = names_of_sources()
+    names_of_proofs("docs/PROOFS.md", proofs, known, clauses)
+    names_of_proofs("README.md", sections(readme)["What is proved"], known, clauses)
+    what_stands_twice(readme, sections(proofs))
+    functions_without_a_contract(sections(proofs)["Functions without a clause"])
     rules = sections(text_of("docs/PROTOCOL.md"))
     texts_of_faults(rules["Statuses and faults"])
+    drops_by_hand()
+    public_names_without_a_law()
     rows_and_texts = rows_are_read_back(rules)
     links_and_lines()
     wide_lines()
-    well = "{} rows of docs/PROTOCOL.md are read back, and {} other texts of it".format(*rows_and_texts)
-    print("\n".join(DIFFERENCES) or f"{well}\nthe documents agree with the tree")
+    well = "{} rows of docs/PROTOCOL.md are read back, and {} other texts; the documents agree with the tree"
+    print("\n".join(DIFFERENCES) or f"tests/documents/documents.py: {well.format(*rows_and_texts)}")
     return 1 if DIFFERENCES else 0
 
 

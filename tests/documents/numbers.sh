@@ -1,6 +1,6 @@
 #!/usr/bin/env bash
-# Asks Wireshark, which has the standard's numbers from another hand, what it calls each number of man/numbers.txt, and
-# compares the names. Where tshark is not installed, it says so and compares nothing.
+# Asks Wireshark, which has the standard's numbers from another hand, what it calls each number of
+# site/bacsite/numbers.txt, and compares the names. Where tshark is not installed, it says so and compares nothing.
 set -euo pipefail
 cd "$(dirname "$0")/../.."
 if ! command -v tshark >/dev/null || ! command -v text2pcap >/dev/null; then
@@ -15,7 +15,7 @@ ours() {
     awk -F ' [|] ' -v title="= $1" '
         /^= / { inside = $1 == title; next }
         inside && /^[0-9]/ { print $1 "\t" $2 }
-    ' man/numbers.txt
+    ' site/bacsite/numbers.txt
 }
 # The same of a field of Wireshark, which spells some in a way of its own.
 field() {

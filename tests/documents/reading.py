@@ -1,10 +1,10 @@
 #!/usr/bin/env python3
 """What has to be read to believe a promise: docs/reading/, made from the sources by what sources.py tells.
 
-Usage: tests/documents/reading.py [--write]: compares docs/reading/, and the sizes that README.md tells, with the tree;
-says which public calls stand on no page, which definitions lie in the wrong room, and which names a file brings in that
-aren't there, or that it doesn't say; ends with 1 where there are any. With --write it writes docs/reading/ anew (make
-reading).
+Usage: tests/documents/reading.py [--write | CALL]: compares docs/reading/, and the sizes that README.md tells, with the
+tree; says which public calls stand on no page, which definitions lie in the wrong room, and which names a file brings
+in that aren't there, or that it doesn't say; ends with 1 where there are any. With --write it writes docs/reading/ anew
+(make reading). Of a CALL, as bac_tsm::run, it prints the list, with what each definition says of itself.
 """
 import collections
 import glob
@@ -49,6 +49,7 @@ PAGES = [
 RULE = {"client": ("bac_tsm.specs.Lookahead", ["due", "end", "sends_within", "sends"])}
 
 SIZE = r"\[([\d,]+) lines\]\(docs/reading/(\w+)\.md\)"  # as README.md tells it
+TOLD = {"client", "device", "program"}  # the pages whose sizes it tells
 
 
 def called(crate):
@@ -66,22 +67,17 @@ def columns(text, width=120):
     return "\n".join(textwrap.wrap(text.strip(), width, initial_indent=start, subsequent_indent=f"{start}  ", **WRAP))
 
 
-def listed(items, told, page):
+def listed(items, comments=False):
     """The lines of a list: each file, in the order in which they are first met, and what is read of it from its top."""
     for file in dict.fromkeys(item.file for item in items):
-        there, elsewhere = [item for item in items if item.file is file], collections.defaultdict(list)
-        for item in sorted(there, key=lambda item: item.place):
-            elsewhere[told.setdefault(item, page)].append(item)
-        mine = elsewhere.pop(page, [])
-        head = f": {file.head}" if mine else ""
-        yield columns(f"- **{file.path[len('crates/'):]}** ({size(there)}){head}")
-        for item in mine:
+        there = sorted((item for item in items if item.file is file), key=lambda item: item.place)
+        head = f"- **{file.path[len('crates/'):]}** ({size(there)}): "
+        yield columns(head + (file.head if comments else ", ".join(f"`{item.name}`" for item in there)))
+        for item in there if comments else ():
             yield columns(f"  - `{item.name}` ({item.lines}){': ' if item.comment else ''}{item.comment}")
-        for other, named in elsewhere.items():
-            yield columns(f"  - on the page [{other}]({other}.md): {', '.join(f'`{item.name}`' for item in named)}")
 
 
-def page_of(page, title, calls, told):
+def page_of(page, title, calls):
     items, kept = closed(calls.values()), closed(calls.values(), kept=True)
     lines = [f"# {title}", "", "How to read this page is said on [the first one](README.md).", ""]
     module, names = RULE.get(page, (None, []))
@@ -96,7 +92,7 @@ def page_of(page, title, calls, told):
     if len(calls) > 1:
         lines.append(f"| together | {len(items)} | {size(items)} |")
     in_turn = dict.fromkeys([*rule, *(item for call in calls.values() for item in closed([call]))])
-    lines += ["", *listed(in_turn, told, page), "", "What the libraries add:", ""]
+    lines += ["", *listed(in_turn), "", "What the libraries add:", ""]
     outside = collections.defaultdict(set)
     for item in items:
         for module, name in item.needs.outside:
@@ -104,7 +100,7 @@ def page_of(page, title, calls, told):
     lines += [columns(f"- {module}: {', '.join(sorted(names))}") for module, names in sorted(outside.items())]
     if len(kept) > len(items):
         lines += ["", "What types keep to themselves, which no promise needs:", ""]
-        lines += listed([item for item in kept if item not in items], told, page)
+        lines += listed([item for item in kept if item not in items])
     return "\n".join(lines) + "\n", items
 
 
@@ -117,9 +113,9 @@ traits and constants of `src/`. Whoever has read a page knows what is promised; 
 **How to read a page.** It names its calls first: begin with their clauses, in the files that it lists. Then go down the
 list with these files open. Call by call it has what a clause names, then what that rests on, and so on; so a file
 stands where it is first needed, and in a file the reading goes from its top. Whoever is content with the comment of a
-definition can leave out what that definition alone rests on. What an earlier page tells is only named on a later one,
-with that page. `UdpLink: seen` is what a clause calls `⟦<UdpLink as Link>⟧.seen`. What types keep to themselves, at the
-end of a page, says how the fields of a type fit one another; no promise needs it.
+definition can leave out what that definition alone rests on. `tests/documents/reading.py CALL` prints the list of one
+call with these comments. `UdpLink: seen` is what a clause calls `⟦<UdpLink as Link>⟧.seen`. What types keep to
+themselves, at the end of a page, says how the fields of a type fit one another; no promise needs it.
 
 **The numbers** are lines, without comments, blank lines and attributes; those of a call are its signature and its
 clauses. A type has its fields, what they keep to, and what its `impl Model` shows of it. `make reading` writes these
@@ -132,7 +128,7 @@ pages, and `make lint` compares them.
 
 def pages():
     """The text of each page by its path, and the lines of each page by its name."""
-    told, texts, sizes, index = {}, {}, {}, INDEX
+    texts, sizes, index = {}, {}, INDEX
     rest = {name: call for crate in CRATES if crate not in TRIALS for name, call in called(crate).items()}
     every = dict(rest)
     for page, title, names in PAGES:
@@ -145,7 +141,7 @@ def pages():
             other = "" if len(found) == sum(one.startswith(name[:-1]) for one in every) else "other "
             shown.append(f"the {other}public calls of `{name[:-3]}`" if name.endswith("*") else f"`{name}`")
             rest = {one: call for one, call in rest.items() if one not in found}
-        texts[f"{FOLDER}/{page}.md"], items = page_of(page, title, calls, told)
+        texts[f"{FOLDER}/{page}.md"], items = page_of(page, title, calls)
         sizes[page] = size(items)
         files = len({item.file for item in items})
         index += f"| [{title}]({page}.md) | {', '.join(shown)} | {len(items)} | {sizes[page]} | {files} |\n"
@@ -162,9 +158,12 @@ def compare(texts, sizes):
         if now != then:
             new, gone = [line for line in now if line not in then], [line for line in then if line not in now]
             wrong.append(f"{path} differs from the tree: {[*new, *gone, 'its order'][0].strip()[:100]}")
-    told = re.findall(SIZE, text_of("README.md"))
-    return wrong + [f"README.md: {page} has {sizes[page]:,} lines, not {lines}" for lines, page in told
-                    if lines != f"{sizes[page]:,}"]
+    readme = text_of("README.md")
+    told = dict((page, lines) for lines, page in re.findall(SIZE, readme))
+    named = {*re.findall(r"docs/reading/(\w+)\.md", readme), *TOLD} - {"README"}
+    wrong += [f"README.md: it does not tell the lines of {page}, on one line" for page in sorted(named - {*told})]
+    return wrong + [f"README.md: {page} has {sizes[page]:,} lines, not {lines}" for page, lines in told.items()
+                    if page in sizes and lines != f"{sizes[page]:,}"]
 
 
 def write(texts, sizes):
@@ -241,7 +240,8 @@ def unused_in_source(path):
             end += 1
         start = 0 if end == len(source.code) else use.end()
         said = set()
-        for clause in re.finditer(r"\b(?:requires|ensures|ghost)\*?(?: \w+)?\s*[:=]?\s*\{", source.code[start:end]):
+        ghosts = r"\b(?:(?:requires|ensures|ghost)\*?(?: \w+)?\s*[:=]?|by)\s*\{"
+        for clause in re.finditer(ghosts, source.code[start:end]):
             at = start + clause.end()
             said |= said_in(source.masked(at, match_bracket(source.code, at - 1)))
         yield from unsaid(uses_in(use[0], ghost=True), said)
@@ -253,9 +253,15 @@ def main(arguments):
     texts, sizes = pages()
     if arguments == ["--write"]:
         write(texts, sizes)
+    elif arguments:
+        every = {name: call for crate in CRATES for name, call in called(crate).items()}
+        PROBLEMS.extend(f"{one} is no public call with a clause" for one in arguments if one not in every)
+        print("\n".join(listed(closed([every[one] for one in arguments if one in every]), comments=True)))
     else:
         PROBLEMS.extend([*compare(texts, sizes), *rooms(), *unused_or_gone()])
-    print("\n".join(PROBLEMS) or "the reading lists agree with the tree")
+    if PROBLEMS or not arguments:
+        well = f"tests/documents/reading.py: {len(texts)} pages of {FOLDER} agree with the tree"
+        print("\n".join(PROBLEMS) or well)
     return 1 if PROBLEMS else 0
 
 

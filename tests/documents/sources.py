@@ -413,10 +413,14 @@ class Source:
                 needs.add(self.find(path.split("::")), path)
 
     def ghosts(self, start, end):
-        """(name, text, start, end) of each ghost part between two places: a clause, a member or an invariant."""
+        """(name, text, start, end) of each ghost part between two places: clause, member, invariant and its proof."""
         for found in re.finditer(r"\bghost (?!use\b)(\w+)\s*[:=]\s*(?=\{)", self.code[start:end]):
             stop = match_bracket(self.code, start + found.end())
-            yield found[1], self.masked(start + found.end() + 1, stop), start + found.start(), stop + 1
+            text = self.masked(start + found.end() + 1, stop)
+            if proof := re.compile(r"\s*by\s*(?=\{)").match(self.code, stop + 1):
+                stop = match_bracket(self.code, proof.end())
+                text += " " + self.masked(proof.end() + 1, stop)
+            yield found[1], text, start + found.start(), stop + 1
 
     def masked(self, start, end):
         return blank(self.text[start:end], r"//[^\n]*", r"#\[[^\]]*\]")

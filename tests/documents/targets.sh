@@ -25,12 +25,14 @@ without_kit make --no-print-directory || wrong "make alone ended with $?"
 cp "$room/told" "$room/listed"
 without_kit make --no-print-directory help
 cmp -s "$room/listed" "$room/told" || wrong 'make is not make help'
+count=0
 # shellcheck disable=SC2013  # words
 for target in $(sed -n 's/^\.PHONY: //p' Makefile packaging.mk measuring.mk); do
     case $target in
         documents | kit) continue ;; # parts of others
     esac
     grep -qE "^(make, )?make $target\b" "$room/listed" || wrong "make help does not list $target"
+    count=$((count + 1))
 done
 
 for command in 'make -s try' 'make -s check' 'make -s test' ./build.py; do
@@ -39,4 +41,4 @@ for command in 'make -s try' 'make -s check' 'make -s test' ./build.py; do
     [ "$(grep -vc '^make: \*\*\*' "$room/told")" = 1 ] || wrong "$command, without rt: $(cat "$room/told")"
     grep -q 'needs rt.*README.md' "$room/told" || wrong "$command, without rt: $(cat "$room/told")"
 done
-echo "tests/documents/targets.sh: make lists its targets, and says what it lacks"
+echo "tests/documents/targets.sh: $count targets are listed, and say what they lack"

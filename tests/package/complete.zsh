@@ -1,10 +1,11 @@
 #!/usr/bin/env -S zsh -f
-# Prints what zsh completes a line to, one word a line. Usage, in the repository's folder: tests/package/complete.zsh LINE
+# Prints what zsh completes each line to: a line `of LINE`, and below it its words. Usage: complete.zsh FOLDER LINE..,
+# where FOLDER has the completions.
 zmodload zsh/zpty
 zpty shell zsh -f -i
 send() { zpty -w shell "$1" }
 send 'PROMPT=; unsetopt zle_bracketed_paste; zstyle ":completion:*" list-prompt ""; LISTMAX=1000'
-send "fpath=(${PWD}/completions \$fpath); autoload -Uz compinit; compinit -u -D"
+send "fpath=($1 \$fpath); autoload -Uz compinit; compinit -u -D"
 # Each match is printed in place of being shown, and then the line is thrown away.
 send 'compadd() {
     if [[ ${@[1,(i)(-|--)]} == *-(O|A|D)\ * ]]; then builtin compadd "$@"; return; fi
@@ -13,7 +14,10 @@ send 'compadd() {
 }'
 send 'finish() { zle complete-word; print end:; zle kill-buffer }; zle -C complete-word complete-word _main_complete; zle -N finish; bindkey "^I" finish; print ready:'
 zpty -r shell text '*ready:?*ready:*'
-zpty -w -n shell "$1"$'\t'
-zpty -r shell text '*end:*'
-print -r -- $text | tr -d '\r' | sed -n 's/.*match:\([^ ]*\).*/\1/p'
+for line in "${@[2,-1]}"; do
+    print -r -- "of $line"
+    zpty -w -n shell "$line"$'\t'
+    zpty -r shell text '*end:*'
+    print -r -- $text | tr -d '\r' | sed -n 's/.*match:\([^ ]*\).*/\1/p'
+done
 zpty -d shell

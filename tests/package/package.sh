@@ -16,12 +16,10 @@ cp "$package" "$root/tmp/bactool.deb"
 
 chroot "$root" dpkg -i /tmp/bactool.deb
 mkdir -p "$root/tmp/demo"
-cp examples/demo.sh examples/free-port.sh "$root/tmp/demo"
+cp examples/demo.sh examples/with-port.sh "$root/tmp/demo"
 mount -t proc proc "$root/proc"
-port=$(chroot "$root" /tmp/demo/free-port.sh)
-chroot "$root" /tmp/demo/demo.sh /usr/bin/bactool "$port" >"$root/tmp/demo/out" || true
-umount "$root/proc"
-sed "s/$port/47808/" "$root/tmp/demo/out" | diff - examples/demo.out
+chroot "$root" /tmp/demo/with-port.sh /tmp/demo/demo.sh /usr/bin/bactool >"$root/tmp/demo/out" || true
+sed -E 's/(--port |127\.0\.0\.1:)[0-9]+/\147808/' "$root/tmp/demo/out" | diff - examples/demo.out
 echo "the demonstration: as it is to be"
 
 chroot "$root" dpkg -L bactool >"$root/tmp/demo/files"
@@ -37,8 +35,9 @@ for file in /usr/share/man/man7/bactool-numbers.7.gz $doc/README.md $doc/docs/GU
 done
 # So far Python was not needed. With it bacsite reads a point.
 read_point() {
-    chroot "$root" sh -c "timeout 10 bacdev 1234 --port $port --count 1 >/dev/null 2>&1 &
-        sleep 1; exec bacsite read 127.0.0.1:$port 0 5 85"
+    # shellcheck disable=SC2016  # the port is put behind the words
+    chroot "$root" /tmp/demo/with-port.sh sh -c 'timeout 10 bacdev 1234 --port "$0" --count 1 >/dev/null 2>&1 &
+        exec bacsite read "127.0.0.1:$0" 0 5 85'
 }
 if ! chroot "$root" sh -c 'command -v python3' >/dev/null; then
     if told=$(read_point 2>&1) || [[ $told != *python3*"No such file"* ]]; then
@@ -48,6 +47,7 @@ if ! chroot "$root" sh -c 'command -v python3' >/dev/null; then
     chroot "$root" sh -c 'apt-get -q update && apt-get -qy --no-install-recommends install python3' >/dev/null 2>&1
 fi
 [ "$(read_point)" = 72.3 ] || { echo 'bacsite reads another value'; exit 1; }
+umount "$root/proc"
 chroot "$root" bacdev --help | head -n 1
 chroot "$root" dpkg -P bactool
 [ -z "$(find "$root/usr" -name '*bactool*' -o -name '*bacsite*')" ] || { echo "left behind"; exit 1; }

@@ -19,11 +19,12 @@ import tables
 
 TOOLS = ["bacrp", "bacwp", "bacwi", "bacdev", "bactrace"]
 PROGRAM = os.path.realpath(sys.argv[1])
-WRONG = []
+WRONG, COMPARED = [], []
 
 
 def same(what, one, other):
     """Two lists have to be the same, and not empty."""
+    COMPARED.append(what)
     if not one or one != other:
         WRONG.append(f"{what}: only here {sorted({*one} - {*other})}, only there {sorted({*other} - {*one})}")
 
@@ -74,7 +75,7 @@ def numbers(entries):
 
 
 def known(title):
-    """Number and name of each row of a section of man/numbers.txt."""
+    """Number and name of each row of a section of site/bacsite/numbers.txt."""
     rows = next(rows for name, _, _, rows in tables.sections() if name == title)
     return [f"{row[0]} {row[1].replace('-', ' ')}" for row in rows[1:]]
 
@@ -99,12 +100,13 @@ def words_and_options():
 def bacsite():
     """The options of each command, and what is told of each in numbers."""
     options, told = [], set()
-    for command in re.findall(r"(?m)^    ([a-z]+)(?: .*)?$", shown("site/bacsite", "--help")):
-        text = shown("site/bacsite", command, "--help")
-        options += [f"{command} {it}" for it in re.findall(r"(?m)^  (--?[a-z-]+)(?: .*)?$", text)]
-        told.update(re.findall(r"(?m)^  (--[a-z-]+) [A-Z]+ +(.*[0-9].*)$", text))
+    for command in re.findall(r"(?m)^    ([a-z]+)(?: .*)?$", shown("python3", "site/bacsite", "--help")):
+        text = shown("python3", "site/bacsite", command, "--help")
+        options += [f"{command} {it}" for it in re.findall(r"(?m)^  (--?[A-Za-z-]+)(?: .*)?$", text)]
+        rows = re.findall(r"(?m)^  (--[a-z-]+) [A-Z]+ +(.*[0-9].*)$", text)
+        told.update(row for row in rows if (command, row[0]) != ("survey", "--at-once"))
     on_page = told_on_page(re.search(r"(?ms)^The options:.*?^\.El", page("bacsite"))[0] + "\n")
-    shared = [name for name in on_page if name != "--last"]
+    shared = ["--tools", "--apdu-timeout", "--apdu-retries", "--at-once"]
     has = []
     for command, text in re.findall(r"(?ms)^\.Cm (\S+)(.*?)(?=^\.Cm |\Z)", section("bacsite", "SYNOPSIS")):
         own = ["-" * marks.count("Fl") + name for marks, name in re.findall(r"(?m)^\.Op ((?:Fl )+)(\S+)", text)]
@@ -135,6 +137,7 @@ def statuses():
 
 def says(what, text, wanted):
     """The text has these words, however its lines break, and without marks of pages."""
+    COMPARED.append(wanted)
     text = re.sub(r"(?m)^\.[A-Z][a-z] |(?<= ):$|\*\*|^- ", lambda it: "\0:" if it[0] == ":" else "", text)
     if " ".join(wanted.split()).lower() not in " ".join(text.replace(" \0", "").split()).lower() or not wanted:
         WRONG.append(f"{what} does not say: {wanted}")
@@ -154,13 +157,12 @@ def what_is_said_twice():
 
 
 def faults():
-    """Each text of a fault in the code is in the page."""
-    code = "".join(map(text_of, glob.glob(f"{TOP}/crates/*/src/**/*.rt", recursive=True)))
+    """Each text of a fault is in the page: those that docs/PROTOCOL.md has, which are those of the definitions."""
     lines = re.findall(r"(?m)^\.It Li (.*)", section("bactool", "DIAGNOSTICS").partition("\n.Pp\n")[0])
     on_page = (text for line in lines for text in re.split(" , (?:Li )?", re.sub(r"Ar n( Ns( Li \\&)?)?", "N", line)))
     on_page = {text.replace("N Ns-th", "").replace("N :", "N:").strip() for text in on_page}
-    in_code = {it.replace("{0}", "N") for it in re.findall(r'#\[error\("([a-z][^"]*)"', code)}
-    same("faults", sorted(in_code), sorted(on_page))
+    rules = re.search(r"(?s)\nA fault is one line.*?\. ", text_of("docs/PROTOCOL.md"))[0]
+    same("faults", sorted({*re.findall("`([^`]+)`", rules)} - {"bactool: "}), sorted(on_page))
 
 
 def versions():
@@ -168,8 +170,9 @@ def versions():
     changes = re.search(r"(?m)^## ([0-9][0-9.]*)", text_of("CHANGELOG.md"))[1]
     version = shown("packaging/version.sh", PROGRAM).strip()
     same("version of the program and of CHANGELOG.md", [version], [changes])
-    if f"/bactool_{version}_" not in text_of("README.md"):
-        WRONG.append(f"README.md installs another version than {version}")
+    same("version of bacsite", [shown("python3", "site/bacsite", "--version").strip()], [f"bacsite {version}"])
+    named = re.findall(r"/bactool_([0-9.]+)_", text_of("README.md"))
+    same("versions of the packages of README.md", sorted({*named}), [version])
     return version
 
 
@@ -179,11 +182,13 @@ def main():
     version = versions()
     if tables.main(True):
         WRONG.append("a table of numbers is not as it is made")
+    lint = ["mandoc", "-Tlint", "-Wwarning", *sorted(glob.glob(f"{TOP}/man/*.[17]"))]
     if not shutil.which("mandoc"):
         print("tests/package/pages.py: mandoc is not installed, left out")
-    elif subprocess.run(["mandoc", "-Tlint", *sorted(glob.glob(f"{TOP}/man/*.[17]"))], check=False).returncode:
+    elif subprocess.run(lint, check=False).returncode:
         WRONG.append("mandoc finds fault with the pages")
-    print("\n".join(WRONG) or f"tests/package/pages.py: pages, help, numbers and version {version} agree")
+    well = f"{len(COMPARED)} lists and texts of pages, help and version {version} agree"
+    print("\n".join(WRONG) or f"tests/package/pages.py: {well}")
     return 1 if WRONG else 0
 
 

@@ -4,16 +4,28 @@
 set -eu
 program=$(realpath "$1")
 cd "$(dirname "$0")/../.."
-port=$(examples/free-port.sh)
+[ $# = 2 ] || exec examples/with-port.sh tests/program/program.sh "$program"
+port=$2
 . tests/expect.sh
 
-# Waits, for a second at most, until a socket has the port.
+# Waits, for ten seconds at most, until a socket has the port.
 until_taken() {
-    for _ in 1 2 3 4 5 6 7 8 9 10; do
-        [ "$(examples/free-port.sh)" = "$port" ] || break
-        sleep 0.1
+    for _ in $(seq 1000); do
+        ! grep -q " [0-9A-F]*:$(printf %04X "$port") " /proc/net/udp || break
+        sleep 0.01
     done
 }
+
+# Help is told once.
+# shellcheck disable=SC2016  # for the inner shell
+expect 0 1 sh -c '"$1" bacrp --help | grep -c ^Usage:' sh "$program"
+
+# What is said of a long word is told whole.
+long=$(printf 'x%.0s' $(seq 6000))
+expect 2 "error:*'$long'*Usage:*" "$program" "$long"
+
+# While this runs, no other run gets its port, though no socket has it yet.
+expect 1 '' [ "$(examples/with-port.sh echo)" = "$port" ]
 
 # A socket takes the place of no standard stream that is closed.
 "$program" bacdev 1234 --port "$port" --count 1 <&- >&- 2>&- &

@@ -1,21 +1,11 @@
 -- What the worked examples compute with. Who unfolds `computed` unfolds all of it.
-use Rattle.bac_wire.specs.{
-  TagReading.{tag_number_at, long_length_at, length_at, shape_at, tag_at},
-  Datum.plain,
-  Inner.Datum.tagged,
-  Tag.plain_tag,
-  DatumReading.{contents_of, value_at},
-  ParameterReading.{context_at, number_at, object_at, behind_opening, enclosed_at, kind_at},
-  ItemReading.{behind_closing, behind_items, region_at},
-}
-use Rattle.bac_pdu.specs.{
-  Datagram.wrapped,
-  Inner.Datagram.front_octets,
-  Parameter.plain_parameter,
-  DatagramReading.{address_at, header_at, link_at, carried},
-  ApduReading.{parts_at, apdu_of},
-  PropertyReading.{reference_at, read_of, write_of},
-}
+use Rattle.bac_wire.specs.{TagReading.{tag_number_at, long_length_at, length_at, shape_at, tag_at}, Datum.plain}
+use Rattle.bac_wire.specs.{Inner.Datum.tagged, Tag.plain_tag, DatumReading.{contents_of, value_at}}
+use Rattle.bac_wire.specs.ParameterReading.{context_at, number_at, object_at, behind_opening, enclosed_at, kind_at}
+use Rattle.bac_wire.specs.ItemReading.{behind_closing, behind_items, region_at}
+use Rattle.bac_pdu.specs.{Datagram.wrapped, Inner.Datagram.front_octets, Parameter.plain_parameter}
+use Rattle.bac_pdu.specs.{DatagramReading.{address_at, header_at, link_at, carried}, ApduReading.{parts_at, apdu_of}}
+use Rattle.bac_pdu.specs.PropertyReading.{reference_at, read_of, write_of}
 use Rattle.bac_device.specs.{
   Property.{element, kind_property, point_property},
   Kind.one_value,

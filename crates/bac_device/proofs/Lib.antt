@@ -1,4 +1,5 @@
 pub mod PlaceLaws
 pub mod StateLaws
+pub mod Answering
 pub mod SizeLaws
 pub mod Computed

@@ -1,9 +1,7 @@
 -- The places of a point after writes, and after one more.
-use Rattle.std.{
-  proofs.Common.{◌≡◌, ℕ, zero, suc, ◌-◌, ◌<◌, ◌≤◌, ◌==◌, if◌then◌else◌, List, [], ◌∷◌, ◌++◌, map, filter, slice_set},
-  proofs.{Common.{Option, Some, refl, arith}, lemmas.Grind.common_steps},
-  specs.List.last_or,
-}
+use Rattle.std.proofs.Common.{◌≡◌, ℕ, zero, suc, ◌-◌, ◌<◌, ◌≤◌, ◌==◌, if◌then◌else◌, List, [], ◌∷◌, ◌++◌, map, filter}
+use Rattle.std.proofs.{Common.{slice_set, Option, Some, refl, arith}, lemmas.Grind.common_steps}
+use Rattle.std.specs.List.{last_or}
 use Rattle.bac_wire.specs.Identifier.{Identifier}
 use Rattle.bac_device.specs.{Point.Description, Places.{Write, NoneTo, is_to, place, priorities, standing_after, put}}
 

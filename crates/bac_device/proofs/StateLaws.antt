@@ -1,21 +1,11 @@
 -- A device whose places are those after some writes.
-use Rattle.std.proofs.{
-  Common.{◌≡◌, ℕ, Bool, true, false, cond, List, [], ◌∷◌, ◌++◌, map, find, Option, Some, None, refl, IfSome, sym, ap},
-  Common.{subst, ◌∙◌, append-nil, arith, if◌then◌else◌},
-  lemmas.{Bool.cases_Bool, Grind.common_steps, Option.{none-some, same_Some}, Simd.map-map},
-}
-use Rattle.std.specs.Option.{option_map, option_and_then, option_to_list}
-use Rattle.std.specs.Result.{result_ok}
-use Rattle.bac_pdu.specs.{
-  declared.apdu.Part.Part,
-  Peer.Station,
-  DatagramReading.carried,
-  Apdu.{Message, confirmed},
-  ApduReading.apdu_of,
-  Property.Order,
-}
-use Rattle.bac_wire.specs.Steps.{◌>>=◌}
-use Rattle.bac_wire.specs.Identifier.{Identifier}
+use Rattle.std.proofs.Common.{◌≡◌, ℕ, Bool, true, false, cond, List, [], ◌∷◌, ◌++◌, map, find, Option, Some, None, refl}
+use Rattle.std.proofs.{Common.{IfSome, sym, ap, subst, ◌∙◌, append-nil, arith, if◌then◌else◌}, lemmas.Bool.cases_Bool}
+use Rattle.std.proofs.lemmas.{Grind.common_steps, Option.{none-some, same_Some}, Simd.map-map}
+use Rattle.std.specs.{Option.{option_map, option_and_then, option_to_list}, Result.result_ok}
+use Rattle.bac_pdu.specs.{declared.apdu.Part.Part, Peer.Station, DatagramReading.carried, Apdu.{Message, confirmed}}
+use Rattle.bac_pdu.specs.{ApduReading.apdu_of, Property.Order}
+use Rattle.bac_wire.specs.{Steps.◌>>=◌, Identifier.Identifier}
 use Rattle.bac_device.specs.{
   Info.Info,
   Inner.Places.IsUrgent,
@@ -144,18 +134,6 @@ after_holds info points writes =
     ap (λ (p : List Description). device_after info p writes) (sym (points_after info points writes))
 
 -- ---- one call after another
-
--- a device of these points and writes, once it has replied: the writes, and the one that the datagram orders
-pub next_writes : {device after : DeviceState} (info : Info) (points : List Description) (writes : List Write)
-    (from : Station) (datagram : List ℕ) → device ≡ device_after info points writes
-    → ((held : List Write) → Holds device held → after ≡ device_after device.info (points_of device)
-    (writes_after device.info (points_of device) held from datagram))
-    → after ≡ device_after info points (writes_after info points writes from datagram)
-next_writes info points writes from datagram made replied =
-    let next = rw made at replied in
-    next writes (after_holds info points writes)
-    ∙ ap (λ (p : List Description). device_after info p (writes_after info p writes from datagram))
-    (points_after info points writes)
 
 -- what is present at such a device
 pub present_now : (info : Info) (points : List Description) (writes : List Write) {device : DeviceState}

@@ -2,14 +2,10 @@
 use Rattle.std.specs.Prelude.{ℕ, ◌==◌, not, ◌&&◌, ◌||◌, if◌then◌else◌, Option, Some, None, is_some, Result, Ok, Err}
 use Rattle.std.specs.Option.{option_and_then, ok_or}
 use Rattle.bac_wire.specs.Identifier.{Identifier}
-use Rattle.bac_pdu.specs.Property.{Reference, Order}
-use Rattle.bac_pdu.specs.Steps.{◌>>=◌}
-use Rattle.bac_device.specs.declared.failure.Failure.{Failure}
-use Rattle.bac_device.specs.declared.failure.Failure.TheVariants.{UnknownObject, UnknownProperty, NotAnArray}
-use Rattle.bac_device.specs.declared.failure.Failure.TheVariants.{WriteDenied}
-use Rattle.bac_device.specs.Kind.{is_commandable}
-use Rattle.bac_device.specs.Places.{Write, Standing, written_value}
-use Rattle.bac_device.specs.Property.{Property, element, point_property}
+use Rattle.bac_pdu.specs.{Property.{Reference, Order}, Steps.◌>>=◌}
+use Rattle.bac_device.specs.declared.failure.Failure.{Failure, TheVariants.{UnknownObject, UnknownProperty, NotAnArray}}
+use Rattle.bac_device.specs.{declared.failure.Failure.TheVariants.WriteDenied, Kind.is_commandable}
+use Rattle.bac_device.specs.{Places.{Write, Standing, written_value}, Property.{Property, element, point_property}}
 use Rattle.bac_device.specs.Device.{DeviceState, is_device, standing_at, device_property}
 
 -- ---- ReadProperty (clause 15.5)

@@ -1,9 +1,8 @@
 -- The points of the demonstration device.
 use Rattle.std.specs.Prelude.{ℕ, List, [], ◌∷◌, codes}
-use Rattle.bac_device.specs.declared.kind.Family.TheVariants.{Analog, Binary, MultiState}
-use Rattle.bac_device.specs.declared.kind.Role.TheVariants as roles
-use Rattle.bac_device.specs.Kind.{kind}
+use Rattle.bac_device.specs.{declared.kind.Family.TheVariants.{Analog, Binary, MultiState}, Kind.kind}
 use Rattle.bac_device.specs.Point.{Given, Description, described}
+use Rattle.bac_device.specs.declared.kind.Role.TheVariants as roles
 
 -- What is given of a point: its object type, instance, name, start and extra.
 abbrev pub row : ℕ → ℕ → List ℕ → ℕ → ℕ → Given

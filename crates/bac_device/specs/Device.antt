@@ -1,17 +1,11 @@
 -- The device: what it keeps, its own properties, and what can be added to it (clause 12.11).
-use Rattle.std.specs.Prelude.{ℕ, ◌==◌, ◌&&◌, ◌||◌, Bool, false, nat_eq, if◌then◌else◌, List, [], ◌∷◌, ◌++◌}
-use Rattle.std.specs.Prelude.{length, map, find, codes, Option, Result, Err, ◌≡◌}
-use Rattle.std.specs.List.{list_any}
-use Rattle.std.specs.Map.{lookup}
-use Rattle.std.specs.Option.{option_map, option_and_then, option_or, ok_or}
-use Rattle.std.specs.Str.{bytes_eq}
-use Rattle.bac_wire.specs.Identifier.{Identifier}
+use Rattle.std.specs.Prelude.{ℕ, ◌==◌, ◌&&◌, ◌||◌, Bool, false, nat_eq, if◌then◌else◌, List, [], ◌∷◌, ◌++◌, length, map}
+use Rattle.std.specs.{Prelude.{find, codes, Option, Result, Err, ◌≡◌}, List.list_any, Map.lookup}
+use Rattle.std.specs.{Option.{is_some, option_map, option_and_then, option_or, ok_or}, Str.bytes_eq}
+use Rattle.bac_wire.specs.{Identifier.Identifier, Datum.{Datum, unsigned, enumerated, char_string}}
 use Rattle.bac_wire.specs.Datum as values
-use Rattle.bac_wire.specs.Datum.{Datum, unsigned, enumerated, char_string}
-use Rattle.bac_device.specs.declared.device.AddFault.{AddFault}
-use Rattle.bac_device.specs.declared.device.AddFault.TheVariants.{TooMany, Twice, NameTwice, BadPoint}
-use Rattle.bac_device.specs.Info.{Info}
-use Rattle.bac_device.specs.Limits.{device_room, no_instance, greatest_apdu, no_segmentation, own_vendor}
+use Rattle.bac_device.specs.declared.device.AddFault.{AddFault, TheVariants.{TooMany, Twice, NameTwice, BadPoint}}
+use Rattle.bac_device.specs.{Info.Info, Limits.{device_room, no_instance, greatest_apdu, no_segmentation, own_vendor}}
 use Rattle.bac_device.specs.Point.{Given, Description, description_of, same_object}
 use Rattle.bac_device.specs.Places.{Write, Standing, standing_after, present, place_at}
 use Rattle.bac_device.specs.Property.{Property, single, array, point_objects}
@@ -57,7 +51,7 @@ place_after points writes object priority =
 
 -- Whether a point is this object.
 abbrev pub has_object : DeviceState → Identifier → Bool
-has_object device object = list_any (λ standing. same_object standing.point.object object) device.standings
+has_object device object = is_some (standing_at device object)
 
 -- Whether the device or a point has this name, octet by octet.
 abbrev pub has_name : DeviceState → List ℕ → Bool

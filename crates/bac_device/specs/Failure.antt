@@ -1,7 +1,6 @@
 -- Why a property is not read or written: the class and the code of the Error (clause 18).
 use Rattle.std.specs.Prelude.{ℕ}
-use Rattle.bac_device.specs.declared.failure.Failure.{Failure}
-use Rattle.bac_device.specs.declared.failure.Failure.TheVariants.{UnknownObject, UnknownProperty, NotAnArray}
+use Rattle.bac_device.specs.declared.failure.Failure.{Failure, TheVariants.{UnknownObject, UnknownProperty, NotAnArray}}
 use Rattle.bac_device.specs.declared.failure.Failure.TheVariants.{InvalidIndex, WriteDenied, WrongType, OutOfRange}
 
 -- The number of the error class: 1 is object, 2 is property.

@@ -1,18 +1,11 @@
 -- The types of point, and the values of each (clause 12).
 use Rattle.std.specs.Prelude.{ℕ, ◌^◌, ◌==◌, nat_eq, nat_lt, nat_le, ◌&&◌, Bool, true, false, List, [], ◌∷◌, Option}
-use Rattle.std.specs.Prelude.{Some, None}
-use Rattle.std.specs.Int.{w32, to_be_bytes, from_be_bytes}
-use Rattle.std.specs.Map.{lookup}
-use Rattle.std.specs.Option.{option_map}
-use Rattle.bac_wire.specs.Datum.{Datum, null, real, unsigned, enumerated}
-use Rattle.bac_wire.specs.DatumReading.{value_at}
-use Rattle.bac_wire.specs.Steps.{◌>>=◌}
+use Rattle.std.specs.{Prelude.{Some, None}, Int.{w32, to_be_bytes, from_be_bytes}, Map.lookup, Option.option_map}
+use Rattle.bac_wire.specs.{Datum.{Datum, null, real, unsigned, enumerated}, DatumReading.value_at, Steps.◌>>=◌}
 use Rattle.bac_pdu.specs.PropertyReading.{whole_of}
-use Rattle.bac_device.specs.declared.kind.Family.{Family}
-use Rattle.bac_device.specs.declared.kind.Family.TheVariants.{Analog, Binary, MultiState}
-use Rattle.bac_device.specs.declared.kind.Role.{Role}
-use Rattle.bac_device.specs.declared.kind.Role.TheVariants as roles
+use Rattle.bac_device.specs.declared.kind.{Family.Family, Family.TheVariants.{Analog, Binary, MultiState}, Role.Role}
 use Rattle.bac_device.specs.declared.kind.Kind.{Kind}
+use Rattle.bac_device.specs.declared.kind.Role.TheVariants as roles
 
 -- The kind of this family and role.
 abbrev pub kind : Family → Role → Kind

@@ -1,14 +1,11 @@
 -- What a point has after writes: the sixteen places of its priority array, and its present value (clause 19.2).
 use Rattle.std.specs.Prelude.{◌≡◌, ℕ, ◌-◌, ◌==◌, ◌&&◌, ◌||◌, not, Bool, false, if◌then◌else◌, is_some, List, [], ◌∷◌}
 use Rattle.std.specs.Prelude.{map, filter, find, slice_get, slice_set, unwrap_or, Option, Some, None, Result, Ok, Err}
-use Rattle.std.specs.List.{last_or, AllByRecursion}
-use Rattle.std.specs.Option.{option_and_then, option_flatten, ok_or}
+use Rattle.std.specs.{List.{last_or, AllByRecursion}, Option.{option_and_then, option_flatten, ok_or}}
 use Rattle.bac_wire.specs.Identifier.{Identifier}
-use Rattle.bac_device.specs.declared.failure.Failure.{Failure}
-use Rattle.bac_device.specs.declared.failure.Failure.TheVariants.{WrongType, OutOfRange}
+use Rattle.bac_device.specs.declared.failure.Failure.{Failure, TheVariants.{WrongType, OutOfRange}}
+use Rattle.bac_device.specs.{Kind.{is_commandable, place_in, one_value, allows}, Point.{Description, same_object}}
 use Rattle.bac_pdu.specs.Steps.{◌>>=◌}
-use Rattle.bac_device.specs.Kind.{is_commandable, place_in, one_value, allows}
-use Rattle.bac_device.specs.Point.{Description, same_object}
 
 -- A write of a present value that was accepted. None is NULL.
 pub record Write : Type 0 where

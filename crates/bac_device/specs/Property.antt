@@ -1,18 +1,12 @@
 -- The values of a property, and the properties of a point (clause 12).
 use Rattle.std.specs.Prelude.{ℕ, nat_eq, ◌-◌, ◌==◌, ◌&&◌, Bool, true, false, not, if◌then◌else◌, List, [], ◌∷◌, length}
-use Rattle.std.specs.Prelude.{map, slice_get, Option, Some, None, Result, Ok, Err}
-use Rattle.std.specs.List.{flat_map}
-use Rattle.std.specs.Option.{option_map, option_or, ok_or}
-use Rattle.std.specs.Map.{lookup}
+use Rattle.std.specs.{Prelude.{map, slice_get, Option, Some, None, Result, Ok, Err}, List.flat_map}
+use Rattle.std.specs.{Option.{option_map, option_or, ok_or}, Map.lookup}
 use Rattle.bac_wire.specs.Datum.{Datum, boolean, unsigned, enumerated, char_string, bit_string, object, plain}
-use Rattle.bac_device.specs.declared.kind.Family.{Family}
-use Rattle.bac_device.specs.declared.kind.Family.TheVariants.{Analog, Binary, MultiState}
-use Rattle.bac_device.specs.declared.kind.Role.{Role}
+use Rattle.bac_device.specs.declared.kind.{Family.Family, Family.TheVariants.{Analog, Binary, MultiState}, Role.Role}
+use Rattle.bac_device.specs.declared.failure.Failure.{Failure, TheVariants.{NotAnArray, InvalidIndex}}
+use Rattle.bac_device.specs.{Kind.{is_commandable, value_of, place_value}, Places.{Standing, present}}
 use Rattle.bac_device.specs.declared.kind.Role.TheVariants as roles
-use Rattle.bac_device.specs.declared.failure.Failure.{Failure}
-use Rattle.bac_device.specs.declared.failure.Failure.TheVariants.{NotAnArray, InvalidIndex}
-use Rattle.bac_device.specs.Kind.{is_commandable, value_of, place_value}
-use Rattle.bac_device.specs.Places.{Standing, present}
 
 -- The values of a property. Where it is an array, an index can choose from them.
 pub record Property : Type 0 where

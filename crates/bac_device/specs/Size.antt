@@ -1,8 +1,6 @@
 -- How long the device's replies are.
-use Rattle.std.specs.Prelude.{◌≡◌, ℕ, ◌≤◌, ◌⊎◌, false, List, [], ◌∷◌, length, Option}
-use Rattle.std.specs.Option.{ForSome}
-use Rattle.bac_pdu.specs.Peer.{Station}
-use Rattle.bac_pdu.specs.Datagram.{Delivery, Carries, Takes}
+use Rattle.std.specs.{Prelude.{◌≡◌, ℕ, ◌≤◌, ◌⊎◌, false, List, [], ◌∷◌, length, Option}, Option.ForSome}
+use Rattle.bac_pdu.specs.{Peer.Station, Datagram.{Delivery, Carries, Takes}}
 use Rattle.bac_pdu.specs.Apdu.{Message, IsLaidOut, confirmed, unconfirmed, announced_size}
 use Rattle.bac_device.specs.Turns.{Arrival}
 

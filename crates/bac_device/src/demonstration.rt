@@ -1,11 +1,8 @@
 //! The demonstration device.
 
 ghost use Rattle.std.specs.Prelude.{◌≡◌, ◌<◌, ◌+◌, ◌^◌, length, [], IsSome};
-ghost use Rattle.bac_device.specs.Limits.{device_room};
-ghost use Rattle.bac_device.specs.Point.{description_of};
-ghost use Rattle.bac_device.specs.Device.{device_after};
-ghost use Rattle.bac_device.specs.Demo.{row, demo_points};
-ghost use Rattle.bac_device.specs.Inner.Demo.{with_row};
+ghost use Rattle.bac_device.specs.{Limits.device_room, Point.description_of, Device.device_after};
+ghost use Rattle.bac_device.specs.{Demo.{row, demo_points}, Inner.Demo.with_row};
 
 use crate::device::Device;
 use crate::info::DeviceInfo;

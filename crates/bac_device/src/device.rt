@@ -1,23 +1,14 @@
 //! The device: its points, its own properties, and what is held after writes.
 
 ghost use Rattle.std.specs.Prelude.{◌≡◌, ◌<◌, [], ◌∷◌, ◌++◌, List, length, map, IfSome, IfOk, IfErr, OnOk, OnErr, Ok};
-ghost use Rattle.std.specs.Prelude.{Err, Some, None};
-ghost use Rattle.std.specs.List.{list_any};
-ghost use Rattle.std.specs.Option.{option_map, option_and_then, option_copied};
-ghost use Rattle.std.specs.Str.{bytes_eq};
-ghost use Rattle.bac_wire.specs.Datum.{datum, char_string, IsSound};
-ghost use Rattle.bac_wire.specs.Identifier.{identifier};
-ghost use Rattle.bac_device.specs.Limits.{device_room};
-ghost use Rattle.bac_device.specs.Kind.{value_of};
-ghost use Rattle.bac_device.specs.Point.{given, same_object};
-ghost use Rattle.bac_device.specs.Places.{Write, NoneTo, present, place_at, put};
-ghost use Rattle.bac_device.specs.Inner.Places.{write_seen};
-ghost use Rattle.bac_wire.specs.Steps.{result_seen};
-ghost use Rattle.bac_device.specs.Property.{single};
-ghost use Rattle.bac_device.specs.Inner.Property.{property_seen, IsSoundProperty};
-ghost use Rattle.bac_device.specs.Device.{Holds, points_of, device_after, standing_at, present_after, place_after};
-ghost use Rattle.bac_device.specs.Device.{add_point, fixed_value, device_property};
-ghost use Rattle.bac_device.specs.Access.{property_of, commanded_point};
+ghost use Rattle.std.specs.{Prelude.{Err, Some, None}, List.list_any};
+ghost use Rattle.std.specs.{Option.{option_map, option_and_then, option_copied}, Str.bytes_eq};
+ghost use Rattle.bac_wire.specs.{Datum.{datum, char_string, IsSound}, Identifier.identifier, Steps.result_seen};
+ghost use Rattle.bac_device.specs.{Limits.device_room, Kind.value_of, Point.given};
+ghost use Rattle.bac_device.specs.{Places.{Write, NoneTo, present, place_at, put}, Inner.Places.write_seen};
+ghost use Rattle.bac_device.specs.{Property.single, Inner.Property.{property_seen, IsSoundProperty}, Device.Holds};
+ghost use Rattle.bac_device.specs.Device.{points_of, device_after, standing_at, present_after, place_after, add_point};
+ghost use Rattle.bac_device.specs.{Device.{fixed_value, device_property}, Access.{property_of, commanded_point}};
 ghost use Rattle.bac_device.specs.Reply.{with_write};
 
 use crate::failure::Failure;
@@ -97,7 +88,7 @@ impl Device {
         if self.points.is_full() {
             return Err(AddFault::TooMany);
         }
-        if has_object(&self.points, point.id) {
+        if self.point(point.id).is_some() {
             return Err(AddFault::Twice);
         }
         if self.info.name() == point.name || has_name(&self.points, point.name) {
@@ -118,7 +109,8 @@ impl Device {
         ensures after { (writes : List Write) → Holds self.now writes
             → result ≡ present_after (points_of self.now) writes (identifier object) }
     {
-        self.present_at(object)
+        let point = self.point(object)?;
+        Some(point.present())
     }
 
     /// What a commandable point has at a priority; `Some(None)` is NULL. None where the object is no commandable point,
@@ -130,7 +122,7 @@ impl Device {
         ensures after { (writes : List Write) → Holds self.now writes
             → result ≡ place_after (points_of self.now) writes (identifier object) priority }
     {
-        self.place_at(object, priority)
+        self.point(object)?.place(priority)
     }
 
     /// Adds this point, for which there has to be room.
@@ -179,25 +171,11 @@ impl Device {
         }
     }
 
-    /// Makes a write at the point that is its object.
+    /// Makes a write at each point that is its object.
     pub(crate) fn put(&mut self, write: &PlaceWrite)
         ensures { self.new ≡ with_write self.old (Some (write_seen write.now)) }
     {
         put_in(&mut self.points, write);
-    }
-
-    fn present_at(&self, object: ObjectId) -> Option<u32>
-        ensures { result ≡ option_map present (standing_at self.now (identifier object)) }
-    {
-        let point = self.point(object)?;
-        Some(point.present())
-    }
-
-    fn place_at(&self, object: ObjectId, priority: u8) -> Option<Option<u32>>
-        ensures { result
-            ≡ option_and_then (λ standing. place_at standing priority) (standing_at self.now (identifier object)) }
-    {
-        self.point(object)?.place(priority)
     }
 
     // The device's own property of this number.
@@ -221,13 +199,6 @@ impl Device {
     {
         self.points.iter().find(|point| point.is_object(object))
     }
-}
-
-// Whether one of the points is this object.
-fn has_object(points: &[StandingPoint], object: ObjectId) -> bool
-    ensures { result ≡ list_any (λ standing. same_object standing.point.object (identifier object)) points.now }
-{
-    points.iter().any(|point| point.is_object(object))
 }
 
 // Whether one of the points has this name.

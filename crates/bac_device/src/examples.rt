@@ -2,10 +2,9 @@
 
 ghost use Rattle.std.specs.Prelude.{[], ◌∷◌, replicate};
 ghost use Rattle.bac_device.specs.Inner.Examples.{Exchanges, outdoor, long_named, valve, fan, season, nothing, own};
-ghost use Rattle.bac_device.specs.Inner.Examples.{any_device};
-ghost use Rattle.bac_device.specs.Inner.Examples.{of, element_of, read, read_for_50, is, write, write_at, aborted, has};
-ghost use Rattle.bac_device.specs.Inner.Examples.{has_no, makes, refuses};
-ghost use Rattle.bac_device.specs.Inner.Examples.{real_72_3, twenty, thirty, zero_real, null, unsigned, enumerated};
+ghost use Rattle.bac_device.specs.Inner.Examples.{any_device, of, element_of, read, read_for_50, is, write, write_at};
+ghost use Rattle.bac_device.specs.Inner.Examples.{aborted, has, has_no, makes, refuses, real_72_3, twenty, thirty};
+ghost use Rattle.bac_device.specs.Inner.Examples.{zero_real, null, unsigned, enumerated};
 
 // A property is read, whole or an element of it.
 #[tactic(none)]

@@ -2,8 +2,7 @@
 
 ghost use Rattle.std.specs.Prelude.{◌≡◌, ◌↔◌, IsSome, IfSome};
 ghost use Rattle.bac_wire.specs.Identifier.{identifier};
-ghost use Rattle.bac_device.specs.Info.{IsInfo};
-ghost use Rattle.bac_device.specs.Device.{device_object, is_device};
+ghost use Rattle.bac_device.specs.{Info.IsInfo, Device.{device_object, is_device}};
 
 use crate::numbers::NO_INSTANCE;
 use crate::point::NAME_OCTETS;
@@ -21,8 +20,7 @@ pub struct DeviceInfo {
 
 impl Model for DeviceInfo {
     ghost use Rattle.std.specs.Prelude.{◌<◌};
-    ghost use Rattle.bac_device.specs.Limits.{no_instance};
-    ghost use Rattle.bac_device.specs.Info.{Info};
+    ghost use Rattle.bac_device.specs.{Limits.no_instance, Info.Info};
 
     ghost Value = { Info };
 
@@ -38,7 +36,7 @@ impl DeviceInfo {
         ensures valid { IsSome result ↔ IsInfo (record { instance = instance; name = name.now }) }
         ensures value { IfSome result (λ info. info ≡ record { instance = instance; name = name.now }) }
     {
-        if NO_INSTANCE <= instance || name.is_empty() {
+        if instance >= NO_INSTANCE || name.is_empty() {
             return None;
         }
         let name = ArrayString::from(name).ok()?;

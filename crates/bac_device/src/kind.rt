@@ -1,7 +1,6 @@
 //! The types of points, and the values that each takes.
 
-ghost use Rattle.std.specs.Prelude.{◌≡◌, ◌^◌, ◌<◌, IsTrue};
-ghost use Rattle.std.specs.Option.{option_map};
+ghost use Rattle.std.specs.{Prelude.{◌≡◌, ◌^◌, ◌<◌, IsTrue}, Option.option_map};
 ghost use Rattle.bac_wire.specs.Datum.{datum, IsSound};
 ghost use Rattle.bac_device.specs.Kind as spec;
 
@@ -33,21 +32,22 @@ pub(crate) enum Role {
 impl Kind {
     /// The kind of this object type, where it is one of a point (clause 21, BACnetObjectType).
     #[tactic(auto, unfolding(crate::specs::Kind::kind_of))]
-    pub(crate) fn of_number(number: u16) -> Option<Self>
+    pub(crate) fn from_number(number: u16) -> Option<Self>
         ensures { result ≡ spec.kind_of number }
     {
-        match number {
-            0 => Some(kind_with(Family::Analog, Role::Input)),
-            1 => Some(kind_with(Family::Analog, Role::Output)),
-            2 => Some(kind_with(Family::Analog, Role::Value)),
-            3 => Some(kind_with(Family::Binary, Role::Input)),
-            4 => Some(kind_with(Family::Binary, Role::Output)),
-            5 => Some(kind_with(Family::Binary, Role::Value)),
-            13 => Some(kind_with(Family::MultiState, Role::Input)),
-            14 => Some(kind_with(Family::MultiState, Role::Output)),
-            19 => Some(kind_with(Family::MultiState, Role::Value)),
-            _ => None,
-        }
+        let (family, role) = match number {
+            0 => (Family::Analog, Role::Input),
+            1 => (Family::Analog, Role::Output),
+            2 => (Family::Analog, Role::Value),
+            3 => (Family::Binary, Role::Input),
+            4 => (Family::Binary, Role::Output),
+            5 => (Family::Binary, Role::Value),
+            13 => (Family::MultiState, Role::Input),
+            14 => (Family::MultiState, Role::Output),
+            19 => (Family::MultiState, Role::Value),
+            _ => return None,
+        };
+        Some(Kind { family, role })
     }
 
     /// Whether `extra` is one that a point of this kind can have.
@@ -141,11 +141,4 @@ pub(crate) fn one_value(octets: &[u8]) -> Option<Value<'_>>
         return None;
     }
     Some(value)
-}
-
-// The kind of this family and role.
-fn kind_with(family: Family, role: Role) -> Kind
-    ensures { result ≡ record { family = family; role = role } }
-{
-    Kind { family, role }
 }

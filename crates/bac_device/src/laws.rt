@@ -1,16 +1,11 @@
 //! What holds of the definitions that the contracts cite, and of the public types. Each function has an empty body, and
 //! its clause is the law.
 
-ghost use Rattle.std.specs.Prelude.{◌≡◌, ℕ, List, Option};
-ghost use Rattle.std.specs.Option.{ForSome};
+ghost use Rattle.std.specs.{Prelude.{◌≡◌, ℕ, List, Option}, Option.ForSome};
 ghost use Rattle.bac_wire.specs.Copies.{MakesCopies, EqualsBy};
 ghost use Rattle.bac_pdu.specs.Peer.{Station};
-ghost use Rattle.bac_device.specs.Limits.{device_room, longest_name};
-ghost use Rattle.bac_device.specs.Info.{Info};
-ghost use Rattle.bac_device.specs.Point.{Description};
-ghost use Rattle.bac_device.specs.Places.{Write};
-ghost use Rattle.bac_device.specs.Device.{DeviceState, points_of, device_after, Holds};
-ghost use Rattle.bac_device.specs.Reply.{reply_of};
+ghost use Rattle.bac_device.specs.{Limits.{device_room, longest_name}, Info.Info, Point.Description, Places.Write};
+ghost use Rattle.bac_device.specs.{Device.{DeviceState, points_of, device_after, Holds}, Reply.reply_of};
 ghost use Rattle.bac_device.specs.Size.{ReplyFits, RepliesFit};
 ghost use Rattle.bac_device.specs.Turns.{Arrival, RepliesInTurn, AreDefined, replies_to};
 

@@ -1,13 +1,10 @@
 //! A point: as it is added, and with the sixteen places of its priority array.
 
-ghost use Rattle.std.specs.Prelude.{◌≡◌, [], find, is_some, IfSome};
-ghost use Rattle.std.specs.Option.{option_map, option_copied};
-ghost use Rattle.std.specs.Str.{bytes_eq};
+ghost use Rattle.std.specs.{Prelude.{◌≡◌, [], find, is_some, IfSome}, Option.{option_map, option_copied}, Str.bytes_eq};
 ghost use Rattle.bac_wire.specs.Identifier.{identifier};
 ghost use Rattle.bac_device.specs.Point.{given, description_of, same_object};
 ghost use Rattle.bac_device.specs.Places.{standing_after, present, place_at, written_value, put};
-ghost use Rattle.bac_device.specs.Inner.Places.{write_seen};
-ghost use Rattle.bac_device.specs.Kind.{is_commandable};
+ghost use Rattle.bac_device.specs.{Inner.Places.write_seen, Kind.is_commandable};
 ghost use Rattle.bac_device.specs.Property.{point_property, kind_property};
 ghost use Rattle.bac_device.specs.Inner.Property.{property_seen, IsSoundProperty};
 
@@ -93,10 +90,10 @@ impl StandingPoint {
     pub(crate) fn new(point: &Point<'_>) -> Option<Self>
         ensures { result ≡ option_map (standing_after []) (description_of (given point.now)) }
     {
-        let kind = Kind::of_number(point.id.kind())?;
+        let kind = Kind::from_number(point.id.kind())?;
         let name = ArrayString::from(point.name).ok()?;
         if point.name.is_empty()
-            || NO_INSTANCE <= point.id.instance()
+            || point.id.instance() >= NO_INSTANCE
             || !kind.allows_extra(point.extra)
             || !kind.family.allows(point.extra, u64::from(point.start))
         {
@@ -122,7 +119,7 @@ impl StandingPoint {
     pub(crate) fn is_object(&self, object: ObjectId) -> bool
         ensures { result ≡ same_object self.now.point.object (identifier object) }
     {
-        self.id.kind() == object.kind() && self.id.instance() == object.instance()
+        self.id == object
     }
 
     /// Whether the point has this name.

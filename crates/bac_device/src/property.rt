@@ -2,12 +2,9 @@
 
 ghost use Rattle.std.specs.Prelude.{◌≡◌, ◌<◌, ◌+◌, ◌∷◌, ◌++◌, length, slice_get, map, IfSome, IfOk, OnOk, OnErr};
 ghost use Rattle.std.specs.Option.{option_map};
-ghost use Rattle.bac_wire.specs.Limits.{frame_room};
-ghost use Rattle.bac_wire.specs.Datum.{datum, IsSound, object};
-ghost use Rattle.bac_wire.specs.Identifier.{identifier};
-ghost use Rattle.bac_device.specs.Kind.{place_value};
+ghost use Rattle.bac_wire.specs.{Limits.frame_room, Datum.{datum, IsSound, object}, Identifier.identifier};
 ghost use Rattle.bac_wire.specs.Steps.{result_seen};
-ghost use Rattle.bac_device.specs.Property.{point_objects, element, region_octets};
+ghost use Rattle.bac_device.specs.{Kind.place_value, Property.{point_objects, element, region_octets}};
 ghost use Rattle.bac_device.specs.Inner.Property.{property_seen, IsSoundProperty};
 
 use crate::failure::Failure;

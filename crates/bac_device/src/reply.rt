@@ -2,23 +2,14 @@
 
 ghost use Rattle.std.specs.Prelude.{◌≡◌, ◌<◌, ◌≤◌, List, [], length, IfOk, IfSome, IfNone, OnOk, OnErr};
 ghost use Rattle.std.specs.Option.{option_map};
-ghost use Rattle.bac_wire.specs.Limits.{frame_room};
-ghost use Rattle.bac_wire.specs.Identifier.{identifier};
-ghost use Rattle.bac_pdu.specs.Apdu.{laid_out, reject, error};
-ghost use Rattle.bac_pdu.specs.Peer.{station};
-ghost use Rattle.bac_pdu.specs.Property.{reference};
-ghost use Rattle.bac_pdu.specs.Failure.{error_octets};
+ghost use Rattle.bac_wire.specs.{Limits.frame_room, Identifier.identifier, Steps.result_seen};
+ghost use Rattle.bac_pdu.specs.{Apdu.{laid_out, reject, error}, Peer.station, Property.reference, Failure.error_octets};
 ghost use Rattle.bac_pdu.specs.Reject.{reason_number};
-ghost use Rattle.bac_wire.specs.Steps.{result_seen};
-ghost use Rattle.bac_device.specs.Places.{Write};
-ghost use Rattle.bac_device.specs.Inner.Places.{IsUrgent};
-ghost use Rattle.bac_device.specs.Inner.Property.{property_seen, IsSoundProperty};
-ghost use Rattle.bac_device.specs.Failure.{error_class, error_code};
-ghost use Rattle.bac_device.specs.Device.{Holds, points_of, device_after};
-ghost use Rattle.bac_device.specs.Size.{ReplyFits};
-ghost use Rattle.bac_device.specs.Access.{read_property};
-ghost use Rattle.bac_device.specs.Reply as spec;
+ghost use Rattle.bac_device.specs.{Places.Write, Inner.Property.{property_seen, IsSoundProperty}};
+ghost use Rattle.bac_device.specs.{Failure.{error_class, error_code}, Device.{Holds, points_of, device_after}};
+ghost use Rattle.bac_device.specs.{Size.ReplyFits, Access.read_property};
 ghost use Rattle.bac_device.specs.Inner.Reply.{reply_apdu, write_in_apdu, write_in_request, write_in_body};
+ghost use Rattle.bac_device.specs.Reply as spec;
 
 use crate::device::Device;
 use crate::failure::Failure;
@@ -42,7 +33,7 @@ impl Device {
     ///
     /// There is a reply to a Who-Is that asks for the device, and to a confirmed request that was not sent to all. An
     /// APDU of more octets than the requester announced becomes an Abort. That of an I-Am has fifteen octets.
-    #[tactic(auto, using(crate::proofs::StateLaws::write_held))]
+    #[tactic(auto, using(crate::proofs::Answering::reply_held, crate::proofs::Answering::after_held))]
     pub fn answer(&mut self, from: Peer, datagram: &[u8], frame: &mut Frame) -> Option<Peer>
         ensures standing { option_map (λ peer. (station peer, frame.new)) result
             ≡ spec.reply_of self.old (station from) datagram.now }
@@ -70,7 +61,6 @@ impl Device {
         ensures silent { IfNone result (frame.new ≡ []) }
         ensures after { self.new
             ≡ spec.with_write self.old (spec.write_in_datagram self.old (station from) datagram.now) }
-        ensures urgent { IfSome (spec.write_in_datagram self.old (station from) datagram.now) IsUrgent }
     {
         let carried = open_datagram(from, datagram)?;
         self.reply(carried.broadcast, carried.apdu, frame)?;
@@ -90,7 +80,6 @@ impl Device {
         ensures silent { IfNone result (frame.new ≡ []) }
         ensures few { length frame.new ≤ 1476 }
         ensures after { self.new ≡ spec.with_write self.old (write_in_apdu self.old broadcast apdu.now) }
-        ensures urgent { IfSome (write_in_apdu self.old broadcast apdu.now) IsUrgent }
     {
         match read_apdu(apdu)? {
             Apdu::Confirmed {
@@ -126,7 +115,6 @@ impl Device {
             ≡ laid_out (spec.fitting code id (spec.full_reply self.old part id service body.now)) }
         ensures few { length frame.new ≤ 1476 }
         ensures after { self.new ≡ spec.with_write self.old (write_in_request self.old part service body.now) }
-        ensures urgent { IfSome (write_in_request self.old part service body.now) IsUrgent }
     {
         match self.full_reply(part, id, service, body, frame) {
             Ok(()) if frame.len() <= usize::from(announced(code)) => {}
@@ -149,7 +137,6 @@ impl Device {
         ensures full { OnErr result
             (frame_room < length (laid_out (spec.full_reply self.old part id service body.now))) }
         ensures after { self.new ≡ spec.with_write self.old (write_in_request self.old part service body.now) }
-        ensures urgent { IfSome (write_in_request self.old part service body.now) IsUrgent }
     {
         if part.is_some() {
             make_abort(id, frame);
@@ -186,7 +173,6 @@ impl Device {
         ensures ok { OnOk result (frame.new ≡ laid_out (spec.write_reply self.old id body.now)) }
         ensures full { OnErr result (frame_room < length (laid_out (spec.write_reply self.old id body.now))) }
         ensures after { self.new ≡ spec.with_write self.old (write_in_body self.old body.now) }
-        ensures urgent { IfSome (write_in_body self.old body.now) IsUrgent }
     {
         let request = match read_write(body) {
             Ok(request) => request,
@@ -343,12 +329,13 @@ fn make_abort(id: u8, frame: &mut Frame)
     ensures { frame.new ≡ laid_out (spec.refused id) }
 {
     frame.clear();
-    let _ = write_apdu(
+    write_apdu(
         frame,
         &Apdu::Abort {
             server: true,
             id,
             reason: SEGMENTATION_NOT_SUPPORTED,
         },
-    );
+    )
+    .unwrap();
 }

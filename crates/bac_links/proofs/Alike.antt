@@ -7,7 +7,7 @@ use Rattle.bac_links.specs.{
   Asking.Plays,
   Ending.{ending_line, exit_of},
   Call.{Comes, move, Tells},
-  declared.{ending.Purpose.Purpose, ending.Exit.Exit, fault.ToolFault.ToolFault},
+  declared.{ending.Purpose.Purpose, exit.Exit.Exit, fault.ToolFault.ToolFault},
   declared.fault.ToolFault.TheVariants.{SendFailed, ReceiveFailed, TurnsSpent, WriteFailed},
 }
 use Rattle.bac_links.proofs.Asking.{to_the_end}
@@ -31,32 +31,30 @@ module _ (purpose : Purpose) (call : Call) where
       pub answers : result ≢ Err WriteFailed → result ≡ result_of comes
       pub prints : Printed contents before after (line_of comes) result
 
-    fails : (fault : ToolFault) → (after ≡ before) × Plays (move purpose call) seen left (Err fault)
-        → Plays (move purpose call) seen left (Err fault) × Took contents before after []
-    fails fault tells = (
-      tells.1,
-      subst (λ (w : Checked W). Took contents before w []) (sym tells.0) (Took-none before),
-    )
+    unprinted : after ≡ before → Took contents before after []
+    unprinted same = subst (λ (w : Checked W). Took contents before w []) (sym same) (Took-none before)
 
     pub went : (result : Result Exit ToolFault) → Tells purpose call contents before after seen left result
         → Went result
     went (Ok exit) tells =
-        record { comes = Ok tells.0; plays = tells.3; answers = λ other. ap Ok tells.1; prints = tells.2 }
+        record {
+          comes = Ok tells.ending;
+          plays = tells.plays;
+          answers = λ other. ap Ok tells.exit_is;
+          prints = tells.printed;
+        }
     went (Err WriteFailed) tells = record {
-      comes = Ok tells.0;
-      plays = tells.2;
+      comes = Ok tells.ending;
+      plays = tells.plays;
       answers = λ other. absurd (other refl);
-      prints = tells.1;
+      prints = tells.printed;
     }
-    went (Err SendFailed) tells =
-        let it = fails SendFailed tells in
-        record { comes = Err SendFailed; plays = it.0; answers = λ other. refl; prints = it.1 }
-    went (Err ReceiveFailed) tells =
-        let it = fails ReceiveFailed tells in
-        record { comes = Err ReceiveFailed; plays = it.0; answers = λ other. refl; prints = it.1 }
-    went (Err TurnsSpent) tells =
-        let it = fails TurnsSpent tells in
-        record { comes = Err TurnsSpent; plays = it.0; answers = λ other. refl; prints = it.1 }
+    went (Err SendFailed) it =
+        record { comes = Err SendFailed; plays = it.plays; answers = λ other. refl; prints = unprinted it.unprinted }
+    went (Err ReceiveFailed) it =
+        record { comes = Err ReceiveFailed; plays = it.plays; answers = λ other. refl; prints = unprinted it.unprinted }
+    went (Err TurnsSpent) it =
+        record { comes = Err TurnsSpent; plays = it.plays; answers = λ other. refl; prints = unprinted it.unprinted }
 
   -- Two calls that are answered alike.
   module _ {V W : Type 0} (contents : V → Option (List ℕ)) (contents' : W → Option (List ℕ)) (before after : Checked V)

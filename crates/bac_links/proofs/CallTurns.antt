@@ -20,10 +20,10 @@ use Rattle.bac_links.specs.{
   Asking.{Move, Asks, Ends, ForTime, ToSend, question_of, Follows, Plays, next_move, waits_in, turn_after},
   Handed.{handed, handed_of},
   Call.{rules_for, asked, events_of, end_in, is_sent_last, Comes, or_ended, move, Tells},
-  Inner.CallSteps.{posts, sent_last, or_sent, wait_of, begun_at, endings, GainsLost, heard_step, timeouts, AsksNothing},
-  Inner.CallSteps.{IsAlone, CarriesOn},
+  Inner.CallSteps.{posts, sent_last, or_sent, wait_of, begun_at, endings, GainsLost, heard_step, ticked, AsksNothing},
+  Inner.CallSteps.{IsAlone, CarriesOn, Hears, Ticks, TicksLost},
   Inner.CallSteps.Underway,
-  declared.{ending.Purpose.Purpose, ending.Exit.Exit, fault.ToolFault.ToolFault},
+  declared.{ending.Purpose.Purpose, exit.Exit.Exit, fault.ToolFault.ToolFault},
   declared.fault.ToolFault.TheVariants.{SendFailed, ReceiveFailed, TurnsSpent, WriteFailed},
 }
 use Rattle.bac_links.proofs.{
@@ -249,79 +249,83 @@ module _ {Origin : Type 0} {purpose : Purpose} {call : Call} {seen mid next : Ac
       failure
       ∙ behind purpose call (Timed far.time ∷ far.more) (Waited (wait_of call) Failure))
 
-  module _ {middle : Client} (received : heard ≢ Failure)
-      (none : endings (heard_step (rules_of client) client.state heard).notes ≡ [])
-      (middle_is : middle ≡ keeping client (heard_step (rules_of client) client.state heard).after) where
-    hears : CarriesOn purpose call far.time (handed waited) middle
-    hears = search (arith, heard_on)
+-- The wait ends nothing.
+module _ {Origin : Type 0} {purpose : Purpose} {call : Call} {seen mid next : Account Origin} {client middle : Client}
+    {n : ℕ} (within : n < most_turns) (far : Underway purpose call seen mid client n)
+    (hears : Hears (wait_of call) client middle None mid next) where
+  abbrev so_far : List Entry
+  so_far = waited within far hears.heard hears.gains
 
-    pub alone : IsAlone middle.state
-    alone = carried_alone hears
+  carried : CarriesOn purpose call far.time (handed so_far) middle
+  carried = heard_on far.more far.carried _ hears.heard _ hears.ends hears.handed
 
-    module _ (now : ℕ) where
-      abbrev timed : List Entry
-      timed = waited ++ Timed now ∷ []
+  pub alone : IsAlone middle.state
+  alone = carried_alone carried
 
-      abbrev ticked : Stepped
-      ticked = step (rules_of middle) middle.state (Tick now)
+  module _ (now : ℕ) where
+    abbrev timed : List Entry
+    timed = so_far ++ Timed now ∷ []
 
-      follows_timed : Follows (move purpose call) [] (Timed far.time ∷ timed)
-      follows_timed =
-          follows_push (move purpose call) [] (Timed far.time ∷ waited) (Timed now) follows_waited
-          (behind_waited received None hears.unended)
+    follows_timed : Follows (move purpose call) [] (Timed far.time ∷ timed)
+    follows_timed =
+        follows_push (move purpose call) [] (Timed far.time ∷ so_far) (Timed now)
+        (follows_waited within far hears.heard hears.gains)
+        (behind_waited within far hears.heard hears.gains hears.received None carried.unended)
 
-      due_is : sent_last purpose call (events_of purpose call (Timed far.time ∷ timed)) ≡ posts ticked.notes
-      due_is = sends_so waited hears (Timed now) (Tick now) tt refl
+    due_is : sent_last purpose call (events_of purpose call (Timed far.time ∷ timed)) ≡ posts (ticked middle now).notes
+    due_is = sends_so so_far carried (Timed now) (Tick now) tt refl
 
-      turned : waits_in timed ≡ suc n
-      turned = grind (arith, waits_push)
+    turned : waits_in timed ≡ suc n
+    turned = grind (arith, waits_push)
 
-      gains_timed : {last : Account Origin} (rest : List Entry) → GainsAll (Timed now ∷ rest) next last
-          → GainsAll (Timed far.time ∷ (timed ++ rest)) seen last
-      gains_timed = grind (arith, append_assoc, gains_both, gains_waited)
+    gains_timed : {last : Account Origin} (rest : List Entry) → GainsAll (Timed now ∷ rest) next last
+        → GainsAll (Timed far.time ∷ (timed ++ rest)) seen last
+    gains_timed = grind (arith, append_assoc, gains_both, gains_waited)
 
-      carried_then : endings ticked.notes ≡ [] → (after : Client) → after ≡ keeping middle ticked.after
-          → CarriesOn purpose call far.time (handed timed) after
-      carried_then = search (arith, on_so, hears)
+    carried_then : endings (ticked middle now).notes ≡ [] → (after : Client)
+        → after ≡ keeping middle (ticked middle now).after → CarriesOn purpose call far.time (handed timed) after
+    carried_then = search (arith, on_so, carried)
 
-      next_then : endings ticked.notes ≡ []
-          → next_move (move purpose call) (Timed far.time ∷ timed)
-          ≡ or_sent (posts ticked.notes) (turn_after (wait_of call) (suc n))
-      next_then none_then =
-          behind_time purpose call (Timed far.time ∷ waited) now (carried_then none_then _ refl).unended
-          ∙ ap (λ (d : List Entry). or_sent d (turn_after (wait_of call) (waits_in timed))) due_is
-          ∙ ap (λ (k : ℕ). or_sent (posts ticked.notes) (turn_after (wait_of call) k)) turned
+    next_then : endings (ticked middle now).notes ≡ []
+        → next_move (move purpose call) (Timed far.time ∷ timed)
+        ≡ or_sent (posts (ticked middle now).notes) (turn_after (wait_of call) (suc n))
+    next_then none_then =
+        behind_time purpose call (Timed far.time ∷ so_far) now (carried_then none_then _ refl).unended
+        ∙ ap (λ (d : List Entry). or_sent d (turn_after (wait_of call) (waits_in timed))) due_is
+        ∙ ap (λ (k : ℕ). or_sent (posts (ticked middle now).notes) (turn_after (wait_of call) k)) turned
 
-      -- The call goes on.
-      pub on : {last : Account Origin} {after : Client} → endings ticked.notes ≡ timeouts false
-          → after ≡ keeping middle ticked.after → GainsAll (Timed now ∷ posts ticked.notes) next last
-          → Underway purpose call seen last after (suc n)
-      on none_then after_is ticks =
-          goes_on timed (carried_then none_then _ after_is) follows_timed _ (next_then none_then) turned
-          (subst OneOrNone due_is (one_or_none (rules_for call) (events_of purpose call (Timed far.time ∷ timed)) _ _))
-          (gains_timed _ ticks)
+  -- The call goes on.
+  pub on : {last : Account Origin} {after : Client} → Ticks middle after false next last
+      → Underway purpose call seen last after (suc n)
+  on ticks =
+      let now = ticks.time in
+      goes_on (timed now) (carried_then now ticks.ends _ ticks.handed) (follows_timed now) _ (next_then now ticks.ends)
+      (turned now) (subst OneOrNone (due_is now)
+      (one_or_none (rules_for call) (events_of purpose call (Timed far.time ∷ timed now)) _ _))
+      (gains_timed now _ ticks.gains)
 
-      -- The time runs out.
-      pub timed_out : {last : Account Origin} → endings ticked.notes ≡ timeouts true
-          → GainsAll (Timed now ∷ posts ticked.notes) next last → Plays (move purpose call) seen last (Ok None)
-      timed_out {last} one ticks = record {
-        gained = Timed far.time ∷ timed;
-        gains = subst (λ (xs : List Entry). GainsAll (Timed far.time ∷ xs) seen last)
-            (ap (λ (xs : List Entry). timed ++ xs) (unsent_at_end (rules_of middle) middle.state now alone one)
-            ∙ append-nil timed) (gains_timed _ ticks);
-        follows = follows_timed;
-        over = behind_now purpose call (Timed far.time ∷ waited) now ∙ ap (λ (e : Option End). or_ended e
-            (or_sent (sent_last purpose call (events_of purpose call (Timed far.time ∷ timed)))
-            (turn_after (wait_of call) (waits_in timed))))
-            (ends_so waited hears (Timed now) (Tick now) tt refl None one);
-      }
+  -- The time runs out.
+  pub timed_out : {last : Account Origin} {after : Client} → Ticks middle after true next last
+      → Plays (move purpose call) seen last (Ok None)
+  timed_out {last} ticks = let now = ticks.time in record {
+    gained = Timed far.time ∷ timed now;
+    gains = subst (λ (xs : List Entry). GainsAll (Timed far.time ∷ xs) seen last)
+        (ap (λ (xs : List Entry). timed now ++ xs) (unsent_at_end (rules_of middle) middle.state now alone ticks.ends)
+        ∙ append-nil (timed now)) (gains_timed now _ ticks.gains);
+    follows = follows_timed now;
+    over = behind_now purpose call (Timed far.time ∷ so_far) now ∙ ap (λ (e : Option End). or_ended e
+        (or_sent (sent_last purpose call (events_of purpose call (Timed far.time ∷ timed now)))
+        (turn_after (wait_of call) (waits_in (timed now)))))
+        (ends_so so_far carried (Timed now) (Tick now) tt refl None ticks.ends);
+  }
 
-      -- The request could not be sent again.
-      pub unsent : {last : Account Origin} → endings ticked.notes ≡ []
-          → GainsLost ticked.notes (Timed now ∷ []) next last → Plays (move purpose call) seen last (Err SendFailed)
-      unsent none_then lost =
-          loses timed (carried_then none_then _ refl) follows_timed _ (next_then none_then) turned _ _ lost.2
-          (gains_timed _ lost.3)
+  -- The request could not be sent again.
+  pub unsent : {last : Account Origin} → TicksLost middle next last
+      → Plays (move purpose call) seen last (Err SendFailed)
+  unsent ticks =
+      let now = ticks.time in
+      loses (timed now) (carried_then now ticks.open_still _ refl) (follows_timed now) _
+      (next_then now ticks.open_still) (turned now) _ _ ticks.lost.one (gains_timed now _ ticks.lost.gains)
 
 -- ---- the beginning
 
@@ -346,10 +350,10 @@ module _ (purpose : Purpose) (call : Call) (time : ℕ) (short : length call.bod
       → GainsAll (Timed time ∷ posts (sent client.state 0)) seen left → Underway purpose call seen left client 0
   begun gains = goes_on [] carried_first (refl, tt) _ next_first refl (grind (arith, begins_sent, one_or_none)) gains
 
-  pub unbegun : {Origin : Type 0} {seen left : Account Origin}
-      → GainsLost (sent client.state 0) (Timed time ∷ []) seen left
-      → Plays (move purpose call) seen left (Err SendFailed)
-  unbegun lost = loses [] carried_first (refl, tt) _ next_first refl _ _ lost.2 lost.3
+  pub unbegun : {Origin : Type 0} {seen mid left : Account Origin} → Gains (Timed time) seen mid
+      → GainsLost (sent client.state 0) [] mid left → Plays (move purpose call) seen left (Err SendFailed)
+  unbegun told lost =
+      loses [] carried_first (refl, tt) _ next_first refl _ _ lost.one (gains_both _ _ _ _ _ told lost.gains)
 
 -- ---- the end
 

@@ -4,7 +4,11 @@ mod Logged
 mod CallEvents
 mod CallTurns
 mod Searches
+mod Sendings
 mod Servings
+mod ServerSends
+mod SearchSends
+mod CallSends
 mod Accepted
 mod Progress
 mod Unheard

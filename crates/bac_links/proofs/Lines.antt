@@ -7,7 +7,7 @@ use Rattle.bac_links.specs.{
   Call.Tells,
   Ending.{ending_line, exit_of, status_of},
   History.Account,
-  declared.{ending.Exit.Exit, ending.Purpose.Purpose, fault.ToolFault.ToolFault},
+  declared.{exit.Exit.Exit, ending.Purpose.Purpose, fault.ToolFault.ToolFault},
 }
 
 -- with a status below 3 the writer took the line of how the request ended, and the status is that of this end
@@ -16,5 +16,5 @@ pub line_of : {Origin W : Type 0} (purpose : Purpose) (call : Call) (contents : 
     → Tells purpose call contents before after seen left answer → status_of answer < 3
     → (ending : Option Outcome) × (status_of answer ≡ status_of (Ok (exit_of purpose ending)))
     × Took contents before after (ending_line purpose ending)
-line_of _ _ _ _ _ _ _ (Ok exit) told _ = (told.0, ap (λ (e : Exit). status_of (Ok e)) told.1, told.2)
+line_of _ _ _ _ _ _ _ (Ok exit) told _ = (told.ending, ap (λ (e : Exit). status_of (Ok e)) told.exit_is, told.printed)
 line_of _ _ _ _ _ _ _ (Err fault) told below = absurd (omega (arith, below))

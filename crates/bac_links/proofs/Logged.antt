@@ -53,11 +53,12 @@ module _ (refused : Refused) where
     keeps_more x _ _ _ _ asked sets passes =
         let now = keeps.logged in
         record {
-          logged = (
-            now.0 ++ asked.0,
-            asked.1 ∙ ap (λ (l : List SystemCall). l ++ asked.0) now.1 ∙ append_assoc before now.0 asked.0,
-            calls_more 0 0 xs x now.0 asked.0 now.2 asked.2,
-          );
+          logged = record {
+            calls = now.calls ++ asked.calls;
+            logged = asked.logged ∙ ap (λ (l : List SystemCall). l ++ asked.calls) now.logged
+                ∙ append_assoc before now.calls asked.calls;
+            are = calls_more 0 0 xs x now.calls asked.calls now.are asked.are;
+          };
           limited = λ sound. sets sound ∙ sym (waits_more 0 xs x);
           timed = passes ∙ sym (time_more 0 xs x);
         }

@@ -13,23 +13,23 @@ use Rattle.std.specs.{
 use Rattle.bac_pdu.specs.Peer.{NetworkAddress, Station}
 use Rattle.bac_links.specs.{
   History.{Heard, Silence, Arrival, Failure, Entry, Waited, Timed, Posted, Unposted, posted},
-  Played.{Scene, Stage, at_first, heard_next, behind_wait, behind, IsPlayed, ArePlayed, Sending, sending_in, sendings},
-  Stands.{behind_all, Stands},
+  Played.{Scene, ToPlay, at_first, heard_next, behind_wait, behind, IsPlayed, ArePlayed, Sending, sending_in, sendings},
+  HasPlayed.{behind_all, HasPlayed},
 }
 
 -- ---- one entry more
 
-behind_more : (stage : Stage) (xs : List Entry) (x : Entry)
+behind_more : (stage : ToPlay) (xs : List Entry) (x : Entry)
     → behind_all stage (xs ++ x ∷ []) ≡ behind (behind_all stage xs) x
 behind_more _ [] x = refl
 behind_more stage (y ∷ xs) x = behind_more (behind stage y) xs x
 
-played_more : (stage : Stage) (xs : List Entry) (x : Entry) → ArePlayed stage xs → IsPlayed (behind_all stage xs) x
+played_more : (stage : ToPlay) (xs : List Entry) (x : Entry) → ArePlayed stage xs → IsPlayed (behind_all stage xs) x
     → ArePlayed stage (xs ++ x ∷ [])
 played_more _ [] x _ last = (last, tt)
 played_more stage (y ∷ xs) x played last = (played.0, played_more (behind stage y) xs x played.1 last)
 
-sendings_more : (stage : Stage) (xs : List Entry) (x : Entry)
+sendings_more : (stage : ToPlay) (xs : List Entry) (x : Entry)
     → sendings stage (xs ++ x ∷ []) ≡ sendings stage xs ++ sending_in (behind_all stage xs).time x
 sendings_more _ [] x = append-nil _
 sendings_more stage (y ∷ xs) x =
@@ -49,21 +49,21 @@ drop_past (s ∷ ss) (suc n) (suc m) e within = drop_past ss n m e (omega (arith
 drop_past (s ∷ ss) (suc n) zero e within = absurd (omega (arith, within))
 
 module _ (scenes : List Scene) (xs : List Entry) (next time : ℕ) (sent : List Sending)
-    (stands : Stands scenes xs next time sent) where
-  abbrev here : Stage
+    (stands : HasPlayed scenes xs next time sent) where
+  abbrev here : ToPlay
   here = record { scenes = drop next scenes; time = time }
 
   goes_on : (x : Entry) (next' time' : ℕ) (sent' : List Sending) → IsPlayed here x
       → behind here x ≡ record { scenes = drop next' scenes; time = time' } → sent' ≡ sent ++ sending_in time x
-      → Stands scenes (xs ++ x ∷ []) next' time' sent'
+      → HasPlayed scenes (xs ++ x ∷ []) next' time' sent'
   goes_on = grind (arith, played_more, behind_more, sendings_more)
 
-  pub stands_timed : Stands scenes (xs ++ Timed time ∷ []) next time sent
+  pub stands_timed : HasPlayed scenes (xs ++ Timed time ∷ []) next time sent
   stands_timed = goes_on (Timed time) next time sent refl refl (sym (append-nil sent))
 
   pub stands_sent : {A E : Type 0} (result : Result A E) (to : Station) (octets : List ℕ) (sent' : List Sending)
       → OnOk result (sent' ≡ sent ++ record { time = time; to = to; octets = octets } ∷ [])
-      → OnErr result (sent' ≡ sent) → Stands scenes (xs ++ posted result to octets ∷ []) next time sent'
+      → OnErr result (sent' ≡ sent) → HasPlayed scenes (xs ++ posted result to octets ∷ []) next time sent'
   stands_sent (Ok x) to octets sent' more _ = goes_on (Posted to octets) next time sent' tt refl more
   stands_sent (Err e) to octets sent' _ same =
       goes_on (Unposted to octets) next time sent' tt refl (same ∙ sym (append-nil sent))
@@ -72,7 +72,7 @@ module _ (scenes : List Scene) (xs : List Entry) (next time : ℕ) (sent : List 
   pub stands_waited : (scene : Option Scene) (wait : ℕ) (heard : Heard) (next' time' : ℕ)
       → slice_get scenes next ≡ scene → heard ≡ heard_next (option_to_list scene)
       → time' ≡ (behind_wait wait (option_to_list scene) time).time → length scenes < 2 ^ 64 → next < 2 ^ 64
-      → next' ≡ min (next + 1) (2 ^ 64 - 1) → Stands scenes (xs ++ Waited wait heard ∷ []) next' time' sent
+      → next' ≡ min (next + 1) (2 ^ 64 - 1) → HasPlayed scenes (xs ++ Waited wait heard ∷ []) next' time' sent
   stands_waited (Some scene) wait heard next' time' comes hears passes few small goes =
       let left = drop_one _ _ next comes in
       let more : next' ≡ suc next = omega (arith, goes, few, slice_get_within _ next _ comes) in
@@ -117,21 +117,21 @@ coded_heard : Coded Heard
 coded_heard = code_by (Option (Option (Station × List ℕ)))
     (coded_option (coded_option (coded× coded_station (coded_list coded_ℕ)))) _ to_heard back_to_heard
 
-IsPlayed-prop : (stage : Stage) (x : Entry) → IsProp (IsPlayed stage x)
+IsPlayed-prop : (stage : ToPlay) (x : Entry) → IsProp (IsPlayed stage x)
 IsPlayed-prop _ (Waited wait heard) = Coded-set coded_heard _ _
 IsPlayed-prop _ (Timed time) = Coded-set coded_ℕ _ _
 IsPlayed-prop _ (Posted to octets) = Unit-prop
 IsPlayed-prop _ (Unposted to octets) = Unit-prop
 
-ArePlayed-prop : (stage : Stage) (xs : List Entry) → IsProp (ArePlayed stage xs)
+ArePlayed-prop : (stage : ToPlay) (xs : List Entry) → IsProp (ArePlayed stage xs)
 ArePlayed-prop _ [] = Unit-prop
 ArePlayed-prop stage (x ∷ xs) = ×_prop (IsPlayed-prop stage x) (ArePlayed-prop (behind stage x) xs)
 
 -- What was kept as sent is what the history says.
 pub sent_so : {scenes : List Scene} {xs : List Entry} {next time : ℕ} {sent : List Sending}
-    → ∥ Stands scenes xs next time sent ∥₁ → sent ≡ sendings (at_first scenes) xs
+    → ∥ HasPlayed scenes xs next time sent ∥₁ → sent ≡ sendings (at_first scenes) xs
 sent_so stands = ∥∥₁_elim stands (Coded-set (coded_list coded_sending) _ _) (λ it. it.sendings)
 
 pub played_so : {scenes : List Scene} {xs : List Entry} {next time : ℕ} {sent : List Sending}
-    → ∥ Stands scenes xs next time sent ∥₁ → ArePlayed (at_first scenes) xs
+    → ∥ HasPlayed scenes xs next time sent ∥₁ → ArePlayed (at_first scenes) xs
 played_so stands = ∥∥₁_elim stands (ArePlayed-prop _ _) (λ it. it.played)

@@ -17,7 +17,7 @@ use Rattle.bac_links.specs.{
   Handed.handed_of,
   Call.{rules_for, asked, end_in, events_of, move, Tells},
   Progress.{AreTold, ArePrompt},
-  declared.{ending.Purpose.Purpose, ending.Exit.Exit, fault.ToolFault.ToolFault},
+  declared.{ending.Purpose.Purpose, exit.Exit.Exit, fault.ToolFault.ToolFault},
 }
 use Rattle.bac_links.proofs.{Alike.went, Asking.{last_push, played}, CallTurns.handed_push}
 use Rattle.bac_text.specs.declared.jobs.Call.{Call}

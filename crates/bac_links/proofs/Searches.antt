@@ -12,7 +12,7 @@ use Rattle.bac_links.specs.{
   Asking.{Asks, Ends, ForTime, Follows, next_move, waits_in, times_in, turn_after},
   Search.{Found, found_by, found_line, greatest_of, passed_in, who_is_to, found_in, behind_time},
   Search.{search_move, Searched},
-  declared.{ending.Exit.Exit, ending.Exit.TheVariants.{Good, Bad}, fault.ToolFault.ToolFault},
+  declared.{exit.Exit.Exit, exit.Exit.TheVariants.{Good, Bad}, fault.ToolFault.ToolFault},
   declared.fault.ToolFault.TheVariants.{SendFailed, ReceiveFailed, TurnsSpent, WriteFailed},
   Inner.SearchSteps.{search_wait, found_lines, has_found, Listens},
 }
@@ -83,17 +83,17 @@ module _ {Origin W : Type 0} {search : Search} {contents : W → Option (List �
       (listens : Listens search.who (search_wait search) contents middle after mid left (Ok some))
       (now : ℕ) {last : Account Origin} (asks : Gains (Timed now) left last) where
     abbrev heard : Heard
-    heard = listens.0
+    heard = listens.heard
 
     abbrev timed : List Entry
-    timed = waited heard listens.1 ++ Timed now ∷ []
+    timed = waited heard listens.gains ++ Timed now ∷ []
 
     abbrev all : List Entry
     all = searched search first timed
 
     found_next : found_in search timed
         ≡ found_in search goes.more ++ found_by search.who (Waited (search_wait search) heard)
-    found_next = found-push search (waited heard listens.1) _ ∙ append-nil _ ∙ found-push search goes.more _
+    found_next = found-push search (waited heard listens.gains) _ ∙ append-nil _ ∙ found-push search goes.more _
 
     printed_next : Took contents before after (found_lines (found_in search timed))
     printed_next =
@@ -101,7 +101,7 @@ module _ {Origin W : Type 0} {search : Search} {contents : W → Option (List �
         (sym (ap found_lines found_next
         ∙ flat_map-append found_line (found_in search goes.more)
         (found_by search.who (Waited (search_wait search) heard))))
-        (Took-more goes.printed listens.4)
+        (Took-more goes.printed listens.printed)
 
     any_next : (any || some) ≡ has_found (found_in search timed)
     any_next = grind (arith, found_next, has_found-append)
@@ -113,15 +113,17 @@ module _ {Origin W : Type 0} {search : Search} {contents : W → Option (List �
     turned = grind (arith, waits_push)
 
     gains_timed : GainsAll all seen last
-    gains_timed = gains_both _ _ seen left last (gains_waited heard listens.1) asks
+    gains_timed = gains_both _ _ seen left last (gains_waited heard listens.gains) asks
 
     follows_timed : Follows (search_move search) [] all
     follows_timed =
-        follows_push (search_move search) [] (searched search first (waited heard listens.1)) (Timed now)
-        (follows_waited heard listens.1) (behind_wait search (searched search first goes.more) _ heard listens.2)
+        follows_push (search_move search) [] (searched search first (waited heard listens.gains)) (Timed now)
+        (follows_waited heard listens.gains)
+        (behind_wait search (searched search first goes.more) _ heard listens.received)
 
     next_timed : next_move (search_move search) all ≡ behind_time search all (suc n)
-    next_timed = behind search (searched search first (waited heard listens.1)) _ ∙ ap (behind_time search all) turned
+    next_timed =
+        behind search (searched search first (waited heard listens.gains)) _ ∙ ap (behind_time search all) turned
 
     passed : max greatest now - first ≡ passed_in (times_in all)
     passed = ap (λ (k : ℕ). k - first) time_next
@@ -157,7 +159,7 @@ module _ {Origin W : Type 0} {search : Search} {contents : W → Option (List �
       → Listens search.who wait contents middle after mid left (Err fault) →
       Searched search contents before after seen left (Err fault)
   fails after _ ReceiveFailed same listens =
-      let gains = rw same at listens.0 in
+      let gains = rw same at listens.gains in
       record {
         plays = record {
           gained = searched search first (waited Failure gains);
@@ -166,22 +168,22 @@ module _ {Origin W : Type 0} {search : Search} {contents : W → Option (List �
           over = behind search (searched search first goes.more) (Waited (search_wait search) Failure);
         };
         printed = subst (Took contents before after) (append-nil _ ∙ ap found_lines (sym (found-push search goes.more _
-            ∙ append-nil _))) (Took-more goes.printed listens.1);
+            ∙ append-nil _))) (Took-more goes.printed listens.unprinted);
       }
   fails _ _ WriteFailed same listens =
-      let gains = rw same at listens.1 in
+      let gains = rw same at listens.gains in
       record {
         earlier = searched search first goes.more;
         wait = search_wait search;
-        heard = listens.0;
+        heard = listens.heard;
         gains = gains_waited _ gains;
         follows = follows_waited _ gains;
-        last = listens.2;
-        finds = listens.3;
-        taken = listens.4;
-        rest = listens.5;
-        line = listens.6;
-        printed = Took-more goes.printed listens.7;
+        last = listens.last;
+        finds = listens.finds;
+        taken = listens.taken;
+        rest = listens.rest;
+        line = listens.line;
+        printed = Took-more goes.printed listens.printed;
       }
   fails _ _ _ _ listens = absurd listens
 

@@ -10,7 +10,7 @@ use Rattle.bac_links.specs.{
   Answered.{AskAlike, Printed, OneText},
   Asking.{Asks, Ends, ForTime, question_of, Follows, next_move},
   Search.{found_by, found_line, found_in, search_move, IsWhole, IsCutOff, Searched},
-  declared.ending.Exit.Exit,
+  declared.exit.Exit.Exit,
   declared.fault.{ToolFault.ToolFault, ToolFault.TheVariants.{SendFailed, ReceiveFailed, TurnsSpent, WriteFailed}},
 }
 use Rattle.bac_links.proofs.{Asking.{played, same_so_far, so_far}, Searches.behind_wait}

@@ -40,13 +40,13 @@ behind-append : (device : DeviceState) (xs ys : List Came)
 behind-append _ [] ys = refl
 behind-append _ (x ∷ xs) ys = behind-append (device_next _ x) xs ys
 
-replies-append : (device : DeviceState) (xs ys : List Came)
+pub replies-append : (device : DeviceState) (xs ys : List Came)
     → replies_of device (xs ++ ys) ≡ replies_of device xs ++ replies_of (device_behind device xs) ys
 replies-append _ [] ys = refl
 replies-append device (x ∷ xs) ys =
     ap (λ (rs : List Reply). reply_of device x.from x.datagram ∷ rs) (replies-append (device_next _ x) xs ys)
 
-arrivals-push : (gained : List Entry) (x : Entry)
+pub arrivals-push : (gained : List Entry) (x : Entry)
     → arrivals_in (gained ++ x ∷ []) ≡ arrivals_in gained ++ came_by x
 arrivals-push = grind (arith, flat_map-append, append-nil)
 
@@ -174,33 +174,36 @@ module _ {Origin : Type 0} {before device : DeviceState} {seen mid : Account Ori
   module _ {after : DeviceState} {left : Account Origin} (within : n < most_turns) (fewer : came < count) where
     pub serve_on : (brings : Brought) → ServesOne device after mid left (Ok brings) →
         ServeGoes before after seen left count (came + came_in brings) (replied + replied_in brings) (suc n)
-    serve_on brings (heard, leaves, received, came_so, replied_so, gains) =
-        go (replies_of device (brought_by heard)) refl (one_at_most device heard) gains
+    serve_on brings turn =
+        go (replies_of device (brought_by turn.heard)) refl (one_at_most device turn.heard) turn.gains
       where
-        silent : (rs : List Reply) → replies_of device (brought_by heard) ≡ rs → AtMostOne rs → sends_of rs ≡ []
-            → GainsAll (Waited serve_wait heard ∷ []) mid left →
+        silent : (rs : List Reply) → replies_of device (brought_by turn.heard) ≡ rs → AtMostOne rs → sends_of rs ≡ []
+            → GainsAll (Waited serve_wait turn.heard ∷ []) mid left →
             ServeGoes before after seen left count (came + came_in brings) (replied + replied_in brings) (suc n)
         silent rs e few none more =
-            on_with heard leaves (waited heard) (behind_waited heard) brings came_so replied_so (gains_one heard more)
-            (follows_waited heard within fewer) (next_silent heard received rs e few none)
+            on_with turn.heard turn.leaves (waited turn.heard) (behind_waited turn.heard) brings turn.came turn.replied
+            (gains_one turn.heard more) (follows_waited turn.heard within fewer)
+            (next_silent turn.heard turn.received rs e few none)
 
-        go : (rs : List Reply) → replies_of device (brought_by heard) ≡ rs → AtMostOne rs
-            → GainsAll (Waited serve_wait heard ∷ sends_of rs) mid left →
+        go : (rs : List Reply) → replies_of device (brought_by turn.heard) ≡ rs → AtMostOne rs
+            → GainsAll (Waited serve_wait turn.heard ∷ sends_of rs) mid left →
             ServeGoes before after seen left count (came + came_in brings) (replied + replied_in brings) (suc n)
         go [] e few more = silent [] e few refl more
         go (None ∷ []) e few more = silent (None ∷ []) e few refl more
         go (Some reply ∷ []) e few more =
             let x = Posted reply.0 reply.1 in
-            on_with heard leaves (waited heard ++ x ∷ []) (behind_sent heard x refl refl) brings came_so replied_so
-            (gains_waited heard (x ∷ []) more) (follows_sent heard within fewer received x reply e refl)
-            (behind count before (waited heard) x)
+            on_with turn.heard turn.leaves (waited turn.heard ++ x ∷ []) (behind_sent turn.heard x refl refl) brings
+            turn.came turn.replied
+            (gains_waited turn.heard (x ∷ []) more) (follows_sent turn.heard within fewer turn.received x reply e refl)
+            (behind count before (waited turn.heard) x)
         go (r ∷ s ∷ rs) e few more = absurd few
 
     pub serve_fails : (fault : ToolFault) → ServesOne device after mid left (Err fault)
         → Serves count before after seen left (Err fault)
-    serve_fails SendFailed (heard, reply, leaves, received, e, gains) =
+    serve_fails SendFailed lost =
         search (arith, fails_with, behind_sent, gains_waited, follows_sent, behind)
-    serve_fails ReceiveFailed (same, gains) =
-        fails_with Failure same (waited Failure) (behind_waited Failure) (Err ReceiveFailed) (gains_one Failure gains)
+    serve_fails ReceiveFailed failed =
+        fails_with Failure failed.same (waited Failure) (behind_waited Failure) (Err ReceiveFailed)
+        (gains_one Failure failed.gains)
         (follows_waited Failure within fewer) (behind count before goes.gained (Waited serve_wait Failure))
     serve_fails _ one = absurd one

@@ -3,7 +3,7 @@ use Rattle.std.proofs.{Common.{◌≡◌, ℕ, List, [], Option, Ok, sym, ap, �
 use Rattle.bac_print.specs.declared.checked.Checked.{Checked}
 use Rattle.bac_links.{
   specs.{History.Account, Asking.{Asks, Ends, ForTime, next_move}, Call.{move, Tells}, declared.ending.Purpose.Purpose},
-  specs.declared.ending.Exit.Exit,
+  specs.declared.exit.Exit.Exit,
   proofs.Asking.played,
 }
 use Rattle.bac_text.specs.declared.jobs.Call.{Call}
@@ -12,7 +12,7 @@ pub not_ended : {Origin W : Type 0} (contents : W → Option (List ℕ)) (purpos
     (before after : Checked W)
     (seen : Account Origin) (exit : Exit) → Tells purpose call contents before after seen seen (Ok exit) → ⊥
 not_ended _ purpose call _ _ seen _ tells =
-    let plays = tells.3 in
+    let plays = tells.plays in
     let none = played _ seen seen _ [] plays (sym (append-nil _)) in
-    let over : Asks ForTime ≡ Ends (Ok tells.0) = ap (next_move (move purpose call)) (sym none) ∙ plays.over in
+    let over : Asks ForTime ≡ Ends (Ok tells.ending) = ap (next_move (move purpose call)) (sym none) ∙ plays.over in
     cc

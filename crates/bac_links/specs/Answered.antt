@@ -8,21 +8,21 @@ use Rattle.bac_links.specs.declared.fault.ToolFault.{ToolFault}
 use Rattle.bac_links.specs.declared.fault.ToolFault.TheVariants.{WriteFailed}
 
 -- What a link answered: what a wait brought, the time, that a datagram was sent, or that it could not be.
-pub data Answer : Type 0 where
-  Brings : (heard : Heard) → Answer
-  Shows : (time : ℕ) → Answer
-  Sends : Answer
-  Loses : Answer
+pub data LinkAnswer : Type 0 where
+  Brings : (heard : Heard) → LinkAnswer
+  Shows : (time : ℕ) → LinkAnswer
+  Takes : LinkAnswer
+  Loses : LinkAnswer
 
 -- The answer in an entry.
-abbrev pub answer_of : Entry → Answer
+abbrev pub answer_of : Entry → LinkAnswer
 answer_of (Waited wait heard) = Brings heard
 answer_of (Timed time) = Shows time
-answer_of (Posted to octets) = Sends
+answer_of (Posted to octets) = Takes
 answer_of (Unposted to octets) = Loses
 
 -- The answers in these entries, in order.
-abbrev pub answers_of : List Entry → List Answer
+abbrev pub answers_of : List Entry → List LinkAnswer
 answers_of = map answer_of
 
 -- Two runs, of which these entries are left, go on alike: both ask the same next; or both are over, and ended alike and

@@ -16,7 +16,7 @@ use Rattle.bac_links.specs.declared.ending.Purpose.TheVariants.{Reading, Writing
 use Rattle.bac_text.specs.declared.jobs.Call.{Call}
 use Rattle.bac_print.specs.declared.checked.Checked.{Checked}
 use Rattle.bac_print.specs.Checked.{Took, TakesFront}
-use Rattle.bac_links.specs.declared.ending.Exit.{Exit}
+use Rattle.bac_links.specs.declared.exit.Exit.{Exit}
 use Rattle.bac_links.specs.Ending.{exit_of, ending_line}
 use Rattle.bac_links.specs.declared.fault.ToolFault.{ToolFault}
 use Rattle.bac_links.specs.declared.fault.ToolFault.TheVariants.{SendFailed, ReceiveFailed, WriteFailed}
@@ -84,11 +84,27 @@ module _ (purpose : Purpose) (call : Call) where
 
   module _ {Origin W : Type 0} (contents : W → Option (List ℕ)) (before after : Checked W)
       (seen left : Account Origin) where
+    -- The request ended so, and the line of that was printed.
+    pub record TellsEnd (exit : Exit) : Type 0 where
+      pub ending : Option Outcome
+      pub exit_is : exit ≡ exit_of purpose ending
+      pub printed : Took contents before after (ending_line purpose ending)
+      pub plays : Plays move seen left (Ok ending)
+
+    -- The request ended so, and a front of the line of that was printed.
+    pub record TellsFront : Type 0 where
+      pub ending : Option Outcome
+      pub printed : TakesFront contents before after (ending_line purpose ending)
+      pub plays : Plays move seen left (Ok ending)
+
+    -- The call met this fault, and nothing was printed.
+    pub record TellsFault (fault : ToolFault) : Type 0 where
+      pub unprinted : after ≡ before
+      pub plays : Plays move seen left (Err fault)
+
     -- What a call prints, answers, and asks of its link: the line of how the request ended, or a front of it where the
     -- writer failed; after any other fault nothing.
     abbrev pub Tells : Result Exit ToolFault → Type 0
-    Tells (Ok exit) = (ending : Option Outcome) × (exit ≡ exit_of purpose ending)
-        × Took contents before after (ending_line purpose ending) × Plays move seen left (Ok ending)
-    Tells (Err WriteFailed) = (ending : Option Outcome) × TakesFront contents before after (ending_line purpose ending)
-        × Plays move seen left (Ok ending)
-    Tells (Err fault) = (after ≡ before) × Plays move seen left (Err fault)
+    Tells (Ok exit) = TellsEnd exit
+    Tells (Err WriteFailed) = TellsFront
+    Tells (Err fault) = TellsFault fault

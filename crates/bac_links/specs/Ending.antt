@@ -10,8 +10,8 @@ use Rattle.bac_print.specs.Outcomes.{outcome_text}
 use Rattle.bac_links.specs.declared.ending.Purpose.{Purpose}
 use Rattle.bac_links.specs.declared.ending.Purpose.TheVariants.{Reading, Writing}
 use Rattle.bac_links.specs.declared.fault.ToolFault.{ToolFault}
-use Rattle.bac_links.specs.declared.ending.Exit.{Exit}
-use Rattle.bac_links.specs.declared.ending.Exit.TheVariants.{Good, Bad}
+use Rattle.bac_links.specs.declared.exit.Exit.{Exit}
+use Rattle.bac_links.specs.declared.exit.Exit.TheVariants.{Good, Bad}
 
 -- What is printed of how the request ended: of a read the value; `bad-ack` where the acknowledgement can't be read, or
 -- is not one of the service; else the outcome, as `ok` of a write.

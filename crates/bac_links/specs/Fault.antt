@@ -1,7 +1,7 @@
--- Which faults are the link's, and which the writer's.
-use Rattle.std.specs.Prelude.{Bool, true, false, Result, Err}
+-- Which faults are the link's, and which the writer's; and what is told of them.
+use Rattle.std.specs.Prelude.{ℕ, Bool, true, false, List, Result, Err, codes}
 use Rattle.bac_links.specs.declared.fault.ToolFault.{ToolFault}
-use Rattle.bac_links.specs.declared.fault.ToolFault.TheVariants.{SendFailed, ReceiveFailed, WriteFailed}
+use Rattle.bac_links.specs.declared.fault.ToolFault.TheVariants.{SendFailed, ReceiveFailed, TurnsSpent, WriteFailed}
 
 -- The fault is the link's, which has failed then.
 abbrev pub is_link_fault : {A : Type 0} → Result A ToolFault → Bool
@@ -13,3 +13,14 @@ is_link_fault _ = false
 abbrev pub is_write_fault : {A : Type 0} → Result A ToolFault → Bool
 is_write_fault (Err WriteFailed) = true
 is_write_fault _ = false
+
+-- What is told of it.
+abbrev pub tool_fault_text : ToolFault → List ℕ
+tool_fault_text SendFailed = codes "sending failed"
+tool_fault_text ReceiveFailed = codes "receiving failed"
+tool_fault_text TurnsSpent = codes "turns spent"
+tool_fault_text WriteFailed = codes "writing failed"
+
+-- What is told where there is no link to be had.
+abbrev pub link_fault_text : List ℕ
+link_fault_text = codes "bind failed"

@@ -4,7 +4,7 @@ pub mod History
 pub mod Asking
 pub mod Answered
 pub mod Played
-pub mod Stands
+pub mod HasPlayed
 pub mod Memory
 pub mod Socket
 pub mod Keeps
@@ -15,5 +15,6 @@ pub mod Ending
 pub mod Call
 pub mod Search
 pub mod Serve
+pub mod Sent
 pub mod Progress
 pub mod Inner

@@ -1,5 +1,5 @@
--- The log of a socket, one call later.
-use Rattle.std.specs.Prelude.{List, ◌∷◌, [], ◌++◌, length, take, is_ok}
+-- The calls that are noted of a socket.
+use Rattle.std.specs.Prelude.{length, take, is_ok}
 use Rattle.std.specs.Result.{result_ok, result_map_both}
 use Rattle.std.specs.IoError.{error_kind}
 use Rattle.std.specs.Duration.{as_nanos}
@@ -15,7 +15,3 @@ call_of (note.SendTo octets to sent) = SendTo octets.now to (result_ok sent.now)
 call_of (note.Receive room came) =
     Receive (length room.now) (result_map_both (λ c. (take c.0 room.now, c.1)) error_kind came.now)
 call_of (note.Elapsed passed) = Elapsed (result_ok passed.now)
-
--- The log, and the call of this note behind it.
-abbrev pub logged : List SystemCall → CallNote → List SystemCall
-logged calls note = calls ++ call_of note ∷ []

@@ -9,12 +9,12 @@ pub record Scene : Type 0 where
   pub time : Option ℕ
 
 -- Where a link in memory stands: the scenes that are to come, and its time.
-pub record Stage : Type 0 where
+pub record ToPlay : Type 0 where
   pub scenes : List Scene
   pub time : ℕ
 
 -- At first all scenes are to come, and the time is 0.
-abbrev pub at_first : List Scene → Stage
+abbrev pub at_first : List Scene → ToPlay
 at_first scenes = record { scenes = scenes; time = 0 }
 
 -- What the next wait hears: the next scene; once there is none, nothing.
@@ -23,23 +23,23 @@ heard_next [] = Silence
 heard_next (scene ∷ later) = scene.heard
 
 -- A wait takes one scene. Once there is none, the time goes on by the wait, and stops at the greatest.
-abbrev pub behind_wait : (wait : ℕ) → List Scene → (time : ℕ) → Stage
+abbrev pub behind_wait : (wait : ℕ) → List Scene → (time : ℕ) → ToPlay
 behind_wait wait [] time = record { scenes = []; time = min (time + wait) (2 ^ 64 - 1) }
 behind_wait wait (scene ∷ later) time = record { scenes = later; time = unwrap_or scene.time time }
 
 -- Where the link stands behind an entry: a wait alone changes that.
-abbrev pub behind : Stage → Entry → Stage
+abbrev pub behind : ToPlay → Entry → ToPlay
 behind stage (Waited wait heard) = behind_wait wait stage.scenes stage.time
 behind stage _ = stage
 
 -- A wait hears the next scene, and the time is that of the stage.
-abbrev pub IsPlayed : Stage → Entry → Type 0
+abbrev pub IsPlayed : ToPlay → Entry → Type 0
 IsPlayed stage (Waited wait heard) = heard ≡ heard_next stage.scenes
 IsPlayed stage (Timed time) = time ≡ stage.time
 IsPlayed stage _ = ⊤
 
 -- So is each of these entries, one after another.
-abbrev pub ArePlayed : Stage → List Entry → Type 0
+abbrev pub ArePlayed : ToPlay → List Entry → Type 0
 ArePlayed stage [] = ⊤
 ArePlayed stage (entry ∷ later) = IsPlayed stage entry × ArePlayed (behind stage entry) later
 
@@ -55,6 +55,6 @@ sending_in time (Posted to octets) = record { time = time; to = to; octets = oct
 sending_in time _ = []
 
 -- What was sent in these entries, one after another.
-abbrev pub sendings : Stage → List Entry → List Sending
+abbrev pub sendings : ToPlay → List Entry → List Sending
 sendings stage [] = []
 sendings stage (entry ∷ later) = sending_in stage.time entry ++ sendings (behind stage entry) later

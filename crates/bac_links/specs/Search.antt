@@ -18,8 +18,8 @@ use Rattle.bac_print.specs.PeerTexts.{peer_text}
 use Rattle.bac_links.specs.Limits.{turn_wait}
 use Rattle.bac_links.specs.History.{Heard, Arrival, Failure, Entry, Waited, Timed, Posted, Unposted, Account, GainsAll}
 use Rattle.bac_links.specs.Asking.{Move, Asks, Ends, ForTime, ToSend, Follows, Plays, waits_in, times_in, turn_after}
-use Rattle.bac_links.specs.declared.ending.Exit.{Exit}
-use Rattle.bac_links.specs.declared.ending.Exit.TheVariants.{Good, Bad}
+use Rattle.bac_links.specs.declared.exit.Exit.{Exit}
+use Rattle.bac_links.specs.declared.exit.Exit.TheVariants.{Good, Bad}
 use Rattle.bac_links.specs.declared.fault.ToolFault.{ToolFault}
 use Rattle.bac_links.specs.declared.fault.ToolFault.TheVariants.{SendFailed, ReceiveFailed, WriteFailed}
 use Rattle.bac_text.specs.declared.jobs.Search.{Search}

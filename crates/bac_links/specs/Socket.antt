@@ -21,8 +21,10 @@ use Rattle.bac_links.specs.declared.udp.Refused.{Refused}
 use Rattle.bac_links.specs.declared.udp.Refused.TheVariants.{Fails, IsLost}
 
 -- Between these two logs the system was asked for something of which this holds.
-abbrev pub Logs : (List SystemCall → Type 0) → (before after : List SystemCall) → Type 0
-Logs Are before after = (calls : List SystemCall) × (after ≡ before ++ calls) × Are calls
+pub record Logs (Are : List SystemCall → Type 0) (before after : List SystemCall) : Type 0 where
+  pub calls : List SystemCall
+  pub logged : after ≡ before ++ calls
+  pub are : Are calls
 
 -- ---- addresses
 
@@ -37,8 +39,10 @@ peer_at (V4 address) = Some (record { ip = ipv4_bits (v4_ip address); port = v4_
 peer_at (V6 address) = None
 
 -- A socket was asked for at the address of this peer, and nothing else.
-abbrev pub Binds : Peer → List SystemCall → Type 0
-Binds at calls = (address : SocketAddr) × IsAddressOf (station at) address × (calls ≡ Bind address ∷ [])
+pub record Binds (at : Peer) (calls : List SystemCall) : Type 0 where
+  pub address : SocketAddr
+  pub of_peer : IsAddressOf (station at) address
+  pub asked : calls ≡ Bind address ∷ []
 
 -- ---- the time
 
@@ -49,9 +53,10 @@ time_by (Some passed) before = min (as_nanos passed / 1_000_000) (2 ^ 64 - 1)
 time_by None before = before
 
 -- The clock was read once, and this is the time by it.
-abbrev pub Times : (before now : ℕ) → List SystemCall → Type 0
-Times before now calls =
-    (passed : Option Duration) × (now ≡ time_by passed before) × (calls ≡ Elapsed passed ∷ [])
+pub record Times (before now : ℕ) (calls : List SystemCall) : Type 0 where
+  pub passed : Option Duration
+  pub time : now ≡ time_by passed before
+  pub asked : calls ≡ Elapsed passed ∷ []
 
 -- ---- a send
 
@@ -61,10 +66,13 @@ is_lost IsLost = true
 
 -- These octets were given to send to the address of the peer, once, and nothing else was asked for. The send is good
 -- where all of them went, or where what is refused is lost.
-abbrev pub Sends : Refused → Station → List ℕ → (good : Bool) → List SystemCall → Type 0
-Sends refused to octets good calls =
-    (address : SocketAddr) × (sent : Option ℕ) × IsAddressOf to address × (calls ≡ SendTo octets address sent ∷ [])
-    × (good ≡ (option_map_or (λ n. n == length octets) sent false || is_lost refused))
+pub record Sends (refused : Refused) (to : Station) (octets : List ℕ) (good : Bool) (calls : List SystemCall)
+    : Type 0 where
+  pub address : SocketAddr
+  pub sent : Option ℕ
+  pub of_peer : IsAddressOf to address
+  pub asked : calls ≡ SendTo octets address sent ∷ []
+  pub good_is : good ≡ (option_map_or (λ n. n == length octets) sent false || is_lost refused)
 
 -- ---- a wait
 
@@ -94,13 +102,23 @@ hears refused (Err kind) = if is_quiet refused kind then Silence else Failure
 abbrev pub limits : (waits wait : ℕ) → (done : Bool) → List SystemCall
 limits waits wait done = if wait == waits then [] else Limit (wait * 1_000_000) done ∷ []
 
+-- A socket whose receives wait so long, or were set to, was asked for a datagram once, and this was heard.
+pub record Receives (refused : Refused) (waits wait : ℕ) (heard : Heard) (calls : List SystemCall) : Type 0 where
+  pub came : Result (List ℕ × SocketAddr) ErrorKind
+  pub heard_is : heard ≡ hears refused came
+  pub asked : calls ≡ limits waits wait true ++ Receive (longest_datagram + 1) came ∷ []
+
+-- The time could not be set.
+pub record IsUnlimited (waits wait : ℕ) (heard : Heard) (calls : List SystemCall) : Type 0 where
+  pub other : wait ≢ waits
+  pub failed : heard ≡ Failure
+  pub asked : calls ≡ limits waits wait false
+
 -- A socket whose receives wait so long was asked for a datagram once, with room for one octet more than is heard; where
 -- they are to wait another time, this was set before. This was heard, or the other time could not be set.
 abbrev pub Waits : Refused → (waits wait : ℕ) → Heard → List SystemCall → Type 0
 Waits refused waits wait heard calls =
-    ((came : Result (List ℕ × SocketAddr) ErrorKind) × (heard ≡ hears refused came)
-    × (calls ≡ limits waits wait true ++ Receive (longest_datagram + 1) came ∷ []))
-    ⊎ ((wait ≢ waits) × (heard ≡ Failure) × (calls ≡ limits waits wait false))
+    Receives refused waits wait heard calls ⊎ IsUnlimited waits wait heard calls
 
 -- ---- a whole history
 

@@ -1,34 +1,32 @@
 //! One request to one peer, and its end.
-ghost use Rattle.std.specs.Prelude.{◌≡◌, ◌≢◌, ◌<◌, ℕ, suc, false, [], ◌∷◌, MatchOption, Ok, Err, IfOk, IfErr, OnOk};
+ghost use Rattle.std.specs.Prelude.{◌≡◌, ◌≢◌, ◌<◌, ℕ, suc, false, [], MatchOption, Ok, Err, IfOk, IfErr, OnOk, OnErr};
 ghost use Rattle.std.specs.Option.{option_map};
-ghost use Rattle.bac_tsm.specs.Events.{Tick};
-ghost use Rattle.bac_tsm.specs.Machine.{step, sent};
-ghost use Rattle.bac_tsm.specs.Client.{rules_of, keeping, outcome_seen};
+ghost use Rattle.bac_tsm.specs.Machine.{sent};
+ghost use Rattle.bac_tsm.specs.Client.{outcome_seen};
 ghost use Rattle.bac_print.specs.Checked.{has_failed};
-ghost use Rattle.bac_links.specs.Limits.{most_turns, turn_wait};
-ghost use Rattle.bac_links.specs.History.{Heard, Failure, Waited, Timed, Account, GainsAll, Gains};
+ghost use Rattle.bac_links.specs.Limits.{most_turns};
+ghost use Rattle.bac_links.specs.History.{Failure, Waited, Account, GainsAll, Gains};
 ghost use Rattle.bac_links.specs.Fault.{is_link_fault, is_write_fault};
 ghost use Rattle.bac_links.specs.Inner.Ending.{ending_seen};
 ghost use Rattle.bac_links.specs.Asking.{Plays};
 ghost use Rattle.bac_links.specs.Call.{Tells, move, service_of};
-ghost use Rattle.bac_links.specs.Inner.CallSteps.{posts, wait_of, endings, GainsLost, heard_step, IsAlone, timeouts};
-ghost use Rattle.bac_links.specs.Inner.CallSteps.{answers, Underway};
+ghost use Rattle.bac_links.specs.Inner.CallSteps.{posts, wait_of, GainsLost, Hears, IsAlone, Ticks, TicksLost};
+ghost use Rattle.bac_links.specs.Inner.CallSteps.{Underway};
 ghost use Rattle.bac_links.specs.declared.ending.Purpose.{Purpose};
 ghost use Rattle.bac_links.specs.declared.ending.Purpose.TheVariants.{Reading, Writing};
 ghost use Rattle.bac_text.specs.declared.jobs.Call.{Call};
 
 use crate::datagram::Datagram;
-use crate::ending::{Ending, Exit, Purpose, show_ending};
+use crate::ending::{Ending, Purpose, show_ending};
+use crate::exit::Exit;
 use crate::fault::ToolFault;
 use crate::link::Link;
+use crate::turns::{most_turns, turn_wait};
 use bac_pdu::{READ_PROPERTY, WRITE_PROPERTY};
 use bac_print::Checked;
 use bac_text::Call;
 use bac_tsm::{Client, Config, Entry, Outcome};
 use std::io::Write;
-
-// The longest wait of a turn, in milliseconds.
-const LONGEST_WAIT: u32 = 50;
 
 /// Reads a property (clause 15.5): sends the request, waits for how it ends, and prints that in a line, as `4290999a`,
 /// `error 2 32` or `timeout`. It is good to have read a value. What the answer says of the object and the property is
@@ -75,20 +73,6 @@ pub fn run_write<L: Link, W: Write>(
     run(Purpose::Writing, call, link, writer)
 }
 
-/// The turns after which a tool gives up. A function and no constant, so that its clause says the number.
-pub(crate) const fn most_turns() -> u32
-    ensures { result ≡ most_turns }
-{
-    65_536
-}
-
-/// How long a turn of a call or a search with this timeout waits, in milliseconds.
-pub(crate) fn turn_wait(timeout: u32) -> u32
-    ensures { result ≡ turn_wait timeout }
-{
-    timeout.min(LONGEST_WAIT)
-}
-
 // Makes the call's request, waits for its end, and prints how it ended.
 fn run<L: Link, W: Write>(
     purpose: Purpose,
@@ -121,8 +105,9 @@ fn begin<L: Link>(purpose: Purpose, call: &Call, link: &mut L) -> Result<Client,
     ensures fault { L.has_failed link.new ≡ is_link_fault result }
     ensures ok { IfOk result
         (λ client. Underway purpose call.now (L.seen link.old) (L.seen link.new) client 0) }
-    ensures err { IfErr result (λ fault. (fault ≡ ToolFault.SendFailed)
-        × Plays (move purpose call.now) (L.seen link.old) (L.seen link.new) (Err ToolFault.SendFailed)) }
+    ensures err { IfErr result (λ fault. fault ≡ ToolFault.SendFailed) }
+    ensures over { OnErr result
+        (Plays (move purpose call.now) (L.seen link.old) (L.seen link.new) (Err ToolFault.SendFailed)) }
 {
     let config = Config {
         timeout: call.timeout,
@@ -161,10 +146,11 @@ fn turn<'d, L: Link>(
         → n < most_turns → Underway purpose call seen (L.seen link.old) client.old n →
         MatchOption ending (Underway purpose call seen (L.seen link.new) client.new (suc n))
         (λ end. Plays (move purpose call) seen (L.seen link.new) (Ok (ending_seen end)))) }
-    ensures err { IfErr result (λ fault. (fault ≢ ToolFault.WriteFailed)
-        × ((purpose : Purpose) (call : Call) (seen : Account L.Origin) (n : ℕ) → wait_ms ≡ wait_of call
+    ensures err { IfErr result (λ fault. fault ≢ ToolFault.WriteFailed) }
+    ensures over { IfErr result
+        (λ fault. (purpose : Purpose) (call : Call) (seen : Account L.Origin) (n : ℕ) → wait_ms ≡ wait_of call
         → n < most_turns → Underway purpose call seen (L.seen link.old) client.old n →
-        Plays (move purpose call) seen (L.seen link.new) (Err fault))) }
+        Plays (move purpose call) seen (L.seen link.new) (Err fault)) }
 {
     match hear(client, link, wait_ms, datagram) {
         Ok(Some(outcome)) => Ok(Some(Ending::Answered(outcome))),
@@ -187,14 +173,10 @@ fn hear<'d, L: Link>(
     requires { L.has_failed link.old ≡ false }
     ensures fault { L.has_failed link.new ≡ is_link_fault result }
     ensures ok { IfOk result
-        (λ outcome. (heard : Heard) × Gains (Waited wait_ms heard) (L.seen link.old) (L.seen link.new)
-        × (heard ≢ Failure)
-        × (let handed = heard_step (rules_of client.old) client.old.state heard in
-        (endings handed.notes ≡ answers (option_map outcome_seen outcome))
-        × (client.new ≡ keeping client.old handed.after))) }
-    ensures err { IfErr result
-        (λ fault. (fault ≡ ToolFault.ReceiveFailed)
-        × Gains (Waited wait_ms Failure) (L.seen link.old) (L.seen link.new)) }
+        (λ outcome. Hears wait_ms client.old client.new (option_map outcome_seen outcome) (L.seen link.old)
+        (L.seen link.new)) }
+    ensures err { IfErr result (λ fault. fault ≡ ToolFault.ReceiveFailed) }
+    ensures lost { OnErr result (Gains (Waited wait_ms Failure) (L.seen link.old) (L.seen link.new)) }
 {
     match link.receive(wait_ms, datagram) {
         Ok(Some(from)) => match client.datagram(from, datagram.as_slice()) {
@@ -210,13 +192,11 @@ fn hear<'d, L: Link>(
 fn pass_time<L: Link>(client: &mut Client, link: &mut L) -> Result<bool, ToolFault>
     requires { L.has_failed link.old ≡ false }
     ensures fault { L.has_failed link.new ≡ is_link_fault result }
-    ensures ok { IfOk result (λ over. (time : ℕ) × (IsAlone client.old.state →
-        (let ticked = step (rules_of client.old) client.old.state (Tick time) in
-        (endings ticked.notes ≡ timeouts over) × (client.new ≡ keeping client.old ticked.after)
-        × GainsAll (Timed time ∷ posts ticked.notes) (L.seen link.old) (L.seen link.new)))) }
-    ensures err { IfErr result (λ fault. (fault ≡ ToolFault.SendFailed) × ((time : ℕ) × (IsAlone client.old.state →
-        (let ticked = step (rules_of client.old) client.old.state (Tick time) in
-        (endings ticked.notes ≡ []) × GainsLost ticked.notes (Timed time ∷ []) (L.seen link.old) (L.seen link.new))))) }
+    ensures ok { IfOk result (λ over. IsAlone client.old.state →
+        Ticks client.old client.new over (L.seen link.old) (L.seen link.new)) }
+    ensures err { IfErr result (λ fault. fault ≡ ToolFault.SendFailed) }
+    ensures lost { OnErr result (IsAlone client.old.state →
+        TicksLost client.old (L.seen link.old) (L.seen link.new)) }
 {
     let due = client.tick(link.now());
     match due.as_slice().first() {
@@ -234,8 +214,8 @@ fn send_request<L: Link>(client: &Client, ticket: u64, link: &mut L) -> Result<(
     requires { L.has_failed link.old ≡ false }
     ensures fault { L.has_failed link.new ≡ is_link_fault result }
     ensures ok { OnOk result (GainsAll (posts (sent client.now.state ticket)) (L.seen link.old) (L.seen link.new)) }
-    ensures err { IfErr result (λ fault. (fault ≡ ToolFault.SendFailed)
-        × GainsLost (sent client.now.state ticket) [] (L.seen link.old) (L.seen link.new)) }
+    ensures err { IfErr result (λ fault. fault ≡ ToolFault.SendFailed) }
+    ensures lost { OnErr result (GainsLost (sent client.now.state ticket) [] (L.seen link.old) (L.seen link.new)) }
 {
     if let Some((to, octets)) = client.to_send(ticket) {
         if link.send(to, octets).is_err() {

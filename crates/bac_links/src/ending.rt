@@ -6,23 +6,15 @@ ghost use Rattle.bac_print.specs.Page.{Prints};
 ghost use Rattle.bac_print.specs.Values.{region_text};
 ghost use Rattle.bac_pdu.specs.Property.{ReadAck};
 ghost use Rattle.bac_pdu.specs.PropertyReading.{ack_of};
-ghost use Rattle.bac_links.specs.Ending.{ending_text, ending_line, exit_of, status_of};
+ghost use Rattle.bac_links.specs.Ending.{ending_text, ending_line, exit_of};
 ghost use Rattle.bac_links.specs.Inner.Ending.{ending_seen};
 
+use crate::exit::Exit;
 use crate::fault::ToolFault;
 use bac_pdu::read_ack;
 use bac_print::{Checked, Page, print_outcome};
 use bac_tsm::Outcome;
 use std::io::Write;
-
-/// How a tool ends that has met no fault.
-#[derive(Clone, Copy, Debug, PartialEq, Eq)]
-pub enum Exit {
-    /// A value was read, a write was made, or a device was heard.
-    Good,
-    /// The request ended otherwise, or no device was heard.
-    Bad,
-}
 
 /// What a call is for.
 #[derive(Clone, Copy)]
@@ -58,17 +50,6 @@ pub(crate) fn show_ending<W: Write>(
     page.print(b"\n");
     page.finish()?;
     Ok(exit)
-}
-
-/// The status with which the program ends: 0 where it is good, 1 where it is not, 3 after a fault.
-pub fn status(answer: &Result<Exit, ToolFault>) -> u8
-    ensures { result ≡ status_of answer.now }
-{
-    match answer {
-        Ok(Exit::Good) => 0,
-        Ok(Exit::Bad) => 1,
-        Err(_) => 3,
-    }
 }
 
 // Prints how the request ended, and tells whether that is good.

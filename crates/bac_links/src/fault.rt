@@ -1,25 +1,38 @@
 //! Why a tool could not go on.
 ghost use Rattle.std.specs.Prelude.{◌≡◌};
+ghost use Rattle.bac_print.specs.Message.{message_text};
+ghost use Rattle.bac_links.specs.Fault.{tool_fault_text};
 ghost use Rattle.bac_links.specs.declared.fault.ToolFault.TheVariants.{WriteFailed};
 
-use bac_print::WriteFailed as NotWritten;
+use bac_print::{Message, WriteFailed as NotWritten};
 use thiserror::Error;
 
 /// Why a tool could not go on.
 #[derive(Clone, Copy, Debug, PartialEq, Eq, Error)]
+#[error("{}", self.message())]
 pub enum ToolFault {
     /// The link failed to send.
-    #[error("sending failed")]
     SendFailed,
     /// The link failed to receive.
-    #[error("receiving failed")]
     ReceiveFailed,
     /// All 65,536 turns went by without an end.
-    #[error("turns spent")]
     TurnsSpent,
     /// The writer failed, or took no octet.
-    #[error("writing failed")]
     WriteFailed,
+}
+
+impl ToolFault {
+    /// What is told of it.
+    pub fn message(&self) -> Message
+        ensures { message_text result ≡ tool_fault_text self.now }
+    {
+        Message::Text(match self {
+            ToolFault::SendFailed => "sending failed",
+            ToolFault::ReceiveFailed => "receiving failed",
+            ToolFault::TurnsSpent => "turns spent",
+            ToolFault::WriteFailed => "writing failed",
+        })
+    }
 }
 
 impl From<NotWritten> for ToolFault {

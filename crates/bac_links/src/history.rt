@@ -1,99 +1,62 @@
-//! What a link was asked and answered, and the calls of the system that its socket made. Both exist only in proofs:
-//! they take no memory, and their methods do nothing.
-ghost use Rattle.std.specs.Prelude.{◌≡◌, List, [], ◌∷◌, ◌++◌};
+//! What is noted of a link and of its socket, in proofs alone.
 ghost use Rattle.std.specs.Borrow.{ftrue};
-ghost use Rattle.bac_pdu.specs.Peer.{station};
-ghost use Rattle.bac_links.specs.History.{heard_by, Entry, Waited, Timed, posted};
+ghost use Rattle.bac_links.specs.History.{Entry};
 ghost use Rattle.bac_links.specs.SystemCall.{SystemCall};
 
 use crate::datagram::Datagram;
 use crate::link::LinkFault;
 use bac_pdu::Peer;
+use bac_print::{GhostList, NoteOf};
 use std::io;
 use std::marker::Model;
 use std::net::SocketAddr;
 use std::time::Duration;
 
-/// All that a link was asked and answered so far. A clause reads it as `entries`.
+/// All that a link was asked and answered so far.
+pub(crate) type History = GhostList<Asked>;
+
+/// One thing that a link was asked, with its answer, as clauses see it. No code makes one.
 #[derive(Drop)]
-pub(crate) struct History {
-    pub ghost entries: { List Entry },
+pub(crate) struct Asked {
+    ghost entry: { Entry },
 }
 
-impl Model for History {
+impl Model for Asked {
+    ghost Value = { Entry };
+
+    ghost view = { λ asked. asked.entry };
+
     ghost also_owns = { λ _. ftrue };
 }
 
-/// One call of a link, with its answer: a wait of so many milliseconds that heard nothing, or a datagram, or failed;
-/// the time; a datagram that was sent, or could not be.
+/// One call of a link, with its answer: a wait of so many milliseconds, and the datagram then; the time; a send.
 #[derive(Clone, Copy, Drop)]
-pub(crate) enum Note<'a> {
-    Quiet(u32),
-    Came(u32, Peer, &'a [u8]),
-    Broke(u32),
-    Time(u64),
-    Sent(Peer, &'a [u8]),
-    Unsent(Peer, &'a [u8]),
+pub(crate) enum Asking<'a> {
+    Waited(u32, &'a Result<Option<Peer>, LinkFault>, &'a Datagram),
+    Timed(u64),
+    Sent(&'a Result<(), LinkFault>, Peer, &'a [u8]),
 }
 
-impl History {
-    ghost use Rattle.bac_links.specs.Inner.Note.{noted};
+impl NoteOf<Asked> for Asking<'_> {
+    ghost use Rattle.bac_links.specs.Inner.Note.{entry_of};
 
-    /// Nothing was asked yet.
-    pub fn new() -> History
-        ensures { result.entries ≡ [] }
-    {
-        History {}
-    }
-
-    /// The history, and this note behind it.
-    pub fn and(&self, _note: &Note<'_>) -> History
-        ensures { result.entries ≡ noted self.now.entries _note.now }
-    {
-        History {}
-    }
-
-    /// The history, and a wait of so long behind it, that answered this and left these octets.
-    pub fn and_wait(
-        &self,
-        wait_ms: u32,
-        heard: &Result<Option<Peer>, LinkFault>,
-        datagram: &Datagram,
-    ) -> History
-        ensures { result.entries ≡ self.now.entries ++ Waited wait_ms (heard_by heard.now datagram.now) ∷ [] }
-    {
-        self.and(&match heard {
-            Ok(None) => Note::Quiet(wait_ms),
-            Ok(Some(from)) => Note::Came(wait_ms, *from, datagram.as_slice()),
-            Err(_) => Note::Broke(wait_ms),
-        })
-    }
-
-    /// The history, and the time behind it, which was asked for.
-    pub fn and_time(&self, time: u64) -> History
-        ensures { result.entries ≡ self.now.entries ++ Timed time ∷ [] }
-    {
-        self.and(&Note::Time(time))
-    }
-
-    /// The history, and a send to there behind it, that answered this.
-    pub fn and_send(&self, sent: &Result<(), LinkFault>, to: Peer, octets: &[u8]) -> History
-        ensures { result.entries ≡ self.now.entries ++ posted sent.now (station to) octets.now ∷ [] }
-    {
-        self.and(&match sent {
-            Ok(()) => Note::Sent(to, octets),
-            Err(_) => Note::Unsent(to, octets),
-        })
-    }
+    ghost tells = { entry_of };
 }
 
-/// All calls of the system that a socket made so far, with the answers. A clause reads it as `calls`.
+/// All calls of the system that a socket made so far, with the answers.
+pub type Log = GhostList<CallMade>;
+
+/// One call of the system, with its answer, as clauses see it. No code makes one.
 #[derive(Drop)]
-pub struct Log {
-    pub ghost calls: { List SystemCall },
+pub struct CallMade {
+    ghost call: { SystemCall },
 }
 
-impl Model for Log {
+impl Model for CallMade {
+    ghost Value = { SystemCall };
+
+    ghost view = { λ made. made.call };
+
     ghost also_owns = { λ _. ftrue };
 }
 
@@ -107,20 +70,8 @@ pub enum CallNote<'a> {
     Elapsed(&'a io::Result<Duration>),
 }
 
-impl Log {
-    ghost use Rattle.bac_links.specs.Log.{logged};
+impl NoteOf<CallMade> for CallNote<'_> {
+    ghost use Rattle.bac_links.specs.Log.{call_of};
 
-    /// No call was made yet.
-    pub fn new() -> Log
-        ensures { result.calls ≡ [] }
-    {
-        Log {}
-    }
-
-    /// The log, and this call behind it.
-    pub fn and(&self, _note: &CallNote<'_>) -> Log
-        ensures { result.calls ≡ logged self.now.calls _note.now }
-    {
-        Log {}
-    }
+    ghost tells = { call_of };
 }

@@ -1,12 +1,16 @@
 //! What holds of the definitions that the contracts cite, and of the public types. Each function has an empty body, and
 //! its clauses are the laws.
 
-ghost use Rattle.std.specs.Prelude.{◌≡◌, ◌≢◌, ◌≤◌, ◌+◌, ◌*◌, ◌++◌, ℕ, suc, ⊤, List, length, Result, Ok, Err};
+ghost use Rattle.std.specs.Prelude.{◌≡◌, ◌≢◌, ◌≤◌, ◌+◌, ◌*◌, ◌++◌, ℕ, suc, ⊤, List, [], ◌∷◌, length, Result, Ok};
+ghost use Rattle.std.specs.Prelude.{Err, IfOk};
+ghost use Rattle.std.specs.List.{flat_map};
+ghost use Rattle.std.specs.Option.{option_to_list};
 ghost use Rattle.bac_wire.specs.Copies.{MakesCopies, EqualsBy};
 ghost use Rattle.bac_pdu.specs.Apdu.{longest_body};
+ghost use Rattle.bac_pdu.specs.Peer.{station};
 ghost use Rattle.bac_device.specs.Places.{Write as Change};
 ghost use Rattle.bac_device.specs.Device.{DeviceState, points_of, Holds};
-ghost use Rattle.bac_device.specs.Turns.{AreDefined};
+ghost use Rattle.bac_device.specs.Turns.{AreDefined, replies_to};
 ghost use Rattle.bac_print.specs.declared.checked.Checked.{Checked};
 ghost use Rattle.bac_text.specs.declared.jobs.Call.{Call};
 ghost use Rattle.bac_text.specs.declared.jobs.Search.{Search};
@@ -17,19 +21,23 @@ ghost use Rattle.bac_links.specs.Asking.{waits_in};
 ghost use Rattle.bac_links.specs.Call.{IsAccepted, Tells, events_of};
 ghost use Rattle.bac_links.specs.Memory.{PlaysItsScenes};
 ghost use Rattle.bac_links.specs.Progress.{AreTold, ArePrompt};
-ghost use Rattle.bac_links.specs.Search.{Searched};
+ghost use Rattle.bac_links.specs.Search.{Searched, who_is_to};
+ghost use Rattle.bac_links.specs.Sent.{sent_in, sent_at, sends_of_call, AllSent};
 ghost use Rattle.bac_links.specs.Serve.{arrivals_in, replies_of, Serves};
 ghost use Rattle.bac_links.specs.Socket.{LogsHistory};
 ghost use Rattle.bac_links.specs.declared.ending.Purpose.{Purpose};
-ghost use Rattle.bac_links.specs.declared.ending.Exit.{Exit as Ended};
+ghost use Rattle.bac_links.specs.declared.exit.Exit.{Exit as Ended};
 ghost use Rattle.bac_links.specs.declared.fault.ToolFault.{ToolFault as Fault};
 
 use crate::datagram::DATAGRAM_OCTETS;
-use crate::ending::{Exit, Purpose as Aim};
+use crate::ending::Purpose as Aim;
+use crate::exit::Exit;
 use crate::fault::ToolFault;
+use crate::history::CallNote;
 use crate::link::{Link, LinkFault};
 use crate::memory::{MemoryLink, Step};
-use crate::udp::{Refused, Socket, UdpLink};
+use crate::socket::Socket;
+use crate::udp::{Refused, UdpLink};
 use std::alloc::Allocator;
 use std::io::Write;
 
@@ -47,6 +55,23 @@ pub fn a_server_replies_as_defined<L: Link>()
         (gained : List Entry) (writes : List Change)
         → Serves count before after seen left result → left.history ≡ seen.history ++ gained → Holds before writes
         → AreDefined before writes (arrivals_in gained) (replies_of before (arrivals_in gained)) after }
+{}
+
+/// What a server sent, in its order, are the replies of the definition to the datagrams that it heard, after any writes
+/// that leave the points as they stand in the device before; where a send failed, all but that one.
+pub fn a_server_sends_its_replies<L: Link>()
+    ensures { (count : ℕ) (before after : DeviceState) (seen left : Account L.Origin) (result : Result ℕ Fault)
+        (gained : List Entry) (writes : List Change)
+        → Serves count before after seen left result → left.history ≡ seen.history ++ gained → Holds before writes
+        → AllSent (flat_map option_to_list (replies_to before.info (points_of before) writes (arrivals_in gained)))
+        (sent_in gained) result }
+{}
+
+/// No server hears more datagrams than it is to answer, and one that is over with an answer heard that many.
+pub fn a_server_hears_as_many<L: Link>()
+    ensures { (count : ℕ) (before after : DeviceState) (seen left : Account L.Origin) (result : Result ℕ Fault)
+        (gained : List Entry) → Serves count before after seen left result → left.history ≡ seen.history ++ gained
+        → (length (arrivals_in gained) ≤ count) × IfOk result (λ answer. length (arrivals_in gained) ≡ count) }
 {}
 
 /// No call waits for ever. Take any clock whose times are those that the link told, as the link's own: where by it no
@@ -68,6 +93,23 @@ pub fn a_call_is_accepted<L: Link, W: Write>()
         (result : Result Ended Fault) (gained : List Entry) → length call.body.items ≤ longest_body
         → Tells purpose call W.contents before after seen left result → left.history ≡ seen.history ++ gained
         → IsAccepted purpose call (events_of purpose call gained) }
+{}
+
+/// What a call sent, and at which events, is what the look-ahead says of its one request among the events of its whole
+/// history, and no more; where a send failed, all but that one.
+pub fn a_call_sends_as_the_look_ahead_says<L: Link, W: Write>()
+    ensures { (purpose : Purpose) (call : Call) (before after : Checked W) (seen left : Account L.Origin)
+        (result : Result Ended Fault) (gained : List Entry)
+        → Tells purpose call W.contents before after seen left result → left.history ≡ seen.history ++ gained
+        → AllSent (sends_of_call purpose call gained) (sent_at purpose call gained) result }
+{}
+
+/// What a search sent is its Who-Is, once; where that failed, nothing.
+pub fn a_search_sends_one_who_is<L: Link, W: Write>()
+    ensures { (search : Search) (before after : Checked W) (seen left : Account L.Origin) (result : Result Ended Fault)
+        (gained : List Entry)
+        → Searched search W.contents before after seen left result → left.history ≡ seen.history ++ gained
+        → AllSent ((station search.to, who_is_to search) ∷ []) (sent_in gained) result }
 {}
 
 /// No call ends with an exit over a link, a socket or another, whose history gained nothing.
@@ -133,6 +175,7 @@ pub fn clones<'a>()
     ensures link_fault { MakesCopies ⟦<LinkFault as Clone>⟧.is_clone ⟦<LinkFault as Clone>⟧.is_infallible }
     ensures refused { MakesCopies ⟦<Refused as Clone>⟧.is_clone ⟦<Refused as Clone>⟧.is_infallible }
     ensures step { MakesCopies ⟦<Step<'a> as Clone>⟧.is_clone ⟦<Step<'a> as Clone>⟧.is_infallible }
+    ensures note { MakesCopies ⟦<CallNote<'a> as Clone>⟧.is_clone ⟦<CallNote<'a> as Clone>⟧.is_infallible }
 {}
 
 /// What `==` compares: which exit, which fault and which of the two for a refused datagram it is.

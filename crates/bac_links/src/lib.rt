@@ -11,7 +11,7 @@
 //! how the read ended, and that this is the status of that end:
 //!
 //! ```rust
-//! match UdpLink::bind(rt, alloc, anywhere) {
+//! match UdpLink::bind_with(rt, alloc, anywhere, Refused::Fails) {
 //!     Ok(mut link) => status(&run_read(call, &mut link, writer)),
 //!     Err(_) => 3,
 //! }
@@ -21,6 +21,7 @@
 mod call;
 mod datagram;
 mod ending;
+mod exit;
 mod fault;
 mod history;
 pub mod laws;
@@ -28,15 +29,19 @@ mod link;
 mod memory;
 mod search;
 mod serving;
+mod socket;
+mod turns;
 mod udp;
 
 pub use call::{run_read, run_write};
 pub use datagram::{DATAGRAM_OCTETS, Datagram};
-pub use ending::{Exit, Purpose, status};
+pub use ending::Purpose;
+pub use exit::{Exit, status};
 pub use fault::ToolFault;
-pub use history::{CallNote, Log};
+pub use history::{CallMade, CallNote, Log};
 pub use link::{Link, LinkFault};
 pub use memory::{MemoryLink, Step};
 pub use search::run_whois;
 pub use serving::serve;
-pub use udp::{Refused, Socket, SystemSocket, UdpLink};
+pub use socket::{Socket, SystemSocket};
+pub use udp::{Refused, UdpLink};

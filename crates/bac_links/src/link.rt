@@ -3,16 +3,28 @@ ghost use Rattle.std.specs.Prelude.{◌≡◌, Bool, false, is_err, None, IfOk, 
 ghost use Rattle.std.specs.Option.{option_flatten};
 ghost use Rattle.std.specs.Result.{result_ok};
 ghost use Rattle.bac_pdu.specs.Peer.{station};
+ghost use Rattle.bac_print.specs.Message.{message_text};
+ghost use Rattle.bac_links.specs.Fault.{link_fault_text};
 ghost use Rattle.bac_links.specs.History.{heard_by, Waited, Timed, Account, Gains, posted};
 
 use crate::datagram::Datagram;
 use bac_pdu::Peer;
+use bac_print::Message;
 use thiserror::Error;
 
 /// A send or a receive failed, or a link could not be made.
 #[derive(Clone, Copy, Debug, PartialEq, Eq, Error)]
-#[error("bind failed")]
+#[error("{}", self.message())]
 pub struct LinkFault;
+
+impl LinkFault {
+    /// What is told where there is no link to be had. A send or a receive that failed is told as a `ToolFault`.
+    pub fn message(&self) -> Message
+        ensures { message_text result ≡ link_fault_text }
+    {
+        Message::Text("bind failed")
+    }
+}
 
 /// What sends and receives datagrams, and knows the time. Once a send or a receive has failed, neither is called again.
 pub trait Link {

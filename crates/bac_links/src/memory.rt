@@ -1,17 +1,17 @@
 //! A link in memory.
 ghost use Rattle.std.specs.Prelude.{◌≡◌, ◌++◌, ◌∷◌, [], false, length, map, IfOk, OnOk, OnErr, is_err, slice_get};
 ghost use Rattle.std.specs.Prelude.{IfNone, IfSome, IsTrue, List, MatchOption, Some, None};
-ghost use Rattle.std.specs.Option.{option_flatten, option_to_list};
+ghost use Rattle.std.specs.Option.{option_map, option_flatten, option_to_list};
 ghost use Rattle.std.specs.Result.{result_ok};
 ghost use Rattle.bac_pdu.specs.Peer.{station};
 ghost use Rattle.bac_links.specs.History.{heard_by, Waited, Timed, Gains, posted};
 ghost use Rattle.bac_links.specs.Memory.{account_of, account_with, scene_of_step, scene_of_kept, sent_by, sending_of};
 ghost use Rattle.bac_links.specs.Memory.{unrouted};
 ghost use Rattle.bac_links.specs.Played.{Scene, heard_next, behind_wait};
-ghost use Rattle.bac_links.specs.Stands.{Stands};
+ghost use Rattle.bac_links.specs.HasPlayed.{HasPlayed};
 
 use crate::datagram::Datagram;
-use crate::history::History;
+use crate::history::{Asking, History};
 use crate::link::{Link, LinkFault};
 use bac_pdu::Peer;
 use std::alloc::{AllocError, Allocator, Global};
@@ -57,7 +57,7 @@ pub struct MemoryLink<A: Allocator = Global> {
     failed: bool,
     // What it was asked and answered.
     history: History,
-    ghost stands: { ∥ Stands (map scene_of_kept steps.items) history.entries next time
+    ghost stands: { ∥ HasPlayed (map scene_of_kept steps.items) history.items next time
         (map sending_of sent.items) ∥₁ },
 }
 
@@ -73,14 +73,9 @@ impl<A: Allocator + Copy> MemoryLink<A> {
         ensures fails_at { IfOk result (λ link. link.fail_send ≡ fail_send) }
         ensures sound { IfOk result (λ link. ⟦<MemoryLink<A> as Link>⟧.has_failed link ≡ false) }
     {
-        let mut kept = Vec::new(alloc);
-        for step in steps {
-            let step = keep(alloc, step).map_err(|_| LinkFault)?;
-            kept.push(step).map_err(|_| LinkFault)?;
-        }
         Ok(MemoryLink {
             alloc,
-            steps: kept,
+            steps: keep_all(alloc, steps).map_err(|_| LinkFault)?,
             next: 0,
             time: 0,
             sent: Vec::new(alloc),
@@ -95,18 +90,25 @@ impl<A: Allocator> MemoryLink<A> {
     /// The send with this number among those that succeeded, from 0, with its time.
     pub fn sent(&self, n: usize) -> Option<(u64, Peer, &[u8])>
         ensures { MatchOption result
-            (slice_get (sent_by (account_with self.now.steps.items self.now.history.entries)) n ≡ None)
-            (λ s. slice_get (sent_by (account_with self.now.steps.items self.now.history.entries)) n
+            (slice_get (sent_by (account_with self.now.steps.items self.now.history.items)) n ≡ None)
+            (λ s. slice_get (sent_by (account_with self.now.steps.items self.now.history.items)) n
             ≡ Some (record { time = s.0; to = station s.1; octets = s.2.now })) }
     {
         sending(&self.sent, n)
+    }
+
+    /// Lets the link go. What it was asked, and answered, is kept.
+    pub(crate) fn into_history(self) -> History
+        ensures { result ≡ self.history }
+    {
+        self.history
     }
 }
 
 impl<A: Allocator + Copy> Link for MemoryLink<A> {
     ghost Origin = { List Scene };
 
-    ghost seen = { λ link. account_with link.steps.items link.history.entries };
+    ghost seen = { λ link. account_with link.steps.items link.history.items };
 
     ghost has_failed = { λ link. link.failed };
 
@@ -115,10 +117,10 @@ impl<A: Allocator + Copy> Link for MemoryLink<A> {
         requires { self.old.failed ≡ false }
         ensures fault { self.new.failed ≡ is_err result }
         ensures told { Gains (posted result (station to) octets.now)
-            (account_with self.old.steps.items self.old.history.entries)
-            (account_with self.new.steps.items self.new.history.entries) }
+            (account_with self.old.steps.items self.old.history.items)
+            (account_with self.new.steps.items self.new.history.items) }
         ensures its_number { self.old.fail_send
-            ≡ Some (length (sent_by (account_with self.old.steps.items self.old.history.entries)))
+            ≡ Some (length (sent_by (account_with self.old.steps.items self.old.history.items)))
             → IsTrue (is_err result) }
         ensures fails_at { self.new.fail_send ≡ self.old.fail_send }
     {
@@ -131,7 +133,7 @@ impl<A: Allocator + Copy> Link for MemoryLink<A> {
             octets,
         );
         self.failed = sent.is_err();
-        self.history = self.history.and_send(&sent, to, octets);
+        self.history.push(&Asking::Sent(&sent, to, octets));
         sent
     }
 
@@ -141,30 +143,46 @@ impl<A: Allocator + Copy> Link for MemoryLink<A> {
         ensures plain { IfOk result (λ heard. IfSome heard (λ from. from.route ≡ None)) }
         ensures kept { IfNone (option_flatten (result_ok result)) (datagram.new ≡ datagram.old) }
         ensures told { Gains (Waited wait_ms (heard_by result datagram.new))
-            (account_with self.old.steps.items self.old.history.entries)
-            (account_with self.new.steps.items self.new.history.entries) }
+            (account_with self.old.steps.items self.old.history.items)
+            (account_with self.new.steps.items self.new.history.items) }
         ensures fails_at { self.new.fail_send ≡ self.old.fail_send }
     {
-        let heard = hear(&self.steps, self.next, wait_ms, &mut self.time, datagram);
+        let step = step_at(&self.steps, self.next);
+        let heard = play(step, wait_ms, &mut self.time, datagram);
         self.next = self.next.saturating_add(1);
         self.failed = heard.is_err();
-        self.history = self.history.and_wait(wait_ms, &heard, datagram);
+        let note = Asking::Waited(wait_ms, &heard, datagram);
+        self.history.push(&note);
         heard
     }
 
     fn now(&mut self) -> u64
         ensures fault { self.new.failed ≡ self.old.failed }
-        ensures told { Gains (Timed result) (account_with self.old.steps.items self.old.history.entries)
-            (account_with self.new.steps.items self.new.history.entries) }
+        ensures told { Gains (Timed result) (account_with self.old.steps.items self.old.history.items)
+            (account_with self.new.steps.items self.new.history.items) }
         ensures fails_at { self.new.fail_send ≡ self.old.fail_send }
     {
-        self.history = self.history.and_time(self.time);
+        self.history.push(&Asking::Timed(self.time));
         self.time
     }
 
     fn failed(&self) -> bool {
         self.failed
     }
+}
+
+// The steps with copies of their octets.
+fn keep_all<A: Allocator + Copy>(
+    alloc: A,
+    steps: &[Step<'_>],
+) -> Result<Vec<Kept<A>, A>, AllocError>
+    ensures { IfOk result (λ kept. map scene_of_kept kept.items ≡ map scene_of_step steps.now) }
+{
+    let mut kept = Vec::new(alloc);
+    for step in steps {
+        kept.push(keep(alloc, step)?)?;
+    }
+    Ok(kept)
 }
 
 // The step with a copy of its octets.
@@ -214,39 +232,48 @@ fn keep_sent<A: Allocator + Copy>(
     Ok(())
 }
 
-// What a wait hears where the step with this number is next, and the time then.
-fn hear<A: Allocator>(
-    steps: &[Kept<A>],
-    next: usize,
+// The step with this number, its octets lent.
+fn step_at<A: Allocator>(steps: &[Kept<A>], number: usize) -> Option<Step<'_>>
+    ensures { option_map scene_of_step result ≡ slice_get (map scene_of_kept steps.now) number }
+{
+    Some(match steps.get(number)? {
+        Kept::Quiet(at) => Step::Quiet(*at),
+        Kept::Packet(at, from, octets) => Step::Packet(*at, *from, octets.as_slice()),
+        Kept::Broken => Step::Broken,
+    })
+}
+
+// What a wait hears where this step is next, and the time then.
+fn play(
+    step: Option<Step<'_>>,
     wait_ms: u32,
     time: &mut u64,
     datagram: &mut Datagram,
 ) -> Result<Option<Peer>, LinkFault>
-    ensures heard { heard_by result datagram.new
-        ≡ heard_next (option_to_list (slice_get (map scene_of_kept steps.now) next)) }
-    ensures time { time.new ≡ (behind_wait wait_ms (option_to_list (slice_get (map scene_of_kept steps.now) next))
-        time.old).time }
+    ensures heard { heard_by result datagram.new ≡ heard_next (option_to_list (option_map scene_of_step step.entry)) }
+    ensures time { time.new
+        ≡ (behind_wait wait_ms (option_to_list (option_map scene_of_step step.entry)) time.old).time }
     ensures plain { IfOk result (λ heard. IfSome heard (λ from. from.route ≡ None)) }
     ensures kept { IfNone (option_flatten (result_ok result)) (datagram.new ≡ datagram.old) }
 {
-    match steps.get(next) {
+    match step {
         None => {
             *time = time.saturating_add(u64::from(wait_ms));
             Ok(None)
         }
-        Some(Kept::Quiet(at)) => {
-            *time = *at;
+        Some(Step::Quiet(at)) => {
+            *time = at;
             Ok(None)
         }
-        Some(Kept::Packet(at, from, octets)) => {
-            *time = *at;
-            if datagram.set(octets.as_slice()) {
-                Ok(Some(without_route(*from)))
+        Some(Step::Packet(at, from, octets)) => {
+            *time = at;
+            if datagram.set(octets) {
+                Ok(Some(without_route(from)))
             } else {
                 Ok(None)
             }
         }
-        Some(Kept::Broken) => Err(LinkFault),
+        Some(Step::Broken) => Err(LinkFault),
     }
 }
 

@@ -10,11 +10,11 @@ ghost use Rattle.bac_links.specs.Search.{found_of, found_line, who_is_to, Search
 ghost use Rattle.bac_links.specs.Inner.Search.{found_seen, who_is_datagram};
 ghost use Rattle.bac_links.specs.Inner.SearchSteps.{Listens};
 
-use crate::call::{most_turns, turn_wait};
 use crate::datagram::Datagram;
-use crate::ending::Exit;
+use crate::exit::Exit;
 use crate::fault::ToolFault;
 use crate::link::Link;
+use crate::turns::{most_turns, turn_wait};
 use bac_pdu::{
     Apdu, I_AM, IAm, Peer, WHO_IS, WhoIs, open_datagram, read_apdu, read_iam, wrap_within,
     write_apdu, write_whois,

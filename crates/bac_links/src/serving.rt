@@ -4,10 +4,10 @@ ghost use Rattle.bac_links.specs.Fault.{is_link_fault};
 ghost use Rattle.bac_links.specs.Serve.{Serves};
 ghost use Rattle.bac_links.specs.Inner.ServeSteps.{came_in, replied_in, ServesOne};
 
-use crate::call::most_turns;
 use crate::datagram::Datagram;
 use crate::fault::ToolFault;
 use crate::link::Link;
+use crate::turns::most_turns;
 use bac_device::Device;
 use bac_wire::Frame;
 
@@ -44,6 +44,7 @@ pub fn serve<L: Link>(link: &mut L, device: &mut Device, count: u32) -> Result<u
 }
 
 // Answers the next datagram, if one comes.
+#[tactic(auto, using(crate::proofs::Histories::gains_both))]
 fn serve_turn<L: Link>(
     link: &mut L,
     device: &mut Device,

@@ -1,9 +1,7 @@
 -- What is read of an APDU is what its octets lay out, and what is laid out is read back.
-use Rattle.std.{
-  proofs.Common.{◌≡◌, ℕ, ◌+◌, ◌/◌, Bool, true, false, cond, eqb, List, [], ◌∷◌, ◌++◌, Option, Some, refl, arith, ◌≤◌},
-  proofs.{Common.slice_index_or, lemmas.Option.{none-some, same_Some}},
-  specs.Prelude.◌↔◌,
-}
+use Rattle.std.proofs.Common.{◌≡◌, ℕ, ◌+◌, ◌/◌, Bool, true, false, cond, eqb, List, [], ◌∷◌, ◌++◌, Option, Some, refl}
+use Rattle.std.proofs.{Common.{arith, ◌≤◌, slice_index_or}, lemmas.Option.{none-some, same_Some}}
+use Rattle.std.specs.Prelude.{◌↔◌}
 use Rattle.bac_wire.{proofs.{Readers.{Took, found_at, chosen}, TagLaws.bind_some}, specs.Steps.◌>>=◌}
 use Rattle.bac_pdu.specs.{
   declared.apdu.Part.Part,

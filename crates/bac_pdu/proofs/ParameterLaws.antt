@@ -1,14 +1,9 @@
 -- Reading a parameter of ReadProperty or WriteProperty finds what its relation says.
-use Rattle.std.proofs.Common.{◌≡◌, ℕ, List, Option, Some, None, refl, ap, ◌∙◌}
-use Rattle.bac_wire.{
-  specs.{Front.{IsReader, SpellsTo}, ParameterReading.{number_at, object_at, enclosed_at}},
-  proofs.ParameterLaws.{number_reader, object_reader, enclosed_reader, IsStep},
-}
-use Rattle.bac_pdu.specs.{
-  Parameter.{Parameter, object, numbered, value, SpellsParameter},
-  Inner.Parameter.optional,
-  PropertyReading.{or_none, optional_at},
-}
+use Rattle.std.proofs.Common.{arith, ◌≡◌, ℕ, List, Option, Some, None, refl, ap, ◌∙◌}
+use Rattle.bac_wire.specs.{Front.{IsReader, SpellsTo}, ParameterReading.{number_at, object_at, enclosed_at}}
+use Rattle.bac_wire.proofs.ParameterLaws.{number_reader, object_reader, enclosed_reader, IsStep}
+use Rattle.bac_pdu.specs.{Parameter.{Parameter, object, numbered, value, SpellsParameter}, Inner.Parameter.optional}
+use Rattle.bac_pdu.specs.PropertyReading.{or_none, optional_at}
 
 -- a reader of things of one kind, as a step of what reads such things among others
 pub reader_step : {A P : Type 0} {Spells : List ℕ → P → Type 0} {Kind : List ℕ → A → Type 0}
@@ -35,8 +30,7 @@ value_step = reader_step _ (enclosed_reader 3) (λ front x s. s) (λ front x s. 
 module _ (number : ℕ) (made : ℕ → Parameter) (step : IsStep SpellsParameter made (number_at number)) where
   optional_begins_at : (octets : List ℕ) (read : Option (ℕ × List ℕ)) → number_at number octets ≡ read
       → SpellsTo SpellsParameter octets (optional made (or_none octets read).0) (or_none octets read).1
-  optional_begins_at _ None e = refl
-  optional_begins_at _ (Some x) e = (x.1, step.takes _ _ _ e, refl)
+  optional_begins_at = grind arith
 
   -- what was read of a number that may be there is spelled
   pub optional_begins : (octets : List ℕ)

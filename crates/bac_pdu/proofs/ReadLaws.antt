@@ -1,9 +1,7 @@
 -- Reading the body of a ReadProperty finds what it asks for, or the first fault that it has; reading its answer finds
 -- the value.
-use Rattle.std.{
-  proofs.Common.{◌≡◌, ℕ, List, [], ◌∷◌, ◌++◌, Some, None, Result, Ok, Err, refl, ap, subst, inl, inr, ◌∙◌},
-  specs.{Result.result_ok, Prelude.{◌↔◌, ◌⊎◌}},
-}
+use Rattle.std.proofs.Common.{arith, ◌≡◌, ℕ, List, [], ◌∷◌, ◌++◌, Some, None, Result, Ok, Err, refl, ap, subst, inl}
+use Rattle.std.{proofs.Common.{inr, ◌∙◌}, specs.Result.result_ok, specs.Prelude.{◌↔◌, ◌⊎◌}}
 use Rattle.bac_wire.{
   specs.{Front.{Begins, SpellsTo}, ParameterReading.{number_at, object_at, behind_opening, enclosed_at}},
   proofs.{RegionReading.no_octets, ParameterLaws.{no_number, no_object, enclosed_no_number}},
@@ -154,8 +152,7 @@ value_again _ v _ r _ s =
 -- ---- ReadProperty-ACK
 
 ok_found : {A : Type 0} (r : Result A RejectReason) (x : A) → result_ok r ≡ Some x → r ≡ Ok x
-ok_found (Ok y) x e = ap Ok cc
-ok_found (Err reason) x e = cc
+ok_found = grind arith
 
 pub no_value : enclosed_at 3 [] ≡ None
 unfolding enclosed_at behind_opening

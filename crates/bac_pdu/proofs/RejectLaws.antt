@@ -1,34 +1,24 @@
 -- Reading a body of a confirmed request answers its one outcome.
-use Rattle.std.{
-  proofs.Common.{◌≡◌, ℕ, List, [], ◌∷◌, Option, Some, None, Result, Ok, Err, refl, sym, ap, ◌∙◌, inl, inr},
-  specs.{Prelude.{◌↔◌, ◌⊎◌}, Option.ok_or},
-  proofs.lemmas.Option.none-some,
-}
+use Rattle.std.proofs.Common.{arith, ◌≡◌, ℕ, List, [], ◌∷◌, Option, Some, None, Result, Ok, Err, refl, sym, ap, ◌∙◌}
+use Rattle.std.{proofs.Common.{inl, inr}, specs.Prelude.{◌↔◌, ◌⊎◌}, specs.Option.ok_or, proofs.lemmas.Option.none-some}
 use Rattle.bac_wire.{specs.Front.Begins, proofs.ParameterLaws.IsStep}
-use Rattle.bac_pdu.specs.{
-  declared.reject.RejectReason.RejectReason,
-  declared.reject.RejectReason.TheVariants.{InvalidTag, MissingParameter, OutOfRange, TooMany, UnknownService},
-  Reject.{IsFirst, IsOutcome},
-  PropertyReading.{unless_missing, whole_of},
-  Steps.◌>>=◌,
-}
+use Rattle.bac_pdu.specs.declared.reject.RejectReason.{RejectReason, TheVariants.{InvalidTag, MissingParameter}}
+use Rattle.bac_pdu.specs.declared.reject.RejectReason.TheVariants.{OutOfRange, TooMany, UnknownService}
+use Rattle.bac_pdu.specs.{Reject.{IsFirst, IsOutcome}, PropertyReading.{unless_missing, whole_of}, Steps.◌>>=◌}
 
 -- ---- results
 
 pub and_then_ok : {A B : Type 0} (r : Result A RejectReason) (f : A → Result B RejectReason) (y : B)
     → (r >>= f) ≡ Ok y → (x : A) × (r ≡ Ok x) × (f x ≡ Ok y)
-and_then_ok (Ok x) f y e = (x, refl, e)
-and_then_ok (Err reason) f y e = absurd cc
+and_then_ok = grind arith
 
 pub and_then_err : {A B : Type 0} (r : Result A RejectReason) (f : A → Result B RejectReason) (reason : RejectReason)
     → (r >>= f) ≡ Err reason → (r ≡ Err reason) ⊎ ((x : A) × (r ≡ Ok x) × (f x ≡ Err reason))
-and_then_err (Ok x) f _ e = inr (x, refl, e)
-and_then_err (Err other) f reason e = let same : other ≡ reason = cc in inl (ap Err same)
+and_then_err = grind arith
 
 pub needs_ok : {A : Type 0} (octets : List ℕ) (found : Option A) (x : A) → (octets ≡ [] → found ≡ None) → found ≡ Some x
     → unless_missing octets found ≡ Ok x
-needs_ok [] _ x none e = absurd (none-some x (sym (none refl) ∙ e))
-needs_ok (o ∷ os) _ x none e = rw e refl
+needs_ok = grind (arith, none-some)
 
 -- what a step reads, where octets are left
 pub step_ok : {A P : Type 0} {Spells : List ℕ → P → Type 0} {made : A → P} {at : List ℕ → Option (A × List ℕ)}
@@ -39,29 +29,23 @@ step_ok {at} step none _ x rest b = needs_ok _ _ (x, rest) (λ e. ap at e ∙ no
 
 pub needs_takes : {A : Type 0} (octets : List ℕ) (found : Option A) (x : A) → unless_missing octets found ≡ Ok x
     → found ≡ Some x
-needs_takes [] _ x e = absurd cc
-needs_takes (o ∷ os) None x e = absurd cc
-needs_takes (o ∷ os) (Some y) x e = let same : y ≡ x = cc in ap Some same
+needs_takes = grind arith
 
 pub needs_fails : {A : Type 0} (octets : List ℕ) (found : Option A) (reason : RejectReason)
     → unless_missing octets found ≡ Err reason
     → ((reason ≡ MissingParameter) × (octets ≡ [])) ⊎ ((reason ≡ InvalidTag) × (found ≡ None) × (octets ≡ [] → ⊥))
-needs_fails [] _ _ e = inl (cc, refl)
-needs_fails (o ∷ os) None _ e = inr (cc, refl, λ h. absurd cc)
-needs_fails (o ∷ os) (Some y) _ e = absurd cc
+needs_fails = grind arith
 
 -- the result, where no octet is left
 abbrev pub ended : {A : Type 0} → A → List ℕ → Result A RejectReason
 ended x rest = ok_or (whole_of x rest) TooMany
 
 pub ended_ok : {A : Type 0} (x y : A) (rest : List ℕ) → ended x rest ≡ Ok y → (rest ≡ []) × (x ≡ y)
-ended_ok x y [] e = (refl, cc)
-ended_ok x y (o ∷ os) e = absurd cc
+ended_ok = grind arith
 
 pub ended_err : {A : Type 0} (x : A) (rest : List ℕ) (reason : RejectReason) → ended x rest ≡ Err reason
     → (reason ≡ TooMany) × (rest ≡ [] → ⊥)
-ended_err x [] _ e = absurd cc
-ended_err x (o ∷ os) _ e = (cc, λ h. absurd cc)
+ended_err = grind arith
 
 -- the first that applies is one
 pub one_first : {A : Type 0} (Applies : A → Type 0) (xs : List A) (a b : A) → IsFirst Applies xs a
@@ -99,37 +83,11 @@ one_reason r a b e f = let two : Err a ≡ Err b = sym e ∙ f in cc
 module _ {A : Type 0} {IsWhole : List ℕ → A → Type 0} {HasFault : List ℕ → RejectReason → Type 0}
     {of : List ℕ → Result A RejectReason} (judge : IsJudge IsWhole HasFault of) (body : List ℕ) where
   rejected : (reason : RejectReason) → of body ≡ Err reason → IsRejectReason HasFault body reason
-  rejected OutOfRange e = inl (judge.fault _ _ e, refl)
-  rejected TooMany e =
-      inr (
-        λ h. let two = one_reason _ _ _ (judge.range _ h) e in cc,
-        inl (judge.fault _ _ e, refl),
-      )
-  rejected MissingParameter e =
-      inr (
-        λ h. let two = one_reason _ _ _ (judge.range _ h) e in cc,
-        inr (
-          λ h. elim (judge.late _ _ h e) [ inl a ↦ absurd cc | inr b ↦ absurd cc ],
-          inl (judge.fault _ _ e, refl),
-        ),
-      )
-  rejected InvalidTag e =
-      inr (
-        λ h. let two = one_reason _ _ _ (judge.range _ h) e in cc,
-        inr (
-          λ h. elim (judge.late _ _ h e) [ inl a ↦ absurd cc | inr b ↦ absurd cc ],
-          inr (
-            λ h. let two = one_reason _ _ _ (judge.missing _ h) e in cc,
-            inl (judge.invalid _, refl),
-          ),
-        ),
-      )
-  rejected UnknownService e = absurd (judge.unknown _ (judge.fault _ _ e))
+  rejected = grind (arith, one_reason)
 
   -- what is read is the outcome
   outcome_found : (o : Result A RejectReason) → of body ≡ o → IsOutcome IsWhole HasFault body o
-  outcome_found (Ok x) e = record { whole = judge.takes _ x e; all = λ y s. sym e ∙ judge.again _ y s; rejected = tt }
-  outcome_found (Err reason) e = record { whole = tt; all = λ y s. sym e ∙ judge.again _ y s; rejected = rejected _ e }
+  outcome_found = grind (arith, rejected)
 
   outcome_read : (read o : Result A RejectReason) → of body ≡ read → IsOutcome IsWhole HasFault body o → read ≡ o
   outcome_read _ (Ok x) e is = sym e ∙ judge.again _ x is.whole

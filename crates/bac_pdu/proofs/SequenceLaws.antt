@@ -1,9 +1,6 @@
 -- Things that are spelled one after the other.
-use Rattle.std.{
-  proofs.Common.{◌≡◌, ℕ, List, [], ◌∷◌, ◌++◌, Some, refl, sym, ap, subst, ◌∙◌, append_assoc},
-  specs.List.{AllByRecursion, flat_map},
-  proofs.lemmas.{List.append-nil, Option.none-some},
-}
+use Rattle.std.proofs.Common.{arith, ◌≡◌, ℕ, List, [], ◌∷◌, ◌++◌, Some, refl, sym, ap, subst, ◌∙◌, append_assoc}
+use Rattle.std.{specs.List.{AllByRecursion, flat_map}, proofs.lemmas.List.append-nil, proofs.lemmas.Option.none-some}
 use Rattle.bac_wire.specs.Front.{SpellsTo, SpellsAll}
 use Rattle.bac_pdu.specs.PropertyReading.{whole_of}
 
@@ -48,8 +45,7 @@ module _ {A : Type 0} (Spells : List ℕ → A → Type 0) where
 
 -- a record that was read, where nothing is left
 pub whole_ended : {A : Type 0} (x y : A) (rest : List ℕ) → whole_of x rest ≡ Some y → (rest ≡ []) × (x ≡ y)
-whole_ended x y [] e = (refl, cc)
-whole_ended x y (a ∷ rest) e = absurd (none-some y e)
+whole_ended = grind (arith, none-some)
 
 -- ---- what is written
 

@@ -1,8 +1,6 @@
 -- Tags of one octet: of a number below 15, before at most four octets.
-use Rattle.std.proofs.{
-  lemmas.Grind.common_steps,
-  Common.{◌≡◌, ℕ, ◌+◌, ◌*◌, ◌<◌, List, [], ◌∷◌, length, slice_index_or, arith},
-}
+use Rattle.std.proofs.lemmas.Grind.{common_steps}
+use Rattle.std.proofs.Common.{◌≡◌, ℕ, ◌+◌, ◌*◌, ◌<◌, List, [], ◌∷◌, length, slice_index_or, arith}
 use Rattle.bac_wire.specs.{Tag.plain_tag, Region.{opening_tag, closing_tag}, Parameter.{context_octets, number_octets}}
 
 pub short_context : (number : ℕ) (contents : List ℕ) → number < 15 → length contents < 5

@@ -1,25 +1,15 @@
 -- What is written of a body spells it, no other spelling has fewer octets, and it is read back.
-use Rattle.std.{
-  proofs.Common.{◌≡◌, ℕ, ◌+◌, ◌^◌, ◌<◌, ◌≤◌, List, [], ◌∷◌, ◌++◌, length, Option, Some, None, Ok, refl, sym, ap, subst},
-  proofs.{Common.{append_assoc, arith}, lemmas.List.{append-nil, length-append}},
-  specs.{Prelude.IfSome, List.{AllByRecursion, flat_map}},
-}
+use Rattle.std.proofs.Common.{◌≡◌, ℕ, ◌+◌, ◌^◌, ◌<◌, ◌≤◌, List, [], ◌∷◌, ◌++◌, length, Option, Some, Ok, refl}
+use Rattle.std.proofs.{Common.{sym, ap, subst, append_assoc, arith}, lemmas.List.{append-nil, length-append}}
+use Rattle.std.specs.{Prelude.IfSome, List.{AllByRecursion, flat_map}}
 use Rattle.byteorder.specs.{Endian.big_bytes, Numbers.big_from-lt}
-use Rattle.bac_wire.specs.{
-  Identifier.{Identifier, IsIdentifier},
-  Front.{AreOctets, IsShortest, SpellsTo, SpellsAll},
-  Tag.{plain_number, plain_tag},
-  Region.{IsRegion, opening_tag, closing_tag},
-  Datum.{Datum, Spells, unsigned, enumerated, plain, IsDatum},
-  Parameter.{context_tag, SpellsContext, SpellsIn, SpellsEnclosed, context_octets, number_octets, object_octets},
-  Parameter.enclosed_octets,
-}
-use Rattle.bac_wire.proofs.{
-  TagLaws.{behind, tag_least},
-  PlainDatum.plain_spells,
-  ShortestDatum.{octet_count_least, ahead},
-  ParameterLaws.{number_spells, object_spells, enclosed_spells},
-}
+use Rattle.bac_wire.specs.{Identifier.{Identifier, IsIdentifier}, Front.{AreOctets, IsShortest, SpellsTo, SpellsAll}}
+use Rattle.bac_wire.specs.{Tag.{plain_number, plain_tag}, Region.{IsRegion, opening_tag, closing_tag}}
+use Rattle.bac_wire.specs.{Datum.{Datum, Spells, unsigned, enumerated, plain, IsDatum}, Parameter.context_tag}
+use Rattle.bac_wire.specs.Parameter.{SpellsContext, SpellsIn, SpellsEnclosed, context_octets, number_octets}
+use Rattle.bac_wire.{specs.Parameter.{object_octets, enclosed_octets}, proofs.TagLaws.{behind, tag_least}}
+use Rattle.bac_wire.proofs.{PlainDatum.plain_spells, ShortestDatum.{octet_count_least, ahead}}
+use Rattle.bac_wire.proofs.ParameterLaws.{number_spells, object_spells, enclosed_spells}
 use Rattle.bac_pdu.specs.{
   declared.discovery.WhoIs.WhoIs,
   Parameter.{Parameter, numbered, IsParameter, SpellsParameter, plain_parameter},
@@ -247,8 +237,7 @@ pub ack_known : (a : ReadAck) → AllByRecursion IsParameter (reference_paramete
 ack_known a named region = grind (arith, all_append)
 
 urgent_is : (p : Option ℕ) → IfSome p IsPriority → IfSome p (λ n. n < 2 ^ 32)
-urgent_is None h = tt
-urgent_is (Some n) h = omega arith
+urgent_is = grind arith
 
 pub order_known : (o : Order) → AllByRecursion IsParameter (reference_parameters o.reference) → IsRegion 32 o.value
     → IfSome o.priority IsPriority → AllByRecursion IsParameter (order_parameters o)

@@ -1,9 +1,7 @@
 -- Reading the body of a WriteProperty finds what it orders, or the first fault that it has.
-use Rattle.std.{
-  proofs.Common.{◌≡◌, ℕ, Bool, true, false, cond, List, [], ◌∷◌, ◌++◌, Option, None, Result, Ok, Err, refl, ◌∙◌, arith},
-  proofs.{Common.{inl, inr}, lemmas.Bool.{false_from_ne_true, iff_false}},
-  specs.Prelude.{◌↔◌, ◌⊎◌, IfSome},
-}
+use Rattle.std.proofs.Common.{◌≡◌, ℕ, Bool, true, false, cond, List, [], ◌∷◌, ◌++◌, Option, None, Result, Ok, Err, refl}
+use Rattle.std.proofs.{Common.{◌∙◌, arith, inl, inr}, lemmas.Bool.{false_from_ne_true, iff_false}}
+use Rattle.std.specs.Prelude.{◌↔◌, ◌⊎◌, IfSome}
 use Rattle.bac_wire.{specs.{Front.SpellsAll, ParameterReading.enclosed_at}, proofs.ParameterLaws.no_number}
 use Rattle.bac_pdu.specs.{
   declared.reject.{RejectReason.RejectReason, RejectReason.TheVariants.{OutOfRange, TooMany}},
@@ -48,8 +46,7 @@ abbrev write_behind : Reference → List ℕ × List ℕ → Result Order Reject
 write_behind r v = ended (optional_at 4 v.1).0 (optional_at 4 v.1).1 >>= write_end r v.0
 
 in_range : (b : Bool) (o x : Order) → cond b (Ok o) (Err OutOfRange) ≡ Ok x → (b ≡ true) × (o ≡ x)
-in_range true o x e = (refl, cc)
-in_range false o x e = cc
+in_range = grind arith
 
 out_of_range : (b : Bool) (o : Order) (reason : RejectReason) → cond b (Ok o) (Err OutOfRange) ≡ Err reason
     → (b ≡ false) × (reason ≡ OutOfRange)

@@ -1,10 +1,8 @@
 -- The kinds of APDU, how their octets are laid out (clause 20.1), and how long an APDU each code announces.
 use Rattle.std.specs.Prelude.{◌≡◌, ℕ, ◌+◌, ◌/◌, ◌%◌, ◌<◌, Bool, true, false, if◌then◌else◌, List, [], ◌∷◌, ◌++◌}
 use Rattle.std.specs.Prelude.{slice_index_or, Option, Some, None}
-use Rattle.bac_pdu.specs.declared.apdu.Part.{Part}
-use Rattle.bac_pdu.specs.declared.apdu.Apdu.{Apdu}
+use Rattle.bac_pdu.specs.{declared.apdu.Part.Part, declared.apdu.Apdu.Apdu, Bits.bit}
 use Rattle.bac_pdu.specs.declared.apdu.Apdu.TheVariants as kinds
-use Rattle.bac_pdu.specs.Bits.{bit}
 
 -- What an APDU is, without where its octets lie in memory.
 pub data Message : Type 0 where

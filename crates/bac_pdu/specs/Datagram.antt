@@ -2,10 +2,8 @@
 use Rattle.std.specs.Prelude.{◌≡◌, ℕ, ◌+◌, Bool, true, false, ◌||◌, is_some, List, [], ◌∷◌, ◌++◌, length, Option, Some}
 use Rattle.std.specs.Prelude.{None, IfSome}
 use Rattle.byteorder.specs.Endian.{big_number, big_bytes}
-use Rattle.bac_pdu.specs.declared.datagram.Carried.{Carried}
-use Rattle.bac_pdu.specs.Peer.{NetworkAddress, Station, IsRoutable, station}
-use Rattle.bac_pdu.specs.Header.{NetworkHeader, SpellsHeader, plain_header}
-use Rattle.bac_pdu.specs.Bits.{bit}
+use Rattle.bac_pdu.specs.{declared.datagram.Carried.Carried, Peer.{NetworkAddress, Station, IsRoutable, station}}
+use Rattle.bac_pdu.specs.{Header.{NetworkHeader, SpellsHeader, plain_header}, Bits.bit}
 
 -- What a datagram carries: who sent it, whether it was sent to all, and the APDU.
 pub record Delivery : Type 0 where

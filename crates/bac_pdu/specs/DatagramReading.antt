@@ -1,13 +1,9 @@
 -- Reading a datagram from left to right.
 use Rattle.std.specs.Prelude.{ℕ, ◌+◌, nat_lt, ◌==◌, Bool, true, false, ◌&&◌, ◌||◌, is_some, if◌then◌else◌, List, []}
-use Rattle.std.specs.Prelude.{◌∷◌, length, take, drop, Option, Some, None}
-use Rattle.std.specs.Option.{option_map_or}
+use Rattle.std.specs.{Prelude.{◌∷◌, length, take, drop, Option, Some, None}, Option.option_map_or}
 use Rattle.byteorder.specs.Endian.{big_number}
-use Rattle.bac_wire.specs.Steps.{◌>>=◌}
-use Rattle.bac_wire.specs.TagReading.{two_at}
-use Rattle.bac_pdu.specs.Bits.{bit}
-use Rattle.bac_pdu.specs.Peer.{NetworkAddress, Station}
-use Rattle.bac_pdu.specs.Header.{NetworkHeader}
+use Rattle.bac_wire.specs.{Steps.◌>>=◌, TagReading.two_at}
+use Rattle.bac_pdu.specs.{Bits.bit, Peer.{NetworkAddress, Station}, Header.NetworkHeader}
 use Rattle.bac_pdu.specs.Datagram.{Delivery, originator}
 
 -- As many octets as the first one says, and those behind them.

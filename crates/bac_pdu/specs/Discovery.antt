@@ -1,15 +1,11 @@
 -- The bodies of Who-Is and I-Am (clauses 16.10 and 21).
-use Rattle.std.specs.Prelude.{◌≡◌, ℕ, nat_le, Bool, true, ◌&&◌, List, [], ◌∷◌, ◌++◌}
-use Rattle.std.specs.List.{flat_map}
-use Rattle.bac_wire.specs.Identifier.{Identifier, identifier}
-use Rattle.bac_wire.specs.Datum.{Datum, unsigned, enumerated, Spells, plain}
+use Rattle.std.specs.{Prelude.{◌≡◌, ℕ, nat_le, Bool, true, ◌&&◌, List, [], ◌∷◌, ◌++◌}, List.flat_map}
+use Rattle.bac_wire.specs.{Identifier.{Identifier, identifier}, Datum.{Datum, unsigned, enumerated, Spells, plain}}
+use Rattle.bac_wire.specs.{Parameter.number_octets, Front.SpellsAll}
 use Rattle.bac_wire.specs.Datum as values
-use Rattle.bac_wire.specs.Parameter.{number_octets}
-use Rattle.bac_pdu.specs.declared.discovery.IAm.{IAm}
-use Rattle.bac_pdu.specs.declared.discovery.WhoIs.{WhoIs}
-use Rattle.bac_pdu.specs.declared.discovery.WhoIs.TheVariants as limits
-use Rattle.bac_wire.specs.Front.{SpellsAll}
+use Rattle.bac_pdu.specs.declared.discovery.{IAm.IAm, WhoIs.WhoIs}
 use Rattle.bac_pdu.specs.Parameter.{numbered, SpellsParameter}
+use Rattle.bac_pdu.specs.declared.discovery.WhoIs.TheVariants as limits
 
 -- The body of a Who-Is: nothing, or the low limit under tag 0 and the high one under tag 1.
 abbrev pub IsWhoIsBody : List ℕ → WhoIs → Type 0

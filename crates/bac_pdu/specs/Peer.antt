@@ -1,8 +1,6 @@
 -- Who a datagram is from or for.
-use Rattle.std.specs.Prelude.{ℕ, ◌<◌, ◌≤◌, List, length, take, Option}
-use Rattle.std.specs.Option.{option_map}
-use Rattle.bac_pdu.specs.declared.route.Route.{Route}
-use Rattle.bac_pdu.specs.declared.peer.Peer.{Peer}
+use Rattle.std.specs.{Prelude.{ℕ, ◌<◌, ◌≤◌, List, length, take, Option}, Option.option_map}
+use Rattle.bac_pdu.specs.declared.{route.Route.Route, peer.Peer.Peer}
 
 -- A station of another network: the number of its network and its address there (clause 6.2.2).
 pub record NetworkAddress : Type 0 where

@@ -1,16 +1,10 @@
 -- The bodies of ReadProperty, its answer and WriteProperty: their parameters in their order (clauses 15.5, 15.9 and
 -- 21).
-use Rattle.std.specs.Prelude.{ℕ, ◌≤◌, List, [], ◌∷◌, ◌++◌, Option, IfSome}
-use Rattle.std.specs.Option.{option_map, option_to_list}
+use Rattle.std.specs.{Prelude.{ℕ, ◌≤◌, List, [], ◌∷◌, ◌++◌, Option, IfSome}, Option.{option_map, option_to_list}}
 use Rattle.std.specs.List.{flat_map}
-use Rattle.bac_wire.specs.declared.object_id.ObjectId.{ObjectId}
-use Rattle.bac_wire.specs.Identifier.{Identifier, identifier}
-use Rattle.bac_wire.specs.Tag.{plain_tag}
-use Rattle.bac_wire.specs.Region.{opening_tag, closing_tag}
-use Rattle.bac_pdu.specs.declared.property.ReadRequest.{ReadRequest}
-use Rattle.bac_pdu.specs.declared.property.WriteRequest.{WriteRequest}
-use Rattle.bac_pdu.specs.declared.property.Ack.{Ack}
-use Rattle.bac_wire.specs.Front.{SpellsAll}
+use Rattle.bac_wire.specs.{declared.object_id.ObjectId.ObjectId, Identifier.{Identifier, identifier}, Tag.plain_tag}
+use Rattle.bac_wire.specs.{Region.{opening_tag, closing_tag}, Front.SpellsAll}
+use Rattle.bac_pdu.specs.declared.property.{ReadRequest.ReadRequest, WriteRequest.WriteRequest, Ack.Ack}
 use Rattle.bac_pdu.specs.Parameter.{Parameter, object, numbered, value, SpellsParameter, plain_parameter}
 
 -- A property of an object, or an element of it: what a request names.

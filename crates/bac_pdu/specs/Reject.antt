@@ -1,10 +1,8 @@
 -- Why the body of a confirmed request is rejected (clause 18.9; which reason a body gets is this project's choice).
 use Rattle.std.specs.Prelude.{◌≡◌, ◌≢◌, ℕ, ◌⊎◌, List, [], ◌∷◌, IfSome, IfOk, IfErr, Result, Ok}
-use Rattle.bac_wire.specs.Identifier.{Identifier}
-use Rattle.bac_pdu.specs.declared.reject.RejectReason.{RejectReason}
-use Rattle.bac_pdu.specs.declared.reject.RejectReason.TheVariants.{InvalidTag, MissingParameter, OutOfRange, TooMany}
-use Rattle.bac_pdu.specs.declared.reject.RejectReason.TheVariants.{UnknownService}
-use Rattle.bac_wire.specs.Front.{Begins, SpellsAll}
+use Rattle.bac_wire.specs.{Identifier.Identifier, Front.{Begins, SpellsAll}}
+use Rattle.bac_pdu.specs.declared.reject.RejectReason.{RejectReason, TheVariants.{InvalidTag, MissingParameter}}
+use Rattle.bac_pdu.specs.declared.reject.RejectReason.TheVariants.{OutOfRange, TooMany, UnknownService}
 use Rattle.bac_pdu.specs.Parameter.{object, SpellsParameter}
 use Rattle.bac_pdu.specs.Property.{Reference, Order, order_parameters, IsReadBody, IsWriteBody, IsPriority}
 

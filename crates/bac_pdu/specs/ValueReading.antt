@@ -1,11 +1,8 @@
 -- Reading the bodies of Who-Is, I-Am and Error from left to right.
 use Rattle.std.specs.Prelude.{ℕ, ◌==◌, if◌then◌else◌, List, [], Option, Some, None}
-use Rattle.bac_wire.specs.Steps.{◌>>=◌}
-use Rattle.bac_wire.specs.ParameterReading.{number_at, kind_at, unsigned_in, enumerated_in, object_in}
-use Rattle.bac_pdu.specs.declared.discovery.WhoIs.{WhoIs}
+use Rattle.bac_wire.specs.{Steps.◌>>=◌, ParameterReading.{number_at, kind_at, unsigned_in, enumerated_in, object_in}}
+use Rattle.bac_pdu.specs.{declared.discovery.WhoIs.WhoIs, Discovery.Introduction, PropertyReading.whole_of}
 use Rattle.bac_pdu.specs.declared.discovery.WhoIs.TheVariants as limits
-use Rattle.bac_pdu.specs.Discovery.{Introduction}
-use Rattle.bac_pdu.specs.PropertyReading.{whole_of}
 
 -- Which devices the body of a Who-Is asks: all, or those between two limits.
 unfoldable pub who_is_of : List ℕ → Option WhoIs

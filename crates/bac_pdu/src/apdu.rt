@@ -1,7 +1,6 @@
 //! APDUs, read and written.
 
-ghost use Rattle.std.specs.Prelude.{◌≡◌, ◌<◌, [], ◌++◌, ◌∷◌, length, Some, OnOk};
-ghost use Rattle.std.specs.Option.{option_map};
+ghost use Rattle.std.specs.{Prelude.{◌≡◌, ◌<◌, [], ◌++◌, ◌∷◌, length, Some, OnOk}, Option.option_map};
 ghost use Rattle.bac_wire.specs.Writing.{Appends};
 ghost use Rattle.bac_pdu.specs.Apdu.{message, laid_out, part_flags, part_octets, IsWritable, announced_size};
 ghost use Rattle.bac_pdu.specs.ApduReading.{confirmed_of, complex_ack_of, parts_at, apdu_of};
@@ -99,7 +98,7 @@ pub fn read_apdu(octets: &[u8]) -> Option<Apdu<'_>>
             reason: *reason,
         }),
         (7, [id, reason, ..]) => Some(Apdu::Abort {
-            server: has_bit(0, *first),
+            server: has_bit(*first, 0),
             id: *id,
             reason: *reason,
         }),
@@ -175,7 +174,7 @@ fn read_complex_ack(first: u8, octets: &[u8]) -> Option<Apdu<'_>>
 fn read_parts(first: u8, octets: &[u8]) -> Option<(Option<Part>, u8, &[u8])>
     ensures { option_map (λ x. (x.0, x.1, x.2.now)) result ≡ parts_at first octets.now }
 {
-    if !has_bit(3, first) {
+    if !has_bit(first, 3) {
         let [service, body @ ..] = octets else {
             return None;
         };
@@ -185,7 +184,7 @@ fn read_parts(first: u8, octets: &[u8]) -> Option<(Option<Part>, u8, &[u8])>
         return None;
     };
     let part = Part {
-        more: has_bit(2, first),
+        more: has_bit(first, 2),
         sequence: *sequence,
         window: *window,
     };
@@ -249,7 +248,7 @@ fn head_of(begin: &[u8], part: Option<Part>, service: u8) -> ArrayVec<u8, 6>
     ensures value { result.items ≡ begin.now ++ (part_octets part ++ service ∷ []) }
 {
     let mut head = ArrayVec::new();
-    let _ = head.try_extend_from_slice(begin);
+    head.try_extend_from_slice(begin).unwrap();
     if let Some(part) = part {
         head.push(part.sequence);
         head.push(part.window);

@@ -4,7 +4,7 @@ ghost use Rattle.std.specs.Prelude.{◌≡◌, ◌<◌};
 ghost use Rattle.bac_pdu.specs.Bits.{bit};
 
 /// Whether the bit of this number is set; bit 0 is the lowest.
-pub(crate) fn has_bit(number: u8, octet: u8) -> bool
+pub(crate) fn has_bit(octet: u8, number: u8) -> bool
     requires { number < 8 }
     ensures { result ≡ bit number octet }
 {

@@ -3,10 +3,8 @@
 ghost use Rattle.std.specs.Prelude.{◌≡◌, ◌<◌, ◌≤◌, ◌+◌, ◌^◌, length, None, IfOk, IfSome, OnOk, OnErr};
 ghost use Rattle.std.specs.Option.{option_map};
 ghost use Rattle.bac_wire.specs.Limits.{frame_room};
-ghost use Rattle.bac_pdu.specs.Peer.{station, IsRoutable};
-ghost use Rattle.bac_pdu.specs.Datagram.{delivery, Takes, wrapped};
-ghost use Rattle.bac_pdu.specs.Inner.Datagram.{front_octets};
-ghost use Rattle.bac_pdu.specs.DatagramReading.{link_at, origin_at, carried};
+ghost use Rattle.bac_pdu.specs.{Peer.{station, IsRoutable}, Datagram.{delivery, Takes, wrapped}};
+ghost use Rattle.bac_pdu.specs.{Inner.Datagram.front_octets, DatagramReading.{link_at, origin_at, carried}};
 
 use crate::header::{HEADER_OCTETS, header_and_rest, local_header, network_header};
 use crate::peer::Peer;
@@ -163,7 +161,7 @@ fn front_of(to: Peer, expect: bool, size: usize) -> Result<ArrayVec<u8, FRONT_OC
 {
     let header = network_header(to.route, expect);
     let length = 4 + header.len() + size;
-    if FRAME_OCTETS < length {
+    if length > FRAME_OCTETS {
         return Err(Full);
     }
     let mut count = [0; 2];
@@ -171,8 +169,8 @@ fn front_of(to: Peer, expect: bool, size: usize) -> Result<ArrayVec<u8, FRONT_OC
     let mut front = ArrayVec::new();
     front.push(BACNET_IP);
     front.push(UNICAST);
-    let _ = front.try_extend_from_slice(&count);
-    let _ = front.try_extend_from_slice(header.as_slice());
+    front.try_extend_from_slice(&count).unwrap();
+    front.try_extend_from_slice(header.as_slice()).unwrap();
     Ok(front)
 }
 
@@ -182,14 +180,7 @@ fn local_front(expect: bool, size: usize) -> [u8; 6]
     requires { size ≤ frame_room }
     ensures { result ≡ front_octets None expect size }
 {
-    let length = 6 + size;
+    let [high, low] = (6 + size as u16).to_be_bytes();
     let [version, control] = local_header(expect);
-    [
-        BACNET_IP,
-        UNICAST,
-        (length / 256) as u8,
-        (length % 256) as u8,
-        version,
-        control,
-    ]
+    [BACNET_IP, UNICAST, high, low, version, control]
 }

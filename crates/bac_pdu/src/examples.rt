@@ -5,13 +5,9 @@ ghost use Rattle.bac_pdu.specs.declared.discovery.WhoIs.TheVariants.{All, Range}
 ghost use Rattle.bac_pdu.specs.declared.reject.RejectReason.TheVariants.{InvalidTag, MissingParameter, OutOfRange};
 ghost use Rattle.bac_pdu.specs.declared.reject.RejectReason.TheVariants.{TooMany};
 ghost use Rattle.bac_pdu.specs.Apdu.{confirmed, unconfirmed, simple_ack, complex_ack, error, reject, abort};
-ghost use Rattle.bac_pdu.specs.Datagram.{wrapped};
-ghost use Rattle.bac_pdu.specs.DatagramReading.{carried};
-ghost use Rattle.bac_pdu.specs.Discovery.{i_am_octets, who_is_octets};
-ghost use Rattle.bac_pdu.specs.Failure.{error_octets};
-ghost use Rattle.bac_pdu.specs.Property.{read_octets};
-ghost use Rattle.bac_pdu.specs.PropertyReading.{ack_of, read_of, write_of};
-ghost use Rattle.bac_pdu.specs.ValueReading.{introduction_of, who_is_of};
+ghost use Rattle.bac_pdu.specs.{Datagram.wrapped, DatagramReading.carried, Discovery.{i_am_octets, who_is_octets}};
+ghost use Rattle.bac_pdu.specs.{Failure.error_octets, Property.read_octets};
+ghost use Rattle.bac_pdu.specs.{PropertyReading.{ack_of, read_of, write_of}, ValueReading.{introduction_of, who_is_of}};
 ghost use Rattle.bac_pdu.specs.Inner.Examples.{IsWritten, desk, far, from_desk, present_value, small_device};
 
 // A ReadProperty request, from the inside to the outside: the body, the APDU and the datagram (ANSI/ASHRAE 135, 15.5,

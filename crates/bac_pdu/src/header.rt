@@ -1,9 +1,7 @@
 //! The network header, read and written.
 
-ghost use Rattle.std.specs.Prelude.{◌≡◌, ◌≤◌, length, IfSome, None};
-ghost use Rattle.std.specs.Option.{option_map};
-ghost use Rattle.bac_pdu.specs.Peer.{IsRoutable, network_address};
-ghost use Rattle.bac_pdu.specs.Header.{plain_header};
+ghost use Rattle.std.specs.{Prelude.{◌≡◌, ◌≤◌, length, IfSome, None}, Option.option_map};
+ghost use Rattle.bac_pdu.specs.{Peer.{IsRoutable, network_address}, Header.plain_header};
 ghost use Rattle.bac_pdu.specs.Inner.Header.{address_seen, header_seen};
 ghost use Rattle.bac_pdu.specs.DatagramReading.{address_at, announced_at, behind_hops, header_at};
 
@@ -55,12 +53,12 @@ pub(crate) fn header_and_rest(octets: &[u8]) -> Option<(Header<'_>, &[u8])>
     let [version, control, rest @ ..] = octets else {
         return None;
     };
-    if *version != VERSION || has_bit(NETWORK_MESSAGE, *control) {
+    if *version != VERSION || has_bit(*control, NETWORK_MESSAGE) {
         return None;
     }
-    let destined = has_bit(DESTINATION, *control);
+    let destined = has_bit(*control, DESTINATION);
     let (destination, rest) = announced_and_rest(destined, rest)?;
-    let (source, rest) = announced_and_rest(has_bit(SOURCE, *control), rest)?;
+    let (source, rest) = announced_and_rest(has_bit(*control, SOURCE), rest)?;
     let rest = rest_behind_hops(destined, rest)?;
     Some((
         Header {
@@ -87,9 +85,9 @@ pub(crate) fn network_header(route: Option<Route>, expect: bool) -> ArrayVec<u8,
     let mut network = [0; 2];
     BigEndian::write_u16(&mut network, route.network());
     header.push(DESTINED + control);
-    let _ = header.try_extend_from_slice(&network);
+    header.try_extend_from_slice(&network).unwrap();
     header.push(route.address().len() as u8);
-    let _ = header.try_extend_from_slice(route.address());
+    header.try_extend_from_slice(route.address()).unwrap();
     header.push(HOPS);
     header
 }

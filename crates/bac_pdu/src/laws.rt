@@ -1,28 +1,21 @@
 //! What holds of the definitions that the contracts cite. Each function has an empty body, and its clause is the law;
 //! those at the end are `clone` or `==` of types, and say what a clone is, or what is compared.
 
-ghost use Rattle.std.specs.Prelude.{◌≡◌, ◌↔◌, ◌+◌, ◌<◌, ◌^◌, ◌++◌, ℕ, Bool, false, List, [], ◌∷◌, length};
-ghost use Rattle.std.specs.Prelude.{Option, Some, None, IfSome, Result, Ok};
-ghost use Rattle.std.specs.List.{AllByRecursion};
-ghost use Rattle.bac_wire.specs.Datum.{IsDatum, enumerated};
-ghost use Rattle.bac_pdu.specs.declared.discovery.WhoIs.{WhoIs};
-ghost use Rattle.bac_pdu.specs.declared.discovery.WhoIs.TheVariants.{Range};
+ghost use Rattle.std.specs.Prelude.{◌≡◌, ◌↔◌, ◌+◌, ◌<◌, ◌^◌, ◌++◌, ℕ, Bool, false, List, [], ◌∷◌, length, Option, Some};
+ghost use Rattle.std.specs.{Prelude.{None, IfSome, Result, Ok}, List.AllByRecursion};
+ghost use Rattle.bac_wire.specs.{Datum.{IsDatum, enumerated}, Copies.{MakesCopies, EqualsBy}};
+ghost use Rattle.bac_pdu.specs.{declared.discovery.WhoIs.WhoIs, declared.discovery.WhoIs.TheVariants.Range};
 ghost use Rattle.bac_pdu.specs.declared.reject.RejectReason.{RejectReason};
 ghost use Rattle.bac_pdu.specs.Peer.{Station, NetworkAddress, IsRoutable, network_address, station};
-ghost use Rattle.bac_wire.specs.Copies.{MakesCopies, EqualsBy};
-ghost use Rattle.bac_pdu.specs.Datagram.{Delivery, Carries, Takes, front_count, wrapped};
-ghost use Rattle.bac_pdu.specs.DatagramReading.{carried};
+ghost use Rattle.bac_pdu.specs.{Datagram.{Delivery, Carries, Takes, front_count, wrapped}, DatagramReading.carried};
 ghost use Rattle.bac_pdu.specs.Apdu.{Message, message, IsLaidOut, IsWritable, laid_out, longest_body};
-ghost use Rattle.bac_pdu.specs.ApduReading.{apdu_of};
-ghost use Rattle.bac_pdu.specs.Parameter.{IsParameter};
-ghost use Rattle.bac_pdu.specs.Property.{Reference, ReadAck, Order, reference, ack_seen, order, reference_parameters};
-ghost use Rattle.bac_pdu.specs.Property.{order_parameters, ack_parameters, IsPriority, IsReadBody, IsWriteBody};
-ghost use Rattle.bac_pdu.specs.Property.{IsAckBody, read_octets, write_octets, ack_octets, ack_front, ack_end};
-ghost use Rattle.bac_pdu.specs.Reject.{IsOutcome, ReadFault, WriteFault};
-ghost use Rattle.bac_pdu.specs.PropertyReading.{read_of, write_of, ack_of};
+ghost use Rattle.bac_pdu.specs.{ApduReading.apdu_of, Parameter.IsParameter, Property.{Reference, ReadAck, Order}};
+ghost use Rattle.bac_pdu.specs.Property.{reference, ack_seen, order, reference_parameters, order_parameters};
+ghost use Rattle.bac_pdu.specs.Property.{ack_parameters, IsPriority, IsReadBody, IsWriteBody, IsAckBody, read_octets};
+ghost use Rattle.bac_pdu.specs.Property.{write_octets, ack_octets, ack_front, ack_end};
+ghost use Rattle.bac_pdu.specs.{Reject.{IsOutcome, ReadFault, WriteFault}, PropertyReading.{read_of, write_of, ack_of}};
 ghost use Rattle.bac_pdu.specs.Discovery.{Introduction, introduction, introduction_values, IsWhoIsBody, IsIAmBody};
-ghost use Rattle.bac_pdu.specs.Discovery.{who_is_octets, i_am_octets};
-ghost use Rattle.bac_pdu.specs.Failure.{IsErrorBody, error_octets};
+ghost use Rattle.bac_pdu.specs.{Discovery.{who_is_octets, i_am_octets}, Failure.{IsErrorBody, error_octets}};
 ghost use Rattle.bac_pdu.specs.ValueReading.{who_is_of, introduction_of, error_of};
 
 use crate::apdu::{Apdu, LONGEST_BODY, Part};

@@ -1,18 +1,13 @@
 //! The parameters of a service body: context tags, and items between brackets.
 
-ghost use Rattle.std.specs.Prelude.{◌≡◌, ◌<◌, ◌≤◌, ◌^◌, length, IfSome};
-ghost use Rattle.std.specs.Option.{option_map};
-ghost use Rattle.bac_wire.specs.Identifier.{IsIdentifier, identifier};
-ghost use Rattle.bac_wire.specs.Tag.{plain_tag};
-ghost use Rattle.bac_wire.specs.Region.{opening_tag, closing_tag};
-ghost use Rattle.bac_wire.specs.DatumReading.{number_within};
+ghost use Rattle.std.specs.{Prelude.{◌≡◌, ◌<◌, ◌≤◌, ◌^◌, length, IfSome}, Option.option_map};
+ghost use Rattle.bac_wire.specs.{Identifier.{IsIdentifier, identifier}, Tag.plain_tag};
+ghost use Rattle.bac_wire.specs.{Region.{opening_tag, closing_tag}, DatumReading.number_within};
 ghost use Rattle.bac_wire.specs.ItemReading.{behind_closing};
 ghost use Rattle.bac_wire.specs.Parameter.{context_octets, number_octets, object_octets, enclosed_octets};
 ghost use Rattle.bac_wire.specs.ParameterReading.{context_at, number_at, object_at, behind_opening, enclosed_at};
-ghost use Rattle.bac_wire.specs.Writing.{Appends};
-ghost use Rattle.bac_wire.specs.Inner.Writing.{AppendsFront};
-ghost use Rattle.bac_pdu.specs.Inner.Parameter.{optional_octets};
-ghost use Rattle.bac_pdu.specs.PropertyReading.{optional_at};
+ghost use Rattle.bac_wire.specs.{Writing.Appends, Inner.Writing.AppendsFront};
+ghost use Rattle.bac_pdu.specs.{Inner.Parameter.optional_octets, PropertyReading.optional_at};
 
 use arrayvec::ArrayVec;
 use bac_wire::{Frame, Full, ObjectId, Shape, octet_count, region, tag_and_rest};
@@ -67,7 +62,7 @@ pub(crate) fn enclosed_and_rest(octets: &[u8]) -> Option<(&[u8], &[u8])>
     ensures { option_map (λ x. (x.0.now, x.1.now)) result ≡ enclosed_at 3 octets.now }
 {
     let inside = rest_behind_opening(octets)?;
-    let (items, rest) = inside.split_at(region(inside)?);
+    let (items, rest) = inside.split_at(region(inside).count?);
     let rest = rest_behind_closing(rest)?;
     Some((items, rest))
 }
@@ -211,6 +206,6 @@ fn append_context(body: &mut Frame, number: u8, contents: &[u8]) -> Result<(), F
 {
     let mut octets = ArrayVec::<u8, 5>::new();
     octets.push(16 * number + 8 + contents.len() as u8);
-    let _ = octets.try_extend_from_slice(contents);
+    octets.try_extend_from_slice(contents).unwrap();
     body.append(octets.as_slice())
 }

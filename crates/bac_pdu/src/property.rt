@@ -1,18 +1,11 @@
 //! ReadProperty, its answer, and WriteProperty, read and written.
 
-ghost use Rattle.std.specs.Prelude.{◌≡◌, Some, Ok, OnOk, IfSome};
-ghost use Rattle.std.specs.Option.{option_map};
-ghost use Rattle.std.specs.List.{AllByRecursion};
-ghost use Rattle.bac_wire.specs.Limits.{deepest};
-ghost use Rattle.bac_wire.specs.Front.{IsShortest};
-ghost use Rattle.bac_wire.specs.Writing.{Appends};
-ghost use Rattle.bac_wire.specs.Inner.Writing.{AppendsFront};
-ghost use Rattle.bac_wire.specs.Region.{IsRegion};
-ghost use Rattle.bac_pdu.specs.Parameter.{IsParameter};
-ghost use Rattle.bac_wire.specs.Steps.{result_seen};
-ghost use Rattle.bac_pdu.specs.Property.{reference, order, ack_seen, reference_parameters, IsPriority, IsReadBody};
-ghost use Rattle.bac_pdu.specs.Property.{IsWriteBody, IsAckBody, read_octets, write_octets, ack_octets, ack_front};
-ghost use Rattle.bac_pdu.specs.Property.{ack_end};
+ghost use Rattle.std.specs.{Prelude.{◌≡◌, Some, Ok, OnOk, IfSome}, Option.option_map, List.AllByRecursion};
+ghost use Rattle.bac_wire.specs.{Limits.deepest, Front.IsShortest, Writing.Appends, Inner.Writing.AppendsFront};
+ghost use Rattle.bac_wire.specs.{Region.IsRegion, Steps.result_seen};
+ghost use Rattle.bac_pdu.specs.{Parameter.IsParameter, Property.{reference, order, ack_seen, reference_parameters}};
+ghost use Rattle.bac_pdu.specs.Property.{IsPriority, IsReadBody, IsWriteBody, IsAckBody, read_octets, write_octets};
+ghost use Rattle.bac_pdu.specs.Property.{ack_octets, ack_front, ack_end};
 ghost use Rattle.bac_pdu.specs.PropertyReading.{reference_at, read_of, write_of, ack_of};
 
 use crate::parameter::{

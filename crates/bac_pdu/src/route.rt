@@ -37,7 +37,7 @@ impl Route {
         if network == 0
             || network == u16::MAX
             || address.is_empty()
-            || ADDRESS_OCTETS < address.len()
+            || address.len() > ADDRESS_OCTETS
         {
             return None;
         }

@@ -1,8 +1,7 @@
 //! What is written is appended whole, or not at all.
 
 ghost use Rattle.std.specs.Prelude.{◌≡◌, ◌≤◌, ℕ, List, length};
-ghost use Rattle.bac_wire.specs.Writing.{Appends};
-ghost use Rattle.bac_wire.specs.Inner.Writing.{AppendsFront};
+ghost use Rattle.bac_wire.specs.{Writing.Appends, Inner.Writing.AppendsFront};
 
 use bac_wire::{Frame, Full};
 

@@ -1,20 +1,55 @@
 -- What several reads or writes in a row do to known octets.
 use Rattle.std.proofs.{
   Common.{arith, ◌≡◌, ◌≢◌, ℕ, Bool, false, ◌||◌, List, [], ◌∷◌, ◌++◌, length, drop, Option, Result, refl, append_assoc},
-  lemmas.List.{append-nil, take-append-drop},
+  Common.{take, ◌+◌, zero, suc, Ok, Err, ap, ◌∙◌, fold, count_by, cond},
+  lemmas.{List.{append-nil, take-append-drop}, List.Sums.fold-append, Grind.flat_map-append},
 }
 use Rattle.std.specs.{
-  Prelude.is_err,
+  Prelude.{is_err, if◌then◌else◌},
   Result.result_unwrap_or,
   declared.io.Error.Error,
   Io.KnownBytes.{Keeps, Appends, Consumes, WriteAppends},
 }
+use Rattle.bac_wire.specs.Steps.{result_seen}
 use Rattle.bac_print.specs.{
   declared.checked.Checked.Checked,
   Inner.Checked.HasNotRead,
   StreamCall.{StreamCall, ReadCall, WriteCall, FlushCall},
-  Checked.{inner_of, calls_of, has_failed, octets_of, passes_none, gone, OnlyWrites, Took, Gave},
+  Checked.{inner_of, calls_of, has_failed, has_ended, ended_then, ends_of, meets_end, octets_of, passes_none, gone},
+  Checked.{OnlyWrites, Took, Gave},
 }
+
+-- ---- one call more
+
+-- The call of a read that answered this and left these octets in its room.
+abbrev read_of : Result ℕ Error → List ℕ → StreamCall
+read_of result octets = ReadCall (length octets) (result_seen (λ count. take count octets) result)
+
+read_meets : (result : Result ℕ Error) (octets : List ℕ) → meets_end (read_of result octets) ≡ passes_none result octets
+read_meets (Ok zero) octets = refl
+read_meets (Ok (suc n)) [] = grind arith
+read_meets (Ok (suc n)) (x ∷ xs) = grind arith
+read_meets (Err e) octets = refl
+
+counted : (b : Bool) (n : ℕ) → n + cond b 1 0 ≡ (if b then n + 1 else n)
+counted = grind arith
+
+module _ {T : Type 0} (old new : Checked T) (result : Result ℕ Error) (octets : List ℕ)
+    (asked : calls_of new ≡ calls_of old ++ read_of result octets ∷ []) where
+  pub read_ends : has_ended new ≡ passes_none result octets
+  read_ends = ap (fold ended_then false) asked ∙ fold-append ended_then false (calls_of old) _
+      ∙ read_meets result octets
+
+  pub read_counted : ends_of new ≡ (if passes_none result octets then ends_of old + 1 else ends_of old)
+  read_counted = ap (count_by meets_end) asked ∙ fold-append _ 0 (calls_of old) _
+      ∙ ap (λ b. ends_of old + cond b 1 0) (read_meets result octets) ∙ counted _ _
+
+-- By these it is found what one call more changes.
+pub ruleset one_call = (fold-append, flat_map-append, append-nil)
+
+pub ruleset one_read = (read_ends, read_counted, one_call)
+
+-- ---- several in a row
 
 pub Consumes-kept : (a b : Option (List ℕ)) → Keeps a b → Consumes a b []
 Consumes-kept = grind arith

@@ -52,12 +52,6 @@ module _ {W : Type 0} {contents : W → Option (List ℕ)} where
             }
       ]
 
-  -- What finds no room is written after what was held.
-  pub written_past : {before middle after : Checked W} {held between text : List ℕ} → between ≡ []
-      → Writes contents before middle held between [] →
-      Writes contents middle after [] [] text → Writes contents before after held between text
-  written_past empty first second = rw empty (writes_more (rw empty at first) second)
-
   -- Nothing printed, and nothing changed.
   pub no_print : (page : Page W) {said : List ℕ} → [] ≡ said → Prints contents page page said
   unfolding Wrote

@@ -1,35 +1,45 @@
--- What walks by hand over ghost data share. `Transcript::new` and `Transcript::and` make a struct without fields, whose
--- ghost data their clauses name. The prover writes no proof that picks ghost data, so each has a `Proof.antt`, step by
--- step: the arguments are taken, the struct is made, and the ghost data is named at the return. Their form is that of
--- the toolchain's own crates that keep such a log, `serde_json` and `http_server`.
+-- What walks by hand over ghost data share. The prover writes no proof that picks ghost data, so whoever makes a struct
+-- of it has a `Proof.antt`, step by step: the arguments are taken, the struct is made, and the ghost data is named at
+-- the return. Their form is that of the toolchain's own crates that keep such a list, `serde_json` and `http_server`.
 use seplogic.Ra.Ura.{Ura}
-use mir.Val.{Val, vstruct, vnil}
+use mir.Val.{Val, vstruct, vcons, vnil}
 use types.Logic.{Logic}
-use types.Kit.{Goal, Step, step, Item, fpack}
-use denote.RattleType.{RattleType}
-use denote.Struct.Struct.{Struct}
-pub use Rattle.std.proofs.Common.{List, [], ◌∷◌, refl}
+use types.Kit.{Goal, Step, step, Item, fpack, feq_i}
+use denote.RattleType.{Valss}
+use denote.Laws.{Is}
+use denote.Steps.{owned}
+use denote.Struct.Laws.{makes}
+use denote.Struct.Struct.{Struct, Shape, within}
+use Rattle.std.specs.contracts.marker.PhantomData as Mark
+pub use Rattle.std.proofs.Common.{List, [], ◌∷◌, ◌++◌, refl}
 pub use Rattle.std.proofs.raw_atomic.Walks.{proved}
-pub use types.Kit.{‵, raw, ◌⊛◌, ◌$◌, ◌∵◌, !, qed, done, move, keep, drop, split, fjoin, feq_i, suffices}
+pub use types.Kit.{‵, raw, ◌⊛◌, ◌$◌, ◌∵◌, !, qed, done, move, keep, split, fjoin, suffices}
 pub use types.Part.{agg}
-pub use types.Run.{enter, returns, no_more}
-pub use types.ByLocal.{alloc_all, pass_all, free_all, look_at, sets}
+pub use types.Run.{enter, returns, no_more, and_then}
+pub use types.ByLocal.{alloc_all, pass_all, free_all, look_at, get, sets}
 pub use denote.Exit.{yes}
 pub use denote.Builtin.{RefOf}
-pub use mir.Syntax.{named}
-pub use denote.RattleType.{owns}
+pub use denote.Param.{param, layouts, bounded}
+pub use mir.MapTy.{inst_fn}
+pub use mir.Syntax.{named, a_type, dcons, dnil}
+pub use denote.RattleType.{RattleType, owns}
 pub use denote.Ref.{shr_vals, shr_Tells}
-pub use denote.Signature.{plain, types_at, named_lft}
+pub use denote.Signature.{plain, types_at}
 pub use denote.Steps.{nothing}
-pub use denote.Triple.Entry.{alive, on_entry}
+pub use denote.Triple.Entry.{alive}
 pub use denote.Triple.Walked.{says, Stays, stay_dropped, ends_at, Goes-dropped}
 
-abbrev pub none : Val
-none = vstruct vnil
+abbrev pub marked : Val
+marked = vstruct (vcons (vstruct vnil) vnil)
 
-abbrev pub fieldless : RattleType
-fieldless = Struct (record { name = []; args = []; types = []; fields = [] })
+-- A struct whose one field is a mark of this type. It has no octets.
+abbrev Marked : RattleType → Shape
+Marked R = record { name = []; args = []; types = []; fields = Mark.the_row R ∷ [] }
 
-pub none_made : {M : Type 1} {𝓤 : Ura M} {𝓛 : Logic 𝓤} {K : Type 0} {Γ : List (Item 𝓤)} {G : Goal 𝓤 𝓛.H} → K
-    → Step K 𝓛 (‵ (fieldless.own_val tt (none ∷ [])) ∷ Γ) G Γ G
-none_made t = step (λ s. nothing t $ feq_i t _ _ _ refl $ fjoin t $ fpack t _ _ tt $ s)
+pub marked_made : {M : Type 1} {𝓤 : Ura M} {𝓛 : Logic 𝓤} {K : Type 0} {Γ : List (Item 𝓤)} {G : Goal 𝓤 𝓛.H} → K
+    → (R : RattleType) → Step K 𝓛 (‵ ((Struct (Marked R)).own_val (record {}, tt) (marked ∷ [])) ∷ Γ) G Γ G
+marked_made {𝓛 = 𝓛} t R = step (λ s.
+    owned t (Mark.the_row R) (Is (Mark.the_row R)) (makes (Mark.the_type R) tt 𝓛) (record {}) (vstruct vnil ∷ [])
+    (tt, (refl, tt)) $ nothing t $ move t (1 ∷ 0 ∷ []) $ fjoin t $ feq_i t (List Val) (marked ∷ []) (marked ∷ []) refl $
+    fjoin t $ fpack t (Valss (Mark.the_row R ∷ [])) (within (Marked R) (record {}, tt) (marked ∷ []))
+    (vstruct vnil ∷ [], tt) $ s)

@@ -1,11 +1,10 @@
 -- What contracts see of a checked reader or writer.
-use Rattle.std.specs.Prelude.{◌≡◌, ◌≢◌, ℕ, Bool, false, ◌&&◌, ◌||◌, ◌==◌, nat_lt}
+use Rattle.std.specs.Prelude.{◌≡◌, ◌≢◌, ℕ, Bool, false, ◌&&◌, ◌||◌, ◌==◌, nat_lt, count_by, flat_map, fold}
 use Rattle.std.specs.Prelude.{List, [], ◌∷◌, ◌++◌, length, take, Option, Result, Ok, Err, is_err}
 use Rattle.std.specs.Io.KnownBytes.{Appends, Consumes}
 use Rattle.std.specs.Result.{result_unwrap_or}
 use Rattle.bac_print.specs.declared.checked.Checked.{Checked}
-use Rattle.bac_print.specs.declared.noted.Transcript.{Transcript}
-use Rattle.bac_print.specs.StreamCall.{StreamCall, WriteCall}
+use Rattle.bac_print.specs.StreamCall.{StreamCall, ReadCall, WriteCall, FlushCall}
 
 -- The reader or writer within.
 abbrev pub inner_of : {T : Type 0} → Checked T → T
@@ -13,43 +12,13 @@ inner_of checked = checked.inner.stream
 
 -- The calls of the reader or writer within so far, each with what it answered.
 abbrev pub calls_of : {T : Type 0} → Checked T → List StreamCall
-calls_of checked = checked.inner.transcript.calls
+calls_of checked = checked.inner.transcript.items
 
 abbrev pub has_failed : {T : Type 0} → Checked T → Bool
 has_failed checked = checked.failed
 
--- The last read gave nothing, though there was room.
-abbrev pub has_ended : {T : Type 0} → Checked T → Bool
-has_ended checked = checked.ended
-
--- So many reads gave nothing, though there was room. The count stays at 2^64 - 1.
-abbrev pub ends_of : {T : Type 0} → Checked T → ℕ
-ends_of checked = checked.ends
-
 abbrev pub reads_of : {T : Type 0} → Checked T → ℕ
 reads_of checked = checked.reads
-
--- The octets that passed: what a reader gave, or what a writer took.
-abbrev pub octets_of : {T : Type 0} → Checked T → List ℕ
-octets_of checked = checked.inner.transcript.octets
-
--- The octets that passed by the last read, or the last write.
-abbrev pub last_of : {T : Type 0} → Checked T → List ℕ
-last_of checked = checked.inner.transcript.last
-
--- Nothing was asked, and nothing passed yet.
-abbrev pub nothing_passed : Transcript
-nothing_passed = record { calls = []; octets = []; last = [] }
-
--- A checked reader or writer as it is made.
-abbrev pub fresh : {T : Type 0} → T → Checked T
-fresh stream = record {
-  inner = record { stream = stream; transcript = nothing_passed };
-  failed = false;
-  ended = false;
-  ends = 0;
-  reads = 0;
-}
 
 -- A read gave nothing, though there was room for at least one octet, or a write took nothing of at least one.
 abbrev pub passes_none : {E : Type 0} → Result ℕ E → List ℕ → Bool
@@ -59,6 +28,51 @@ passes_none (Err e) octets = false
 -- The octets that passed: what a read gave of its room, or a write took of its text.
 abbrev pub gone : {E : Type 0} → Result ℕ E → List ℕ → List ℕ
 gone result octets = take (result_unwrap_or result 0) octets
+
+-- The octets that passed by a call. A flush passes none.
+abbrev pub passed_by : StreamCall → List ℕ
+passed_by (ReadCall room given) = result_unwrap_or given []
+passed_by (WriteCall octets taken) = gone taken octets
+passed_by (FlushCall done) = []
+
+-- The octets that passed: what a reader gave, or what a writer took.
+abbrev pub octets_of : {T : Type 0} → Checked T → List ℕ
+octets_of checked = flat_map passed_by (calls_of checked)
+
+-- The octets that passed last, one call later: a flush leaves them.
+abbrev pub last_then : List ℕ → StreamCall → List ℕ
+last_then last (FlushCall done) = last
+last_then last call = passed_by call
+
+-- The octets that passed by the last read, or the last write.
+abbrev pub last_of : {T : Type 0} → Checked T → List ℕ
+last_of checked = fold last_then [] (calls_of checked)
+
+-- A call is a read that gave nothing, though there was room.
+abbrev pub meets_end : StreamCall → Bool
+meets_end (ReadCall room (Ok given)) = length given == 0 && nat_lt 0 room
+meets_end call = false
+
+-- Whether the last read was such, one call later: what is no read leaves it.
+abbrev pub ended_then : Bool → StreamCall → Bool
+ended_then ended (ReadCall room given) = meets_end (ReadCall room given)
+ended_then ended call = ended
+
+-- The last read gave nothing, though there was room.
+abbrev pub has_ended : {T : Type 0} → Checked T → Bool
+has_ended checked = fold ended_then false (calls_of checked)
+
+-- So many reads gave nothing, though there was room.
+abbrev pub ends_of : {T : Type 0} → Checked T → ℕ
+ends_of checked = count_by meets_end (calls_of checked)
+
+-- A checked reader or writer as it is made: nothing was asked yet.
+abbrev pub fresh : {T : Type 0} → T → Checked T
+fresh stream = record {
+  inner = record { stream = stream; transcript = record { of = record {}; items = [] } };
+  failed = false;
+  reads = 0;
+}
 
 -- The reader gave these octets; where it knows those that it has left, they were the first of them.
 pub record Gave {R : Type 0} (left : R → Option (List ℕ)) (before after : Checked R) (given : List ℕ) : Type 0 where

@@ -5,3 +5,4 @@ pub mod PeerTexts
 pub mod Values
 pub mod Outcomes
 pub mod Inner
+pub mod Message

@@ -10,14 +10,12 @@ ghost use Rattle.bac_print.specs.Checked.{last_of, gone, fresh, passes_none};
 use crate::noted::Noted;
 use std::io::{self, Read, Write};
 
-/// A reader or a writer that remembers whether it failed and whether its end was read, and counts its reads and those
-/// of them that gave nothing.
+/// A reader or a writer that remembers whether it failed, and counts its reads. It is neither of std's: what reads or
+/// writes through it has these three methods, and no others that could pass its notes by.
 #[derive(Drop)]
 pub struct Checked<T> {
     inner: Noted<T>,
     failed: bool,
-    ended: bool,
-    ends: u64,
     reads: u64,
 }
 
@@ -33,8 +31,6 @@ impl<T> Checked<T> {
         Checked {
             inner: Noted::new(stream),
             failed: false,
-            ended: false,
-            ends: 0,
             reads: 0,
         }
     }
@@ -46,20 +42,6 @@ impl<T> Checked<T> {
         self.failed
     }
 
-    /// Whether the last read gave nothing, though there was room: what was read has ended.
-    pub fn ended(&self) -> bool
-        ensures { result ≡ has_ended self.now }
-    {
-        self.ended
-    }
-
-    /// How many reads gave nothing, though there was room.
-    pub fn ends(&self) -> u64
-        ensures { result ≡ ends_of self.now }
-    {
-        self.ends
-    }
-
     /// The reads so far, but no more than `u32::MAX`, where they are spent.
     pub fn reads(&self) -> u32
         ensures { result ≡ min (reads_of self.now) (2 ^ 32 - 1) }
@@ -68,10 +50,10 @@ impl<T> Checked<T> {
     }
 }
 
-impl<R: Read> Read for Checked<R> {
-    ghost remaining = { λ reader. R.remaining (inner_of reader) };
-
-    fn read(&mut self, buf: &mut [u8]) -> io::Result<usize>
+impl<R: Read> Checked<R> {
+    /// One read of the reader, into this room.
+    #[tactic(auto, using(crate::proofs::Known::one_read))]
+    pub fn read(&mut self, buf: &mut [u8]) -> io::Result<usize>
         ensures bound { ReadsAtMost result buf.new }
         ensures asked { calls_of self.new ≡ calls_of self.old
             ++ ReadCall (length buf.old) (result_seen (λ count. take count buf.new) result) ∷ [] }
@@ -80,17 +62,13 @@ impl<R: Read> Read for Checked<R> {
         ensures failed { has_failed self.new ≡ (has_failed self.old || is_err result) }
         ensures ended { has_ended self.new ≡ passes_none result buf.new }
         ensures ends { ends_of self.new
-            ≡ (if passes_none result buf.new then min (ends_of self.old + 1) (2 ^ 64 - 1) else ends_of self.old) }
+            ≡ (if passes_none result buf.new then ends_of self.old + 1 else ends_of self.old) }
         ensures passed { octets_of self.new ≡ octets_of self.old ++ gone result buf.new }
         ensures last { last_of self.new ≡ gone result buf.new }
         ensures reads { reads_of self.new ≡ min (reads_of self.old + 1) (2 ^ 64 - 1) }
     {
         self.reads = self.reads.saturating_add(1);
         let outcome = self.inner.read(buf);
-        self.ended = matches!(outcome, Ok(0)) && !buf.is_empty();
-        if self.ended {
-            self.ends = self.ends.saturating_add(1);
-        }
         if outcome.is_err() {
             self.failed = true;
         }
@@ -98,16 +76,17 @@ impl<R: Read> Read for Checked<R> {
     }
 }
 
-impl<W: Write> Write for Checked<W> {
-    ghost contents = { λ writer. W.contents (inner_of writer) };
-
-    fn write(&mut self, buf: &[u8]) -> io::Result<usize>
+impl<W: Write> Checked<W> {
+    /// One write to the writer, of these octets.
+    #[tactic(auto, using(crate::proofs::Known::one_call))]
+    pub fn write(&mut self, buf: &[u8]) -> io::Result<usize>
         ensures bound { WritesAtMost result buf.now }
         ensures asked { calls_of self.new ≡ calls_of self.old ++ WriteCall buf.now result ∷ [] }
         ensures bytes { WriteAppends (W.contents (inner_of self.old)) (W.contents (inner_of self.new)) result buf.now }
         ensures failed { has_failed self.new ≡ (has_failed self.old || is_err result || passes_none result buf.now) }
         ensures passed { octets_of self.new ≡ octets_of self.old ++ gone result buf.now }
         ensures last { last_of self.new ≡ gone result buf.now }
+        ensures ended { (has_ended self.new ≡ has_ended self.old) × (ends_of self.new ≡ ends_of self.old) }
         ensures reads { self.new ≡ record self.old { inner = self.new.inner; failed = self.new.failed } }
     {
         let outcome = self.inner.write(buf);
@@ -119,10 +98,13 @@ impl<W: Write> Write for Checked<W> {
         outcome
     }
 
-    fn flush(&mut self) -> io::Result<()>
+    /// One flush of the writer.
+    #[tactic(auto, using(crate::proofs::Known::one_call))]
+    pub fn flush(&mut self) -> io::Result<()>
         ensures asked { calls_of self.new ≡ calls_of self.old ++ FlushCall result ∷ [] }
         ensures passed { (octets_of self.new ≡ octets_of self.old) × (last_of self.new ≡ last_of self.old) }
         ensures bytes { Keeps (W.contents (inner_of self.old)) (W.contents (inner_of self.new)) }
+        ensures ended { (has_ended self.new ≡ has_ended self.old) × (ends_of self.new ≡ ends_of self.old) }
         ensures reads { self.new ≡ record self.old { inner = self.new.inner } }
     {
         self.inner.flush()

@@ -17,8 +17,9 @@
 
 mod checked;
 mod examples;
-mod hex_lanes;
+mod ghost_list;
 pub mod laws;
+mod message;
 mod noted;
 mod outcomes;
 mod page;
@@ -26,6 +27,8 @@ mod peer_texts;
 mod values;
 
 pub use checked::{Checked, WriteFailed};
+pub use ghost_list::{GhostList, NoteOf};
+pub use message::Message;
 pub use outcomes::{print_outcome, show_outcome};
 pub use page::Page;
 pub use values::show_value;

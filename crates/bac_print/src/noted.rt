@@ -1,10 +1,12 @@
 //! Readers and writers with a note of each of their calls.
-ghost use Rattle.std.specs.Prelude.{◌≡◌, ℕ, List, length};
+ghost use Rattle.std.specs.Prelude.{◌≡◌, [], ◌∷◌, ◌++◌, length, take};
 ghost use Rattle.std.specs.Borrow.{ftrue};
 ghost use Rattle.std.specs.Io.{ReadsAtMost, WritesAtMost};
 ghost use Rattle.std.specs.Io.KnownBytes.{ReadConsumes, WriteAppends, Keeps};
-ghost use Rattle.bac_print.specs.StreamCall.{StreamCall};
+ghost use Rattle.bac_wire.specs.Steps.{result_seen};
+ghost use Rattle.bac_print.specs.StreamCall.{StreamCall, ReadCall, WriteCall, FlushCall};
 
+use crate::ghost_list::{GhostList, NoteOf};
 use std::io::{self, Read, Write};
 use std::marker::Model;
 
@@ -13,71 +15,67 @@ use std::marker::Model;
 #[derive(Drop)]
 pub(crate) struct Noted<T> {
     stream: T,
-    transcript: Transcript,
+    transcript: GhostList<CallMade>,
 }
 
 impl<T> Noted<T> {
-    ghost use Rattle.bac_print.specs.Checked.{nothing_passed};
-
     /// The reader or writer before its first call.
     pub(crate) fn new(stream: T) -> Self
-        ensures { result ≡ record { stream = stream; transcript = nothing_passed } }
+        ensures { result ≡ record { stream = stream; transcript = record { of = record {}; items = [] } } }
     {
-        let transcript = Transcript::new();
+        let transcript = GhostList::new();
         Noted { stream, transcript }
     }
 }
 
 impl<R: Read> Noted<R> {
-    ghost use Rattle.bac_print.specs.Inner.Checked.{with_read};
-
     /// One read of the reader.
     pub(crate) fn read(&mut self, room: &mut [u8]) -> io::Result<usize>
         ensures bound { ReadsAtMost result room.new }
         ensures bytes { ReadConsumes (R.remaining self.old.stream) (R.remaining self.new.stream) result room.new }
-        ensures noted { self.new.transcript ≡ with_read (length room.old) result room.new self.old.transcript }
+        ensures noted { self.new.transcript.items ≡ self.old.transcript.items
+            ++ ReadCall (length room.old) (result_seen (λ count. take count room.new) result) ∷ [] }
     {
         let answer = self.stream.read(room);
-        self.transcript = self.transcript.and(&Made::Read(room, &answer));
+        self.transcript.push(&Made::Read(room, &answer));
         answer
     }
 }
 
 impl<W: Write> Noted<W> {
-    ghost use Rattle.bac_print.specs.Inner.Checked.{with_write, with_flush};
-
     /// One write to the writer.
     pub(crate) fn write(&mut self, octets: &[u8]) -> io::Result<usize>
         ensures bound { WritesAtMost result octets.now }
         ensures bytes { WriteAppends (W.contents self.old.stream) (W.contents self.new.stream) result octets.now }
-        ensures noted { self.new.transcript ≡ with_write octets.now result self.old.transcript }
+        ensures noted { self.new.transcript.items ≡ self.old.transcript.items ++ WriteCall octets.now result ∷ [] }
     {
         let answer = self.stream.write(octets);
-        self.transcript = self.transcript.and(&Made::Write(octets, &answer));
+        self.transcript.push(&Made::Write(octets, &answer));
         answer
     }
 
     /// One flush of the writer.
     pub(crate) fn flush(&mut self) -> io::Result<()>
         ensures bytes { Keeps (W.contents self.old.stream) (W.contents self.new.stream) }
-        ensures noted { self.new.transcript ≡ with_flush result self.old.transcript }
+        ensures noted { self.new.transcript.items ≡ self.old.transcript.items ++ FlushCall result ∷ [] }
     {
         let answer = self.stream.flush();
-        self.transcript = self.transcript.and(&Made::Flush(&answer));
+        self.transcript.push(&Made::Flush(&answer));
         answer
     }
 }
 
-/// What a reader or a writer was asked, and what passed: the calls so far with their answers, the octets that passed,
-/// and those of them that passed last. It exists only in proofs: it takes no memory, and its methods do nothing.
+/// A call of a reader or a writer with its answer, as clauses see it. No code makes one.
 #[derive(Drop)]
-pub(crate) struct Transcript {
-    pub ghost calls: { List StreamCall },
-    pub ghost octets: { List ℕ },
-    pub ghost last: { List ℕ },
+pub(crate) struct CallMade {
+    ghost call: { StreamCall },
 }
 
-impl Model for Transcript {
+impl Model for CallMade {
+    ghost Value = { StreamCall };
+
+    ghost view = { λ made. made.call };
+
     ghost also_owns = { λ _. ftrue };
 }
 
@@ -89,21 +87,8 @@ pub(crate) enum Made<'a> {
     Flush(&'a io::Result<()>),
 }
 
-impl Transcript {
-    ghost use Rattle.bac_print.specs.Checked.{nothing_passed};
-    ghost use Rattle.bac_print.specs.Inner.Checked.{with_call};
+impl NoteOf<CallMade> for Made<'_> {
+    ghost use Rattle.bac_print.specs.Inner.Checked.{call_of};
 
-    /// Nothing passed yet.
-    pub fn new() -> Transcript
-        ensures { result ≡ nothing_passed }
-    {
-        Transcript {}
-    }
-
-    /// The transcript, and this call behind it.
-    pub fn and(&self, _call: &Made<'_>) -> Transcript
-        ensures { result ≡ with_call _call.now self.now }
-    {
-        Transcript {}
-    }
+    ghost tells = { call_of };
 }

@@ -6,7 +6,6 @@ ghost use Rattle.bac_print.specs.Inner.Checked.{HasNotRead};
 ghost use Rattle.bac_print.specs.Page.{held, writer_of, Writes, Prints};
 
 use crate::checked::{Checked, WriteFailed};
-use crate::hex_lanes::write_hex;
 use arrayvec::ArrayVec;
 use std::io::Write;
 
@@ -95,22 +94,15 @@ impl<'w, W: Write> Page<'w, W> {
         self.hold_or_write(text);
     }
 
-    // Holds the text, or writes it where no page has room for it.
+    // Holds the text on an empty page, or writes it where no page has room for it.
     #[tactic(auto, unfolding(crate::specs::Page::Wrote))]
     fn hold_or_write(&mut self, text: &[u8])
+        requires { held self.old ≡ [] }
         ensures { Prints W.contents self.old self.new text.now }
     {
         if self.held.try_extend_from_slice(text).is_err() {
-            self.write_past(text);
+            write_on(self.writer, text);
         }
-    }
-
-    // Writes the text behind what the page holds.
-    fn write_past(&mut self, text: &[u8])
-        ensures { Prints W.contents self.old self.new text.now }
-    {
-        self.turn_in();
-        write_on(self.writer, text);
     }
 }
 
@@ -144,7 +136,7 @@ impl<W: Write> Page<'_, W> {
     {
         let mut digits = [0; 2 * HEX_PART];
         let digits = &mut digits[..2 * octets.len()];
-        write_hex(octets, digits);
+        hex::encode_to_slice(octets, digits).unwrap();
         self.print(digits);
     }
 }
@@ -179,8 +171,7 @@ fn write_on<W: Write>(writer: &mut Checked<W>, text: &[u8])
     }
 }
 
-// Writes the whole text, or fails after a front of it. It stands apart from what `Checked` keeps, so a writer fails by
-// nothing but its own writes.
+// Writes the whole text, or fails after a front of it.
 fn put<W: Write>(writer: &mut Checked<W>, text: &[u8]) -> Result<(), WriteFailed>
     requires { has_failed writer.old ≡ false }
     ensures text { TookOrFailed W.contents writer.old writer.new text.now result }

@@ -11,7 +11,7 @@ use Rattle.std.specs.{List.{slice_range, copy_within}, Io.KnownBytes.{Consumes, 
 use borrow.Rule.Slice.PartMut.{put_mid}
 use Rattle.bac_print.specs.{declared.checked.Checked.Checked, Checked.{inner_of, octets_of}}
 use Rattle.bac_script.{
-  specs.Inner.{Feeds.HasNoFeed, Limits.{line_room, chunk_room}, Input.{TakesAndKeeps, IsLineCut}},
+  specs.Inner.{Feeds.HasNoFeed, Limits.{line_room, chunk_room}, Input.{TakesAndKeeps, HasNoLine, IsLineCut, IsUnread}},
   specs.declared.input.Reading.TheVariants.Open,
   proofs.Taken.{no_feed, no_feed_on, feed_at},
 }
@@ -34,8 +34,8 @@ pub record IsSearched (count : ℕ) (held : List ℕ) : Type 0 where
   pub before : HasNoFeed (take count held)
 
 -- What was held when more was read has been searched.
-pub searched_on : {Same : Type 0} {held later : List ℕ} (last : List ℕ) → HasNoFeed held → length held < line_room
-    → (Same × (later ≡ held)) ⊎ (later ≡ held ++ last) → IsSearched (length held) later
+pub searched_on : {R : Type 0} {b c : Checked R} {held later : List ℕ} (last : List ℕ) → HasNoFeed held
+    → length held < line_room → IsUnread b c held later ⊎ (later ≡ held ++ last) → IsSearched (length held) later
 searched_on _ none short (inl same) = grind (arith, take_all)
 searched_on _ none short (inr more) = grind (arith, length-append, take-append-le, take_all)
 
@@ -73,11 +73,11 @@ module _ (xs : List ℕ) (start count limit end : ℕ) (is : limit ≡ min end (
       sym (take-take (count + place + 1) (limit - start) held there) ∙ ap (λ (n : ℕ). take n front) all
       ∙ grind (arith, common_steps, take-add count (place + 1) front, f.ended) in (
         omega (arith, size, there, is),
-        inl (
-          take count front ++ take place rest,
-          no_feed_on (take count front) (take place rest) searched f.before,
-          whole,
-        ),
+        inl (record {
+          text = take count front ++ take place rest;
+          no_feed = no_feed_on (take count front) (take place rest) searched f.before;
+          ended = whole;
+        }),
       )
 
   -- There is no line feed up to where was searched.
@@ -88,7 +88,7 @@ module _ (xs : List ℕ) (start count limit end : ℕ) (is : limit ≡ min end (
 
   -- Nor among all that is held, where no more is.
   pub none_held : position (λ octet. octet == 10) (slice_range xs (start + count) limit) ≡ None →
-      limit - start < line_room → HasNoFeed held × (length held < line_room)
+      limit - start < line_room → HasNoLine held
   none_held = grind (arith, none_up_to, take_all, size)
 
   pub cut_as_long : position (λ octet. octet == 10) (slice_range xs (start + count) limit) ≡ None →

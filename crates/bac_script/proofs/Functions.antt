@@ -13,7 +13,7 @@ use Rattle.bac_script.specs.{
   Input.{most_reads, ReaderStands},
   Line.{Said, said},
   Tracing.Traces,
-  Alike.{IsFrontOf, GaveSame, GaveFront, IsWritten, AreAlike},
+  Alike.{IsFrontOf, GaveSame, GaveFront, IsWrittenOf, AreAlike},
   Script.{lines, is_nothing, text, fault_or, fault_from, EndsAs, Runs},
 }
 use Rattle.bac_script.proofs.{Courses.RunsWhole, Fronts.text_front}
@@ -39,7 +39,7 @@ front_of : (octets : List ℕ) (reading : Reading) (written : List ℕ) (answer 
 front_of = grind (arith, append-nil)
 
 is_written : (octets : List ℕ) (reading : Reading) (written : List ℕ) (answer : Result TraceEnd TraceFault)
-    → Runs octets reading written answer → IsWritten written (text octets reading) answer
+    → Runs octets reading written answer → IsWrittenOf written (text octets reading) answer
 is_written = grind arith
 
 whole_of : (octets : List ℕ) (reading : Reading) (written : List ℕ) (answer : Result TraceEnd TraceFault)
@@ -89,7 +89,7 @@ read_fails {remaining = remaining} reader reader' writer writer' run =
     go : (reading : Reading) → ReaderStands remaining reading reader reader' []
         → EndsAs reading (length (lines run.given run.reading)) unread
         → (has_failed reader' ≡ true) ⊎ (most_reads ≤ reads_of reader')
-    go Failed stands ends = stands.1
+    go Failed stands ends = stands.failed
     go AtEnd stands ends = cc
     go Open stands ends = absurd ends
 
@@ -130,13 +130,13 @@ module _ {R S V W : Type 0} {remaining : R → Option (List ℕ)} {remaining' : 
 
   -- A run whose reader gave less, and did not end, wrote a front of the other's text.
   pub traces_front : GaveFront reader' other_reader' → (text : List ℕ) × IsFrontOf (octets_of writer') text
-      × IsWritten (octets_of other_writer') text other_answer
+      × IsWrittenOf (octets_of other_writer') text other_answer
   traces_front less =
       let front = front_of run.given run.reading run.written answer run.runs in
       let lines_are = same_lines run.given run.reading Open (grind arith) in
       let open_text : text run.given Open ≡ run.written ++ front.0 = grind arith in
-      let given : other.given ≡ run.given ++ less.0.0 = grind arith in
-      let more = text_front run.given less.0.0 other.reading in (
+      let given : other.given ≡ run.given ++ less.front.0 = grind arith in
+      let more = text_front run.given less.front.0 other.reading in (
         text other.given other.reading,
         (
           front.0 ++ more.0,

@@ -83,7 +83,7 @@ goes_further _ line text _ is_first _ _ _ goes_on (inr c) ok still =
 goes_further octets line text stage is_first _ count one goes_on (inl c) ok still = λ more reading.
     let later = λ (s : Said) (first : Bool). course (ran stage s).after first (count + 1) (lines more reading) in
     goes_to octets line more text stage is_first count reading (line ∷ lines more reading) goes_on
-    (rw c.2 (lines-ended c.0 more reading c.1))
+    (rw c.ended (lines-ended c.text more reading c.no_feed))
     ∙ ap (λ (r : Result Said LineFault). behind text (and_on stage count r (λ s. later s (is_first && is_nothing s))))
     ok ∙ behind_both text (ran stage one).text (later one (is_first && is_nothing one))
     ∙ ap (λ (first : Bool). behind (text ++ (ran stage one).text) (later one first)) (sym still)
@@ -157,9 +157,9 @@ module _ {R W : Type 0} {remaining : R → Option (List ℕ)} {contents : W → 
   needed : IsNeeded reader reader' taken.given
   needed = elim need [
     | inl same ↦
-        subst (λ (r : Checked R). IsNeeded reader r taken.given) (sym same.0) (subst (IsNeeded reader middle)
-        (s.taken.order ∙ ap (λ (zs : List ℕ). s.octets ++ zs) (sym same.1) ∙ sym given_is) s.needed)
-    | inr both ↦ let r = both.0 in inr (record {
+        subst (λ (r : Checked R). IsNeeded reader r taken.given) (sym same.same) (subst (IsNeeded reader middle)
+        (s.taken.order ∙ ap (λ (zs : List ℕ). s.octets ++ zs) (sym same.kept) ∙ sym given_is) s.needed)
+    | inr both ↦ let r = both.last in inr (record {
       before = s.octets ++ (held ++ r.before);
       order = given_is ∙ ap (λ (zs : List ℕ). s.octets ++ zs) r.order
           ∙ sym (append_assoc s.octets (held ++ r.before) (last_of reader'));
@@ -185,17 +185,18 @@ module _ {R W : Type 0} {remaining : R → Option (List ℕ)} {contents : W → 
   told : IsToldFirst reader' (writer_of page) (writer_of kept) taken.given
   told = elim need [
     | inl same ↦ λ before split. further _ handed (s.told before
-        (s.taken.order ∙ ap (λ (zs : List ℕ). s.octets ++ zs) (sym same.1) ∙ sym given_is ∙ split
-        ∙ ap (λ (r : Checked R). before ++ last_of r) same.0))
-    | inr both ↦ λ before split. let r = both.0 in
+        (s.taken.order ∙ ap (λ (zs : List ℕ). s.octets ++ zs) (sym same.kept) ∙ sym given_is ∙ split
+        ∙ ap (λ (r : Checked R). before ++ last_of r) same.same))
+    | inr both ↦ λ before split. let r = both.last in
+        let turned = both.turned_in in
         let here : before ≡ s.octets ++ (held ++ r.before) =
         append_cancel_right before (s.octets ++ (held ++ r.before)) (last_of reader')
         (sym split ∙ given_is ∙ ap (λ (zs : List ℕ). s.octets ++ zs) r.order
         ∙ sym (append_assoc s.octets (held ++ r.before) (last_of reader'))) in
         let said : text before Open ≡ s.text =
         ap (λ (zs : List ℕ). text zs Open) here ∙ text_so_far (held ++ r.before) r.no_feed r.short in (
-          both.1.later,
-          both.1.out ∙ ap (λ (zs : List ℕ). zs ++ both.1.later) (out_so_far s.printed s.empty both.1.sound
+          turned.later,
+          turned.out ∙ ap (λ (zs : List ℕ). zs ++ turned.later) (out_so_far s.printed s.empty turned.sound
               ∙ ap (λ (zs : List ℕ). octets_of (writer_of page) ++ zs) (sym said)),
         )
   ]
@@ -240,7 +241,7 @@ module _ {R W : Type 0} {remaining : R → Option (List ℕ)} {contents : W → 
       let h = rw is at stands in
       stops (Err ReadFailed) (prints_nothing kept) (s.printed ⨾ handed)
       (runs_as octets_now reading (behind s.text (course s.stage is_first count [])) (Err ReadFailed)
-      (left [] (rw (is, h.0, append-nil line) (lines-rest line c.0 c.1))) (rw is refl))
+      (left [] (rw (is, h.empty, append-nil line) (lines-rest line c.no_feed c.short))) (rw is refl))
 
   -- The input ends after a line feed.
   pub to_end : reading ≢ Failed → IsLineCut reading line → n ≡ 0
@@ -249,7 +250,7 @@ module _ {R W : Type 0} {remaining : R → Option (List ℕ)} {contents : W → 
       let empty : line ≡ [] = rw none refl in
       let is = at_end reading line cut going (ap length empty) in
       let h = rw is at stands in
-      let empty_reads : rest ≡ [] = h.0 in
+      let empty_reads : rest ≡ [] = h.empty in
       stops (Ok (record { lines = count })) (prints_nothing kept) (s.printed ⨾ handed)
       (runs_as octets_now reading (behind s.text (course s.stage is_first count [])) (Ok (record { lines = count }))
       (left [] (rw (empty, empty_reads) refl)) (rw is refl))
@@ -278,7 +279,8 @@ module _ {R W : Type 0} {remaining : R → Option (List ℕ)} {contents : W → 
       stops (Ok (record { lines = count + 1 })) printed (s.printed ⨾ handed ⨾ printed ⨾ prints_nothing last)
       (runs_as octets_now reading
       (behind s.text (behind (ran s.stage one).text (course_on s.stage is_first count [] one)))
-      (Ok (record { lines = count + 1 })) (left (line ∷ []) (rw (is, h.0, append-nil line) (lines-last line c.0 some))
+      (Ok (record { lines = count + 1 }))
+      (left (line ∷ []) (rw (is, h.empty, append-nil line) (lines-last line c.no_feed some))
       ∙ ap (λ (r : Result Said LineFault). behind s.text (and_on s.stage count r (course_on s.stage is_first count [])))
       ok) (rw is refl))
 
@@ -300,8 +302,8 @@ module _ {R W : Type 0} {remaining : R → Option (List ℕ)} {contents : W → 
         needed = needed;
         empty = s.empty;
         told = λ before split. further _ printed (told before split);
-        sound = h.0;
-        unended = h.1 ∙ s.unended;
+        sound = h.sound;
+        unended = h.unended ∙ s.unended;
         spared = omega (arith, s.spared, spared);
         goes_on = goes_further s.octets line s.text s.stage is_first _ count one s.goes_on (rw is at cut) ok still;
         kept = stage;

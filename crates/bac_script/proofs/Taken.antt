@@ -13,6 +13,7 @@ use Rattle.bac_print.{
 }
 use Rattle.bac_script.specs.{
   Inner.{Feeds.HasNoFeed, Limits.line_room, Input.{HasNotEnded, TakesAndKeeps, ReadForLine, IsNext, IsTurnedIn}},
+  Inner.Input.IsUnread,
   declared.input.{Reading.Reading, Reading.TheVariants.Open},
   Input.ReaderStands,
 }
@@ -46,8 +47,8 @@ pub still_for_line : {R W : Type 0} {contents : W → Option (List ℕ)} {a b : 
     → ReadForLine a b page page'' held now
 still_for_line (inl same) _ = inl same
 still_for_line (inr r) then =
-    let more = further _ then (r.1.later, r.1.out) in
-    inr (r.0, record { sound = r.1.sound; later = more.0; out = more.1 })
+    let more = further _ then (r.turned_in.later, r.turned_in.out) in
+    inr (record { last = r.last; turned_in = record { sound = r.turned_in.sound; later = more.0; out = more.1 } })
 
 -- One more read, where no line is held, or none, since the reads are spent.
 pub read_for_line : {R W : Type 0} {remaining : R → Option (List ℕ)} {contents : W → Option (List ℕ)}
@@ -55,22 +56,22 @@ pub read_for_line : {R W : Type 0} {remaining : R → Option (List ℕ)} {conten
     → TakesAndKeeps remaining a b held now [] → Prints contents page page' [] → Prints contents page' page'' []
     → on_page page'' ≡ [] → has_failed (writer_of page'') ≡ false →
     ReadForLine a b page page' held now → reads_of b + length held ≤ reads_of a + length now → HasNoFeed now
-    → length now < line_room → ((c ≡ b) × (later ≡ now)) ⊎ (later ≡ now ++ last_of c) → reads_of c ≤ reads_of b + 1
+    → length now < line_room → IsUnread b c now later ⊎ (later ≡ now ++ last_of c) → reads_of c ≤ reads_of b + 1
     → ReadForLine a c page page'' held later
 read_for_line {a = a} {page = page} {page'' = page''} {held = held} {later = later} p _ then _ _ before _
     none _ (inl same) _ =
-    subst (λ r. ReadForLine a r page page'' held later) (sym same.0)
-    (subst (ReadForLine a _ page page'' held) (sym same.1) (still_for_line before then))
-read_for_line {c = c} {held = held} p first then empty good before asked none short (inr more) once = inr (
-  record {
+    subst (λ r. ReadForLine a r page page'' held later) (sym same.same)
+    (subst (ReadForLine a _ page page'' held) (sym same.kept) (still_for_line before then))
+read_for_line {c = c} {held = held} p first then empty good before asked none short (inr more) once = inr (record {
+  last = record {
     before = p.given;
     order = more ∙ ap (λ zs. zs ++ last_of c) (sym p.order);
     asked = let size = ap length p.order in omega (arith, asked, once, size, length-append held p.given);
     no_feed = subst HasNoFeed (sym p.order) none;
     short = subst (λ (zs : List ℕ). length zs < line_room) (sym p.order) short;
-  },
-  turned (first ⨾ then) empty good,
-)
+  };
+  turned_in = turned (first ⨾ then) empty good;
+})
 
 -- Where reading is over, the next line is all that is held.
 pub next_at_end : {R : Type 0} {remaining : R → Option (List ℕ)} {a : Checked R} (b : Checked R) {c : Checked R}

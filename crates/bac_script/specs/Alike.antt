@@ -11,22 +11,24 @@ abbrev pub IsFrontOf : List ℕ → List ℕ → Type 0
 IsFrontOf front whole = (rest : List ℕ) × (whole ≡ front ++ rest)
 
 -- The readers gave the same octets, and met their end as often.
-abbrev pub GaveSame : {R S : Type 0} → Checked R → Checked S → Type 0
-GaveSame reader other = (octets_of reader ≡ octets_of other) × (ends_of reader ≡ ends_of other)
+pub record GaveSame {R S : Type 0} (reader : Checked R) (other : Checked S) : Type 0 where
+  pub octets : octets_of reader ≡ octets_of other
+  pub ends : ends_of reader ≡ ends_of other
 
 -- The first reader gave a front of what the second gave, and did not meet its end.
-abbrev pub GaveFront : {R S : Type 0} → Checked R → Checked S → Type 0
-GaveFront reader other = IsFrontOf (octets_of reader) (octets_of other) × (ends_of reader ≡ 0)
+pub record GaveFront {R S : Type 0} (reader : Checked R) (other : Checked S) : Type 0 where
+  pub front : IsFrontOf (octets_of reader) (octets_of other)
+  pub unended : ends_of reader ≡ 0
 
 -- With this answer this was written of a text: all of it; or, where the writer failed, a front of it.
-abbrev pub IsWritten : (written text : List ℕ) → Result TraceEnd TraceFault → Type 0
-IsWritten written text (Err WriteFailed) = IsFrontOf written text
-IsWritten written text answer = written ≡ text
+abbrev pub IsWrittenOf : (written text : List ℕ) → Result TraceEnd TraceFault → Type 0
+IsWrittenOf written text (Err WriteFailed) = IsFrontOf written text
+IsWrittenOf written text answer = written ≡ text
 
 -- Both runs wrote one text, or a front of it where their writer failed. Where neither failed they ended alike.
 pub record AreAlike (written : List ℕ) (answer : Result TraceEnd TraceFault) (other : List ℕ)
     (other_answer : Result TraceEnd TraceFault) : Type 0 where
   pub text : List ℕ
-  pub wrote : IsWritten written text answer
-  pub other_wrote : IsWritten other text other_answer
+  pub wrote : IsWrittenOf written text answer
+  pub other_wrote : IsWrittenOf other text other_answer
   pub same : answer ≢ Err WriteFailed → other_answer ≢ Err WriteFailed → answer ≡ other_answer

@@ -1,5 +1,5 @@
 -- What is taken from a reader through a chunk of octets that were read and not yet taken.
-use Rattle.std.specs.Prelude.{◌≡◌, ℕ, ◌+◌, ◌-◌, ◌^◌, ◌≤◌, min, max, false, true, List, [], Option, ◌⊎◌}
+use Rattle.std.specs.Prelude.{◌≡◌, ℕ, ◌+◌, ◌-◌, ◌^◌, ◌≤◌, max, false, true, List, [], Option, ◌⊎◌}
 use Rattle.std.specs.Io.KnownBytes.{IsAtEnd}
 use Rattle.bac_print.specs.declared.checked.Checked.{Checked}
 use Rattle.bac_script.specs.declared.input.Reading.{Reading}
@@ -14,12 +14,29 @@ most_reads = 2 ^ 32 - 1
 abbrev pub ReadsNoMore : {R : Type 0} → Checked R → Checked R → Type 0
 ReadsNoMore before after = reads_of after ≤ max (reads_of before) most_reads
 
--- The reader has ended or failed as `Reading` says of it, and where reading is over nothing is held. Where it has
--- ended, one read since then gave nothing, and it was the last; and where it knows the octets that it has left, there
--- are none. Where it has not ended, no read gave nothing since then. A reader whose reads are spent has failed too.
+-- The reader can be read on: no read gave nothing since then.
+pub record CanReadOn {R : Type 0} (before after : Checked R) : Type 0 where
+  pub sound : has_failed after ≡ false
+  pub unended : ends_of after ≡ ends_of before
+
+-- The reader has ended, and nothing is held: one read since then gave nothing, and it was the last. Where the reader
+-- knows the octets that it has left, there are none.
+pub record MetEnd {R : Type 0} (remaining : R → Option (List ℕ)) (before after : Checked R) (held : List ℕ)
+    : Type 0 where
+  pub empty : held ≡ []
+  pub sound : has_failed after ≡ false
+  pub ended : has_ended after ≡ true
+  pub once : ends_of after ≡ ends_of before + 1
+  pub left : IsAtEnd (remaining (inner_of after))
+
+-- The reader has failed, or its reads are spent, and nothing is held: no read gave nothing since then.
+pub record CannotReadOn {R : Type 0} (before after : Checked R) (held : List ℕ) : Type 0 where
+  pub empty : held ≡ []
+  pub failed : (has_failed after ≡ true) ⊎ (most_reads ≤ reads_of after)
+  pub unended : ends_of after ≡ ends_of before
+
+-- The reader stands as `Reading` says of it.
 abbrev pub ReaderStands : {R : Type 0} → (R → Option (List ℕ)) → Reading → Checked R → Checked R → List ℕ → Type 0
-ReaderStands remaining Open before after held = (has_failed after ≡ false) × (ends_of after ≡ ends_of before)
-ReaderStands remaining AtEnd before after held = (held ≡ []) × (has_failed after ≡ false) × (has_ended after ≡ true)
-    × (ends_of after ≡ min (ends_of before + 1) (2 ^ 64 - 1)) × IsAtEnd (remaining (inner_of after))
-ReaderStands remaining Failed before after held = (held ≡ [])
-    × ((has_failed after ≡ true) ⊎ (most_reads ≤ reads_of after)) × (ends_of after ≡ ends_of before)
+ReaderStands remaining Open before after held = CanReadOn before after
+ReaderStands remaining AtEnd before after held = MetEnd remaining before after held
+ReaderStands remaining Failed before after held = CannotReadOn before after held

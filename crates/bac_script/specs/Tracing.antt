@@ -1,11 +1,12 @@
 -- What a run read, and what it wrote and answered.
 use Rattle.std.specs.Prelude.{◌≡◌, ◌⊎◌, List, [], ◌++◌, ℕ, ◌+◌, ◌≤◌, length, Option, None, Result, Ok, Err}
+use Rattle.std.specs.Prelude.{codes, decimal}
 use Rattle.bac_print.specs.declared.checked.Checked.{Checked}
 use Rattle.bac_script.specs.declared.input.Reading.{Reading}
 use Rattle.bac_script.specs.declared.input.Reading.TheVariants.{Open}
 use Rattle.bac_script.specs.declared.tracing.TraceEnd.{TraceEnd}
 use Rattle.bac_script.specs.declared.tracing.TraceFault.{TraceFault}
-use Rattle.bac_script.specs.declared.tracing.TraceFault.TheVariants.{BadLine, LineTooLong}
+use Rattle.bac_script.specs.declared.tracing.TraceFault.TheVariants.{BadLine, LineTooLong, ReadFailed, WriteFailed}
 use Rattle.bac_print.specs.Checked.{reads_of, last_of, octets_of, Took, Gave}
 use Rattle.bac_script.specs.Input.{ReaderStands, ReadsNoMore}
 use Rattle.bac_script.specs.Script.{lines, first_fault, text, Runs}
@@ -49,3 +50,10 @@ trace_status_of (Ok end) = 0
 trace_status_of (Err (BadLine n)) = 2
 trace_status_of (Err (LineTooLong n)) = 2
 trace_status_of _ = 3
+
+-- What is told of a fault.
+abbrev pub trace_fault_text : TraceFault → List ℕ
+trace_fault_text (BadLine n) = codes "line " ++ (decimal n ++ codes ": bad line")
+trace_fault_text (LineTooLong n) = codes "line " ++ (decimal n ++ codes ": too long")
+trace_fault_text ReadFailed = codes "reading failed"
+trace_fault_text WriteFailed = codes "writing failed"

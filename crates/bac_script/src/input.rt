@@ -7,7 +7,7 @@ ghost use Rattle.bac_print.specs.Page.{writer_of, Prints};
 ghost use Rattle.bac_script.specs.Inner.Feeds.{HasNoFeed};
 ghost use Rattle.bac_script.specs.Input.{ReaderStands, ReadsNoMore};
 ghost use Rattle.bac_script.specs.Inner.Input.{most_to_come, may_read, empty_reads, TakesAndKeeps, ReadForLine};
-ghost use Rattle.bac_script.specs.Inner.Input.{IsLineCut, IsNext};
+ghost use Rattle.bac_script.specs.Inner.Input.{HasNoLine, IsLineCut, IsNext, IsUnread};
 
 use bac_print::{Checked, Page, WriteFailed};
 use bac_text::{End, LONGEST_LINE, position_of_end};
@@ -138,7 +138,7 @@ impl Chunk {
         requires within { searched.old ≤ length self.now }
         requires few { searched.old < LINE_ROOM }
         requires before { HasNoFeed (take searched.old self.now) }
-        ensures line { MatchOption result (HasNoFeed self.now × (length self.now < LINE_ROOM))
+        ensures line { MatchOption result (HasNoLine self.now)
             (λ count. (count ≤ length self.now) × IsLineCut Reading.Open (take count self.now)) }
         ensures searched { IfNone result (searched.new ≡ length self.now) }
     {
@@ -163,8 +163,7 @@ impl Chunk {
         ensures asked { reads_of reader.new + length self.old ≤ reads_of reader.old + length self.new
             + empty_reads result }
         ensures once { reads_of reader.new ≤ reads_of reader.old + 1 }
-        ensures last { ((reader.new ≡ reader.old) × (self.new ≡ self.old))
-            ⊎ (self.new ≡ self.old ++ last_of reader.new) }
+        ensures last { IsUnread reader.old reader.new self.old self.new ⊎ (self.new ≡ self.old ++ last_of reader.new) }
         ensures spared { ReadsNoMore reader.old reader.new }
         ensures room { most_to_come reader.new self.new ≤ most_to_come reader.old self.old }
         ensures more { result ≡ Reading.Open → may_read reader.new < may_read reader.old }

@@ -1,13 +1,15 @@
 //! What holds of the definitions that the contracts cite. Each function has an empty body, and its clauses are
 //! the laws.
-ghost use Rattle.std.specs.Prelude.{ℕ, List, Result};
+ghost use Rattle.std.specs.Prelude.{◌≡◌, ◌≤◌, ◌⊎◌, true, ℕ, List, Result, Err};
+ghost use Rattle.bac_print.specs.Checked.{has_failed, reads_of};
+ghost use Rattle.bac_script.specs.Input.{most_reads};
 ghost use Rattle.bac_wire.specs.Copies.{MakesCopies, EqualsBy};
 ghost use Rattle.bac_tsm.specs.Laws.{NumbersComeBackLate};
 ghost use Rattle.bac_tsm.specs.Limits.{table_size};
 ghost use Rattle.bac_print.specs.declared.checked.Checked.{Checked};
 ghost use Rattle.bac_print.specs.Checked.{fresh, octets_of};
 ghost use Rattle.bac_script.specs.declared.input.Reading.{Reading};
-ghost use Rattle.bac_script.specs.Alike.{IsFrontOf, GaveSame, GaveFront, IsWritten, AreAlike};
+ghost use Rattle.bac_script.specs.Alike.{IsFrontOf, GaveSame, GaveFront, IsWrittenOf, AreAlike};
 ghost use Rattle.bac_script.specs.Script.{lines, all_said, requests_in};
 ghost use Rattle.bac_script.specs.Tracing.{Traces};
 
@@ -31,7 +33,14 @@ pub fn a_script_is_a_function<R: Read, S: Read, V: Write, W: Write>()
         → Traces R.remaining V.contents (fresh reader) reader' (fresh writer) writer' answer
         → Traces S.remaining W.contents (fresh other_reader) other_reader' (fresh other_writer) other_writer' other
         → GaveFront reader' other_reader' → (text : List ℕ) × IsFrontOf (octets_of writer') text
-        × IsWritten (octets_of other_writer') text other }
+        × IsWrittenOf (octets_of other_writer') text other }
+{}
+
+/// A script ends with `ReadFailed` only where its reader failed or its reads are spent.
+pub fn a_failed_read_has_a_cause<R: Read, W: Write>()
+    ensures { (reader reader' : Checked R) (writer writer' : Checked W)
+        → Traces R.remaining W.contents reader reader' writer writer' (Err TraceFault.ReadFailed)
+        → (has_failed reader' ≡ true) ⊎ (most_reads ≤ reads_of reader') }
 {}
 
 /// Between two requests of a script with the same number at least 192 others are accepted.

@@ -12,8 +12,8 @@
 //! ensures answered { IsTraced (read ∷ answer ∷ []) (sent ∷ "done 0 value 4290999a" ∷ []) (ended 2) }
 //! ```
 //!
-//! The caller keeps to this: the reader and the writer that it hands on have not failed yet. So does `run_job` of
-//! `bac_tools` (`src/running.rt`), where it is proved which status and which fault come of what [`trace`] answers.
+//! The caller keeps to this: the reader and the writer that it hands on have not failed yet. So does `run_words` of
+//! `bac_tools` (`src/program.rt`), where it is proved which status and which fault come of what [`trace`] answers.
 #![tactic(auto)]
 
 mod examples;

@@ -4,14 +4,15 @@ ghost use Rattle.std.specs.Prelude.{◌≡◌, ◌↔◌, true, false, Err, []};
 ghost use Rattle.bac_print.specs.Checked.{has_failed};
 ghost use Rattle.bac_script.specs.Inner.Running.{new_client};
 ghost use Rattle.bac_script.specs.Script.{fault_at};
+ghost use Rattle.bac_print.specs.Message.{message_text};
 ghost use Rattle.bac_print.specs.Page.{held, writer_of};
-ghost use Rattle.bac_script.specs.Tracing.{Traces, trace_status_of};
+ghost use Rattle.bac_script.specs.Tracing.{Traces, trace_status_of, trace_fault_text};
 ghost use Rattle.bac_script.specs.Inner.Tracing.{RunsOn};
 
 use crate::input::{Chunk, Reading};
 use crate::line::{LineFault, LineRoom, read_line};
 use crate::running::{run_line, small_device};
-use bac_print::{Checked, Page, WriteFailed};
+use bac_print::{Checked, Message, Page, WriteFailed};
 use bac_tsm::{Client, Config};
 use bac_wire::Frame;
 use std::io::{Read, Write};
@@ -26,19 +27,30 @@ pub struct TraceEnd {
 
 /// Why a script stopped. What the lines before that print was printed, as far as the writer took it.
 #[derive(Clone, Copy, Debug, PartialEq, Eq, Error)]
+#[error("{}", self.message())]
 pub enum TraceFault {
     /// The line with this number, from 1, is no line of the language: the fault of who wrote it.
-    #[error("line {0}: bad line")]
     BadLine(u64),
     /// The line with this number, from 1, has more than 4,096 octets: the fault of who wrote it.
-    #[error("line {0}: too long")]
     LineTooLong(u64),
     /// The reader failed, or its reads are spent: no fault of the script.
-    #[error("reading failed")]
     ReadFailed,
     /// The writer failed, or took no octet: no fault of the script.
-    #[error("writing failed")]
     WriteFailed,
+}
+
+impl TraceFault {
+    /// What is told of it.
+    pub fn message(&self) -> Message
+        ensures { message_text result ≡ trace_fault_text self.now }
+    {
+        match self {
+            TraceFault::BadLine(line) => Message::Numbered("line ", *line, ": bad line"),
+            TraceFault::LineTooLong(line) => Message::Numbered("line ", *line, ": too long"),
+            TraceFault::ReadFailed => Message::Text("reading failed"),
+            TraceFault::WriteFailed => Message::Text("writing failed"),
+        }
+    }
 }
 
 impl From<WriteFailed> for TraceFault {

@@ -6,13 +6,10 @@ use Rattle.std.proofs.{
   lemmas.List.Folds.list_all_at,
 }
 use Rattle.std.specs.{Prelude.{◌-◌, nat_lt, not, bit_and, bit_or}, Result.result_ok}
-use lib.Lanes.{chunk, put_chunk, top, zip2}
-use lib.ListN.{replicate}
+use lib.{Lanes.{chunk, put_chunk, top, zip2}, ListN.replicate}
 use Rattle.hex.specs.Hex.{is_hex_digit, hex_digit_value, decode_pairs, decode_of}
-use Rattle.bac_text.{
-  specs.Inner.HexLanes.{number_by_lane, octets_by_lanes},
-  proofs.{HexText.others_refused, Lanes.lane_is},
-}
+use Rattle.bac_text.{specs.Inner.HexLanes.{number_by_lane, octets_by_lanes}, proofs.HexText.others_refused}
+use Rattle.bac_text.proofs.Lanes.{lane_is}
 use Rattle.bac_wire.proofs.Pieces.{same_below, one_more}
 
 number_is : (digit : ℕ)

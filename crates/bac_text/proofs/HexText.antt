@@ -4,10 +4,8 @@ use Rattle.std.{
   proofs.{Common.{sym, ◌∙◌, arith}, lemmas.List.Sums.{AllPass-from_list_all, list_all-from_AllPass}},
   specs.{Prelude.{is_ok, IsTrue}, List.list_all, Result.result_ok, Char.is_ascii_hexdigit},
 }
-use Rattle.hex.{
-  specs.{Hex.{decode_of, is_hex_digit}, declared.error.FromHexError.FromHexError},
-  proofs.HexLemmas.{decode_of-ok, decode_of-digits},
-}
+use Rattle.hex.specs.{Hex.{decode_of, is_hex_digit}, declared.error.FromHexError.FromHexError}
+use Rattle.hex.proofs.HexLemmas.{decode_of-ok, decode_of-digits}
 use Rattle.bac_text.specs.{Words.octets_of, Inner.Words.octets_in, Address.routable}
 
 same_digit : (c : ℕ) → is_ascii_hexdigit c ≡ is_hex_digit c

@@ -5,10 +5,8 @@ use Rattle.std.proofs.{
   lemmas.{Bool.eq-eqb, Bool.Decides.nat_tests, List.{take_all, take_rest, length-take-le}},
 }
 use Rattle.std.specs.{Prelude.{if◌then◌else◌, ◌==◌, nat_le}, Str.all_ascii_digits, Str.Parse.digits_value}
-use Rattle.bac_text.{
-  specs.{Address.{short_number, number_before_dot}, Inner.Address.digit, Inner.Leading.IsLeading},
-  proofs.{NumberLemmas.{others_are, digit_in, digits_next, value_next}, Lanes.position_is},
-}
+use Rattle.bac_text.specs.{Address.{short_number, number_before_dot}, Inner.Address.digit, Inner.Leading.IsLeading}
+use Rattle.bac_text.proofs.{NumberLemmas.{others_are, digit_in, digits_next, value_next}, Lanes.position_is}
 
 -- The greatest number of so many digits.
 abbrev pub most_with : ℕ → ℕ

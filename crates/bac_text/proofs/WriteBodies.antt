@@ -1,24 +1,12 @@
 -- The body of a WriteProperty request, by the region in it.
-use Rattle.std.{
-  proofs.Common.{◌≡◌, ℕ, ◌≤◌, List, [], ◌∷◌, ◌++◌, length, Option, Result, Ok, Err, arith, length-append},
-  proofs.lemmas.Bool.Decides.nat_tests,
-  specs.List.flat_map,
-}
-use Rattle.bac_wire.specs.{
-  Datum.{Datum, plain},
-  Identifier.Identifier,
-  Region.{opening_tag, closing_tag},
-  Steps.result_seen,
-  Parameter.enclosed_octets,
-  Tag.plain_tag,
-}
+use Rattle.std.proofs.Common.{◌≡◌, ℕ, ◌≤◌, List, [], ◌∷◌, ◌++◌, length, Option, Result, Ok, Err, arith, length-append}
+use Rattle.std.{proofs.lemmas.Bool.Decides.nat_tests, specs.List.flat_map}
+use Rattle.bac_wire.specs.{Datum.{Datum, plain}, Identifier.Identifier, Region.{opening_tag, closing_tag}}
+use Rattle.bac_wire.specs.{Steps.result_seen, Parameter.enclosed_octets, Tag.plain_tag}
 use Rattle.bac_pdu.specs.{Parameter.{Parameter, plain_parameter}, Property.{Order, write_octets}}
-use Rattle.bac_text.{
-  specs.declared.pairs.{PairFault.PairFault, PairFault.TheVariants.TooLong},
-  specs.Inner.{ValueWords.at_most, Pairs.{region_with, region_of}},
-  specs.Pairs.{sendable, order_of, body_of, values_in},
-  proofs.WordValues.at_most_fault,
-}
+use Rattle.bac_text.specs.declared.pairs.PairFault.{PairFault, TheVariants.TooLong}
+use Rattle.bac_text.specs.Inner.{ValueWords.at_most, Pairs.{region_with, region_of}}
+use Rattle.bac_text.{specs.Pairs.{sendable, order_of, body_of, values_in}, proofs.WordValues.at_most_fault}
 use Rattle.bac_pdu.specs.Parameter as parameters
 
 -- The body that orders the values that were found, if it can be sent.

@@ -1,7 +1,6 @@
 -- What ends a piece of text.
 use Rattle.std.specs.Prelude.{ℕ, ◌==◌, nat_lt, Bool}
-use Rattle.bac_text.specs.declared.search.End.{End}
-use Rattle.bac_text.specs.declared.search.End.TheVariants.{Blank, At, PastAscii}
+use Rattle.bac_text.specs.declared.search.End.{End, TheVariants.{Blank, At, PastAscii}}
 use Rattle.bac_text.specs.Words.{is_blank}
 
 -- The octet ends such a piece.

@@ -1,20 +1,12 @@
 -- The value that two words write: the number of its application tag, and a word that is read by that number.
-use Rattle.std.specs.Prelude.{ℕ, ℤ, pos, neg_ℤ, ◌-◌, ◌*◌, ◌^◌, ◌==◌, ◌||◌, Bool, true, false, List}
-use Rattle.std.specs.Prelude.{length, map, drop, slice_index, bytes_eq, codes, Option, Some, None, option_map}
-use Rattle.std.specs.Prelude.{if◌then◌else◌}
-use Rattle.std.specs.Bool.{then_some}
-use Rattle.std.specs.Int.{div_ceil}
-use Rattle.std.specs.Int.Digits.{number_from_digits}
-use Rattle.std.specs.List.{list_all, range_with_len}
-use Rattle.std.specs.Result.{result_ok}
-use Rattle.std.specs.Str.Parse.{starts_with_minus}
+use Rattle.std.specs.Prelude.{ℕ, ℤ, pos, neg_ℤ, ◌-◌, ◌*◌, ◌^◌, ◌==◌, ◌||◌, Bool, true, false, List, length, map, drop}
+use Rattle.std.specs.Prelude.{slice_index, bytes_eq, codes, Option, Some, None, option_map, if◌then◌else◌}
+use Rattle.std.specs.{Bool.then_some, Int.div_ceil, Int.Digits.number_from_digits, List.{list_all, range_with_len}}
+use Rattle.std.specs.{Result.result_ok, Str.Parse.starts_with_minus}
 use Rattle.hex.specs.Hex.{decode_of, decode_sized}
 use Rattle.bac_wire.specs.Datum.{Datum, null, boolean, unsigned, signed, real, double, octet_string, char_string}
-use Rattle.bac_wire.specs.Datum.{bit_string, enumerated, date, time, object}
-use Rattle.bac_wire.specs.Identifier.{Identifier}
-use Rattle.bac_wire.specs.Steps.{◌>>=◌}
-use Rattle.bac_text.specs.Words.{number_up_to}
-use Rattle.bac_text.specs.Address.{cut_at}
+use Rattle.bac_wire.specs.{Datum.{bit_string, enumerated, date, time, object}, Identifier.Identifier, Steps.◌>>=◌}
+use Rattle.bac_text.specs.{Words.number_up_to, Address.cut_at}
 
 -- The words true and 1, or false and 0.
 abbrev pub boolean_in : List ℕ → Option Bool

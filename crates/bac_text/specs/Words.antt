@@ -1,11 +1,7 @@
 -- The words of a line, and what they write: numbers and octets.
 use Rattle.std.specs.Prelude.{ℕ, Bool, ◌&&◌, ◌||◌, ◌==◌, nat_lt, nat_le, List, [], ◌∷◌, length, filter, Option, Some}
-use Rattle.std.specs.Prelude.{None, option_map, if◌then◌else◌}
-use Rattle.std.specs.Int.{is_in_range}
-use Rattle.std.specs.Str.{all_ascii_digits}
-use Rattle.std.specs.Str.Parse.{digits_value}
-use Rattle.std.specs.List.{slice_split}
-use Rattle.std.specs.Result.{result_ok}
+use Rattle.std.specs.{Prelude.{None, option_map, if◌then◌else◌}, Int.is_in_range, Str.all_ascii_digits}
+use Rattle.std.specs.{Str.Parse.digits_value, List.slice_split, Result.result_ok}
 use Rattle.hex.specs.Hex.{decode_of}
 use Rattle.bac_text.specs.Limits.{longest_line}
 

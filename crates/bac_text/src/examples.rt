@@ -1,10 +1,8 @@
 //! Examples of words, worked out by computation. They show what the definitions mean.
 
 ghost use Rattle.std.specs.Prelude.{◌≡◌, [], ◌∷◌, codes, replicate, Some, None, Ok, Err};
-ghost use Rattle.bac_text.specs.declared.pairs.PairFault.TheVariants.{Bad, TooLong};
-ghost use Rattle.bac_text.specs.Address.{peer_of};
-ghost use Rattle.bac_text.specs.Inner.Examples.{IsWritten, device, far_device, body_with_words};
-ghost use Rattle.bac_text.specs.Words.{words_of};
+ghost use Rattle.bac_text.specs.{declared.pairs.PairFault.TheVariants.{Bad, TooLong}, Address.peer_of};
+ghost use Rattle.bac_text.specs.{Inner.Examples.{IsWritten, device, far_device, body_with_words}, Words.words_of};
 
 // A value of each kind: the number of its tag and a word, and the octets that they write (ANSI/ASHRAE 135, 20.2).
 #[tactic(none)]

@@ -1,17 +1,15 @@
 //! Octets in hexadecimal digits.
-ghost use Rattle.std.specs.Prelude.{◌≡◌, ◌≤◌, length, option_map, is_ok, IsTrue};
-ghost use Rattle.std.specs.List.{list_all};
+ghost use Rattle.std.specs.{Prelude.{◌≡◌, ◌≤◌, length, option_map, is_ok, IsTrue}, List.list_all};
 ghost use Rattle.std.specs.Char.{is_ascii_hexdigit};
 ghost use Rattle.hex.specs.Hex.{decode_of};
-ghost use Rattle.bac_text.specs.Words.{octets_of};
-ghost use Rattle.bac_text.specs.Inner.Words.{octets_in};
+ghost use Rattle.bac_text.specs.{Words.octets_of, Inner.Words.octets_in};
 
 use crate::hex_lanes::octets_from;
 
 /// The octets of the longest line of a script, without its line feed.
 pub const LONGEST_LINE: usize = 4096;
 
-/// The octets of the longest datagram that a line has room for.
+/// Room for the octets of any datagram in a line, which spends two digits on each.
 pub const LONGEST_DATAGRAM: usize = LONGEST_LINE / 2;
 
 /// Octets, as a positive even number of hexadecimal digits.

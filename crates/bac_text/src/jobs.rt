@@ -6,6 +6,15 @@ use bac_pdu::{LONGEST_BODY, Peer, WhoIs};
 /// What the program is to do.
 #[derive(Drop)]
 pub enum Job {
+    /// Runs a script: `bactrace`. It has no socket.
+    Trace,
+    /// Runs a tool over a socket.
+    Over(Tool),
+}
+
+/// A tool that has a socket.
+#[derive(Drop)]
+pub enum Tool {
     /// Reads a property: `bacrp`.
     Read(Call),
     /// Writes a property: `bacwp`.
@@ -14,8 +23,6 @@ pub enum Job {
     WhoIs(Search),
     /// Is a device: `bacdev`.
     Device(Serve),
-    /// Runs a script: `bactrace`.
-    Trace,
 }
 
 /// One request to a device.

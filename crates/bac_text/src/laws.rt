@@ -1,13 +1,13 @@
 //! What holds of the definitions that the contracts cite. Each function has an empty body, and its clauses are
 //! the laws.
-ghost use Rattle.std.specs.Prelude.{◌≡◌, ◌<◌, ◌^◌, ℕ, List, Option, Ok, IfSome};
-ghost use Rattle.bac_wire.specs.Copies.{MakesCopies, EqualsBy};
-ghost use Rattle.bac_wire.specs.Identifier.{Identifier, IsIdentifier};
+ghost use Rattle.std.specs.Prelude.{◌≡◌, ◌<◌, ◌*◌, ◌^◌, ℕ, List, Option, Ok, IfSome};
+ghost use Rattle.bac_wire.specs.{Copies.{MakesCopies, EqualsBy}, Identifier.{Identifier, IsIdentifier}};
 ghost use Rattle.bac_pdu.specs.Property.{IsPriority};
-ghost use Rattle.bac_text.specs.Pairs.{body_of};
-ghost use Rattle.bac_text.specs.PairsInWords.{IsWritten};
+ghost use Rattle.bac_text.specs.{Limits.longest_line, Pairs.body_of, PairsInWords.IsWritten};
 
+use crate::hex_digits::{LONGEST_DATAGRAM, LONGEST_LINE};
 use crate::pairs::PairFault;
+use crate::search::End;
 
 /// The body of a WriteProperty request gives the property the values that the words write, spelled one after another,
 /// and is read as these values.
@@ -18,8 +18,15 @@ pub fn bodies_in_words()
         body_of object property index priority words ≡ Ok body → IsWritten object property index priority words body }
 {}
 
+/// The limits that the code names are those of the definitions: a datagram has two digits for each octet.
+pub fn limits()
+    ensures line { LONGEST_LINE ≡ longest_line }
+    ensures datagram { 2 * LONGEST_DATAGRAM ≡ longest_line }
+{}
+
 /// A clone is what it was cloned from, and takes no memory.
 pub fn clones()
+    ensures end { MakesCopies ⟦<End as Clone>⟧.is_clone ⟦<End as Clone>⟧.is_infallible }
     ensures pair { MakesCopies ⟦<PairFault as Clone>⟧.is_clone ⟦<PairFault as Clone>⟧.is_infallible }
 {}
 

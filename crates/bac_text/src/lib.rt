@@ -13,8 +13,7 @@
 //! ensures octet_string { IsWritten "6" "1234ff" (0x63 ∷ 0x12 ∷ 0x34 ∷ 0xff ∷ []) }
 //! ```
 //!
-//! The caller keeps to this: the priority of a write is 1 to 16, and [`priority_from`] is given at most 16. Words and
-//! texts may be any.
+//! The caller keeps to this: the priority of a write is 1 to 16. Words and texts may be any.
 #![tactic(auto)]
 
 mod bodies;
@@ -34,7 +33,7 @@ mod words;
 pub use bac_pdu::LONGEST_BODY;
 pub use bodies::BodyRoom;
 pub use hex_digits::{LONGEST_DATAGRAM, LONGEST_LINE, read_datagram};
-pub use jobs::{Call, Job, Search, Serve};
+pub use jobs::{Call, Job, Search, Serve, Tool};
 pub use numbers::read_number;
 pub use pairs::PairFault;
 pub use parameters::{priority_from, read_write_index};

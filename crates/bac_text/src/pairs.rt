@@ -1,8 +1,6 @@
 //! The words of a property's value: tags and values in turn.
 ghost use Rattle.std.specs.Prelude.{◌≡◌, ◌∷◌, [], length, MatchResult, MatchOption, Ok, Err};
-ghost use Rattle.bac_text.specs.declared.pairs.PairFault.TheVariants.{Bad};
-ghost use Rattle.bac_text.specs.Inner.Pairs.{region_of};
-ghost use Rattle.bac_text.specs.Pairs.{words_behind};
+ghost use Rattle.bac_text.specs.{declared.pairs.PairFault.TheVariants.Bad, Inner.Pairs.region_of, Pairs.words_behind};
 
 use crate::value_words::{ValueFault, append_pair};
 use crate::words::WordSource;

@@ -1,5 +1,5 @@
 //! The parameters of a request, as words give them.
-ghost use Rattle.std.specs.Prelude.{◌≡◌, ◌≤◌};
+ghost use Rattle.std.specs.Prelude.{◌≡◌};
 ghost use Rattle.bac_text.specs.Parameters.{priority_from, write_index_of};
 
 use crate::numbers::read_number;
@@ -17,7 +17,6 @@ pub fn read_write_index(word: &[u8]) -> Option<Option<u32>>
 
 /// The priority, where the number is not 0.
 pub fn priority_from(number: u8) -> Option<u8>
-    requires { number ≤ 16 }
     ensures { result ≡ priority_from number }
 {
     match number {

@@ -1,10 +1,8 @@
 //! A peer as it is written.
 ghost use Rattle.std.specs.Prelude.{◌≡◌, ◌≤◌, IfSome, option_map};
 ghost use Rattle.bac_pdu.specs.Peer.{station, network_address};
-ghost use Rattle.bac_text.specs.Inner.Words.{octets_in};
-ghost use Rattle.bac_text.specs.Address.{cut_at, short_number, number_before_dot, address_of, routable, plain_peer_of};
-ghost use Rattle.bac_text.specs.Address.{route_of, peer_of};
-ghost use Rattle.bac_text.specs.Inner.Address.{digit};
+ghost use Rattle.bac_text.specs.{Inner.Words.octets_in, Address.{cut_at, short_number, number_before_dot, address_of}};
+ghost use Rattle.bac_text.specs.{Address.{routable, plain_peer_of, route_of, peer_of}, Inner.Address.digit};
 
 use crate::hex_digits::{HexDigits, read_hex};
 use crate::numbers::{leading_number, read_number};
@@ -132,7 +130,7 @@ fn route_to(network: u16, address: HexDigits<'_>) -> Option<Route>
         return None;
     }
     let octets = &mut room[..address.digits.len() / 2];
-    let _ = hex::decode_to_slice(address.digits, octets);
+    hex::decode_to_slice(address.digits, octets).unwrap();
     Route::new(network, octets)
 }
 

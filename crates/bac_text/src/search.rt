@@ -1,7 +1,6 @@
 //! The first octet that ends a piece of text, searched for several octets at a time.
-ghost use Rattle.std.specs.Prelude.{◌≡◌, ◌+◌, ◌≤◌, length, position};
-ghost use Rattle.bac_text.specs.Search.{ends_at};
-ghost use Rattle.bac_text.specs.Inner.Search.{first_set, IsRunIn};
+ghost use Rattle.std.specs.Prelude.{◌≡◌, ◌+◌, ◌<◌, ◌≤◌, length, position};
+ghost use Rattle.bac_text.specs.{Search.ends_at, Inner.Search.{first_set, IsRunIn}};
 
 use crate::words::is_blank;
 use std::simd::prelude::*;
@@ -27,22 +26,12 @@ pub fn position_of_end(octets: &[u8], end: End) -> Option<usize>
     ensures { result ≡ position (ends_at end) octets.now }
 {
     if octets.len() < FEW_LANES {
-        return octets.iter().position(|octet| ends_at(*octet, end));
+        octets.iter().position(|octet| ends_at(*octet, end))
+    } else if octets.len() < LANES {
+        position_by::<FEW_LANES>(octets, end)
+    } else {
+        position_by::<LANES>(octets, end)
     }
-    if octets.len() < LANES {
-        return place_in_few(octets, end);
-    }
-    let mut start = 0;
-    while start < octets.len() {
-        // The last load goes back over some that were seen.
-        let at = start.min(octets.len() - LANES);
-        let run = run_before::<LANES>(octets, at, end);
-        if run < LANES {
-            return Some(at + run);
-        }
-        start = at + LANES;
-    }
-    None
 }
 
 /// The position of the lowest bit that is set, or the number of lanes where none is.
@@ -57,20 +46,23 @@ pub(crate) fn first_set(mask: u64, lanes: usize) -> usize
     }
 }
 
-// The same of a short text, which one or two small loads take.
-fn place_in_few(octets: &[u8], end: End) -> Option<usize>
-    requires least { FEW_LANES ≤ length octets.now }
-    requires most { length octets.now ≤ LANES }
+// The same, by loads of so many octets.
+#[inline(always)]
+fn position_by<const N: usize>(octets: &[u8], end: End) -> Option<usize>
+    requires some { 0 < N }
+    requires most { N ≤ 64 }
+    requires room { N ≤ length octets.now }
     ensures { result ≡ position (ends_at end) octets.now }
 {
-    let run = run_before::<FEW_LANES>(octets, 0, end);
-    if run < FEW_LANES {
-        return Some(run);
-    }
-    let at = octets.len() - FEW_LANES;
-    let run = run_before::<FEW_LANES>(octets, at, end);
-    if run < FEW_LANES {
-        return Some(at + run);
+    let mut start = 0;
+    while start < octets.len() {
+        // The last load goes back over some that were seen.
+        let at = start.min(octets.len() - N);
+        let run = run_before::<N>(octets, at, end);
+        if run < N {
+            return Some(at + run);
+        }
+        start = at + N;
     }
     None
 }

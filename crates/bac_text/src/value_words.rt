@@ -1,14 +1,10 @@
 //! A value as two words: the number of its application tag, and the value by that number.
 ghost use Rattle.std.specs.Prelude.{◌≡◌, ◌≢◌, ◌≤◌, ◌==◌, ◌||◌, if◌then◌else◌, slice_index, option_map, IfSome};
-ghost use Rattle.std.specs.Prelude.{MatchResult, OnErr, Ok, Err};
-ghost use Rattle.std.specs.List.{list_all};
-ghost use Rattle.std.specs.Result.{result_ok};
+ghost use Rattle.std.specs.{Prelude.{MatchResult, OnErr, Ok, Err}, List.list_all, Result.result_ok};
 ghost use Rattle.hex.specs.Hex.{decode_of, decode_sized};
-ghost use Rattle.bac_wire.specs.Datum.{datum, octet_string, IsSound};
-ghost use Rattle.bac_wire.specs.Identifier.{identifier};
+ghost use Rattle.bac_wire.specs.{Datum.{datum, octet_string, IsSound}, Identifier.identifier};
 ghost use Rattle.bac_text.specs.ValueWords.{boolean_in, signed_in, bits_octet, bits_in, object_in, value_under};
-ghost use Rattle.bac_text.specs.ValueWords.{value_in};
-ghost use Rattle.bac_text.specs.Inner.ValueWords.{appended};
+ghost use Rattle.bac_text.specs.{ValueWords.value_in, Inner.ValueWords.appended};
 
 use crate::hex_digits::is_hex;
 use crate::numbers::read_number;
@@ -60,12 +56,12 @@ fn read_value_word(number: u64, word: &[u8]) -> Option<Value<'_>>
         1 => Some(Value::Bool(read_boolean(word)?)),
         2 => Some(Value::Unsigned(read_number(word, u64::MAX)?)),
         3 => Some(Value::Signed(read_signed(word)?)),
-        4 => Some(Value::Real(read_four(word)?)),
-        5 => Some(Value::Double(read_eight(word)?)),
+        4 => Some(Value::Real(read_octets(word)?)),
+        5 => Some(Value::Double(read_octets(word)?)),
         7 => Some(Value::Chars(0, word)),
         9 => Some(Value::Enumerated(read_number(word, u32::MAX.into())? as u32)),
-        10 => Some(Value::Date(read_four(word)?)),
-        11 => Some(Value::Time(read_four(word)?)),
+        10 => Some(Value::Date(read_octets(word)?)),
+        11 => Some(Value::Time(read_octets(word)?)),
         12 => Some(Value::Object(read_object(word)?)),
         _ => None,
     }
@@ -92,18 +88,10 @@ fn read_signed(word: &[u8]) -> Option<i64>
     }
 }
 
-fn read_four(word: &[u8]) -> Option<[u8; 4]>
-    ensures { result ≡ result_ok (decode_sized word.now 4) }
+fn read_octets<const N: usize>(word: &[u8]) -> Option<[u8; N]>
+    ensures { result ≡ result_ok (decode_sized word.now N) }
 {
-    let mut octets = [0; 4];
-    hex::decode_to_slice(word, &mut octets).ok()?;
-    Some(octets)
-}
-
-fn read_eight(word: &[u8]) -> Option<[u8; 8]>
-    ensures { result ≡ result_ok (decode_sized word.now 8) }
-{
-    let mut octets = [0; 8];
+    let mut octets = [0; N];
     hex::decode_to_slice(word, &mut octets).ok()?;
     Some(octets)
 }

@@ -1,8 +1,7 @@
 //! Words that are taken one after another.
 ghost use Rattle.std.specs.Prelude.{◌≡◌, ◌<◌, ◌≤◌, ◌^◌, ℕ, List, [], ◌∷◌, length, drop, not, position, option_map};
 ghost use Rattle.std.specs.Prelude.{IfSome, MatchOption};
-ghost use Rattle.bac_text.specs.Words.{is_blank, words_of, number_up_to, next_as};
-ghost use Rattle.bac_text.specs.Inner.Words.{IsFirstNumber};
+ghost use Rattle.bac_text.specs.{Words.{is_blank, words_of, number_up_to, next_as}, Inner.Words.IsFirstNumber};
 
 use crate::numbers::{leading_number, read_number};
 use crate::search::{End, position_of_end};

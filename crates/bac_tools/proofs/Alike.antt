@@ -6,11 +6,12 @@ use Rattle.std.{
 }
 use Rattle.clap.specs.Words.{Text, fault_of}
 use Rattle.bac_print.specs.{Checked.{fresh, octets_of}, declared.checked.Checked.Checked}
-use Rattle.bac_text.specs.declared.jobs.{Call.Call, Job.Job, Job.TheVariants.{Read, Write, WhoIs, Device, Trace}}
+use Rattle.bac_text.specs.declared.jobs.{Call.Call, Job.Job, Job.TheVariants.{Over, Trace}, Tool.Tool}
+use Rattle.bac_text.specs.declared.jobs.Tool.TheVariants.{Read, Write, WhoIs, Device}
 use Rattle.bac_links.{
   proofs.{Alike.calls_so_far, SearchesAlike.searches_so_far, ServingsAlike.servings_so_far},
   specs.{Answered.{answers_of, GoOnAlike, OneText, Printed}, Call.Tells, History.{Account, Entry}},
-  specs.declared.ending.{Exit.Exit, Purpose.Purpose, Purpose.TheVariants.{Reading, Writing}},
+  specs.declared.{exit.Exit.Exit, ending.{Purpose.Purpose, Purpose.TheVariants.{Reading, Writing}}},
   specs.declared.{fault.ToolFault.ToolFault, fault.ToolFault.TheVariants.WriteFailed, link.LinkFault.LinkFault},
 }
 use Rattle.bac_script.proofs.Functions.{traces_alike, traces_front}
@@ -21,7 +22,7 @@ use Rattle.bac_words.{
 }
 use Rattle.bac_tools.specs.{
   Alike.{AreAlike, AreGivenAlike, EndAlike, Gained, IsCutOff, IsPrinted, PrintAlike, Run, is_socket},
-  Binding.binding_of,
+  Binding.asked_by,
   Outside.Outside,
   Program.{Ends, IsGiven},
   Report.{report_of, tool_report},
@@ -85,8 +86,8 @@ module _ {Origin Other V W : Type 0} (contents : V → Option (List ℕ)) (conte
             (grind arith) one_text rest rest' both.1,
       )
 
-  tools : (job : Job) → ToolRuns contents (fresh writer) wrote seen left answer job
-      → ToolRuns contents' (fresh writer') wrote' seen' left' answer' job → Same
+  tools : (tool : Tool) → ToolRuns contents (fresh writer) wrote seen left answer tool
+      → ToolRuns contents' (fresh writer') wrote' seen' left' answer' tool → Same
   tools (Read call) a b = calls Reading call a b
   tools (Write call) a b = calls Writing call a b
   tools (WhoIs search) a b =
@@ -102,7 +103,6 @@ module _ {Origin Other V W : Type 0} (contents : V → Option (List ℕ)) (conte
       let both = servings_so_far serve.count _ a.0.device b.0.device seen left seen' left' a.0.served b.0.served first
       rest first' rest' a.0.serves b.0.serves gains gains' same in
       (both.0, grind arith)
-  tools Trace a b = absurd a
 
 -- ---- one run
 
@@ -204,29 +204,30 @@ module _ {N Origin L R W M Other K S V : Type 0} {gives : N → Binding → Resu
   abbrev BothHad : Option (Result L LinkFault) → Option (Result K LinkFault) → Type 0
   BothHad o o' = IsTrue (is_some o) → IsTrue (is_some o') → is_socket o ≡ is_socket o'
 
-  over : (job : Job) (link left : L) (link' left' : K)
-      → RunsOver out (fresh one.reader) one.reader' (fresh one.writer) one.writer' one.ran.report job link left →
-      RunsOver out' (fresh other.reader) other.reader' (fresh other.writer) other.writer' other.ran.report job link'
+  over : (tool : Tool) (link left : L) (link' left' : K)
+      → RunsOver out (fresh one.reader) one.reader' (fresh one.writer) one.writer' one.ran.report tool link left →
+      RunsOver out' (fresh other.reader) other.reader' (fresh other.writer) other.writer' other.ran.report tool link'
       left' → (out.seen left).history ≡ (out.seen link).history ++ one.gained
       → (out'.seen left').history ≡ (out'.seen link').history ++ other.gained → Alike
-  over job link left link' left' r s gains gains' =
+  over tool link left link' left' r s gains gains' =
       let both = tools out.contents out'.contents one.writer other.writer one.writer' other.writer' (out.seen link)
       (out.seen left) (out'.seen link') (out'.seen left') r.answer s.answer first rest first' rest' (cc) (cc) h.answers
-      Refused job r.tool s.tool in (
+      Refused tool r.runs s.runs in (
         both.0,
         subst (λ (x : Report). GoesOn x other.ran.report rest rest') (sym r.reported)
             (subst (λ (y : Report). GoesOn (tool_report r.answer) y rest rest') (sym s.reported) both.1),
       )
 
-  opened : (job : Job) (o p : Option (Result L LinkFault)) (o' p' : Option (Result K LinkFault)) →
-      RunsOpened out (fresh one.reader) one.reader' (fresh one.writer) one.writer' one.ran.report job o p →
-      RunsOpened out' (fresh other.reader) other.reader' (fresh other.writer) other.writer' other.ran.report job o' p' →
+  opened : (tool : Tool) (o p : Option (Result L LinkFault)) (o' p' : Option (Result K LinkFault)) →
+      RunsOpened out (fresh one.reader) one.reader' (fresh one.writer) one.writer' one.ran.report tool o p →
+      RunsOpened out' (fresh other.reader) other.reader' (fresh other.writer) other.writer' other.ran.report tool o' p'
+      →
       Gained out.seen o p one.gained → Gained out'.seen o' p' other.gained → BothHad o o' → Alike
-  opened job (Some (Err f)) p (Some (Err g)) p' r s gains gains' e = grind (arith, none_asked, unprinted)
-  opened job (Some (Ok l)) (Some (Ok m)) (Some (Ok k)) (Some (Ok n)) r s gains gains' e =
-      over job l m k n r s gains gains'
-  opened job (Some (Err f)) p (Some (Ok k)) p' r s gains gains' e = let both = e refl refl in cc
-  opened job (Some (Ok l)) p (Some (Err g)) p' r s gains gains' e = let both = e refl refl in cc
+  opened tool (Some (Err f)) p (Some (Err g)) p' r s gains gains' e = grind (arith, none_asked, unprinted)
+  opened tool (Some (Ok l)) (Some (Ok m)) (Some (Ok k)) (Some (Ok n)) r s gains gains' e =
+      over tool l m k n r s gains gains'
+  opened tool (Some (Err f)) p (Some (Ok k)) p' r s gains gains' e = let both = e refl refl in cc
+  opened tool (Some (Ok l)) p (Some (Err g)) p' r s gains gains' e = let both = e refl refl in cc
   opened _ _ _ _ _ r s gains gains' e = grind arith
 
   module _ (r : MyScript one) (s : MyScript other) where
@@ -249,19 +250,19 @@ module _ {N Origin L R W M Other K S V : Type 0} {gives : N → Binding → Resu
     ]
 
   jobs : (job : Job) (o p : Option (Result L LinkFault)) (o' p' : Option (Result K LinkFault))
-      → IsGiven gives out one.network (binding_of job) o → IsGiven gives' out' other.network (binding_of job) o' →
+      → IsGiven gives out one.network (asked_by job) o → IsGiven gives' out' other.network (asked_by job) o' →
       Mine one job o p → Mine other job o' p' → Gained out.seen o p one.gained → Gained out'.seen o' p' other.gained
       → BothHad o o' → Alike
   jobs Trace None p None p' given given' r s gains gains' e =
       let both = scripts r.0 s.0 in none_asked gains gains' both.0 both.1
   jobs Trace o p o' p' given given' r s gains gains' e = cc
-  jobs job o p o' p' _ _ r s gains gains' e = opened job o p o' p' r s gains gains' e
+  jobs (Over tool) o p o' p' _ _ r s gains gains' e = opened tool o p o' p' r s gains gains' e
 
   abbrev Given : Result Job UsageFault → Type 0
-  Given r = IsGiven gives out one.network (option_and_then binding_of (result_ok r)) one.program.opened
+  Given r = IsGiven gives out one.network (option_and_then asked_by (result_ok r)) one.program.opened
 
   abbrev OtherGiven : Result Job UsageFault → Type 0
-  OtherGiven s = IsGiven gives' out' other.network (option_and_then binding_of (result_ok s)) other.program.opened
+  OtherGiven s = IsGiven gives' out' other.network (option_and_then asked_by (result_ok s)) other.program.opened
 
   both_refused : (f g : UsageFault) → MyEnd one (Err f) None → MyEnd other (Err g) None → Given (Err f)
       → OtherGiven (Err g) → (one.ran.report ≡ other.ran.report) ⊎ Refused → Alike

@@ -1,2 +1,3 @@
 pub mod Statuses
 mod Alike
+pub mod Calls

@@ -4,4 +4,5 @@ pub mod Telling
 pub mod Outside
 pub mod Runs
 pub mod Program
+pub mod Calls
 pub mod Alike

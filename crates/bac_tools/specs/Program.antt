@@ -1,5 +1,5 @@
 -- From the words to what is asked of the socket, what is printed, and the status.
-use Rattle.std.specs.Prelude.{◌≡◌, ◌⊎◌, List, Option, Some, None, option_and_then, IsSomeAnd, IfNone}
+use Rattle.std.specs.Prelude.{◌≡◌, ◌⊎◌, ℕ, List, Option, Some, None, option_and_then, IsSomeAnd, IfNone}
 use Rattle.std.specs.Prelude.{Result, Ok, Err, IsErrAnd, map}
 use Rattle.std.specs.IoError.{error_kind}
 use Rattle.std.specs.Result.{result_map_both, result_ok}
@@ -10,6 +10,7 @@ use Rattle.std.specs.declared.io.ErrorKind.{ErrorKind}
 use Rattle.std.specs.declared.string.String.{String}
 use Rattle.std.specs.declared.vec.IntoIter.{IntoIter}
 use Rattle.clap.specs.Words.{Text}
+use Rattle.bac_print.specs.Checked.{has_failed}
 use Rattle.bac_print.specs.declared.checked.Checked.{Checked}
 use Rattle.bac_links.specs.declared.link.LinkFault.{LinkFault}
 use Rattle.bac_words.specs.Called.{words_called}
@@ -17,10 +18,11 @@ use Rattle.bac_words.specs.Line.{Answers, IsRefusal}
 use Rattle.bac_words.specs.declared.faults.UsageFault.{UsageFault}
 use Rattle.bac_words.specs.declared.faults.UsageFault.TheVariants.{Memory}
 use Rattle.bac_text.specs.declared.jobs.Job.{Job}
-use Rattle.bac_tools.specs.Binding.{binding_of}
+use Rattle.bac_tools.specs.Binding.{asked_by}
 use Rattle.bac_tools.specs.Outside.{Outside}
 use Rattle.bac_tools.specs.Report.{report_of, unread_report}
 use Rattle.bac_tools.specs.Runs.{Runs}
+use Rattle.bac_tools.specs.Telling.{IsTold, on_error, on_output, once_given}
 use Rattle.bac_tools.specs.declared.binding.Binding.{Binding}
 use Rattle.bac_tools.specs.declared.program.Ran.{Ran}
 use Rattle.bac_tools.specs.declared.report.Fault.TheVariants as faults
@@ -55,7 +57,7 @@ module _ {N Origin L R W : Type 0} (gives : N → Binding → Result L LinkFault
       pub answer : Result Job UsageFault
       pub answered : IsErrAnd answer (IsRefusal words) ⊎ Answers words answer
       pub opened : Option (Result L LinkFault)
-      pub given : IsGiven network (option_and_then binding_of (result_ok answer)) opened
+      pub given : IsGiven network (option_and_then asked_by (result_ok answer)) opened
       pub ends : Ends answer opened
       pub unasked : IfNone opened (ran.unasked ≡ Some network)
 
@@ -64,3 +66,15 @@ module _ {N Origin L R W : Type 0} (gives : N → Binding → Result L LinkFault
     abbrev pub IsCalled : Result (List Text) ErrorKind → Type 0
     IsCalled (Ok typed) = Program (words_called typed) ⊎ Only (report_of (faults.Usage Memory))
     IsCalled (Err kind) = Only (unread_report kind)
+
+  module _ {E : Type 0} (contents : E → Option (List ℕ)) (network : N) (reader reader' : Checked R)
+      (writer writer' : Checked W) (errors errors' : Checked E) (ran : Ran N L) where
+    -- The words are run, then the writer is given the help that was asked for, and `errors` what is told of any other
+    -- fault. The report is that of the words, unless the help could not be written.
+    pub record IsRun (typed : Result (List Text) ErrorKind) : Type 0 where
+      pub unhelped : Checked W
+      pub report : Report
+      pub called : IsCalled network reader reader' writer unhelped (record ran { report = report }) typed
+      pub help : IsTold out.contents unhelped writer' (on_output report.fault)
+      pub reported : ran.report ≡ once_given report.fault (has_failed writer') report
+      pub fault : IsTold contents errors errors' (on_error ran.report.fault)

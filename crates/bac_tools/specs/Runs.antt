@@ -10,8 +10,8 @@ use Rattle.bac_links.specs.Call.{Tells}
 use Rattle.bac_links.specs.Search.{Searched}
 use Rattle.bac_links.specs.Serve.{Serves}
 use Rattle.bac_links.specs.Fault.{is_link_fault, is_write_fault}
-use Rattle.bac_links.specs.declared.ending.Exit.{Exit}
-use Rattle.bac_links.specs.declared.ending.Exit.TheVariants.{Good}
+use Rattle.bac_links.specs.declared.exit.Exit.{Exit}
+use Rattle.bac_links.specs.declared.exit.Exit.TheVariants.{Good}
 use Rattle.bac_links.specs.declared.ending.Purpose.TheVariants.{Reading, Writing}
 use Rattle.bac_links.specs.declared.fault.ToolFault.{ToolFault}
 use Rattle.bac_links.specs.declared.link.LinkFault.{LinkFault}
@@ -20,8 +20,10 @@ use Rattle.bac_script.specs.declared.tracing.TraceEnd.{TraceEnd}
 use Rattle.bac_script.specs.declared.tracing.TraceFault.{TraceFault}
 use Rattle.bac_script.specs.declared.tracing.TraceFault.TheVariants as stops
 use Rattle.bac_text.specs.declared.jobs.Job.{Job}
-use Rattle.bac_text.specs.declared.jobs.Job.TheVariants.{Read, Write, WhoIs, Device, Trace}
+use Rattle.bac_text.specs.declared.jobs.Job.TheVariants.{Over, Trace}
 use Rattle.bac_text.specs.declared.jobs.Serve.{Serve}
+use Rattle.bac_text.specs.declared.jobs.Tool.{Tool}
+use Rattle.bac_text.specs.declared.jobs.Tool.TheVariants.{Read, Write, WhoIs, Device}
 use Rattle.bac_tools.specs.Outside.{Outside}
 use Rattle.bac_tools.specs.Report.{report_of, tool_report, trace_report}
 use Rattle.bac_tools.specs.declared.report.Fault.TheVariants as faults
@@ -41,22 +43,21 @@ module _ {Origin W : Type 0} (contents : W → Option (List ℕ)) (writer writer
     (seen left : Account Origin) (answer : Result Exit ToolFault) where
   -- A request tells its events, its sends, its end and the line of that, by the look-ahead; a search the devices that
   -- it finds, and their lines; a device its replies, and it prints nothing.
-  abbrev pub ToolRuns : Job → Type 0
+  abbrev pub ToolRuns : Tool → Type 0
   ToolRuns (Read call) = Tells Reading call contents writer writer' seen left answer
   ToolRuns (Write call) = Tells Writing call contents writer writer' seen left answer
   ToolRuns (WhoIs search) = Searched search contents writer writer' seen left answer
   ToolRuns (Device serve) = DevicePlays serve seen left answer × (writer' ≡ writer)
-  ToolRuns Trace = ⊥
 
 -- ---- the whole
 
 module _ {Origin L R W : Type 0} (out : Outside Origin L R W) (reader reader' : Checked R) (writer writer' : Checked W)
     (report : Report) where
-  -- A job was run over a link: the report is that of the tool's answer. Link and writer have failed exactly where it is
-  -- their fault.
-  pub record RunsOver (job : Job) (link link' : L) : Type 0 where
+  -- A tool was run over a link: the report is that of its answer. Link and writer have failed exactly where it is their
+  -- fault.
+  pub record RunsOver (tool : Tool) (link link' : L) : Type 0 where
     pub answer : Result Exit ToolFault
-    pub tool : ToolRuns out.contents writer writer' (out.seen link) (out.seen link') answer job
+    pub runs : ToolRuns out.contents writer writer' (out.seen link) (out.seen link') answer tool
     pub link_fault : out.failed link' ≡ is_link_fault answer
     pub write_fault : has_failed writer' ≡ is_write_fault answer
     pub unread : reader' ≡ reader
@@ -69,15 +70,15 @@ module _ {Origin L R W : Type 0} (out : Outside Origin L R W) (reader reader' : 
     pub write_fault : (has_failed writer' ≡ true) ↔ (answer ≡ Err stops.WriteFailed)
     pub reported : report ≡ trace_report answer
 
-  -- A job was run over the socket that was to be had, which is there afterwards. Where none was to be had, nothing was
+  -- A tool was run over the socket that was to be had, which is there afterwards. Where none was to be had, nothing was
   -- read and nothing printed, and why there was none is told and handed back.
-  abbrev pub RunsOpened : Job → Option (Result L LinkFault) → Option (Result L LinkFault) → Type 0
-  RunsOpened job (Some (Err fault)) opened' = (opened' ≡ Some (Err fault)) × (reader' ≡ reader) × (writer' ≡ writer)
+  abbrev pub RunsOpened : Tool → Option (Result L LinkFault) → Option (Result L LinkFault) → Type 0
+  RunsOpened tool (Some (Err fault)) opened' = (opened' ≡ Some (Err fault)) × (reader' ≡ reader) × (writer' ≡ writer)
       × (report ≡ report_of (faults.Link fault))
-  RunsOpened job (Some (Ok link)) (Some (Ok link')) = RunsOver job link link'
-  RunsOpened job opened opened' = ⊥
+  RunsOpened tool (Some (Ok link)) (Some (Ok link')) = RunsOver tool link link'
+  RunsOpened tool opened opened' = ⊥
 
   -- What a job does with what was opened for it, its reader and its writer, and the report.
   abbrev pub Runs : Job → Option (Result L LinkFault) → Option (Result L LinkFault) → Type 0
   Runs Trace = λ opened opened'. RunsScript × (opened' ≡ opened)
-  Runs job = RunsOpened job
+  Runs (Over tool) = RunsOpened tool

@@ -1,46 +1,50 @@
 -- What the standard streams are given, by the fault of a report.
-use Rattle.std.specs.Prelude.{ℕ, List, [], Option, Some, None, Result, Err}
-use Rattle.std.specs.declared.io.Error.{Error}
-use Rattle.clap.specs.declared.error.Error.{Error as Message}
+use Rattle.std.specs.Prelude.{◌≡◌, ℕ, Bool, true, List, [], ◌++◌, Option, Some, None, Err, codes, ⊤}
+use Rattle.bac_print.specs.Page.{Writes}
+use Rattle.bac_print.specs.declared.checked.Checked.{Checked}
+use Rattle.bac_links.specs.Fault.{link_fault_text, tool_fault_text}
 use Rattle.bac_links.specs.declared.fault.ToolFault.TheVariants.{WriteFailed}
-use Rattle.bac_words.specs.declared.faults.UsageFault.TheVariants.{Help, Words}
+use Rattle.bac_script.specs.Tracing.{trace_fault_text}
+use Rattle.bac_words.specs.Fault.{usage_told}
+use Rattle.bac_words.specs.Telling.{Told, Text, Line}
+use Rattle.bac_words.specs.declared.faults.UsageFault.TheVariants.{Help}
 use Rattle.bac_tools.specs.Report.{tool_report}
 use Rattle.bac_tools.specs.declared.report.Fault.{Fault}
 use Rattle.bac_tools.specs.declared.report.Fault.TheVariants as faults
 use Rattle.bac_tools.specs.declared.report.Report.{Report}
-use Rattle.bac_tools.specs.declared.report.Telling.{Telling}
-use Rattle.bac_tools.specs.declared.report.Telling.TheVariants as telling
 
--- What a stream is given: nothing, a text of `clap`, or the line of a fault.
-pub data Told : Type 0 where
-  Nothing : Told
-  Text : (message : Message) → Told
-  Line : (fault : Fault) → Told
-
--- What contracts see of it.
-abbrev pub telling_seen : Telling → Told
-telling_seen telling.Nothing = Nothing
-telling_seen (telling.Text message) = Text message.now
-telling_seen (telling.Line fault) = Line fault.now
-
--- The octets that are printed: none for nothing. Of the texts of `clap` and of faults nothing is said.
-abbrev pub octets_told : Telling → Option (List ℕ)
-octets_told telling.Nothing = Some []
-octets_told _ = None
+-- What is told of a fault.
+abbrev pub fault_told : Fault → Told
+fault_told faults.NoText = Line (codes "words that are not UTF-8")
+fault_told (faults.Usage fault) = usage_told fault
+fault_told (faults.Link fault) = Line link_fault_text
+fault_told (faults.Tool fault) = Line (tool_fault_text fault)
+fault_told (faults.Trace fault) = Line (trace_fault_text fault)
 
 -- Standard output is given help that was asked for, and nothing else.
-abbrev pub on_output : Option Fault → Told
-on_output (Some (faults.Usage (Help message))) = Text message
-on_output _ = Nothing
+abbrev pub on_output : Option Fault → Option Told
+on_output (Some (faults.Usage (Help message))) = Some (Text message)
+on_output _ = None
 
--- Standard error is given what `clap` says of words that it refuses, and the line of each other fault but help.
-abbrev pub on_error : Option Fault → Told
-on_error None = Nothing
-on_error (Some (faults.Usage (Help message))) = Nothing
-on_error (Some (faults.Usage (Words message))) = Text message
-on_error (Some fault) = Line fault
+-- Standard error is given what there is to tell of each other fault.
+abbrev pub on_error : Option Fault → Option Told
+on_error None = None
+on_error (Some (faults.Usage (Help message))) = None
+on_error (Some fault) = Some (fault_told fault)
 
--- The report once standard output was given this: where help could not be printed, that is the fault.
-abbrev pub once_given : Option Fault → Result (Unit {0}) Error → Report → Report
-once_given (Some (faults.Usage (Help message))) (Err error) report = tool_report (Err WriteFailed)
+-- The report once standard output was given this, and has failed or not: where it has, and was to take help, that is
+-- the fault.
+abbrev pub once_given : Option Fault → (failed : Bool) → Report → Report
+once_given (Some (faults.Usage (Help message))) true report = tool_report (Err WriteFailed)
 once_given _ _ report = report
+
+-- The octets of what is told: a line behind the name of the program. Those of a text of `clap` are its own.
+abbrev pub AreOctetsOf : Told → List ℕ → Type 0
+AreOctetsOf (Text message) octets = ⊤
+AreOctetsOf (Line text) octets = octets ≡ codes "bactool: " ++ (text ++ codes "\n")
+
+-- The writer is given what is told, as far as it takes it. Where that is nothing it is not asked.
+abbrev pub IsTold : {W : Type 0} → (W → Option (List ℕ)) → (before after : Checked W) → Option Told → Type 0
+IsTold contents before after None = after ≡ before
+IsTold contents before after (Some told) = (octets : List ℕ) × AreOctetsOf told octets
+    × Writes contents before after [] [] octets

@@ -1,10 +1,10 @@
-//! The socket that a job asks for.
+//! The socket that a tool asks for.
 ghost use Rattle.std.specs.Prelude.{◌≡◌};
 ghost use Rattle.bac_tools.specs.Binding.{binding_of, client_at};
 
 use bac_links::Refused;
 use bac_pdu::Peer;
-use bac_words::Job;
+use bac_words::Tool;
 
 /// Where a socket is to be, and what becomes of a datagram that the system refuses to send from it.
 #[derive(Clone, Copy, Debug)]
@@ -15,18 +15,17 @@ pub struct Binding {
     pub refused: Refused,
 }
 
-/// The socket that a job asks for. A script asks for none.
-pub fn binding_for(job: &Job) -> Option<Binding>
-    ensures { result ≡ binding_of job.now }
+/// The socket that a tool asks for.
+pub fn binding_for(tool: &Tool) -> Binding
+    ensures { result ≡ binding_of tool.now }
 {
-    match job {
-        Job::Read(call) | Job::Write(call) => Some(client_at(call.port)),
-        Job::WhoIs(search) => Some(client_at(search.port)),
-        Job::Device(device) => Some(Binding {
+    match tool {
+        Tool::Read(call) | Tool::Write(call) => client_at(call.port),
+        Tool::WhoIs(search) => client_at(search.port),
+        Tool::Device(device) => Binding {
             refused: Refused::IsLost,
             ..client_at(device.port)
-        }),
-        Job::Trace => None,
+        },
     }
 }
 

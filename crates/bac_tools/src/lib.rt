@@ -4,7 +4,7 @@
 //! ([`parse_words`]), asks a [`Network`] for the one socket that the job wants, runs the job, and answers a [`Report`]
 //! with the status and the fault that is told. [`run_words`] does this for words that one has already.
 //!
-//! [`run_job`] runs a job over a link that one has already; [`binding_for`] says which socket a job asks for.
+//! [`run_tool`] runs a tool over a link that one has already; [`binding_for`] says which socket a tool asks for.
 //! `specs/Program.antt` says what comes of the words. The other names are of the crates below, where each is said and
 //! proved.
 //!
@@ -16,16 +16,18 @@ pub mod laws;
 mod program;
 mod report;
 mod running;
+mod telling;
 
 pub use bac_links::{
     DATAGRAM_OCTETS, Datagram, Exit, Link, LinkFault, MemoryLink, Refused, Socket, Step,
     SystemSocket, ToolFault, UdpLink, run_read, run_whois, run_write, serve, status,
 };
-pub use bac_print::Checked;
+pub use bac_print::{Checked, Message};
 pub use bac_script::{TraceEnd, TraceFault, show_outcome, show_value, trace, trace_status};
 pub use bac_text::{Call, Search, read_peer};
-pub use bac_words::{Job, Serve, UsageFault, parse_words, usage_status, words_of};
+pub use bac_words::{Job, Serve, Telling, Tool, UsageFault, parse_words, usage_status, words_of};
 pub use binding::{Binding, binding_for};
 pub use program::{Ended, Network, Ran, run_program, run_words};
-pub use report::{Fault, Report, Telling};
-pub use running::run_job;
+pub use report::{Fault, Report};
+pub use running::run_tool;
+pub use telling::tell;

@@ -6,15 +6,17 @@ ghost use Rattle.std.specs.declared.io.ErrorKind.TheVariants.{OutOfMemory};
 ghost use Rattle.clap.specs.Walk.{texts};
 ghost use Rattle.bac_print.specs.Checked.{fresh, has_failed};
 ghost use Rattle.bac_links.specs.declared.link.LinkFault.{LinkFault};
-ghost use Rattle.bac_tools.specs.Program.{IsCalled, Program, texts_of};
+ghost use Rattle.bac_tools.specs.Program.{IsCalled, IsRun, Program, texts_of};
 ghost use Rattle.bac_tools.specs.declared.binding.Binding.{Binding};
 
 use crate::binding::{Binding, binding_for};
 use crate::report::Report;
-use crate::running::run_job;
+use crate::running::run_tool;
+use crate::telling::tell;
 use bac_links::{Link, LinkFault};
 use bac_print::Checked;
-use bac_words::{UsageFault, parse_words, words_of};
+use bac_script::trace;
+use bac_words::{Job, UsageFault, parse_words, words_of};
 use std::alloc::Global;
 use std::env;
 use std::io::{self, Read, Write};
@@ -46,38 +48,48 @@ pub struct Ran<N: Drop, L: Drop> {
     pub unasked: Option<N>,
 }
 
-/// How the program ended, and its reader and its writer afterwards.
+/// How the program ended, and what it read from and wrote to, afterwards.
 #[derive(Drop)]
-pub struct Ended<N: Drop, L: Drop, R: Drop, W: Drop> {
+pub struct Ended<N: Drop, L: Drop, R: Drop, W: Drop, E: Drop> {
     pub ran: Ran<N, L>,
     pub reader: Checked<R>,
     pub writer: Checked<W>,
+    pub errors: Checked<E>,
 }
 
-/// Runs the program: the words that it was called with, or why they could not be had.
+/// Runs the program: the words that it was called with, or why they could not be had. At its end it gives the writer
+/// the help that was asked for, or `errors` what there is to tell of a fault.
 ///
-/// The network, the reader and the writer are all that it has of the world.
-pub fn run_program<N: Network + Drop, R: Read + Drop, W: Write + Drop>(
+/// The network, the reader and the two writers are all that it has of the world.
+pub fn run_program<N: Network + Drop, R: Read + Drop, W: Write + Drop, E: Write + Drop>(
     alloc: Global,
     typed: io::Result<env::Args>,
     network: N,
     reader: R,
     writer: W,
-) -> Ended<N, N::Socket, R, W>
-    ensures { IsCalled N.gives
+    errors: E,
+) -> Ended<N, N::Socket, R, W, E>
+    ensures { IsRun N.gives
         record { seen = N.Socket.seen; failed = N.Socket.has_failed; remaining = R.remaining; contents = W.contents }
-        network (fresh reader) result.reader (fresh writer) result.writer result.ran (texts_of typed) }
+        E.contents network (fresh reader) result.reader (fresh writer) result.writer (fresh errors) result.errors
+        result.ran (texts_of typed) }
 {
     let mut reader = Checked::new(reader);
     let mut writer = Checked::new(writer);
-    let ran = match kept(alloc, typed) {
-        Ok(typed) => run_typed(alloc, &typed, network, &mut reader, &mut writer),
-        Err(error) => Ran::only(Report::from(error), network),
-    };
+    let mut errors = Checked::new(errors);
+    let ran = run_called(alloc, typed, network, &mut reader, &mut writer);
+    tell(ran.report.on_output(), &mut writer);
+    let report = ran.report.after_output(writer.failed());
+    tell(report.on_error(), &mut errors);
     Ended {
-        ran,
+        ran: Ran {
+            report,
+            socket: ran.socket,
+            unasked: ran.unasked,
+        },
         reader,
         writer,
+        errors,
     }
 }
 
@@ -99,19 +111,42 @@ pub fn run_words<N: Network + Drop, R: Read, W: Write>(
         record { seen = N.Socket.seen; failed = N.Socket.has_failed; remaining = R.remaining; contents = W.contents }
         network reader.old reader.new writer.old writer.new result (texts words.now) }
 {
-    let job = match parse_words(alloc, words) {
-        Ok(job) => job,
+    let tool = match parse_words(alloc, words) {
+        Ok(Job::Over(tool)) => tool,
+        Ok(Job::Trace) => return Ran::only(Report::from(trace(reader, writer)), network),
         Err(fault) => return Ran::only(Report::from(fault), network),
     };
-    let (mut socket, unasked) = match binding_for(&job) {
-        Some(binding) => (Some(network.bind(binding)), None),
-        None => (None, Some(network)),
-    };
-    let report = run_job(job, &mut socket, reader, writer);
-    Ran {
-        report,
-        socket,
-        unasked,
+    match network.bind(binding_for(&tool)) {
+        Ok(mut link) => Ran {
+            report: Report::from(run_tool(tool, &mut link, writer)),
+            socket: Some(Ok(link)),
+            unasked: None,
+        },
+        Err(fault) => Ran {
+            report: Report::from(fault),
+            socket: Some(Err(fault)),
+            unasked: None,
+        },
+    }
+}
+
+// Runs the words that the program was called with, or reports why they could not be had.
+fn run_called<N: Network + Drop, R: Read, W: Write>(
+    alloc: Global,
+    typed: io::Result<env::Args>,
+    network: N,
+    reader: &mut Checked<R>,
+    writer: &mut Checked<W>,
+) -> Ran<N, N::Socket>
+    requires reader { has_failed reader.old ≡ false }
+    requires writer { has_failed writer.old ≡ false }
+    ensures { IsCalled N.gives
+        record { seen = N.Socket.seen; failed = N.Socket.has_failed; remaining = R.remaining; contents = W.contents }
+        network reader.old reader.new writer.old writer.new result (texts_of typed) }
+{
+    match kept(alloc, typed) {
+        Ok(typed) => run_typed(alloc, &typed, network, reader, writer),
+        Err(error) => Ran::only(Report::from(error), network),
     }
 }
 

@@ -1,33 +1,30 @@
 //! How the program ends.
-ghost use Rattle.std.specs.Prelude.{◌≡◌};
+ghost use Rattle.std.specs.Prelude.{◌≡◌, option_map};
+ghost use Rattle.bac_words.specs.Telling.{told_by};
 ghost use Rattle.bac_tools.specs.Report.{report_of, tool_report, trace_report, unread_report};
-ghost use Rattle.bac_tools.specs.Telling.{telling_seen, octets_told, on_error, on_output, once_given};
+ghost use Rattle.bac_tools.specs.Telling.{fault_told, on_error, on_output, once_given};
 ghost use Rattle.bac_tools.specs.declared.report.Fault.TheVariants.{Link, Usage};
 
 use bac_links::{Exit, LinkFault, ToolFault, status};
+use bac_print::Message;
 use bac_script::{TraceEnd, TraceFault, trace_status};
-use bac_words::{UsageFault, usage_status};
-use std::io::ErrorKind;
-use std::{fmt, io};
+use bac_words::{Telling, UsageFault, usage_status};
+use std::io::{self, ErrorKind};
 use thiserror::Error;
 
 /// What the program tells of where it could not go on.
 #[derive(Debug, Drop, Error)]
+#[error("{}", self.telling())]
 pub enum Fault {
     /// The words are no texts.
-    #[error("words that are not UTF-8")]
     NoText,
     /// The words give no job. Help that was asked for is among these.
-    #[error("{0}")]
     Usage(UsageFault),
     /// No socket was to be had.
-    #[error("{0}")]
     Link(LinkFault),
     /// A tool could not go on.
-    #[error("{0}")]
     Tool(ToolFault),
     /// A script stopped.
-    #[error("{0}")]
     Trace(TraceFault),
 }
 
@@ -40,56 +37,49 @@ pub struct Report {
     pub fault: Option<Fault>,
 }
 
-/// What a standard stream is given.
-#[derive(Debug, Drop)]
-pub enum Telling<'r> {
-    Nothing,
-    /// Help, or why the words are not taken.
-    Text(&'r clap::Error),
-    /// The line of any other fault.
-    Line(&'r Fault),
-}
-
-impl fmt::Display for Telling<'_> {
-    ghost output = { octets_told };
-
-    fn fmt<W: fmt::Write>(&self, f: &mut fmt::Formatter<W>) -> fmt::Result {
-        match self {
-            Telling::Nothing => Ok(()),
-            Telling::Text(text) => write!(f, "{text}"),
-            Telling::Line(fault) => writeln!(f, "bactool: {fault}"),
-        }
+impl Fault {
+    /// What is told of it.
+    pub fn telling(&self) -> Telling<'_>
+        ensures { told_by result ≡ fault_told self.now }
+    {
+        Telling::Line(match self {
+            Fault::NoText => Message::Text("words that are not UTF-8"),
+            Fault::Usage(fault) => return fault.telling(),
+            Fault::Link(fault) => fault.message(),
+            Fault::Tool(fault) => fault.message(),
+            Fault::Trace(fault) => fault.message(),
+        })
     }
 }
 
 impl Report {
     /// What standard output is given: help that was asked for.
-    pub fn on_output(&self) -> Telling<'_>
-        ensures { telling_seen result ≡ on_output self.now.fault }
+    pub fn on_output(&self) -> Option<Telling<'_>>
+        ensures { option_map told_by result ≡ on_output self.now.fault }
     {
         match &self.fault {
-            Some(Fault::Usage(UsageFault::Help(text))) => Telling::Text(text),
-            _ => Telling::Nothing,
+            Some(Fault::Usage(UsageFault::Help(text))) => Some(Telling::Text(text)),
+            _ => None,
         }
     }
 
     /// What standard error is given: any other fault.
-    pub fn on_error(&self) -> Telling<'_>
-        ensures { telling_seen result ≡ on_error self.now.fault }
+    pub fn on_error(&self) -> Option<Telling<'_>>
+        ensures { option_map told_by result ≡ on_error self.now.fault }
     {
         match &self.fault {
-            None | Some(Fault::Usage(UsageFault::Help(_))) => Telling::Nothing,
-            Some(Fault::Usage(UsageFault::Words(text))) => Telling::Text(text),
-            Some(fault) => Telling::Line(fault),
+            None | Some(Fault::Usage(UsageFault::Help(_))) => None,
+            Some(fault) => Some(fault.telling()),
         }
     }
 
-    /// The report once standard output was given this: where help could not be printed, that is the fault.
-    pub fn after_output(self, printed: io::Result<()>) -> Report
-        ensures { result ≡ once_given self.fault printed self }
+    /// The report once standard output was given this, and has failed or not: where it has, and was to take help, that
+    /// is the fault.
+    pub fn after_output(self, failed: bool) -> Report
+        ensures { result ≡ once_given self.fault failed self }
     {
         match &self.fault {
-            Some(Fault::Usage(UsageFault::Help(_))) if printed.is_err() => {
+            Some(Fault::Usage(UsageFault::Help(_))) if failed => {
                 Report::from(Err(ToolFault::WriteFailed))
             }
             _ => self,

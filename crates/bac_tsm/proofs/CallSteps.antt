@@ -5,15 +5,10 @@ use Rattle.std.proofs.{
   lemmas.{List.Elements.All-filter, List.nil_from_length},
 }
 use Rattle.std.specs.{List.{filter, flat_map, slice_get}, Option.{option_map, option_to_list}}
-use Rattle.bac_tsm.specs.{
-  declared.due.Entry.Entry,
-  Events.{Rules, Request, Outcome},
-  Inner.{Client.IsTimely, Waiting.ticket_in},
-  Machine.{Waiting, due_answer, kept, tick, deliver, datagram},
-  Client.{Client, client_rules, rules_of, keeping},
-  Answers.{Answer, answer_in_datagram, outcome_of, is_answer_to},
-}
-use Rattle.bac_tsm.proofs.CallNotes.{kept_of_all}
+use Rattle.bac_tsm.specs.{declared.due.Entry.Entry, Events.{Rules, Request, Outcome}, Inner.Client.IsTimely}
+use Rattle.bac_tsm.specs.{Inner.Waiting.ticket_in, Machine.{Waiting, due_answer, kept, tick, deliver, datagram}}
+use Rattle.bac_tsm.specs.Client.{Client, client_rules, rules_of, keeping, TakesStep}
+use Rattle.bac_tsm.{specs.Answers.{Answer, answer_in_datagram, outcome_of, is_answer_to}, proofs.CallNotes.kept_of_all}
 use Rattle.bac_pdu.specs.Peer.{Station}
 
 -- A client with this table, as its callers see it.
@@ -24,17 +19,12 @@ seen_as timeout retries clock last next ws = record {
   state = record { clock = clock; last_number = last; next_ticket = next; waiting = ws };
 }
 
-abbrev Ticks : Client → ℕ → List Entry → Client → Type 0
-Ticks old now answer new =
-    (answer ≡ (tick (rules_of old) old.state now).answer)
-    × (new ≡ keeping old (tick (rules_of old) old.state now).after)
-
 pub ticked : (timeout retries clock last next : ℕ) (ws : List Waiting) (now later : ℕ) → later ≡ max now clock
     → (answer : List Entry) (after : List Waiting) →
     (answer ≡ flat_map (due_answer (client_rules timeout retries) later) ws)
     × (after ≡ flat_map (kept (client_rules timeout retries) later) ws) →
     (client : Client) → seen_as timeout retries clock last next ws ≡ client
-    → Ticks client now answer (seen_as timeout retries later last next after)
+    → TakesStep client (tick (rules_of client) client.state now) answer (seen_as timeout retries later last next after)
 ticked = grind arith
 
 pub timely-filter : (p : Waiting → Bool) (clock next : ℕ) (ws : List Waiting) → IsTimely clock next ws
@@ -81,9 +71,7 @@ delivers_nothing f none (w ∷ ws) = grind (arith, delivers_nothing f none ws)
 
 -- What a datagram answers and leaves.
 abbrev Delivers : Client → Station → List ℕ → Option (ℕ × Outcome) → Client → Type 0
-Delivers old peer bytes answer new =
-    (answer ≡ (datagram (rules_of old) old.state peer bytes).answer)
-    × (new ≡ keeping old (datagram (rules_of old) old.state peer bytes).after)
+Delivers old peer bytes = TakesStep old (datagram (rules_of old) old.state peer bytes)
 
 -- The client with these open requests.
 abbrev with_waiting : Client → List Waiting → Client
@@ -93,7 +81,7 @@ delivers_by : (client : Client) (peer : Station) (bytes : List ℕ) (answer : Op
     (waiting : List Waiting) →
     deliver (λ r. outcome_of r peer bytes) client.state.waiting ≡ record { answer = answer; waiting = waiting } →
     Delivers client peer bytes answer (with_waiting client waiting)
-delivers_by client _ _ _ _ e = (cc e, ap (with_waiting client) (cc e))
+delivers_by client _ _ _ _ e = record { answer = cc e; left = ap (with_waiting client) (cc e) }
 
 pub no_answer : (client : Client) (peer : Station) (bytes : List ℕ) → answer_in_datagram peer bytes ≡ None
     → Delivers client peer bytes None client

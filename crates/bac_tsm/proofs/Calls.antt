@@ -1,17 +1,15 @@
 -- Calls of a client one after another, for a caller that reads the machine: a request that is opened, and what a tick
 -- tells once a datagram was heard.
-use Rattle.std.{
-  proofs.Common.{◌≡◌, ℕ, ◌+◌, ◌-◌, ◌%◌, ◌^◌, ◌<◌, ◌≤◌, max, false, List, [], ◌∷◌, length, map, nat_eq, Option, Result},
-  proofs.{Common.{Ok, refl, ◌∙◌, arith, IsSome}, lemmas.Bool.Decides.nat_tests},
-  specs.{Prelude.⊤, List.{flat_map, list_any}, Option.option_map_or},
-}
+use Rattle.std.proofs.Common.{◌≡◌, ℕ, ◌+◌, ◌-◌, ◌%◌, ◌^◌, ◌<◌, ◌≤◌, max, false, List, [], ◌∷◌, length, map, nat_eq}
+use Rattle.std.proofs.{Common.{Option, Result, Ok, refl, ◌∙◌, arith, IsSome}, lemmas.Bool.Decides.nat_tests}
+use Rattle.std.specs.{Prelude.⊤, List.{flat_map, list_any}, Option.option_map_or}
 use Rattle.bac_pdu.specs.{Peer.Station, Apdu.longest_body}
 use Rattle.bac_tsm.specs.{
   declared.{due.Entry.Entry, client.SubmitFault.SubmitFault},
   Limits.table_size,
   Lookahead.{next_invoke_id, refusal_of},
   Answers.outcome_of,
-  Client.{Client, rules_of, keeping},
+  Client.{Client, rules_of, keeping, TakesStep},
   Inner.Waiting.number_in,
   Events.{Outcome, Request, Rules, request_of},
   Machine.{Waiting, State, opened, submit, deliver, datagram, due_answer, tick},
@@ -33,13 +31,14 @@ opened_next = grind (arith, nat_tests)
 -- id: so it is where no request is open.
 pub opens : {known client after : Client} {answer : Result ℕ SubmitFault}
     (peer : Station) (service : ℕ) (body : List ℕ) → client ≡ known
-    → (answer ≡ (submit (rules_of client) client.state peer service body).answer)
-    × (after ≡ keeping client (submit (rules_of client) client.state peer service body).after)
+    → TakesStep client (submit (rules_of client) client.state peer service body) answer after
     → length body ≤ longest_body → length known.state.waiting < table_size → known.state.next_ticket < 2 ^ 64 - 1
     → list_any (nat_eq ((known.state.last_number + 1) % 256)) (map number_in known.state.waiting) ≡ false
-    → (answer ≡ Ok known.state.next_ticket)
-    × (after ≡ keeping known (opened known.state (request_of (rules_of known) known.state.next_ticket peer service body
-    ((known.state.last_number + 1) % 256))))
+    → TakesStep known (record {
+      answer = Ok known.state.next_ticket;
+      after = opened known.state (request_of (rules_of known) known.state.next_ticket peer service body
+          ((known.state.last_number + 1) % 256));
+    }) answer after
 opens {known} _ _ _ is done short room left free =
     let now = rw is at done in
     rw (opened_next (rules_of _) known.state _ _ _ short room left free) at now

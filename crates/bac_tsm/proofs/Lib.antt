@@ -11,6 +11,7 @@ mod PassDue
 mod Placed
 pub mod Progress
 mod RequestLife
+mod SendsSoFar
 mod TableEdits
 mod TableReads
 mod CallSteps

@@ -12,8 +12,8 @@ use Rattle.bac_tsm.specs.{
   Waiting.nothing,
   declared.due.Entry.TheVariants.{Resend, TimedOut as Expired},
   Machine.{Waiting, is_due, due_entry, kept},
-  Table.{held_at, times_of_slot, open_slots, IsTable, AreBySend},
-  Inner.{Table.{waiting_in, IsRankOf, IsPassed}, Waiting.sent_at},
+  Table.{held_at, times_of_slot, open_slots, IsTable, AreBySend, IsWhole},
+  Inner.{Table.{waiting_in, IsRankOf, IsPassed, Leaves}, Waiting.sent_at},
 }
 use Rattle.bac_tsm.proofs.{
   Held.{itself, held_got, times_got},
@@ -27,8 +27,7 @@ younger = grind arith
 
 -- Where some request is due, some was sent.
 pub some_sent : {slots : List Waiting} {numbers : List (Option ℕ)} {order tickets sends : List ℕ}
-    → IsTable slots numbers order tickets →
-    AreBySend slots (open_slots order tickets) sends → (ws : List Waiting) → waiting_in slots order tickets ≡ ws
+    → IsWhole slots numbers order tickets sends → (ws : List Waiting) → waiting_in slots order tickets ≡ ws
     → (rules : Rules) (clock : ℕ) → list_any (is_due rules clock) ws ≡ true → 0 < length sends
 some_sent = grind arith
 
@@ -41,9 +40,14 @@ module _ (rules : Rules) (clock : ℕ) (w : Waiting) where
   is_over = grind arith
 
 module _ {slots : List Waiting} {numbers : List (Option ℕ)} {order tickets sends : List ℕ}
-    (t : IsTable slots numbers order tickets)
-    (q : AreBySend slots (open_slots order tickets) sends) (ws : List Waiting)
+    (whole : IsWhole slots numbers order tickets sends) (ws : List Waiting)
     (view : waiting_in slots order tickets ≡ ws) (slot : ℕ) (front : Some slot ≡ slice_get sends 0) where
+  abbrev t : IsTable slots numbers order tickets
+  t = whole.table
+
+  abbrev q : AreBySend slots (open_slots order tickets) sends
+  q = whole.queue
+
   first : (0 < length sends) × (get_or sends 0 0 ≡ slot)
   first = grind (arith, slice_get_within, get_or_from_slice_get)
 
@@ -87,20 +91,23 @@ module _ {slots : List Waiting} {numbers : List (Option ℕ)} {order tickets sen
       pub sent_again : All (λ v. v.base ≤ clock) ws → (ticket : ℕ) → due_entry rules w ≡ Resend ticket
           → (changed : List Waiting) (rest after : List ℕ) →
           changed ≡ set slots slot (sent_at clock (get_or slots slot nothing)) → rest ≡ remove sends 0
-          → after ≡ rest ++ slot ∷ [] → IsPassed rules clock ws (due_entry rules w) (waiting_in changed order tickets)
-          × IsTable changed numbers order tickets × AreBySend changed (open_slots order tickets) after
+          → after ≡ rest ++ slot ∷ []
+          → Leaves (IsPassed rules clock ws (due_entry rules w) (waiting_in changed order tickets))
+          changed numbers order tickets after
       sent_again past _ again _ rest _ is out back =
           let v = sent_at clock (get_or slots slot _) in
           let lt = turn_lt t ws view slot some in
           let moved = changed_by t ws view i lt slot (stands t ws view slot some) v refl in
           let kept_now : v ∷ [] ≡ kept rules clock (get_or ws i nothing) =
           grind (arith, due_there, nat_lt, read, is_again, some) in
-          rw (is, back) (
-            grind (arith, read, set_split),
-            moved.1,
-            queue-again q slot rest (0, first.0, first.1, out) v (omega (arith, front_below))
-                (omega (arith, times_split t slot (length tickets))) (rw view past),
-          )
+          rw (is, back) (record {
+            told = grind (arith, read, set_split);
+            whole = record {
+              table = moved.1;
+              queue = queue-again q slot rest (0, first.0, first.1, out) v (omega (arith, front_below))
+                  (omega (arith, times_split t slot (length tickets))) (rw view past);
+            };
+          })
 
       pub ended : (ticket j : ℕ) → due_entry rules w ≡ Expired ticket → IsRankOf ticket ws (Some j)
           → (after : List Waiting) → after ≡ remove ws j → IsPassed rules clock ws (Expired ticket) after

@@ -25,8 +25,7 @@ found_by _ i zero m low high t = absurd (omega arith)
 found_by test i (suc n) m low high t = grind (arith, found_by test (suc i) n m)
 
 some_with : {A : Type 0} (P : A → Type 0) (o : Option A) → IsSomeAnd o P → (x : A) × (o ≡ Some x) × P x
-some_with P None h = absurd h
-some_with P (Some x) h = (x, refl, h)
+some_with = grind arith
 
 module _ (rules : Rules) (events : List Event) where
   -- A tick is one of the events.

@@ -12,7 +12,7 @@ use Rattle.bac_tsm.specs.{
   Limits.table_size,
   declared.request.Asked.Asked,
   Machine.Waiting,
-  Inner.{Table.{number_at, waiting_in, IsTakenOut}, Waiting.{number_in, begun}},
+  Inner.{Table.{number_at, waiting_in, IsTakenOut, Leaves}, Waiting.{number_in, begun}},
   Waiting.nothing,
   Table.{times, held_at, times_of_slot, open_slots, Names, AreNamed, IsTable, AreBySend},
 }
@@ -256,20 +256,21 @@ module _ {slots : List Waiting} {numbers : List (Option ℕ)} {order tickets : L
       (index : ℕ) (changed : List Waiting) (after sent : List ℕ) → index ≡ asked.invoke_id
       → changed ≡ set slots (get_or items n 0) (begun asked body) →
       after ≡ tickets ++ asked.ticket ∷ [] → sent ≡ sends ++ get_or items n 0 ∷ [] →
-      (waiting_in changed order after ≡ ws ++ begun asked body ∷ [])
-      × IsTable changed (set numbers index (Some (get_or items n 0))) order after
-      × AreBySend changed (open_slots order after) sent
+      Leaves (waiting_in changed order after ≡ ws ++ begun asked body ∷ []) changed
+      (set numbers index (Some (get_or items n 0))) order after sent
   opened_by _ q room items are n is _ _ unused latest past _ _ _ _ has made to too =
       let new = begun _ _ in
       let slot = get_or items n 0 in
       let here : slot ≡ get_or order (length tickets) 0 = cc in
       let fits : length tickets < length order = grind (arith, count) in
-      rw (has, made, to, too) (
-        ap (held_at _) (grown _ new here fits unused latest) ∙ opened_view _ new here fits unused latest
-            ∙ ap (λ vs. vs ++ new ∷ []) view,
-        opened _ new here fits unused latest,
-        queued _ new here fits unused latest _ q past,
-      )
+      rw (has, made, to, too) (record {
+        told = ap (held_at _) (grown _ new here fits unused latest) ∙ opened_view _ new here fits unused latest
+            ∙ ap (λ vs. vs ++ new ∷ []) view;
+        whole = record {
+          table = opened _ new here fits unused latest;
+          queue = queued _ new here fits unused latest _ q past;
+        };
+      })
 
   -- The request at a rank ends: its slot goes behind all others.
   module _ (i slot number : ℕ) (lt : i < length ws) (is : slot ≡ get_or order i 0)
@@ -348,16 +349,14 @@ module _ {slots : List Waiting} {numbers : List (Option ℕ)} {order tickets : L
       slot ≡ get_or order i slot → w ≡ get_or slots slot nothing → number ≡ w.request.invoke_id → index ≡ number →
       removed ≡ remove order i → after ≡ removed ++ slot ∷ [] → rest ≡ remove tickets i →
       (sends left : List ℕ) → AreBySend slots opens sends → IsTakenOut slot sends left →
-      (waiting_in slots after rest ≡ remove ws i) × IsTable slots (set numbers index None) after rest
-      × AreBySend slots (open_slots after rest) left
+      Leaves (waiting_in slots after rest ≡ remove ws i) slots (set numbers index None) after rest left
   ended_by i lt slot index _ _ _ _ w got is has same gone to from _ _ q out =
       let first = same_turn _ i _ (rank_within t ws view i lt) got in
       let its : index ≡ number_at slots slot = cc in
-      rw (from, to, gone) (
-        ended_view i _ _ lt first its,
-        ended i _ _ lt first its,
-        unqueued i _ _ lt first its _ _ q out,
-      )
+      rw (from, to, gone) (record {
+        told = ended_view i _ _ lt first its;
+        whole = record { table = ended i _ _ lt first its; queue = unqueued i _ _ lt first its _ _ q out };
+      })
 
 -- The slots below one, each once.
 pub record IsUpTo (n : ℕ) (slots : List ℕ) : Type 0 where

@@ -1,34 +1,19 @@
 -- What is read of the table of open requests.
-use Rattle.std.proofs.{
-  Common.{◌≡◌, ℕ, zero, suc, nat_lt, ◌+◌, ◌<◌, ◌≤◌, List, [], ◌∷◌, length, map, take, drop, get_or, Option, Some, None},
-  Common.{Result, Ok, Err, Bool, true, false, not, nat_eq, if◌then◌else◌, refl, ap, sym, subst, ◌∙◌, arith, ◌%◌},
-  Common.{unwrap_or, below_more, remove, position, MatchResult, eqb-true, eq-eqb, ne_eqb, lt-ltb, ltb-false},
-  Common.{length-take, take-append-drop, get_or-take},
-  lemmas.{Option.{slice_get_within, get_or_from_slice_get}, List.{length-map, get_or-map}, List.Sums.passes_at_first},
-  lemmas.List.Sorted.searched,
-}
-use Rattle.std.specs.{
-  List.{filter, find, list_any, slice_get, position_or_len},
-  Option.is_some,
-  Result.result_ok,
-  Ordering.nat_cmp,
-  List.Sorted.IsBinarySearchResult,
-}
-use Rattle.bac_tsm.specs.{
-  Limits.table_size,
-  Machine.Waiting,
-  Answers.{Answer, is_answer_to},
-  Inner.{Table.{waiting_in, IsRankOf}, Waiting.{ticket_in, number_in}},
-  Waiting.nothing,
-  Lookahead.{first_within, next_invoke_id},
-  Table.{times, held_at, times_of_slot, open_slots, Names, IsTable},
-}
-use Rattle.bac_tsm.proofs.{
-  CallNotes.{TicketsRise, by_ticket, pairs_tail},
-  Held.{held_got, times-append, times_got, none_passes, one_passes},
-  RequestLife.{NotBefore, first_from, first_at},
-  NumberCycle.{is_free, a_step},
-}
+use Rattle.std.proofs.Common.{◌≡◌, ℕ, zero, suc, nat_lt, ◌+◌, ◌<◌, ◌≤◌, List, [], ◌∷◌, length, map, take, drop, get_or}
+use Rattle.std.proofs.Common.{Option, Some, None, Result, Ok, Err, Bool, true, false, not, nat_eq, if◌then◌else◌, refl}
+use Rattle.std.proofs.Common.{ap, sym, subst, ◌∙◌, arith, ◌%◌, unwrap_or, below_more, remove, position, MatchResult}
+use Rattle.std.proofs.Common.{eqb-true, eq-eqb, ne_eqb, lt-ltb, ltb-false, length-take, take-append-drop, get_or-take}
+use Rattle.std.proofs.lemmas.{Option.{slice_get_within, get_or_from_slice_get}, List.{length-map, get_or-map}}
+use Rattle.std.proofs.lemmas.List.{Sums.passes_at_first, Sorted.searched}
+use Rattle.std.specs.{List.{filter, find, list_any, slice_get, position_or_len}, Option.is_some, Result.result_ok}
+use Rattle.std.specs.{Ordering.nat_cmp, List.Sorted.IsBinarySearchResult}
+use Rattle.bac_tsm.specs.{Limits.table_size, Machine.Waiting, Answers.{Answer, is_answer_to}}
+use Rattle.bac_tsm.specs.{Inner.Table.{waiting_in, IsRankOf}, Inner.Waiting.{ticket_in, number_in}, Waiting.nothing}
+use Rattle.bac_tsm.specs.Lookahead.{first_within, next_invoke_id}
+use Rattle.bac_tsm.specs.Table.{times, held_at, times_of_slot, open_slots, Names, IsTable}
+use Rattle.bac_tsm.proofs.CallNotes.{TicketsRise, by_ticket, pairs_tail}
+use Rattle.bac_tsm.proofs.Held.{held_got, times-append, times_got, none_passes, one_passes}
+use Rattle.bac_tsm.proofs.{RequestLife.{NotBefore, first_from, first_at}, NumberCycle.{is_free, a_step}}
 
 -- A number is found among these where one of them has it.
 pub any_number : (number : ℕ) (ws : List Waiting)
@@ -203,8 +188,9 @@ module _ {slots : List Waiting} {numbers : List (Option ℕ)} {order tickets : L
     ends w = is_answer_to w.request answer
 
     -- Of these requests those that it is to end, under these tickets.
-    abbrev Ends : List ℕ → List Waiting → Type 0
-    Ends tickets after = (tickets ≡ map ticket_in (filter ends ws)) × (after ≡ filter (λ w. not (ends w)) ws)
+    pub record Ends (gone : List ℕ) (after : List Waiting) : Type 0 where
+      pub told : gone ≡ map ticket_in (filter ends ws)
+      pub others : after ≡ filter (λ w. not (ends w)) ws
 
     says : (w : Waiting) → ends w ≡ true → w.request.invoke_id ≡ number
     unfolding is_answer_to
@@ -213,7 +199,7 @@ module _ {slots : List Waiting} {numbers : List (Option ℕ)} {order tickets : L
     pub closed_none : get_or numbers number None ≡ None → Ends [] ws
     closed_none is =
         let none = none_passes _ _ _ says ws (rw view at (subst (Names slots _ _) is (t.numbered.named _ fits))) in
-        (cc none.0, sym none.1)
+        record { told = cc none.0; others = sym none.1 }
 
     module _ (slot : ℕ) (is : get_or numbers number None ≡ Some slot) where
       some : 0 < times_of_slot slot opened

@@ -13,11 +13,9 @@ use Rattle.std.specs.{
   List.{filter, flat_map, list_any, refill, AllPairs, count_by},
   List.Sorted.{IsPermutation, IsNonDecreasingBy},
 }
-use Rattle.bac_tsm.{
-  specs.{declared.due.Entry.Entry, Events.Rules, Inner.Machine.ticket_of, Inner.Table.IsPassed, Waiting.nothing},
-  specs.Machine.{Waiting, is_due, due_entry, due_answer, kept},
-  proofs.CallNotes.{TicketsRise, kept_of_one, pairs_map},
-}
+use Rattle.bac_tsm.specs.{declared.due.Entry.Entry, Events.Rules, Inner.Machine.ticket_of, Inner.Table.IsPassed}
+use Rattle.bac_tsm.specs.{Waiting.nothing, Machine.{Waiting, is_due, due_entry, due_answer, kept}}
+use Rattle.bac_tsm.proofs.CallNotes.{TicketsRise, kept_of_one, pairs_map}
 
 -- ---- a list whose keys rise is what any sort by the key makes of its elements
 
@@ -146,13 +144,22 @@ module _ (rules : Rules) (clock : ℕ) where
         → HasTicked all kept_in_all (entries ++ entry ∷ []) after
     passed _ _ (rank, lt, due, is, to) = one_more _ _ _ _ lt refl due is to
 
-    pub fewer : (entry : Entry) (after : List Waiting) → IsPassed rules clock ws entry after →
-        (length entries < length all) × (length (due_of after) < length (due_of ws))
+    -- There is room for an entry, and fewer requests are due then.
+    pub record LeavesFewer (after : List Waiting) : Type 0 where
+      pub room : length entries < length all
+      pub fewer : length (due_of after) < length (due_of ws)
+
+    pub fewer : (entry : Entry) (after : List Waiting) → IsPassed rules clock ws entry after → LeavesFewer after
     fewer entry after is =
         let now = sym (length-append entries _) ∙ length_permutation _ _ h.told in
         let next = sym (length-append _ (due_of after)) ∙ length_permutation _ _ (passed _ _ is).told in
         let one = length-append entries (entry ∷ []) in
-        (omega arith, omega arith)
+        record { room = omega arith; fewer = omega arith }
 
-    pub all_passed : list_any (is_due rules clock) ws ≡ false → IsPermutation all entries × (ws ≡ kept_in_all)
+    -- All are told, and what is kept is what is kept of all.
+    pub record IsDone : Type 0 where
+      pub told : IsPermutation all entries
+      pub kept : ws ≡ kept_in_all
+
+    pub all_passed : list_any (is_due rules clock) ws ≡ false → IsDone
     all_passed = grind (arith, nothing_due, append-nil)

@@ -1,10 +1,8 @@
 -- What a new request gets, or why it is refused.
 use Rattle.std.specs.Prelude.{ℕ, ◌+◌, ◌-◌, ◌%◌, ◌^◌, List, length, Option, Some, None, not, nat_lt, nat_le, nat_eq}
-use Rattle.std.specs.Prelude.{if◌then◌else◌, unwrap_or}
-use Rattle.std.specs.List.{list_any}
+use Rattle.std.specs.{Prelude.{if◌then◌else◌, unwrap_or}, List.list_any}
 use Rattle.bac_pdu.specs.Apdu.{longest_body}
-use Rattle.bac_tsm.specs.declared.client.SubmitFault.{SubmitFault}
-use Rattle.bac_tsm.specs.declared.client.SubmitFault.TheVariants.{TooLong, TableFull, TicketsSpent}
+use Rattle.bac_tsm.specs.declared.client.SubmitFault.{SubmitFault, TheVariants.{TooLong, TableFull, TicketsSpent}}
 use Rattle.bac_tsm.specs.Positions.{first_within}
 
 -- The invoke id of a new request: the first one that is not taken, in the cycle of 256 from the one behind the last on.

@@ -1,7 +1,6 @@
 -- Positions in a list of events, and the clock there.
 use Rattle.std.specs.Prelude.{ℕ, zero, suc, ◌-◌, max, List, [], ◌∷◌, length, take, Option, Some, None, Bool, true}
-use Rattle.std.specs.Prelude.{false, nat_lt, if◌then◌else◌}
-use Rattle.std.specs.Option.{option_map_or}
+use Rattle.std.specs.{Prelude.{false, nat_lt, if◌then◌else◌}, Option.option_map_or}
 use Rattle.bac_tsm.specs.Events.{Event, Tick}
 
 -- The first of n numbers from i on that passes the test.

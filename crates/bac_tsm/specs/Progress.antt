@@ -1,7 +1,6 @@
 -- How long a request waits at most.
 use Rattle.std.specs.Prelude.{◌≡◌, ◌<◌, ℕ, List, [], ◌∷◌, true, ⊤}
-use Rattle.bac_tsm.specs.Events.{Event, Rules}
-use Rattle.bac_tsm.specs.Lookahead.{has_waited}
+use Rattle.bac_tsm.specs.{Events.{Event, Rules}, Lookahead.has_waited}
 
 -- The last of these positions, or the first one where there is none.
 abbrev pub last_of : ℕ → List ℕ → ℕ

@@ -1,8 +1,6 @@
 -- A request as it was accepted, its end, and the notes on it.
-use Rattle.std.specs.Prelude.{ℕ, List, [], ◌∷◌, map, Option, Some, None, nat_lt, nat_eq, if◌then◌else◌}
-use Rattle.std.specs.Prelude.{Result, Ok, Err}
-use Rattle.std.specs.List.{fold}
-use Rattle.std.specs.Option.{option_map_or}
+use Rattle.std.specs.Prelude.{ℕ, List, [], ◌∷◌, map, Option, Some, None, nat_lt, nat_eq, if◌then◌else◌, Result, Ok, Err}
+use Rattle.std.specs.{List.fold, Option.option_map_or}
 use Rattle.bac_tsm.specs.declared.client.SubmitFault.{SubmitFault}
 use Rattle.bac_tsm.specs.Events.{Outcome, Event, Data, Note, Sent, Refused, Done, Dropped, TimedOut, Request, Rules}
 

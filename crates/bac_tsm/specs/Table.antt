@@ -1,9 +1,7 @@
 -- The table of open requests, and what is true of it.
 use Rattle.std.specs.Prelude.{◌≡◌, ℕ, ◌<◌, ◌≤◌, List, length, map, take, get_or, Option, Some, None, nat_eq}
 use Rattle.std.specs.List.{AllPairs, filter}
-use Rattle.bac_tsm.specs.Limits.{table_size}
-use Rattle.bac_tsm.specs.Machine.{Waiting}
-use Rattle.bac_tsm.specs.Waiting.{nothing}
+use Rattle.bac_tsm.specs.{Limits.table_size, Machine.Waiting, Waiting.nothing}
 
 -- The request at each of these slots.
 abbrev pub held_at : List Waiting → List ℕ → List Waiting
@@ -49,3 +47,8 @@ pub record AreBySend (slots : List Waiting) (opened sends : List ℕ) : Type 0 w
   pub all : length sends ≡ length opened
   pub same : (slot : ℕ) → times_of_slot slot sends ≡ times_of_slot slot opened
   pub by_send : AllPairs (λ early late. early.base ≤ late.base) (held_at slots sends)
+
+-- The table is whole: its parts fit each other, and so do its sends.
+pub record IsWhole (slots : List Waiting) (numbers : List (Option ℕ)) (order tickets sends : List ℕ) : Type 0 where
+  pub table : IsTable slots numbers order tickets
+  pub queue : AreBySend slots (open_slots order tickets) sends

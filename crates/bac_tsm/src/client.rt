@@ -1,20 +1,17 @@
 //! The client.
 
-ghost use Rattle.std.specs.Prelude.{◌≡◌, ◌<◌, ◌≤◌, IfNone, length};
-ghost use Rattle.std.specs.Option.{option_map, option_copied};
-ghost use Rattle.bac_pdu.specs.Apdu.{longest_body};
-ghost use Rattle.bac_tsm.specs.Limits.{table_size};
-ghost use Rattle.bac_tsm.specs.Lookahead.{refusal_of};
+ghost use Rattle.std.specs.{Prelude.{◌≡◌, ◌≤◌, length}, Option.option_map};
+ghost use Rattle.bac_tsm.specs.{Limits.table_size, Lookahead.refusal_of};
 ghost use Rattle.bac_tsm.specs.Machine.{submit, datagram, tick, to_send, open_under, initial};
+ghost use Rattle.bac_tsm.specs.Client.{client_of, rules_of, TakesStep, end_seen};
 ghost use Rattle.bac_pdu.specs.Peer.{station};
-ghost use Rattle.bac_tsm.specs.Client.{client_of, rules_of, keeping, end_seen};
 
 use crate::answer::read_answer;
 use crate::config::Config;
 use crate::due::{Due, Entries};
 use crate::limits::PLACES;
 use crate::outcome::Ended;
-use crate::request::{Asked, OpenRequest};
+use crate::request::Asked;
 use crate::table::Table;
 use bac_pdu::{LONGEST_BODY, Peer};
 use std::marker::Model;
@@ -44,8 +41,7 @@ pub struct Client {
 }
 
 impl Model for Client {
-    ghost use Rattle.std.specs.Prelude.{◌<◌, ◌≤◌};
-    ghost use Rattle.std.specs.List.{All};
+    ghost use Rattle.std.specs.{Prelude.{◌<◌, ◌≤◌}, List.All};
     ghost use Rattle.bac_tsm.specs.Client.{Client, client_of};
 
     ghost Value = { Client };
@@ -82,10 +78,10 @@ impl Client {
     ///
     /// A request that is refused leaves the client as it was. The first fault in the order of [`SubmitFault`] is
     /// answered.
-    #[tactic(auto, using(crate::proofs::TableReads::number_unused))]
+    #[tactic(auto, using(crate::proofs::TableReads::number_unused), unfolding(crate::specs::Lookahead::refusal_of))]
     pub fn submit(&mut self, peer: Peer, service: u8, body: &[u8]) -> Result<u64, SubmitFault>
-        ensures { let step = submit (rules_of self.old) self.old.state (station peer) service body.now in
-            (result ≡ step.answer) × (self.new ≡ keeping self.old step.after) }
+        ensures { TakesStep self.old
+            (submit (rules_of self.old) self.old.state (station peer) service body.now) result self.new }
     {
         if let Some(fault) = self.refusal(body) {
             return Err(fault);
@@ -107,8 +103,8 @@ impl Client {
 
     /// Ends the open request that the datagram answers. None where it answers none, and then nothing changes.
     pub fn datagram<'d>(&mut self, peer: Peer, bytes: &'d [u8]) -> Option<Ended<'d>>
-        ensures { let step = datagram (rules_of self.old) self.old.state (station peer) bytes.now in
-            (option_map end_seen result ≡ step.answer) × (self.new ≡ keeping self.old step.after) }
+        ensures { TakesStep self.old (datagram (rules_of self.old) self.old.state (station peer) bytes.now)
+            (option_map end_seen result) self.new }
     {
         let answer = read_answer(peer, bytes)?;
         let ticket = self.table.close(&answer)?;
@@ -122,8 +118,7 @@ impl Client {
     /// was last sent is to be sent again, or ends where it was sent again as often as the settings allow.
     #[inline]
     pub fn tick(&mut self, now: u64) -> Due
-        ensures { let step = tick (rules_of self.old) self.old.state now in
-            (result ≡ step.answer) × (self.new ≡ keeping self.old step.after) }
+        ensures { TakesStep self.old (tick (rules_of self.old) self.old.state now) result self.new }
     {
         let clock = now.max(self.clock);
         self.clock = clock;
@@ -141,7 +136,7 @@ impl Client {
     pub fn to_send(&self, ticket: u64) -> Option<(Peer, &[u8])>
         ensures { option_map (λ to. (station to.0, to.1.now)) result ≡ to_send self.now.state ticket }
     {
-        let open = self.find(ticket)?;
+        let open = self.table.find(ticket)?;
         Some((open.peer, open.datagram.as_slice()))
     }
 
@@ -157,7 +152,7 @@ impl Client {
     pub fn number_of(&self, ticket: u64) -> Option<u8>
         ensures { result ≡ option_map (λ w. w.request.invoke_id) (open_under self.now.state ticket) }
     {
-        let open = self.find(ticket)?;
+        let open = self.table.find(ticket)?;
         Some(open.invoke_id)
     }
 
@@ -171,11 +166,8 @@ impl Client {
     // The first reason against a request with this body.
     #[tactic(auto, unfolding(crate::specs::Lookahead::refusal_of))]
     fn refusal(&self, body: &[u8]) -> Option<SubmitFault>
-        ensures reason { result
+        ensures { result
             ≡ refusal_of table_size body.now (length self.now.state.waiting) self.now.state.next_ticket }
-        ensures short { IfNone result (length body.now ≤ longest_body) }
-        ensures room { IfNone result (length self.now.state.waiting < table_size) }
-        ensures ticket { IfNone result (self.now.state.next_ticket < u64.MAX) }
     {
         if body.len() > LONGEST_BODY {
             Some(SubmitFault::TooLong)
@@ -186,12 +178,5 @@ impl Client {
         } else {
             None
         }
-    }
-
-    // The open request with this ticket.
-    fn find(&self, ticket: u64) -> Option<&OpenRequest>
-        ensures { option_copied result ≡ open_under self.now.state ticket }
-    {
-        self.table.find(ticket)
     }
 }

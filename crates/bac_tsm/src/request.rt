@@ -1,11 +1,8 @@
 //! An open request, with the datagram that it is sent as.
 
 ghost use Rattle.std.specs.Prelude.{◌≡◌, ◌<◌, ◌≤◌, suc, length};
-ghost use Rattle.bac_pdu.specs.Apdu.{longest_body};
-ghost use Rattle.bac_tsm.specs.Machine.{is_due, due_entry};
-ghost use Rattle.bac_pdu.specs.Peer.{station};
-ghost use Rattle.bac_tsm.specs.Answers.{octets_of};
-ghost use Rattle.bac_tsm.specs.Client.{client_rules};
+ghost use Rattle.bac_pdu.specs.{Apdu.longest_body, Peer.station};
+ghost use Rattle.bac_tsm.specs.{Machine.{is_due, due_entry}, Answers.octets_of, Client.client_rules};
 ghost use Rattle.bac_tsm.specs.Inner.Waiting.{begun};
 
 use crate::config::Config;
@@ -156,8 +153,8 @@ fn write_request(datagram: &mut Datagram, asked: Asked, body: &[u8], frame: &mut
         body,
     };
     frame.clear();
-    let _ = write_apdu(frame, &request);
-    let _ = wrap_within(asked.peer, true, frame);
+    write_apdu(frame, &request).unwrap();
+    wrap_within(asked.peer, true, frame).unwrap();
     datagram.clear();
-    let _ = datagram.try_extend_from_slice(frame.as_slice());
+    datagram.try_extend_from_slice(frame.as_slice()).unwrap();
 }

@@ -3,19 +3,12 @@
 ghost use Rattle.std.specs.Prelude.{◌≡◌, Some, None, replicate, ◌<◌, ◌≤◌, ◌++◌, [], ◌∷◌, ℕ, true, not, length, map};
 ghost use Rattle.std.specs.Prelude.{nat_eq, position, get_or, slice_get, remove, set};
 ghost use Rattle.std.specs.List.{All, AllPairs, filter, find, flat_map, list_any};
-ghost use Rattle.std.specs.Option.{option_copied, option_to_list};
+ghost use Rattle.std.specs.{Option.{option_copied, option_to_list}, List.Sorted.{IsPermutation, IsNonDecreasingBy}};
 ghost use Rattle.bac_pdu.specs.Apdu.{longest_body};
-ghost use Rattle.bac_tsm.specs.Limits.{table_size};
-ghost use Rattle.bac_tsm.specs.Lookahead.{next_invoke_id};
-ghost use Rattle.std.specs.List.Sorted.{IsPermutation, IsNonDecreasingBy};
-ghost use Rattle.bac_tsm.specs.Machine.{is_due, due_answer, kept};
-ghost use Rattle.bac_tsm.specs.Inner.Machine.{ticket_of};
-ghost use Rattle.bac_tsm.specs.Answers.{is_answer_to};
-ghost use Rattle.bac_tsm.specs.Inner.Seen.{answer_seen};
-ghost use Rattle.bac_tsm.specs.Client.{client_rules};
-ghost use Rattle.bac_tsm.specs.Table.{times, times_of_slot};
-ghost use Rattle.bac_tsm.specs.Inner.Table.{IsRankOf, IsPassed, IsTakenOut};
-ghost use Rattle.bac_tsm.specs.Waiting.{nothing};
+ghost use Rattle.bac_tsm.specs.{Limits.table_size, Lookahead.next_invoke_id, Machine.{is_due, due_answer, kept}};
+ghost use Rattle.bac_tsm.specs.{Inner.Machine.ticket_of, Answers.is_answer_to, Inner.Seen.answer_seen};
+ghost use Rattle.bac_tsm.specs.{Client.client_rules, Table.{times, times_of_slot}};
+ghost use Rattle.bac_tsm.specs.{Inner.Table.{IsRankOf, IsPassed, IsTakenOut}, Waiting.nothing};
 ghost use Rattle.bac_tsm.specs.Inner.Waiting.{begun, sent_at, ticket_in, number_in};
 
 use crate::answer::Answer;
@@ -46,15 +39,13 @@ pub(crate) struct Table {
 
 impl Model for Table {
     ghost use Rattle.std.specs.Prelude.{List};
-    ghost use Rattle.bac_tsm.specs.Machine.{Waiting};
-    ghost use Rattle.bac_tsm.specs.Table.{held_at, open_slots, IsTable, AreBySend};
+    ghost use Rattle.bac_tsm.specs.{Machine.Waiting, Table.{held_at, open_slots, IsWhole}};
 
     ghost Value = { List Waiting };
 
     ghost view = { λ t. held_at t.slots (open_slots t.order.items t.tickets.items) };
 
-    ghost invariant = { λ t. IsTable t.slots t.numbers t.order.items t.tickets.items
-        × AreBySend t.slots (open_slots t.order.items t.tickets.items) t.sends.items };
+    ghost invariant = { λ t. IsWhole t.slots t.numbers t.order.items t.tickets.items t.sends.items };
 }
 
 impl Table {

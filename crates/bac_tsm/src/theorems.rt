@@ -1,12 +1,9 @@
 //! The laws of the client: what its machine does is what the look-ahead says.
 
 ghost use Rattle.std.specs.Prelude.{◌≡◌, ◌≢◌, ◌↔◌, ℕ, suc, ◌+◌, ◌<◌, ◌≤◌, List, ◌∷◌, ◌++◌, length, Some, IsSomeAnd};
-ghost use Rattle.std.specs.Prelude.{take, true};
-ghost use Rattle.std.specs.List.{AllPairs};
+ghost use Rattle.std.specs.{Prelude.{take, true}, List.AllPairs};
 ghost use Rattle.bac_pdu.specs.Peer.{Station};
-ghost use Rattle.bac_tsm.specs.Answers.{same_station, outcome_of};
-ghost use Rattle.bac_tsm.specs.AnswersInWords.{IsAnsweredBy};
-ghost use Rattle.bac_tsm.specs.Client.{client_rules};
+ghost use Rattle.bac_tsm.specs.{Answers.{same_station, outcome_of}, AnswersInWords.IsAnsweredBy, Client.client_rules};
 ghost use Rattle.bac_tsm.specs.Events.{Event, Outcome, Request, Rules};
 ghost use Rattle.bac_tsm.specs.Lookahead.{Accepted, accepted, due, end, open_among, open_at, output, sends};
 ghost use Rattle.bac_tsm.specs.Progress.{TimeoutsPass, last_of};

@@ -6,7 +6,7 @@ ghost use Rattle.bac_print.specs.Checked.{has_failed, Took};
 ghost use Rattle.bac_links.specs.Ending.{ending_line, exit_of, status_of};
 ghost use Rattle.bac_links.specs.declared.ending.Purpose.TheVariants.{Reading};
 
-use bac_links::{UdpLink, run_read, status};
+use bac_links::{Refused, UdpLink, run_read, status};
 use bac_pdu::Peer;
 use bac_print::Checked;
 use bac_text::Call;
@@ -15,8 +15,8 @@ use std::io::Write;
 use std::net::Net;
 use std::time::Clock;
 
-/// Makes this read from any free port, and prints how it ended: status 0 where a value was read, 1 where another answer
-/// or none came, 3 after a fault.
+/// Makes this read over a socket. With a status below 3 the line of how it ended was printed, and the status is that of
+/// this end: 0 where a value was read, 1 where another answer or none came.
 pub fn read_over_udp<R: Net + Clock + Clone + Drop, W: Write>(
     rt: &R,
     alloc: Global,
@@ -25,7 +25,6 @@ pub fn read_over_udp<R: Net + Clock + Clone + Drop, W: Write>(
 ) -> u8
     requires writer { has_failed writer.old ≡ false }
     requires timeout { 0 < call.now.timeout }
-    // With a status below 3 the writer took the line of how the read ended, and the status is that of this end.
     ensures { result < 3 → (ending : Option Outcome) × (result ≡ status_of (Ok (exit_of Reading ending)))
         × Took W.contents writer.old writer.new (ending_line Reading ending) }
 {
@@ -34,7 +33,7 @@ pub fn read_over_udp<R: Net + Clock + Clone + Drop, W: Write>(
         port: 0,
         route: None,
     };
-    match UdpLink::bind(rt, alloc, anywhere) {
+    match UdpLink::bind_with(rt, alloc, anywhere, Refused::Fails) {
         Ok(mut link) => status(&run_read(call, &mut link, writer)),
         Err(_) => 3,
     }

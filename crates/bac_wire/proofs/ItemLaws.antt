@@ -1,12 +1,9 @@
 -- Whole items leave one rest, no item begins another, a region is no deeper than allowed, and what reads items finds
 -- what the relations say.
-use Rattle.std.proofs.{
-  Common.{◌≡◌, ℕ, suc, ◌+◌, ◌-◌, ◌<◌, ◌≤◌, List, [], ◌∷◌, ◌++◌, length, take, drop, Option, Some, None, refl, sym, ap},
-  Common.{subst, ◌∙◌, append_assoc, arith, inl, ◌↔◌},
-  lemmas.List.{append_cancel_left, append_cancel_right, append-nil, drop_at, length-take-le},
-  lemmas.Option.{none-some, some_pair_parts, same_Some},
-}
-use Rattle.std.specs.Option.{option_map}
+use Rattle.std.proofs.Common.{◌≡◌, ℕ, suc, ◌+◌, ◌-◌, ◌<◌, ◌≤◌, List, [], ◌∷◌, ◌++◌, length, take, drop, Option, Some}
+use Rattle.std.proofs.Common.{None, refl, sym, ap, subst, ◌∙◌, append_assoc, arith, inl, ◌↔◌}
+use Rattle.std.proofs.lemmas.List.{append_cancel_left, append_cancel_right, append-nil, drop_at, length-take-le}
+use Rattle.std.{proofs.lemmas.Option.{none-some, some_pair_parts, same_Some}, specs.Option.option_map}
 use Rattle.bac_wire.specs.{
   declared.tag.{Shape.Shape, Shape.TheVariants.{Opening, Closing}, Tag.Tag},
   Inner.{Front.Finds, Region.{CountsBehind, LeavesBehind}},

@@ -5,10 +5,8 @@ use Rattle.std.proofs.{
   lemmas.{Int.ints, Bool.{lt-ltb, le-ltb}, Grind.common_steps, List.{append-nil, take_at}},
 }
 use Rattle.std.specs.{Prelude.FitsSigned, Int.w64}
-use Rattle.byteorder.specs.{
-  Endian.{big_number, big_bytes, twos_complement, low_bytes},
-  Numbers.{big_number-reads_back, length-bytes_high_first},
-}
+use Rattle.byteorder.specs.Endian.{big_number, big_bytes, twos_complement, low_bytes}
+use Rattle.byteorder.specs.Numbers.{big_number-reads_back, length-bytes_high_first}
 use Rattle.bac_wire.{
   specs.{Tag.plain_tag, Datum.{Datum, signed, StandsFor, Spells, octet_count, plain_contents, plain, InRange, IsDatum}},
   specs.Inner.Datum.tagged,

@@ -1,10 +1,7 @@
 -- What `read_value` finds of what `write_value` appended, as an equation: for a crate above, which knows it by
 -- `IsReadBack` and `FindsFront`.
-use Rattle.std.{
-  proofs.Common.{◌≡◌, ℕ, List, [], ◌++◌, length, Option, Some, None, ap, refl, sym, subst, ◌∙◌, append-nil},
-  proofs.lemmas.Option.{none-some, same_Some},
-  specs.Option.option_map,
-}
+use Rattle.std.proofs.Common.{◌≡◌, ℕ, List, [], ◌++◌, length, Option, Some, None, ap, refl, sym, subst, ◌∙◌, append-nil}
+use Rattle.std.{proofs.lemmas.Option.{none-some, same_Some}, specs.Option.option_map}
 use Rattle.bac_wire.specs.{declared.value.Value.Value, Front.{FindsFront, IsReadBack}, Datum.{Datum, Spells, datum}}
 
 -- what was found, without where its octets lie

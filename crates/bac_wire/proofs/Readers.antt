@@ -1,9 +1,7 @@
 -- A reader on lists that takes what is spelled, and finds again what is spelled.
-use Rattle.std.proofs.{
-  Common.{Bool, true, false, cond, inl, inr, ◌≡◌, ℕ, ◌-◌, ◌≤◌, List, ◌++◌, length, take, Option, Some, None, refl, sym},
-  Common.{ap, ◌∙◌, arith, length-append},
-  lemmas.{List.{take_at, append_cancel_right}, Option.some_pair_parts},
-}
+use Rattle.std.proofs.Common.{Bool, true, false, cond, inl, inr, ◌≡◌, ℕ, ◌-◌, ◌≤◌, List, ◌++◌, length, take, Option}
+use Rattle.std.proofs.Common.{Some, None, refl, sym, ap, ◌∙◌, arith, length-append}
+use Rattle.std.proofs.lemmas.{List.{take_at, append_cancel_right}, Option.some_pair_parts}
 use Rattle.std.specs.Prelude.{◌⊎◌}
 use Rattle.bac_wire.specs.Front.{FindsFront, IsReadBack}
 pub use Rattle.bac_wire.specs.Front.{IsReader, Begins}

@@ -4,10 +4,8 @@ use Rattle.std.proofs.{
   Common.{arith, inl, inr},
   lemmas.{Grind.common_steps, Int.ints, Bool.{cases_lt, lt-ltb, le-ltb}, List.length-append},
 }
-use Rattle.byteorder.{
-  proofs.Bytes.pow256,
-  specs.{Endian.{big_number, big_bytes, twos_complement}, Numbers.{big_from-lt, length-bytes_high_first}},
-}
+use Rattle.byteorder.{proofs.Bytes.pow256, specs.Endian.{big_number, big_bytes, twos_complement}}
+use Rattle.byteorder.specs.Numbers.{big_from-lt, length-bytes_high_first}
 use Rattle.bac_wire.{
   specs.{declared.tag.Shape.TheVariants.App, Front.{AreOctets, IsShortest}, Tag.plain_tag},
   specs.Datum.{Datum, boolean, unsigned, signed, enumerated, tag_number, StandsFor, shape_number, tag_before, Spells},

@@ -1,9 +1,7 @@
 -- What the reader of tags takes is spelled so, what is spelled so is taken, and the plain spelling is the shortest.
-use Rattle.std.proofs.{
-  Common.{◌≡◌, ℕ, ◌<◌, ltb, eqb, List, [], ◌∷◌, ◌++◌, Option, Some, None, refl, ap, append_assoc, arith, inl, inr, suc},
-  Common.{◌≤◌, cond, length, subst},
-  lemmas.{Bool.{ltb-true, ltb-false, eqb-true}, List.length-append},
-}
+use Rattle.std.proofs.Common.{◌≡◌, ℕ, ◌<◌, ltb, eqb, List, [], ◌∷◌, ◌++◌, Option, Some, None, refl, ap, append_assoc}
+use Rattle.std.proofs.Common.{arith, inl, inr, suc, ◌≤◌, cond, length, subst}
+use Rattle.std.proofs.lemmas.{Bool.{ltb-true, ltb-false, eqb-true}, List.length-append}
 use Rattle.bac_wire.specs.{
   declared.tag.{Shape.Shape, Shape.TheVariants.App, Tag.Tag},
   Tag.{SpellsNumber, SpellsLength, SpellsShape, SpellsTag, IsTag, plain_number, plain_length, low_half, count_of},

@@ -1,9 +1,6 @@
 -- The values that a region is, from its front.
-use Rattle.std.proofs.{
-  Common.{◌≡◌, ℕ, zero, suc, ◌+◌, ◌<◌, ◌≤◌, List, [], ◌∷◌, length, Option, Some, None, refl, sym, ◌∙◌, ap, subst},
-  Common.arith,
-  lemmas.{Bool.Decides.nat_tests, Option.none-some},
-}
+use Rattle.std.proofs.Common.{◌≡◌, ℕ, zero, suc, ◌+◌, ◌<◌, ◌≤◌, List, [], ◌∷◌, length, Option, Some, None, refl, sym}
+use Rattle.std.proofs.{Common.{◌∙◌, ap, subst, arith}, lemmas.Bool.Decides.nat_tests, lemmas.Option.none-some}
 use Rattle.std.specs.Prelude.{◌↔◌, option_map}
 use Rattle.bac_wire.{
   specs.{Datum.{Datum, Spells}, Front.SpellsAll, Steps.◌>>=◌, DatumReading.{value_at, values_within, values_of}},

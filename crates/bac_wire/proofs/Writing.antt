@@ -1,9 +1,6 @@
 -- One writer after another.
-use Rattle.std.{
-  proofs.Common.{◌≡◌, ℕ, List, ◌++◌, Result, Ok, Err, subst, append_assoc, length-append, arith},
-  proofs.lemmas.List.{take_at, take_all, take-take},
-  specs.Result.IsErr,
-}
+use Rattle.std.proofs.Common.{◌≡◌, ℕ, List, ◌++◌, Result, Ok, Err, subst, append_assoc, length-append, arith}
+use Rattle.std.{proofs.lemmas.List.{take_at, take_all, take-take}, specs.Result.IsErr}
 use Rattle.bac_wire.specs.{Writing.Appends, Inner.Writing.AppendsFront}
 
 -- who appends all or nothing appends a front

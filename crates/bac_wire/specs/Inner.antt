@@ -4,3 +4,4 @@ pub mod Front
 pub mod Datum
 pub mod Region
 pub mod Examples
+pub mod Work

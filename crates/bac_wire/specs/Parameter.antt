@@ -2,12 +2,8 @@
 -- 20.2.15).
 use Rattle.std.specs.Prelude.{ℕ, List, ◌++◌, length}
 use Rattle.byteorder.specs.Endian.{big_bytes}
-use Rattle.bac_wire.specs.declared.tag.Shape.TheVariants.{Context}
-use Rattle.bac_wire.specs.declared.tag.Tag.{Tag}
-use Rattle.bac_wire.specs.Identifier.{Identifier, number_of}
-use Rattle.bac_wire.specs.Tag.{SpellsTag, plain_tag}
-use Rattle.bac_wire.specs.Limits.{deepest}
-use Rattle.bac_wire.specs.Front.{Begins}
+use Rattle.bac_wire.specs.declared.tag.{Shape.TheVariants.Context, Tag.Tag}
+use Rattle.bac_wire.specs.{Identifier.{Identifier, number_of}, Tag.{SpellsTag, plain_tag}, Limits.deepest, Front.Begins}
 use Rattle.bac_wire.specs.Region.{opening_tag, closing_tag, IsBracketed, IsItem}
 use Rattle.bac_wire.specs.Datum.{Datum, StandsFor, octet_count}
 

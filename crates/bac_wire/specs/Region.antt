@@ -2,12 +2,8 @@
 -- 20.2.19).
 use Rattle.std.specs.Prelude.{◌≡◌, ℕ, zero, suc, ◌≤◌, ◌⊎◌, ◌==◌, if◌then◌else◌, List, [], ◌++◌, length, take, Option}
 use Rattle.std.specs.Prelude.{Some, IfSome}
-use Rattle.bac_wire.specs.declared.tag.Shape.{Shape}
-use Rattle.bac_wire.specs.declared.tag.Shape.TheVariants.{App, Context, Opening, Closing}
-use Rattle.bac_wire.specs.declared.tag.Tag.{Tag}
-use Rattle.bac_wire.specs.Limits.{deepest}
-use Rattle.bac_wire.specs.Front.{Begins}
-use Rattle.bac_wire.specs.Tag.{SpellsTag}
+use Rattle.bac_wire.specs.declared.tag.{Shape.Shape, Shape.TheVariants.{App, Context, Opening, Closing}, Tag.Tag}
+use Rattle.bac_wire.specs.{Limits.deepest, Front.Begins, Tag.SpellsTag}
 
 -- The opening tag of this number, which begins constructed data.
 abbrev pub opening_tag : ℕ → Tag

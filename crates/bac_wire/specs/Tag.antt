@@ -2,9 +2,7 @@
 use Rattle.std.specs.Prelude.{◌≡◌, ℕ, ◌+◌, ◌-◌, ◌*◌, ◌^◌, ◌/◌, ◌%◌, ◌<◌, ◌≤◌, min, nat_lt, if◌then◌else◌, List, [], ◌∷◌}
 use Rattle.std.specs.Prelude.{◌++◌}
 use Rattle.byteorder.specs.Endian.{big_number, big_bytes}
-use Rattle.bac_wire.specs.declared.tag.Shape.{Shape}
-use Rattle.bac_wire.specs.declared.tag.Shape.TheVariants.{App, Context, Opening, Closing}
-use Rattle.bac_wire.specs.declared.tag.Tag.{Tag}
+use Rattle.bac_wire.specs.declared.tag.{Shape.Shape, Shape.TheVariants.{App, Context, Opening, Closing}, Tag.Tag}
 
 -- The number (20.2.1.2): up to 14 it is the high half of the initial octet; 15 there says that the next octet is it, up
 -- to 254.

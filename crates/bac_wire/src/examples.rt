@@ -2,9 +2,7 @@
 
 ghost use Rattle.std.specs.Prelude.{◌≡◌, [], ◌∷◌, Some, None, negsuc, true};
 ghost use Rattle.bac_wire.specs.Datum.{null, boolean, unsigned, signed, real, char_string, bit_string, enumerated};
-ghost use Rattle.bac_wire.specs.Datum.{object};
-ghost use Rattle.bac_wire.specs.DatumReading.{value_at};
-ghost use Rattle.bac_wire.specs.ItemReading.{region_at};
+ghost use Rattle.bac_wire.specs.{Datum.object, DatumReading.value_at, ItemReading.region_at};
 ghost use Rattle.bac_wire.specs.Parameter.{enclosed_octets, number_octets, object_octets};
 ghost use Rattle.bac_wire.specs.ParameterReading.{enclosed_at, number_at, object_at};
 ghost use Rattle.bac_wire.specs.Inner.Examples.{IsWritten, input, device};

@@ -1,8 +1,7 @@
 //! The octets of a datagram as it is written, in fixed room.
 
 ghost use Rattle.std.specs.Prelude.{◌≡◌, ◌+◌, ◌<◌, ◌≤◌, ◌↔◌, [], ◌++◌, length, take, IsTrue, OnOk, OnErr};
-ghost use Rattle.bac_wire.specs.Limits.{frame_room};
-ghost use Rattle.bac_wire.specs.Writing.{Appends};
+ghost use Rattle.bac_wire.specs.{Limits.frame_room, Writing.Appends};
 
 use arrayvec::ArrayVec;
 use std::marker::Model;

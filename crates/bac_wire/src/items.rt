@@ -1,15 +1,13 @@
 //! Where the items of a service body end, passed over by their lengths.
 
-ghost use Rattle.std.specs.Prelude.{◌≡◌, ◌↔◌, List, ℕ, Some, IsTrue};
+ghost use Rattle.std.specs.Prelude.{◌≡◌, ◌↔◌, ◌+◌, ◌*◌, ◌<◌, ◌≤◌, List, ℕ, Some, IfSome, IsTrue, length};
 ghost use Rattle.std.specs.Option.{option_map};
-ghost use Rattle.bac_wire.specs.Limits.{deepest};
-ghost use Rattle.bac_wire.specs.Inner.Front.{Finds};
-ghost use Rattle.bac_wire.specs.TagReading.{tag_at};
-ghost use Rattle.bac_wire.specs.ItemReading.{behind_closing};
-ghost use Rattle.bac_wire.specs.Region.{IsRegion, FindsRegion, LeavesRest};
-ghost use Rattle.bac_wire.specs.Inner.Region.{CountsBehind, LeavesBehind};
+ghost use Rattle.bac_wire.specs.{Limits.deepest, Inner.Front.Finds, TagReading.tag_at, ItemReading.behind_closing};
+ghost use Rattle.bac_wire.specs.{Region.{IsRegion, FindsRegion, LeavesRest}, Inner.Region.{CountsBehind, LeavesBehind}};
+ghost use Rattle.bac_wire.specs.Inner.Work.{ReadsTwice};
 
 use crate::tag::{Shape, Tag, tag_and_rest};
+use crate::work::Work;
 
 /// The opening tags that may be open at once in a region.
 pub const NESTING: u8 = 32;
@@ -17,23 +15,22 @@ pub const NESTING: u8 = 32;
 // The number of the tags round a parameter's value, which are not counted among those.
 const REGION_END: u8 = 3;
 
-/// How many octets at the front are whole items, up to a closing tag 3; `None` where no such tag stands behind them, or
-/// where more than 32 opening tags are open at once in them. Contents are passed over by their length, so an octet in
-/// them ends nothing (ANSI/ASHRAE 135, 20.2.1.3).
-pub fn region(octets: &[u8]) -> Option<usize>
-    ensures { FindsRegion deepest 3 octets.now result }
+/// `region`, with the tags that are read.
+pub(crate) fn region_within(octets: &[u8], work: &mut Work) -> Option<usize>
+    ensures found { FindsRegion deepest 3 octets.now result }
+    ensures work { work.new.tags ≤ work.old.tags + 2 * length octets.now + 2 }
 {
-    let rest = behind_items(octets, NESTING)?;
-    behind_closing(rest, REGION_END)?;
+    let rest = behind_items(octets, NESTING, work)?;
+    behind_closing(rest, REGION_END, work)?;
     Some(octets.len() - rest.len())
 }
 
-/// Whether the octets are whole items and nothing else, with at most 32 opening tags open at once. No octets at all are
-/// that too.
-pub fn is_region(octets: &[u8]) -> bool
-    ensures { IsTrue result ↔ IsRegion deepest octets.now }
+/// `is_region`, with the tags that are read.
+pub(crate) fn is_region_within(octets: &[u8], work: &mut Work) -> bool
+    ensures found { IsTrue result ↔ IsRegion deepest octets.now }
+    ensures work { work.new.tags ≤ work.old.tags + 2 * length octets.now + 1 }
 {
-    match behind_items(octets, NESTING) {
+    match behind_items(octets, NESTING, work) {
         Some(rest) => rest.is_empty(),
         None => false,
     }
@@ -41,23 +38,25 @@ pub fn is_region(octets: &[u8]) -> bool
 
 // The octets behind the items at the front: none, or those from a closing tag on.
 #[cycle(nesting)]
-fn behind_items(octets: &[u8], depth: u8) -> Option<&[u8]>
-    ensures { Finds (LeavesRest depth octets.now) (option_map (λ r. r.now) result) }
+fn behind_items<'a>(octets: &'a [u8], depth: u8, work: &mut Work) -> Option<&'a [u8]>
+    ensures found { Finds (LeavesRest depth octets.now) (option_map (λ r. r.now) result) }
+    ensures work { ReadsTwice 1 work.old.tags work.new.tags octets.now (option_map (λ r. r.now) result) }
 {
     let mut rest = octets;
-    while let Some((tag, behind)) = tag_and_rest(rest) {
+    while let Some((tag, behind)) = next_tag(rest, work) {
         if let Shape::Closing = tag.shape {
             return Some(rest);
         }
-        rest = behind_item(tag, behind, depth)?;
+        rest = behind_item(tag, behind, depth, work)?;
     }
     if rest.is_empty() { Some(rest) } else { None }
 }
 
 // The octets behind the item that begins with this tag, where `behind` is what stands behind the tag.
 #[cycle(nesting)]
-fn behind_item(tag: Tag, behind: &[u8], depth: u8) -> Option<&[u8]>
-    ensures { (octets : List ℕ) → Some (tag, behind.now) ≡ tag_at octets
+fn behind_item<'a>(tag: Tag, behind: &'a [u8], depth: u8, work: &mut Work) -> Option<&'a [u8]>
+    ensures work { ReadsTwice 2 work.old.tags work.new.tags behind.now (option_map (λ r. r.now) result) }
+    ensures found { (octets : List ℕ) → Some (tag, behind.now) ≡ tag_at octets
         → Finds (LeavesBehind depth octets) (option_map (λ r. r.now) result) }
 {
     match tag.shape {
@@ -66,8 +65,8 @@ fn behind_item(tag: Tag, behind: &[u8], depth: u8) -> Option<&[u8]>
         Shape::App(count) => behind_octets(behind, count),
         Shape::Context(count) => behind_octets(behind, count),
         Shape::Opening => {
-            let rest = behind_items(behind, depth.checked_sub(1)?)?;
-            behind_closing(rest, tag.number)
+            let rest = behind_items(behind, depth.checked_sub(1)?, work)?;
+            behind_closing(rest, tag.number, work)
         }
         Shape::Closing => None,
     }
@@ -83,12 +82,26 @@ fn behind_octets(octets: &[u8], count: u32) -> Option<&[u8]>
 
 // The octets behind the closing tag of this number.
 #[tactic(auto, unfolding(crate::specs::ItemReading::behind_closing))]
-fn behind_closing(octets: &[u8], number: u8) -> Option<&[u8]>
-    ensures { option_map (λ r. r.now) result ≡ behind_closing number octets.now }
+fn behind_closing<'a>(octets: &'a [u8], number: u8, work: &mut Work) -> Option<&'a [u8]>
+    ensures found { option_map (λ r. r.now) result ≡ behind_closing number octets.now }
+    ensures shorter { IfSome result (λ r. length r.now < length octets.now) }
+    ensures work { work.new.tags ≡ work.old.tags + 1 }
 {
-    let (tag, rest) = tag_and_rest(octets)?;
+    let (tag, rest) = next_tag(octets, work)?;
     match tag.shape {
         Shape::Closing if tag.number == number => Some(rest),
         _ => None,
     }
+}
+
+// The tag that begins the octets, and those behind it, counted.
+#[tactic(auto, using(crate::proofs::RegionReading::after_shorter))]
+#[inline(always)]
+fn next_tag<'a>(octets: &'a [u8], work: &mut Work) -> Option<(Tag, &'a [u8])>
+    ensures tag { option_map (λ x. (x.0, x.1.now)) result ≡ tag_at octets.now }
+    ensures shorter { IfSome result (λ x. length x.1.now < length octets.now) }
+    ensures work { work.new.tags ≡ work.old.tags + 1 }
+{
+    work.count_one();
+    tag_and_rest(octets)
 }

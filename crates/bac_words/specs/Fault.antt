@@ -1,9 +1,11 @@
 -- What an error of `clap` is to the user of the words.
-use Rattle.std.specs.Prelude.{ℕ}
+use Rattle.std.specs.Prelude.{ℕ, ◌++◌, codes, decimal}
+use Rattle.bac_words.specs.Telling.{Told, Text, Line}
 use Rattle.bac_words.specs.declared.faults.UsageFault.{UsageFault}
 use Rattle.bac_text.specs.declared.pairs.PairFault.{PairFault}
 use Rattle.bac_text.specs.declared.pairs.PairFault.TheVariants as pair
-use Rattle.bac_words.specs.declared.faults.UsageFault.TheVariants.{Help, Memory, BadValue, BodyTooLong}
+use Rattle.bac_words.specs.declared.faults.UsageFault.TheVariants.{Help, Words, Memory, BadMac, BadIndex}
+use Rattle.bac_words.specs.declared.faults.UsageFault.TheVariants.{BadValue, BodyTooLong}
 
 -- What a fault of the pairs is to the user of the words.
 abbrev pub usage_of : PairFault → UsageFault
@@ -15,3 +17,13 @@ abbrev pub usage_status_of : UsageFault → ℕ
 usage_status_of (Help e) = 0
 usage_status_of Memory = 4
 usage_status_of _ = 2
+
+-- What is told of it.
+abbrev pub usage_told : UsageFault → Told
+usage_told (Help message) = Text message
+usage_told (Words message) = Text message
+usage_told Memory = Line (codes "out of memory")
+usage_told BadMac = Line (codes "bad mac")
+usage_told BadIndex = Line (codes "bad index")
+usage_told (BadValue number) = Line (codes "bad value " ++ decimal number)
+usage_told BodyTooLong = Line (codes "body too long")

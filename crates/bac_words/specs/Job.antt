@@ -19,6 +19,8 @@ use Rattle.bac_text.specs.declared.jobs.Call.{Call}
 use Rattle.bac_text.specs.declared.pairs.PairFault.{PairFault}
 use Rattle.bac_text.specs.declared.jobs.Job.{Job}
 use Rattle.bac_text.specs.declared.jobs.Job.TheVariants as job
+use Rattle.bac_text.specs.declared.jobs.Tool.{Tool}
+use Rattle.bac_text.specs.declared.jobs.Tool.TheVariants as tool
 use Rattle.bac_words.specs.declared.faults.UsageFault.{UsageFault}
 use Rattle.bac_words.specs.declared.faults.UsageFault.TheVariants.{BadIndex, BadMac}
 use Rattle.bac_words.specs.Fault.{usage_of}
@@ -75,7 +77,7 @@ reference_given rows =
 abbrev pub read_order : List Row → Result Job UsageFault
 read_order rows = do
   to ← ok_or (peer_given rows) BadMac
-  Ok (job.Read (call_given to rows (record { items = read_octets (reference_given rows) })))
+  Ok (job.Over (tool.Read (call_given to rows (record { items = read_octets (reference_given rows) }))))
 
 -- The body of the request, by the same reading of pairs as that of a script.
 abbrev pub body_given : List Row → Option ℕ → Result (List ℕ) PairFault
@@ -86,7 +88,8 @@ abbrev pub write_order : List Row → Result Job UsageFault
 write_order rows = do
   to ← ok_or (peer_given rows) BadMac
   index ← ok_or (index_given rows) BadIndex
-  result_map_both (λ body. job.Write (call_given to rows (record { items = body }))) usage_of (body_given rows index)
+  result_map_both (λ body. job.Over (tool.Write (call_given to rows (record { items = body })))) usage_of
+      (body_given rows index)
 
 -- The limits of a search: one number is both of them, and no number is no limit.
 abbrev pub limits : Option ℕ → Option ℕ → WhoIs
@@ -97,15 +100,16 @@ abbrev pub search_order : List Row → Result Job UsageFault
 search_order rows = do
   to ← ok_or (peer_given rows) BadMac
   let who = limits (number_of (codes "min") rows) (number_of (codes "max") rows) in
-      Ok (job.WhoIs (record { to = to; timeout = timeout_given rows; port = port_given rows; who = who }))
+      Ok (job.Over (tool.WhoIs
+      (record { to = to; timeout = timeout_given rows; port = port_given rows; who = who })))
 
 abbrev pub serve_order : List Row → Result Job UsageFault
 serve_order rows =
-    Ok (job.Device (record {
+    Ok (job.Over (tool.Device (record {
       info = record { instance = needed_number (codes "device-instance") rows; name = codes "Small device" };
       port = unwrap_or (number_of (codes "port") rows) 47808;
       count = unwrap_or (number_of (codes "count") rows) 65535;
-    }))
+    })))
 
 -- ---- the whole line
 
@@ -117,10 +121,14 @@ order_of matches = if bytes_eq matches.0 (codes "bacrp") then read_order matches
     else (if bytes_eq matches.0 (codes "bacdev") then serve_order matches.1
     else Ok job.Trace)))
 
--- The job can be run: a request and a search wait for some time, and a device takes some datagram.
-abbrev pub IsReady : Job → Type 0
-IsReady (job.Read call) = 0 < call.timeout
-IsReady (job.Write call) = 0 < call.timeout
-IsReady (job.WhoIs search) = 0 < search.timeout
-IsReady (job.Device serve) = 0 < serve.count
-IsReady job.Trace = ⊤
+-- A tool can be run: a request and a search wait for some time, and a device takes some datagram.
+abbrev pub IsReady : Tool → Type 0
+IsReady (tool.Read call) = 0 < call.timeout
+IsReady (tool.Write call) = 0 < call.timeout
+IsReady (tool.WhoIs search) = 0 < search.timeout
+IsReady (tool.Device serve) = 0 < serve.count
+
+-- A job can be: a script always.
+abbrev pub CanRun : Job → Type 0
+CanRun job.Trace = ⊤
+CanRun (job.Over tool) = IsReady tool

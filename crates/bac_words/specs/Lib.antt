@@ -1,5 +1,6 @@
 pub mod Called
 pub mod Command
+pub mod Telling
 pub mod Fault
 pub mod Marks
 pub mod Job

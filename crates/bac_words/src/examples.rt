@@ -3,7 +3,8 @@
 ghost use Rattle.std.specs.Prelude.{[], ◌∷◌, codes, Ok, Err};
 ghost use Rattle.bac_pdu.specs.declared.discovery.WhoIs.TheVariants.{All, Range};
 ghost use Rattle.bac_words.specs.declared.faults.UsageFault.TheVariants.{BadIndex, BadMac, BadValue};
-ghost use Rattle.bac_text.specs.declared.jobs.Job.TheVariants.{Read, Write, WhoIs, Device, Trace};
+ghost use Rattle.bac_text.specs.declared.jobs.Job.TheVariants.{Over, Trace};
+ghost use Rattle.bac_text.specs.declared.jobs.Tool.TheVariants.{Read, Write, WhoIs, Device};
 ghost use Rattle.bac_words.specs.Inner.Examples.{IsOrdered, at_port, usual};
 
 // What the words of a request order: to whom it goes, how long and how often, and its service body.
@@ -11,30 +12,30 @@ ghost use Rattle.bac_words.specs.Inner.Examples.{IsOrdered, at_port, usual};
 fn examples_of_requests()
     // The present value (85) of analog input (0) 5.
     ensures read { IsOrdered (codes "bactool bacrp 1234 0 5 85 --mac 192.0.2.7")
-        (Ok (Read (usual (0x0c ∷ 0x00 ∷ 0x00 ∷ 0x00 ∷ 0x05 ∷ 0x19 ∷ 0x55 ∷ [])))) }
+        (Ok (Over (Read (usual (0x0c ∷ 0x00 ∷ 0x00 ∷ 0x00 ∷ 0x05 ∷ 0x19 ∷ 0x55 ∷ []))))) }
 
     // The third place of the priority array (87) of analog output (1) 1, with each option.
     ensures element { IsOrdered
         (codes "bactool bacrp 1234 1 1 87 3 --mac 192.0.2.7:47809 --apdu-timeout 500 --apdu-retries 1 --port 47810")
-        (Ok (Read (record {
+        (Ok (Over (Read (record {
           to = at_port 47809;
           timeout = 500;
           retries = 1;
           port = 47810;
           body = record { items = 0x0c ∷ 0x00 ∷ 0x40 ∷ 0x00 ∷ 0x01 ∷ 0x19 ∷ 0x57 ∷ 0x29 ∷ 0x03 ∷ [] };
-        }))) }
+        })))) }
 
     // State 3, an Unsigned (2), of multi-state output (14) 1 at priority 8; NULL (0), which relinquishes it; and -5, a
     // Signed (3), without a priority.
     ensures write { IsOrdered (codes "bactool bacwp 1234 14 1 85 8 -1 2 3 --mac 192.0.2.7")
-        (Ok (Write (usual (0x0c ∷ 0x03 ∷ 0x80 ∷ 0x00 ∷ 0x01 ∷ 0x19 ∷ 0x55
-        ∷ 0x3e ∷ 0x21 ∷ 0x03 ∷ 0x3f ∷ 0x49 ∷ 0x08 ∷ [])))) }
+        (Ok (Over (Write (usual (0x0c ∷ 0x03 ∷ 0x80 ∷ 0x00 ∷ 0x01 ∷ 0x19 ∷ 0x55
+        ∷ 0x3e ∷ 0x21 ∷ 0x03 ∷ 0x3f ∷ 0x49 ∷ 0x08 ∷ []))))) }
     ensures relinquish { IsOrdered (codes "bactool bacwp 1234 14 1 85 8 -1 0 null --mac 192.0.2.7")
-        (Ok (Write (usual (0x0c ∷ 0x03 ∷ 0x80 ∷ 0x00 ∷ 0x01 ∷ 0x19 ∷ 0x55
-        ∷ 0x3e ∷ 0x00 ∷ 0x3f ∷ 0x49 ∷ 0x08 ∷ [])))) }
+        (Ok (Over (Write (usual (0x0c ∷ 0x03 ∷ 0x80 ∷ 0x00 ∷ 0x01 ∷ 0x19 ∷ 0x55
+        ∷ 0x3e ∷ 0x00 ∷ 0x3f ∷ 0x49 ∷ 0x08 ∷ []))))) }
     ensures negative { IsOrdered (codes "bactool bacwp 1234 2 2 85 0 -1 3 -5 --mac 192.0.2.7")
-        (Ok (Write (usual (0x0c ∷ 0x00 ∷ 0x80 ∷ 0x00 ∷ 0x02 ∷ 0x19 ∷ 0x55
-        ∷ 0x3e ∷ 0x31 ∷ 0xfb ∷ 0x3f ∷ [])))) }
+        (Ok (Over (Write (usual (0x0c ∷ 0x00 ∷ 0x80 ∷ 0x00 ∷ 0x02 ∷ 0x19 ∷ 0x55
+        ∷ 0x3e ∷ 0x31 ∷ 0xfb ∷ 0x3f ∷ []))))) }
 
     // What is wrong is told in this order: the peer, the index, the first pair that can't be read.
     ensures bad_mac { IsOrdered (codes "bactool bacwp 1234 1 1 85 8 x 2 y --mac 192.0.2") (Err BadMac) }
@@ -47,18 +48,18 @@ fn examples_of_requests()
 fn examples_of_other_tools()
     // Every device, one, and those within limits.
     ensures all { IsOrdered (codes "bactool bacwi --mac 192.0.2.7")
-        (Ok (WhoIs (record { to = at_port 47808; timeout = 3000; port = 0; who = All }))) }
+        (Ok (Over (WhoIs (record { to = at_port 47808; timeout = 3000; port = 0; who = All })))) }
     ensures one { IsOrdered (codes "bactool bacwi 1000 --mac 192.0.2.7")
-        (Ok (WhoIs (record { to = at_port 47808; timeout = 3000; port = 0; who = Range 1000 1000 }))) }
+        (Ok (Over (WhoIs (record { to = at_port 47808; timeout = 3000; port = 0; who = Range 1000 1000 })))) }
     ensures some { IsOrdered (codes "bactool bacwi 1000 1999 --mac 192.0.2.7")
-        (Ok (WhoIs (record { to = at_port 47808; timeout = 3000; port = 0; who = Range 1000 1999 }))) }
+        (Ok (Over (WhoIs (record { to = at_port 47808; timeout = 3000; port = 0; who = Range 1000 1999 })))) }
 
     // A device at the usual port, for 65,535 datagrams, and a script.
     ensures device { IsOrdered (codes "bactool bacdev 1234")
-        (Ok (Device (record {
+        (Ok (Over (Device (record {
           info = record { instance = 1234; name = codes "Small device" };
           port = 47808;
           count = 65535;
-        }))) }
+        })))) }
     ensures script { IsOrdered (codes "bactool bactrace") (Ok Trace) }
 {}

@@ -1,10 +1,13 @@
 //! Why the words give no job.
 
 ghost use Rattle.std.specs.Prelude.{◌≡◌};
-ghost use Rattle.bac_words.specs.Fault.{usage_of, usage_status_of};
+ghost use Rattle.bac_words.specs.Fault.{usage_of, usage_status_of, usage_told};
+ghost use Rattle.bac_words.specs.Telling.{told_by};
 ghost use Rattle.bac_words.specs.Inner.Fault.{fault_from};
 ghost use Rattle.bac_words.specs.declared.faults.UsageFault.TheVariants.{Memory};
 
+use crate::telling::Telling;
+use bac_print::Message;
 use bac_text::PairFault;
 use clap::error::ErrorKind;
 use std::alloc::AllocError;
@@ -12,28 +15,38 @@ use thiserror::Error;
 
 /// Why the words give no job: the fault of who typed them, but for `Memory` and `Help`.
 #[derive(Debug, Drop, Error)]
+#[error("{}", self.telling())]
 pub enum UsageFault {
     /// There is no memory for them: nobody's fault.
-    #[error("out of memory")]
     Memory,
     /// They ask for help, which this is: no fault.
-    #[error("{0}")]
     Help(clap::Error),
     /// They are no words of the program, as this says.
-    #[error("{0}")]
     Words(clap::Error),
     /// What `--mac` says is no peer, or one with a route.
-    #[error("bad mac")]
     BadMac,
     /// The index is neither a number nor `-1`.
-    #[error("bad index")]
     BadIndex,
     /// The pair with this number, from 1, is no tag and a value of it, or it lacks its value.
-    #[error("bad value {0}")]
     BadValue(u64),
     /// The body would be longer than a client sends.
-    #[error("body too long")]
     BodyTooLong,
+}
+
+impl UsageFault {
+    /// What is told of it.
+    pub fn telling(&self) -> Telling<'_>
+        ensures { told_by result ≡ usage_told self.now }
+    {
+        Telling::Line(match self {
+            UsageFault::Memory => Message::Text("out of memory"),
+            UsageFault::Help(text) | UsageFault::Words(text) => return Telling::Text(text),
+            UsageFault::BadMac => Message::Text("bad mac"),
+            UsageFault::BadIndex => Message::Text("bad index"),
+            UsageFault::BadValue(number) => Message::Numbered("bad value ", *number, ""),
+            UsageFault::BodyTooLong => Message::Text("body too long"),
+        })
+    }
 }
 
 impl From<AllocError> for UsageFault {

@@ -2,7 +2,7 @@
 
 /// The program and its version, which nothing else says.
 pub(crate) const ABOUT: &str =
-    "bactool 0.3.0: reads and writes properties of BACnet/IP controllers, finds devices, and plays a small device";
+    "bactool 0.4.0: reads and writes properties of BACnet/IP controllers, finds devices, and plays a small device";
 
 pub(crate) const READS: &str = "Reads a property of an object, and prints its value";
 

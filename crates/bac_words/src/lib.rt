@@ -10,7 +10,7 @@
 //!
 //! ```text
 //! ensures read { IsOrdered (codes "bactool bacrp 1234 0 5 85 --mac 192.0.2.7")
-//!     (Ok (Read (usual (0x0c ∷ 0x00 ∷ 0x00 ∷ 0x00 ∷ 0x05 ∷ 0x19 ∷ 0x55 ∷ [])))) }
+//!     (Ok (Over (Read (usual (0x0c ∷ 0x00 ∷ 0x00 ∷ 0x00 ∷ 0x05 ∷ 0x19 ∷ 0x55 ∷ []))))) }
 //! ```
 //!
 //! No call has a condition. `run_words` of `bac_tools` (`src/program.rt`) calls [`parse_words`] and runs the job that
@@ -24,10 +24,12 @@ mod faults;
 mod help;
 mod marks;
 mod parse;
+mod telling;
 mod typed;
 
-pub use bac_text::{Job, Serve};
+pub use bac_text::{Job, Serve, Tool};
 pub use called::words_of;
 pub use command::bactool;
 pub use faults::{UsageFault, usage_status};
 pub use parse::parse_words;
+pub use telling::Telling;

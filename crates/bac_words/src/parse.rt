@@ -15,7 +15,7 @@ ghost use Rattle.bac_text.specs.Parameters.{priority_from};
 ghost use Rattle.bac_words.specs.Command.{bacdev, bacrp, bacwi, bacwp};
 ghost use Rattle.bac_words.specs.Job.{peer_in, peer_given, index_given, object_given, needed_number, timeout_given};
 ghost use Rattle.bac_words.specs.Job.{retries_given, port_given, call_given, body_given, limits, read_order};
-ghost use Rattle.bac_words.specs.Job.{write_order, search_order, serve_order, order_of, IsReady};
+ghost use Rattle.bac_words.specs.Job.{write_order, search_order, serve_order, order_of, CanRun};
 ghost use Rattle.bac_words.specs.Inner.Job.{IsTool, IsRequest, IsClient, IsNumberWord, IsGiven, bounds};
 ghost use Rattle.bac_words.specs.Line.{Answers, IsRefusal};
 
@@ -27,8 +27,8 @@ use arrayvec::ArrayVec;
 use bac_device::DeviceInfo;
 use bac_pdu::{Peer, ReadRequest, WhoIs};
 use bac_text::{
-    BodyRoom, Call, Job, LONGEST_BODY, PairFault, Search, Serve, plain_peer_in, priority_from,
-    read_write_index,
+    BodyRoom, Call, Job, LONGEST_BODY, PairFault, Search, Serve, Tool, plain_peer_in,
+    priority_from, read_write_index,
 };
 use bac_wire::ObjectId;
 use clap::ArgMatches;
@@ -42,7 +42,7 @@ use std::alloc::Global;
 /// `BadMac`, `BadIndex`, and `BadValue` or `BodyTooLong`.
 pub fn parse_words(alloc: Global, words: &[&str]) -> Result<Job, UsageFault>
     ensures answer { IsErrAnd result (IsRefusal (texts words.now)) ⊎ Answers (texts words.now) result }
-    ensures ready { IfOk result IsReady }
+    ensures ready { IfOk result CanRun }
 {
     let marked = marked_words(alloc, words)?;
     let command = bactool(alloc)?;
@@ -54,7 +54,7 @@ pub fn parse_words(alloc: Global, words: &[&str]) -> Result<Job, UsageFault>
 fn job(matches: &ArgMatches<'_>) -> Result<Job, UsageFault>
     requires { IsSomeAnd (subcommand_rows_of matches.now) IsTool }
     ensures job { option_map order_of (subcommand_rows_of matches.now) ≡ Some result }
-    ensures ready { IfOk result IsReady }
+    ensures ready { IfOk result CanRun }
 {
     let Some((name, tool)) = matches.subcommand() else {
         unreachable!();
@@ -72,7 +72,7 @@ fn job(matches: &ArgMatches<'_>) -> Result<Job, UsageFault>
 fn read_job(matches: &ArgMatches<'_>) -> Result<Job, UsageFault>
     requires { IsTaken (rules_of bacrp) (rows_of (found_of matches.now)) }
     ensures job { result ≡ read_order (rows_of (found_of matches.now)) }
-    ensures ready { IfOk result IsReady }
+    ensures ready { IfOk result CanRun }
 {
     let request = ReadRequest {
         object: object(matches),
@@ -84,13 +84,13 @@ fn read_job(matches: &ArgMatches<'_>) -> Result<Job, UsageFault>
     };
     let mut room = BodyRoom::new();
     let body = kept(room.body_of_read(&request));
-    Ok(Job::Read(call(matches, to, body)))
+    Ok(Job::Over(Tool::Read(call(matches, to, body))))
 }
 
 fn write_job(matches: &ArgMatches<'_>) -> Result<Job, UsageFault>
     requires { IsTaken (rules_of bacwp) (rows_of (found_of matches.now)) }
     ensures job { result ≡ write_order (rows_of (found_of matches.now)) }
-    ensures ready { IfOk result IsReady }
+    ensures ready { IfOk result CanRun }
 {
     let Some(to) = peer(matches) else {
         return Err(UsageFault::BadMac);
@@ -99,39 +99,39 @@ fn write_job(matches: &ArgMatches<'_>) -> Result<Job, UsageFault>
         return Err(UsageFault::BadIndex);
     };
     let body = write_body(matches, index)?;
-    Ok(Job::Write(call(matches, to, body)))
+    Ok(Job::Over(Tool::Write(call(matches, to, body))))
 }
 
 #[tactic(auto, using(crate::proofs::Given::of_tool, crate::proofs::Given::given_to_tool))]
 fn search_job(matches: &ArgMatches<'_>) -> Result<Job, UsageFault>
     requires { IsTaken (rules_of bacwi) (rows_of (found_of matches.now)) }
     ensures job { result ≡ search_order (rows_of (found_of matches.now)) }
-    ensures ready { IfOk result IsReady }
+    ensures ready { IfOk result CanRun }
 {
     let least = number(matches, "min");
     let most = number(matches, "max");
     let Some(to) = peer(matches) else {
         return Err(UsageFault::BadMac);
     };
-    Ok(Job::WhoIs(Search {
+    Ok(Job::Over(Tool::WhoIs(Search {
         to,
         timeout: timeout(matches),
         port: port(matches),
         who: limits(least, most),
-    }))
+    })))
 }
 
 #[tactic(auto, using(crate::proofs::Given::of_tool, crate::proofs::Given::given_to_tool))]
 fn serve_job(matches: &ArgMatches<'_>) -> Result<Job, UsageFault>
     requires { IsTaken (rules_of bacdev) (rows_of (found_of matches.now)) }
     ensures job { result ≡ serve_order (rows_of (found_of matches.now)) }
-    ensures ready { IfOk result IsReady }
+    ensures ready { IfOk result CanRun }
 {
     let instance = needed(matches, "device-instance");
     let port = number(matches, "port").unwrap_or(47_808) as u16;
     let count = number(matches, "count").unwrap_or(65_535);
     let info = DeviceInfo::new(instance, "Small device").unwrap();
-    Ok(Job::Device(Serve { info, port, count }))
+    Ok(Job::Over(Tool::Device(Serve { info, port, count })))
 }
 
 // The request to this peer with this body.

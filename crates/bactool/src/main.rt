@@ -1,60 +1,60 @@
-//! The program: its words, UDP sockets, standard input and output.
+//! The program: its words, UDP sockets, standard input, output and error.
 #![tactic(auto)]
 
-ghost use Rattle.std.specs.Prelude.{◌≡◌, [], false, IfOk, Result};
+ghost use Rattle.std.specs.Prelude.{◌≡◌};
 ghost use Rattle.std.specs.Process.{exit_status};
-ghost use Rattle.std.specs.declared.io.Error.{Error};
-ghost use Rattle.bac_links.specs.Socket.{Binds, account_over};
-ghost use Rattle.bac_tools.specs.Telling.{once_given};
+ghost use Rattle.bac_print.specs.Checked.{fresh};
+ghost use Rattle.bac_tools.specs.Program.{IsRun, texts_of};
 
-use bac_tools::{Binding, Link, LinkFault, Network, Report, SystemSocket, UdpLink, run_program};
+mod laws;
+mod sockets;
+
+use crate::sockets::Sockets;
+use bac_tools::{Ended, Link, Network, SystemSocket, UdpLink, run_program};
+use std::alloc::Global;
 use std::env;
-use std::io::{Eprint, Print};
+use std::io::{self, Read, Write};
+use std::net::Net;
 use std::process::ExitCode;
+use std::time::Clock;
 
 fn main(rt: HostRuntime) -> ExitCode {
-    let sockets = Sockets { rt: &rt };
-    let report = run_program(rt.alloc(), env::args(&rt), sockets, rt.stdin(), rt.stdout())
-        .ran
-        .report;
-    exit_code(&told(&rt, report))
+    exit_code(run(
+        rt.alloc(),
+        env::args(&rt),
+        Sockets::new(&rt, rt.alloc()),
+        rt.stdin(),
+        rt.stdout(),
+        rt.stderr(),
+    ))
 }
 
-// The sockets of this machine.
-#[derive(Drop)]
-struct Sockets<'r> {
-    rt: &'r HostRuntime,
-}
-
-impl Network for Sockets<'_> {
-    type Socket = UdpLink<SystemSocket<HostRuntime>>;
-
-    ghost gives = { λ _ binding socket.
-        IfOk socket (λ link. Binds binding.at link.socket.log.calls
-        × (⟦<UdpLink<SystemSocket<HostRuntime>> as Link>⟧.seen link
-        ≡ account_over binding.refused link.socket.log.calls [])) };
-
-    fn bind(self, binding: Binding) -> Result<UdpLink<SystemSocket<HostRuntime>>, LinkFault>
-        ensures gives { ⟦<Sockets<'static> as Network>⟧.gives self.entry binding result }
-        ensures sound { IfOk result (λ link. ⟦<UdpLink<SystemSocket<HostRuntime>> as Link>⟧.has_failed link ≡ false) }
-    {
-        UdpLink::bind_with(self.rt, self.rt.alloc(), binding.at, binding.refused)
-    }
+// The program over any sockets, reader and writers. By its type it has nothing else of the world.
+fn run<'r, H: Net + Clock + Clone + Drop, R: Read + Drop, W: Write + Drop, E: Write + Drop>(
+    alloc: Global,
+    typed: io::Result<env::Args>,
+    sockets: Sockets<'r, H>,
+    reader: R,
+    writer: W,
+    errors: E,
+) -> Ended<Sockets<'r, H>, UdpLink<SystemSocket<H>>, R, W, E>
+    ensures { IsRun ⟦<Sockets<'static, H> as Network>⟧.gives
+        record {
+          seen = ⟦<UdpLink<SystemSocket<H>> as Link>⟧.seen;
+          failed = ⟦<UdpLink<SystemSocket<H>> as Link>⟧.has_failed;
+          remaining = R.remaining;
+          contents = W.contents;
+        }
+        E.contents sockets.entry (fresh reader) result.reader (fresh writer) result.writer (fresh errors) result.errors
+        result.ran (texts_of typed) }
+{
+    run_program(alloc, typed, sockets, reader, writer, errors)
 }
 
 // The status with which the system ends the program.
-fn exit_code(report: &Report) -> ExitCode
-    ensures { exit_status result ≡ report.now.status }
+fn exit_code<N: Drop, L: Drop, R: Drop, W: Drop, E: Drop>(ended: Ended<N, L, R, W, E>) -> ExitCode
+    ensures { exit_status result ≡ ended.ran.report.status }
 {
-    ExitCode::from(report.status)
-}
-
-// Gives each standard stream what the report has for it. Where standard error fails there is nobody left to tell.
-fn told<R: Print + Eprint>(rt: &R, report: Report) -> Report
-    ensures { (printed : Result (Unit {0}) Error) × (result ≡ once_given report.fault printed report) }
-{
-    let printed = print!(rt; "{}", report.on_output());
-    let report = report.after_output(printed);
-    let _ = eprint!(rt; "{}", report.on_error());
-    report
+    let ran = ended.ran;
+    ExitCode::from(ran.report.status)
 }

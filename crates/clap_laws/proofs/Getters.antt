@@ -1,16 +1,10 @@
 -- From the rules that the words passed to what the getters of the matches read.
-use Rattle.std.proofs.{
-  Common.{◌≡◌, ◌∙◌, ◌<◌, ◌&&◌, ℕ, pos, true, false, not, refl, sym, ap, subst, arith, List, [], ◌∷◌, length, Option},
-  Common.{Some, None, Result, is_some, IfSome, slice_get},
-  lemmas.{Bool.not-false, Slice.Eq.bytes_eq-Decides},
-}
-use Rattle.std.specs.{
-  List.{find, list_all},
-  Option.{option_and_then, option_map, option_map_or},
-  Str.bytes_eq,
-  Str.Parse.{ExplainsUnsignedError, HasUnsignedDigitsIfOk, ParsesUnsigned},
-  declared.num.ParseIntError.ParseIntError,
-}
+use Rattle.std.proofs.Common.{◌≡◌, ◌∙◌, ◌<◌, ◌&&◌, ℕ, pos, true, false, not, refl, sym, ap, subst, arith, List, [], ◌∷◌}
+use Rattle.std.proofs.{Common.{length, Option, Some, None, Result, is_some, IfSome, slice_get}, lemmas.Bool.not-false}
+use Rattle.std.{proofs.lemmas.Slice.Eq.bytes_eq-Decides, specs.List.{find, list_all}}
+use Rattle.std.specs.{Option.{option_and_then, option_map, option_map_or}, Str.bytes_eq}
+use Rattle.std.specs.Str.Parse.{ExplainsUnsignedError, HasUnsignedDigitsIfOk, ParsesUnsigned}
+use Rattle.std.specs.declared.num.ParseIntError.{ParseIntError}
 use Rattle.clap.specs.{
   Facts.{explicit_source, parser_of_value},
   Values.{Accepts, read_as, reading_of},
@@ -21,11 +15,9 @@ use Rattle.clap.specs.{
   declared.{parser.matches.Found.Found, builder.value_parser.ValueParser.ValueParser},
 }
 use Rattle.clap.proofs.{CallerReads.signed_reads, ValueTestLemmas.accepts-Accepts, WalkLemmas.{both, one_text-rows}}
-use Rattle.clap_laws.{
-  specs.{Passes.{IsTaken, RowPasses}, Numbers.number_of},
-  specs.Inner.Numbers.{FitsWord, IsWithin, bounds_by, bounds_in, decimal, is_needed},
-  proofs.Rows.{RowsPass, any_not, when_found},
-}
+use Rattle.clap_laws.specs.{Passes.{IsTaken, RowPasses}, Numbers.number_of}
+use Rattle.clap_laws.specs.Inner.Numbers.{FitsWord, IsWithin, bounds_by, bounds_in, decimal, is_needed}
+use Rattle.clap_laws.proofs.Rows.{RowsPass, any_not, when_found}
 use Rattle.clap.specs.declared.builder.value_parser.ValueParser.TheVariants as vp
 
 -- the entry of an id passed

@@ -1,17 +1,11 @@
 -- What a command of one level leaves in its matches, where `clap` takes the words: each value passed
 -- the parser of its argument, and each argument that has an entry has a value.
-use Rattle.std.proofs.{
-  Common.{◌≡◌, ◌∙◌, ◌<◌, ◌&&◌, ◌||◌, ℕ, Bool, cond, true, false, not, zero, suc, refl, sym, ap, subst, arith, List, []},
-  Common.{◌∷◌, ◌++◌, length, drop, Option, Some, None, is_some, IfSome, encode_utf8, length-append, codes},
-  Common.if◌then◌else◌,
-  lemmas.{Slice.Eq.bytes_eq-Decides, Bool.or_parts, List.Folds.list_all-append},
-}
-use Rattle.std.specs.{
-  List.{AllByRecursion, find, fold, list_all, list_any},
-  Str.bytes_eq,
-  Prelude.nat_lt,
-  Option.option_map_or,
-}
+use Rattle.std.proofs.Common.{◌≡◌, ◌∙◌, ◌<◌, ◌&&◌, ◌||◌, ℕ, Bool, cond, true, false, not, zero, suc, refl, sym, ap}
+use Rattle.std.proofs.Common.{subst, arith, List, [], ◌∷◌, ◌++◌, length, drop, Option, Some, None, is_some, IfSome}
+use Rattle.std.proofs.{Common.{encode_utf8, length-append, codes, if◌then◌else◌}, lemmas.Slice.Eq.bytes_eq-Decides}
+use Rattle.std.proofs.lemmas.{Bool.or_parts, List.Folds.list_all-append}
+use Rattle.std.specs.{List.{AllByRecursion, find, fold, list_all, list_any}, Str.bytes_eq, Prelude.nat_lt}
+use Rattle.std.specs.Option.{option_map_or}
 use Rattle.clap.specs.{
   Facts.unwrap_or_range,
   Values.is_request,
@@ -29,10 +23,8 @@ use Rattle.clap.specs.{
   declared.{builder.action.ArgAction.ArgAction, parser.matches.ValueSource.TheVariants.CommandLine},
 }
 use Rattle.clap.proofs.{WalkLemmas.both, SimpleLemmas.is_false}
-use Rattle.clap_laws.specs.{
-  Passes.{IsTaken, RowPasses},
-  Entering.{keeps_values, is_plain_rule, has_distinct_ids, IsPlainLevel},
-}
+use Rattle.clap_laws.specs.Passes.{IsTaken, RowPasses}
+use Rattle.clap_laws.specs.Entering.{keeps_values, is_plain_rule, has_distinct_ids, IsPlainLevel}
 use Rattle.clap.specs.Walk as w
 use Rattle.clap.specs.declared.builder.action.ArgAction.TheVariants as action
 

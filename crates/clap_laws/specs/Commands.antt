@@ -1,9 +1,7 @@
 -- Commands as they are put together.
 use Rattle.std.specs.Prelude.{◌≡◌, ℕ, pos, true, false, Some}
-use Rattle.clap.specs.Words.{App, Rule, Text, app_of, new_rule}
-use Rattle.clap.specs.Lexer.{usize_max}
-use Rattle.clap.specs.declared.builder.command.Command.TheViews.{out-Command}
-use Rattle.clap.specs.declared.builder.command.Command.{Command}
+use Rattle.clap.specs.{Words.{App, Rule, Text, app_of, new_rule}, Lexer.usize_max}
+use Rattle.clap.specs.declared.builder.command.Command.{TheViews.out-Command, Command}
 use Rattle.clap.specs.declared.builder.value_parser.ValueParser.TheVariants.{Signed}
 
 -- A word that is a number from the least to the most.

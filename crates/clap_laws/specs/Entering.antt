@@ -1,12 +1,9 @@
 -- What holds of the words that `clap` takes.
 use Rattle.std.specs.Prelude.{◌≡◌, ◌&&◌, ◌||◌, Bool, true, false, not, nat_lt, List, [], ◌∷◌, Some, codes}
-use Rattle.std.specs.List.{find, list_all, list_any}
-use Rattle.std.specs.Str.{bytes_eq}
-use Rattle.clap.specs.Facts.{unwrap_or_range}
-use Rattle.clap.specs.Values.{is_request}
+use Rattle.std.specs.{List.{find, list_all, list_any}, Str.bytes_eq}
+use Rattle.clap.specs.{Facts.unwrap_or_range, Values.is_request}
 use Rattle.clap.specs.Walk.{Rule, Text, action_of, answers_to, is_empty, nothing_held}
-use Rattle.clap.specs.Simple.{App, Shape, built, label_of, rows_at, subcommand_of}
-use Rattle.clap.specs.Faults.{level_fault}
+use Rattle.clap.specs.{Simple.{App, Shape, built, label_of, rows_at, subcommand_of}, Faults.level_fault}
 use Rattle.clap.specs.declared.builder.action.ArgAction.{ArgAction}
 use Rattle.clap.specs.declared.builder.action.ArgAction.TheVariants as action
 

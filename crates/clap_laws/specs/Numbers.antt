@@ -1,7 +1,5 @@
 -- The numbers that the words give.
-use Rattle.std.specs.Prelude.{ℕ, List, Option}
-use Rattle.std.specs.Option.{option_map}
-use Rattle.std.specs.Str.Parse.{digits_value, without_leading_plus}
+use Rattle.std.specs.{Prelude.{ℕ, List, Option}, Option.option_map, Str.Parse.{digits_value, without_leading_plus}}
 use Rattle.clap.specs.Words.{Row, Text, one_of}
 
 -- The number that the words give for an argument, in decimal digits, where a plus may stand first; if they give one.

@@ -3,11 +3,9 @@
 #![tactic(auto)]
 
 ghost use Rattle.std.specs.Prelude.{◌≡◌, true, false, List, []};
-ghost use Rattle.clap.specs.Faults.{fault_of, level_fault};
-ghost use Rattle.clap.specs.Simple.{App, Shape, built};
+ghost use Rattle.clap.specs.{Faults.{fault_of, level_fault}, Simple.{App, Shape, built}};
 ghost use Rattle.clap.specs.Walk.{Text, nothing_held, rows_after};
-ghost use Rattle.clap_laws.specs.Entering.{Enters, IsPlainLevel};
-ghost use Rattle.clap_laws.specs.Passes.{IsTaken};
+ghost use Rattle.clap_laws.specs.{Entering.{Enters, IsPlainLevel}, Passes.IsTaken};
 
 /// Words that a program takes, where it wants a subcommand, name one other than `help`, which takes the words after it.
 pub fn words_enter()

@@ -1,8 +1,6 @@
 -- The demonstration device, as it is made point by point.
-use Rattle.std.specs.Prelude.{unwrap_or}
-use Rattle.std.specs.Option.{option_map}
-use Rattle.bac_device.specs.Point.{Given, description_of}
-use Rattle.bac_device.specs.Device.{DeviceState, with_point}
+use Rattle.std.specs.{Prelude.unwrap_or, Option.option_map}
+use Rattle.bac_device.specs.{Point.{Given, description_of}, Device.{DeviceState, with_point}}
 
 -- The device with one more point. Where a device can have no such point it stays as it is; none of the eleven is such a
 -- point.

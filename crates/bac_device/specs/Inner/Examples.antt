@@ -1,9 +1,7 @@
 -- Requests to the demonstration device, for examples of what it replies.
 use Rattle.std.specs.Prelude.{◌≡◌, ℕ, ◌+◌, List, [], ◌∷◌, ◌++◌, codes, length, map, Some, None}
 use Rattle.bac_pdu.specs.Peer.{Station}
-use Rattle.bac_device.specs.Info.{Info}
-use Rattle.bac_device.specs.Turns.{replies_to}
-use Rattle.bac_device.specs.Demo.{demo_points}
+use Rattle.bac_device.specs.{Info.Info, Turns.replies_to, Demo.demo_points}
 
 -- The device of a script.
 abbrev pub small : Info

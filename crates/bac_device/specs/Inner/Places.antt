@@ -1,8 +1,7 @@
 -- A write as the code keeps it.
 use Rattle.bac_wire.specs.Identifier.{identifier}
 use Rattle.bac_pdu.specs.Property.{IsPriority}
-use Rattle.bac_device.specs.declared.write.PlaceWrite.{PlaceWrite}
-use Rattle.bac_device.specs.Places.{Write}
+use Rattle.bac_device.specs.{declared.write.PlaceWrite.PlaceWrite, Places.Write}
 
 -- The write is at a priority that there is.
 abbrev pub IsUrgent : Write → Type 0

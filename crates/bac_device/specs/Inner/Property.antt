@@ -1,11 +1,9 @@
 -- A property as the code keeps it.
 use Rattle.std.specs.Prelude.{false, [], ◌∷◌, map}
-use Rattle.bac_wire.specs.Identifier.{identifier}
-use Rattle.bac_wire.specs.Datum.{datum, object, IsSound}
+use Rattle.bac_wire.specs.{Identifier.identifier, Datum.{datum, object, IsSound}}
 use Rattle.bac_device.specs.declared.property.Property.{Property as AnyProperty}
 use Rattle.bac_device.specs.declared.property.Property.TheVariants.{Single, EmptyList, ObjectList, PriorityArray}
-use Rattle.bac_device.specs.Kind.{place_value}
-use Rattle.bac_device.specs.Property.{Property, single, array, point_objects}
+use Rattle.bac_device.specs.{Kind.place_value, Property.{Property, single, array, point_objects}}
 
 -- A property as the code has it, without where its parts lie in memory.
 abbrev pub property_seen : AnyProperty → Property
@@ -14,8 +12,8 @@ property_seen EmptyList = record { is_array = false; values = [] }
 property_seen (ObjectList device points) = array (object (identifier device) ∷ point_objects points.now)
 property_seen (PriorityArray family places) = array (map (place_value family) places.now)
 
--- A property of the code whose values can be written. Where it is not a single value, its values are identifiers and
--- numbers, which always can be.
+-- A property of the code whose values can be written. Those of a list or an array are identifiers, numbers and NULL,
+-- which always can be.
 abbrev pub IsSoundProperty : AnyProperty → Type 0
 IsSoundProperty (Single value) = IsSound (datum value)
 IsSoundProperty _ = Unit {0}

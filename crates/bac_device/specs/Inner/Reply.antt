@@ -1,15 +1,8 @@
 -- The reply and the write, from the octets of an APDU down to the body of a WriteProperty, as the code finds them.
-use Rattle.std.specs.Prelude.{ℕ, ◌==◌, ◌&&◌, Bool, if◌then◌else◌, List, Option, Some, None, is_none}
-use Rattle.std.specs.Result.{result_ok}
+use Rattle.std.specs.{Prelude.{ℕ, ◌==◌, ◌&&◌, Bool, if◌then◌else◌, List, Option, Some, None, is_none}, Result.result_ok}
 use Rattle.bac_wire.specs.Steps.{◌>>=◌}
-use Rattle.bac_pdu.specs.declared.apdu.Part.{Part}
-use Rattle.bac_pdu.specs.Apdu.{laid_out}
-use Rattle.bac_pdu.specs.ApduReading.{apdu_of}
-use Rattle.bac_pdu.specs.PropertyReading.{write_of}
-use Rattle.bac_device.specs.Places.{Write}
-use Rattle.bac_device.specs.Device.{DeviceState}
-use Rattle.bac_device.specs.Access.{accepted_write}
-use Rattle.bac_device.specs.Reply.{reply_message, order_in}
+use Rattle.bac_pdu.specs.{declared.apdu.Part.Part, Apdu.laid_out, ApduReading.apdu_of, PropertyReading.write_of}
+use Rattle.bac_device.specs.{Places.Write, Device.DeviceState, Access.accepted_write, Reply.{reply_message, order_in}}
 
 -- The octets of the reply to the octets of an APDU.
 unfoldable pub reply_apdu : DeviceState → Bool → List ℕ → Option (List ℕ)

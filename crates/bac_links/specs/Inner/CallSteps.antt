@@ -1,5 +1,6 @@
 -- One turn of a call, by the steps of the client.
-use Rattle.std.specs.Prelude.{◌≡◌, ℕ, ◌-◌, ◌≤◌, Bool, true, false, List, [], ◌∷◌, ◌++◌, length, Option, Some, None}
+use Rattle.std.specs.Prelude.{◌≡◌, ◌≢◌, ℕ, ◌-◌, ◌≤◌, Bool, true, false, List, [], ◌∷◌, ◌++◌, length, Option, Some}
+use Rattle.std.specs.Prelude.{None}
 use Rattle.std.specs.List.{All, flat_map}
 use Rattle.bac_pdu.specs.Peer.{Station, station}
 use Rattle.bac_tsm.specs.Events.{Outcome, Data, Event, Ask, Tick, Note, Sent, Refused, Done, Dropped, TimedOut, Rules}
@@ -7,8 +8,9 @@ use Rattle.bac_tsm.specs.Machine.{State, Waiting, Stepped, step}
 use Rattle.bac_tsm.specs.Laws.{state_at}
 use Rattle.bac_tsm.specs.Lookahead.{send_notes}
 use Rattle.bac_pdu.specs.Apdu.{longest_body}
-use Rattle.bac_tsm.specs.Client.{Client}
-use Rattle.bac_links.specs.History.{Heard, Silence, Arrival, Failure, Entry, Timed, Posted, Unposted, Account, GainsAll}
+use Rattle.bac_tsm.specs.Client.{Client, rules_of, keeping}
+use Rattle.bac_links.specs.History.{Heard, Silence, Arrival, Failure, Entry, Waited, Timed, Posted, Unposted, Account}
+use Rattle.bac_links.specs.History.{Gains, GainsAll}
 use Rattle.bac_links.specs.Asking.{Move, Asks, question_of, Follows, next_move, waits_in, turn_after}
 use Rattle.bac_links.specs.Handed.{handed}
 use Rattle.bac_links.specs.Limits.{turn_wait}
@@ -56,10 +58,12 @@ abbrev pub endings : List Note → List (Option Outcome)
 endings = flat_map ending_in
 
 -- These notes are one send, which the link could not make.
-abbrev pub GainsLost : {Origin : Type 0} → List Note → List Entry → Account Origin → Account Origin → Type 0
-GainsLost notes gained before after =
-    (to : Station) × (octets : List ℕ) × (posts notes ≡ Posted to octets ∷ [])
-    × GainsAll (gained ++ Unposted to octets ∷ []) before after
+pub record GainsLost {Origin : Type 0} (notes : List Note) (gained : List Entry) (before after : Account Origin)
+    : Type 0 where
+  pub to : Station
+  pub octets : List ℕ
+  pub one : posts notes ≡ Posted to octets ∷ []
+  pub gains : GainsAll (gained ++ Unposted to octets ∷ []) before after
 
 -- What is heard is handed to the client.
 abbrev pub heard_step : Rules → State → Heard → Stepped
@@ -79,6 +83,32 @@ timeouts false = []
 abbrev pub answers : Option Outcome → List (Option Outcome)
 answers None = []
 answers (Some outcome) = Some outcome ∷ []
+
+-- The client is handed what a wait of so long hears; that ends its request with this outcome, or not.
+pub record Hears {Origin : Type 0} (wait : ℕ) (before after : Client) (outcome : Option Outcome)
+    (seen left : Account Origin) : Type 0 where
+  pub heard : Heard
+  pub gains : Gains (Waited wait heard) seen left
+  pub received : heard ≢ Failure
+  pub ends : endings (heard_step (rules_of before) before.state heard).notes ≡ answers outcome
+  pub handed : after ≡ keeping before (heard_step (rules_of before) before.state heard).after
+
+-- What a client does at a time that it is told.
+abbrev pub ticked : Client → ℕ → Stepped
+ticked client time = step (rules_of client) client.state (Tick time)
+
+-- The client is told the time, and what it sends then is sent; that ends its request, or not.
+pub record Ticks {Origin : Type 0} (before after : Client) (over : Bool) (seen left : Account Origin) : Type 0 where
+  pub time : ℕ
+  pub ends : endings (ticked before time).notes ≡ timeouts over
+  pub handed : after ≡ keeping before (ticked before time).after
+  pub gains : GainsAll (Timed time ∷ posts (ticked before time).notes) seen left
+
+-- The client is told the time, and what it sends then could not be sent.
+pub record TicksLost {Origin : Type 0} (before : Client) (seen left : Account Origin) : Type 0 where
+  pub time : ℕ
+  pub open_still : endings (ticked before time).notes ≡ []
+  pub lost : GainsLost (ticked before time).notes (Timed time ∷ []) seen left
 
 -- A call hands the client nothing but datagrams and ticks after its request.
 abbrev pub AsksNothing : Event → Type 0

@@ -21,19 +21,36 @@ found_lines = flat_map found_line
 abbrev pub has_found : List Found → Bool
 has_found found = nat_lt 0 (length found)
 
--- What a wait hears, and what is printed of that.
-abbrev pub Listens : {Origin W : Type 0} → WhoIs → ℕ → (W → Option (List ℕ)) → Checked W → Checked W → Account Origin
-    → Account Origin → Result Bool ToolFault → Type 0
-Listens who wait contents before after seen left (Ok any) =
-    (heard : Heard) × Gains (Waited wait heard) seen left × (heard ≢ Failure)
-    × (any ≡ has_found (found_by who (Waited wait heard)))
-    × Took contents before after (found_lines (found_by who (Waited wait heard)))
-Listens who wait contents before after seen left (Err SendFailed) = ⊥
-Listens who wait contents before after seen left (Err ReceiveFailed) = Gains (Waited wait Failure) seen left
-    × Took contents before after []
-Listens who wait contents before after seen left (Err TurnsSpent) = ⊥
-Listens who wait contents before after seen left (Err WriteFailed) =
-    (heard : Heard) × Gains (Waited wait heard) seen left
-    × (last : Found) × (found_by who (Waited wait heard) ≡ last ∷ []) × (taken rest : List ℕ)
-    × (found_line last ≡ taken ++ rest)
-    × Took contents before after taken
+module _ {Origin W : Type 0} (who : WhoIs) (wait : ℕ) (contents : W → Option (List ℕ)) (before after : Checked W)
+    (seen left : Account Origin) where
+  -- A wait hears this, and the lines of what that finds are printed.
+  pub record Finds (any : Bool) : Type 0 where
+    pub heard : Heard
+    pub gains : Gains (Waited wait heard) seen left
+    pub received : heard ≢ Failure
+    pub any_is : any ≡ has_found (found_by who (Waited wait heard))
+    pub printed : Took contents before after (found_lines (found_by who (Waited wait heard)))
+
+  -- A wait fails.
+  pub record ListenFails : Type 0 where
+    pub gains : Gains (Waited wait Failure) seen left
+    pub unprinted : Took contents before after []
+
+  -- A wait hears this, and a front of the line of what that finds is printed.
+  pub record FindsHalf : Type 0 where
+    pub heard : Heard
+    pub gains : Gains (Waited wait heard) seen left
+    pub last : Found
+    pub finds : found_by who (Waited wait heard) ≡ last ∷ []
+    pub taken : List ℕ
+    pub rest : List ℕ
+    pub line : found_line last ≡ taken ++ rest
+    pub printed : Took contents before after taken
+
+  -- What a wait hears, and what is printed of that.
+  abbrev pub Listens : Result Bool ToolFault → Type 0
+  Listens (Ok any) = Finds any
+  Listens (Err SendFailed) = ⊥
+  Listens (Err ReceiveFailed) = ListenFails
+  Listens (Err TurnsSpent) = ⊥
+  Listens (Err WriteFailed) = FindsHalf

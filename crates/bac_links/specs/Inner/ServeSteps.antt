@@ -36,18 +36,34 @@ LeavesDevice before heard after = after ≡ device_behind before (brought_by hea
 abbrev pub sends_of : List (Option (Station × List ℕ)) → List Entry
 sends_of replies = map (λ (reply : Station × List ℕ). Posted reply.0 reply.1) (flat_map option_to_list replies)
 
--- One wait, and the answer to what it brought.
-abbrev pub ServesOne : {Origin : Type 0} → DeviceState → DeviceState → Account Origin → Account Origin
-    → Result Brought ToolFault → Type 0
-ServesOne before after seen left (Ok brings) =
-    (heard : Heard) × LeavesDevice before heard after
-    × (heard ≢ Failure) × (came_in brings ≡ length (brought_by heard))
-    × (replied_in brings ≡ reply_count (replies_of before (brought_by heard)))
-    × GainsAll (Waited serve_wait heard ∷ sends_of (replies_of before (brought_by heard))) seen left
-ServesOne before after seen left (Err SendFailed) =
-    (heard : Heard) × (reply : Station × List ℕ) × LeavesDevice before heard after
-    × (heard ≢ Failure) × (replies_of before (brought_by heard) ≡ Some reply ∷ [])
-    × GainsAll (Waited serve_wait heard ∷ Unposted reply.0 reply.1 ∷ []) seen left
-ServesOne before after seen left (Err ReceiveFailed) = (after ≡ before) × Gains (Waited serve_wait Failure) seen left
-ServesOne before after seen left (Err TurnsSpent) = ⊥
-ServesOne before after seen left (Err WriteFailed) = ⊥
+module _ {Origin : Type 0} (before after : DeviceState) (seen left : Account Origin) where
+  -- A wait heard this, and the reply to it was sent, where there is one.
+  pub record Serves (brings : Brought) : Type 0 where
+    pub heard : Heard
+    pub leaves : LeavesDevice before heard after
+    pub received : heard ≢ Failure
+    pub came : came_in brings ≡ length (brought_by heard)
+    pub replied : replied_in brings ≡ reply_count (replies_of before (brought_by heard))
+    pub gains : GainsAll (Waited serve_wait heard ∷ sends_of (replies_of before (brought_by heard))) seen left
+
+  -- A wait heard this, and the reply to it could not be sent.
+  pub record LosesReply : Type 0 where
+    pub heard : Heard
+    pub reply : Station × List ℕ
+    pub leaves : LeavesDevice before heard after
+    pub received : heard ≢ Failure
+    pub replies : replies_of before (brought_by heard) ≡ Some reply ∷ []
+    pub gains : GainsAll (Waited serve_wait heard ∷ Unposted reply.0 reply.1 ∷ []) seen left
+
+  -- A wait failed.
+  pub record WaitFails : Type 0 where
+    pub same : after ≡ before
+    pub gains : Gains (Waited serve_wait Failure) seen left
+
+  -- One wait, and the answer to what it brought.
+  abbrev pub ServesOne : Result Brought ToolFault → Type 0
+  ServesOne (Ok brings) = Serves brings
+  ServesOne (Err SendFailed) = LosesReply
+  ServesOne (Err ReceiveFailed) = WaitFails
+  ServesOne (Err TurnsSpent) = ⊥
+  ServesOne (Err WriteFailed) = ⊥

@@ -1,11 +1,7 @@
 -- Stations, requests and datagrams, for examples of their octets.
 use Rattle.std.specs.Prelude.{◌≡◌, ℕ, false, List, [], ◌∷◌, Some, None}
-use Rattle.bac_pdu.specs.Peer.{Station}
-use Rattle.bac_pdu.specs.Datagram.{Delivery}
-use Rattle.bac_pdu.specs.Apdu.{Message, laid_out}
-use Rattle.bac_pdu.specs.ApduReading.{apdu_of}
-use Rattle.bac_pdu.specs.Discovery.{Introduction}
-use Rattle.bac_pdu.specs.Property.{Reference}
+use Rattle.bac_pdu.specs.{Peer.Station, Datagram.Delivery, Apdu.{Message, laid_out}, ApduReading.apdu_of}
+use Rattle.bac_pdu.specs.{Discovery.Introduction, Property.Reference}
 
 -- 192.168.1.5, port 47808.
 abbrev pub desk : Station

@@ -1,8 +1,6 @@
 -- The network header that was read, as values.
 use Rattle.std.specs.Option.{option_map}
-use Rattle.bac_pdu.specs.declared.header.Address.{Address}
-use Rattle.bac_pdu.specs.declared.header.Header.{Header}
-use Rattle.bac_pdu.specs.Peer.{NetworkAddress}
+use Rattle.bac_pdu.specs.{declared.header.Address.Address, declared.header.Header.Header, Peer.NetworkAddress}
 use Rattle.bac_pdu.specs.Header.{NetworkHeader}
 
 -- A station as the code has it, without where the octets lie in memory.

@@ -1,6 +1,5 @@
 -- A parameter that may be left out.
-use Rattle.std.specs.Prelude.{ℕ, List, [], Option, Some, None}
-use Rattle.std.specs.Option.{option_map, option_to_list}
+use Rattle.std.specs.{Prelude.{ℕ, List, [], Option, Some, None}, Option.{option_map, option_to_list}}
 use Rattle.bac_wire.specs.Parameter.{number_octets}
 
 -- The parameter, where there is a value for it; else none.

@@ -45,10 +45,20 @@ pub record IsTurnedIn {W : Type 0} (page page' : Page W) : Type 0 where
   pub later : List ℕ
   pub out : octets_of (writer_of page') ≡ (octets_of (writer_of page) ++ on_page page) ++ later
 
--- Nothing was read since then, or the last read was made while no whole line was held, and the page was turned in.
+-- Nothing was read since then.
+pub record IsUnread {R : Type 0} (reader reader' : Checked R) (held now : List ℕ) : Type 0 where
+  pub same : reader' ≡ reader
+  pub kept : now ≡ held
+
+-- The last read was made while no whole line was held, and the page was turned in.
+pub record IsReadOn {R W : Type 0} (reader reader' : Checked R) (page page' : Page W) (held now : List ℕ) : Type 0 where
+  pub last : LastRead reader reader' held now
+  pub turned_in : IsTurnedIn page page'
+
+-- Nothing was read since then, or only for the next line.
 abbrev pub ReadForLine : {R W : Type 0} → Checked R → Checked R → Page W → Page W → List ℕ → List ℕ → Type 0
 ReadForLine reader reader' page page' held now =
-    ((reader' ≡ reader) × (now ≡ held)) ⊎ (LastRead reader reader' held now × IsTurnedIn page page')
+    IsUnread reader reader' held now ⊎ IsReadOn reader reader' page page' held now
 
 -- How many reads may have given nothing: none while reading is open, and one once it is over.
 abbrev pub empty_reads : Reading → ℕ
@@ -56,12 +66,27 @@ empty_reads Open = 0
 empty_reads AtEnd = 1
 empty_reads Failed = 1
 
+-- The line ends with its only line feed.
+pub record EndsWithFeed (line : List ℕ) : Type 0 where
+  pub text : List ℕ
+  pub no_feed : HasNoFeed text
+  pub ended : line ≡ text ++ 10 ∷ []
+
+-- The line is too long, and has no line feed so far.
+pub record IsTooLong (line : List ℕ) : Type 0 where
+  pub no_feed : HasNoFeed line
+  pub long : length line ≡ line_room
+
+-- No whole line is among these octets.
+pub record HasNoLine (octets : List ℕ) : Type 0 where
+  pub no_feed : HasNoFeed octets
+  pub short : length octets < line_room
+
 -- The line ends with a line feed, or is too long without one, or is all that was left where reading was over.
 abbrev pub IsLineCut : Reading → List ℕ → Type 0
-IsLineCut Open line = ((text : List ℕ) × HasNoFeed text × (line ≡ text ++ 10 ∷ []))
-    ⊎ (HasNoFeed line × (length line ≡ line_room))
-IsLineCut AtEnd line = HasNoFeed line × (length line < line_room)
-IsLineCut Failed line = HasNoFeed line × (length line < line_room)
+IsLineCut Open line = EndsWithFeed line ⊎ IsTooLong line
+IsLineCut AtEnd line = HasNoLine line
+IsLineCut Failed line = HasNoLine line
 
 -- The next line is the first so many of the octets that are held.
 pub record IsNext {R : Type 0} (remaining : R → Option (List ℕ)) (before after : Checked R) (held : List ℕ)

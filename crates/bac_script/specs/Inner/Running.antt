@@ -18,7 +18,7 @@ pub record Stage : Type 0 where
   pub writes : List Write
 
 -- What was printed, and the stage after it.
-pub record Ran : Type 0 where
+pub record Turn : Type 0 where
   pub text : List ℕ
   pub after : Stage
 
@@ -39,7 +39,7 @@ abbrev pub step_of : Client → Event → Stepped
 step_of client event = step (rules_of client) client.state event
 
 -- The client makes its step at an event, and its notes are printed.
-abbrev pub stepped : Stage → Event → Ran
+abbrev pub stepped : Stage → Event → Turn
 stepped stage event = record {
   text = notes_text (step_of stage.client event).notes;
   after = record { client = keeping stage.client (step_of stage.client event).after; writes = stage.writes };
@@ -53,7 +53,7 @@ reply_after writes arrival = reply_text (reply_to small_device demo_points write
 abbrev pub writes_with : List Write → Arrival → List Write
 writes_with writes arrival = writes_after small_device demo_points writes arrival.from arrival.datagram
 
-abbrev pub ran : Stage → Said → Ran
+abbrev pub ran : Stage → Said → Turn
 ran stage Nothing = record { text = []; after = stage }
 ran stage (Settings timeout retries first_ticket) =
     record { text = []; after = record { client = new_client timeout retries first_ticket; writes = stage.writes } }

@@ -1,6 +1,5 @@
 -- One digit of an address.
-use Rattle.std.specs.Prelude.{ℕ, ◌-◌, Option, Some, None, if◌then◌else◌}
-use Rattle.std.specs.Char.{is_ascii_digit}
+use Rattle.std.specs.{Prelude.{ℕ, ◌-◌, Option, Some, None, if◌then◌else◌}, Char.is_ascii_digit}
 
 -- The number that a decimal digit (48 to 57) writes.
 abbrev pub digit : ℕ → Option ℕ

@@ -2,9 +2,7 @@
 use Rattle.std.specs.Prelude.{◌≡◌, ℕ, List, [], ◌∷◌, codes, Some, None, Result, Ok}
 use Prim.Native.String.{String}
 use Rattle.bac_pdu.specs.Peer.{Station}
-use Rattle.bac_text.specs.declared.pairs.PairFault.{PairFault}
-use Rattle.bac_text.specs.Pairs.{body_of}
-use Rattle.bac_text.specs.Inner.Pairs.{region_of}
+use Rattle.bac_text.specs.{declared.pairs.PairFault.PairFault, Pairs.body_of, Inner.Pairs.region_of}
 
 -- A tag's number and a word write these octets.
 abbrev pub IsWritten : String → String → List ℕ → Type 0

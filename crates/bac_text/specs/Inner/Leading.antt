@@ -1,8 +1,6 @@
 -- The digits at the front of a text.
-use Rattle.std.specs.Prelude.{◌≡◌, ℕ, ◌<◌, ◌≤◌, true, false, List, length, take, slice_index}
-use Rattle.std.specs.Char.{is_ascii_digit}
-use Rattle.std.specs.Str.{all_ascii_digits}
-use Rattle.std.specs.Str.Parse.{digits_value}
+use Rattle.std.specs.{Prelude.{◌≡◌, ℕ, ◌<◌, ◌≤◌, true, false, List, length, take, slice_index}, Char.is_ascii_digit}
+use Rattle.std.specs.Str.{all_ascii_digits, Parse.digits_value}
 
 -- The text begins with so many digits, at most as many as are looked at, and they write this number. Where they are
 -- fewer, no digit follows.

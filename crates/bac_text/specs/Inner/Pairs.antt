@@ -1,12 +1,8 @@
 -- The region that the words of a property's value write.
-use Rattle.std.specs.Prelude.{ℕ, List, Result, Ok, Err}
-use Rattle.std.specs.List.{flat_map}
-use Rattle.bac_wire.specs.Limits.{frame_room}
-use Rattle.bac_wire.specs.Datum.{Datum, plain}
-use Rattle.bac_text.specs.declared.pairs.PairFault.{PairFault}
-use Rattle.bac_text.specs.declared.pairs.PairFault.TheVariants.{Bad, TooLong}
-use Rattle.bac_text.specs.Inner.ValueWords.{at_most}
-use Rattle.bac_text.specs.Pairs.{values_in}
+use Rattle.std.specs.{Prelude.{ℕ, List, Result, Ok, Err}, List.flat_map}
+use Rattle.bac_wire.specs.{Limits.frame_room, Datum.{Datum, plain}}
+use Rattle.bac_text.specs.declared.pairs.PairFault.{PairFault, TheVariants.{Bad, TooLong}}
+use Rattle.bac_text.specs.{Inner.ValueWords.at_most, Pairs.values_in}
 
 -- The shortest spellings of these values, one after another, where a frame has room for them.
 abbrev pub region_with : Result (List Datum) ℕ → Result (List ℕ) PairFault

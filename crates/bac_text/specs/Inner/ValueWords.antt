@@ -1,9 +1,7 @@
 -- A value that is appended to others.
 use Rattle.std.specs.Prelude.{ℕ, nat_le, List, ◌++◌, length, Option, Some, None, Result, Ok, Err, if◌then◌else◌}
-use Rattle.bac_wire.specs.Datum.{Datum, plain}
-use Rattle.bac_wire.specs.Limits.{frame_room}
-use Rattle.bac_text.specs.declared.value_words.ValueFault.{ValueFault}
-use Rattle.bac_text.specs.declared.value_words.ValueFault.TheVariants.{Bad, TooLong}
+use Rattle.bac_wire.specs.{Datum.{Datum, plain}, Limits.frame_room}
+use Rattle.bac_text.specs.declared.value_words.ValueFault.{ValueFault, TheVariants.{Bad, TooLong}}
 
 -- Octets, where they are at most so many, else the fault.
 abbrev pub at_most : {E : Type 0} → E → ℕ → List ℕ → Result (List ℕ) E

@@ -37,7 +37,7 @@ fn add_rests(tally: &mut Tally, octets: &[u8]) {
         let part = &octets[start..];
         let [tags, numbers, counts, length] = tag_at(part);
         let [values, long] = counted(read_value(part).map(|(_, size)| size));
-        let [regions, wide] = counted(region(part));
+        let [regions, wide] = counted(region(part).count);
         let found = [
             1, tags, numbers, counts, length, values, long, regions, wide,
         ];

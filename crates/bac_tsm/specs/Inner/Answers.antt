@@ -1,6 +1,5 @@
 -- How an Error ends a request.
-use Rattle.std.specs.Prelude.{ℕ, Option}
-use Rattle.std.specs.Option.{option_map_or}
+use Rattle.std.specs.{Prelude.{ℕ, Option}, Option.option_map_or}
 use Rattle.bac_tsm.specs.Events.{Outcome, Failed, BadError}
 
 -- The outcome of an Error: by the class and the code that its body begins with.

@@ -1,7 +1,6 @@
 -- The ticket of an entry, and a step of a run.
 use Rattle.std.specs.Prelude.{ℕ, ◌++◌, map}
-use Rattle.bac_tsm.specs.declared.due.Entry.{Entry}
-use Rattle.bac_tsm.specs.declared.due.Entry.TheVariants.{Resend, TimedOut as Expired}
+use Rattle.bac_tsm.specs.declared.due.Entry.{Entry, TheVariants.{Resend, TimedOut as Expired}}
 use Rattle.bac_tsm.specs.Machine.{Stepped, Run}
 
 -- The ticket that an entry of a tick names.

@@ -1,12 +1,8 @@
 -- Single steps of the table: finding a rank, taking out a slot, passing a request that is due.
 use Rattle.std.specs.Prelude.{◌≡◌, ◌≢◌, ℕ, suc, ◌<◌, List, ◌++◌, length, take, drop, remove, get_or, Option, Some, None}
-use Rattle.std.specs.Prelude.{true, nat_eq}
-use Rattle.std.specs.List.{All, find}
-use Rattle.bac_tsm.specs.Events.{Rules}
-use Rattle.bac_tsm.specs.declared.due.Entry.{Entry}
-use Rattle.bac_tsm.specs.Machine.{Waiting, is_due, due_entry, kept}
-use Rattle.bac_tsm.specs.Waiting.{nothing}
-use Rattle.bac_tsm.specs.Table.{held_at, open_slots}
+use Rattle.std.specs.{Prelude.{true, nat_eq}, List.{All, find}}
+use Rattle.bac_tsm.specs.{Events.Rules, declared.due.Entry.Entry, Machine.{Waiting, is_due, due_entry, kept}}
+use Rattle.bac_tsm.specs.{Waiting.nothing, Table.{held_at, open_slots, IsWhole}}
 
 -- The invoke id of the request at this slot.
 abbrev pub number_at : List Waiting → ℕ → ℕ
@@ -15,6 +11,12 @@ number_at slots slot = (get_or slots slot nothing).request.invoke_id
 -- The open requests.
 abbrev pub waiting_in : List Waiting → List ℕ → List ℕ → List Waiting
 waiting_in slots order tickets = held_at slots (open_slots order tickets)
+
+-- A table that is whole, of which this was told.
+pub record Leaves (Told : Type 0) (slots : List Waiting) (numbers : List (Option ℕ)) (order tickets sends : List ℕ)
+    : Type 0 where
+  pub told : Told
+  pub whole : IsWhole slots numbers order tickets sends
 
 -- The rank at which the request with this ticket stands, if one has it.
 abbrev pub IsRankOf : ℕ → List Waiting → Option ℕ → Type 0

@@ -1,8 +1,6 @@
 -- Values and objects, for examples of their octets.
 use Rattle.std.specs.Prelude.{◌≡◌, ℕ, List, [], Some}
-use Rattle.bac_wire.specs.Identifier.{Identifier}
-use Rattle.bac_wire.specs.Datum.{Datum, plain}
-use Rattle.bac_wire.specs.DatumReading.{value_at}
+use Rattle.bac_wire.specs.{Identifier.Identifier, Datum.{Datum, plain}, DatumReading.value_at}
 
 -- These octets are written of a value, and the value is read from them.
 abbrev pub IsWritten : Datum → List ℕ → Type 0

@@ -49,11 +49,12 @@ fn runs(
     (text, status, fault): (&str, u8, &str),
 ) -> bool {
     let alloc = network.alloc;
-    let mut room = [0xff; 96];
-    let report = run_program(alloc, typed, network, SCRIPT, room.as_mut_slice())
+    let (mut room, mut errors) = ([0xff; 96], [0xff; 96]);
+    let (writer, told) = (room.as_mut_slice(), errors.as_mut_slice());
+    let report = run_program(alloc, typed, network, SCRIPT, writer, told)
         .ran
         .report;
-    is_text(&room, text) && report.status == status && is_told(alloc, &report, fault)
+    is_text(&room, text) && report.status == status && is_told(alloc, &report, &errors, fault)
 }
 
 /// The words of the line.
@@ -65,12 +66,13 @@ fn words_typed(alloc: Global, line: &str) -> io::Result<env::Args> {
     Ok(typed.into_iter())
 }
 
-/// Whether the report has the fault of this text, or none where there is no text.
-fn is_told(alloc: Global, report: &Report, text: &str) -> bool {
-    match &report.fault {
-        Some(fault) => matches!(format!(in alloc; "{fault}"), Ok(told) if told.as_str() == text),
-        None => text.is_empty(),
-    }
+/// Whether the report has the fault of this text, of which the line was told, or none where there is no text.
+fn is_told(alloc: Global, report: &Report, errors: &[u8; 96], text: &str) -> bool {
+    let Some(fault) = &report.fault else {
+        return text.is_empty() && is_text(errors, "");
+    };
+    matches!(format!(in alloc; "{fault}"), Ok(said) if said.as_str() == text)
+        && matches!(format!(in alloc; "bactool: {text}\n"), Ok(line) if is_text(errors, line.as_str()))
 }
 
 const READ: &str = "/usr/bin/bacrp 1234 0 5 85 --mac 127.0.0.1";

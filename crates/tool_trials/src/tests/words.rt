@@ -6,7 +6,7 @@ mod refusals;
 
 use crate::tests::{CONTROLLER, LOCALHOST, OTHER, are_digits};
 use bac_text::Call;
-use bac_words::{Job, UsageFault, parse_words};
+use bac_words::{Job, Tool, UsageFault, parse_words};
 use std::alloc::Global;
 
 /// The words of a line, cut at spaces, of which the first is the program's name.

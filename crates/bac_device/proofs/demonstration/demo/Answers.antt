@@ -1,3 +1,4 @@
+-- Eleven calls add a point each; the last equation comes first.
 use Rattle.std.proofs.Common.{refl}
 use Rattle.bac_device.specs.{Kind.kind_of, Point.description_of, Inner.Demo.with_row}
 use Rattle.bac_device.proofs.demonstration.demo.Goals as goal

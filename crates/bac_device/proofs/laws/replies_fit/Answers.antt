@@ -1,3 +1,4 @@
+-- For one datagram, and then for a list of them, by induction.
 use Rattle.bac_device.proofs.SizeLaws.{reply_fits, replies_fit}
 use Rattle.bac_device.proofs.laws.replies_fit.Goals as goal
 

@@ -1,3 +1,4 @@
+-- Each way out of the loop ends the call that goes so far in another way.
 use Rattle.std.proofs.{Common.{arith, add-one, refl}, lemmas.Result.err_from_is_err_and}
 use Rattle.bac_links.{specs.Inner.Ending.ending_seen, proofs.CallTurns.{fails_so, shown_so, spent}}
 use Rattle.bac_links.proofs.call.run.Goals as goal
@@ -5,15 +6,15 @@ use Rattle.bac_links.proofs.call.run.Goals as goal
 pub returns-in_err-client-clause-told : goal.returns-in_err-client-clause-told
 returns-in_err-client-clause-told g c =
     let p = err_from_is_err_and c.from_residual.result c.from_residual.ensures.1 in
-    rw (p.1, p.2, c.in_err-client.ensures.err.0) (refl, c.in_err-client.ensures.err.1)
+    rw (p.1, p.2, c.in_err-client.ensures.err) (record { unprinted = refl; plays = c.in_err-client.ensures.over })
 
 pub returns-in_err-ending-clause-told : goal.returns-in_err-ending-clause-told
 returns-in_err-ending-clause-told g c =
     let p = err_from_is_err_and c.from_residual-in_err-ending.result c.from_residual-in_err-ending.ensures.1 in
     rw (p.1, p.2)
-    (fails_so c.args.purpose c.args.call.now g.W.Write.contents _ _ _ c.in_err-ending.ensures.err.0
+    (fails_so c.args.purpose c.args.call.now g.W.Write.contents _ _ _ c.in_err-ending.ensures.err
     c.loop-turn.invariant.unwritten
-    (c.in_err-ending.ensures.err.1 c.args.purpose c.args.call.now _ _ c.turn_wait-wait_ms.ensures
+    (c.in_err-ending.ensures.over c.args.purpose c.args.call.now _ _ c.turn_wait-wait_ms.ensures
     (rw c.most_turns-turn-end.ensures at c.loop-turn-test.true) c.loop-turn.invariant.so_far))
 
 pub returns-in-Some-clause-told : goal.returns-in-Some-clause-told
@@ -36,7 +37,7 @@ loop-turn-preserved g c = record {
 }
 
 pub returns-clause-told : goal.returns-clause-told
-returns-clause-told g c = (
-  c.loop-turn.invariant.unwritten,
-  spent c.loop-turn._turn (omega arith) c.loop-turn.invariant.so_far,
-)
+returns-clause-told g c = record {
+  unprinted = c.loop-turn.invariant.unwritten;
+  plays = spent c.loop-turn._turn (omega arith) c.loop-turn.invariant.so_far;
+}

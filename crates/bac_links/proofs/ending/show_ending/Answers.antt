@@ -1,3 +1,4 @@
+-- Where the page fails at its end, a front of the line went out.
 use Rattle.std.proofs.{Common.{rules, Ok, Err}, lemmas.Result.err_from_is_err_and}
 use Rattle.bac_print.proofs.{Printed.◌⨾◌, Shown.shown}
 use Rattle.bac_links.proofs.ending.show_ending.Goals as goal

@@ -1,3 +1,4 @@
+-- Whoever asks anything first but the time does not follow the moves of a call.
 use Rattle.std.proofs.Common.{◌≡◌, ◌≤◌, List, [], ◌∷◌, length, subst}
 use Rattle.bac_pdu.specs.Apdu.{longest_body}
 use Rattle.bac_links.{

@@ -1,3 +1,4 @@
+-- What came is told by the history, and the definition goes by what came.
 use Rattle.std.proofs.Common.{List, ◌∙◌, ap, sym, subst}
 use Rattle.bac_device.specs.Turns.{AreDefined}
 use Rattle.bac_links.{

@@ -1,3 +1,4 @@
+-- That the log has the calls for the history is an invariant of the link.
 use Rattle.std.proofs.Math.Logic.{∥∥₁_map}
 use Rattle.bac_links.proofs.laws.a_socket_logs_the_history.Goals as goal
 

@@ -1,3 +1,4 @@
+-- A call that asked nothing has not ended by its moves.
 use Rattle.bac_links.proofs.Unheard.{not_ended}
 use Rattle.bac_links.proofs.laws.no_call_ends_unheard.Goals as goal
 

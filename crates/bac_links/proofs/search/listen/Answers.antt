@@ -1,3 +1,4 @@
+-- What was heard is what the history gained, with the octets that the room holds now.
 use Rattle.std.proofs.{Common.refl, lemmas.{List.append-nil, Result.err_from_is_err_and}}
 use Rattle.bac_print.proofs.Known.{Took-none}
 use Rattle.bac_pdu.specs.Peer.{station}
@@ -6,36 +7,38 @@ use Rattle.bac_links.proofs.search.listen.Goals as goal
 
 pub returns-in_ok-show_found-in-Some-clause-told : goal.returns-in_ok-show_found-in-Some-clause-told
 returns-in_ok-show_found-in-Some-clause-told g c =
-    let gains = rw (c.in-Ok-Some.field-0-is, ← c.as_slice.ensures.value) at c.in-Ok-Some.ensures.told in (
-      Arrival (station c.in-Ok-Some.from) c.as_slice.result.now,
-      gains,
-      (λ q. cc),
-      rw (← c.in-Some.ensures) refl,
-      rw (← c.in-Some.ensures, append-nil) c.in_ok-show_found-in-Some.ensures.text,
-    )
+    let gains = rw (c.in-Ok-Some.field-0-is, ← c.as_slice.ensures.value) at c.in-Ok-Some.ensures.told in
+    record {
+      heard = Arrival (station c.in-Ok-Some.from) c.as_slice.result.now;
+      gains = gains;
+      received = λ q. cc;
+      any_is = rw (← c.in-Some.ensures) refl;
+      printed = rw (← c.in-Some.ensures, append-nil) c.in_ok-show_found-in-Some.ensures.text;
+    }
 
 pub returns-in_err-show_found-in-Some-clause-told : goal.returns-in_err-show_found-in-Some-clause-told
 returns-in_err-show_found-in-Some-clause-told g c =
     let p = err_from_is_err_and c.from_residual.result c.from_residual.ensures.1 in
     let gains = rw (c.in-Ok-Some.field-0-is, ← c.as_slice.ensures.value) at c.in-Ok-Some.ensures.told in
     let text = c.in_err-show_found-in-Some.ensures.text in
-    rw (p.1, p.2, c.in_err-show_found-in-Some.ensures.fault) (
-      Arrival (station c.in-Ok-Some.from) c.as_slice.result.now,
-      gains,
-      found_seen c.in-Some.found,
-      rw (← c.in-Some.ensures) refl,
-      text.0,
-      text.1,
-      text.2,
-      text.3,
-    )
+    rw (p.1, p.2, c.in_err-show_found-in-Some.ensures.fault) (record {
+      heard = Arrival (station c.in-Ok-Some.from) c.as_slice.result.now;
+      gains = gains;
+      last = found_seen c.in-Some.found;
+      finds = rw (← c.in-Some.ensures) refl;
+      taken = text.0;
+      rest = text.1;
+      line = text.2;
+      printed = text.3;
+    })
 
 pub returns-in-None-clause-told : goal.returns-in-None-clause-told
 returns-in-None-clause-told g c =
-    let gains = rw (c.in-Ok-Some.field-0-is, ← c.as_slice.ensures.value) at c.in-Ok-Some.ensures.told in (
-      Arrival (station c.in-Ok-Some.from) c.as_slice.result.now,
-      gains,
-      (λ q. cc),
-      rw (← c.in-None.ensures) refl,
-      rw (← c.in-None.ensures) (Took-none _),
-    )
+    let gains = rw (c.in-Ok-Some.field-0-is, ← c.as_slice.ensures.value) at c.in-Ok-Some.ensures.told in
+    record {
+      heard = Arrival (station c.in-Ok-Some.from) c.as_slice.result.now;
+      gains = gains;
+      received = λ q. cc;
+      any_is = rw (← c.in-None.ensures) refl;
+      printed = rw (← c.in-None.ensures) (Took-none _);
+    }

@@ -1,3 +1,4 @@
+-- The datagram always fits, since a Who-Is is short.
 use Rattle.std.proofs.{
   Common.{◌≡◌, ℕ, ◌<◌, ◌≤◌, List, ◌∷◌, [], ◌++◌, length, length-append, None, Result, Ok, Err, OnOk, OnErr, refl},
   Common.{arith, ap, ◌∙◌},

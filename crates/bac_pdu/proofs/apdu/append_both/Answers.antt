@@ -1,3 +1,4 @@
+-- A head and a body that are written whole or not at all.
 use Rattle.bac_wire.proofs.Writing.{front, stops_whole, then_appends}
 use Rattle.bac_pdu.proofs.apdu.append_both.Goals as goal
 

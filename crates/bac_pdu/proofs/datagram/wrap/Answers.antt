@@ -1,3 +1,4 @@
+-- The headers and then the APDU are the datagram that the definition takes apart.
 use Rattle.std.{proofs.Common.{List, ℕ, ◌++◌, refl, ap, ◌∙◌}, specs.Option.option_map}
 use Rattle.bac_pdu.proofs.DatagramLaws.{put_front_takes}
 use Rattle.bac_pdu.proofs.datagram.wrap.Goals as goal

@@ -1,3 +1,4 @@
+-- Headers put in front of an APDU are the datagram that the definition takes apart.
 use Rattle.std.proofs.Common.{◌∙◌}
 use Rattle.bac_pdu.proofs.DatagramLaws.{put_front_takes}
 use Rattle.bac_pdu.proofs.datagram.wrap_within.Goals as goal

@@ -1,3 +1,4 @@
+-- What was appended are the limits as they are known, whose spelling is shortest and reads back.
 use Rattle.std.proofs.lemmas.Result.{on_ok_weaker}
 use Rattle.bac_pdu.proofs.ShortestLaws.{limits_back, who_is_shortest}
 use Rattle.bac_pdu.proofs.discovery.write_whois.Goals as goal

@@ -1,3 +1,4 @@
+-- Two values that are written whole or not at all.
 use Rattle.std.proofs.{Common.{append-nil, arith}, lemmas.Result.on_ok_weaker}
 use Rattle.bac_wire.proofs.Writing.{front, stops_whole, then_appends, written_as}
 use Rattle.bac_pdu.proofs.ShortestLaws.{error_shortest, error_is_back}

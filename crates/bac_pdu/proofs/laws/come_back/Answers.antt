@@ -1,8 +1,6 @@
-use Rattle.bac_pdu.proofs.{
-  DatagramLaws.taken_carries,
-  ApduLaws.apdu_back,
-  ShortestLaws.{read_back, write_back, ack_back, who_is_back, introduction_back, error_back},
-}
+-- Each clause is the lemma of its file.
+use Rattle.bac_pdu.proofs.{DatagramLaws.taken_carries, ApduLaws.apdu_back}
+use Rattle.bac_pdu.proofs.ShortestLaws.{read_back, write_back, ack_back, who_is_back, introduction_back, error_back}
 use Rattle.bac_pdu.proofs.laws.come_back.Goals as goal
 
 pub returns : goal.returns

@@ -1,8 +1,7 @@
-use Rattle.std.{
-  proofs.Common.{◌≡◌, ℕ, true, eqb, Option, Some, None, refl, ap},
-  specs.{Prelude.◌↔◌, Option.option_eq, Cmp.Lexicographic.bytes_decides},
-  proofs.lemmas.{Bool.{and_parts, eqb-true, eq-eqb, false≢true}, Option.{none-some, same_Some}},
-}
+-- A derived `==` compares field by field; here all fields together are the value.
+use Rattle.std.{proofs.Common.{◌≡◌, ℕ, true, eqb, Option, Some, None, refl, ap}, specs.Prelude.◌↔◌}
+use Rattle.std.specs.{Option.option_eq, Cmp.Lexicographic.bytes_decides}
+use Rattle.std.proofs.lemmas.{Bool.{and_parts, eqb-true, eq-eqb, false≢true}, Option.{none-some, same_Some}}
 use Rattle.bac_pdu.proofs.PeerLaws.{peer_decides, route_decides}
 use Rattle.bac_pdu.proofs.laws.equals.Goals as goal
 

@@ -1,3 +1,4 @@
+-- Each clause is a lemma.
 use Rattle.bac_pdu.proofs.{DatagramLaws.{wrapped_takes, one_taken, count_wrapped}, AckLaws.ack_parts}
 use Rattle.bac_pdu.proofs.laws.wrapped_round.Goals as goal
 

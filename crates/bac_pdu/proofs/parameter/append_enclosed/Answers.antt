@@ -1,3 +1,4 @@
+-- Three appends, one after another: where one is full, the frame has a front of all.
 use Rattle.bac_wire.proofs.Writing.{front, stops, then_appends}
 use Rattle.bac_pdu.proofs.parameter.append_enclosed.Goals as goal
 

@@ -1,3 +1,4 @@
+-- Three parameters, one after another: where one is full, the frame has a front of all.
 use Rattle.std.proofs.lemmas.Result.{on_ok_weaker}
 use Rattle.bac_wire.proofs.Writing.{front, stops, then_appends, written_as}
 use Rattle.bac_pdu.{specs.Parameter.plain_parameter, proofs.ShortestLaws.{read_written, reference_known}}

@@ -1,3 +1,4 @@
+-- The texts are computed, so what is not open elsewhere is opened here.
 use Rattle.std.{proofs.Common.refl, specs.Fmt.digits}
 use Rattle.hex.specs.Hex.{encode_with}
 use Rattle.bac_wire.specs.{

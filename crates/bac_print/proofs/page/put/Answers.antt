@@ -1,3 +1,4 @@
+-- The octets that one write took stand behind those of the writes before it; a write that fails takes none.
 use Rattle.std.proofs.{Common.arith, lemmas.List.take_rest}
 use Rattle.bac_print.proofs.Known.{Sent_more, Sent_all, unread_more}
 use Rattle.bac_print.proofs.page.put.Goals as goal

@@ -1,3 +1,4 @@
+-- The digits are written from the last to the first, so a part of the number is behind those that are still to come.
 use Rattle.std.proofs.{
   Common.{◌≡◌, ℕ, ◌+◌, ◌-◌, ◌<◌, ◌≤◌, ◌^◌, ◌/◌, ◌%◌, List, ◌∷◌, ◌++◌, length, drop, decimal, sym, ◌∙◌, ap, arith},
   Common.{append_assoc, length-append},

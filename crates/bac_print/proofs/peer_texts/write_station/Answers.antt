@@ -1,3 +1,4 @@
+-- The parts are written from the last to the first, and their texts are joined otherwise than the definition says.
 use Rattle.std.proofs.{
   Common.{◌≡◌, ℕ, List, ◌∷◌, ◌++◌, get_or, decimal, sym, ◌∙◌, ap, append_assoc, append-nil, arith},
   Math.ListN.drop_of_length-le,

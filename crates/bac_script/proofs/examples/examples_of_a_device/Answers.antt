@@ -1,3 +1,4 @@
+-- The scripts are run by computation.
 use Rattle.std.proofs.Common.{refl}
 use Rattle.bac_script.proofs.Computed.{computed}
 use Rattle.bac_script.proofs.examples.examples_of_a_device.Goals as goal

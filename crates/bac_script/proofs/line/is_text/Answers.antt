@@ -1,3 +1,4 @@
+-- Where all octets are ASCII, no reading of UTF-8 is needed.
 use Rattle.std.proofs.{
   Common.{◌≡◌, ℕ, List, length, None, Result, Ok, Err, sym, ◌∙◌, arith, inl, inr, nat_lt, position, is_ok, MatchResult},
   Common.IsUtf8,

@@ -1,3 +1,4 @@
+-- A line is refused for the first of its faults.
 use Rattle.std.proofs.{Common.{◌≡◌, Option, Some, None, option_map, ap, refl, arith, ok_or}, lemmas.Grind.common_steps}
 use Rattle.bac_script.specs.{
   Line.{said_by, said_in},

@@ -1,3 +1,4 @@
+-- A request to write that is too long is seen by its words alone, since its body is never made.
 use Rattle.std.proofs.{
   Common.{◌≡◌, ℕ, true, List, [], ◌∷◌, length, Result, Ok, Err, IsTrue, refl, sym, ◌∙◌, ap, subst, arith, rules},
   Common.nat_lt,
@@ -10,7 +11,7 @@ use Rattle.bac_text.specs.Pairs.{whole_body_of}
 use Rattle.bac_print.proofs.Printed.{printed_as}
 use Rattle.bac_script.specs.{
   declared.{line.Line.Line, line.Line.TheVariants.LongWrite, long_write.LongWrite.LongWrite as Write},
-  Inner.{LineSeen.line_seen, LongBody.{octets_or_none, is_long}, Running.{Stage, Ran, Stands, ran}},
+  Inner.{LineSeen.line_seen, LongBody.{octets_or_none, is_long}, Running.{Stage, Turn, Stands, ran}},
   Text.notes_text,
 }
 use Rattle.bac_script.proofs.running.run_line.Goals as goal
@@ -30,10 +31,10 @@ long_refused stage _ write is =
 
 pub returns-in-LongWrite-clause-stage : goal.returns-in-LongWrite-clause-stage
 returns-in-LongWrite-clause-stage g c stage stands =
-    subst (λ (r : Ran). Stands r.after c.args.client.now c.args.device.now)
+    subst (λ (r : Turn). Stands r.after c.args.client.now c.args.device.now)
     (sym (long_refused stage c.args.line c.in-LongWrite.field-0 c.in-LongWrite.is)) stands
 
 pub returns-in-LongWrite-clause-text : goal.returns-in-LongWrite-clause-text
 returns-in-LongWrite-clause-text g c stage _ =
     printed_as c.print_refusal.ensures
-    (ap (λ (r : Ran). r.text) (sym (long_refused stage c.args.line c.in-LongWrite.field-0 c.in-LongWrite.is)))
+    (ap (λ (r : Turn). r.text) (sym (long_refused stage c.args.line c.in-LongWrite.field-0 c.in-LongWrite.is)))

@@ -1,3 +1,4 @@
+-- Each way out of the loop ends the run that stands so far in another way.
 use Rattle.std.proofs.Common.{◌≡◌, sym, ◌∙◌, ap, refl, arith, rules, length-drop, ◌&&◌, length-take-le}
 use denote.Enum.Bare.{same_true}
 use Rattle.bac_script.{

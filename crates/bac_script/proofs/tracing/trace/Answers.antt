@@ -1,3 +1,4 @@
+-- What is left on the page in the end goes out, or the run is cut off there.
 use Rattle.std.proofs.Common.{rules}
 use Rattle.bac_script.proofs.SoFar.{traces_all, traces_front}
 use Rattle.bac_script.proofs.tracing.trace.Goals as goal

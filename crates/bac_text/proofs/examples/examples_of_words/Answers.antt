@@ -1,3 +1,4 @@
+-- Each row computes once the definitions that read it are opened.
 use Rattle.std.{proofs.Common.refl, specs.Fmt.digits}
 use Rattle.hex.specs.Hex.{decode_pairs, encode_with}
 use Rattle.bac_text.specs.ValueWords.{value_under}

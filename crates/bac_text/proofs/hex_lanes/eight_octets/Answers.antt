@@ -1,3 +1,4 @@
+-- Each of the eight lanes is the octet of its two digits.
 use Rattle.std.proofs.{Common.{ℕ, [], ◌∷◌, get_or, refl}, lemmas.{List.FromFn.fill_by_all, Simd.length-chunk}}
 use lib.Lanes.{chunk}
 use Rattle.bac_text.{specs.Inner.HexLanes.octets_by_lanes, proofs.HexLanes.octet_is}

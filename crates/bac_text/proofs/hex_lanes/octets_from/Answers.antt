@@ -1,13 +1,9 @@
-use Rattle.std.{
-  proofs.Common.{◌≡◌, ℕ, ◌*◌, ◌%◌, ◌≤◌, length, Some, Ok, take, drop, refl, sym, ap, ◌∙◌, arith, take_all},
-  specs.Result.result_ok,
-  proofs.lemmas.Simd.length-put_chunk,
-}
+-- A load may go back over some octets; those before it and those of it are all that were read.
+use Rattle.std.proofs.Common.{◌≡◌, ℕ, ◌*◌, ◌%◌, ◌≤◌, length, Some, Ok, take, drop, refl, sym, ap, ◌∙◌, arith, take_all}
+use Rattle.std.{specs.Result.result_ok, proofs.lemmas.Simd.length-put_chunk}
 use Rattle.hex.{specs.Hex.decode_of, proofs.HexLemmas.decode_of-even}
-use Rattle.bac_text.{
-  specs.Inner.HexLanes.octets_by_lanes,
-  proofs.{Lanes.all_before, HexLanes.{read_on, digits_read, digits_refused}},
-}
+use Rattle.bac_text.{specs.Inner.HexLanes.octets_by_lanes, proofs.Lanes.all_before}
+use Rattle.bac_text.proofs.HexLanes.{read_on, digits_read, digits_refused}
 use Rattle.bac_text.proofs.hex_lanes.octets_from.Goals as goal
 
 pub loop-start-init : goal.loop-start-init

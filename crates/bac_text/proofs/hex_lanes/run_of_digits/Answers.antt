@@ -1,3 +1,4 @@
+-- A lane stops just where there is no digit.
 use Rattle.std.proofs.{Common.arith, lemmas.Simd.length-chunk}
 use lib.Lanes.{chunk}
 use Rattle.bac_text.proofs.{Lanes.run_in, HexLanes.{other_lanes, other_is}}

@@ -1,3 +1,4 @@
+-- Where the words end, what was read so far is the region of all pairs.
 use Rattle.std.proofs.Common.{ℕ, Bool, List, drop, subst, sym, ◌∙◌, ap}
 use Rattle.bac_text.proofs.PairLemmas.{Progress, pair_behind, progress-none, progress-empty}
 use Rattle.bac_text.proofs.pairs.read_pairs.Goals as goal

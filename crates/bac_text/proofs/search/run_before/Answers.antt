@@ -1,14 +1,10 @@
-use Rattle.std.proofs.{
-  Common.{ap, sym, ◌∙◌, subst},
-  lemmas.Simd.{zip2_splat, zip2_splat_left, zip2_of_maps, length-chunk},
-}
+-- What ends a piece, three ways: in each a lane stops just where the octet ends it.
+use Rattle.std.proofs.Common.{ap, sym, ◌∙◌, subst}
+use Rattle.std.proofs.lemmas.Simd.{zip2_splat, zip2_splat_left, zip2_of_maps, length-chunk}
 use lib.Lanes.{chunk}
-use Rattle.bac_text.{
-  specs.{Search.ends_at, Inner.Search.{first_set, IsRunIn}, declared.search.End.End},
-  proofs.Lanes.{run_in, lane_is, lanes_are},
-}
+use Rattle.bac_text.specs.{Search.ends_at, Inner.Search.{first_set, IsRunIn}, declared.search.End.End}
+use Rattle.bac_text.proofs.{Lanes.{run_in, lane_is, lanes_are}, search.run_before.Goals.{in-Blank, in-At, in-PastAscii}}
 use Rattle.bac_text.proofs.search.run_before.Goals as goal
-use Rattle.bac_text.proofs.search.run_before.Goals.{in-Blank, in-At, in-PastAscii}
 
 pub returns : goal.returns
 returns g c =

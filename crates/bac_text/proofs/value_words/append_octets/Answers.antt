@@ -1,9 +1,10 @@
+-- An odd number of digits, others than digits, too many: in each case the definition refuses as well.
 use Rattle.std.proofs.Common.{sym, ◌∙◌, arith, refl}
 use Rattle.hex.proofs.HexLemmas.{decode_of-odd}
 use Rattle.bac_text.proofs.{HexText.others_refused, WordValues.{octets-decoded, octets-long}}
-use Rattle.bac_text.proofs.value_words.append_octets.Goals as goal
 use Rattle.bac_text.proofs.value_words.append_octets.Goals.{then-digits-eq1-via-then-digits-eq1}
 use Rattle.bac_text.proofs.value_words.append_octets.Goals.{then-digits-eq1-via-else-digits-eq1+then-not-is_hex}
+use Rattle.bac_text.proofs.value_words.append_octets.Goals as goal
 
 pub returns-then-digits-eq1-clause-value : goal.returns-then-digits-eq1-clause-value
 returns-then-digits-eq1-clause-value c =

@@ -1,13 +1,9 @@
-use Rattle.std.proofs.{
-  Common.{◌≡◌, ℕ, ◌<◌, true, List, length, take, get_or, sym, ◌∙◌, subst, arith, ◌-◌, drop},
-  lemmas.{Bool.not-false, List.take_rest},
-}
-use Rattle.bac_text.{
-  specs.{Words.is_blank, Inner.Words.IsFirstNumber},
-  proofs.FirstNumbers.first_number_is,
-}
-use Rattle.bac_text.proofs.words.first_number.Goals as goal
+-- The digits end at the text's end or at a blank, so they are its first word.
+use Rattle.std.proofs.Common.{◌≡◌, ℕ, ◌<◌, true, List, length, take, get_or, sym, ◌∙◌, subst, arith, ◌-◌, drop}
+use Rattle.std.proofs.lemmas.{Bool.not-false, List.take_rest}
+use Rattle.bac_text.{specs.Words.is_blank, specs.Inner.Words.IsFirstNumber, proofs.FirstNumbers.first_number_is}
 use Rattle.bac_text.proofs.words.first_number.Goals.{then-count-text, else-count-text}
+use Rattle.bac_text.proofs.words.first_number.Goals as goal
 
 pub returns : goal.returns
 returns c =

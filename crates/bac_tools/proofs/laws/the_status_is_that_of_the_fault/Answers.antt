@@ -1,5 +1,8 @@
-use Rattle.bac_tools.proofs.Statuses.{program_status}
+use Rattle.bac_tools.proofs.Statuses.{program_status, run_status}
 use Rattle.bac_tools.proofs.laws.the_status_is_that_of_the_fault.Goals as goal
 
-pub returns : goal.returns
-returns g c = program_status _ _
+pub returns-clause-run : goal.returns-clause-run
+returns-clause-run g c = run_status _ _ _
+
+pub returns-clause-words : goal.returns-clause-words
+returns-clause-words g c = program_status _ _

@@ -1,7 +1,6 @@
-use Rattle.std.proofs.{
-  Common.{sym, ap, ◌∙◌, nat_eq, position, eqb-true},
-  lemmas.{Option.none-some, List.Quantifiers.position-Some},
-}
+-- That the slot was there says that the search finds a rank, and that at this rank the slot stands.
+use Rattle.std.proofs.{Common.{sym, ap, ◌∙◌, nat_eq, position, eqb-true}, lemmas.Option.none-some}
+use Rattle.std.proofs.lemmas.List.Quantifiers.{position-Some}
 use Rattle.bac_tsm.proofs.TableReads.{found_at}
 use Rattle.bac_tsm.proofs.table.take_out.Goals as goal
 

@@ -1,3 +1,4 @@
+-- The two directions are lemmas; no tactic takes an equivalence apart.
 use Rattle.bac_tsm.proofs.AnswersInWords.{answers, answered}
 use Rattle.bac_tsm.proofs.theorems.answers_in_words.Goals as goal
 

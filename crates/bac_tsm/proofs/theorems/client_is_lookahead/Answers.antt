@@ -1,3 +1,4 @@
+-- The law of any rules, whose two premises hold of a client.
 use Rattle.bac_tsm.{specs.Client.client_rules, proofs.{AnswersInWords.{by_number, few_open}, WholeRun.is_lookahead}}
 use Rattle.bac_tsm.proofs.theorems.client_is_lookahead.Goals as goal
 

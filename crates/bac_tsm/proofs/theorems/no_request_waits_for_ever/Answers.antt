@@ -1,3 +1,4 @@
+-- The two halves are inductions over the ticks that pass; here they begin at none.
 use Rattle.std.proofs.Common.{zero, suc, length, refl, arith}
 use Rattle.bac_tsm.{proofs.Progress.{due_in_turn, ends_in_turn}, specs.Progress.last_of}
 use Rattle.bac_tsm.proofs.theorems.no_request_waits_for_ever.Goals as goal

@@ -1,3 +1,4 @@
+-- The law is a lemma.
 use Rattle.bac_tsm.proofs.WholeRun.{is_lookahead}
 use Rattle.bac_tsm.proofs.theorems.run_is_lookahead.Goals as goal
 

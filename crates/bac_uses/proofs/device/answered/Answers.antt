@@ -1,16 +1,18 @@
 use Rattle.std.proofs.Common.{[], ◌∷◌, refl, sym, ◌∙◌}
-use Rattle.bac_device.proofs.StateLaws.{next_writes, present_now}
+use Rattle.bac_device.proofs.{StateLaws.present_now, Answering.next_after}
 use Rattle.bac_uses.specs.Heating.{heating, valve}
 use Rattle.bac_uses.proofs.device.answered.Goals as goal
 
 pub unwrap-valve-requires : goal.unwrap-valve-requires
 unwrap-valve-requires c =
-    let made = next_writes heating (valve ∷ []) [] _ _ c.one_valve-device.ensures c.answer-to.ensures.after in
+    let written = rw c.one_valve-device.ensures at c.answer-to.ensures.written in
+    let made = written ∙ next_after heating (valve ∷ []) [] _ _ in
     let object = rw c.unwrap.ensures at c.new.ensures.value in
     rw (present_now heating (valve ∷ []) _ made c.present.ensures.after object) refl
 
 pub returns-clause-valve : goal.returns-clause-valve
 returns-clause-valve c =
-    let made = next_writes heating (valve ∷ []) [] _ _ c.one_valve-device.ensures c.answer-to.ensures.after in
+    let written = rw c.one_valve-device.ensures at c.answer-to.ensures.written in
+    let made = written ∙ next_after heating (valve ∷ []) [] _ _ in
     let object = rw c.unwrap.ensures at c.new.ensures.value in
     sym c.unwrap-valve.ensures ∙ present_now heating (valve ∷ []) _ made c.present.ensures.after object

@@ -9,6 +9,6 @@ returns-in-Ok g c = λ below.
     let left = c.run_read.new.link in
     rw c.status.ensures
     (line_of Reading c.args.call.now g.W.Write.contents _ _
-    (account_over link.refused link.made_of.value.log.calls link.history.entries)
-    (account_over left.refused left.made_of.value.log.calls left.history.entries) _ c.run_read.ensures.told
+    (account_over link.refused link.made_of.value.log.items link.history.items)
+    (account_over left.refused left.made_of.value.log.items left.history.items) _ c.run_read.ensures.told
     (rw c.status.ensures at below))

@@ -1,7 +1,5 @@
-use Rattle.bac_wire.proofs.{
-  ParameterLaws.{context_reader, number_reader, object_reader, enclosed_reader, number_spells, object_spells},
-  ParameterLaws.enclosed_spells,
-}
+use Rattle.bac_wire.proofs.ParameterLaws.{context_reader, number_reader, object_reader, enclosed_reader, number_spells}
+use Rattle.bac_wire.proofs.ParameterLaws.{object_spells, enclosed_spells}
 use Rattle.bac_wire.proofs.laws.parameters.Goals as goal
 
 pub returns : goal.returns

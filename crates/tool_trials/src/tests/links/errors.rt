@@ -60,17 +60,17 @@ fn put(octets: &[u8], room: &mut [u8]) -> usize
 }
 
 impl Socket for Failing<'_> {
-    ghost log = { λ socket. socket.log.calls };
+    ghost log = { λ socket. socket.log.items };
 
     fn set_read_timeout(&mut self, limit: Duration) -> io::Result<()> {
         let done = self.unless_failing(Asked::Limit, ());
-        self.log = self.log.and(&CallNote::Limit(limit, &done));
+        self.log.push(&CallNote::Limit(limit, &done));
         done
     }
 
     fn send_to(&mut self, octets: &[u8], to: SocketAddr) -> io::Result<usize> {
         let sent = self.unless_failing(Asked::Send, octets.len());
-        self.log = self.log.and(&CallNote::SendTo(octets, to, &sent));
+        self.log.push(&CallNote::SendTo(octets, to, &sent));
         sent
     }
 
@@ -83,13 +83,13 @@ impl Socket for Failing<'_> {
         if came.is_err() {
             self.passed = self.passed.saturating_add(Duration::from_millis(50));
         }
-        self.log = self.log.and(&CallNote::Receive(room, &came));
+        self.log.push(&CallNote::Receive(room, &came));
         came
     }
 
     fn elapsed(&mut self) -> io::Result<Duration> {
         let passed = self.unless_failing(Asked::Time, self.passed);
-        self.log = self.log.and(&CallNote::Elapsed(&passed));
+        self.log.push(&CallNote::Elapsed(&passed));
         passed
     }
 }

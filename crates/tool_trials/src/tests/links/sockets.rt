@@ -49,9 +49,9 @@ fn times_out<L: Link>(desk: &mut L, field: &mut L) -> Result<bool, LinkFault>
 
 #[test]
 fn two_sockets(rt: HostRuntime) -> Result<(), Fail> {
-    let mut field = UdpLink::bind(&rt, rt.alloc(), CONTROLLER)?;
-    let mut desk = UdpLink::bind(&rt, rt.alloc(), OTHER)?;
-    assert!(rt; UdpLink::bind(&rt, rt.alloc(), OTHER).is_err());
+    let mut field = UdpLink::bind_with(&rt, rt.alloc(), CONTROLLER, Refused::Fails)?;
+    let mut desk = UdpLink::bind_with(&rt, rt.alloc(), OTHER, Refused::Fails)?;
+    assert!(rt; UdpLink::bind_with(&rt, rt.alloc(), OTHER, Refused::Fails).is_err());
     assert!(rt; times_out(&mut desk, &mut field)?);
     Ok(())
 }
@@ -109,8 +109,8 @@ fn long_datagrams(rt: HostRuntime) -> Result<(), Fail> {
         port: 47_811,
         ..CONTROLLER
     };
-    let mut near = UdpLink::bind(&rt, rt.alloc(), here)?;
-    let mut far = UdpLink::bind(&rt, rt.alloc(), there)?;
+    let mut near = UdpLink::bind_with(&rt, rt.alloc(), here, Refused::Fails)?;
+    let mut far = UdpLink::bind_with(&rt, rt.alloc(), there, Refused::Fails)?;
     assert!(rt; carries_up_to_the_longest(&mut near, &mut far, (here, there))?);
     assert!(rt; carries_up_to_the_longest(&mut far, &mut near, (there, here))?);
     Ok(())
@@ -127,8 +127,8 @@ fn one_port_of_two_addresses(rt: HostRuntime) -> Result<(), Fail> {
         ip: 0x7f00_0002,
         ..here
     };
-    let mut near = UdpLink::bind(&rt, rt.alloc(), here)?;
-    let mut far = UdpLink::bind(&rt, rt.alloc(), there)?;
+    let mut near = UdpLink::bind_with(&rt, rt.alloc(), here, Refused::Fails)?;
+    let mut far = UdpLink::bind_with(&rt, rt.alloc(), there, Refused::Fails)?;
     assert!(rt; carries(&mut near, &mut far, (here, there), ASK)?);
     Ok(())
 }
@@ -202,13 +202,14 @@ fn time_of_a_socket(rt: HostRuntime) -> Result<(), Fail> {
         net: &rt,
         told: &told,
     };
-    let mut link = UdpLink::bind(
+    let mut link = UdpLink::bind_with(
         &timed,
         rt.alloc(),
         Peer {
             port: 47_816,
             ..CONTROLLER
         },
+        Refused::Fails,
     )?;
     assert!(rt; link.now() == 0);
     for (time, now) in &TIMES {
@@ -269,17 +270,18 @@ fn refused_replies_are_lost(rt: HostRuntime) -> Result<(), Fail> {
         ..CONTROLLER
     };
     let mut device = small_device().ok_or("no device")?;
-    let mut desk = UdpLink::bind(
+    let mut desk = UdpLink::bind_with(
         &rt,
         rt.alloc(),
         Peer {
             port: 47_812,
             ..CONTROLLER
         },
+        Refused::Fails,
     )?;
     let mut field = UdpLink::bind_with(&rt, rt.alloc(), server, Refused::IsLost)?;
     assert!(rt; goes_on(&mut desk, &mut field, &mut device, server)?);
-    let mut brittle = UdpLink::bind(&rt, rt.alloc(), strict)?;
+    let mut brittle = UdpLink::bind_with(&rt, rt.alloc(), strict, Refused::Fails)?;
     assert!(rt; is_stopped(&mut desk, &mut brittle, &mut device, strict)?);
     Ok(())
 }

@@ -41,7 +41,7 @@ static WRITES: [(&str, &str); 13] = [
 
 /// Whether the words of a line ask for a request to 127.0.0.1 at the port 47808, with the usual settings and this body.
 fn asks(alloc: Global, line: &str, body: &str) -> bool {
-    let Ok(Job::Read(call) | Job::Write(call)) = parse(alloc, line) else {
+    let Ok(Job::Over(Tool::Read(call) | Tool::Write(call))) = parse(alloc, line) else {
         return false;
     };
     let is_usual = call.to == CONTROLLER
@@ -79,7 +79,7 @@ fn body_len(alloc: Global, count: usize) -> Result<usize, Fail> {
         words.push("41a00000")?;
     }
     match parse_words(alloc, words.as_slice())? {
-        Job::Write(call) => Ok(call.body.len()),
+        Job::Over(Tool::Write(call)) => Ok(call.body.len()),
         _ => Ok(0),
     }
 }
@@ -93,7 +93,7 @@ fn the_longest_body(rt: HostRuntime) -> Result<(), Fail> {
 
 /// Whether the words ask for a request to 127.0.0.1:1 with the settings of the options.
 fn has_settings(alloc: Global, line: &str) -> bool {
-    let Ok(Job::Read(call) | Job::Write(call)) = parse(alloc, line) else {
+    let Ok(Job::Over(Tool::Read(call) | Tool::Write(call))) = parse(alloc, line) else {
         return false;
     };
     let is_to = call.to.ip == LOCALHOST && call.to.port == 1;

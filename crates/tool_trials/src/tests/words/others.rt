@@ -19,7 +19,7 @@ const SET: &str = "bactool bacwi --mac 127.0.0.1 --apdu-timeout 60000 --port 478
 
 /// Whether the words ask for a search at 127.0.0.1 for these devices, with this timeout and port.
 fn searches(alloc: Global, line: &str, limits: Option<(u32, u32)>, set: (u32, u16)) -> bool {
-    let Ok(Job::WhoIs(search)) = parse(alloc, line) else {
+    let Ok(Job::Over(Tool::WhoIs(search))) = parse(alloc, line) else {
         return false;
     };
     let who = match limits {
@@ -40,7 +40,7 @@ fn searches_for_devices(rt: HostRuntime) {
 
 /// Whether the words ask for a device at this port, for so many datagrams, which answers a Who-Is for 1000 to 1234 so.
 fn plays(alloc: Global, line: &str, set: (u16, u32), digits: &str) -> bool {
-    let Ok(Job::Device(serve)) = parse(alloc, line) else {
+    let Ok(Job::Over(Tool::Device(serve))) = parse(alloc, line) else {
         return false;
     };
     let is_set = (serve.port, serve.count) == set;

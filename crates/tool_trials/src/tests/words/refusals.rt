@@ -6,7 +6,12 @@ use super::*;
 fn memory_is_told(rt: HostRuntime) {
     let line = "bactool bacwp 1234 2 2 85 16 -1 3 -5 --mac 127.0.0.1";
     let answer = parse(rt.alloc(), line);
-    assert!(rt; matches!(answer, Ok(Job::Write(_)) | Err(UsageFault::Memory)));
+    assert!(rt;
+        matches!(
+            answer,
+            Ok(Job::Over(Tool::Write(_))) | Err(UsageFault::Memory)
+        )
+    );
     let refused = parse(rt.alloc(), "bactool bacrp x");
     assert!(rt; matches!(refused, Err(UsageFault::Words(_) | UsageFault::Memory)));
 }

@@ -1,13 +1,10 @@
+-- The code looks for the point first, and the definition for the property.
 use Rattle.std.proofs.Common.{◌≡◌, ℕ, Option, Some, None, Result, Ok, Err, refl, sym, is_some, if◌then◌else◌, ◌&&◌, not}
 use Rattle.bac_wire.specs.Datum.{Datum}
 use Rattle.bac_pdu.specs.Property.{Order, order}
-use Rattle.bac_device.specs.{
-  declared.failure.{Failure.Failure, Failure.TheVariants.NotAnArray},
-  Property.single,
-  Places.Standing,
-  Device.DeviceState,
-  Access.{property_of, commanded_point, ordered_write, accepted_write},
-}
+use Rattle.bac_device.specs.declared.failure.Failure.{Failure, TheVariants.NotAnArray}
+use Rattle.bac_device.specs.{Property.single, Places.Standing, Device.DeviceState}
+use Rattle.bac_device.specs.Access.{property_of, commanded_point, ordered_write, accepted_write}
 use Rattle.bac_device.proofs.device.Device.accepted_write.Goals as goal
 
 -- An index stands at no single value.
@@ -26,6 +23,7 @@ unfolding accepted_write
 accepted_at _ o standing value found property =
     rw (property, found) (no_index value o.reference.index (ordered_write standing o))
 
+-- An index of a present value, which is no array.
 pub returns-then-is_some-2 : goal.returns-then-is_some-2
 returns-then-is_some-2 c =
     rw (

@@ -1,3 +1,4 @@
+-- The point is a new one, so no write that the device holds is to it.
 use Rattle.bac_device.{specs.Point.given, proofs.StateLaws.added_held}
 use Rattle.bac_device.proofs.device.Device.add.Goals as goal
 

@@ -1,3 +1,4 @@
+-- The steps that were played are those of the history, which gains an entry.
 use Rattle.std.proofs.Common.{arith, refl}
 use Rattle.std.proofs.Math.Logic.{∥∥₁_map}
 use Rattle.std.proofs.lemmas.List.{length-map}
@@ -6,11 +7,11 @@ use Rattle.bac_links.proofs.memory.MemoryLinkLink.receive.Goals as goal
 
 pub invariant_of-self : goal.invariant_of-self
 invariant_of-self g c =
-    let heard = rw c.deref.ensures.value at c.hear-heard.ensures.heard in
-    let time = rw c.deref.ensures.value at c.hear-heard.ensures.time in
+    let heard = rw (c.step_at-step.ensures, c.deref.ensures.value) at c.play-heard.ensures.heard in
+    let time = rw (c.step_at-step.ensures, c.deref.ensures.value) at c.play-heard.ensures.time in
     record {
       stands = ∥∥₁_map c.args.self.now.stands
-          (λ s. rw c.and_wait-self.ensures
+          (λ s. rw c.push.ensures
           (stands_waited _ _ _ _ _ s _ c.args.wait_ms _ _ _ refl heard time (rw length-map (omega arith)) (omega arith)
           c.saturating_add-self.ensures));
     }

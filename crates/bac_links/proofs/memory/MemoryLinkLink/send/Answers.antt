@@ -1,3 +1,4 @@
+-- The steps that were played are those of the history, which gains an entry.
 use Rattle.std.proofs.Math.Logic.{∥∥₁_map}
 use Rattle.std.proofs.lemmas.List.{length-map}
 use Rattle.bac_pdu.specs.Peer.{station}
@@ -9,7 +10,7 @@ invariant_of-self g c =
     let kept = c.keep_sent-sent in
     record {
       stands = ∥∥₁_map c.args.self.now.stands
-          (λ s. rw c.and_send-self.ensures
+          (λ s. rw c.push.ensures
           (stands_sent _ _ _ _ _ s kept.result (station c.args.to) c.args.octets.now _ kept.ensures.ok
           kept.ensures.err));
     }

@@ -1,3 +1,4 @@
+-- The log grows by the calls for what the history gains.
 use Rattle.std.proofs.Common.{refl}
 use Rattle.std.proofs.Math.Logic.{∥∥₁_map}
 use Rattle.bac_links.proofs.Logged.{keeps_timed}
@@ -7,6 +8,9 @@ pub invariant_of-self : goal.invariant_of-self
 invariant_of-self g c = record {
   room = c.args.self.now.room;
   keeps = ∥∥₁_map c.args.self.now.keeps
-      (λ k. rw c.and_time-self.ensures (keeps_timed _ _ _ _ _ _ _ k _ _
-      (_, c.elapsed.ensures, (_, c.time_by-self.ensures, refl))));
+      (λ k. rw c.push.ensures (keeps_timed _ _ _ _ _ _ _ k _ _ (record {
+        calls = _;
+        logged = c.elapsed.ensures;
+        are = record { passed = _; time = c.time_by-self.ensures; asked = refl };
+      })));
 }

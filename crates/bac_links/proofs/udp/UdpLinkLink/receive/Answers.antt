@@ -1,3 +1,4 @@
+-- The log grows by the calls for what the history gains.
 use Rattle.std.proofs.Math.Logic.{∥∥₁_map}
 use Rattle.bac_links.proofs.Logged.{keeps_waited}
 use Rattle.bac_links.proofs.udp.UdpLinkLink.receive.Goals as goal
@@ -8,7 +9,7 @@ invariant_of-self g c =
     record {
       room = c.args.self.now.room;
       keeps = ∥∥₁_map c.args.self.now.keeps
-          (λ k. rw c.and_wait-self.ensures
+          (λ k. rw c.push.ensures
           (keeps_waited _ _ _ _ _ _ _ k c.requires heard.result c.args.wait_ms _ _ _ _ heard.ensures.asked
           heard.ensures.limited c.is_err-self.ensures.value));
     }

@@ -1,3 +1,4 @@
+-- The log grows by the calls for what the history gains.
 use Rattle.std.proofs.Math.Logic.{∥∥₁_map}
 use Rattle.bac_pdu.specs.Peer.{station}
 use Rattle.bac_links.proofs.Logged.{keeps_sent}
@@ -7,7 +8,7 @@ pub invariant_of-self : goal.invariant_of-self
 invariant_of-self g c = record {
   room = c.args.self.now.room;
   keeps = ∥∥₁_map c.args.self.now.keeps
-      (λ k. rw c.and_send-self.ensures
+      (λ k. rw c.push.ensures
       (keeps_sent _ _ _ _ _ _ _ k c.requires c.post-sent.result (station c.args.to) c.args.octets.now _ _
       c.post-sent.ensures.asked));
 }

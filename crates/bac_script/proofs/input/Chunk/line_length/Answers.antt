@@ -1,3 +1,4 @@
+-- What is searched is a part of the chunk, and its positions are not those of what is held.
 use Rattle.std.proofs.Common.{sym, ◌∙◌, arith}
 use Rattle.bac_script.proofs.Chunks.{range_size, cut_behind, none_held, cut_as_long}
 use Rattle.bac_script.proofs.input.Chunk.line_length.Goals as goal

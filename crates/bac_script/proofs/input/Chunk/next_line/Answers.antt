@@ -1,3 +1,4 @@
+-- Several reads may be made for one line, and each is needed: none of them found a whole line held.
 use Rattle.std.proofs.Common.{◌≡◌, ◌<◌, length, List, ℕ, arith, refl, sym, subst, rules}
 use Rattle.bac_script.{
   specs.{Inner.Feeds.HasNoFeed, Inner.Limits.line_room, declared.input.Reading.TheVariants.Open},
@@ -29,12 +30,13 @@ loop-length-preserved g c =
       asked = grind arith;
       needed = read_for_line c.loop-length.invariant.given c.loop-length.invariant.printed c.turn_in.ensures.printed
           c.turn_in.ensures.empty (search rules) c.loop-length.invariant.needed
-          c.loop-length.invariant.asked c.in_default.ensures.line.0 c.in_default.ensures.line.1
+          c.loop-length.invariant.asked c.in_default.ensures.line.no_feed c.in_default.ensures.line.short
           c.read_more-reading.ensures.last c.read_more-reading.ensures.once;
       spared = grind arith;
       room = grind arith;
       searched = rw c.in_default.ensures.searched
-          (searched_on _ c.in_default.ensures.line.0 c.in_default.ensures.line.1 c.read_more-reading.ensures.last);
+          (searched_on _ c.in_default.ensures.line.no_feed c.in_default.ensures.line.short
+          c.read_more-reading.ensures.last);
     }
 
 pub returns-then-failed-clause-printed : goal.returns-then-failed-clause-printed
@@ -43,11 +45,14 @@ returns-then-failed-clause-printed g c = c.loop-length.invariant.printed ⨾ c.t
 pub returns-then-ne-clause-printed : goal.returns-then-ne-clause-printed
 returns-then-ne-clause-printed g c = c.loop-length.invariant.printed ⨾ c.turn_in.ensures.printed
 
+pub returns-then-ne-clause-given : goal.returns-then-ne-clause-given
+returns-then-ne-clause-given g c = Takes-more c.loop-length.invariant.given c.read_more-reading.ensures.given
+
 pub returns-then-ne-clause-next : goal.returns-then-ne-clause-next
 returns-then-ne-clause-next g c =
     let over : c.read_more-reading.result ≡ Open → ⊥ = grind arith in
     let same = sym (c.read_more-reading.ensures.same over) in
     next_at_end c.loop-length.reader c.read_more-reading.result over c.len-length.ensures
-    (subst HasNoFeed same c.in_default.ensures.line.0)
-    (subst (λ (xs : List ℕ). length xs < line_room) same c.in_default.ensures.line.1) c.loop-length.invariant.unended
-    c.read_more-reading.ensures.stands
+    (subst HasNoFeed same c.in_default.ensures.line.no_feed)
+    (subst (λ (xs : List ℕ). length xs < line_room) same c.in_default.ensures.line.short)
+    c.loop-length.invariant.unended c.read_more-reading.ensures.stands

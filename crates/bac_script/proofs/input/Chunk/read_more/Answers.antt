@@ -1,3 +1,4 @@
+-- The chunk is read into behind what is held, which may have been moved to the front before.
 use Rattle.std.proofs.Common.{◌∙◌, ap, inr, take, arith}
 use Rattle.bac_script.proofs.{
   Chunks.{Placed, placed_moved, still_held, read_on, read_none, read_ended, last_on, last_none},

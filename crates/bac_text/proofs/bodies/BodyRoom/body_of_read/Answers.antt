@@ -1,3 +1,4 @@
+-- A ReadProperty takes at most 45 octets, so there is room for it.
 use Rattle.std.proofs.Common.{◌≡◌, ℕ, ◌≤◌, List, [], ◌++◌, length, Result, Ok, Err, ap, ◌∙◌, arith}
 use Rattle.bac_wire.specs.Writing.{Appends}
 use Rattle.bac_pdu.{specs.Property.{reference, read_octets}, proofs.LengthLaws.read_octets_short}

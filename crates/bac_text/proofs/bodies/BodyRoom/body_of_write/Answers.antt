@@ -1,3 +1,4 @@
+-- The pairs are a region of values, as the writer of the request requires, or their fault is the body's.
 use Rattle.std.proofs.{Common.{sym, subst}, lemmas.Result.err_from_is_err_and}
 use Rattle.bac_wire.specs.Region.{IsRegion}
 use Rattle.bac_text.proofs.{BodiesInWords.region_written, ValueRegions.values_are_region, WriteBodies.body-fault}

@@ -1,40 +1,40 @@
+-- The entry of an invoke id leads to the one request that an answer may be to, or to none.
 use Rattle.std.proofs.Common.{sym, ◌∙◌, arith}
-use Rattle.bac_tsm.{
-  specs.Inner.Seen.answer_seen,
-  proofs.TableReads.{named_below, closed_none, closed_not, closed_some_turn, closed_that},
-}
+use Rattle.bac_tsm.specs.Inner.Seen.{answer_seen}
+use Rattle.bac_tsm.proofs.TableReads.{named_below, closed_none, closed_not, closed_some_turn, closed_that}
 use Rattle.bac_tsm.proofs.table.Table.close.Goals as goal
 
 pub returns-in_err-slot : goal.returns-in_err-slot
 returns-in_err-slot c =
-    let both = closed_none c.self.invariant.0 (answer_seen c.args.answer.now) c.from.result c.from.ensures (omega arith)
-    _ c.self.view_is c.in_err-slot.was in
-    rw c.from_residual.ensures (record { told = both.0; others = both.1 })
+    let both =
+    closed_none c.self.invariant.table (answer_seen c.args.answer.now) c.from.result c.from.ensures (omega arith) _
+    c.self.view_is c.in_err-slot.was in
+    rw c.from_residual.ensures (record { told = both.told; others = both.others })
 
 pub held-request-requires : goal.held-request-requires
 held-request-requires c =
-    named_below c.self.invariant.0 (answer_seen c.args.answer.now) c.from.result c.from.ensures (omega arith) _
+    named_below c.self.invariant.table (answer_seen c.args.answer.now) c.from.result c.from.ensures (omega arith) _
     c.self.view_is c.in_ok-slot.slot c.in_ok-slot.was
 
 pub returns-then-not-is_answered_by : goal.returns-then-not-is_answered_by
 returns-then-not-is_answered_by c =
     let both =
-    closed_not c.self.invariant.0 (answer_seen c.args.answer.now) c.from.result c.from.ensures (omega arith) _
+    closed_not c.self.invariant.table (answer_seen c.args.answer.now) c.from.result c.from.ensures (omega arith) _
     c.self.view_is c.in_ok-slot.slot c.in_ok-slot.was
     _ c.held-request.ensures (sym c.is_answered_by.ensures ∙ c.if-not-is_answered_by.true) in
-    record { told = both.0; others = both.1 }
+    record { told = both.told; others = both.others }
 
 pub returns-in_err-rank : goal.returns-in_err-rank
 returns-in_err-rank c =
-    absurd (closed_some_turn c.self.invariant.0 (answer_seen c.args.answer.now) c.from.result c.from.ensures
+    absurd (closed_some_turn c.self.invariant.table (answer_seen c.args.answer.now) c.from.result c.from.ensures
     (omega arith) _ c.self.view_is c.in_ok-slot.slot c.in_ok-slot.was _ c.held-request.ensures _ c.ticket-ticket.ensures
     (rw c.in_err-rank.was at c.rank_of.ensures))
 
 pub returns : goal.returns
 returns c =
     let both =
-    closed_that c.self.invariant.0 (answer_seen c.args.answer.now) c.from.result c.from.ensures (omega arith) _
+    closed_that c.self.invariant.table (answer_seen c.args.answer.now) c.from.result c.from.ensures (omega arith) _
     c.self.view_is c.in_ok-slot.slot c.in_ok-slot.was
     _ c.held-request.ensures _ c.ticket-ticket.ensures (sym c.is_answered_by.ensures ∙ c.if-not-is_answered_by.false)
     c.in_ok-rank.rank (rw c.in_ok-rank.was at c.rank_of.ensures) _ c.end.ensures in
-    record { told = both.0; others = both.1 }
+    record { told = both.told; others = both.others }

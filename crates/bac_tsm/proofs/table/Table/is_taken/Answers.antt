@@ -1,7 +1,8 @@
+-- The entry of an invoke id says whether an open request has it, which is an invariant of the table.
 use Rattle.std.proofs.Common.{◌∙◌}
 use Rattle.bac_tsm.proofs.TableReads.{taken}
 use Rattle.bac_tsm.proofs.table.Table.is_taken.Goals as goal
 
 pub returns : goal.returns
 returns c = c.is_some.ensures
-    ∙ taken c.self.invariant.0 c.args.number c.ranges.number.fits _ c.from.ensures _ c.self.view_is
+    ∙ taken c.self.invariant.table c.args.number c.ranges.number.fits _ c.from.ensures _ c.self.view_is

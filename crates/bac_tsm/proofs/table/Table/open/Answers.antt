@@ -1,3 +1,4 @@
+-- One request more keeps the invariant: its slot was free, its ticket is the greatest, it was sent last.
 use Rattle.std.proofs.Common.{arith}
 use Rattle.bac_tsm.proofs.{TableReads.{as_many, count, next_free}, TableEdits.opened_by}
 use Rattle.bac_tsm.proofs.table.Table.open.Goals as goal
@@ -10,15 +11,14 @@ put_last-requires = grind (arith, as_many, count)
 
 pub invariant_of-self : goal.invariant_of-self
 invariant_of-self c =
-    let all =
-    opened_by c.self.invariant.0 _ c.self.view_is _ c.self.invariant.1 c.requires.room _ c.deref.ensures.0 c.len.result
-    c.len.ensures.value c.args.asked c.args.body.now
+    (opened_by c.self.invariant.table _ c.self.view_is _ c.self.invariant.queue c.requires.room _ c.deref.ensures.0
+    c.len.result c.len.ensures.value c.args.asked c.args.body.now
     c.requires.number c.requires.latest c.requires.past _ _ _ _ c.from.ensures c.begin_at.ensures c.push.ensures.items
-    c.put_last.ensures in (all.1, all.2)
+    c.put_last.ensures).whole
 
 pub returns : goal.returns
 returns c =
-    (opened_by c.self.invariant.0 _ c.self.view_is _ c.self.invariant.1 c.requires.room _ c.deref.ensures.0 c.len.result
-    c.len.ensures.value c.args.asked c.args.body.now
+    (opened_by c.self.invariant.table _ c.self.view_is _ c.self.invariant.queue c.requires.room _ c.deref.ensures.0
+    c.len.result c.len.ensures.value c.args.asked c.args.body.now
     c.requires.number c.requires.latest c.requires.past _ _ _ _ c.from.ensures c.begin_at.ensures c.push.ensures.items
-    c.put_last.ensures).0
+    c.put_last.ensures).told

@@ -1,24 +1,21 @@
-use Rattle.std.{
-  proofs.{Common.{List, sym, subst, ◌∙◌, arith}, lemmas.List.Sorted.IsPermutation-trans},
-  specs.List.Sorted.IsPermutation,
-}
-use Rattle.bac_tsm.{
-  specs.{declared.due.Entry.Entry, Client.client_rules},
-  proofs.TableTick.{few_due, passed, fewer, all_passed, refilled},
-}
+-- Each turn passes one request; what is told in that order, sorted by ticket, is what the definition tells.
+use Rattle.std.proofs.{Common.{List, sym, subst, ◌∙◌, arith}, lemmas.List.Sorted.IsPermutation-trans}
+use Rattle.std.specs.List.Sorted.{IsPermutation}
+use Rattle.bac_tsm.specs.{declared.due.Entry.Entry, Client.client_rules}
+use Rattle.bac_tsm.proofs.TableTick.{few_due, passed, fewer, all_passed, refilled}
 use Rattle.bac_tsm.proofs.table.Table.pass_all.Goals as goal
 
 pub put_last-requires : goal.put_last-requires
 put_last-requires c =
     let less = (fewer (client_rules c.args.config.timeout c.args.config.retries) c.args.clock c.args.config.positive
-    c.loop-is_due.invariant.ticked c.pass-entry.result _ c.pass-entry.ensures).0 in
+    c.loop-is_due.invariant.ticked c.pass-entry.result _ c.pass-entry.ensures).room in
     let most = few_due (client_rules c.args.config.timeout c.args.config.retries) c.args.clock c.args.self.now in
     omega arith
 
 pub loop-is_due-smaller : goal.loop-is_due-smaller
 loop-is_due-smaller c =
     (fewer (client_rules c.args.config.timeout c.args.config.retries) c.args.clock c.args.config.positive
-    c.loop-is_due.invariant.ticked c.pass-entry.result _ c.pass-entry.ensures).1
+    c.loop-is_due.invariant.ticked c.pass-entry.result _ c.pass-entry.ensures).fewer
 
 pub loop-is_due-preserved : goal.loop-is_due-preserved
 loop-is_due-preserved c = record {
@@ -33,11 +30,11 @@ pub returns-clause-told : goal.returns-clause-told
 returns-clause-told c =
     rw (refilled c.loop-is_due.entries.items c.sort_by_ticket.new.entries (grind arith)) (IsPermutation-trans _ _ _
     (all_passed (client_rules c.args.config.timeout c.args.config.retries) c.args.clock c.args.config.positive
-    c.loop-is_due.invariant.ticked (sym c.loop-is_due.invariant.due ∙ c.loop-is_due-test.false)).0
+    c.loop-is_due.invariant.ticked (sym c.loop-is_due.invariant.due ∙ c.loop-is_due-test.false)).told
     (subst (λ (es : List Entry). IsPermutation es c.sort_by_ticket.new.entries) c.as_mut_slice.ensures.value
     c.sort_by_ticket.ensures.same))
 
 pub returns-clause-kept : goal.returns-clause-kept
 returns-clause-kept c =
     (all_passed (client_rules c.args.config.timeout c.args.config.retries) c.args.clock c.args.config.positive
-    c.loop-is_due.invariant.ticked (sym c.loop-is_due.invariant.due ∙ c.loop-is_due-test.false)).1
+    c.loop-is_due.invariant.ticked (sym c.loop-is_due.invariant.due ∙ c.loop-is_due-test.false)).kept

@@ -1,3 +1,4 @@
+-- The rank that is looked at first, and else the one that a search of the rising tickets finds.
 use Rattle.std.{
   proofs.Common.{◌≡◌, ℕ, List, length, get_or, Option, Some, None, nat_lt, sym, ◌∙◌, arith, IfSome, ltb-true},
   specs.{List.slice_get, Borrow.Bor, Option.{is_some, option_copied}},
@@ -14,11 +15,11 @@ got (Some x) xs i _ within there is = cc (slice_get-get_or xs i x.now (ltb-true 
 pub returns-then-eq : goal.returns-then-eq
 returns-then-eq c =
     let is : c.copied.result ≡ Some c.args.ticket = grind arith in
-    likely_rank c.self.invariant.0 _ c.self.view_is c.args.ticket _ c.deref-2.ensures.0 _
+    likely_rank c.self.invariant.table _ c.self.view_is c.args.ticket _ c.deref-2.ensures.0 _
     (got c.get.result c.deref-2.result.now _ c.args.ticket c.get.ensures.lookup.0 c.get.ensures.lookup.1
     (sym c.copied.ensures ∙ is))
 
 pub returns : goal.returns
 returns c = rw c.ok.ensures.value
-    (searched_rank c.self.invariant.0 _ c.self.view_is c.args.ticket _ c.as_slice.ensures.value _
+    (searched_rank c.self.invariant.table _ c.self.view_is c.args.ticket _ c.as_slice.ensures.value _
     c.binary_search.ensures.position)

@@ -1,0 +1,82 @@
+-- What a device replies to a datagram, and what it is then, by the writes that it holds.
+use Rattle.std.proofs.Common.{◌≡◌, ℕ, Bool, List, ◌++◌, Option, Result, Ok, Err, IfSome, refl, arith, subst, ap, ◌∙◌}
+use Rattle.std.{proofs.lemmas.Bool.cases_Bool, specs.Prelude.if◌then◌else◌, specs.Option.{ok_or, option_to_list}}
+use Rattle.std.specs.Result.{result_ok}
+use Rattle.bac_pdu.specs.{Peer.Station, Apdu.Message, Property.{Order, IsPriority}, PropertyReading.write_of}
+use Rattle.bac_pdu.{specs.Steps.◌>>=◌, proofs.WriteLaws.write_is}
+use Rattle.bac_device.specs.{Info.Info, Point.Description, Places.{Write, Standing}, Inner.Places.IsUrgent}
+use Rattle.bac_device.specs.Device.{DeviceState, points_of, device_after, Holds}
+use Rattle.bac_device.specs.Access.{urgency, ordered_write, accepted_write}
+use Rattle.bac_device.specs.Reply.{order_in, write_in_datagram, with_write, reply_of, reply_to, writes_after}
+use Rattle.bac_device.proofs.StateLaws.{each_ordered, write_held, points_after, after_holds}
+
+-- ---- a write that a device accepts is at a priority that there is
+
+-- Two steps that went well.
+stepped : {A B E : Type 0} (x : Result A E) (f : A → Result B E) (y : B) → (x >>= f) ≡ Ok y
+    → (a : A) × (x ≡ Ok a) × (f a ≡ Ok y)
+stepped = grind arith
+
+-- A step that went well behind a test, for what there is.
+passed : {A B E : Type 0} (b : Bool) (bad : E) (o : Option A) (none : E) (f : A → Result B E) (y : B)
+    → (if b then Err bad else (ok_or o none >>= f)) ≡ Ok y → (a : A) × (f a ≡ Ok y)
+passed = grind arith
+
+if_ok : {A E : Type 0} (P : A → Type 0) (r : Result A E) → ((a : A) → r ≡ Ok a → P a) → IfSome (result_ok r) P
+if_ok P (Ok a) h = h a refl
+if_ok P (Err failure) h = tt
+
+urgency_is : (priority : Option ℕ) (n : ℕ) → IfSome priority IsPriority → urgency priority ≡ Ok n → IsPriority n
+urgency_is = grind arith
+
+ordered_urgent : (standing : Standing) (o : Order) (write : Write) → IfSome o.priority IsPriority
+    → ordered_write standing o ≡ Ok write → IsUrgent write
+unfolding ordered_write
+ordered_urgent = grind (arith, stepped, urgency_is)
+
+accepted_urgent : (device : DeviceState) (o : Order) (write : Write) → IfSome o.priority IsPriority
+    → accepted_write device o ≡ Ok write → IsUrgent write
+unfolding accepted_write
+accepted_urgent = grind (arith, stepped, passed, ordered_urgent)
+
+made_urgent : (device : DeviceState) (o : Order) → IfSome o.priority IsPriority
+    → IfSome (result_ok (accepted_write device o)) IsUrgent
+made_urgent device o urgent =
+    if_ok IsUrgent (accepted_write device o) (λ write made. accepted_urgent device o write urgent made)
+
+body_urgent : (body : List ℕ) → IfSome (result_ok (write_of body)) (λ o. IfSome o.priority IsPriority)
+body_urgent body = if_ok _ (write_of body) (λ o is. ((write_is body (Ok o)).0 is).whole.urgent)
+
+order_urgent : (message : Message) → IfSome (order_in message) (λ o. IfSome o.priority IsPriority)
+order_urgent = grind (arith, cases_Bool, body_urgent)
+
+pub datagram_urgent : (device : DeviceState) (from : Station) (datagram : List ℕ)
+    → IfSome (write_in_datagram device from datagram) IsUrgent
+datagram_urgent device from datagram =
+    let urgent = λ (found : Option Order). IfSome found (λ o. IfSome o.priority IsPriority) in
+    each_ordered IsUrgent device from datagram (λ message o is.
+    made_urgent device o (subst urgent is (order_urgent message)))
+
+-- ---- what a device replies and writes, by the writes that it holds
+
+pub reply_held : (device : DeviceState) (writes : List Write) (from : Station) (datagram : List ℕ) → Holds device writes
+    → reply_of device from datagram ≡ reply_to device.info (points_of device) writes from datagram
+reply_held device writes from datagram holds = ap (λ (d : DeviceState). reply_of d from datagram) holds
+
+pub after_held : (device : DeviceState) (writes : List Write) (from : Station) (datagram : List ℕ) → Holds device writes
+    → with_write device (write_in_datagram device from datagram)
+    ≡ device_after device.info (points_of device) (writes_after device.info (points_of device) writes from datagram)
+after_held device writes from datagram holds =
+    write_held device writes _ holds (datagram_urgent device from datagram)
+    ∙ ap (λ (d : DeviceState). device_after device.info (points_of device)
+    (writes ++ option_to_list (write_in_datagram d from datagram))) holds
+
+-- a device with these points, after these writes
+pub next_after : (info : Info) (points : List Description) (writes : List Write) (from : Station) (datagram : List ℕ)
+    → with_write (device_after info points writes) (write_in_datagram (device_after info points writes) from datagram)
+    ≡ device_after info points (writes_after info points writes from datagram)
+next_after info points writes from datagram =
+    write_held (device_after info points writes) writes _ (after_holds info points writes)
+    (datagram_urgent (device_after info points writes) from datagram)
+    ∙ ap (λ (p : List Description). device_after info p (writes_after info points writes from datagram))
+    (points_after info points writes)

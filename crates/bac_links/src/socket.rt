@@ -1,0 +1,121 @@
+//! A UDP socket and its clock, and that of the system.
+ghost use Rattle.std.specs.Prelude.{◌≡◌, ◌≤◌, ◌∷◌, ◌++◌, [], IfOk, length, is_ok, take};
+ghost use Rattle.std.specs.Duration.{as_nanos};
+ghost use Rattle.std.specs.Io.{WritesAtMost};
+ghost use Rattle.std.specs.IoError.{error_kind};
+ghost use Rattle.std.specs.Result.{result_ok, result_map_both};
+ghost use Rattle.bac_links.specs.SystemCall.{Bind, Limit, SendTo, Receive, Elapsed};
+
+use crate::history::{CallNote, Log};
+use crate::link::LinkFault;
+use std::io;
+use std::net::{Net, SocketAddr, UdpSocket};
+use std::time::{Clock, Duration, Instant};
+
+/// A UDP socket and its clock, which remember what they were asked and answered. Each method is one call of the system.
+pub trait Socket {
+    ghost use Rattle.std.specs.Prelude.{List};
+    ghost use Rattle.bac_links.specs.SystemCall.{SystemCall};
+
+    // The calls of the system so far.
+    ghost log: { Self → List SystemCall };
+
+    /// A receive waits at most so long from now on.
+    fn set_read_timeout(&mut self, limit: Duration) -> io::Result<()>
+        ensures { log self.new ≡ log self.old ++ Limit (as_nanos limit) (is_ok result) ∷ [] };
+
+    /// Sends a datagram to this address, and tells how many octets went.
+    fn send_to(&mut self, octets: &[u8], to: SocketAddr) -> io::Result<usize>
+        ensures bound { WritesAtMost result octets.now }
+        ensures log { log self.new ≡ log self.old ++ SendTo octets.now to (result_ok result) ∷ [] };
+
+    /// Waits for a datagram, puts as much of it there as there is room for, and tells how much and from where it came.
+    fn recv_from(&mut self, room: &mut [u8]) -> io::Result<(usize, SocketAddr)>
+        ensures within { IfOk result (λ came. came.0 ≤ length room.new) }
+        ensures log { log self.new ≡ log self.old ++ Receive (length room.old)
+            (result_map_both (λ came. (take came.0 room.new, came.1)) error_kind result) ∷ [] };
+
+    /// How long ago the socket was made.
+    fn elapsed(&mut self) -> io::Result<Duration>
+        ensures { log self.new ≡ log self.old ++ Elapsed (result_ok result) ∷ [] };
+}
+
+/// A UDP socket of the system, and its clock.
+///
+/// This is what is trusted of a socket: that each of these five functions makes the one call of `std` which has its
+/// name, with its own arguments, notes that, and answers what it answered.
+#[derive(Drop)]
+pub struct SystemSocket<R: Clock + Drop> {
+    rt: R,
+    socket: UdpSocket,
+    made: Instant,
+    log: Log,
+}
+
+impl<R: Net + Clock + Clone + Drop> SystemSocket<R> {
+    // A socket at this address, or at a free port of it where the port is 0. It keeps a duplicate of the one that was
+    // bound, whose descriptor is past those of the standard streams, also where one of these is closed.
+    pub(crate) fn bind(rt: &R, at: SocketAddr) -> Result<Self, LinkFault>
+        ensures { IfOk result (λ socket. socket.log.items ≡ Bind at ∷ []) }
+    {
+        let bound = UdpSocket::bind(rt, at).map_err(|_| LinkFault)?;
+        let mut log = Log::new();
+        log.push(&CallNote::Bind(at));
+        Ok(SystemSocket {
+            socket: bound.try_clone().map_err(|_| LinkFault)?,
+            made: Instant::now(rt).map_err(|_| LinkFault)?,
+            rt: rt.clone().map_err(|_| LinkFault)?,
+            log,
+        })
+    }
+
+    /// Lets the socket go. What it was asked, and answered, is kept.
+    pub fn into_log(self) -> Log
+        ensures { result ≡ self.log }
+    {
+        self.log
+    }
+}
+
+impl<R: Clock + Drop> Socket for SystemSocket<R> {
+    ghost log = { λ socket. socket.log.items };
+
+    fn set_read_timeout(&mut self, limit: Duration) -> io::Result<()>
+        ensures log { self.new.log.items ≡ self.old.log.items ++ Limit (as_nanos limit) (is_ok result) ∷ [] }
+        ensures left { self.new ≡ record self.old { log = self.new.log } }
+    {
+        let done = self.socket.set_read_timeout(Some(limit));
+        self.log.push(&CallNote::Limit(limit, &done));
+        done
+    }
+
+    fn send_to(&mut self, octets: &[u8], to: SocketAddr) -> io::Result<usize>
+        ensures bound { WritesAtMost result octets.now }
+        ensures log { self.new.log.items ≡ self.old.log.items ++ SendTo octets.now to (result_ok result) ∷ [] }
+        ensures left { self.new ≡ record self.old { log = self.new.log } }
+    {
+        let sent = self.socket.send_to(octets, to);
+        self.log.push(&CallNote::SendTo(octets, to, &sent));
+        sent
+    }
+
+    fn recv_from(&mut self, room: &mut [u8]) -> io::Result<(usize, SocketAddr)>
+        ensures within { IfOk result (λ came. came.0 ≤ length room.new) }
+        ensures log { self.new.log.items ≡ self.old.log.items ++ Receive (length room.old)
+            (result_map_both (λ came. (take came.0 room.new, came.1)) error_kind result) ∷ [] }
+        ensures left { self.new ≡ record self.old { log = self.new.log } }
+    {
+        let came = self.socket.recv_from(room);
+        self.log.push(&CallNote::Receive(room, &came));
+        came
+    }
+
+    fn elapsed(&mut self) -> io::Result<Duration>
+        ensures log { self.new.log.items ≡ self.old.log.items ++ Elapsed (result_ok result) ∷ [] }
+        ensures left { self.new ≡ record self.old { log = self.new.log } }
+    {
+        let passed = self.made.elapsed(&self.rt);
+        self.log.push(&CallNote::Elapsed(&passed));
+        passed
+    }
+}

@@ -1,0 +1,8 @@
+-- What is told of a fault.
+use Rattle.std.specs.Prelude.{ℕ, List, ◌++◌, decimal}
+use Rattle.bac_print.specs.declared.message.Message.{Message}
+use Rattle.bac_print.specs.declared.message.Message.TheVariants.{Text, Numbered}
+
+abbrev pub message_text : Message → List ℕ
+message_text (Text text) = text.now
+message_text (Numbered before number after) = before.now ++ (decimal number ++ after.now)

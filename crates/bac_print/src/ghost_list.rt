@@ -1,0 +1,45 @@
+//! A list that exists in proofs alone: it takes no memory, and its methods do nothing.
+ghost use Rattle.std.specs.Prelude.{◌≡◌, List, [], ◌∷◌, ◌++◌};
+ghost use Rattle.std.specs.Borrow.{ftrue};
+ghost use Rattle.std.specs.Coded.{coded_list};
+
+use std::marker::{Model, PhantomData};
+
+/// What was noted so far, in order. A clause reads it as `items`: the values of `T`, of which no code need make one.
+#[derive(Drop)]
+pub struct GhostList<T> {
+    of: PhantomData<T>,
+    pub ghost items: { List T } by { coded_list T.code },
+}
+
+impl<T> Model for GhostList<T> {
+    ghost also_owns = { λ _. ftrue };
+}
+
+/// A note of a value of `T`. It may borrow what it tells of.
+pub trait NoteOf<T> {
+    ghost tells: { Self → T };
+}
+
+impl<T> GhostList<T> {
+    /// Nothing was noted yet.
+    pub fn new() -> Self
+        ensures { result ≡ record { of = record {}; items = [] } }
+    {
+        GhostList { of: PhantomData }
+    }
+
+    /// Puts what this note tells behind the others.
+    pub fn push<N: NoteOf<T>>(&mut self, note: &N)
+        ensures { self.new.items ≡ self.old.items ++ N.tells note.now ∷ [] }
+    {
+        *self = self.and(note);
+    }
+
+    // The list, and what this note tells behind it. It is private, so that no list goes on in two ways.
+    fn and<N: NoteOf<T>>(&self, _note: &N) -> Self
+        ensures { result.items ≡ self.now.items ++ N.tells _note.now ∷ [] }
+    {
+        GhostList { of: PhantomData }
+    }
+}

@@ -1,0 +1,5 @@
+use Rattle.bac_script.proofs.Functions.{read_fails}
+use Rattle.bac_script.proofs.laws.a_failed_read_has_a_cause.Goals as goal
+
+pub returns : goal.returns
+returns g c = read_fails

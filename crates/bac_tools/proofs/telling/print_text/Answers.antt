@@ -1,0 +1,9 @@
+use Rattle.std.proofs.Common.{[]}
+use Rattle.bac_print.proofs.Printed.{◌⨾◌, prints_nothing}
+use Rattle.bac_tools.proofs.telling.print_text.Goals as goal
+
+pub parts-init : goal.parts-init
+parts-init g c = ([], prints_nothing c.args.page.now)
+
+pub parts-preserved : goal.parts-preserved
+parts-preserved g c = (_, c.parts.invariant.1 ⨾ c.print.ensures)

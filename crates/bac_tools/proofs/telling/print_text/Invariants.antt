@@ -1,0 +1,9 @@
+use Rattle.std.proofs.Common.{ℕ, ◌-◌, ◌^◌, List}
+use Rattle.bac_print.specs.Page.{Prints}
+use Rattle.bac_tools.proofs.telling.print_text.Given as goal
+
+abbrev pub invariant-parts : goal.invariant-parts
+invariant-parts g l = (octets : List ℕ) × Prints g.W.Write.contents l.fn.page l.page octets
+
+abbrev pub decreases-parts : goal.decreases-parts
+decreases-parts g l = 2 ^ 64 - 1 - l.told

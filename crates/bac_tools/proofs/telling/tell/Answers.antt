@@ -1,0 +1,16 @@
+-- What was printed on the page is what the writer was given.
+use Rattle.std.proofs.Common.{[], rules, subst}
+use Rattle.bac_print.{specs.{Page.Writes, declared.checked.Checked.Checked}, proofs.Shown.finished}
+use Rattle.bac_tools.proofs.telling.tell.Goals as goal
+
+pub returns-in-Some : goal.returns-in-Some
+returns-in-Some g c =
+    let said = c.print_telling.ensures in
+    rw c.in-Some.is (
+      said.0,
+      said.1,
+      subst (λ (after : Checked g.row.W.Denot). Writes g.W.Write.contents c.args.writer.now after [] [] said.0)
+          (search rules)
+          (finished {after = c.finish.new.self.0} c.new-page.ensures.writer c.new-page.ensures.empty said.2
+          c.finish.ensures.printed),
+    )

@@ -1,0 +1,51 @@
+-- From the words to the calls of the system.
+use Rattle.std.specs.Prelude.{◌≡◌, ℕ, List, [], ◌∷◌, Option, Result, Ok}
+use Rattle.std.specs.declared.net.socket_addr.SocketAddr.{SocketAddr}
+use Rattle.clap.specs.Words.{Text}
+use Rattle.bac_pdu.specs.Peer.{station}
+use Rattle.bac_print.specs.declared.checked.Checked.{Checked}
+use Rattle.bac_links.specs.History.{Account, Entry}
+use Rattle.bac_links.specs.Socket.{AreCallsFor, Binds, IsAddressOf, Logs}
+use Rattle.bac_links.specs.SystemCall.{SystemCall, Bind}
+use Rattle.bac_links.specs.declared.exit.Exit.{Exit}
+use Rattle.bac_links.specs.declared.fault.ToolFault.{ToolFault}
+use Rattle.bac_links.specs.declared.link.LinkFault.{LinkFault}
+use Rattle.bac_words.specs.Line.{Answers}
+use Rattle.bac_text.specs.declared.jobs.Job.TheVariants.{Over}
+use Rattle.bac_text.specs.declared.jobs.Tool.{Tool}
+use Rattle.bac_tools.specs.Binding.{binding_of}
+use Rattle.bac_tools.specs.Report.{tool_report}
+use Rattle.bac_tools.specs.Runs.{ToolRuns}
+use Rattle.bac_tools.specs.Telling.{IsTold, on_error}
+use Rattle.bac_tools.specs.declared.binding.Binding.{Binding}
+use Rattle.bac_tools.specs.declared.report.Report.{Report}
+
+-- A network gives sockets. Where it gives a link, the system was asked for a socket at the address, and for nothing
+-- else, and the link for nothing yet; and whenever a link is made of the same, the system was asked since then for the
+-- entries of its history, one after another, and for nothing else. (`∥ ∥₁`: there is a way to part the calls so.)
+abbrev pub GivesSockets : {N Origin L : Type 0} → (N → Binding → Result L LinkFault → Type 0) → (L → Account Origin)
+    → (L → List SystemCall) → Type 0
+GivesSockets {N} {Origin} {L} gives seen log = (network : N) (binding : Binding) (link : L)
+    → gives network binding (Ok link) → Binds binding.at (log link) × ((seen link).history ≡ [])
+    × ((later : L) → (seen later).made ≡ (seen link).made
+    → ∥ Logs (AreCallsFor binding.refused 0 0 (seen later).history) (log link) (log later) ∥₁)
+
+-- These words asked for a tool, which ran over a link. Its writer was given its lines, `errors` what is told of its
+-- fault, the reader was not read, and the report says how it ended. The system was asked for one socket, at the address
+-- that the tool wants; then for what the tool asked of its link, one thing after another; and for nothing else.
+pub record RunsAsCalls (Origin : Type 0) {R W E : Type 0} (contents : W → Option (List ℕ))
+    (error_contents : E → Option (List ℕ)) (reader reader' : Checked R) (writer writer' : Checked W)
+    (errors errors' : Checked E) (report : Report) (words : List Text) (log : List SystemCall) : Type 0 where
+  pub tool : Tool
+  pub answered : Answers words (Ok (Over tool))
+  pub made : Origin
+  pub history : List Entry
+  pub answer : Result Exit ToolFault
+  pub runs : ToolRuns contents writer writer' (record { made = made; history = [] })
+      (record { made = made; history = history }) answer tool
+  pub unread : reader' ≡ reader
+  pub reported : report ≡ tool_report answer
+  pub told : IsTold error_contents errors errors' (on_error report.fault)
+  pub address : SocketAddr
+  pub at : IsAddressOf (station (binding_of tool).at) address
+  pub asked : ∥ Logs (AreCallsFor (binding_of tool).refused 0 0 history) (Bind address ∷ []) log ∥₁

@@ -1,0 +1,84 @@
+//! What the program tells at its end.
+ghost use Rattle.std.specs.Prelude.{◌++◌, ℕ, List, codes, option_map};
+ghost use Rattle.bac_print.specs.Message.{message_text};
+ghost use Rattle.bac_print.specs.Page.{Prints};
+ghost use Rattle.bac_words.specs.Telling.{told_by};
+ghost use Rattle.bac_tools.specs.Telling.{AreOctetsOf, IsTold};
+
+use arrayvec::ArrayVec;
+use bac_print::{Checked, Message, Page};
+use bac_words::Telling;
+use std::fmt::{self, Write as _};
+use std::io::Write;
+
+// The octets of a text of `clap` that are told at a time.
+const PART_ROOM: usize = 4_096;
+
+/// Gives the writer what there is to tell, as far as it takes it.
+pub fn tell<W: Write>(telling: Option<Telling<'_>>, writer: &mut Checked<W>)
+    ensures { IsTold W.contents writer.old writer.new (option_map told_by telling.entry) }
+{
+    if let Some(telling) = telling {
+        let mut page = Page::new(writer);
+        print_telling(telling, &mut page);
+        let _ = page.finish();
+    }
+}
+
+fn print_telling<W: Write>(telling: Telling<'_>, page: &mut Page<'_, W>)
+    ensures { (octets : List ℕ) × AreOctetsOf (told_by telling.entry) octets
+        × Prints W.contents page.old page.new octets }
+{
+    match telling {
+        Telling::Text(text) => print_text(text, page),
+        Telling::Line(message) => print_line(message, page),
+    }
+}
+
+#[tactic(auto, using(bac_print::proofs::Printed::printing))]
+fn print_line<W: Write>(message: Message, page: &mut Page<'_, W>)
+    ensures { Prints W.contents page.old page.new (codes "bactool: " ++ (message_text message ++ codes "\n")) }
+{
+    page.print(b"bactool: ");
+    page.print_message(message);
+    page.print(b"\n");
+}
+
+// Prints a text of `clap`, a part after another, since it may have any length.
+fn print_text<W: Write>(text: &clap::Error, page: &mut Page<'_, W>)
+    ensures { (octets : List ℕ) × Prints W.contents page.old page.new octets }
+{
+    let mut told: usize = 0;
+    'parts: loop {
+        let mut part = Part {
+            passed: told,
+            octets: ArrayVec::new(),
+        };
+        let _ = write!(part, "{text}");
+        let octets = part.octets.as_slice();
+        if octets.is_empty() || octets.len() > usize::MAX - told {
+            return;
+        }
+        page.print(octets);
+        told += octets.len();
+    }
+}
+
+// A part of a text: what comes behind so many octets of it, as far as there is room.
+#[derive(Drop)]
+struct Part {
+    passed: usize,
+    octets: ArrayVec<u8, PART_ROOM>,
+}
+
+impl fmt::Write for Part {
+    fn write_str(&mut self, text: &str) -> fmt::Result {
+        let octets = text.as_bytes();
+        let passed = octets.len().min(self.passed);
+        self.passed -= passed;
+        let rest = &octets[passed..];
+        let taken = rest.len().min(self.octets.remaining_capacity());
+        let _ = self.octets.try_extend_from_slice(&rest[..taken]);
+        Ok(())
+    }
+}

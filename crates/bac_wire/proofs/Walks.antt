@@ -1,0 +1,33 @@
+-- What walks by hand over ghost data share. `Work::new` and `Work::and_one` make a struct without fields, whose ghost
+-- data their clauses name. The prover writes no proof that picks ghost data, so each has a `Proof.antt`, step by step:
+-- the arguments are taken, the struct is made, and the ghost data is named at the return. Their form is that of the
+-- toolchain's own crates that keep such a log, `serde_json` and `http_server`.
+use seplogic.Ra.Ura.{Ura}
+use mir.Val.{Val, vstruct, vnil}
+use types.{Logic.Logic, Kit.{Goal, Step, step, Item, fpack}}
+use denote.{RattleType.RattleType, Struct.Struct.Struct}
+pub use Rattle.std.proofs.Common.{List, [], ◌∷◌, refl}
+pub use Rattle.std.proofs.raw_atomic.Walks.{proved}
+pub use types.Kit.{‵, raw, ◌⊛◌, ◌$◌, ◌∵◌, !, qed, done, move, keep, drop, split, fjoin, feq_i, suffices}
+pub use types.Part.{agg}
+pub use types.Run.{enter, returns, no_more}
+pub use types.ByLocal.{alloc_all, pass_all, free_all, look_at, sets}
+pub use denote.Exit.{yes}
+pub use denote.Builtin.{RefOf}
+pub use mir.Syntax.{named}
+pub use denote.RattleType.{owns}
+pub use denote.Ref.{shr_vals, shr_Tells}
+pub use denote.Signature.{plain, types_at, named_lft}
+pub use denote.Steps.{nothing}
+pub use denote.Triple.Entry.{alive, on_entry}
+pub use denote.Triple.Walked.{says, Stays, stay_dropped, ends_at, Goes-dropped}
+
+abbrev pub none : Val
+none = vstruct vnil
+
+abbrev pub fieldless : RattleType
+fieldless = Struct (record { name = []; args = []; types = []; fields = [] })
+
+pub none_made : {M : Type 1} {𝓤 : Ura M} {𝓛 : Logic 𝓤} {K : Type 0} {Γ : List (Item 𝓤)} {G : Goal 𝓤 𝓛.H} → K
+    → Step K 𝓛 (‵ (fieldless.own_val tt (none ∷ [])) ∷ Γ) G Γ G
+none_made t = step (λ s. nothing t $ feq_i t _ _ _ refl $ fjoin t $ fpack t _ _ tt $ s)

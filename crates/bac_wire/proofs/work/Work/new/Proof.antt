@@ -1,0 +1,18 @@
+-- `new` picks that nothing was read. A proof by hand, as `Walks` says.
+use Rattle.bac_wire.proofs.Walks.{[], ◌∷◌, refl, proved, raw, ◌$◌, ◌∵◌, !, qed, done, drop, fjoin, suffices, agg, enter}
+use Rattle.bac_wire.proofs.Walks.{returns, no_more, alloc_all, pass_all, free_all, look_at, sets, nothing, on_entry}
+use Rattle.bac_wire.proofs.{Walks.{says, ends_at, none, none_made}, work.Work.new.Statement.statement}
+use Rattle.bac_wire.specs.contracts.work.Work.new as f
+use Rattle.bac_wire.proofs.work.Work.new.Code as code
+
+pub new_spec : {M : Type 1} → statement M
+new_spec 𝓤 𝓛 𝓜 𝓡 wired =
+    let c = f.clauses 𝓛 𝓜.mem 𝓡.returns in
+    proved 𝓛 f.ended tt c 𝓜 𝓡 tt f.Key.name code.function (code.unfolded 𝓤 𝓛.H 𝓜 𝓡 wired) (λ κs. tt) (λ κs. tt)
+    (λ κs qs bounds a g are.
+    qed 𝓛 (raw (on_entry 𝓛 f.signature κs qs a tt) ∷ raw ((c κs a).requires g) ∷ []) ∵
+    drop ! $ drop ! $ enter ! _ _ _ _ _ $ alloc_all ! (λ l. pass_all ! refl tt $
+    sets ! (agg ! (no_more !)) refl (tt, tt) $ nothing ! $ none_made ! $ fjoin ! $
+    returns ! (look_at ! 0 refl) $ free_all ! refl $
+    suffices ! _ (ends_at 𝓛 f.ended tt c ((κs, qs, bounds, a, tt), g) none (record { tags = 0 }) tt tt) $
+    says ! refl $ nothing ! $ nothing ! $ done !))

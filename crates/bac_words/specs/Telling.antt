@@ -1,0 +1,21 @@
+-- What is told of a fault.
+use Rattle.std.specs.Prelude.{ℕ, List, Option, Some, None}
+use Rattle.clap.specs.declared.error.Error.{Error}
+use Rattle.bac_print.specs.Message.{message_text}
+use Rattle.bac_words.specs.declared.telling.Telling.{Telling}
+use Rattle.bac_words.specs.declared.telling.Telling.TheVariants as telling
+
+-- A text of `clap`, or one of ours.
+pub data Told : Type 0 where
+  Text : (message : Error) → Told
+  Line : (text : List ℕ) → Told
+
+-- What contracts see of it.
+abbrev pub told_by : Telling → Told
+told_by (telling.Text message) = Text message.now
+told_by (telling.Line message) = Line (message_text message)
+
+-- Its octets. The texts of `clap` are its own.
+abbrev pub telling_octets : Telling → Option (List ℕ)
+telling_octets (telling.Text message) = None
+telling_octets (telling.Line message) = Some (message_text message)

@@ -1,0 +1,25 @@
+//! What is told of a fault.
+ghost use Rattle.bac_words.specs.Telling.{telling_octets};
+
+use bac_print::Message;
+use std::fmt;
+
+/// What is told of a fault. It takes no memory.
+#[derive(Debug, Drop)]
+pub enum Telling<'f> {
+    /// A text of `clap`: help, or why it does not take the words.
+    Text(&'f clap::Error),
+    /// A message of ours.
+    Line(Message),
+}
+
+impl fmt::Display for Telling<'_> {
+    ghost output = { telling_octets };
+
+    fn fmt<W: fmt::Write>(&self, f: &mut fmt::Formatter<W>) -> fmt::Result {
+        match self {
+            Telling::Text(text) => write!(f, "{text}"),
+            Telling::Line(message) => write!(f, "{message}"),
+        }
+    }
+}

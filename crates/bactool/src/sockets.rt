@@ -1,0 +1,40 @@
+//! The sockets of a machine.
+ghost use Rattle.std.specs.Prelude.{◌≡◌, [], false, IfOk};
+ghost use Rattle.bac_links.specs.Socket.{Binds, account_over};
+
+use bac_tools::{Binding, Link, LinkFault, Network, SystemSocket, UdpLink};
+use std::alloc::Global;
+use std::net::Net;
+use std::time::Clock;
+
+/// UDP sockets. Of the program nothing but these has the runtime.
+#[derive(Drop)]
+pub(crate) struct Sockets<'r, H> {
+    rt: &'r H,
+    alloc: Global,
+}
+
+impl<'r, H> Sockets<'r, H> {
+    /// The sockets of this runtime.
+    pub(crate) fn new(rt: &'r H, alloc: Global) -> Self
+        ensures { result ≡ record { rt = rt.entry; alloc = alloc } }
+    {
+        Sockets { rt, alloc }
+    }
+}
+
+impl<H: Net + Clock + Clone + Drop> Network for Sockets<'_, H> {
+    type Socket = UdpLink<SystemSocket<H>>;
+
+    ghost gives = { λ _ binding socket.
+        IfOk socket (λ link. Binds binding.at link.socket.log.items
+        × (⟦<UdpLink<SystemSocket<H>> as Link>⟧.seen link
+        ≡ account_over binding.refused link.socket.log.items [])) };
+
+    fn bind(self, binding: Binding) -> Result<UdpLink<SystemSocket<H>>, LinkFault>
+        ensures gives { ⟦<Sockets<'static, H> as Network>⟧.gives self.entry binding result }
+        ensures sound { IfOk result (λ link. ⟦<UdpLink<SystemSocket<H>> as Link>⟧.has_failed link ≡ false) }
+    {
+        UdpLink::bind_with(self.rt, self.alloc, binding.at, binding.refused)
+    }
+}

@@ -1,0 +1,102 @@
+"""The addresses of controllers, as words give them: numbers, or the name of a host."""
+
+from __future__ import annotations
+
+import ipaddress
+import re
+import socket
+from functools import lru_cache
+from typing import Dict, List, NamedTuple, Optional, Sequence, Tuple
+
+from .failures import wrong
+
+PORT = 47808
+MOST_ADDRESSES = 65536
+MOST_DEVICE = 4194302
+INSTANCE_AT = re.compile(r"(?:([0-9]{1,7})@)?(.*)", re.S)
+ADDRESS = re.compile(r"([0-9]{1,3}(?:\.[0-9]{1,3}){3})(?::([0-9]{1,5}))?")
+HOST = re.compile(r"(?![0-9.]+(?::|\Z))([A-Za-z0-9._-]{1,253})(?::([0-9]{1,5}))?")
+RANGE = re.compile(r"([0-9.]+)(?:/([0-9]{1,2})|-([0-9.]+))(?::([0-9]{1,5}))?")
+
+
+class Target(NamedTuple):
+    """An address, and which devices are looked for there. None stands for any."""
+
+    address: str
+    wanted: Tuple[Optional[int], ...]
+    in_range: bool = False  # it was not named itself, so that nobody may be there
+
+
+def one(word: str) -> Tuple[Optional[int], str]:
+    """The instance, if there is one, and the address with its port, of [INSTANCE@]ADDRESS."""
+    instance, rest = _split(word)
+    found, name = ADDRESS.fullmatch(rest), HOST.fullmatch(rest)
+    if found:
+        return instance, _checked(found[1], found[2], word)
+    host = _looked_up(name[1]) if name else ""
+    if not name or not host:
+        raise wrong("no address: " + word)
+    return instance, _checked(host, name[2], word)
+
+
+@lru_cache(maxsize=None)
+def _looked_up(name: str) -> str:
+    """The address of a host; empty where it has none. Each name is looked up once."""
+    try:
+        found = socket.getaddrinfo(name, None, socket.AF_INET, socket.SOCK_DGRAM)
+    except (OSError, UnicodeError):
+        return ""
+    return str(found[0][4][0])
+
+
+def targets(words: Sequence[str]) -> List[Target]:
+    """What each word names: one address, or a range of them. None of them stands there twice."""
+    found: Dict[str, Target] = {}
+    for word in words:
+        many = RANGE.fullmatch(word)
+        addresses = _addresses(many, word) if many else []
+        for address in addresses:
+            found.setdefault(address, Target(address, (None,), in_range=True))
+        if not many:
+            instance, address = one(word)
+            earlier = found.get(address)
+            wanted = earlier.wanted if earlier and not earlier.in_range else ()
+            found[address] = Target(address, tuple(dict.fromkeys((*wanted, instance))))
+    return list(found.values())
+
+
+def _split(word: str) -> Tuple[Optional[int], str]:
+    found = INSTANCE_AT.fullmatch(word)
+    assert found, "the pattern takes any word"
+    if found[1] and int(found[1]) > MOST_DEVICE:
+        raise wrong("no device instance: " + word)
+    return int(found[1]) if found[1] else None, found[2]
+
+
+def _checked(host: str, port: Optional[str], word: str) -> str:
+    """The address as it is compared and shown."""
+    parts, number = [int(part) for part in host.split(".")], int(port or PORT)
+    if len(parts) != 4 or max(parts) > 255 or number > 65535:
+        raise wrong("no address: " + word)
+    return ".".join(map(str, parts)) + f":{number}"
+
+
+def _addresses(found: "re.Match[str]", word: str) -> List[str]:
+    """The addresses of 192.0.2.0/24, 192.0.2.1-254 or 192.0.2.1-192.0.2.9, perhaps with a port."""
+    first, size, last, port = found.groups()
+    try:
+        if size:
+            network = ipaddress.IPv4Network((first, int(size)), strict=False)
+            count = network.num_addresses
+            hosts = list(network.hosts()) if count <= MOST_ADDRESSES else []
+        else:
+            last = last if "." in last else first.rpartition(".")[0] + "." + last
+            low, high = int(ipaddress.IPv4Address(first)), int(ipaddress.IPv4Address(last))
+            count = high - low + 1
+            numbers = range(low, high + 1) if count <= MOST_ADDRESSES else ()
+            hosts = [ipaddress.IPv4Address(number) for number in numbers]
+    except ValueError:
+        raise wrong("no range of addresses: " + word) from None
+    if not hosts:
+        raise wrong(f"no range of 1 to {MOST_ADDRESSES:d} addresses: {word}")
+    return [_checked(str(host), port, word) for host in hosts]

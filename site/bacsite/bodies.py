@@ -1,0 +1,212 @@
+"""Tags, values and service bodies as bactool reads them: what is no whole body is none."""
+
+from __future__ import annotations
+
+from typing import Iterator, List, NamedTuple, Optional, Tuple
+
+from . import names
+
+MOST_OPEN = 32  # opening tags at once
+OPENING, CLOSING = -1, -2  # in place of the length of a tag
+LONG = 1 << 32
+LEAST = (0, 0, 1, 1, 4, 8, 0, 1, 1, 1, 4, 4, 4)  # octets of the contents of each tag
+MOST = (0, 0, 8, 8, 4, 8, LONG, LONG, LONG, 4, 4, 4, 4)
+QUOTES = {names.OCTETS: "X", names.DATE: "D", names.TIME: "T"}
+
+
+class Tag(NamedTuple):
+    """A tag: its number, whether its class is context, its length, and where it ends."""
+
+    number: int
+    context: bool
+    length: int
+    end: int
+
+
+class Element(NamedTuple):
+    """A value: the number of its tag, and its contents; of a Boolean one octet."""
+
+    kind: int
+    octets: bytes
+
+
+class Body(NamedTuple):
+    """What a read or a write is about: type, instance, property, perhaps index; and its value."""
+
+    what: Tuple[int, ...]
+    value: Optional[bytes] = None
+    priority: Optional[int] = None
+
+
+def tag_at(octets: bytes, at: int) -> Optional[Tag]:
+    """The tag that begins at a place, if one does."""
+    try:
+        first, at = octets[at], at + 1
+        number, context, length = first >> 4, bool(first & 8), first & 7
+        if number == 15:
+            number, at = octets[at], at + 1
+        if number == 255 or length > 5 and not context:
+            return None
+        if length > 5:
+            return Tag(number, context, OPENING if length == 6 else CLOSING, at)
+        if length == 5:
+            size = {254: 2, 255: 4}.get(octets[at], 0)
+            long = octets[at + 1 : at + 1 + size] if size else octets[at : at + 1]
+            if len(long) < size:
+                return None
+            length, at = int.from_bytes(long, "big"), at + 1 + size
+        return Tag(number, context, length, at)
+    except IndexError:
+        return None
+
+
+def region_end(octets: bytes, at: int) -> Optional[int]:
+    """Where whole items that begin at a place end: at a closing tag of none of them, or the end."""
+    opened: List[int] = []
+    while at < len(octets):
+        tag = tag_at(octets, at)
+        if not tag:
+            return None
+        if tag.length == CLOSING:
+            if not opened:
+                return at
+            if opened.pop() != tag.number:
+                return None
+        elif tag.length == OPENING:
+            opened.append(tag.number)
+        is_boolean = tag.number == names.BOOLEAN and not tag.context
+        at = tag.end + (0 if is_boolean else max(tag.length, 0))
+        if at > len(octets) or len(opened) > MOST_OPEN:
+            return None
+    return None if opened else at
+
+
+def elements_of(region: bytes) -> Optional[List[Element]]:
+    """The values of a region, where it has nothing else."""
+    found, at = [], 0
+    while at < len(region):
+        tag = tag_at(region, at)
+        element = _element_of(region, tag) if tag else None
+        if not tag or not element:
+            return None
+        found.append(element)
+        at = tag.end + (0 if tag.number == names.BOOLEAN else tag.length)
+    return found
+
+
+def _element_of(octets: bytes, tag: Tag) -> Optional[Element]:
+    if tag.context or tag.number > names.OBJECT:
+        return None
+    if tag.number == names.BOOLEAN:
+        return Element(tag.number, bytes([tag.length])) if tag.length < 2 else None
+    contents = octets[tag.end : tag.end + tag.length]
+    fits = LEAST[tag.number] <= tag.length <= MOST[tag.number]
+    if len(contents) < tag.length or not fits:
+        return None
+    if tag.number == names.BITS and contents[0] > (7 if contents[1:] else 0):
+        return None
+    return Element(tag.number, contents)
+
+
+def bits_of(octets: bytes) -> str:
+    """The bits of a BitString."""
+    return "".join(f"{it:08b}" for it in octets[1:])[: 8 * (len(octets) - 1) - octets[0]]
+
+
+def _quoted(octets: bytes) -> str:
+    """A text between quotes, in printable ASCII."""
+    chars = [chr(it) if 0x20 <= it < 0x7F else f"\\x{it:02x}" for it in octets]
+    return '"' + "".join("\\" + it if it in '"\\' else it for it in chars) + '"'
+
+
+def element_text(element: Element) -> str:
+    """A value as bacrp prints it."""
+    kind, octets = element
+    if kind in (names.NULL, names.BOOLEAN):
+        return "null" if kind == names.NULL else ("false", "true")[octets[0]]
+    if kind == names.STRING:
+        return (f"{octets[0]}:" if octets[0] else "") + _quoted(octets[1:])
+    if kind == names.BITS:
+        return f"B'{bits_of(octets)}'"
+    if kind in QUOTES:
+        return f"{QUOTES[kind]}'{octets.hex()}'"
+    if kind in (names.REAL, names.DOUBLE):
+        return octets.hex()
+    number = int.from_bytes(octets, "big", signed=kind == names.SIGNED)
+    return f"{number >> 22}:{number & 4194303}" if kind == names.OBJECT else str(number)
+
+
+def region_text(region: bytes) -> str:
+    """A property's value as bacrp prints it."""
+    elements = elements_of(region)
+    if elements is None:
+        return "hex " + region.hex()
+    texts = [element_text(it) for it in elements]
+    return texts[0] if len(texts) == 1 else "{" + ",".join(texts) + "}"
+
+
+def parameters(octets: bytes) -> Iterator[Tuple[int, bytes]]:
+    """Each context tag with its contents. Behind what can't be read comes the tag -1."""
+    at = 0
+    while at < len(octets):
+        tag = tag_at(octets, at)
+        ends = _parameter_ends(octets, tag) if tag and tag.context else None
+        if not tag or not ends:
+            yield -1, b""
+            return
+        yield tag.number, octets[tag.end : ends[0]]
+        at = ends[1]
+
+
+def _parameter_ends(octets: bytes, tag: Tag) -> Optional[Tuple[int, int]]:
+    """Where the contents of a context tag end, and all of it. Only the tag 3 opens and closes."""
+    if tag.length >= 0:
+        end = tag.end + tag.length
+        return (end, end) if end <= len(octets) else None
+    inner = region_end(octets, tag.end) if (tag.length, tag.number) == (OPENING, 3) else None
+    closing = tag_at(octets, inner) if inner is not None else None
+    return (inner, closing.end) if inner and closing and closing.number == 3 else None
+
+
+def body_of(octets: bytes, has_value: bool, may_command: bool = False) -> Optional[Body]:
+    """A body: object, property, perhaps an index, a value, and perhaps a priority."""
+    found = list(parameters(octets))
+    tags, by_tag = [tag for tag, _ in found], dict(found)
+    needed = [0, 1, 3] if has_value else [0, 1]
+    if [it for it in tags if it not in (2, 4)] != needed or tags != sorted(set(tags)):
+        return None
+    if len(by_tag[0]) != 4 or any(not 1 <= len(by_tag.get(it, b"0")) <= 4 for it in (1, 2, 4)):
+        return None
+    number = {tag: int.from_bytes(contents, "big") for tag, contents in found if tag != 3}
+    if 4 in number and not (may_command and 1 <= number[4] <= 16):
+        return None
+    what = (number[0] >> 22, number[0] & 4194303, *(number[it] for it in (1, 2) if it in number))
+    return Body(what, by_tag.get(3), number.get(4))
+
+
+def read_body(octets: bytes) -> Optional[Body]:
+    """What a ReadProperty asks for."""
+    return body_of(octets, has_value=False)
+
+
+def read_ack(octets: bytes) -> Optional[Body]:
+    """What the acknowledgement of a ReadProperty says."""
+    return body_of(octets, has_value=True)
+
+
+def write_body(octets: bytes) -> Optional[Body]:
+    """What a WriteProperty asks for."""
+    return body_of(octets, has_value=True, may_command=True)
+
+
+def error_body(octets: bytes) -> Optional[Tuple[int, int]]:
+    """Class and code of an Error, whatever follows them."""
+    numbers, at = [], 0
+    for _ in range(2):
+        tag = tag_at(octets, at)
+        element = _element_of(octets, tag) if tag else None
+        if not tag or not element or element.kind != names.ENUMERATED:
+            return None
+        numbers.append(int.from_bytes(element.octets, "big"))
+        at = tag.end + tag.length
+    return numbers[0], numbers[1]

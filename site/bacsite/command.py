@@ -1,0 +1,75 @@
+"""What a command is to the words of the program, and what the words of several have in common."""
+
+from __future__ import annotations
+
+import argparse
+import re
+import time
+from dataclasses import dataclass
+from typing import Callable, NoReturn, Optional
+
+from .failures import wrong
+from .output import put
+from .processes import FOREVER
+
+CALLS_AT_ONCE = 32
+
+
+@dataclass(frozen=True)
+class Command:
+    """A command: what help says of it, its own words, and what it does.
+
+    `work` gives the status. One that `asks` controllers has the options of that.
+    """
+
+    summary: str
+    arguments: Callable[[argparse.ArgumentParser], None]
+    work: Callable[[argparse.Namespace], int]
+    asks: bool = True
+    at_once: int = CALLS_AT_ONCE
+
+
+class Parser(argparse.ArgumentParser):
+    """A parser that writes and fails as the rest of the program does."""
+
+    def print_help(self, file: object = None) -> None:
+        put(self.format_help())
+
+    def error(self, message: str) -> NoReturn:
+        raise wrong(f"{message}; see {self.prog} --help")
+
+
+def within(least: int, most: int) -> Callable[[str], int]:
+    """A reader of whole numbers within limits."""
+
+    def reader(word: str) -> int:
+        if not re.fullmatch("[0-9]{1,9}", word) or not least <= int(word) <= most:
+            raise argparse.ArgumentTypeError(f"not {least} to {most}: {word}")
+        return int(word)
+
+    return reader
+
+
+def add_number(
+    parser: argparse.ArgumentParser, name: str, least: int, most: int, usual: int, more: str = ""
+) -> None:
+    """An option that takes a whole number."""
+    told = f"{more}{least} to {most}; {usual} where it is not given"
+    parser.add_argument(
+        "--" + name, metavar="N", type=within(least, most), default=usual, help=told
+    )
+
+
+def asking(at_once: int) -> Parser:
+    """The options of all commands that ask controllers."""
+    parser = Parser(add_help=False)
+    parser.add_argument("--tools", metavar="FOLDER", help="where bactool is")
+    add_number(parser, "apdu-timeout", 1, 60000, 1000)
+    add_number(parser, "apdu-retries", 0, 9, 2)
+    add_number(parser, "at-once", 1, 256, at_once)
+    return parser
+
+
+def deadline_of(seconds: Optional[int]) -> float:
+    """The time by the clock of `time.monotonic` which lies so many seconds ahead."""
+    return time.monotonic() + seconds if seconds else FOREVER

@@ -1,0 +1,129 @@
+"""A value as somebody writes it, made into the tag and the word that bacwp takes."""
+
+from __future__ import annotations
+
+import datetime
+import re
+from typing import Callable, Dict, NamedTuple
+
+from . import names
+from .decimals import encoded, shortest
+from .failures import wrong
+from .points import instance, object_type
+from .texts import clean
+
+# What a type is called in words, by its tag.
+TYPES = (
+    "null boolean unsigned signed real double octets text bits enumerated date time object"
+).split()
+LIMITS = {
+    names.UNSIGNED: (0, 2**64 - 1),
+    names.SIGNED: (-(2**63), 2**63 - 1),
+    names.ENUMERATED: (0, 2**32 - 1),
+}
+TIME = re.compile(r"([0-9]{1,2}):([0-9]{2})(?::([0-9]{2})(?:\.([0-9]{2}))?)?")
+
+
+class Encoded(NamedTuple):
+    """A value for bacwp: its tag and its word; and in plain form, as it is read back."""
+
+    tag: int
+    word: str
+    text: str
+
+    def shown(self) -> str:
+        """The value in plain form, a text in quotation marks."""
+        return f'"{self.text}"' if self.tag == names.STRING else self.text
+
+
+NULL = Encoded(names.NULL, "null", "null")
+States = Callable[[], Dict[str, int]]  # the numbers of names, which may have to be asked for
+
+
+def encode(word: str, tag: int, states: States) -> Encoded:
+    """The value of a word as one of this tag; it fails where it is none."""
+    if tag in names.INTEGERS:
+        return _integer(word.strip(), tag, states)
+    if tag in (names.REAL, names.DOUBLE):
+        octets = encoded(word.strip(), tag == names.DOUBLE)
+        return Encoded(tag, octets, shortest(octets))
+    if tag == names.STRING:
+        return Encoded(tag, word, clean(word))
+    return OTHERS[tag](word.strip())
+
+
+def _integer(word: str, tag: int, states: States) -> Encoded:
+    """A number, or the name of a state or of a number, in capital letters or small ones."""
+    if not re.fullmatch("-?[0-9]+", word):
+        found = states()
+        if word.lower() not in found:
+            told = "; it has " + ", ".join(found) if 0 < len(found) <= 20 else ""
+            raise wrong(f"no number and no state: {word}{told}")
+        word = str(found[word.lower()])
+    least, most = LIMITS[tag]
+    if not least <= int(word) <= most:
+        raise wrong("past the range: " + word)
+    word = str(int(word))
+    return Encoded(tag, word, word)
+
+
+def _boolean(word: str) -> Encoded:
+    if word not in ("true", "false"):
+        raise wrong("neither true nor false: " + word)
+    return Encoded(names.BOOLEAN, word, word)
+
+
+def _bits(word: str) -> Encoded:
+    if not re.fullmatch("[01]+", word):
+        raise wrong("no bits, as 0101: " + word)
+    return Encoded(names.BITS, word, f"B'{word}'")
+
+
+def _octets(word: str) -> Encoded:
+    if not re.fullmatch("(?:[0-9a-f]{2})+", word):
+        raise wrong("no octets in hexadecimal digits, as 01ff: " + word)
+    return Encoded(names.OCTETS, word, f"X'{word}'")
+
+
+def _date(word: str) -> Encoded:
+    try:
+        date = datetime.datetime.strptime(word, "%Y-%m-%d")
+        octets = bytes([date.year - 1900, date.month, date.day, date.isoweekday()])
+    except ValueError:
+        raise wrong("no date, as 2024-10-31: " + word) from None
+    return Encoded(names.DATE, octets.hex(), date.strftime("%Y-%m-%d"))
+
+
+def _time(word: str) -> Encoded:
+    found = TIME.fullmatch(word)
+    parts = [int(part or 0) for part in found.groups()] if found else [24, 0, 0, 0]
+    if parts[0] > 23 or parts[1] > 59 or parts[2] > 59:
+        raise wrong("no time, as 12:30 or 12:30:05.00: " + word)
+    return Encoded(
+        names.TIME, bytes(parts).hex(), f"{parts[0]:02}:{parts[1]:02}:{parts[2]:02}.{parts[3]:02}"
+    )
+
+
+def _object(word: str) -> Encoded:
+    kind, colon, number = word.partition(":")
+    if not colon:
+        raise wrong("no object, as 0:5 or analog-input:5: " + word)
+    text = f"{object_type(kind)}:{instance(number)}"
+    return Encoded(names.OBJECT, text, text)
+
+
+def _null(word: str) -> Encoded:
+    if word != "null":
+        raise wrong("not null: " + word)
+    return NULL
+
+
+OTHERS: Dict[int, Callable[[str], Encoded]] = {
+    names.NULL: _null,
+    names.BOOLEAN: _boolean,
+    names.BITS: _bits,
+    names.OCTETS: _octets,
+    names.DATE: _date,
+    names.TIME: _time,
+    names.OBJECT: _object,
+}

@@ -1,0 +1,52 @@
+"""Files that are read, and those that are written as a whole or stay as they were."""
+
+from __future__ import annotations
+
+import os
+import signal
+import sys
+import tempfile
+from typing import BinaryIO, Iterable
+
+from .calls import SIGNALS
+from .failures import BROKEN, Failure
+
+
+def opened(path: str) -> BinaryIO:
+    """The file, to be read; `-` is standard input."""
+    if path != "-":
+        return open(path, "rb")
+    if sys.stdin is None:
+        raise Failure("cannot read standard input: it is closed", BROKEN)
+    return sys.stdin.buffer
+
+
+def is_replaceable(path: str) -> bool:
+    """Whether there is a plain file, or nothing."""
+    return not os.path.lexists(path) or (os.path.isfile(path) and not os.path.islink(path))
+
+
+def replace_file(path: str, parts: Iterable[str]) -> None:
+    """Replaces a file as a whole, or leaves it as it was. A signal waits until that is done."""
+    mask = signal.pthread_sigmask(signal.SIG_BLOCK, SIGNALS)
+    try:
+        _replace(path, parts)
+    except OSError as error:
+        raise Failure(f"writing failed: {path}: {error.strerror}", BROKEN) from error
+    finally:
+        signal.pthread_sigmask(signal.SIG_SETMASK, mask)
+
+
+def _replace(path: str, parts: Iterable[str]) -> None:
+    folder, name = os.path.split(path)
+    number, new = tempfile.mkstemp(prefix=name + ".", dir=folder or ".")
+    try:
+        with open(number, "w", encoding="utf-8") as file:
+            file.writelines(parts)
+            file.flush()
+            os.fchmod(number, 0o644)
+            os.fsync(number)
+        os.rename(new, path)
+    except BaseException:
+        os.unlink(new)
+        raise

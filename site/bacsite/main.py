@@ -1,0 +1,43 @@
+"""The program: what its words say is done, and how that ended is its status."""
+
+from __future__ import annotations
+
+import sys
+from contextlib import suppress
+
+from .failures import BROKEN, Failure
+from .output import put, show
+from .words import no_options, parser_of
+
+UNKNOWN = 3  # to monitoring
+
+
+def main() -> int:
+    """The status of the program. A check that fails is UNKNOWN, whatever fails."""
+    given = sys.argv[1:]
+    checks = given[:1] == ["check"]
+    try:
+        if sys.stdout is None:
+            raise Failure("writing failed", BROKEN)
+        words = parser_of(given).parse_args(no_options(given))
+        status: int = words.work(words)
+        return status
+    except SystemExit:  # help or the version was asked for
+        return UNKNOWN if checks else 0
+    except Failure as failure:
+        text, status = str(failure), failure.status
+    except Exception as error:  # a fault of this program  pylint: disable=broad-except
+        text, status = repr(error), BROKEN
+    if checks:
+        with suppress(Failure):
+            put("BACNET UNKNOWN - " + text.replace("|", "/") + "\n")
+            return UNKNOWN
+        status = UNKNOWN
+    if text:
+        show(f"bacsite: {text}\n")
+    return status
+
+
+def run() -> None:
+    """Ends with the status of the program: what the one file that is built of the package calls."""
+    sys.exit(main())

@@ -1,0 +1,106 @@
+"""Points of many controllers are read, and printed as a table."""
+
+from __future__ import annotations
+
+import argparse
+from typing import Dict, Iterator, List, NamedTuple, Sequence
+
+from .calls import Calls
+from .command import Command
+from .controller import NO_SUCH_PROPERTY, Controller
+from .failures import MISSING
+from .names import PRESENT_VALUE, STATUS_FLAGS
+from .output import put
+from .points import POINT, Point, points_of
+from .processes import FOREVER
+from .texts import stamp
+from .values import NOTHING, Value, fault, flags_of
+from .workers import side_by_side
+
+
+class Reading(NamedTuple):
+    """The value of a point, and when it came. The flags are nothing where nobody looked at them."""
+
+    point: Point
+    value: Value
+    at: str
+    flags: Value = NOTHING
+
+
+def polled(
+    calls: Calls, points: Sequence[Point], with_flags: bool = False, deadline: float = FOREVER
+) -> Iterator[List[Reading]]:
+    """The points of each controller, as the controllers are ready."""
+    groups: Dict[str, List[Point]] = {}
+    for point in points:
+        groups.setdefault(point.address, []).append(point)
+    jobs = [
+        lambda group=group: _readings(
+            Controller(calls, group[0].address, deadline), group, with_flags
+        )
+        for group in groups.values()
+    ]
+    return side_by_side(calls, jobs)
+
+
+def in_order(points: Sequence[Point], groups: Iterator[List[Reading]]) -> List[Reading]:
+    """All of them, in the order of the list."""
+    places = {id(point): at for at, point in enumerate(points)}
+    readings = [reading for group in groups for reading in group]
+    return sorted(readings, key=lambda reading: places[id(reading.point)])
+
+
+def _readings(controller: Controller, points: Sequence[Point], with_flags: bool) -> List[Reading]:
+    return [reading_of(controller, point, with_flags) for point in points]
+
+
+def reading_of(controller: Controller, point: Point, with_flags: bool) -> Reading:
+    """The value of a point, and where that is a present value its flags, if they are wanted."""
+    reason = point.fault
+    if not reason and point.device is not None:
+        reason = controller.identify(point.device)
+    value = fault(reason) if reason else controller.value(*point.what, form=point.form)
+    flags = NOTHING
+    if with_flags and not value.fault and point.what[2:] == (PRESENT_VALUE,):
+        flags = flags_of(controller.value(*point.what[:2], STATUS_FLAGS))
+        if NO_SUCH_PROPERTY.fullmatch(flags.fault):
+            flags = NOTHING
+    return Reading(point, value, stamp(), flags)
+
+
+def row_of(reading: Reading) -> str:
+    """Time, point, value, and why that is missing, with tabs between."""
+    value = "-" if reading.value.fault else reading.value.text or "-"
+    return "\t".join([reading.at, reading.point.name, value, reading.value.fault or "-"]) + "\n"
+
+
+def arguments(parser: argparse.ArgumentParser) -> None:
+    """The words of poll."""
+    add_list(parser)
+    parser.add_argument(
+        "--sorted", action="store_true", help="in the order of the list, not as controllers answer"
+    )
+
+
+def add_list(parser: argparse.ArgumentParser) -> None:
+    """The list that a command reads."""
+    parser.add_argument(
+        "list", help="a file, a pipe, or - for standard input; a line of it: POINT " + POINT
+    )
+
+
+def work(words: argparse.Namespace) -> int:
+    """Prints the points of a list."""
+    points, missing = points_of(words.list), False
+    groups = polled(Calls.of(words), points)
+    for group in [in_order(points, groups)] if words.sorted else groups:
+        missing = missing or any(reading.value.fault for reading in group)
+        put("".join(map(row_of, group)))
+    return MISSING if missing else 0
+
+
+COMMAND = Command(
+    "prints the points of a list, with tabs between: time, point, value, and why that is missing",
+    arguments,
+    work,
+)

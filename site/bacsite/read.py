@@ -1,0 +1,89 @@
+"""One value is read, or all that an object has."""
+
+from __future__ import annotations
+
+import argparse
+import re
+from typing import Dict, List, Sequence
+
+from .calls import Calls
+from .command import Command, add_number
+from .controller import NO_SUCH_PROPERTY, NOT_ASKED, Controller
+from .failures import MISSING
+from .names import OBJECT_ID, OBJECT_NAME, OBJECT_TYPE, PROPERTIES, PROPERTY_LIST
+from .output import put
+from .points import POINT, Point, point_of
+from .poll import reading_of
+from .values import Value, fault, parts_of
+from .workers import alone
+
+
+def read_arguments(parser: argparse.ArgumentParser) -> None:
+    """The words of read."""
+    parser.add_argument("words", nargs="+", metavar="WORD", help=POINT)
+
+
+def read(words: argparse.Namespace) -> int:
+    """Prints the value of a point, or why there is none."""
+    point, calls = point_of("", words.words), Calls.of(words)
+    controller = Controller(calls, point.address)
+    value = alone(calls, lambda: reading_of(controller, point, with_flags=False)).value
+    put(value.shown() + "\n")
+    return MISSING if value.fault else 0
+
+
+def properties_arguments(parser: argparse.ArgumentParser) -> None:
+    """The words of properties."""
+    told = "[INSTANCE@]ADDRESS TYPE INSTANCE"
+    parser.add_argument("words", nargs=3, metavar="WORD", help=told)
+    more = "up to which number it asks where there is no property-list, "
+    add_number(parser, "last", 0, 4194303, 512, more)
+
+
+def properties(words: argparse.Namespace) -> int:
+    """Prints the properties that an object has."""
+    point, calls = point_of("", [*words.words, "present-value"]), Calls.of(words)
+    controller = Controller(calls, point.address)
+    values = alone(calls, lambda: _values(controller, point, words.last))
+    shown = {
+        number: value
+        for number, value in values.items()
+        if not NO_SUCH_PROPERTY.fullmatch(value.fault) and value.fault != NOT_ASKED
+    }
+    for number, value in shown.items():
+        put(f'{number} {PROPERTIES.get(number, "-")} {value.shown()}\n')
+    left = sum(value.fault == NOT_ASKED for value in values.values())
+    if left:
+        put(f"{left} of {len(values)} properties not asked\n")
+    return MISSING if left or not shown or any(it.fault for it in shown.values()) else 0
+
+
+def _values(controller: Controller, point: Point, last: int) -> Dict[int, Value]:
+    """The values by the numbers of the properties, the name alone where it is the wrong object."""
+    what = point.what[:2]
+    reason = "" if point.device is None else controller.identify(point.device)
+    name = fault(reason) if reason else controller.value(*what, OBJECT_NAME)
+    if name.fault and not NO_SUCH_PROPERTY.fullmatch(name.fault):
+        return {OBJECT_NAME: name}
+    values = {OBJECT_NAME: name}
+    for number in _numbers(controller, what, last):
+        if number != OBJECT_NAME:
+            values[number] = controller.value(*what, number)
+    return dict(sorted(values.items()))
+
+
+def _numbers(controller: Controller, what: Sequence[int], last: int) -> List[int]:
+    """The numbers that are asked for: by the property-list, or all of them up to the last."""
+    good, text = controller.read(*what, PROPERTY_LIST)
+    parts = parts_of(text)
+    if good and all(re.fullmatch("[0-9]{1,7}", part) for part in parts):
+        return sorted({OBJECT_ID, OBJECT_NAME, OBJECT_TYPE, *map(int, parts)})
+    return list(range(last + 1))
+
+
+READ = Command("prints the value of one property, or why there is none", read_arguments, read)
+PROPERTIES_COMMAND = Command(
+    "prints the properties that an object has: number, name and value",
+    properties_arguments,
+    properties,
+)

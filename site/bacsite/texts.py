@@ -1,0 +1,54 @@
+"""Texts as a terminal or a table can take them."""
+
+from __future__ import annotations
+
+import re
+import time
+import unicodedata
+from typing import List, Optional, Sequence
+
+
+def clean(text: str) -> str:
+    """A text in which what would steer a terminal or end a line is escaped."""
+    return "".join(
+        char if char.isprintable() else char.encode("unicode_escape").decode() for char in text
+    )
+
+
+def stamp(seconds: Optional[float] = None) -> str:
+    """A time as 2026-11-27T08:13:42Z; now where none is given."""
+    return time.strftime("%Y-%m-%dT%H:%M:%SZ", time.gmtime(seconds))
+
+
+def width(text: str) -> int:
+    """How many columns of a terminal a text takes."""
+    marks = sum(unicodedata.combining(char) != 0 for char in text)
+    wide = sum(unicodedata.east_asian_width(char) in "WF" for char in text)
+    return len(text) + wide - marks
+
+
+def table(rows: Sequence[Sequence[str]]) -> List[str]:
+    """Lines of rows, each column as wide as its widest cell, and a dash where a cell is empty."""
+    rows = [[cell or "-" for cell in row[:-1]] + [row[-1]] for row in rows]
+    widths = [max(map(width, column)) for column in zip(*rows)]
+    return [
+        "  ".join(cell + " " * (wide - width(cell)) for cell, wide in zip(row, widths)).rstrip()
+        for row in rows
+    ]
+
+
+CHARACTER_SETS = {"": "utf-8", "3:": "utf-32-be", "4:": "utf-16-be", "5:": "latin-1"}
+ESCAPE = re.compile(rb"\\(?:x([0-9a-f]{2})|(.))")
+
+
+def decoded(quoted: str) -> str:
+    """A text as bacrp prints it, SET:"TEXT", decoded; as it came where its set can't be read."""
+    charset, inner = quoted.split('"', 1)
+    octets = ESCAPE.sub(
+        lambda found: bytes.fromhex(found[1].decode()) if found[1] else found[2],
+        inner[:-1].encode(),
+    )
+    try:
+        return clean(octets.decode(CHARACTER_SETS[charset]))
+    except (KeyError, UnicodeDecodeError):
+        return quoted

@@ -1,0 +1,177 @@
+"""A property is written, by bacwp, once it is sure which one that is; and it is read back."""
+
+from __future__ import annotations
+
+import argparse
+from typing import NamedTuple, Optional, Tuple
+
+from . import addresses, names
+from .calls import BIND_FAILED, Calls
+from .command import Command, within
+from .controller import Controller
+from .encode import TYPES, Encoded
+from .failures import BROKEN, MISSING, WRONG_WORDS, Failure, wrong
+from .names import PRESENT_VALUE
+from .output import put
+from .points import index, instance, object_type, property_number
+from .processes import Outcome
+from .target import Place, encoded_for, looked_at, priorities
+from .values import Value
+from .workers import alone
+
+# What the standard keeps each priority for; the others are free.
+PRIORITY_NAMES = {
+    1: "manual-life-safety",
+    2: "automatic-life-safety",
+    5: "critical-equipment-control",
+    6: "minimum-on-off",
+    8: "manual-operator",
+}
+NOT_KNOWN = "outcome not known: the write may have been made"
+NOTHING_SENT = "nothing was sent"
+
+
+class Order(NamedTuple):
+    """What is to be written where."""
+
+    device: Optional[int]
+    place: Place
+    word: str
+    type: Optional[str]
+    priority: Optional[int]
+    dry: bool
+
+    def told(self, value: Encoded) -> str:
+        """It in words."""
+        where = "" if self.priority is None else f" at priority {self.priority}"
+        return f"write {value.shown()}{where}"
+
+
+class Ending(NamedTuple):
+    """How bacwp ended, in words, and the status for it."""
+
+    told: str
+    status: int
+    was_sent: bool = True
+    was_refused: bool = False
+
+
+def ending_of(outcome: Outcome) -> Ending:
+    """What the outcome of bacwp says of the write."""
+    line = outcome.lines[0] if len(outcome.lines) == 1 else outcome.told
+    if outcome.status == 0 and outcome.lines == ["ok"]:
+        return Ending("ok", 0)
+    if outcome.status == 1 and line.split(" ")[0] in ("error", "reject"):
+        return Ending("refused: " + line, MISSING, was_refused=True)
+    if outcome.status is None or outcome.told == BIND_FAILED:
+        return Ending(f"{NOTHING_SENT}: {line}", BROKEN, was_sent=False)
+    if outcome.status == 2:
+        return Ending(f"{NOTHING_SENT}: {line}", WRONG_WORDS, was_sent=False)
+    line = line or f"status {outcome.status}"
+    return Ending(f"{NOT_KNOWN} ({line})", MISSING if outcome.status == 1 else BROKEN)
+
+
+def written(controller: Controller, order: Order) -> int:
+    """Looks, writes, and looks again; the status of the program."""
+    try:
+        place, value = prepared(controller, order)
+    except Failure as failure:
+        raise Failure(f"{failure}; {NOTHING_SENT}", failure.status) from failure
+    put(f"device {controller.instance or 0} at {controller.address}\n")
+    put(f"object {place.which()} {place.name}\n")
+    put(f"before: {place.value.shown()}\n")
+    if order.dry:
+        put(f"{order.told(value)}: {NOTHING_SENT}, as was asked for\n")
+        return 0
+    ending = ending_of(_sent(controller, order, value))
+    put(f"{order.told(value)}: {ending.told}\n")
+    if not ending.was_sent:
+        return ending.status
+    found = _read_back(controller, order)
+    if ending.was_refused or (not found.fault and found.text == value.text):
+        return ending.status
+    put(f"not as written: {found.shown()}\n")
+    return ending.status or MISSING
+
+
+def prepared(controller: Controller, order: Order) -> Tuple[Place, Encoded]:
+    """What is there, and the value for it; it fails where that is not what is to be written."""
+    reason = controller.identify(order.device)
+    if reason:
+        raise Failure(reason, MISSING)
+    place = looked_at(controller, order.place)
+    value = encoded_for(controller, place, order.word, order.type)
+    if place.commandable and order.priority is None:
+        raise wrong(f"{place.which()} is commanded by priorities: name one by --priority")
+    if value.tag == names.NULL and not place.commandable:
+        raise wrong(f"null lets go of a priority: {place.which()} has no priority array")
+    return place, value
+
+
+def _sent(controller: Controller, order: Order, value: Encoded) -> Outcome:
+    kind, number, prop, *element = order.place.what
+    where = [controller.instance or 0, kind, number, prop, order.priority or 0, *(element or [-1])]
+    what = ["--", str(value.tag), value.word]
+    return controller.calls.write([*controller.options(), *map(str, where), *what])
+
+
+def _read_back(controller: Controller, order: Order) -> Value:
+    """Prints what the property is now. It gives what stands where the value was written."""
+    now = controller.value(*order.place.what)
+    put(f"now: {now.shown()}\n")
+    array = priorities(controller, order.place) if order.place.is_present_value else {}
+    for priority, found in array.items():
+        if found.text != "null":
+            name = PRIORITY_NAMES.get(priority, "")
+            told = f"priority {priority} ({name})" if name else f"priority {priority}"
+            put(f"{told}: {found.shown()}\n")
+    if not array:
+        return now
+    default = controller.value(*order.place.what[:2], names.RELINQUISH_DEFAULT)
+    put(f"relinquish-default: {default.shown()}\n")
+    return array.get(order.priority or 16, now)
+
+
+def arguments(parser: argparse.ArgumentParser) -> None:
+    """The words of write."""
+    parser.add_argument("address", metavar="[INSTANCE@]ADDRESS")
+    parser.add_argument("object_type", metavar="TYPE")
+    parser.add_argument("instance", metavar="INSTANCE")
+    parser.add_argument(
+        "value", metavar="VALUE", help="a decimal number, a state's name, a text, ..; or null"
+    )
+    told = "1, the most urgent, to 16; 8 is the manual operator's, 6 is the device's own"
+    parser.add_argument("--priority", metavar="N", type=within(1, 16), help=told)
+    parser.add_argument("--property", default="present-value", help="where not present-value")
+    parser.add_argument("--index", metavar="N", help="the element of an array")
+    parser.add_argument(
+        "--type", choices=TYPES[1:], help="where it is not known, as a vendor's own"
+    )
+    parser.add_argument("--dry-run", action="store_true", help="look at all, and send no write")
+
+
+def order_of(words: argparse.Namespace) -> Order:
+    """What the words order; it fails where they are wrong."""
+    device, address = addresses.one(words.address)
+    what = [object_type(words.object_type), instance(words.instance)]
+    what.append(property_number(words.property))
+    if words.index is not None:
+        what.append(index(words.index))
+    if words.priority == 6:
+        raise wrong("priority 6 is the device's own")
+    place = Place(address, tuple(what), is_present_value=what[2:] == [PRESENT_VALUE])
+    return Order(device, place, words.value, words.type, words.priority, words.dry_run)
+
+
+def work(words: argparse.Namespace) -> int:
+    """Writes a property, and reads it back."""
+    order, calls = order_of(words), Calls.of(words)
+    controller = Controller(calls, order.place.address)
+    return alone(calls, lambda: written(controller, order), quiet=True)
+
+
+COMMAND = Command(
+    "writes a property of the right device and reads it back: this moves real equipment",
+    arguments,
+    work,
+)

@@ -1,0 +1,86 @@
+#!/usr/bin/env python3
+"""Sees that the language refuses a `Drop` by hand of each type that holds a socket, a link, a stream, the runtime or a
+report: such a one could send, write or flush when a value is let go, and no contract speaks of that.
+
+Usage: tests/bodies/let_go.py [CRATE]; it needs the libraries of the crates below, as `make demo` keeps them. The status
+is 0 where each is refused by the error that stands beside it, and by no other. Each takes some seconds, in which
+nothing is proved; by hand, since `make documents` finds any such `Drop` in the sources.
+"""
+import os
+import re
+import shutil
+import subprocess
+import sys
+import tempfile
+
+sys.path.insert(0, os.path.dirname(__file__) + "/..")
+from tree import TOP, text_of
+from wrong_bodies import command
+
+MOVED, BOUND = "move-out-of-place", "specialized-drop"
+# Of each type: its crate and file, its head there, the parameters of the `impl`, the type, what the `Drop` does with
+# `self`, the fields, and the error that refuses it.
+SOCKET = "socket, made_of: _, buffer: _, time: _, wait_ms: _, refused: _, failed: _, history: _"
+ADDRESS = "std::net::SocketAddr::V4(std::net::SocketAddrV4::new(std::net::Ipv4Addr::from_bits(0x7f00_0001), 9))"
+TYPES = [
+    ("bac_links", "udp", "pub struct UdpLink<S: Socket + Drop> {", "<S: Socket + Drop>", "UdpLink<S>",
+     f"let UdpLink {{ mut {SOCKET} }} = self; let _ = socket.send_to(&[0], {ADDRESS});", MOVED),
+    ("bac_links", "socket", "pub struct SystemSocket<R: Clock + Drop> {", "<R: Clock + Drop>", "SystemSocket<R>",
+     f"let SystemSocket {{ rt: _, socket, made: _, log: _ }} = self; let _ = socket.send_to(&[0], {ADDRESS});", MOVED),
+    ("bac_links", "memory", "pub struct MemoryLink<A: Allocator = Global> {", "<A: Allocator>", "MemoryLink<A>",
+     "let MemoryLink { alloc: _, steps: _, next: _, time: _, sent: _, fail_send: _, failed: _, history: _ } = self;",
+     MOVED),
+    ("bac_print", "noted", "pub(crate) struct Noted<T> {", "<T: Write + Drop>", "Noted<T>",
+     'let Noted { mut stream, transcript: _ } = self; let _ = stream.write(b"x");', BOUND),
+    ("bac_print", "noted", "pub(crate) struct Noted<T> {", "<T: Write + Drop>", "Noted<T>",
+     "let Noted { mut stream, transcript: _ } = self; let _ = stream.flush();", BOUND),
+    ("bac_print", "checked", "pub struct Checked<T> {", "<T: Write + Drop>", "Checked<T>",
+     'let Checked { mut inner, failed: _, reads: _ } = self; let _ = inner.write(b"x");', BOUND),
+    ("bac_tools", "program", "pub struct Ran<N: Drop, L: Drop> {", "<N: Drop, L: Drop>", "Ran<N, L>",
+     "let Ran { report: _, socket: _, unasked: _ } = self;", MOVED),
+    ("bac_tools", "program", "pub struct Ran<N: Drop, L: Drop> {", "<N: Drop, L: Link + Drop>", "Ran<N, L>",
+     "let Ran { report: _, socket, unasked: _ } = self; if let Some(Ok(mut link)) = socket { let _ = link.now(); }",
+     MOVED),
+    ("bac_tools", "program", "pub struct Ended<N: Drop, L: Drop, R: Drop, W: Drop, E: Drop> {",
+     "<N: Drop, L: Drop, R: Drop, W: Write + Drop, E: Drop>", "Ended<N, L, R, W, E>",
+     'let Ended { ran: _, reader: _, mut writer, errors: _ } = self; tell(None, &mut writer);', BOUND),
+    ("bactool", "sockets", "pub(crate) struct Sockets<'r, H> {", "<'r, H: Net>", "Sockets<'r, H>",
+     "let Sockets { rt, alloc: _ } = self; let _ = std::net::UdpSocket::bind(rt, (std::net::Ipv4Addr::LOCALHOST, 9));",
+     BOUND),
+]
+
+
+def said_of(crate, file, head, given, kind, does):
+    """What the check says where the type has this `Drop` in place of the derived one."""
+    with tempfile.TemporaryDirectory(prefix="let-go-") as here:
+        for part in ("src", "specs", "proofs"):
+            if os.path.isdir(f"{TOP}/crates/{crate}/{part}"):
+                shutil.copytree(f"{TOP}/crates/{crate}/{part}", f"{here}/{part}")
+        text = text_of(f"{here}/src/{file}.rt")
+        derived = f"#[derive(Drop)]\n{head}"
+        if text.count(derived) != 1:
+            return f"{derived!r} stands {text.count(derived)} times"
+        by_hand = f"impl{given} Drop for {kind} {{ fn drop(self) {{ {does} }} }}\n{head}"
+        with open(f"{here}/src/{file}.rt", "w", encoding="utf-8") as it:
+            it.write(text.replace(derived, by_hand))
+        words = [*command(crate, TOP), "--only=nothing"]
+        how = {"cwd": here, "capture_output": True, "text": True, "check": False}
+        ran = subprocess.run(words, stdin=subprocess.DEVNULL, **how)
+        return ran.stdout + ran.stderr
+
+
+def main():
+    bad = 0
+    for crate, file, head, given, kind, does, error in TYPES:
+        if sys.argv[1:] and crate not in sys.argv[1:]:
+            continue
+        said = said_of(crate, file, head, given, kind, does)
+        errors = set(re.findall(r"error\[([\w-]+)\]", said))
+        is_well = errors == {error}
+        bad += not is_well
+        print(f"{crate}: {kind}: {does}\n    {error if is_well else f'NOT {error}: ' + said[-600:]}", flush=True)
+    return 1 if bad else 0
+
+
+if __name__ == "__main__":
+    sys.exit(main())

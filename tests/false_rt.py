@@ -1,0 +1,151 @@
+#!/usr/bin/env python3
+"""Tries build.py, parts.py and .ci/run in trees of two crates, where rt, make's scripts and the script of the wrong
+bodies are false and fail as they are told: what comes of it has to be said, and to be the status. Usage:
+tests/false_rt.py
+"""
+import os
+import re
+import shutil
+import signal
+import subprocess
+import sys
+import tempfile
+import time
+from concurrent.futures import ThreadPoolExecutor
+
+from tree import TOP, text_of
+
+# A false command does what FALSE says of its words: `lib low: exit 1; bad: echo ..` are rules, of which the first whose
+# front the words have is run. Else it does well.
+RULES = r"""#!/bin/bash
+words="$*"
+while IFS= read -r rule; do
+    [[ -n $rule && "${0##*/} $words " == "${rule%%: *} "* ]] && { eval "${rule#*: }"; exit; }
+done <<<"$FALSE"
+"""
+RT = RULES + r"""
+case $1 in
+    lib | run) mkdir -p out/rlib out/incremental; echo built >"out/${PWD##*/}" ;;
+    test | try) echo 'test result: ok. 7 passed; 0 failed' ;;
+    ci) mkdir -p crates/bactool/out; echo built >crates/bactool/out/bactool; echo '20 passed, 0 failed' ;;
+esac
+"""
+SCRIPT = RULES + 'echo "tests/${0##*/}: 5 calls as they are to be"\n'
+BODIES = RULES + r"""
+case $1 in
+    --list) echo '9 bodies, of which 0 don'"'"'t fit the code' ;;
+    *) echo '9 wrong bodies: 8 shown wrong, and 2 of 2 twins; refused by rt; 1 processor seconds; 0 failed' ;;
+esac
+"""
+SELF_TEST = RULES + "echo '6 bodies and twins with and without a fault, 0 not told as they are to be'\n"
+MAKEFILE = """
+examples:
+	@tests/one.sh
+	@tests/two.sh
+lint:
+	@tests/three.sh
+documents:
+	@tests/four.sh
+"""
+GOOD = r"failed, 0 skipped$"
+TRIALS, TEST, GATE = ["./build.py", "--tests"], ["tests/parts.py", "test"], ["tests/parts.py", "gate"]
+NONE = "0 wrong bodies: 0 shown wrong, and 0 of 0 twins; 0 failed"
+# A command, the rules of what is false, the status, and what has to be said.
+ROWS = [
+    (["./build.py"], "", 0, r"2 of 2 +bactool +proved"),
+    (["./build.py"], "rt lib: echo 'fn x: no proof'; exit 1", 1, r"low is not proved .*low\.log:\nfn x: no proof\n$"),
+    (["./build.py"], "rt lib: kill -9 $$", 1, r"low is not proved"),
+    (["./build.py"], "rt run: exit 2", 1, r"1 of 2 +low +proved(.|\n)*bactool is not proved"),
+    (TRIALS, "", 0, r"bac_trials +7 tests passed"),
+    (TRIALS, "", 0, r"tool_trials +7 tests passed, not proved"),
+    (TRIALS, "rt test: echo 'test result: ok. 0 passed; 0 failed'", 1, r"bac_trials has a test"),
+    (TRIALS, "rt test: true", 1, r"bac_trials has a test that is not proved, or failed"),
+    (TRIALS, "rt try: echo 'test result: FAILED. 6 passed; 1 failed'; exit 1", 1, r"tool_trials has"),
+    (TEST, "", 0, r"\n40 passed, 0 " + GOOD),
+    (TEST, "rt test: exit 1", 1, r"trials FAILED(.|\n)*failed: trials\n\d+ passed, 1 " + GOOD),
+    (TEST, "two.sh: echo 'tests/two.sh: 0 calls as they are to be'", 1, r"failed: examples\n\d+ passed, 1 " + GOOD),
+    (TEST, "two.sh: true", 1, r"failed: examples\n\d+ passed, 1 " + GOOD),
+    (TEST, "two.sh: echo 'tests/two.sh: 9 calls, 3 not as they are to be'; exit 1", 1, r"\d+ passed, 3 " + GOOD),
+    (TEST, "one.sh: exit 1", 1, r"failed: examples\n"),
+    (TEST, "three.sh: echo 'tests/three.sh: cc is not installed, left out'", 1, r"left out\n(.|\n)*failed, 1 skipped$"),
+    (TEST, "three.sh: echo 'tests/three.sh: 2 calls'; echo 'x: cc is not installed, left out'", 0, r", 1 skipped$"),
+    (TEST, "wrong_bodies.py: true", 1, r"failed: wrong bodies\n\d+ passed, 1 " + GOOD),
+    (TEST, f"wrong_bodies.py: echo '{NONE}'", 1, r"failed: wrong bodies"),
+    (GATE, "", 0, r"\n58 passed, 0 " + GOOD),
+    ([".ci/run"], "", 0, r"\n58 passed, 0 " + GOOD),
+    (GATE, "four.sh: exit 1", 1, r"^((?!rt ci)(.|\n))*failed: documents\n\d+ passed, 1 " + GOOD),
+    (GATE, "wrong_bodies.py --list: echo \"9 bodies, of which 2 don't fit the code\"; exit 1", 1, r"failed: fit\n"),
+    (GATE, "wrong_bodies.py --list: true", 1, r"failed: fit\n"),
+    (GATE, "rt ci: echo 'rt: low NOT PROVED'; sleep 60", 1, r"failed: rt ci\n\d+ passed, 1 " + GOOD),
+    (GATE, "rt ci: echo '19 passed, 1 failed'; exit 1", 1, r"failed: rt ci\n"),
+    (GATE, "rt ci: echo '0 passed, 0 failed'", 1, r"failed: rt ci\n"),
+    (GATE, "rt ci: echo '20 passed, 0 failed'", 1, r"failed: program\n"),
+    (GATE, "self_test.py: echo '6 bodies and twins with and without a fault, 1 not told'", 1, r"failed: self test\n"),
+]
+
+
+def made(room):
+    """A tree with a crate below the program, and the trials."""
+    tree, tools = f"{room}/tree", f"{room}/bin"
+    os.makedirs(f"{tree}/tests/bodies")
+    os.mkdir(tools)
+    os.mkdir(f"{tree}/.ci")
+    for file in ("build.py", "tests/parts.py", "tests/tree.py", ".ci/run"):
+        shutil.copy(f"{TOP}/{file}", f"{tree}/{file}")
+    crates = "low:\nbactool: low\nbac_trials: low\ntool_trials: low\n"
+    texts = {"Makefile": MAKEFILE, "HANDLES": "", "crates.txt": crates}
+    texts.update((f"crates/{name}/src/lib.rt", "//! x\n") for name in ("low", "bactool", "bac_trials", "tool_trials"))
+    texts.update((f"tests/{name}.sh", SCRIPT) for name in ("one", "two", "three", "four"))
+    texts.update({"tests/bodies/wrong_bodies.py": BODIES, "tests/bodies/self_test.py": SELF_TEST, "../bin/rt": RT})
+    wanted = re.search(r"for tool in (.*); do", text_of(".ci/run"))[1].split()
+    texts.update((f"../bin/{name}", RULES) for name in wanted)
+    for path, text in texts.items():
+        os.makedirs(os.path.dirname(f"{tree}/{path}"), exist_ok=True)
+        with open(f"{tree}/{path}", "w", encoding="utf-8") as file:
+            file.write(text)
+        os.chmod(f"{tree}/{path}", 0o755)
+    return {"cwd": tree, "text": True, "stdout": subprocess.PIPE, "stderr": subprocess.STDOUT}
+
+
+def tried(row):
+    """What is not so of a row."""
+    command, rules, status, wanted = row
+    with tempfile.TemporaryDirectory() as room:
+        how = made(room)
+        outer = {**os.environ, "PATH": f"{room}/bin:{os.environ['PATH']}", "FALSE": rules}
+        if command != ["./build.py"]:
+            subprocess.run(["./build.py"], check=True, env={**outer, "FALSE": ""}, **how)
+        done = subprocess.run(command, check=False, env=outer, **how)
+    if done.returncode == status and re.search(wanted, done.stdout.rstrip("\n") + "\n" * wanted.endswith("\\n$")):
+        return ""
+    return f"{' '.join(command)} by [{rules}]: status {done.returncode}, not {status} with /{wanted}/:\n{done.stdout}"
+
+
+def stopped(command):
+    """A run that is told to end does so, and a crate's own folder is in its place then."""
+    with tempfile.TemporaryDirectory() as room:
+        how = made(room)
+        outer = {**os.environ, "PATH": f"{room}/bin:{os.environ['PATH']}"}
+        subprocess.run(["./build.py"], check=True, env={**outer, "FALSE": ""}, **how)
+        rules = "rt: touch ../../../begun ../../begun; sleep 60"
+        with subprocess.Popen(command, env={**outer, "FALSE": rules}, **how) as process:
+            while not os.path.exists(f"{room}/tree/out/build/begun") and process.poll() is None:
+                time.sleep(0.05)
+            process.send_signal(signal.SIGTERM)
+            said = process.stdout.read()
+        is_kept = os.path.isdir(f"{room}/tree/crates/low/out/rlib")
+    if process.returncode == 130 and "stopped" in said and is_kept:
+        return ""
+    return f"{' '.join(command)}, told to end: status {process.returncode}, the crate's folder kept: {is_kept}:\n{said}"
+
+
+def main():
+    with ThreadPoolExecutor(4) as pool:
+        wrong = [it for it in (*pool.map(tried, ROWS), *pool.map(stopped, (["./build.py"], TEST))) if it]
+    print("".join(f"{it}\n" for it in wrong), end="")
+    print(f"tests/false_rt.py: {len(ROWS) + 2} runs of build.py and parts.py, {len(wrong)} not as they are to be")
+    return 1 if wrong else 0
+
+
+if __name__ == "__main__":
+    sys.exit(main())

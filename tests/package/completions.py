@@ -1,0 +1,103 @@
+#!/usr/bin/env python3
+"""Asks bash, zsh and fish what each line completes to, by the files that completions/make.py makes, and compares. It
+says which of them is not installed. Usage: tests/package/completions.py PROGRAM
+"""
+import os
+import re
+import shutil
+import subprocess
+import sys
+import tempfile
+
+sys.path.insert(0, os.path.dirname(__file__) + "/..")
+from tree import TOP, text_of
+
+PROGRAM = os.path.realpath(sys.argv[1])
+TOOLS = ["bacrp", "bacwp", "bacwi", "bacdev", "bactrace"]
+TAGS = [str(tag) for tag in range(13)]
+BASH = """for line in "${@:2}"; do
+    tool=${line%% *}; [[ $tool == bacsite ]] || tool=bactool
+    source "$1/$tool.bash"
+    COMP_LINE=$line COMP_POINT=${#line}; "_$tool"
+    printf "%s\\n" "of $line" "${COMPREPLY[@]}"
+done"""
+FISH = """for name in $argv[1]/*.fish; source $name; end
+for line in $argv[2..-1]; echo "of $line"; complete -C $line; end"""
+SHELLS = {
+    "bash": ["bash", "-c", BASH, "bash"],
+    "zsh": [TOP + "/tests/package/complete.zsh"],
+    "fish": ["fish", "--no-config", "-c", FISH],
+}
+
+
+def help_of(*words):
+    how = {"env": {**os.environ, "COLUMNS": "200"}, "stdout": subprocess.PIPE, "text": True}
+    return subprocess.run([*words, "--help"], check=False, **how).stdout
+
+
+def options(*words):
+    """The long options that help tells of."""
+    return sorted(re.findall(r"(?m)^ +(?:-[A-Za-z](?: [A-Z]+)?, )?(--[a-z-]+)\b", help_of(*words)))
+
+
+def rows():
+    """Lines that are being typed, and what may follow each."""
+    site = ["python3", TOP + "/site/bacsite"]
+    commands = re.findall(r"(?m)^    ([a-z]+)(?: .*)?$", help_of(*site))
+    for line, words in {"bactool bac": TOOLS, "bactool help ": TOOLS, "bactool ": [*TOOLS, "help"]}.items():
+        yield line, words
+    for tool in TOOLS:
+        yield f"{tool} --", options(PROGRAM, tool)
+        yield f"bactool {tool} 1 --", options(PROGRAM, tool)
+    for front in ("bacwp", "bactool bacwp --mac 127.0.0.1:47808", "/usr/bin/bacwp --mac=127.0.0.1:47808"):
+        yield f"{front} 1234 1 1 85 8 -1 ", TAGS
+        yield f"{front} 1234 1 1 85 8 -1 1", ["1", "10", "11", "12"]
+        yield f"{front} 1234 1 1 85 8 -1 4 41a00000 ", TAGS
+        yield f"{front} 1234 1 1 85 8 -1 4 ", []
+        yield f"{front} 1234 1 1 85 8 ", []
+    yield "bacrp 1234 0 5 85 --mac ", []
+    yield "bacwp 1234 1 1 85 8 -1 -- 4 --port ", TAGS  # behind -- nothing is an option
+    yield "bacsite ", commands
+    yield "bacsite p", [name for name in commands if name[0] == "p"]
+    yield "bacsite --", ["--help", "--version"]
+    for command in commands:
+        yield f"bacsite {command} x --", options(*site, command)
+    yield "bacsite read --apdu-timeout ", []
+    for typed, wanted in [("analog-o", ["analog-output"]), ("present-v", ["present-value"])]:
+        for front in ("read 192.0.2.7", "check -w 1:2 192.0.2.7 1 1", "properties 192.0.2.7 real"):
+            yield f"bacsite {front} {typed}", wanted
+    for front in ("write 192.0.2.7", "write 192.0.2.7 1 1 20 --property"):
+        yield f"bacsite {front} analog-o", ["analog-output"]
+    yield "bacsite write 192.0.2.7 1 1 20 --type dou", ["double"]
+    yield "bacsite capture site.pcap --only ", ["failed", "slow"]
+    yield "bacsite read analog-o", []
+
+
+def completed(shell, folder, lines):
+    """What the shell completes each of these lines to."""
+    how = {"stdout": subprocess.PIPE, "stderr": subprocess.STDOUT, "text": True, "cwd": folder}
+    said = subprocess.run([*SHELLS[shell], folder, *lines], check=False, **how).stdout
+    parts = re.split(r"(?m)^of (.*)\n", said)
+    return {line: sorted(filter(None, (it.split("\t")[0] for it in told.split("\n"))))
+            for line, told in zip(parts[1::2], parts[2::2])}
+
+
+def main():
+    wanted, wrong = dict(rows()), 0
+    with tempfile.TemporaryDirectory() as folder:
+        subprocess.run([TOP + "/completions/make.py", folder], check=True)
+        for shell in SHELLS:
+            if not shutil.which(shell):
+                print(f"tests/package/completions.py: {shell} is not installed, left out")
+                continue
+            found = completed(shell, folder, wanted)
+            different = [line for line, words in wanted.items() if found.get(line) != sorted(words)]
+            for line in different:
+                print(f"{shell}: [{line}] gives {str(found.get(line))[:200]}, not {sorted(wanted[line])}")
+            wrong += len(different)
+            tried = f"{len(wanted)} lines in {shell}, {len(different)} not as they are to be"
+            print(f"tests/package/completions.py: {tried}")
+    return 1 if wrong else 0
+
+
+sys.exit(main())

@@ -1,0 +1,271 @@
+#!/usr/bin/env python3
+"""Measures what the documents and manual pages say in numbers, and reads it back there: statuses, times, ranges, the
+points of the small device, the unit for systemd. Usage: tests/package/facts.py PROGRAM
+"""
+import contextlib
+import os
+import re
+import shutil
+import subprocess
+import sys
+import tempfile
+
+sys.path.insert(0, os.path.dirname(__file__) + "/..")
+from tree import TOP, free_port, local_socket, server, text_of
+
+PROGRAM = os.path.realpath(sys.argv[1])
+SITE = ["python3", TOP + "/site/bacsite"]
+WRONG, READ_BACK = [], []
+
+
+def run(words, given="", **how):
+    done = subprocess.run(words, check=False, input=given, text=True, capture_output=True, timeout=60, **how)
+    return done.returncode, done.stdout
+
+
+def plain(text):
+    """A text on one line, without the marks of pages and documents."""
+    text = re.sub(r"(?m)^\.\\?\"?(?:[A-Z][a-z] )?", "", text)
+    return re.sub(r" ([.,;:])", r"\1", " ".join(re.sub(r"[`*]|\\&|\bFl Fl |\bFl (?=[a-z]\b)", "", text).split()))
+
+
+def says(document, *sentences):
+    for sentence in sentences:
+        READ_BACK.append(sentence)
+        if plain(sentence).lower() not in plain(text_of(document)).lower():
+            WRONG.append(f"{document} does not say: {sentence}")
+
+
+def statuses(device):
+    """The status by what happened, of the tools and of bacsite, each seen to happen."""
+    mac = ["--mac", device]
+    silent = [*mac[:1], "127.0.0.1:9", "--apdu-timeout", "20", "--apdu-retries", "0"]
+    read, write = [PROGRAM, "bacrp", "1234", "0", "5", "85"], [PROGRAM, "bacwp", "1234", "1", "1", "85", "8", "-1"]
+    ended = {
+        "value": read + mac, "written": [*write, "4", "41a00000", *mac], "help": [PROGRAM, "--help"],
+        "found": [PROGRAM, "bacwi", *mac, "--apdu-timeout", "1500"], "no line": [PROGRAM, "bacwi", *silent[:-2]],
+        "silent": read + silent, "refused": [PROGRAM, "bacrp", "1234", "0", "99", "85", *mac],
+        "write unanswered": [*write, "4", "41a00000", *silent], "words": [*read, "--mac", "localhost"],
+        "write words": [*write, "4", "20.0", *mac], "search words": [PROGRAM, "bacwi"],
+        "device words": [PROGRAM, "bacdev", "x"], "bind": [PROGRAM, "bacdev", "1", "--port", device.split(":")[1]],
+        "script": [PROGRAM, "bactrace"], "read": [*SITE, "read", device, "0", "5", "85"],
+        "missing": [*SITE, "read", device, "0", "99", "85"], "no number": [*SITE, "poll", "/dev/stdin"],
+        "site words": [*SITE, "read"], "no list": [*SITE, "poll", "/nowhere"],
+        "no bactool": [*SITE, "read", "--tools", "/nowhere", device, "0", "5", "85"],
+        "OK": [*SITE, "check", "-c", "50:90", device, "0", "5", "85"],
+        "WARNING": [*SITE, "check", "-w", "60:70", "-c", "50:90", device, "0", "5", "85"],
+        "CRITICAL": [*SITE, "check", "-c", "0:1", device, "0", "5", "85"],
+        "UNKNOWN": [*SITE, "check", device, "0", "99", "85"],
+    }
+    site = {**os.environ, "PATH": os.path.dirname(PROGRAM) + ":" + os.environ["PATH"]}
+    given = {"no number": f"mode {device} real 14 1 85\n", "script": f"read {device} 0 5 85\n"}
+    found = {what: run(words, given.get(what, ""), env=site)[0] for what, words in ended.items()}
+    found["bad line"] = run([PROGRAM, "bactrace"], "READ\n")[0]
+    found["long line"] = run([PROGRAM, "bactrace"], "#" * 4097 + "\n")[0]
+    found["line of 4096"] = run([PROGRAM, "bactrace"], "#" * 4096 + "\n")[0]
+    with server(port := free_port(), PROGRAM, "bacdev", "1", "--port", str(port), "--count", "1") as one:
+        run([PROGRAM, "bacwi", "--mac", f"127.0.0.1:{port}", "--apdu-timeout", "200"])
+        found["counted"] = one.wait(10)
+    with open("/dev/full", "w", encoding="utf-8") as full:
+        found["writing failed"] = subprocess.run(read + mac, check=False, stdout=full, stderr=full).returncode
+    return found
+
+
+def sent():
+    """The request that bacrp sends, as octets, and the times of it in seconds where nobody answers, by its defaults."""
+    defaults = re.findall(r"\[default: (\d+)\]", run([PROGRAM, "bacrp", "--help"])[1])
+    timeout, retries = int(defaults[0]) // 1000, int(defaults[1])
+    with local_socket() as field:
+        field.settimeout(10)
+        mac = "127.0.0.1:%d" % field.getsockname()[1]
+        with subprocess.Popen([PROGRAM, "bacrp", "1234", "0", "5", "85", "--mac", mac]) as tool:
+            octets = field.recv(2048)
+            tool.kill()
+    return octets, timeout, retries
+
+
+def times_and_numbers():
+    octets, timeout, retries = sent()
+    whole = timeout * (retries + 1)
+    *first, last = [str(timeout * time) for time in range(retries + 1)]
+    says("SECURITY.md", f"timeout times (1 + retries), which is {whole} seconds by default",
+         f"the invoke id of bacrp and bacwp is always {octets[8]}.", f"gives its request the number {octets[8]},",
+         f"A request has {len(octets)} octets")
+    says("docs/GUIDE.md", f"no answer in timeout times (retries + 1): {whole} seconds by default")
+    says("README.md", f"With {timeout} seconds, {retries} retries and no answer it is sent at {', '.join(first)} and"
+         f" {last} seconds, and ends at {whole}.")
+    says("man/bactool.1", f"gives its request the number {octets[8]},")
+    most = re.search(r"pub const PLACES: usize = (\d+);", text_of("crates/bac_tsm/src/limits.rt"))[1]
+    says("README.md", f"has at most {most} requests open")
+    says("docs/PROOFS.md", f"at each position at most {'sixty-four' if most == '64' else most} are open")
+    body = re.search(r"LONGEST_BODY: usize = (\d+)", text_of("crates/bac_pdu/src/apdu.rt"))[1]
+    for document in ("docs/GUIDE.md", "man/bactool.1", "man/bacwp.1"):
+        says(document, f"object, property and values have more than {body} octets")
+    first, count = map(int, re.search(r"FIRST_PORT, PORTS = (\d+), (\d+)", text_of("site/bacsite/calls.py")).groups())
+    says("SECURITY.md", f"from {first} to {first + count - 1} in turn", f"comes {count:,} calls later")
+    says("man/bacsite.1", f"the ports {first} to {first + count - 1} in turn")
+    says("SECURITY.md", f"one of some {round(60999 - 32768, -3):,}, so", f"some {round(60999 - 32768, -3):,} on Linux")
+    asked = dict(re.findall(r"(--apdu-\w+) N +\d+ to \d+; (\d+)", run([*SITE, "read", "--help"])[1]))
+    times = ["once", "twice", "three times", "four times"][int(asked["--apdu-retries"])]
+    says("docs/GUIDE.md", f"They ask for {asked['--apdu-timeout']} ms, {times}, where")
+
+
+def values():
+    """Of a number that is written, the least and the greatest on the page are taken, and what is past them is not."""
+    write = [PROGRAM, "bacwp", "1", "1", "1", "85", "0", "-1"]
+    silent = ["--mac", "127.0.0.1:9", "--apdu-timeout", "1", "--apdu-retries", "0"]
+    status = lambda tag, value: run([*write, tag, *silent, "--", str(value)])[0]
+    page = plain(text_of("man/bacwp.1"))
+    for tag, kind in [("2", "Unsigned"), ("3", "Signed"), ("9", "Enumerated")]:
+        least, most = map(int, re.search(rf"\b{tag} {kind} (-?\d+) to (\d+)", page.replace("\\", "")).groups())
+        ends = [status(tag, value) for value in (least - 1, least, most, most + 1)]
+        same(f"man/bacwp.1: {kind} from {least} to {most}", ends, [2, 1, 1, 2])
+    number = dict(reversed(it.split(" ", 1)) for it in re.search(
+        r"(?m)^segmentation-supported \| (.*)$", text_of("site/bacsite/numbers.txt"))[1].split(", "))
+    says("man/bacwi.1", f"is {number['both ways']} for both ways, {number['sends in parts']} for sending,"
+         f" {number['takes parts']} for receiving and {number['none']} for none;")
+
+
+def turns_of_a_device():
+    count = re.search(r"\[default: (\d+)\]\n  -h", run([PROGRAM, "bacdev", "--help"])[1])[1]
+    turns = int(re.search(r"(?m)^most_turns = (\d+)$", text_of("crates/bac_links/specs/Limits.antt"))[1])
+    hours = turns // 3600
+    says("SECURITY.md", f"{turns:,} turns end a call, a search and bacdev.", f"or some {hours} hours without any",
+         f"end it: {int(count):,} datagrams")
+    says("docs/GUIDE.md", f"({int(count):,} where none is given), and with turns spent after {turns:,} turns",
+         f"the tool has waited {turns:,} times")
+    says("man/bactool.1", f"The tool has waited {turns} times.")
+    says("man/bacdev.1", f"after {turns} turns.", f"ends after some {hours} hours.", f"to {count}; {count} by default.")
+
+
+def statuses_are_said(device):
+    on = statuses(device)
+    refused = "where a word is refused and nothing was sent."
+    says("man/bacrp.1", f"{on['value']} where a value was read, {on['silent']} for every other line above,"
+         f" {on['words']} {refused}")
+    same("an Error of bacrp", on["refused"], on["silent"])
+    says("man/bacwp.1", f"{on['written']} for ok, {on['write unanswered']} for every other line above,"
+         f" {on['write words']} {refused}",
+         f"Only status {on['write words']} says that nothing was sent.")
+    says("man/bacwi.1", f"{on['found']} where a device answered, {on['no line']} where none did, {on['search words']}"
+         f" {refused}")
+    says("man/bacdev.1", f"{on['counted']} after count datagrams, or where help was shown; {on['device words']} for"
+         f" wrong words; {on['bind']} for", f"it ends, with status {on['counted']}, after its datagrams",
+         f"turns spent , status {on['bind']},".replace(" ,", ","))
+    says("man/bactrace.1", f"{on['script']} where the script ran to its end, also where a request in it failed;"
+         f" {on['bad line']} for a line that is bad or has more than 4096 octets")
+    same("lines of 4096 and of 4097 octets", (on["line of 4096"], on["long line"]), (0, on["bad line"]))
+    says("SECURITY.md", f"or another fault with status {on['writing failed']} may come once the datagram was sent.",
+         f"Status {on['write words']}, status 4 and bind failed alone say", f"turns spent and status {on['bind']}.",
+         f"After any status but {on['written']} of bacwp", f"with status {on['value']} bacrp prints another object's")
+    tables_of_the_guide(on)
+    says("docs/GUIDE.md", f"as a line and a status {on['OK']} to {on['UNKNOWN']}")
+    page = re.search(r"(?ms)^\.Sh EXIT STATUS\n(.*?)^\.Sh", text_of("man/bacsite.1"))[1]
+    texts = {number: plain(text) for number, text in re.findall(r"(?ms)^\.It (\d)\n(.*?)(?=^\.It|^\.El)", page)}
+    for what, words in [("read", "all that was asked for came"), ("missing", "something is missing"),
+                        ("no number", "no number where one is wanted"), ("site words", "words, or a list, that are"),
+                        ("no list", "a stream or a file that failed"), ("no bactool", "or no bactool 1")]:
+        same(f"man/bacsite.1: the status of: {words}", [it for it in texts if words in texts[it]], [str(on[what])])
+    said = f"That of check is {on['OK']} for OK, {on['WARNING']} for WARNING, {on['CRITICAL']} for CRITICAL, and"
+    says("man/bacsite.1", f"{said} {on['UNKNOWN']} for UNKNOWN")
+
+
+def tables_of_the_guide(on):
+    """The status beside each line and each message."""
+    lines, messages = text_of("docs/GUIDE.md").split("\n### What a message can mean\n")
+    row = r"(?m)^\| (.+?) \| (\d(?:, \d)*) \|"
+    for line, status in re.findall(row, lines.split("\n## What a line means")[1]):
+        told = f"{on['words']}, {on['bind']}, 4" if line.startswith("`bactool: `") else str(on["silent"])
+        same(f"the status beside {line}", status, str(on["value"]) if line == "a value, `ok`" else told)
+    for message, status in re.findall(row, messages.split("\n## ")[0]):
+        is_late = re.search(r" failed|turns spent", message)
+        same(f"the status beside {message}", status, str(on["bind"] if is_late else on["words"]))
+
+
+def ranges(device):
+    """What bacsite checks by a number alone, and that both ends belong to a range: by the valve at 0.5 and at -0.5."""
+    check = [*SITE, "check", "--tools", os.path.dirname(PROGRAM), device, "1", "1", "85", "-c"]
+    found = []
+    for octets, of_range in [("3f000000", "0.5"), ("3f000000", "0.5:2"), ("3f000000", "0:0.4"), ("bf000000", "0.5")]:
+        run([PROGRAM, "bacwp", "1234", "1", "1", "85", "8", "-1", "4", octets, "--mac", device])
+        found.append(run([*check, of_range])[0])
+    run([PROGRAM, "bacwp", "1234", "1", "1", "85", "8", "-1", "0", "null", "--mac", device])
+    same("checks of 0.5 and -0.5", found, [0, 0, 2, 2])
+    says("man/bacsite.1", "high or :high, which begin at 0,", "~:high, both ends included.")
+    says("docs/GUIDE.md", "A range is HIGH, which begins at 0, LOW:HIGH, LOW: or ~:HIGH, both ends included.")
+
+
+def same(what, one, other):
+    READ_BACK.append(what)
+    if one != other:
+        WRONG.append(f"{what}: {one!r}, not {other!r}")
+
+
+def points(device):
+    """The points on the page of bacdev are those that a survey finds: value, states, whether it has priorities."""
+    table = re.search(r"(?ms)^The points;.*?^\.El", text_of("man/bacdev.1"))[0]
+    on_page = re.findall(r"(?m)^\.It (\d+:\d+) Ta (.*?) Ta (.*)$", re.sub(r" \([^)]*\)", "", table))
+    there = []
+    for line in run([*SITE, "survey", "--tools", os.path.dirname(PROGRAM), "--csv", device])[1].splitlines()[1:]:
+        cells = line.split(",")
+        read = lambda number: run([PROGRAM, "bacrp", "1234", *cells[5:7], number, "--mac", device])
+        (_, value), (no_states, states), (no_places, _) = read("85"), read("74"), read("87")
+        shown = value.strip() + f" of {states.strip()}" * (not no_states) + " *" * (not no_places)
+        there.append((f"{cells[5]}:{cells[6]}", cells[8], shown))
+    same("the points on the page of bacdev", on_page, there)
+    names = ["ten", "eleven", "twelve"]
+    for document in ("docs/GUIDE.md", "man/bacdev.1", "man/bactool.1"):
+        says(document, f"with {names[len(there) - 10]} points")
+
+
+def tools_of_readme(device):
+    """Each command of README's table prints the lines that stand beside it; `..` is any text."""
+    with tempfile.TemporaryDirectory() as room:
+        for name in ("bactool", "bacrp", "bacwp", "bacwi", "bactrace"):
+            os.symlink(PROGRAM, f"{room}/{name}")
+        with open(f"{room}/bacsite", "w", encoding="utf-8") as file:
+            file.write(f'#!/bin/sh\nexec {" ".join(SITE)} "$@"\n')
+        os.chmod(f"{room}/bacsite", 0o755)
+        how = {"cwd": TOP, "env": {**os.environ, "PATH": f"{room}:{os.environ['PATH']}"}}
+        table = text_of("README.md").partition("\n## The tools\n")[2].partition("\n## ")[0]
+        for command, cell in re.findall(r"(?m)^\| `.*?` \| [^|]* \| `([^`]*)` \| (.*) \|$", table):
+            if command.startswith("bacdev"):
+                continue
+            status, said = run(["sh", "-c", command.replace("192.0.2.7", device)], **how)
+            lines = re.findall("`([^`]*)`", cell.replace("192.0.2.7:47808", device))
+            there = [bool(re.search("(?m)^" + re.escape(it).replace(r"\.\.", ".*") + "$", said)) for it in lines]
+            same(f"README.md: {command}: {said.strip()}", (status, there), (0, [True] * len(lines)))
+
+
+def unit():
+    """The unit for systemd starts the device again whenever it ends, but where its words are wrong."""
+    text = text_of("examples/bacdev.service")
+    told = dict(line.split("=", 1) for line in text.splitlines() if re.match(r"[A-Z]\w*=", line))
+    status = run([PROGRAM, "bacdev", "x"])[0]
+    wanted = {"Restart": "always", "RestartSec": "1", "RestartPreventExitStatus": str(status)}
+    wanted.update({"StartLimitIntervalSec": "0", "ExecStart": "/usr/local/bin/bacdev 1234", "DynamicUser": "yes"})
+    wanted["WantedBy"] = "multi-user.target"
+    same("examples/bacdev.service", {name: told.get(name) for name in wanted}, wanted)
+    same("its sections", re.findall(r"(?m)^\[(.*)\]$", text), ["Unit", "Service", "Install"])
+    if shutil.which("systemd-analyze"):
+        return
+    print("tests/package/facts.py: systemd-analyze is not installed, left out")
+
+
+def main():
+    port = free_port()
+    with contextlib.ExitStack() as stack:
+        stack.enter_context(server(port, PROGRAM, "bacdev", "1234", "--port", str(port)))
+        points(f"127.0.0.1:{port}")
+        ranges(f"127.0.0.1:{port}")
+        tools_of_readme(f"127.0.0.1:{port}")
+        statuses_are_said(f"127.0.0.1:{port}")
+    times_and_numbers()
+    values()
+    turns_of_a_device()
+    unit()
+    print("\n".join(WRONG) or f"tests/package/facts.py: {len(READ_BACK)} sentences say what is so")
+    return 1 if WRONG else 0
+
+
+sys.exit(main())

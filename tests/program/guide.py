@@ -1,0 +1,125 @@
+#!/usr/bin/env python3
+"""Runs every command of docs/GUIDE.md in one shell, against the demonstration device, and compares what comes out with
+what the guide shows. Usage: tests/program/guide.py PROGRAM
+
+A block that begins with ```console has commands behind `$ `, whose further lines begin with `> `; all other lines are
+what they print. A block that begins with ```console and a program's name is left out where that program is not
+installed. A command that ends in `&` runs on, until all others have ended; the next waits until its port is taken.
+Where port 47808 or 48000 is taken, another one is put in its place all over the guide. Behind all others come the lines
+of crontab, with each of its points in the file, and the command for Nagios, as Nagios would run it.
+"""
+import difflib
+import os
+import re
+import shutil
+import signal
+import subprocess
+import sys
+import tempfile
+
+sys.path.insert(0, os.path.dirname(__file__) + "/..")
+from tree import TOP, free_port, text_of
+
+TOOLS = ["bactool", "bacrp", "bacwp", "bacwi", "bacdev", "bactrace"]
+# Waits, for ten seconds at most, until a socket has the port.
+UNTIL_TAKEN = "for _ in {1..1000}; do grep -q ' [0-9A-F]*:%04X ' /proc/net/udp && break; sleep 0.01; done\n"
+
+
+def with_ports(line, first, second):
+    """A line of a block, with these ports in place of 47808, also where none is said, and of 48000."""
+    if (first, second) == (47808, 48000):
+        return line
+    line = re.sub(r"(127\.0\.0\.1:|--port )48000\b", rf"\1@{second}", line)
+    line = re.sub(r"([ @]127\.0\.0\.\d)(?![.:\d])", rf"\1:{first}", line)
+    line = re.sub(r"\b(bacdev \d+) &", rf"\1 --port {first} &", line)
+    return re.sub(r"(127\.0\.0\.1):47808\b", rf"\1:{first}", line).replace("@" + str(second), str(second))
+
+
+def scheduled(line, address):
+    """A command that says whether a line of crontab, or the command of a check, does what it is to do: the first makes
+    a file that has each point of its list, the second prints a line for Nagios."""
+    words = {"HOSTADDRESS": address, "ARG1": "60:80", "ARG2": "50:90", "ARG3": "0 5 85"}
+    told, run = re.fullmatch(r"(.*?)(/usr/local/bin/.*)", line).groups()
+    if told.split() == ["command_line"]:
+        command = re.sub(r"\$(\w+)\$", lambda it: words[it[1]], run.replace("/usr/local/bin/", ""))
+        return f'[ "$({command})" = "BACNET OK - 72.3 | value=72.3;60:80;50:90" ] && echo as it is to be'
+    fields, file = told.split(), run.split()[-1]
+    if len(fields) != 5 or not all(re.fullmatch(r"(\*|\d+)(/[1-9]\d*)?", it) for it in fields) or "%" in run:
+        return f"echo no line of crontab: {line!r}"
+    place = "put/" + os.path.basename(file)
+    command = run.replace("/usr/local/bin/", "").replace(file, place).replace("$HOME", ".")
+    points = f"$(grep -o '^[^# ]*' points | grep -cf - {place})"
+    return f"mkdir -p put; {command}; [ {points} -ge $(grep -c '^[^#]' points) ] && echo as it is to be"
+
+
+def commands(first, second):
+    """Each command: where its first line stands, its text, and what it is to print."""
+    found, later, inside = [], [], False
+    for number, line in enumerate(text_of("docs/GUIDE.md").splitlines(), 1):
+        opened = re.fullmatch(r"```(.*)", line)
+        if opened and not inside:
+            name, _, needed = opened[1].partition(" ")
+            inside = name or "other"
+            if name == "console" and needed and not shutil.which(needed):
+                print(f"tests/program/guide.py: line {number} is left out, since it needs {needed}")
+                inside = "other"
+        elif opened:
+            inside = False
+        elif inside == "other" and "/usr/local/bin/" in line:
+            later.append((number, [scheduled(line, f"127.0.0.1:{first}")], ["as it is to be"]))
+        elif inside == "console":
+            line = with_ports(line, first, second)
+            if line.startswith("$ "):
+                found.append((number, [line[2:]], []))
+            elif line.startswith(">"):
+                found[-1][1].append(line[2:])
+            else:
+                found[-1][2].append(line)
+    found += later
+    return [(number, "\n".join(text), "".join(f"{line}\n" for line in printed)) for number, text, printed in found]
+
+
+def script(rows, first, second):
+    """A script of the commands, each of which finds the status of the one before; and what it is to print: behind what
+    each command prints, where that stands."""
+    text, shown = "status=0\n", ""
+    for number, command, printed in rows:
+        text += f"(exit $status)\n{command}\nstatus=$?\n"
+        if command.endswith("&"):
+            text += UNTIL_TAKEN % (second if str(second) in command else first)
+        text += f"echo '[line {number}]'\n"
+        shown += f"{printed}[line {number}]\n"
+    return text, shown
+
+
+def run(text, program, room):
+    """What the script prints, in a folder with the examples, and with the tools in its PATH."""
+    os.makedirs(f"{room}/bin")
+    for name in TOOLS:
+        os.symlink(program, f"{room}/bin/{name}")
+    subprocess.run([f"{TOP}/packaging/onefile.py", f"{room}/bin/bacsite"], check=True)
+    shutil.copytree(f"{TOP}/examples", f"{room}/work/examples")
+    outer = {**os.environ, "LC_ALL": "C", "PATH": f"{room}/bin:{os.environ['PATH']}"}
+    with open(f"{room}/came", "wb") as came:
+        how = {"cwd": f"{room}/work", "env": outer, "stdin": subprocess.DEVNULL, "stdout": came, "stderr": came}
+        shell = subprocess.Popen(["bash", "-c", text], start_new_session=True, **how)
+        try:
+            shell.wait(300)
+        finally:
+            os.killpg(shell.pid, signal.SIGKILL)
+    return text_of(f"{room}/came")
+
+
+def main(program):
+    first, second = free_port(), free_port(48000)
+    rows = commands(first, second)
+    text, shown = script(rows, first, second)
+    with tempfile.TemporaryDirectory() as room:
+        came = run(text, program, room)
+    told = list(difflib.unified_diff(shown.splitlines(), came.splitlines(), "docs/GUIDE.md", "came", lineterm="", n=4))
+    well = f"tests/program/guide.py: {len(rows)} commands of docs/GUIDE.md at port {first}, as shown"
+    print("\n".join(told) or well)
+    return 1 if told else 0
+
+
+sys.exit(main(os.path.realpath(sys.argv[1])))

@@ -1,0 +1,129 @@
+"""What the tests of bacsite share: the program as it is installed, devices to ask, and rows.
+
+BACTOOL names the program that bacsite asks by, and PYTHON another Python to run bacsite by. A row
+is words, `=>`, the status and standard output, where `;` ends a line; behind `!` stands how
+standard error begins, while standard output is empty. In words and in what they give, DEV is the
+address of a bacdev (1000), ODD that of a stand-in (77), HERE that of the latest stand-in, DEAD of
+nobody, IN is a folder, and '' is an empty word.
+"""
+
+import atexit
+import os
+import re
+import shutil
+import subprocess
+import sys
+import tempfile
+import unittest
+from concurrent.futures import ThreadPoolExecutor
+
+from devices import ODD_VALUES
+from stand_ins import StandIn, local_socket
+
+TOP = os.path.realpath(os.path.dirname(os.path.abspath(__file__)) + "/../..")
+TOOL = os.path.realpath(os.environ.get("BACTOOL", TOP + "/crates/bactool/out/bactool"))
+sys.path.insert(0, TOP + "/site")
+PATIENCE = ["--apdu-timeout", "300"]
+
+
+class World:
+    """The devices that all tests ask; it is made once."""
+
+    made = None
+
+    def __init__(self):
+        self.folder = tempfile.mkdtemp()
+        os.symlink(TOOL, self.folder + "/bactool")
+        subprocess.run(
+            [sys.executable, TOP + "/packaging/onefile.py", self.folder + "/bacsite"], check=True
+        )
+        self.command = [os.environ.get("PYTHON", sys.executable), self.folder + "/bacsite"]
+        with local_socket() as found:
+            port = str(found.getsockname()[1])
+        self.device = subprocess.Popen([TOOL, "bacdev", "1000", "--port", port])
+        self.odd, self.dead = StandIn(77, ODD_VALUES), local_socket()
+        dead = "127.0.0.1:%d" % self.dead.getsockname()[1]
+        self.names = {
+            "IN": self.folder,
+            "ODD": self.odd.address,
+            "DEAD": dead,
+            "DEV": "127.0.0.1:" + port,
+        }
+        for _ in range(20):
+            if self.run("read", self.names["DEV"], "0", "5", "85")[0] == 0:
+                break
+        else:
+            raise OSError("bacdev does not answer")
+
+    def run(self, *words, stdin=None, stdout=subprocess.PIPE, env=None, before=None):
+        """The status, standard output and standard error of a call."""
+        asks = words[0] not in ("real", "octets", "capture") and not words[0].startswith("-")
+        done = subprocess.run(
+            [*self.command, words[0], *(PATIENCE if asks else []), *words[1:]],
+            input=stdin,
+            stdout=stdout,
+            env=env,
+            stderr=subprocess.PIPE,
+            preexec_fn=before,
+            timeout=90,
+            encoding="utf-8",
+        )
+        return done.returncode, done.stdout, done.stderr
+
+    def close(self):
+        self.device.kill()
+        self.device.wait()
+        shutil.rmtree(self.folder)
+
+
+def world():
+    """The devices; what is left of them is taken away when Python ends."""
+    if World.made is None:
+        World.made = World()
+        atexit.register(World.made.close)
+    return World.made
+
+
+class SiteTest(unittest.TestCase):
+    """A test that runs the program."""
+
+    maxDiff = None
+
+    def setUp(self):
+        self.world = world()
+        self.names = dict(self.world.names)
+
+    def run_site(self, *words, **more):
+        return self.world.run(*map(self.spelled, words), **more)
+
+    def stand_in(self, values, kind=StandIn, **more):
+        """A stand-in, whose address is HERE."""
+        found = kind(more.pop("instance", 77), values, **more)
+        self.names["HERE"] = found.address
+        return found
+
+    def spelled(self, text):
+        return re.sub(r"\b(%s)\b" % "|".join(self.names), lambda it: self.names[it[0]], text)
+
+    def path(self, name, text):
+        """The path of a new file with this text."""
+        with open(os.path.join(self.world.folder, name), "wb") as file:
+            file.write(text if isinstance(text, bytes) else self.spelled(text).encode())
+        return os.path.join(self.world.folder, name)
+
+    def rows(self, text, **more):
+        """Runs the rows, side by side; one row a line."""
+        rows = [line.strip() for line in text.split("\n") if line.strip()]
+        with ThreadPoolExecutor(6) as pool:
+            for row, wanted, found in pool.map(lambda row: self.came(row, **more), rows):
+                with self.subTest(row=row):
+                    self.assertEqual(found, wanted)
+
+    def came(self, row, **more):
+        words, _, wanted = self.spelled(row + " ").partition(" => ")
+        wanted = wanted[:-1] if wanted[1:] != " " else wanted
+        given = ["" if word == "''" else word for word in words.strip().split(" ")]
+        status, out, err = self.world.run(*given, **more)
+        if wanted[2:3] == "!" and err[:9] + err[-1:] == "bacsite: \n":
+            return row, wanted, "%d !%s" % (status, err[9 : 6 + len(wanted)]) + out
+        return row, wanted, "%d %s" % (status, out.rstrip("\n").replace("\n", ";")) + err

@@ -1,0 +1,49 @@
+"""Polls devices that answer late, where few ports are free, and tells whose values came.
+
+Usage: late.py BACSITE, in a network of its own (alone.py), where it may set the range of ports that
+the system gives. Each of 100 devices has 25 points, whose values are their instances. It answers
+350 ms after a request; bacsite asks again after 70 ms, and later after up to 280.
+"""
+
+import re
+import socket
+import subprocess
+import sys
+
+import alone
+from stand_ins import LateStandIn, unsigned
+
+DEVICES, POINTS = 100, 25
+
+
+def socket_at(address):
+    found = socket.socket(socket.AF_INET, socket.SOCK_DGRAM)
+    found.bind((address, 47808))
+    return found
+
+
+def main(bacsite):
+    alone.bring_up()
+    with open("/proc/sys/net/ipv4/ip_local_port_range", "w", encoding="ascii") as ports:
+        ports.write("40000 40199")
+    values = {(23, it, 85): unsigned(it) for it in range(POINTS)}
+    sockets = [socket_at("127.0.1.%d" % host) for host in range(1, DEVICES + 1)]
+    devices = [LateStandIn(77, values, 0.35, at=it) for it in sockets]
+    points = [
+        "%d %s 23 %d 85\n" % (it, device.address, it) for device in devices for it in range(POINTS)
+    ]
+    done = subprocess.run(
+        [sys.executable, bacsite, "poll", "-", "--at-once", str(DEVICES)]
+        + ["--apdu-timeout", "70", "--apdu-retries", "9"],
+        input="".join(points),
+        encoding="ascii",
+        stdout=subprocess.PIPE,
+        check=False,
+    )
+    rows = re.findall(r"(?m)^\S+\t(.*)\t(.*)\t-$", done.stdout)
+    wrong = [row for row in rows if row[0] != row[1]]
+    late = sum(it.heard for it in devices) > len(points) * 1.1
+    print(len(rows), "values,", len(wrong), "of another point,", "late" if late else "in time")
+
+
+main(sys.argv[1])

@@ -1,0 +1,17 @@
+#!/usr/bin/env bash
+# The types of bacsite by mypy, and its style by pylint. It says which of them is not installed.
+set -euo pipefail
+cd "$(dirname "$0")/../../site"
+
+# looks TOOL WORD ..: runs the tool over the package, where it is installed.
+looks() {
+    if command -v "$1" >/dev/null; then
+        "$@" bacsite
+        echo "tests/site/lint.sh: $(find bacsite -name '*.py' | wc -l) files without a fault by $1"
+    else
+        echo "tests/site/lint.sh: $1 is not installed, left out"
+    fi
+}
+
+looks mypy --config-file pyproject.toml --cache-dir ../out/mypy --no-error-summary
+looks pylint --rcfile pyproject.toml --persistent n --score n

@@ -1,0 +1,139 @@
+"""The command capture: samples as tshark and bactrace read them, and its words."""
+
+import json
+import os
+import subprocess
+import unittest
+
+from building import ether, exchange, pcap, udp
+from harness import SiteTest
+from test_trace import ends_of, printed
+from tshark import compared
+
+SAMPLES = os.path.join(os.path.dirname(os.path.abspath(__file__)), "samples")
+
+
+def file_of(steps):
+    """A capture of steps."""
+    return pcap(
+        [
+            (round(at * 10**6), ether(udp(sender, receiver, bytes.fromhex(octets))))
+            for at, sender, receiver, octets in steps
+        ],
+        1,
+    )
+
+
+class Samples(SiteTest):
+    def told(self, name, *words):
+        return self.run_site("capture", os.path.join(SAMPLES, name), *words)
+
+    def test_datagrams_are_those_of_tshark(self):
+        path = os.path.join(SAMPLES, "odd.pcap")
+        with open(path + ".tshark", encoding="ascii") as lines:
+            agree, _, differ = compared(path, lines.read())
+        self.assertEqual(differ, [])
+        self.assertGreater(agree, 100)
+
+    def test_ends_are_those_of_bactrace(self):
+        for client in ("127.0.0.20", "127.0.0.21", "127.0.0.22", "127.0.0.1"):
+            told = self.told("odd.pcap", "--json", "--client", client)[1].splitlines()
+            talks = [it for it in map(json.loads, told) if it.get("service") in (12, 15)]
+            script = self.told("odd.pcap", "--trace", "--client", client)[1].splitlines()
+            late = [it.split()[2][:-1] for it in script if "its time is up" in it]
+            ends = ends_of(printed(script))
+            self.assertEqual(sorted(ends), list(range(len(talks))))
+            for ticket, talk in enumerate(talks):
+                outcome = "timeout" if str(ticket) in late else talk["outcome"]
+                with self.subTest(client=client, talk=talk["what"]):
+                    self.assertEqual(ends[ticket], outcome.replace("no answer", "timeout"))
+
+    def test_pcapng(self):
+        """Two interfaces have shown each datagram: one is told, the other is a copy."""
+        status, text, _ = self.told("tools-two.pcapng")
+        lines = text.split("\n\n")[0].splitlines()
+        self.assertEqual((status, len(lines), len(set(lines))), (1, 10, 10))
+        self.assertIn("copies of another interface", text)
+
+
+class Command(SiteTest):
+    def told(self, steps, *words):
+        """The status, what is printed, and what is said on standard error."""
+        octets = steps if isinstance(steps, bytes) else file_of(sorted(steps))
+        return self.run_site("capture", self.path("some.pcap", octets), *words)
+
+    def test_status(self):
+        good, bad = file_of(exchange(0, 1)), file_of(exchange(0, 1, 1, "600109"))
+        files = (good, bad, good[:-1], b"")
+        self.assertEqual([self.told(it, "--summary")[0] for it in files], [0, 1, 3, 3])
+        _, text, said = self.told(good[:-1])
+        self.assertIn("read analog-input 5 present-value (0 5 85): no answer", text)
+        cut = "bacsite: the file is cut at octet %d, within packet 2 at octet 100\n" % (
+            len(good) - 1
+        )
+        self.assertEqual(said, cut)
+        status, _, said = self.run_site("capture", "IN/none.pcap")
+        self.assertEqual((status, said[:22]), (3, "bacsite: cannot read /"))
+
+    def test_standard_input(self):
+        with open(self.path("some.pcap", file_of(exchange(0, 1))), "rb") as file:
+            command = [*self.world.command, "capture", "-", "--summary"]
+            done = subprocess.run(command, stdin=file, stdout=subprocess.PIPE)
+        self.assertEqual((done.returncode, done.stdout[:10]), (0, b"1 request "))
+
+    def test_trace(self):
+        said = "bacsite: no read or write of 127.0.0.7 to any\n"
+        found = self.told(exchange(0, 1), "--trace", "--client", "127.0.0.7")
+        self.assertEqual(found, (2, "", said))
+        lines = self.told(exchange(0, 1), "--trace", "--timeout", "70", "--retries", "1")[1]
+        self.assertIn("\nclient 70 1 0\n", lines)
+
+    def test_words_that_do_not_go_together(self):
+        self.path("one.pcap", file_of(exchange(0, 1)))
+        self.rows(
+            """
+            capture IN/one.pcap --trace --json => 2 !a script has no --json and no --only
+            capture IN/one.pcap --trace --only slow => 2 !a script has no --json and no --only
+            capture IN/one.pcap --timeout 5 => 2 !--timeout and --retries are for --trace
+            capture IN/one.pcap --retries 0 => 2 !--timeout and --retries are for --trace
+            capture IN/one.pcap --summary --trace => 2 !argument --trace: not allowed with
+            """
+        )
+        found = self.run_site("capture", "-", before=lambda: os.close(0))
+        self.assertEqual(found, (3, "", "bacsite: cannot read standard input: it is closed\n"))
+
+    def test_summary(self):
+        steps = exchange(0, 1) + exchange(10, 11, 2, "600209") + exchange(20, None, 3)
+        summary = """\
+4 requests of 1 client to 1 device: 2 answered, 1 refused, 1 unanswered
+of these 2 failed
+device           requests  answered  refused  unanswered  sent again  slow  median ms  longest ms
+127.0.0.1:47808  4         2         1        1           0           0     1.00       2.00
+"""
+        self.assertEqual(self.told(steps + exchange(9000, 9002, 4), "--summary")[1], summary)
+
+    def test_only(self):
+        steps = exchange(0, 1) + exchange(10, 11, 2, "600209") + exchange(20, 1500, 3)
+        for words, numbers in (("failed", ["2"]), ("slow", ["3"])):
+            lines = self.told(steps, "--only", words)[1].split("\n\n")[0].splitlines()
+            self.assertEqual([it.split("  #")[1][:1] for it in lines], numbers)
+
+    def test_choice(self):
+        steps = exchange(0, 1) + exchange(2, 3, of="127.0.0.2:50000")
+        steps += exchange(4, 5, 2, to="127.0.0.9:47808")
+        rows = [("127.0.0.1", None, 2), ("127.0.0.2:50000", None, 1), (None, "127.0.0.9", 1)]
+        for client, device, count in rows:
+            words = ["--client", client] if client else ["--device", device]
+            self.assertEqual(self.told(steps, *words)[1].split(" ")[0:1], [""])
+            text = self.told(steps, *words, "--summary")[1]
+            self.assertEqual(text[:9], "%d request" % count)
+
+    def test_json(self):
+        rows = [json.loads(it) for it in self.told(exchange(0, 1), "--json")[1].splitlines()]
+        self.assertEqual([it["kind"] for it in rows], ["talk", "summary"])
+        self.assertEqual(rows[0]["shown"], "72.3")
+        self.assertEqual(rows[1]["all"]["answered"], 1)
+
+
+if __name__ == "__main__":
+    unittest.main()

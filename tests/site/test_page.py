@@ -1,0 +1,139 @@
+"""Tries the page of a survey; browser.py tries it in a browser."""
+import re
+import unittest
+from html.parser import HTMLParser
+
+import harness  # noqa: F401  it makes bacsite known
+from bacsite.page import SCRIPT, STYLE, hash_of, page_of, safe
+from bacsite.survey import Device, SiteObject
+from bacsite.values import Kind, Value
+
+HERE = "192.0.2.7:47808"
+HOSTILE = [
+    "<script>alert(1)</script>",
+    '"><img src=x onerror=alert(1)>',
+    "' onmouseover='x",
+    "\u202eesrever",
+    "\x07\x1b[2J",
+    "\0",
+    "\ud800",
+    "]]>",
+    "&lt;",
+    "</style>",
+    "</table>",
+    "\u2028",
+    "\u200b",
+    "--><!--",
+]
+
+
+class Reader(HTMLParser):
+    """Notes the tags, attributes and texts of a page."""
+
+    def __init__(self):
+        super().__init__()
+        self.tags, self.names, self.texts, self.open = {}, set(), [], []
+
+    def handle_starttag(self, tag, attrs):
+        self.tags[tag] = self.tags.get(tag, 0) + 1
+        self.names.update(name for name, _ in attrs)
+        if tag not in ("meta", "input"):
+            self.open.append(tag)
+
+    def handle_endtag(self, tag):
+        assert self.open.pop() == tag, tag
+
+    def handle_data(self, data):
+        self.texts.append(data)
+
+
+def read(devices):
+    page = "".join(page_of(devices, "now"))
+    reader = Reader()
+    reader.feed(page)
+    reader.close()
+    assert not reader.open, reader.open
+    return page, reader
+
+
+def an_object(kind=0, text="1", **more):
+    """An object with a number."""
+    return SiteObject(kind, 5, value=Value(Kind.NUMBER, text), **more)
+
+
+class Pages(unittest.TestCase):
+    def test_hostile(self):
+        """No text of a device becomes markup, and each stays legible."""
+        found = SiteObject(300, 1, "b", Value(Kind.TEXT, "c"), "d", "e", "f, g", ["h"])
+        _, wanted = read([Device(HERE, 1, "b", "c", "d", [found], ["e"], asked="f")])
+        for text in HOSTILE:
+            with self.subTest(text=ascii(text)):
+                found = SiteObject(
+                    300, 1, text, Value(Kind.TEXT, text), text, text, "f, " + text, [text]
+                )
+                page, reader = read(
+                    [Device(HERE, 1, text, text, text, [found], [text], asked=text)]
+                )
+                self.assertEqual((reader.tags, reader.names), (wanted.tags, wanted.names))
+                self.assertEqual(page.encode("utf-8").decode(), page)
+                self.assertFalse([it for it in page if not it.isprintable() and it != "\n"])
+
+    def test_policy(self):
+        """Nothing but the one style and the one script may be loaded or run."""
+        page, _ = read([])
+        policy = re.search('Content-Security-Policy" content="([^"]*)"', page)[1]
+        hashes = "style-src %s; script-src %s" % (hash_of(STYLE), hash_of(SCRIPT))
+        self.assertEqual(
+            policy, "default-src 'none'; %s; base-uri 'none'; form-action 'none'" % hashes
+        )
+        self.assertIn("<style>%s</style>" % STYLE, page)
+        self.assertIn("<script>%s</script>" % SCRIPT, page)
+        self.assertIsNone(re.search(r'(src|href)="(?!#)|url\(|style="| on[a-z]+="', page))
+
+    def test_cells(self):
+        found = an_object(name="T", text="-72.3", unit="degrees-celsius", flags="in-alarm, strange")
+        page, _ = read(
+            [
+                Device(
+                    "192.0.2.7:47808", 1234, "Small", objects=[found, an_object(flags="normal")]
+                ),
+                Device("192.0.2.8:47808", reasons=["timeout"]),
+            ]
+        )
+        for part in (
+            '<td class="id" data-n="5">0:5</td>',
+            'data-n="-72.3"><bdi>-72.3</bdi>',
+            '<span class="badge in-alarm">in-alarm</span>',
+            '<span class="badge">strange</span>',
+            '<span class="badge in-alarm">1 in-alarm</span> <span class="badge">1 strange</span>',
+            '<span class="soft">normal</span>',
+            '<section class="device silent" id="d1"',
+            '<p class="reason">timeout</p>',
+            'href="#d0">192.0.2.7:47808</a>',
+            "2 devices, of which 1 are silent; 2 objects, of which 1 have a flag set",
+        ):
+            self.assertIn(part, page)
+        self.assertEqual(safe("a<b\u202e"), "a&lt;b\\u202e")
+
+    def test_addresses_are_sorted_as_numbers(self):
+        page, _ = read([Device("10.0.0.9:47808"), Device("10.0.0.10:1")])
+        numbers = re.findall(r'<td class="id"( data-n="([0-9]+)")?><a', page)
+        self.assertLess(int(numbers[0][1]), int(numbers[1][1]))
+
+
+class Survey(harness.SiteTest):
+    def test_a_survey_writes_a_page(self):
+        """The page of a device and of a silent address replaces a file, and nothing is printed."""
+        path = self.path("page.html", "before")
+        self.assertEqual(self.run_site("survey", "DEV", "DEAD", "--html", path), (1, "", ""))
+        with open(path, encoding="utf-8") as file:
+            page = file.read()
+        for part in ("<bdi>72.3</bdi>", '<p class="reason">timeout</p>', "<dt>asked</dt><dd>20"):
+            self.assertIn(part, page)
+        self.assertEqual(self.run_site("survey", "DEV", "--html", "IN")[:2], (2, ""))
+        status, out, err = self.run_site("survey", "DEV", "--html", "IN/none/page")
+        self.assertEqual((status, out, err[:24]), (3, "", "bacsite: writing failed:"))
+
+
+if __name__ == "__main__":
+    unittest.main()

@@ -1,0 +1,245 @@
+"""The program as such: its streams, signals and surroundings, and the one file that is built."""
+
+import os
+import pty
+import re
+import shutil
+import signal
+import subprocess
+import sys
+import tempfile
+import time
+import unittest
+from concurrent.futures import ThreadPoolExecutor
+from contextlib import suppress
+
+import harness
+from stand_ins import local_socket, real, string
+
+SIGNALS = (signal.SIGINT, signal.SIGHUP, signal.SIGTERM)
+WRITING_FAILED = (3, "bacsite: writing failed\n")
+
+
+LONG = str(20000 + os.getpid() % 40000)  # milliseconds; a word that no other run of the tests has
+
+
+def still_running(word):
+    """The processes that have this word."""
+    found = []
+    for name in filter(str.isdigit, os.listdir("/proc")):
+        with suppress(OSError), open("/proc/" + name + "/cmdline", "rb") as file:
+            if word.encode() in file.read().split(b"\0"):
+                found.append(name)
+    return found
+
+
+def surroundings(folder):
+    """The environments that all has to be the same in."""
+    base = {"PATH": os.environ["PATH"]}
+    comma = {**base, "LC_ALL": "de_DE.UTF-8", "LOCPATH": folder}
+    plain = {
+        **base,
+        "LC_ALL": "C",
+        "PYTHONCOERCECLOCALE": "0",
+        "PYTHONUTF8": "0",
+        "PYTHONIOENCODING": "ascii",
+    }
+    if shutil.which("localedef"):
+        subprocess.run(
+            ["localedef", "-i", "de_DE", "-f", "UTF-8", folder + "/de_DE.UTF-8"],
+            stderr=subprocess.DEVNULL,
+        )
+    ask = "import locale; locale.setlocale(locale.LC_ALL, ''); print(locale.localeconv()['decimal_point'])"
+    told = subprocess.run(
+        [sys.executable, "-c", ask], env=comma, stdout=subprocess.PIPE, stderr=subprocess.DEVNULL
+    )
+    made = [comma] if told.stdout == b",\n" else []
+    return [{}, {**base, "LC_ALL": "C"}, {**base, "LC_ALL": "xx_XX.UTF-8"}, plain] + made
+
+
+class Surroundings(harness.SiteTest):
+    def test_all_is_the_same(self):
+        self.stand_in({(0, 1, 77): string("Zürich")})
+        self.path("Öl.list", "Öl HERE 0 1 77\n")
+        for env in surroundings(self.world.folder):
+            self.rows(
+                """
+                check -w 60:80 -c 50:90 DEV 0 5 85 => 0 BACNET OK - 72.3 | value=72.3;60:80;50:90
+                check -c 72.35: DEV 0 5 85 => 2 BACNET CRITICAL - 72.3 | value=72.3;~:;72.35:
+                check -c 72.3:72.3 DEV 0 5 85 => 0 BACNET OK - 72.3 | value=72.3;~:;72.3:72.3
+                check -c -10:-5.5 ODD 45 1 85 => 2 BACNET CRITICAL - -5 | value=-5;~:;-10:-5.5
+                check -c ~:72 ODD 46 1 85 => 2 BACNET CRITICAL - 72.3 | value=72.3;~:;~:72
+                check -c -5:5 DEV 4 4 85 => 0 BACNET OK - 0 (inactive) | value=0;~:;-5:5
+                check HERE 0 1 77 => 3 BACNET UNKNOWN - no number: Zürich
+                real 4290999a => 0 72.3
+                check -c 1,5: DEV 0 5 85 => 3 BACNET UNKNOWN - no range: 1,5:
+                octets 20,5 => 2 !no number
+                """,
+                env=env,
+            )
+            status, out, err = self.world.run("poll", self.world.folder + "/Öl.list", env=env)
+            self.assertEqual((status, out[20:], err), (0, "\tÖl\tZürich\t-\n", ""))
+        for words in (
+            (b"read", b"\xff", b"0", b"5", b"85"),
+            (b"survey", b"\xff"),
+            (b"real", b"\xff"),
+        ):
+            done = subprocess.run(
+                [*self.world.command, *words], stderr=subprocess.PIPE, env={"LC_ALL": "C"}
+            )
+            self.assertEqual(
+                (done.returncode, done.stderr[:9], done.stderr.count(b"\n")), (2, b"bacsite: ", 1)
+            )
+
+
+class Streams(harness.SiteTest):
+    def test_full_and_closed_streams(self):
+        words = ("read", "DEV", "0", "5", "85")
+        with open("/dev/full", "w", encoding="utf-8") as full:
+            for asked in (
+                words,
+                ("check", *words[1:]),
+                ("real", "4290999a"),
+                ("--help",),
+                ("check", "--help"),
+                ("-V",),
+            ):
+                self.assertEqual(self.run_site(*asked, stdout=full)[::2], WRITING_FAILED, asked)
+        for closed in 0, 2:
+            self.assertEqual(
+                self.run_site(*words, before=lambda: os.close(closed)), (0, "72.3\n", "")
+            )
+        nobody = self.stand_in({})
+        for command in "read", "check":
+            found = self.run_site(command, "HERE", *words[2:], before=lambda: os.close(1))
+            self.assertEqual(found[::2], WRITING_FAILED)
+        self.assertEqual(nobody.asked, [])
+
+    def test_a_reader_who_goes_away_ends_it_silently_and_at_once(self):
+        (out, into), begun = os.pipe(), time.monotonic()
+        os.close(out)
+        words = ("survey", "DEV", "DEAD", "--apdu-timeout", "20000")
+        self.assertEqual(self.run_site(*words, stdout=into)[::2], (3, ""))
+        self.assertEqual(self.run_site("real", "4290999a", stdout=into)[::2], (3, ""))
+        os.close(into)
+        self.assertLess(time.monotonic() - begun, 15)
+
+    def test_a_terminal_is_told_how_far_it_is(self):
+        terminal, side = pty.openpty()
+        slow = self.stand_in({(0, 1, 85): real("42290000")}, delay=0.7)
+        words = ["read", slow.address, "0", "1", "85"]
+        done = subprocess.run([*self.world.command, *words], stdout=subprocess.PIPE, stderr=side)
+        os.close(side)
+        self.assertEqual(
+            (done.stdout, os.read(terminal, 99)[:22]), (b"42.25\n", b"\r0 of 1 done, 1 calls ")
+        )
+        os.close(terminal)
+
+
+class Signals(harness.SiteTest):
+    def ended(self, number, words):
+        with local_socket() as dead:
+            dead.settimeout(30)
+            here = "127.0.0.1:%d" % dead.getsockname()[1]
+            path = self.path("some-%s" % here, "p %s 0 1 85" % here)
+            command, *rest = words.replace("LIST", path).replace("HERE", here).split()
+            process = subprocess.Popen(
+                [*self.world.command, command, "--apdu-timeout", LONG, *rest],
+                stdout=subprocess.PIPE,
+                stderr=subprocess.PIPE,
+                preexec_fn=lambda: [signal.signal(it, signal.SIG_DFL) for it in SIGNALS],
+            )
+            dead.recv(99)
+            process.send_signal(number)
+            begun = time.monotonic()
+            out, err = process.communicate(timeout=30)
+            return process.returncode, out, err, time.monotonic() - begun < 6
+
+    def test_they_end_it_at_once(self):
+        folder = self.world.folder
+        commands = (
+            "survey HERE",
+            "check HERE 0 1 85",
+            "properties HERE 0 1",
+            "poll LIST",
+            "write HERE 0 1 5",
+            "prometheus LIST %s/s.prom" % folder,
+        )
+        ends = [(number, words) for number in SIGNALS for words in commands]
+        with ThreadPoolExecutor(6) as pool:
+            for (number, words), found in zip(ends, pool.map(lambda it: self.ended(*it), ends)):
+                self.assertEqual(found, (-number, b"", b"", True), words)
+        for _ in range(40):  # what is killed takes a moment to go
+            left = still_running(LONG)
+            time.sleep(0.05 * bool(left))
+        self.assertEqual(
+            (left, [name for name in os.listdir(folder) if "s.prom" in name]), ([], [])
+        )
+
+    def test_one_that_is_ignored_stays_so(self):
+        slow = self.stand_in({(0, 1, 85): real("42290000")}, delay=1)
+        process = subprocess.Popen(
+            [*self.world.command, "read", slow.address, "0", "1", "85", "--apdu-timeout", "9000"],
+            stdout=subprocess.PIPE,
+            preexec_fn=lambda: signal.signal(signal.SIGHUP, signal.SIG_IGN),
+        )
+        while not slow.asked:
+            time.sleep(0.01)
+        process.send_signal(signal.SIGHUP)
+        self.assertEqual((process.communicate(timeout=30)[0], process.returncode), (b"42.25\n", 0))
+
+
+class OneFile(harness.SiteTest):
+    def test_the_same_octets_each_time(self):
+        found = set()
+        with tempfile.TemporaryDirectory() as folder:
+            tree = folder + "/tree"
+            shutil.copytree(harness.TOP + "/site", tree + "/site")
+            shutil.copytree(harness.TOP + "/packaging", tree + "/packaging")
+            os.makedirs(tree + "/site/bacsite/__pycache__", exist_ok=True)
+            for top in (harness.TOP, tree):
+                words = [sys.executable, top + "/packaging/onefile.py", folder + "/made"]
+                subprocess.run(words, check=True)
+                with open(folder + "/made", "rb") as file:
+                    found.add(file.read())
+                self.assertEqual(os.stat(folder + "/made").st_mode & 0o777, 0o755)
+        self.assertEqual(len(found), 1)
+
+    def test_it_runs_from_the_tree_and_alone(self):
+        env = {"PATH": self.world.folder}
+        for program in (harness.TOP + "/site/bacsite", self.world.folder + "/bacsite"):
+            words = [
+                self.world.command[0],
+                "-I",
+                program,
+                "read",
+                self.names["DEV"],
+                "0",
+                "5",
+                "85",
+            ]
+            done = subprocess.run(words, stdout=subprocess.PIPE, cwd="/", env=env)
+            self.assertEqual(done.stdout, b"72.3\n")
+        os.mkdir(self.world.folder + "/other")
+        os.chmod(self.path("other/bactool", "#!/bin/sh\necho 42290000\n"), 0o755)
+        words = [*self.world.command, "read", self.names["DEV"], "0", "5", "85"]
+        env = {"PATH": self.world.folder + "/other:" + os.environ["PATH"]}
+        done = subprocess.run(words, stdout=subprocess.PIPE, env=env)
+        self.assertEqual(done.stdout, b"72.3\n", "the one beside it comes before those of PATH")
+        done = subprocess.run(
+            [self.world.command[0], "-m", "bacsite", "-V"],
+            stdout=subprocess.PIPE,
+            cwd=harness.TOP + "/site",
+        )
+        self.assertTrue(re.fullmatch(rb"bacsite [0-9.]+\n", done.stdout))
+
+    def test_modules_are_short(self):
+        folder = harness.TOP + "/site/bacsite/"
+        for name in os.listdir(folder):
+            if name.endswith(".py"):
+                with open(folder + name, encoding="utf-8") as file:
+                    self.assertLess(len(file.readlines()), 250, name)
+
+
+if __name__ == "__main__":
+    unittest.main()

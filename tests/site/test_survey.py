@@ -1,0 +1,343 @@
+"""Surveys: what is printed, what is missing, and in which order."""
+
+import json
+import re
+import signal
+import subprocess
+import time
+import unittest
+
+import harness
+from bacsite.report import csv_lines
+from devices import ODD_VALUES
+from stand_ins import StandIn, an_object, bits, enumerated, real, string, unsigned
+
+HEAD = "address,device,device_name,vendor,model,type,instance,type_name,name,value,meaning,unit,flags,reason"
+NAMED = {(8, 77, 77): string("D"), (8, 77, 121): string("V"), (8, 77, 70): string("M")}
+
+
+def listed(*objects):
+    """The object list of device 77, for element by element."""
+    found = {(8, 77, 76): ("abort", 4), (8, 77, 76, 0): unsigned(len(objects))}
+    found.update({(8, 77, 76, at): an_object(*what) for at, what in enumerate(objects, 1)})
+    return found
+
+
+def sensors(count):
+    """Analog inputs of device 77."""
+    objects = [(0, at) for at in range(1, count + 1)]
+    values = {(8, 77, 76): b"".join(an_object(*what) for what in objects)}
+    for what in objects:
+        values.update(
+            {
+                (*what, 77): string("S%d" % what[1]),
+                (*what, 85): real("42290000"),
+                (*what, 111): bits("0000"),
+                (*what, 117): enumerated(62),
+            }
+        )
+    return values
+
+
+class TwoStandIn(StandIn):
+    """An address from which another device says by a Who-Is that it is there too."""
+
+    def send(self, reply, client):
+        super().send(reply, client)
+        if reply[:2] == b"\x10\x00":
+            super().send(reply[:2] + an_object(8, 78) + reply[7:], client)
+
+
+class Survey(harness.SiteTest):
+    def odd_device(self):
+        objects = [(8, 77), (0, 1), (13, 2), (300, 1), (15, 1), (4, 1)]
+        values = {
+            **ODD_VALUES,
+            **listed(*objects),
+            (8, 77, 77): string('Dach "1", Süd'),
+            (8, 77, 121): string("Maker"),
+            (8, 77, 70): string("=M1"),
+            (13, 2, 110, 2): string("Away"),
+            (300, 1, 117): ("error", 1, 27),
+            (4, 1, 4): string("Läuft"),
+            (4, 1, 77): string("@Fan"),
+        }
+        return self.stand_in(values)
+
+    def test_csv(self):
+        self.odd_device()
+        status, out, err = self.run_site(
+            "survey", "--csv", "--sorted", "1000@DEV", "HERE", "DEAD", "7@ODD"
+        )
+        self.assertEqual((status, err, out.count("\n")), (1, "", 19))
+        lines = out.splitlines()
+        self.assertEqual(lines[0], HEAD)
+        self.assertEqual(
+            lines[1],
+            self.spelled(
+                "DEV,1000,Small device,Property tools,bacdev,0,5,analog-input,Outdoor "
+                "temperature,72.3,,degrees-fahrenheit,normal,"
+            ),
+        )
+        device = self.spelled('HERE,77,"Dach ""1"", Süd",Maker,\'=M1,')
+        self.assertEqual(
+            lines[12:17],
+            [
+                device + row
+                for row in (
+                    r'0,1,analog-input,"Öl,\x1b[2J",,,degrees-celsius,fault,present-value: no number: NaN',
+                    r"13,2,multi-state-input,\u202eMode,2,Away,,,",
+                    "300,1,,A|B,untyped:40000000,,,,units: error 1 27",
+                    "15,1,notification-class,,,,,,object-name: error 2 32",
+                    "4,1,binary-output,'@Fan,1,Läuft,,,",
+                )
+            ],
+        )
+        self.assertEqual(
+            lines[17:],
+            [
+                self.spelled("DEAD,,,,,,,,,,,,,timeout"),
+                self.spelled("ODD,,,,,,,,,,,,,another device: 8:77"),
+            ],
+        )
+
+    def test_lines(self):
+        self.odd_device()
+        status, out, err = self.run_site("survey", "--sorted", "HERE", "DEAD")
+        self.assertEqual((status, err), (1, ""))
+        self.assertEqual(
+            re.sub("  +", ";", out),
+            self.spelled(
+                r"""HERE;device 77;Dach "1", Süd;Maker;=M1
+;0:1;analog-input;Öl,\x1b[2J;-;fault;present-value: no number: NaN
+;13:2;multi-state-input;\u202eMode;2 (Away);-
+;300:1;-;A|B;untyped:40000000;-;units: error 1 27
+;15:1;notification-class;-;-;-;object-name: error 2 32
+;4:1;binary-output;@Fan;1 (Läuft);-
+DEAD;device -;timeout
+"""
+            ),
+        )
+        status, out, err = self.run_site("survey", "DEV")
+        self.assertEqual(
+            (status, err, out.count("\n"), out.count("  72.3 degrees-fahrenheit  ")), (0, "", 12, 1)
+        )
+
+    def test_json(self):
+        self.odd_device()
+        status, out, _ = self.run_site("survey", "--json", "--sorted", "HERE", "DEAD")
+        device, dead = map(json.loads, out.splitlines())
+        self.assertEqual(
+            (status, device["device"], device["model"], device["reasons"]), (1, 77, "=M1", [])
+        )
+        self.assertEqual(
+            [it["kind"] for it in device["objects"]],
+            ["other", "number", "untyped", "other", "number"],
+        )
+        self.assertEqual(device["objects"][1]["meaning"], "Away")
+        self.assertEqual(
+            (dead["device"], dead["objects"], dead["reasons"]), (None, [], ["timeout"])
+        )
+
+    def test_formulas_and_numbers(self):
+        rows = [
+            [
+                "=cmd|' /C calc'!A0",
+                "@SUM(1)",
+                "+1+1",
+                "-1+1",
+                "-5",
+                "-0.25",
+                "-1e-07",
+                "- x",
+                "",
+                "a=b",
+                "\tx",
+            ]
+        ]
+        self.assertEqual(
+            csv_lines(rows),
+            "'=cmd|' /C calc'!A0,'@SUM(1),'+1+1,'-1+1,-5,-0.25,-1e-07,'- x,,a=b,'\tx\n",
+        )
+
+    def test_states(self):
+        self.stand_in(
+            {
+                **NAMED,
+                **listed((13, 1), (13, 2), (4, 1), (4, 2), (4, 3)),
+                (13, 1, 85): unsigned(0),
+                (13, 1, 110, 0): unsigned(3),
+                (13, 2, 85): unsigned(2),
+                (13, 2, 110, 2): string("On"),
+                (4, 1, 85): enumerated(0),
+                (4, 1, 46): string("Aus"),
+                (4, 2, 85): enumerated(1),
+                (4, 2, 4): string(""),
+                (4, 3, 85): enumerated(2),
+                **{(t, i, 77): string("N") for t in (4, 13) for i in (1, 2, 3)},
+            }
+        )
+        out = self.run_site("survey", "--json", "HERE")[1]
+        found = [(it["value"], it["meaning"], it["reasons"]) for it in json.loads(out)["objects"]]
+        self.assertEqual(
+            found,
+            [
+                ("", "", ["present-value: no state: 0"]),
+                ("2", "On", []),
+                ("0", "Aus", []),
+                ("1", "active", []),
+                ("", "", ["present-value: no state: 2"]),
+            ],
+        )
+
+    def test_flags_that_cannot_be_read(self):
+        for flags, told in (
+            (unsigned(15), "no bits: 15"),
+            (b"\x09\x01", "no bits: hex 0901"),
+            (b"", "no bits: {}"),
+            (bits("0000") * 2, "no bits: {B'0000',B'0000'}"),
+            (bits("000"), "no four bits: B'000'"),
+        ):
+            self.stand_in({**NAMED, **sensors(1), (0, 1, 111): flags})
+            status, out, _ = self.run_site("survey", "--json", "HERE")
+            found = json.loads(out)["objects"][0]
+            self.assertEqual(
+                (status, found["flags"], found["reasons"]), (1, "", ["status-flags: " + told])
+            )
+
+    def test_objects_that_are_not_asked_are_counted(self):
+        self.stand_in({**NAMED, **sensors(30), (0, 13, 117): "silent", (0, 14, 77): "silent"})
+        status, out, _ = self.run_site("survey", "HERE")
+        lines = out.splitlines()
+        self.assertEqual((status, len(lines)), (1, 15))
+        self.assertTrue(lines[0].endswith("16 of 30 objects not asked; timeout"), lines[0])
+
+    def test_a_silent_device(self):
+        self.stand_in({(8, 77, 77): "silent", (8, 77, 121): "silent"})
+        why = "object-name: timeout; vendor-name: timeout; model-name: not asked; object-list: not asked; timeout"
+        self.assertEqual(
+            self.run_site("survey", "HERE")[:2], (1, self.spelled("HERE  device 77  %s\n" % why))
+        )
+
+    def test_one_lost_element_leaves_the_others(self):
+        values = {**NAMED, **sensors(3), **listed((0, 1), (0, 2), (0, 3)), (8, 77, 76, 2): "silent"}
+        self.stand_in(values)
+        status, out, _ = self.run_site("survey", "HERE")
+        self.assertEqual((status, re.findall(r"(?m)^  (\S+)", out)), (1, ["0:1", "0:3"]))
+        self.assertIn("  object-list: element 2 of 3: timeout\n", out)
+
+    def test_a_list_without_an_end_is_bounded(self):
+        class Endless(dict):
+            def get(self, key, other=None):
+                return (
+                    an_object(15, key[3])
+                    if key[:3] == (8, 77, 76) and key[3:] > (0,)
+                    else dict.get(self, key, other)
+                )
+
+        device = self.stand_in({})
+        device.values = Endless(
+            {**device.values, **NAMED, (8, 77, 76): ("abort", 1), (8, 77, 76, 0): unsigned(99999)}
+        )
+        status, out, _ = self.run_site("survey", "HERE", "--objects", "20")
+        self.assertEqual((status, out.count("\n")), (1, 21))
+        self.assertIn(
+            "object-list: 99978 of 99999 elements not asked; 1 of 21 objects not asked\n", out
+        )
+        begun = time.monotonic()
+        status, out, _ = self.run_site("survey", "HERE", "--deadline", "1")
+        self.assertLess(time.monotonic() - begun, 20)
+        self.assertRegex(
+            out, r"of 99999 elements not asked; \d+ of \d+ objects not asked; deadline\n"
+        )
+
+    def test_objects_that_are_none(self):
+        self.stand_in(
+            {**NAMED, **sensors(1), (8, 77, 76): an_object(0, 1) + string("0:2") + unsigned(5)}
+        )
+        out = self.run_site("survey", "HERE")[1]
+        self.assertIn('object-list: no object: "0:2"; object-list: no object: 5\n', out)
+        self.assertEqual(out.count("\n"), 2)
+
+    def test_two_devices_with_one_instance(self):
+        first, second = self.stand_in(NAMED), self.stand_in({**NAMED, (8, 77, 76): b""})
+        first.values[(8, 77, 76)] = b""
+        status, out, _ = self.run_site("survey", "--sorted", first.address, second.address)
+        wanted = "%s  device 77  D  V  M\n%s  device 77  D  V  M  same instance as %s\n"
+        self.assertEqual(
+            (status, out), (1, wanted % (first.address, second.address, first.address))
+        )
+
+    def test_two_instances_at_one_address(self):
+        self.stand_in({**NAMED, (8, 77, 76): b""})
+        wanted = "HERE  device 77  D  V  M\nHERE  device -  another device: 8:77\n"
+        self.assertEqual(
+            self.run_site("survey", "77@HERE", "1026@HERE")[:2], (1, self.spelled(wanted))
+        )
+        self.assertEqual(
+            self.run_site("survey", "HERE", "77@HERE")[:2],
+            (0, self.spelled(wanted.split("\n")[0] + "\n")),
+        )
+
+    def test_who_does_not_know_4194303_is_asked_by_a_who_is(self):
+        old = self.stand_in({**NAMED, (8, 77, 76): b""}, knows_itself=False)
+        self.assertEqual(
+            self.run_site("survey", "HERE")[:2], (0, self.spelled("HERE  device 77  D  V  M\n"))
+        )
+        self.assertIn("who-is", old.asked)
+        self.rows(
+            "survey 78@HERE => 1 HERE  device -  another device: 8:77\nread 77@HERE 8 77 77 => 0 D"
+        )
+        stranger = self.stand_in({}, knows_itself=False)
+        del stranger.values[8, 77, 75]
+        self.rows("survey HERE => 1 HERE  device -  error 2 32")
+
+    def test_two_who_answer_a_who_is_are_none(self):
+        self.stand_in(NAMED, kind=TwoStandIn, knows_itself=False)
+        self.rows("survey HERE => 1 HERE  device -  error 1 31")
+
+    def test_devices_alone(self):
+        device = self.stand_in({**NAMED, **sensors(3)})
+        self.assertEqual(
+            self.run_site("survey", "--devices", "HERE")[:2],
+            (0, self.spelled("HERE  device 77  D  V  M\n")),
+        )
+        self.assertNotIn((8, 77, 76), device.asked)
+
+    def test_ranges_hide_who_is_silent(self):
+        port = self.names["DEV"].split(":")[1]
+        status, out, _ = self.run_site("survey", "--devices", "127.0.0.1-4:" + port)
+        self.assertEqual((status, out.count("\n")), (0, 1))
+        status, out, _ = self.run_site("survey", "--devices", "--silent", "127.0.0.0/29:" + port)
+        self.assertEqual((status, out.count("\n"), out.count("timeout")), (0, 6, 5))
+        port = self.names["DEAD"].split(":")[1]
+        self.assertEqual(self.run_site("survey", "127.0.0.1-2:" + port), (1, "", ""))
+
+    def test_who_is_ready_is_printed(self):
+        self.stand_in({**NAMED, (8, 77, 76): b""})
+        words = ["survey", self.names["DEAD"], self.names["HERE"], "--apdu-timeout", "20000"]
+        with subprocess.Popen(
+            [*self.world.command, *words],
+            stdout=subprocess.PIPE,
+            stderr=subprocess.PIPE,
+            preexec_fn=lambda: signal.signal(signal.SIGINT, signal.SIG_DFL),
+        ) as process:
+            first = process.stdout.readline().decode()
+            self.assertEqual(first, self.spelled("HERE  device 77  D  V  M\n"))
+            process.send_signal(signal.SIGINT)
+            self.assertEqual(process.communicate(timeout=20), (b"", b""))
+        self.assertEqual(process.returncode, -signal.SIGINT)
+
+    def test_words(self):
+        self.rows(
+            """
+            survey DEV nobody => 2 !no address: nobody
+            survey => 2 !the following arguments are required
+            survey 192.0.2.0/8 => 2 !no range of 1 to 65536 addresses
+            survey DEV --csv --json => 2 !argument --json: not allowed with
+            """
+        )
+
+
+if __name__ == "__main__":
+    unittest.main()

@@ -1,0 +1,185 @@
+"""The words that say what is asked: addresses, ranges of them, points, and lists of points."""
+
+import io
+import subprocess
+import sys
+import unittest
+from unittest import mock
+
+import harness
+from bacsite import addresses, points, words
+from bacsite.failures import Failure
+from bacsite.output import put
+from bacsite.texts import clean, table, width
+
+
+class Addresses(unittest.TestCase):
+    def test_one(self):
+        for word, wanted in (
+            ("192.0.2.7", (None, "192.0.2.7:47808")),
+            ("192.0.2.7:47809", (None, "192.0.2.7:47809")),
+            ("1234@192.0.2.7", (1234, "192.0.2.7:47808")),
+            ("0@10.0.0.1:0", (0, "10.0.0.1:0")),
+            ("010.0.0.1", (None, "10.0.0.1:47808")),
+        ):
+            self.assertEqual(addresses.one(word), wanted)
+        for word in (
+            "",
+            "1.2.3",
+            "1.2.3.4.5",
+            "1.2.3.256",
+            "1.2.3.4:65536",
+            "12345678@1.2.3.4",
+            "1.2.3.4:",
+            "1.2.3.4 ",
+            "1.2.3.4/5/07",
+            "-1@1.2.3.4",
+            "::1",
+            "4194303@1.2.3.4",
+        ):
+            with self.subTest(word=word), self.assertRaises(Failure):
+                addresses.one(word)
+
+    def test_a_host_name_is_looked_up_once(self):
+        found = [(None, None, None, "", ("192.0.2.9", 0))]
+        with mock.patch("socket.getaddrinfo", return_value=found) as lookup:
+            self.assertEqual(addresses.one("7@ahu.example:47809"), (7, "192.0.2.9:47809"))
+            self.assertEqual(addresses.one("ahu.example"), (None, "192.0.2.9:47808"))
+            self.assertEqual(addresses.one("192.0.2.7"), (None, "192.0.2.7:47808"))
+        self.assertEqual(lookup.call_count, 1)
+        with mock.patch("socket.getaddrinfo", side_effect=OSError) as lookup:
+            for word in ("no.example", "8@no.example", "no.example:99999", "a b", "no/example"):
+                with self.subTest(word=word), self.assertRaises(Failure):
+                    addresses.one(word)
+        self.assertEqual(lookup.call_count, 1)
+
+    def test_ranges(self):
+        def hosts(*given):
+            return [it.address.split(":")[0] for it in addresses.targets(given)]
+
+        self.assertEqual(hosts("192.0.2.0/30"), ["192.0.2.1", "192.0.2.2"])
+        self.assertEqual(hosts("192.0.2.7/32"), ["192.0.2.7"])
+        self.assertEqual(len(hosts("192.0.2.0/24")), 254)
+        self.assertEqual(
+            hosts("192.0.2.254-192.0.3.1"), ["192.0.2.254", "192.0.2.255", "192.0.3.0", "192.0.3.1"]
+        )
+        self.assertEqual(hosts("192.0.2.1-3"), ["192.0.2.1", "192.0.2.2", "192.0.2.3"])
+        target = addresses.targets(["192.0.2.1-2:47809"])[1]
+        self.assertEqual(target, ("192.0.2.2:47809", (None,), True))
+        for word in (
+            "192.0.2.3-1",
+            "192.0.2.1-256",
+            "192.0.2.0/33",
+            "10.0.0.0/8",
+            "7@192.0.2.1-2",
+            "192.0.2-9",
+            "192.0.2.1-",
+            "10.0.0.0-11.0.0.0",
+        ):
+            with self.subTest(word=word), self.assertRaises(Failure):
+                addresses.targets([word])
+
+    def test_targets_stand_once(self):
+        found = addresses.targets(
+            ["77@192.0.2.1", "1026@192.0.2.1", "77@192.0.2.1", "192.0.2.0/30"]
+        )
+        self.assertEqual(found[0], ("192.0.2.1:47808", (77, 1026), False))
+        self.assertEqual(found[1:], [("192.0.2.2:47808", (None,), True)])
+        named = addresses.targets(["192.0.2.0/30", "5@192.0.2.2"])
+        self.assertEqual(named[1], ("192.0.2.2:47808", (5,), False))
+
+
+class Points(unittest.TestCase):
+    def test_hints(self):
+        for reader, word, hint in (
+            (points.object_type, "AI", "perhaps analog-input"),
+            (points.object_type, "analog_input", "perhaps analog-input"),
+            (points.property_number, "pv", "perhaps present-value"),
+            (points.property_number, "presnt-value", "perhaps present-value"),
+            (points.instance, "five", ""),
+        ):
+            with self.assertRaises(Failure) as caught:
+                reader(word)
+            self.assertIn(hint, str(caught.exception))
+        self.assertEqual(points.object_type("Analog-INPUT"), 0)
+
+    def test_numbers_have_limits(self):
+        for reader, most in (
+            (points.object_type, 1023),
+            (points.instance, 4194303),
+            (points.property_number, 4194303),
+            (points.index, 4294967295),
+        ):
+            self.assertEqual(reader(str(most)), most)
+            for word in (str(most + 1), "-1", "", "1.5", "٣", "99999999999"):
+                with self.subTest(word=word), self.assertRaises(Failure):
+                    reader(word)
+
+    def test_a_list_on_standard_input(self):
+        stdin = io.TextIOWrapper(io.BytesIO(b"\xef\xbb\xbfa 192.0.2.7 0 5 85\r\n# b\n\n c x\n"))
+        with mock.patch("sys.stdin", stdin):
+            found = points.points_of("-")
+        self.assertEqual(
+            [(it.name, it.address, it.what) for it in found],
+            [("a", "192.0.2.7:47808", (0, 5, 85)), ("c", "", ())],
+        )
+        self.assertTrue(found[1].fault.startswith("wanted: "))
+        with mock.patch("sys.stdin", None), self.assertRaises(Failure):
+            points.points_of("-")
+
+
+class Texts(unittest.TestCase):
+    def test_clean(self):
+        self.assertEqual(clean("Öl\x1b[2J\n\u202e"), "Öl\\x1b[2J\\n\\u202e")
+
+    def test_times_are_those_of_utc(self):
+        code = "from bacsite.texts import stamp; print(stamp(0), stamp(86399))"
+        told = subprocess.run(
+            [sys.executable, "-c", code],
+            cwd=harness.TOP + "/site",
+            env={"TZ": "EST5"},
+            stdout=subprocess.PIPE,
+        )
+        self.assertEqual(told.stdout, b"1970-01-01T00:00:00Z 1970-01-01T23:59:59Z\n")
+
+    def test_what_is_written_in_parts_is_written_whole(self):
+        written = []
+
+        def some(_, octets):
+            written.append(octets[:3])
+            return len(octets[:3])
+
+        with mock.patch("os.write", some):
+            put("0123456789\n")
+        self.assertEqual(b"".join(written), b"0123456789\n")
+
+    def test_columns_hold_wide_texts(self):
+        self.assertEqual([width(it) for it in ("abc", "温度", "e\u0301", "")], [3, 4, 1, 0])
+        rows = [["0:1", "温度", "x"], ["0:22", "", "y"], ["0:3", "a" * 50, ""]]
+        self.assertEqual(
+            table(rows),
+            ["0:1   温度" + " " * 46 + "  x", "0:22  -" + " " * 49 + "  y", "0:3   " + "a" * 50],
+        )
+
+
+class Words(unittest.TestCase):
+    def test_every_command_is_in_the_table(self):
+        found = {name: words.command_of(name) for name in words.COMMANDS}
+        self.assertEqual(len({command.work for command in found.values()}), len(found))
+        for name, command in found.items():
+            parser = words.parser_of([name])
+            self.assertIn(command.summary[:20], parser.format_help())
+        self.assertEqual(
+            sorted(it for it, command in found.items() if not command.asks),
+            ["capture", "octets", "real"],
+        )
+
+    def test_the_version_is_that_of_the_program(self):
+        told = subprocess.run(
+            [harness.TOOL, "--help"], stdout=subprocess.PIPE, encoding="utf-8"
+        ).stdout
+        self.assertTrue(told.startswith("bactool %s:" % words.VERSION), told)
+
+
+if __name__ == "__main__":
+    unittest.main()

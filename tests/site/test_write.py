@@ -1,0 +1,390 @@
+"""Writes: what is refused before anything is sent, what is sent, and what is told of it."""
+
+import signal
+import subprocess
+import unittest
+
+import harness
+from bacsite import names
+from bacsite.calls import Outcome
+from bacsite.encode import encode
+from bacsite.failures import Failure
+from bacsite.write import ending_of
+from stand_ins import NULL, enumerated, real, string, tagged, unsigned
+
+VALVE = {
+    (1, 1, 77): string("Valve"),
+    (1, 1, 79): enumerated(1),
+    (1, 1, 85): real("00000000"),
+    (1, 1, 87): NULL * 16,
+    (1, 1, 104): real("00000000"),
+    (1, 1, 69): real("c1200000"),
+    (1, 1, 65): real("42c80000"),
+}
+MODE = {
+    (14, 2, 77): string("Mode"),
+    (14, 2, 79): enumerated(14),
+    (14, 2, 85): unsigned(1),
+    (14, 2, 74): unsigned(4),
+    (14, 2, 110): string("Off") + string("Heat") + string("Both") + string("both"),
+}
+FAN = {
+    (5, 3, 77): string("Fan"),
+    (5, 3, 79): enumerated(5),
+    (5, 3, 85): enumerated(0),
+    (5, 3, 4): string("Läuft"),
+    (5, 3, 46): string("Steht"),
+}
+VENDOR = {(300, 1, 77): string("X"), (300, 1, 85): unsigned(5)}
+TEXT = {
+    (40, 1, 77): string("Note"),
+    (40, 1, 85): string("old"),
+    (0, 9, 77): string("S"),
+    (0, 9, 81): b"\x10",
+    (0, 9, 28): string(""),
+    (0, 9, 117): enumerated(62),
+    (0, 9, 85): real("7fc00000"),
+    (0, 9, 111): b"\x82\x04\0",
+}
+ALL = {**VALVE, **MODE, **FAN, **VENDOR, **TEXT}
+
+
+class Write(harness.SiteTest):
+    def test_what_is_sent(self):
+        device = self.stand_in(ALL)
+        for words, what, value, priority in (
+            ("1 1 20 --priority 8", (1, 1, 85), real("41a00000"), 8),
+            ("analog-output 1 -2.5 --priority 9", (1, 1, 85), real("c0200000"), 9),
+            ("1 1 null --priority 9", (1, 1, 85), NULL, 9),
+            ("14 2 3", (14, 2, 85), unsigned(3), 0),
+            ("14 2 heat", (14, 2, 85), unsigned(2), 0),
+            ("5 3 läuft", (5, 3, 85), enumerated(1), 0),
+            ("5 3 Inactive", (5, 3, 85), enumerated(0), 0),
+            ("300 1 6 --type unsigned", (300, 1, 85), unsigned(6), 0),
+            ("40 1 -x", (40, 1, 85), string("-x"), 0),
+            ("0 9 true --property out-of-service", (0, 9, 81), b"\x11", 0),
+            ("0 9 Öl --property 28", (0, 9, 28), string("Öl"), 0),
+            ("0 9 degrees-fahrenheit --property units", (0, 9, 117), enumerated(64), 0),
+            ("0 9 1.5", (0, 9, 85), real("3fc00000"), 0),
+        ):
+            given = words.split(" ")
+            if "-x" in given:
+                given.insert(given.index("-x"), "--")
+            status, out, err = self.run_site("write", "77@HERE", *given)
+            with self.subTest(words=words):
+                self.assertEqual(
+                    (status, err, device.written[-1]), (0, "", (what, value, priority))
+                )
+                self.assertNotIn("not as written", out)
+
+    def test_what_is_printed(self):
+        self.stand_in(VALVE)
+        head = "device 77 at HERE\nobject 1:1 analog-output Valve\n"
+        status, out, _ = self.run_site("write", "HERE", "1", "1", "20", "--priority", "8")
+        self.assertEqual(
+            (status, out),
+            (
+                0,
+                self.spelled(
+                    head + "before: 0\nwrite 20 at priority 8: ok\nnow: 20\n"
+                    "priority 8 (manual-operator): 20\nrelinquish-default: 0\n"
+                ),
+            ),
+        )
+        status, out, _ = self.run_site("write", "HERE", "1", "1", "30", "--priority", "10")
+        self.assertEqual(
+            (status, out),
+            (
+                0,
+                self.spelled(
+                    head
+                    + "before: 20\nwrite 30 at priority 10: ok\nnow: 20\npriority 8 (manual-operator): 20\n"
+                    "priority 10: 30\nrelinquish-default: 0\n"
+                ),
+            ),
+        )
+        status, out, _ = self.run_site("write", "HERE", "1", "1", "null", "--priority", "8")
+        self.assertEqual(
+            (status, out),
+            (
+                0,
+                self.spelled(
+                    head + "before: 20\nwrite null at priority 8: ok\nnow: 30\n"
+                    "priority 10: 30\nrelinquish-default: 0\n"
+                ),
+            ),
+        )
+
+    def test_what_is_refused_before_anything_is_sent(self):
+        device = self.stand_in(ALL)
+        self.rows(
+            """
+            write 78@HERE 1 1 20 --priority 8 => 1 !another device: 8:77; nothing was sent
+            write HERE 1 1 20 => 2 !1:1 analog-output is commanded by priorities: name one by --priority
+            write HERE 1 1 20,5 --priority 8 => 2 !no number: '20,5'; nothing was sent
+            write HERE 1 1 on --priority 8 => 2 !no number: 'on'; nothing was sent
+            write HERE 1 1 nan --priority 8 => 2 !no number: 'nan'; nothing was sent
+            write HERE 1 1 1e40 --priority 8 => 2 !past the range: 1e40; nothing was sent
+            write HERE 1 1 100.5 --priority 8 => 2 !1:1 analog-output takes -10 to 100, not 100.5; nothing was sent
+            write HERE 1 1 -11 --priority 8 => 2 !1:1 analog-output takes -10 to 100, not -11; nothing was sent
+            write HERE 14 2 0 => 2 !14:2 multi-state-output takes 1 to 4, not 0; nothing was sent
+            write HERE 14 2 5 => 2 !14:2 multi-state-output takes 1 to 4, not 5; nothing was sent
+            write HERE 14 2 1.5 => 2 !no number and no state: 1.5; it has off, heat; nothing was sent
+            write HERE 14 2 both => 2 !no number and no state: both; it has off, heat; nothing was sent
+            write HERE 5 3 2 => 2 !5:3 binary-value takes 0 to 1, not 2; nothing was sent
+            write HERE 5 3 null => 2 !null lets go of a priority: 5:3 binary-value has no priority array
+            write HERE 300 1 6 => 2 !the type of 300:1 is not known: name it by --type; nothing was sent
+            write HERE 1 1 6 --type unsigned --priority 8 => 2 !1:1 analog-output is no unsigned, but real
+            write HERE 0 9 1 --property out-of-service => 2 !neither true nor false: 1; nothing was sent
+            write HERE 0 9 parsec --property units => 2 !no number and no state: parsec; nothing was sent
+            write HERE 14 2 x --property state-text => 2 !state-text has several values: name one by --index
+            write HERE 1 2 20 => 1 !present-value: error 2 32; nothing was sent
+            write HERE 0 9 x --property 12 => 1 !application-software-version: error 2 32; nothing was sent
+            write HERE 1 1 20 --priority 6 => 2 !priority 6 is the device's own
+            write HERE 1 1 20 --priority 17 => 2 !argument --priority: not 1 to 16: 17
+            write HERE 1 1 20 --priority 0 => 2 !argument --priority: not 1 to 16: 0
+            write HERE 1 1 20 --property pv => 2 !no property: pv
+            write HERE 1 1 => 2 !the following arguments are required: VALUE
+            write DEAD 1 1 20 --priority 8 => 1 !timeout; nothing was sent
+            """
+        )
+        self.assertEqual(device.written, [])
+
+    def test_an_object_that_is_another(self):
+        device = self.stand_in({**VALVE, (1, 1, 79): enumerated(0)})
+        self.rows(
+            "write HERE 1 1 20 --priority 8 => 1 !it is of another object type: 0 (analog-input); nothing was sent"
+        )
+        self.stand_in({**VALVE, (1, 1, 85): unsigned(20)})
+        self.rows(
+            "write HERE 1 1 20 --priority 8 => 1 !present-value: no real: 20; nothing was sent"
+        )
+        self.stand_in({**VALVE, (1, 1, 69): "silent"})
+        self.rows("write HERE 1 1 20 --priority 8 => 1 !min-pres-value: timeout; nothing was sent")
+        self.stand_in({**VALVE, (1, 1, 87): ("error", 2, 27)})
+        self.rows(
+            "write HERE 1 1 20 --priority 8 => 1 !priority-array: error 2 27; nothing was sent"
+        )
+        self.assertEqual(device.written, [])
+
+    def test_a_dry_run(self):
+        device = self.stand_in(VALVE)
+        status, out, _ = self.run_site(
+            "write", "HERE", "1", "1", "20", "--priority", "8", "--dry-run"
+        )
+        self.assertEqual(
+            (status, out.splitlines()[-1]),
+            (0, "write 20 at priority 8: nothing was sent, as was asked for"),
+        )
+        self.assertEqual(device.written, [])
+
+    def last_lines(self, mode, count, values=None):
+        device = self.stand_in(values or VALVE, writes=mode)
+        status, out, _ = self.run_site("write", "HERE", "1", "1", "20", "--priority", "8")
+        return status, out.splitlines()[3:][:count], len(device.written)
+
+    def test_what_the_device_refuses(self):
+        for mode, why in (("refuse", "error 2 40"), ("reject", "reject 9")):
+            wanted = ["write 20 at priority 8: refused: " + why, "now: 0", "relinquish-default: 0"]
+            self.assertEqual(self.last_lines(mode, 9), (1, wanted, 1))
+
+    def test_an_outcome_that_is_not_known(self):
+        unknown = "write 20 at priority 8: outcome not known: the write may have been made (%s)"
+        self.assertEqual(
+            self.last_lines("silent", 3),
+            (1, [unknown % "timeout", "now: 20", "priority 8 (manual-operator): 20"], 3),
+        )
+        self.assertEqual(
+            self.last_lines("lose", 4),
+            (
+                1,
+                [unknown % "timeout", "now: 0", "relinquish-default: 0", "not as written: null"],
+                3,
+            ),
+        )
+        self.assertEqual(self.last_lines("abort", 2), (1, [unknown % "abort 0", "now: 0"], 1))
+
+    def test_a_device_that_keeps_another_value(self):
+        device = self.stand_in(VALVE)
+        keep = device.keep
+        device.keep = lambda key, value, priority: keep(key, real("41a80000"), priority)
+        status, out, _ = self.run_site("write", "HERE", "1", "1", "20", "--priority", "8")
+        self.assertEqual((status, out.splitlines()[-1]), (1, "not as written: 21"))
+
+    def test_a_full_disk_stops_it_before_the_write(self):
+        device = self.stand_in(VALVE)
+        with open("/dev/full", "w", encoding="utf-8") as full:
+            found = self.run_site("write", "HERE", "1", "1", "20", "--priority", "8", stdout=full)
+        self.assertEqual((found[0], found[2], device.written), (3, "bacsite: writing failed\n", []))
+
+    def test_a_signal_says_that_the_write_may_have_been_made(self):
+        device = self.stand_in(VALVE, writes="silent")
+        words = [
+            "write",
+            device.address,
+            "1",
+            "1",
+            "20",
+            "--priority",
+            "8",
+            "--apdu-timeout",
+            "20000",
+        ]
+        process = subprocess.Popen(
+            [*self.world.command, *words], stdout=subprocess.PIPE, stderr=subprocess.PIPE
+        )
+        while not device.written:
+            self.assertIsNone(process.poll())
+        process.send_signal(signal.SIGTERM)
+        err = process.communicate(timeout=20)[1]
+        told = b"bacsite: ended by a signal: the write may have been made; read it back\n"
+        self.assertEqual((process.returncode, err), (-signal.SIGTERM, told))
+
+    def test_the_device_of_the_package(self):
+        for words, wanted in (
+            (
+                "DEV 0 5 22.5 => 1",
+                "object 0:5 analog-input Outdoor temperature;before: 72.3;"
+                "write 22.5: refused: error 2 40;now: 72.3",
+            ),
+            (
+                "1000@DEV 4 4 active --priority 5 => 0",
+                "object 4:4 binary-output Fan;before: 0 (inactive);write 1 at priority 5: ok;"
+                "now: 1 (active);priority 5 (critical-equipment-control): 1 (active);"
+                "relinquish-default: 0 (inactive)",
+            ),
+            (
+                "DEV 4 4 null --priority 5 => 0",
+                "object 4:4 binary-output Fan;before: 1 (active);write null at priority 5: ok;"
+                "now: 0 (inactive);relinquish-default: 0 (inactive)",
+            ),
+        ):
+            self.rows(f"write {words} device 1000 at DEV;{wanted}")
+
+
+class Endings(unittest.TestCase):
+    def test_endings(self):
+        for outcome, told, status, was_sent in (
+            (Outcome(0, ["ok"]), "ok", 0, True),
+            (
+                Outcome(0, ["ok", "ok"]),
+                "outcome not known: the write may have been made (status 0)",
+                3,
+                True,
+            ),
+            (Outcome(0, []), "outcome not known: the write may have been made (status 0)", 3, True),
+            (Outcome(1, ["error 2 37"]), "refused: error 2 37", 1, True),
+            (
+                Outcome(1, ["timeout"]),
+                "outcome not known: the write may have been made (timeout)",
+                1,
+                True,
+            ),
+            (
+                Outcome(1, ["bad-ack"]),
+                "outcome not known: the write may have been made (bad-ack)",
+                1,
+                True,
+            ),
+            (
+                Outcome(1, ["segmented"]),
+                "outcome not known: the write may have been made (segmented)",
+                1,
+                True,
+            ),
+            (
+                Outcome(2, [], "bactool: bad value 1"),
+                "nothing was sent: bactool: bad value 1",
+                2,
+                False,
+            ),
+            (
+                Outcome(3, [], "bactool: bind failed"),
+                "nothing was sent: bactool: bind failed",
+                3,
+                False,
+            ),
+            (
+                Outcome(3, [], "bactool: receiving failed"),
+                "outcome not known: the write may have been made (bactool: receiving failed)",
+                3,
+                True,
+            ),
+            (
+                Outcome(-9, []),
+                "outcome not known: the write may have been made (status -9)",
+                3,
+                True,
+            ),
+            (Outcome(None, [], "cannot run x"), "nothing was sent: cannot run x", 3, False),
+        ):
+            with self.subTest(outcome=outcome):
+                ending = ending_of(outcome)
+                self.assertEqual(
+                    (ending.told, ending.status, ending.was_sent), (told, status, was_sent)
+                )
+
+
+class Encode(unittest.TestCase):
+    def test_values(self):
+        for word, tag, wanted, text in (
+            ("20.5", names.REAL, "41a40000", "20.5"),
+            ("20.5", names.DOUBLE, "4034800000000000", "20.5"),
+            ("007", names.UNSIGNED, "7", "7"),
+            ("-7", names.SIGNED, "-7", "-7"),
+            ("on", names.ENUMERATED, "1", "1"),
+            ("ON", names.ENUMERATED, "1", "1"),
+            ("true", names.BOOLEAN, "true", "true"),
+            ("0101", names.BITS, "0101", "B'0101'"),
+            ("01ff", names.OCTETS, "01ff", "X'01ff'"),
+            ("2024-10-31", names.DATE, "7c0a1f04", "2024-10-31"),
+            ("12:30", names.TIME, "0c1e0000", "12:30:00.00"),
+            ("9:30:05.07", names.TIME, "091e0507", "09:30:05.07"),
+            ("analog-input:5", names.OBJECT, "0:5", "0:5"),
+            ("8:1234", names.OBJECT, "8:1234", "8:1234"),
+            (" x ", names.STRING, " x ", " x "),
+            ("a\x1b[2J", names.STRING, "a\x1b[2J", "a\\x1b[2J"),
+            (
+                "18446744073709551615",
+                names.UNSIGNED,
+                "18446744073709551615",
+                "18446744073709551615",
+            ),
+            ("null", names.NULL, "null", "null"),
+        ):
+            with self.subTest(word=word, tag=tag):
+                found = encode(word, tag, lambda: {"on": 1})
+                self.assertEqual(found, (tag, wanted, text))
+
+    def test_words_that_are_none(self):
+        for word, tag in (
+            ("-1", names.UNSIGNED),
+            ("18446744073709551616", names.UNSIGNED),
+            ("4294967296", names.ENUMERATED),
+            ("9223372036854775808", names.SIGNED),
+            ("1.5", names.SIGNED),
+            ("٣", names.UNSIGNED),
+            ("True", names.BOOLEAN),
+            ("1", names.BOOLEAN),
+            ("", names.BITS),
+            ("2", names.BITS),
+            ("1f f", names.OCTETS),
+            ("f", names.OCTETS),
+            ("2024-02-30", names.DATE),
+            ("1899-01-01", names.DATE),
+            ("2200-01-01", names.DATE),
+            ("24:00", names.TIME),
+            ("12:60", names.TIME),
+            ("12", names.TIME),
+            ("5", names.OBJECT),
+            ("0:4194304", names.OBJECT),
+            ("x", names.NULL),
+            ("", names.REAL),
+            ("maybe", names.ENUMERATED),
+        ):
+            with self.subTest(word=word, tag=tag), self.assertRaises(Failure):
+                encode(word, tag, lambda: {"on": 1})
+
+
+if __name__ == "__main__":
+    unittest.main()
