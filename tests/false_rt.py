@@ -38,6 +38,7 @@ case $1 in
 esac
 """
 SELF_TEST = RULES + "echo '6 bodies and twins with and without a fault, 0 not told as they are to be'\n"
+DROPS = RULES + "echo '10 drops by hand, 0 not refused'\n"
 MAKEFILE = """
 examples:
 	@tests/one.sh
@@ -71,8 +72,8 @@ ROWS = [
     (TEST, "three.sh: echo 'tests/three.sh: 2 calls'; echo 'x: cc is not installed, left out'", 0, r", 1 skipped$"),
     (TEST, "wrong_bodies.py: true", 1, r"failed: wrong bodies\n\d+ passed, 1 " + GOOD),
     (TEST, f"wrong_bodies.py: echo '{NONE}'", 1, r"failed: wrong bodies"),
-    (GATE, "", 0, r"\n58 passed, 0 " + GOOD),
-    ([".ci/run"], "", 0, r"\n58 passed, 0 " + GOOD),
+    (GATE, "", 0, r"\n68 passed, 0 " + GOOD),
+    ([".ci/run"], "", 0, r"\n68 passed, 0 " + GOOD),
     (GATE, "four.sh: exit 1", 1, r"^((?!rt ci)(.|\n))*failed: documents\n\d+ passed, 1 " + GOOD),
     (GATE, "wrong_bodies.py --list: echo \"9 bodies, of which 2 don't fit the code\"; exit 1", 1, r"failed: fit\n"),
     (GATE, "wrong_bodies.py --list: true", 1, r"failed: fit\n"),
@@ -81,6 +82,8 @@ ROWS = [
     (GATE, "rt ci: echo '0 passed, 0 failed'", 1, r"failed: rt ci\n"),
     (GATE, "rt ci: echo '20 passed, 0 failed'", 1, r"failed: program\n"),
     (GATE, "self_test.py: echo '6 bodies and twins with and without a fault, 1 not told'", 1, r"failed: self test\n"),
+    (GATE, "let_go.py: echo '10 drops by hand, 1 not refused'; exit 1", 1, r"failed: drops\n\d+ passed, 1 " + GOOD),
+    (GATE, "let_go.py: echo '0 drops by hand, 0 not refused'", 1, r"failed: drops\n"),
 ]
 
 
@@ -96,7 +99,9 @@ def made(room):
     texts = {"Makefile": MAKEFILE, "HANDLES": "", "crates.txt": crates}
     texts.update((f"crates/{name}/src/lib.rt", "//! x\n") for name in ("low", "bactool", "bac_trials", "tool_trials"))
     texts.update((f"tests/{name}.sh", SCRIPT) for name in ("one", "two", "three", "four"))
-    texts.update({"tests/bodies/wrong_bodies.py": BODIES, "tests/bodies/self_test.py": SELF_TEST, "../bin/rt": RT})
+    instruments = {"wrong_bodies": BODIES, "self_test": SELF_TEST, "let_go": DROPS}
+    texts.update((f"tests/bodies/{name}.py", text) for name, text in instruments.items())
+    texts["../bin/rt"] = RT
     wanted = re.search(r"for tool in (.*); do", text_of(".ci/run"))[1].split()
     texts.update((f"../bin/{name}", RULES) for name in wanted)
     for path, text in texts.items():

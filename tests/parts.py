@@ -7,8 +7,8 @@ then what runs the program, alone, since clocks and sockets are in it, and make 
 `gate` is what a change has to pass. First it looks whether the documents agree with the tree, and whether the wrong
 bodies fit the code. Then `rt ci` proves, builds and tests everything from nothing, in a copy of the tree, since it sets
 aside what is kept of the proofs. Beside it come all wrong bodies, those of a crate once `rt ci` has proved the crates
-below. Last come what runs the program, which is the one that `rt ci` built, and make lint. Where a part fails, the
-others are ended.
+below. Last come the drops by hand, what runs the program, which is the one that `rt ci` built, and make lint. Where a
+part fails, the others are ended.
 The copy has no must-fail/: for its edits `rt ci` would prove each crate once more, and they are tried with the wrong
 bodies. In the tree itself `rt ci` and `rt must-fail` try them too.
 
@@ -202,9 +202,12 @@ def gate(clock):
         tried = bodies("wrong bodies", "--over", f"{room}/tree")
         told = r"^(\d+) bodies and twins with", r", (\d+) not told"
         told = Part("self test", gently("tests/bodies/self_test.py"), *told)
+        drops = r"^(\d+) drops by hand", r", (\d+) not refused"
+        drops = Part("drops", ["tests/bodies/let_go.py", "--over", f"{room}/tree"], *drops)
         program = Part("program", ["install", "-D", f"{room}/tree/{PROGRAM}", PROGRAM], "")
         passed, lost = run([[documents, fit]], clock, True)
-        for rows in (beside([whole_proof(room)], [told, tried]), [[program, target("examples"), target("lint")]]):
+        last = [drops, program, target("examples"), target("lint")]
+        for rows in (beside([whole_proof(room)], [told, tried]), [last]):
             more, lost = (0, lost) if lost else run(rows, clock, True)
             passed += more
         return passed, lost

@@ -2,10 +2,10 @@
 """Sees that the language refuses a `Drop` by hand of each type that holds a socket, a link, a stream, the runtime or a
 report: such a one could send, write or flush when a value is let go, and no contract speaks of that.
 
-Usage: tests/bodies/let_go.py [CRATE]; it needs the libraries of the crates below, as `make demo` keeps them. The status
-is 0 where each is refused by the error that stands beside it, and by no other. Each takes some seconds, in which
-nothing is proved; by hand, since `make documents` finds any such `Drop` in the sources.
+It needs the libraries of the crates below, as `make demo` keeps them. The status is 0 where each `Drop` is refused by
+the errors that stand beside it, and by no other. Each takes some seconds, in which nothing is proved.
 """
+import argparse
 import os
 import re
 import shutil
@@ -17,9 +17,9 @@ sys.path.insert(0, os.path.dirname(__file__) + "/..")
 from tree import TOP, text_of
 from wrong_bodies import command
 
-MOVED, BOUND = "move-out-of-place", "specialized-drop"
+MOVED, BOUND = {"move-out-of-place"}, {"specialized-drop"}
 # Of each type: its crate and file, its head there, the parameters of the `impl`, the type, what the `Drop` does with
-# `self`, the fields, and the error that refuses it.
+# `self`, and the errors that refuse it.
 SOCKET = "socket, made_of: _, buffer: _, time: _, wait_ms: _, refused: _, failed: _, history: _"
 ADDRESS = "std::net::SocketAddr::V4(std::net::SocketAddrV4::new(std::net::Ipv4Addr::from_bits(0x7f00_0001), 9))"
 TYPES = [
@@ -40,7 +40,7 @@ TYPES = [
      "let Ran { report: _, socket: _, unasked: _ } = self;", MOVED),
     ("bac_tools", "program", "pub struct Ran<N: Drop, L: Drop> {", "<N: Drop, L: Link + Drop>", "Ran<N, L>",
      "let Ran { report: _, socket, unasked: _ } = self; if let Some(Ok(mut link)) = socket { let _ = link.now(); }",
-     MOVED),
+     MOVED | BOUND),
     ("bac_tools", "program", "pub struct Ended<N: Drop, L: Drop, R: Drop, W: Drop, E: Drop> {",
      "<N: Drop, L: Drop, R: Drop, W: Write + Drop, E: Drop>", "Ended<N, L, R, W, E>",
      'let Ended { ran: _, reader: _, mut writer, errors: _ } = self; tell(None, &mut writer);', BOUND),
@@ -50,8 +50,8 @@ TYPES = [
 ]
 
 
-def said_of(crate, file, head, given, kind, does):
-    """What the check says where the type has this `Drop` in place of the derived one."""
+def said_of(crate, file, head, given, kind, does, over):
+    """What a check over the libraries of this tree says where the type has this `Drop` in place of the derived one."""
     with tempfile.TemporaryDirectory(prefix="let-go-") as here:
         for part in ("src", "specs", "proofs"):
             if os.path.isdir(f"{TOP}/crates/{crate}/{part}"):
@@ -63,23 +63,27 @@ def said_of(crate, file, head, given, kind, does):
         by_hand = f"impl{given} Drop for {kind} {{ fn drop(self) {{ {does} }} }}\n{head}"
         with open(f"{here}/src/{file}.rt", "w", encoding="utf-8") as it:
             it.write(text.replace(derived, by_hand))
-        words = [*command(crate, TOP), "--only=nothing"]
+        words = [*command(crate, over), "--only=nothing"]
         how = {"cwd": here, "capture_output": True, "text": True, "check": False}
         ran = subprocess.run(words, stdin=subprocess.DEVNULL, **how)
         return ran.stdout + ran.stderr
 
 
 def main():
-    bad = 0
-    for crate, file, head, given, kind, does, error in TYPES:
-        if sys.argv[1:] and crate not in sys.argv[1:]:
-            continue
-        said = said_of(crate, file, head, given, kind, does)
-        errors = set(re.findall(r"error\[([\w-]+)\]", said))
-        is_well = errors == {error}
+    parser = argparse.ArgumentParser(description=__doc__, formatter_class=argparse.RawDescriptionHelpFormatter)
+    parser.add_argument("--over", default=TOP, metavar="TREE", help="take the crates below from this tree")
+    parser.add_argument("crates", nargs="*", help="try those of these crates alone")
+    options = parser.parse_args()
+    rows, bad = [row for row in TYPES if not options.crates or row[0] in options.crates], 0
+    for *row, errors in rows:
+        said = said_of(*row, options.over)
+        is_well = set(re.findall(r"error\[([\w-]+)\]", said)) == errors
         bad += not is_well
-        print(f"{crate}: {kind}: {does}\n    {error if is_well else f'NOT {error}: ' + said[-600:]}", flush=True)
-    return 1 if bad else 0
+        crate, _, _, _, kind, does = row
+        told = ", ".join(sorted(errors))
+        print(f"{crate}: {kind}: {does}\n    {told if is_well else f'NOT {told}: ' + said[-600:]}", flush=True)
+    print(f"{len(rows)} drops by hand, {bad} not refused")
+    return 1 if bad or not rows else 0
 
 
 if __name__ == "__main__":
