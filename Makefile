@@ -43,10 +43,6 @@ gate:
 	@tests/parts.py gate
 
 examples: program
-	@for script in examples/*.trace; do \
-	    $(PROGRAM) bactrace < $$script | diff - $${script%.trace}.out || exit 1; \
-	    echo "$$script: as it is to be"; \
-	done
 	@examples/with-port.sh examples/demo.sh $(PROGRAM) | sed -E 's/(--port |127\.0\.0\.1:)[0-9]+/\147808/' | \
 	    diff - examples/demo.out
 	@echo "examples/demo.sh: as it is to be"

@@ -1,5 +1,6 @@
 #!/usr/bin/env python3
-"""Runs the scripts and command lines of rows/ by the built program, and compares output, errors and status.
+"""Runs the scripts of examples/ and the scripts and command lines of rows/ by the built program, and compares output,
+errors and status.
 
 Usage: tests/program/rows.py PROGRAM [FILE..]: all that there is, or the rows of these files alone. Each script is run
 twice: whole, and with one octet at each read, which needs cc.
@@ -123,6 +124,13 @@ def row_cases(path):
                 for words, fault in with_numbers(line, row):
                     wanted = case._replace(status=2, output="", error=fault, parts=[]) if fault else case
                     yield wanted._replace(words=words_of(words))
+
+
+def examples():
+    """Each script of examples/, and what it writes."""
+    for path in map(pathlib.Path, sorted(glob.glob(f"{TOP}/examples/*.trace"))):
+        script, output = (file.read_text(encoding="ascii") for file in (path, path.with_suffix(".out")))
+        yield Case(f"examples/{path.name}", SCRIPT, script, 0, output, "")
 
 
 def generated(name, script, output):
@@ -249,7 +257,7 @@ def main(program, files):
     paths = files or sorted(glob.glob(os.path.relpath(TOP + "/tests/program/rows") + "/*.rows"))
     rows = [case for path in paths for case in row_cases(path)]
     made = [*answers_under_each_number(), *damaged_answers(), *full_tables()]
-    made += [errors_under_other_tags(), open_number(), retries()]
+    made += [errors_under_other_tags(), open_number(), retries(), *examples()]
     cases = rows if files else rows + made
     scripts = [case for case in cases if case.words == SCRIPT and not case.redirection]
     wrong, texts = set(), {}
