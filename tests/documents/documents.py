@@ -4,6 +4,7 @@ where they differ, and says in what.
 
 - docs/CODE.md: each crate of crates.txt has a row, and stands in the drawing below the crates that it rests on.
   `Beside the crates` names each other folder and file at the top, and each file of docs/, bench/, tests/ and its rooms.
+  Each script of tests/ that can be run is run by a target of make, or `by hand`, as that table says.
 - Each file of src/ begins with a line `//!` that says what it has, and each of specs/ and proofs/ with one `--`, but
   for lists of modules and answers to single functions. What the head of a library shows stands in its examples; the
   calls that it shows stand in bac_uses.
@@ -98,6 +99,16 @@ def map_beside_the_crates(section):
         told = [row["What it has"] for row in rows(section) if folder in names(row["Folder or file"])]
         said = {name for text in told for name in names(text) if re.fullmatch(r"[\w-]+\.\w+", name)}
         compare(folder, said, {name for name in os.listdir(folder) if os.path.isfile(folder + name)})
+
+
+def scripts_are_run(section):
+    runs = "".join(text_of(file) for file in ("Makefile", "packaging.mk", "measuring.mk", "tests/parts.py"))
+    runs = re.sub(r"(?m)^#.*", "", runs)
+    by_hand = {name for row in rows(section) for name in names(row["What it has"].partition("by hand")[2])}
+    for file in sorted(glob.glob("tests/*/*")):
+        is_run = os.path.basename(file) in by_hand or re.search(rf"{file}\b", runs)
+        if os.path.isfile(file) and os.access(file, os.X_OK) and not is_run:
+            DIFFERENCES.append(f"{file}: no target of make runs it, and docs/CODE.md does not say `by hand`")
 
 
 def heads_of_sources():
@@ -310,6 +321,7 @@ def main():
     parts = sections(text_of("docs/CODE.md"))
     map_of_crates(parts)
     map_beside_the_crates(parts["Beside the crates"])
+    scripts_are_run(parts["Beside the crates"])
     heads_of_sources()
     readme, proofs = text_of("README.md"), text_of("docs/PROOFS.md")
     known, clauses = names_of_sources()

@@ -1,6 +1,5 @@
-#!/usr/bin/env -S zsh -f
-# Prints what zsh completes each line to: a line `of LINE`, and below it its words. Usage: complete.zsh FOLDER LINE..,
-# where FOLDER has the completions.
+# Prints what zsh completes each line to: a line `of LINE`, and below it its words. Usage: zsh -f complete.zsh FOLDER
+# LINE.., where FOLDER has the completions.
 zmodload zsh/zpty
 zpty shell zsh -f -i
 send() { zpty -w shell "$1" }
@@ -12,7 +11,8 @@ send 'compadd() {
     local -a hits; builtin compadd -A hits "$@"
     local hit; for hit in $hits; do print -r -- "match:$hit"; done
 }'
-send 'finish() { zle complete-word; print end:; zle kill-buffer }; zle -C complete-word complete-word _main_complete; zle -N finish; bindkey "^I" finish; print ready:'
+send 'finish() { zle complete-word; print end:; zle kill-buffer }; zle -N finish; bindkey "^I" finish'
+send 'zle -C complete-word complete-word _main_complete; print ready:'
 zpty -r shell text '*ready:?*ready:*'
 for line in "${@[2,-1]}"; do
     print -r -- "of $line"

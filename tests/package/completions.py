@@ -25,7 +25,7 @@ FISH = """for name in $argv[1]/*.fish; source $name; end
 for line in $argv[2..-1]; echo "of $line"; complete -C $line; end"""
 SHELLS = {
     "bash": ["bash", "-c", BASH, "bash"],
-    "zsh": [TOP + "/tests/package/complete.zsh"],
+    "zsh": ["zsh", "-f", TOP + "/tests/package/complete.zsh"],
     "fish": ["fish", "--no-config", "-c", FISH],
 }
 
