@@ -124,6 +124,7 @@ def values():
         r"(?m)^segmentation-supported \| (.*)$", text_of("site/bacsite/numbers.txt"))[1].split(", "))
     says("man/bacwi.1", f"is {number['both ways']} for both ways, {number['sends in parts']} for sending,"
          f" {number['takes parts']} for receiving and {number['none']} for none;")
+    says("docs/GUIDE.md", f"its segmentation ({number['none']} is none), and its vendor")
 
 
 def turns_of_a_device():

@@ -3,6 +3,7 @@
 help, faults with the code's texts, and with help and documents what has to be said twice: statuses, version, the
 warnings, how a fault is reported. Then mandoc reads them, where it is installed. Usage: tests/package/pages.py PROGRAM
 """
+import datetime
 import functools
 import glob
 import os
@@ -165,9 +166,15 @@ def faults():
     same("faults", sorted({*re.findall("`([^`]+)`", rules)} - {"bactool: "}), sorted(on_page))
 
 
+def day_of(text):
+    return datetime.datetime.strptime(text, "%B %d, %Y").date()
+
+
 def versions():
-    """The program is of the version that CHANGELOG.md tells of."""
-    changes = re.search(r"(?m)^## ([0-9][0-9.]*)", text_of("CHANGELOG.md"))[1]
+    """The program is of the version that CHANGELOG.md tells of, whose day is that of the page which changed last."""
+    changes, day = re.search(r"(?m)^## ([0-9][0-9.]*) \((.*)\)$", text_of("CHANGELOG.md")).groups()
+    days = re.findall(r"(?m)^\.Dd (.*)$", "".join(map(text_of, glob.glob(f"{TOP}/man/*.[17]"))))
+    same("day of the last page and of CHANGELOG.md", [str(max(map(day_of, days)))], [day])
     version = shown("packaging/version.sh", PROGRAM).strip()
     same("version of the program and of CHANGELOG.md", [version], [changes])
     same("version of bacsite", [shown("python3", "site/bacsite", "--version").strip()], [f"bacsite {version}"])
