@@ -28,8 +28,8 @@ bench-loopback: program
 	@bench/loopback.py $(ROUNDS)
 
 soak: program
-	@bench/soak_device.py $(DATAGRAMS)
-	@bench/soak_scripts.py $(LINES)
+	@bench/soak.py device $(DATAGRAMS)
+	@bench/soak.py script $(LINES)
 
 interop: program
 	@tests/program/interop.py

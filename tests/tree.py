@@ -88,6 +88,14 @@ def server(port, *words, **how):
             process.kill()
 
 
+@contextlib.contextmanager
+def device(*words, program=PROGRAM, **how):
+    """A bacdev of instance 1234 at a free port: its process, and the port."""
+    port = free_port()
+    with server(port, program, "bacdev", "1234", "--port", str(port), *words, **how) as process:
+        yield process, port
+
+
 def resident(process, what="VmRSS"):
     """The kilobytes of a process that lie in memory now (VmRSS), or lay in it at most (VmHWM)."""
     return int(re.search(rf"{what}:\s+(\d+)", text_of(f"/proc/{process}/status"))[1])

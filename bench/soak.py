@@ -1,0 +1,417 @@
+#!/usr/bin/env python3
+"""Gives the built program random input, well formed and damaged, and follows what it prints and answers.
+
+Usage: bench/soak.py device DATAGRAMS [SEED], or script LINES [SEED]; BACTOOL names another program than the tree's.
+
+`device` sends datagrams to bacdev over 127.0.0.1, and reads every reply. What each must get is read from its octets by
+the rules of docs/PROTOCOL.md: silence, an I-Am, or one reply to its confirmed request, to its own invoke id and of no
+more octets than it announced. Everything stays on this machine: a forwarded datagram names 127.0.0.1 as its originator,
+or port 0 there.
+
+`script` runs one long script through bactrace, and follows each request through what it prints. Each line but a tick
+prints one line. A request that is sent gets the next ticket, and is sent again three times at most; it ends once, and
+only while it is open; at most 64 are open, under different invoke numbers, and `full` comes only where 64 are.
+
+It stops at the first that is not so, and shows it.
+"""
+import os
+import random
+import re
+import subprocess
+import sys
+import threading
+import time
+from collections import Counter
+
+sys.path.insert(0, os.path.dirname(__file__) + "/../tests")
+sys.path.insert(0, os.path.dirname(__file__) + "/../crates/bac_trials/oracle")
+from count import region, tag
+from tree import PROGRAM, device, local_socket, resident
+
+MEMORY = []  # kilobytes, as the run goes on
+
+# ---- random datagrams ----
+
+OBJECTS = "8:1234 8:4194303 0:5 0:35 0:36 1:1 2:2 3:3 4:4 5:5 13:1 14:1 19:1 0:99 1023:0".split()
+PROPERTIES = """75 76 77 79 85 36 81 111 117 84 74 87 104 112 121 120 70 44 12 28 98 139 62 107 11 73 30 155 1
+    4194303""".split()
+COMMANDS = "1:1 4441a00000, 2:2 44c1200000, 4:4 9101, 5:5 9100, 14:1 2103, 19:1 2104".split(", ")
+VALUES = """00 10 11 2100 2101 2103 2105 31ff 4441a00000 447fc00000 9100 9101 9102 c402000001 7300686f
+    0e21053f""".split() + [""]
+
+
+def some_octets(dice, least, most):
+    return dice.randbytes(dice.randint(least, most))
+
+
+def parameter(number, value):
+    contents = value.to_bytes(max(1, (value.bit_length() + 7) // 8), "big")
+    return bytes([number << 4 | 8 | len(contents)]) + contents
+
+
+def property_of(identifier, number):
+    kind, instance = map(int, identifier.split(":"))
+    return b"\x0c" + (kind << 22 | instance).to_bytes(4, "big") + parameter(1, int(number))
+
+
+def reference(dice):
+    index = parameter(2, dice.choice([0, 1, 2, 12, 13, 16, 17, 4294967295]))
+    return property_of(dice.choice(OBJECTS), dice.choice(PROPERTIES)) + index * (dice.random() < 0.3)
+
+
+def confirmed(dice):
+    head = bytes([dice.choice([0, 0, 0, 2, 8, 12]), dice.choice([5, 5, 0x75, 0, 1, 2, 3, 4, 15]), dice.randrange(256)])
+    head += b"\0\4" if head[0] & 8 else b""
+    which = dice.random()
+    if which < 0.5:
+        return head + b"\x0c" + reference(dice)
+    if which < 0.55:
+        return head + some_octets(dice, 1, 12)
+    written, value = reference(dice), dice.choice(VALUES)
+    if dice.random() < 0.6:
+        point, value = dice.choice(COMMANDS).split()
+        written, value = property_of(point, 85), value if dice.random() < 0.7 else "00"
+    priority = parameter(4, dice.choice([0, 1, 6, 8, 16, 16, 17, 256]))
+    return head + b"\x0f" + written + b"\x3e" + bytes.fromhex(value) + b"\x3f" + priority * (dice.random() < 0.8)
+
+
+def unconfirmed(dice):
+    which = dice.random()
+    if which < 0.2:
+        return b"\x10" + some_octets(dice, 1, 12)
+    low, high = dice.choice([0, 1000, 1234, 1235, 4194303]), dice.choice([0, 1233, 1234, 2000, 4194303])
+    return b"\x10\x08" + (parameter(0, low) + parameter(1, high)) * (which < 0.76)
+
+
+def network(dice):
+    which = dice.random()
+    if which < 0.7:
+        return bytes([1, dice.choice([0, 4])])
+    if which < 0.8:
+        return bytes.fromhex("0120ffff00ff")
+    source, address = dice.choice([1, 5, 65534]), some_octets(dice, 1, 7)
+    return b"\x01\x0c" + source.to_bytes(2, "big") + bytes([len(address)]) + address
+
+
+def with_length(octets):
+    return octets[:2] + len(octets).to_bytes(2, "big") + octets[4:]
+
+
+def damaged(dice, datagram):
+    octets = bytearray(datagram)
+    for _ in range(dice.randint(1, 3)):
+        at = dice.randrange(len(octets) + 1)
+        change = dice.randrange(4)
+        if change == 0:
+            octets[at : at + 1] = dice.randbytes(1)
+        elif change == 1:
+            del octets[at:]
+        elif change == 2:
+            octets[at:at] = some_octets(dice, 1, 4)
+        elif at < len(octets):
+            octets[at] ^= 1 << dice.randrange(8)
+    return with_length(datagram[:2] + octets[2:]) if dice.random() < 0.7 and len(octets) >= 4 else bytes(octets)
+
+
+def any_datagram(dice, port):
+    """A datagram of any kind. One that is forwarded names this machine alone."""
+    link = dice.choices([b"\x81\x0a\0\0", b"\x81\x0b\0\0", b"\x81\x04\0\0" + bytes(6)], [8, 1, 1])[0]
+    apdu = dice.choices([confirmed, unconfirmed, lambda dice: some_octets(dice, 1, 20)], [15, 3, 2])[0](dice)
+    datagram = with_length(link + network(dice) + apdu)
+    if dice.random() < 0.5:
+        datagram = damaged(dice, datagram)
+    if datagram[1:2] == b"\x04":
+        here = bytes([127, 0, 0, 1]) + (0 if dice.random() < 0.1 else port).to_bytes(2, "big")
+        datagram = datagram[:4] + here[: max(0, len(datagram) - 4)] + datagram[10:]
+    return datagram
+
+
+# ---- the device ----
+
+INSTANCE = 1234
+AT_MOST = 65535  # datagrams that one bacdev answers
+BATCH = 16
+ANNOUNCED = [50, 128, 206, 480, 1024, 1476] + [50] * 10
+
+
+def parameters(octets, most):
+    """The contents of the parameters 0, 1, .. at the front, so many at most, and what stands behind them."""
+    found = []
+    while len(found) < most:
+        number, kind, count, size = tag(octets) or (None,) * 4
+        if (number, kind) != (len(found), "context") or size + count > len(octets):
+            break
+        found.append(octets[size : size + count])
+        octets = octets[size + count :]
+    return found, octets
+
+
+def opened(datagram):
+    """Route, whether it was sent to all, whether the reply is lost, and the APDU; None where it is ignored."""
+    if len(datagram) < 4 or datagram[0] != 0x81 or int.from_bytes(datagram[2:4], "big") != len(datagram):
+        return None
+    front = {0x0A: 4, 0x0B: 4, 0x04: 10}.get(datagram[1])
+    head = datagram[front:]
+    if not front or len(head) < 2 or head[0] != 1 or head[1] & 0x80:
+        return None
+    at, route = 2, b""
+    for bit in (0x20, 0x08):
+        if head[1] & bit:
+            end = at + 3 + head[at + 2] if len(head) > at + 2 else len(head) + 1
+            if len(head) < end:
+                return None
+            there, at = head[at:end], end
+            if bit == 0x20 and there[:2] != b"\xff\xff":
+                return None
+            if bit == 0x08 and (there[:2] in (b"\0\0", b"\xff\xff") or not 1 <= there[2] <= 7):
+                return None
+            route = there if bit == 0x08 else b""
+    to_all, hops = datagram[1] != 0x0A or bool(head[1] & 0x20), bool(head[1] & 0x20)
+    if len(head) < at + hops:
+        return None
+    return route, to_all, front == 10 and datagram[8:10] == b"\0\0", head[at + hops :]
+
+
+def is_asked(body):
+    """Whether a Who-Is with this body asks for the device."""
+    limits, rest = parameters(body, 2)
+    low, high = (int.from_bytes(it, "big") for it in limits) if len(limits) == 2 else (0, 4194303)
+    is_read = not body or len(limits) == 2 and not rest and all(1 <= len(it) <= 4 for it in limits)
+    return is_read and low <= INSTANCE <= high
+
+
+def expected(datagram):
+    """What comes back: None for nothing, else the route, and the invoke id with what it announced (I-Am: None)."""
+    route, to_all, is_lost, octets = opened(datagram) or (b"", False, True, b"")
+    if is_lost:
+        return None
+    if len(octets) >= 2 and octets[0] >> 4 == 1:
+        return (route, None) if octets[1] == 8 and is_asked(octets[2:]) else None
+    if to_all or not octets or octets[0] >> 4 or len(octets) < (6 if octets[0] & 8 else 4):
+        return None
+    return route, (octets[2], ANNOUNCED[octets[1] & 15])
+
+
+def is_ack(body):
+    """Whether this is an object, a property, perhaps an index, and a value in its brackets."""
+    found, rest = parameters(body, 3)
+    return len(found) >= 2 and all(found) and rest[:1] == b"\x3e" and region(rest[1:]) == len(rest) - 2
+
+
+def kind_of(reply, route, wanted):
+    """What kind of reply this is, where it is one that can be read and fits; else None."""
+    head = b"\x81\x0a" + len(reply).to_bytes(2, "big") + (b"\x01\x20" + route + b"\xff" if route else b"\x01\x00")
+    if reply[: len(head)] != head:
+        return None
+    octets = reply[len(head) :]
+    if wanted is None:
+        return "I-Am" if octets == bytes.fromhex("1000c4020004d22205c49103220104") else None
+    invoke_id, room = wanted
+    if len(octets) > room or octets[1:2] != bytes([invoke_id]):
+        return None
+    first, rest = octets[0], octets[2:]
+    if first == 0x20 and rest == b"\x0f":
+        return "SimpleACK"
+    if first == 0x30 and rest[:1] == b"\x0c" and is_ack(rest[1:]):
+        return "ComplexACK"
+    if first == 0x50 and len(rest) == 5 and rest[0] in (12, 15) and rest[1] == 0x91 and rest[3] == 0x91:
+        return f"Error {rest[2]} {rest[4]}"
+    if first == 0x60 and len(rest) == 1 and rest[0] in (4, 5, 6, 7, 9):
+        return f"Reject {rest[0]}"
+    return "Abort 4" if first == 0x71 and rest == b"\x04" else None
+
+
+class Served:
+    """A bacdev that is asked by two sockets: one for what is tried, one to know that it has been answered."""
+
+    def __init__(self, port):
+        self.peer, self.asked = ("127.0.0.1", port), 0
+        self.tried, self.fence = local_socket(), local_socket()
+        self.tried.setblocking(False)
+        self.fence.settimeout(5)
+
+    def is_past(self):
+        """Asks for the vendor by the second socket, and so waits until all before it has been answered."""
+        self.asked += 1
+        self.fence.sendto(bytes.fromhex("810a0011010400059b0c0c020004d21978"), self.peer)
+        try:
+            return self.fence.recv(2048) == bytes.fromhex("810a00150100309b0c0c020004d219783e2201043f")
+        except OSError:
+            return False
+
+    def tell(self, datagrams, counts):
+        """What is not so of what these get, or nothing; each reply is counted by its kind."""
+        for datagram in datagrams:
+            self.tried.sendto(datagram, self.peer)
+        self.asked += len(datagrams)
+        if not self.is_past():
+            return "no answer any more"
+        wanted, replies = [it for it in map(expected, datagrams) if it], []
+        try:
+            while True:
+                replies.append(self.tried.recv(2048))
+        except BlockingIOError:
+            kinds = [kind_of(reply, *one) for reply, one in zip(replies, wanted)]
+        counts.update([*kinds, *["no reply"] * (len(datagrams) - len(wanted))])
+        is_so = len(replies) == len(wanted) and all(kinds)
+        return "" if is_so else f"not as expected, {[reply.hex() for reply in replies]}"
+
+
+def soak_device(dice, left):
+    """Sends so many datagrams, and counts what comes back."""
+    counts = Counter()
+    while left > 0:
+        with device(stderr=subprocess.PIPE) as (process, port):
+            served = Served(port)
+            peer = served.tried.getsockname()[1]
+            while left > 0 and served.asked + 2 * BATCH < AT_MOST:
+                datagrams = [any_datagram(dice, peer) for _ in range(min(BATCH, left))]
+                if why := served.tell(datagrams, counts):
+                    sent = "\n".join(f"  {it.hex()} expects {expected(it)}" for it in datagrams)
+                    sys.exit(f"{why}, status {process.poll()}; sent:\n{sent}")
+                left -= len(datagrams)
+                if served.asked > 1000 and len(MEMORY) % 2 == 0:
+                    MEMORY.append(resident(process.pid))
+            MEMORY.append(resident(process.pid))
+            while served.asked < AT_MOST and served.is_past():
+                pass
+            if process.wait(10) != 0 or process.stderr.read() != b"":
+                sys.exit("it didn't end by its count")
+    return counts
+
+
+# ---- scripts ----
+
+PLACES = int(os.environ.get("PLACES", 64))
+BLOCK = 1000
+ROUTED = ["127.0.0.1:47808/5/07", "10.0.0.9:65535/65534/01020304050607"]
+PLAIN = ["127.0.0.1:47808"] * 8 + ["127.0.0.1", "10.0.0.9:1"]
+PRINTED = re.compile(
+    r"send (\d+) (\S+) ([0-9a-f]+)|done (\d+) (.+)|timeout (\d+)|full|too-long|drop|silent|reply (\S+) 810a[0-9a-f]+"
+)
+PAIRS = """4 41a00000, 0 x, 1 true, 2 18446744073709551615, 3 -129, 5 0123456789abcdef, 6 00ff, 7 text, 8 101,
+ 9 4294967295, 12 8:1234""".replace("\n", "").split(", ")
+
+
+def peer_object_and_property(dice):
+    return f"{dice.choice(PLAIN + ROUTED)} {dice.randrange(1024)} {dice.randrange(1 << 22)} {dice.randrange(1 << 22)}"
+
+
+def read_line(dice):
+    index = f" {dice.choice([0, 1, 4294967295])}" if dice.random() < 0.2 else ""
+    return f"read {peer_object_and_property(dice)}{index}"
+
+
+def write_line(dice):
+    pairs = " ".join(dice.choices(PAIRS, k=dice.choice([1, 1, 2, 60])))
+    return f"write {peer_object_and_property(dice)} {dice.randrange(17)} -1 {pairs}"
+
+
+def data_line(dice):
+    part = "0c" + some_octets(dice, 0, 19).hex()
+    front, rest = dice.choice([
+        *[("30", "0c0c0000000519553e444290999a3f"), ("20", "0f"), ("50", "0c91029120"), ("50", "0f9102"), ("60", "09")],
+        *[("71", "04"), ("70", "04"), ("38", "00010c"), ("30", part), ("4000", "")],
+    ])
+    peer, *route = dice.choice(PLAIN + ROUTED).split("/")
+    head = "0108%04x%02x%s" % (int(route[0]), len(route[1]) // 2, route[1]) if route else "0100"
+    datagram = with_length(bytes.fromhex(f"810a0000{head}{front}{dice.randrange(256):02x}{rest}"))
+    return f"data {peer} {(dice.random() < 0.2 and damaged(dice, datagram) or datagram).hex()}"
+
+
+def ask_line(dice):
+    return f"ask {dice.choice(PLAIN)} {any_datagram(dice, 47808).hex() or '81'}"
+
+
+def pool(dice):
+    """Lines to choose from, but for ticks, in the shares that they are to have."""
+    makers = [(read_line, 2), (write_line, 1), (data_line, 12), (ask_line, 3)]
+    return [make(dice) for make, share in makers for _ in range(share * 2000)] + ["", "# a comment", "  \t"]
+
+
+def number_of(octets):
+    """The invoke number of a request: behind a router its APDU begins after network, address and hop count."""
+    apdu = 12 if octets[10:12] == "04" else 20 + 2 * int(octets[16:18], 16)
+    return octets[apdu + 4 : apdu + 6]
+
+
+class Followed:
+    """What the printed lines say of the requests."""
+
+    def __init__(self):
+        self.open, self.numbers, self.next, self.counts = {}, {}, 0, Counter()
+
+    def sent(self, ticket, datagram, number):
+        if ticket == self.next:
+            if number in self.numbers or len(self.open) >= PLACES:
+                return False
+            self.open[ticket], self.numbers[number] = [datagram, 0, number], ticket
+            self.next += 1
+            return True
+        request = self.open.get(ticket)
+        if not request or request[0] != datagram or request[1] == 3:
+            return False
+        request[1] += 1
+        self.counts["sent again"] += 1
+        return True
+
+    def ended(self, ticket, by_timeout):
+        request = self.open.pop(ticket, None)
+        return bool(request) and self.numbers.pop(request[2]) == ticket and (request[1] == 3 or not by_timeout)
+
+    def holds(self, line):
+        found = PRINTED.fullmatch(line)
+        if not found:
+            return False
+        self.counts[line.split(" ", 1)[0]] += 1
+        if found[1]:
+            return self.sent(int(found[1]), (found[2], found[3]), number_of(found[3]))
+        if found[4] or found[6]:
+            return self.ended(int(found[4] or found[6]), bool(found[6]))
+        return line != "full" or len(self.open) == PLACES
+
+
+def write_script(process, dice, lines, asked):
+    """Writes the lines, with a tick now and then, and counts those that must print one."""
+    chosen, now = pool(dice), 0
+    for block in range(0, lines, BLOCK):
+        count = min(BLOCK, lines - block)
+        part = dice.choices(chosen, k=count)
+        for at in range(0, count, 20):
+            now += dice.choice([0, 1, 50, 200, 3000 if dice.random() < 0.02 else 100])
+            part[at] = f"tick {now}"
+        asked.update(line[0] in "rwda" for line in filter(None, part))
+        process.stdin.write(("\n".join(part) + "\n").encode())
+        if block % (lines // 10 // BLOCK * BLOCK or BLOCK) == 0:
+            MEMORY.append(resident(process.pid))
+    process.stdin.close()
+
+
+def soak_script(dice, lines):
+    """Runs a script of so many lines, and counts what it prints."""
+    seen, asked = Followed(), Counter()
+    process = subprocess.Popen([PROGRAM, "bactrace"], stdin=subprocess.PIPE, stdout=subprocess.PIPE)
+    writing = threading.Thread(target=write_script, args=(process, dice, lines, asked), daemon=True)
+    writing.start()
+    for count, line in enumerate(process.stdout, 1):
+        if not seen.holds(line.decode().rstrip("\n")):
+            process.kill()
+            sys.exit(f"line {count} of the text does not fit: {line.decode()}")
+    writing.join()
+    printed = sum(seen.counts.values()) - 2 * seen.counts["sent again"] - seen.counts["timeout"]
+    if process.wait() != 0 or printed != asked[True]:
+        sys.exit(f"status {process.wait()}, {printed} lines printed for {asked[True]} asked")
+    return seen.counts
+
+
+def main(what, count, seed=random.randrange(1 << 32)):
+    print(f"seed {seed}", flush=True)
+    begun = time.time()
+    counts = {"device": soak_device, "script": soak_script}[what](random.Random(int(seed)), int(count))
+    print(f"{count} {'datagrams' if what == 'device' else 'lines'} in {time.time() - begun:.0f} s")
+    for kind, number in sorted(counts.items()):
+        print(f"{number:9}  {kind}")
+    print(f"resident memory {min(MEMORY)} to {max(MEMORY)} KB")
+
+
+main(*sys.argv[1:]) if sys.argv[2:] else sys.exit(__doc__)
