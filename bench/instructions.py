@@ -10,7 +10,7 @@ import subprocess
 import sys
 
 sys.path.insert(0, os.path.dirname(__file__) + "/../tests")
-from tree import PROGRAM, TOP, free_port, local_socket, server
+from tree import PROGRAM, TOP, device, local_socket
 
 CALLGRIND = ["valgrind", "--tool=callgrind", "--callgrind-out-file=/dev/null", PROGRAM]
 REQUEST = bytes.fromhex("810a001101040005010c0c000000051955")  # of the present value of analog-input 5
@@ -30,15 +30,14 @@ def of_lines(count):
 
 def of_replies(count):
     """Of a device that answers so many requests, one after another."""
-    port = free_port()
-    words = [*CALLGRIND, "bacdev", "1234", "--port", str(port), "--count", str(count)]
-    with server(port, *words, stderr=subprocess.PIPE, text=True) as device, local_socket() as desk:
+    how = {"program": CALLGRIND, "stderr": subprocess.PIPE, "text": True}
+    with device("--count", str(count), **how) as (process, port), local_socket() as desk:
         desk.settimeout(30)
         desk.connect(("127.0.0.1", port))
         for _ in range(count):
             desk.send(REQUEST)
             desk.recv(2048)
-        return counted(device.communicate()[1])
+        return counted(process.communicate()[1])
 
 
 def of_a_run(*words):
@@ -52,8 +51,7 @@ def main():
     few, many = of_lines(6000), of_lines(66000)
     print(f"{(many - few) / 60000:9.0f} instructions for a line of a script of mixed lines")
     print(f"{(of_replies(2200) - of_replies(200)) / 2000:9.0f} for a ReadProperty that bacdev answers")
-    port = free_port()
-    with server(port, PROGRAM, "bacdev", "1234", "--port", str(port)):
+    with device() as (_, port):
         print(f"{of_a_run('bacrp', '1234', '0', '5', '85', '--mac', f'127.0.0.1:{port}'):9} for a run of bacrp")
     print(f"{of_a_run('--help'):9} for a run that prints the help")
 

@@ -1,4 +1,6 @@
-"""What scripts share: where tree and program are, the texts of files, the crates, and the machine with its ports."""
+"""What scripts share: where tree and program are, the texts of files, what is compared with them, the crates, and the
+machine with its ports.
+"""
 import contextlib
 import fcntl
 import glob
@@ -14,6 +16,7 @@ import time
 TOP = os.path.dirname(os.path.dirname(os.path.abspath(__file__)))
 PROGRAM = os.environ.get("BACTOOL", TOP + "/crates/bactool/out/bactool")
 HELD = []  # locks of the ports that this process was given
+COMPARED, WRONG = [], []  # what a script has compared, and what is not as it is to be
 
 
 def text_of(path):
@@ -34,6 +37,33 @@ def crates_below():
     for name, parts in all_crates().items():
         below[name] = {name}.union(*(below.get(it, set()) for it in parts))
     return below
+
+
+def same(what, one, other):
+    """Notes what was compared, and where it differs."""
+    COMPARED.append(what)
+    if one != other:
+        WRONG.append(f"{what}: {one!r}, not {other!r}"[:600])
+
+
+def plain(text):
+    """A text on one line, without the marks of pages and documents."""
+    text = re.sub(r"(?m)^\.\\?\"?(?:[A-Z][a-z] )?", "", text)
+    return re.sub(r" ([.,;:])", r"\1", " ".join(re.sub(r"[`*]|\\&|\bFl Fl |\bFl (?=[a-z]\b)", "", text).split()))
+
+
+def says(document, *sentences):
+    """Notes each sentence that a document has to say, however its lines break, and where it does not."""
+    for sentence in sentences:
+        COMPARED.append(sentence)
+        if not sentence or plain(sentence).lower() not in plain(text_of(document)).lower():
+            WRONG.append(f"{document} does not say: {sentence}")
+
+
+def verdict(well):
+    """The status of a script that has compared so much: it tells what is wrong, or that all is well."""
+    print("\n".join(WRONG) or f"{os.path.relpath(sys.argv[0], TOP)}: {len(COMPARED)} {well}")
+    return 1 if WRONG else 0
 
 
 def copy_sources(room):
@@ -89,10 +119,10 @@ def server(port, *words, **how):
 
 
 @contextlib.contextmanager
-def device(*words, program=PROGRAM, **how):
+def device(*words, program=(PROGRAM,), **how):
     """A bacdev of instance 1234 at a free port: its process, and the port."""
     port = free_port()
-    with server(port, program, "bacdev", "1234", "--port", str(port), *words, **how) as process:
+    with server(port, *program, "bacdev", "1234", "--port", str(port), *words, **how) as process:
         yield process, port
 
 

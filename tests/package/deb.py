@@ -15,16 +15,9 @@ import sys
 import tempfile
 
 sys.path.insert(0, os.path.dirname(__file__) + "/..")
-from tree import TOP, text_of
+from tree import TOP, WRONG, same, text_of, verdict
 
 DOC = "usr/share/doc/bactool"
-WRONG, LOOKED = [], []
-
-
-def same(what, one, other):
-    LOOKED.append(what)
-    if one != other:
-        WRONG.append(f"{what}: {one!r}, not {other!r}"[:600])
 
 
 def told(*words, **how):
@@ -157,8 +150,7 @@ def main(program):
             what_is_said(program, room, package)
             lintian(package)
             over_an_older_one(room, package)
-    print("\n".join(WRONG) or f"tests/package/deb.py: {len(LOOKED)} facts of the package are as they are to be")
-    return 1 if WRONG else 0
+    return verdict("facts of the package are as they are to be")
 
 
 if __name__ == "__main__":

@@ -2,7 +2,6 @@
 """Measures what the documents and manual pages say in numbers, and reads it back there: statuses, times, ranges, the
 points of the small device, the unit for systemd. Usage: tests/package/facts.py PROGRAM
 """
-import contextlib
 import os
 import re
 import shutil
@@ -11,29 +10,15 @@ import sys
 import tempfile
 
 sys.path.insert(0, os.path.dirname(__file__) + "/..")
-from tree import TOP, free_port, local_socket, server, text_of
+from tree import TOP, device, free_port, local_socket, plain, same, says, server, text_of, verdict
 
 PROGRAM = os.path.realpath(sys.argv[1])
 SITE = ["python3", TOP + "/site/bacsite"]
-WRONG, READ_BACK = [], []
 
 
 def run(words, given="", **how):
     done = subprocess.run(words, check=False, input=given, text=True, capture_output=True, timeout=60, **how)
     return done.returncode, done.stdout
-
-
-def plain(text):
-    """A text on one line, without the marks of pages and documents."""
-    text = re.sub(r"(?m)^\.\\?\"?(?:[A-Z][a-z] )?", "", text)
-    return re.sub(r" ([.,;:])", r"\1", " ".join(re.sub(r"[`*]|\\&|\bFl Fl |\bFl (?=[a-z]\b)", "", text).split()))
-
-
-def says(document, *sentences):
-    for sentence in sentences:
-        READ_BACK.append(sentence)
-        if plain(sentence).lower() not in plain(text_of(document)).lower():
-            WRONG.append(f"{document} does not say: {sentence}")
 
 
 def statuses(device):
@@ -196,12 +181,6 @@ def ranges(device):
     says("docs/GUIDE.md", "A range is HIGH, which begins at 0, LOW:HIGH, LOW: or ~:HIGH, both ends included.")
 
 
-def same(what, one, other):
-    READ_BACK.append(what)
-    if one != other:
-        WRONG.append(f"{what}: {one!r}, not {other!r}")
-
-
 def points(device):
     """The points on the page of bacdev are those that a survey finds: value, states, whether it has priorities."""
     table = re.search(r"(?ms)^The points;.*?^\.El", text_of("man/bacdev.1"))[0]
@@ -254,19 +233,14 @@ def unit():
 
 
 def main():
-    port = free_port()
-    with contextlib.ExitStack() as stack:
-        stack.enter_context(server(port, PROGRAM, "bacdev", "1234", "--port", str(port)))
-        points(f"127.0.0.1:{port}")
-        ranges(f"127.0.0.1:{port}")
-        tools_of_readme(f"127.0.0.1:{port}")
-        statuses_are_said(f"127.0.0.1:{port}")
+    with device(program=[PROGRAM]) as (_, port):
+        for part in (points, ranges, tools_of_readme, statuses_are_said):
+            part(f"127.0.0.1:{port}")
     times_and_numbers()
     values()
     turns_of_a_device()
     unit()
-    print("\n".join(WRONG) or f"tests/package/facts.py: {len(READ_BACK)} sentences say what is so")
-    return 1 if WRONG else 0
+    return verdict("sentences say what is so")
 
 
 sys.exit(main())

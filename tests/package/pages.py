@@ -13,21 +13,18 @@ import subprocess
 import sys
 
 sys.path.insert(0, os.path.dirname(__file__) + "/..")
-from tree import TOP, text_of
+from tree import TOP, plain, same, says, text_of, verdict
 
 sys.path.append(TOP + "/man")
 import tables
 
 TOOLS = ["bacrp", "bacwp", "bacwi", "bacdev", "bactrace"]
 PROGRAM = os.path.realpath(sys.argv[1])
-WRONG, COMPARED = [], []
 
 
-def same(what, one, other):
+def alike(what, one, other):
     """Two lists have to be the same, and not empty."""
-    COMPARED.append(what)
-    if not one or one != other:
-        WRONG.append(f"{what}: only here {sorted({*one} - {*other})}, only there {sorted({*other} - {*one})}")
+    same(what, one or ["nothing"], other)
 
 
 @functools.cache
@@ -84,18 +81,18 @@ def known(title):
 def words_and_options():
     for tool in TOOLS[:-1]:
         on_page = told_on_page(section(tool, "DESCRIPTION"))
-        same(tool, list(numbers(told_in_help(tool).items())), list(numbers(on_page.items())))
+        alike(tool, list(numbers(told_in_help(tool).items())), list(numbers(on_page.items())))
     for word, title in [("object-type", "Object types"), ("property", "Properties")]:
         for told in (told_in_help("bacrp"), told_on_page(section("bacrp", "DESCRIPTION"))):
             found = re.findall(r"[0-9]+ (?!to|is)[a-z][a-z-]+(?: [a-z-]+)*", told[word])
             found = sorted((it.replace("-", " ") for it in found), key=lambda it: int(it.split()[0]))
-            same(word, found, [row for row in known(title) if row in found])
+            alike(word, found, [row for row in known(title) if row in found])
     in_help = re.findall(r"(?m)^ *([0-9]+)  ([A-Z][A-Za-z ]*[a-z])  ", help_of("bacwp"))
-    same("tags", in_help, re.findall(r"(?m)^\.It ([0-9]+)  ([A-Z].*)", page("bacwp")))
-    same("tags of the numbers", [" ".join(row) for row in in_help], known("Types of a value"))
+    alike("tags", in_help, re.findall(r"(?m)^\.It ([0-9]+)  ([A-Z].*)", page("bacwp")))
+    alike("tags of the numbers", [" ".join(row) for row in in_help], known("Types of a value"))
     first_words = re.search(r"(?ms)^Lines of a script.*?^A line", help_of("bactrace"))[0]
     on_page = re.findall(r"(?m)^\.It Li ([a-z]*) Ar", section("bactrace", "DESCRIPTION"))
-    same("lines of a script", sorted(re.findall(r"(?m)^  ([a-z]*) [A-Z]", first_words)), sorted(on_page))
+    alike("lines of a script", sorted(re.findall(r"(?m)^  ([a-z]*) [A-Z]", first_words)), sorted(on_page))
 
 
 def bacsite():
@@ -112,9 +109,9 @@ def bacsite():
     for command, text in re.findall(r"(?ms)^\.Cm (\S+)(.*?)(?=^\.Cm |\Z)", section("bacsite", "SYNOPSIS")):
         own = ["-" * marks.count("Fl") + name for marks, name in re.findall(r"(?m)^\.Op ((?:Fl )+)(\S+)", text)]
         has += [f"{command} {name}" for name in own + (shared if "\n.Op Ar option" in text else [])]
-    same("options of bacsite", sorted(options), sorted(has))
+    alike("options of bacsite", sorted(options), sorted(has))
     told = {(name, re.sub(r"[;:] ([0-9]+)( where it is not given)?$", r" [default: \1]", text)) for name, text in told}
-    same("numbers of bacsite", sorted(set(numbers(told))), [it for it in numbers(on_page.items()) if " " in it])
+    alike("numbers of bacsite", sorted(set(numbers(told))), [it for it in numbers(on_page.items()) if " " in it])
 
 
 def statuses():
@@ -123,38 +120,29 @@ def statuses():
     found = r"(?m)(?:^|: |; |Status )([0-9])[ :]"
     in_help = lambda tool: sorted({*re.findall(found, "".join(help_of(tool).partition("Status")[1:]))})
     texts = re.findall(r"(?m)^\.It ([0-9])\n((?:[^.].*\n)+)", section("bactool", "EXIT STATUS"))
-    same("statuses", in_help("bactool"), [status for status, _ in texts])
+    alike("statuses", in_help("bactool"), [status for status, _ in texts])
     for tool in TOOLS:
         text = section(tool, "EXIT STATUS")
-        if "\n.Xr bactool 1" not in "\n" + text:
-            WRONG.append(f"man {tool}: EXIT STATUS does not name bactool(1)")
+        same(f"man {tool}: EXIT STATUS names bactool(1)", "\n.Xr bactool 1" in "\n" + text, True)
         if in_help(tool):
             digits = re.findall(r"\b[0-9]\b", re.sub(r"(?m)^\.Xr.*", "", text))
-            same(f"statuses of {tool}", in_help(tool), sorted(set(digits)))
+            alike(f"statuses of {tool}", in_help(tool), sorted(set(digits)))
     rules = text_of("docs/PROTOCOL.md").partition("\n## Statuses and faults")[2]
     meanings = [(status, " ".join(text.split())) for status, text in texts]
-    same("meanings of statuses", meanings, re.findall(r"(?m)^\| ([0-9]) \| (.*) \|$", rules))
-
-
-def says(what, text, wanted):
-    """The text has these words, however its lines break, and without marks of pages."""
-    COMPARED.append(wanted)
-    text = re.sub(r"(?m)^\.[A-Z][a-z] |(?<= ):$|\*\*|^- ", lambda it: "\0:" if it[0] == ":" else "", text)
-    if " ".join(wanted.split()).lower() not in " ".join(text.replace(" \0", "").split()).lower() or not wanted:
-        WRONG.append(f"{what} does not say: {wanted}")
+    alike("meanings of statuses", meanings, re.findall(r"(?m)^\| ([0-9]) \| (.*) \|$", rules))
 
 
 def what_is_said_twice():
     for tool in TOOLS[:3]:  # what a fixed port may bring
         told = " ".join(re.search(r"(?ms)^ *--port.*?(?=^$|\Z)", help_of(tool))[0].split())
         told = re.search(r"; (at a fixed.*?)(?: -h| --help|$)", told)
-        says(f"man/{tool}.1", page(tool), told[1] if told else "")
+        says(f"man/{tool}.1", told[1] if told else "")
     doubt = "After any status but 0{}, and after Ctrl-C, the write may have been made: read the property back."
-    says("help of bacwp", help_of("bacwp"), doubt.format(""))
-    says("man/bacwp.1", page("bacwp"), doubt.format(""))
+    same("help of bacwp", doubt.format("") in plain(help_of("bacwp")), True)
+    says("man/bacwp.1", doubt.format(""))
     for document in ("SECURITY.md", "docs/GUIDE.md"):
-        says(document, text_of(document), doubt.format(" of `bacwp`")[: -len("roperty back.")])
-    says("SECURITY.md", text_of("SECURITY.md"), section("bactool", "BUGS"))
+        says(document, doubt.format(" of `bacwp`")[: -len("roperty back.")])
+    says("SECURITY.md", section("bactool", "BUGS"))
 
 
 def faults():
@@ -163,7 +151,7 @@ def faults():
     on_page = (text for line in lines for text in re.split(" , (?:Li )?", re.sub(r"Ar n( Ns( Li \\&)?)?", "N", line)))
     on_page = {text.replace("N Ns-th", "").replace("N :", "N:").strip() for text in on_page}
     rules = re.search(r"(?s)\nA fault is one line.*?\. ", text_of("docs/PROTOCOL.md"))[0]
-    same("faults", sorted({*re.findall("`([^`]+)`", rules)} - {"bactool: "}), sorted(on_page))
+    alike("faults", sorted({*re.findall("`([^`]+)`", rules)} - {"bactool: "}), sorted(on_page))
 
 
 def day_of(text):
@@ -174,12 +162,12 @@ def versions():
     """The program is of the version that CHANGELOG.md tells of, whose day is that of the page which changed last."""
     changes, day = re.search(r"(?m)^## ([0-9][0-9.]*) \((.*)\)$", text_of("CHANGELOG.md")).groups()
     days = re.findall(r"(?m)^\.Dd (.*)$", "".join(map(text_of, glob.glob(f"{TOP}/man/*.[17]"))))
-    same("day of the last page and of CHANGELOG.md", [str(max(map(day_of, days)))], [day])
+    alike("day of the last page and of CHANGELOG.md", [str(max(map(day_of, days)))], [day])
     version = shown("packaging/version.sh", PROGRAM).strip()
-    same("version of the program and of CHANGELOG.md", [version], [changes])
-    same("version of bacsite", [shown("python3", "site/bacsite", "--version").strip()], [f"bacsite {version}"])
+    alike("version of the program and of CHANGELOG.md", [version], [changes])
+    alike("version of bacsite", [shown("python3", "site/bacsite", "--version").strip()], [f"bacsite {version}"])
     named = re.findall(r"/bactool_([0-9.]+)_", text_of("README.md"))
-    same("versions of the packages of README.md", sorted({*named}), [version])
+    alike("versions of the packages of README.md", sorted({*named}), [version])
     return version
 
 
@@ -187,16 +175,13 @@ def main():
     for part in (words_and_options, bacsite, statuses, what_is_said_twice, faults):
         part()
     version = versions()
-    if tables.main(True):
-        WRONG.append("a table of numbers is not as it is made")
+    same("status of man/tables.py", tables.main(True), 0)
     lint = ["mandoc", "-Tlint", "-Wwarning", *sorted(glob.glob(f"{TOP}/man/*.[17]"))]
     if not shutil.which("mandoc"):
         print("tests/package/pages.py: mandoc is not installed, left out")
-    elif subprocess.run(lint, check=False).returncode:
-        WRONG.append("mandoc finds fault with the pages")
-    well = f"{len(COMPARED)} lists and texts of pages, help and version {version} agree"
-    print("\n".join(WRONG) or f"tests/package/pages.py: {well}")
-    return 1 if WRONG else 0
+    else:
+        same("status of mandoc", subprocess.run(lint, check=False).returncode, 0)
+    return verdict(f"lists and texts of pages, help and version {version} agree")
 
 
 sys.exit(main())

@@ -13,7 +13,7 @@ import subprocess
 import sys
 
 sys.path.insert(0, os.path.dirname(__file__) + "/..")
-from tree import free_port, local_socket, server
+from tree import device, local_socket
 
 LONGEST = 2047
 POINT = bytes.fromhex("0c004000011955")  # analog-output 1, its present value
@@ -43,8 +43,7 @@ def answered(desk, lengths):
 
 
 def heard_by_a_device(program):
-    port = free_port()
-    with server(port, program, "bacdev", "1234", "--port", str(port)), local_socket() as desk:
+    with device(program=[program]) as (_, port), local_socket() as desk:
         desk.settimeout(10)
         desk.connect(("127.0.0.1", port))
         for length in range(1000, LONGEST + 1):
