@@ -75,6 +75,16 @@ def copy_sources(room):
             shutil.copytree(folder, room + folder[len(TOP) :])
 
 
+def failing_library(room):
+    """fail.c as a library in a folder; None where there is no cc, which is said."""
+    if not shutil.which("cc"):
+        print(f"{os.path.relpath(sys.argv[0], TOP)}: calls of the system that fail are left out, since they need cc")
+        return None
+    command = ["cc", "-O1", "-shared", "-fPIC", "-o", f"{room}/fail.so", f"{TOP}/tests/program/fail.c"]
+    subprocess.run(command, check=True)
+    return f"{room}/fail.so"
+
+
 def processors():
     return len(os.sched_getaffinity(0))
 

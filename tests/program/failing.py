@@ -18,7 +18,7 @@ from collections import namedtuple
 from concurrent.futures import ThreadPoolExecutor
 
 sys.path.insert(0, os.path.dirname(__file__) + "/..")
-from tree import TOP, free_port, is_taken, text_of
+from tree import TOP, failing_library, free_port, is_taken, text_of
 
 # The errors, by what a receive that fails so is: a fault; a fault to the tool that sent, since its peer refuses what
 # was sent, or no way leads there, while a device has its peers from strangers; and silence to both, an interruption or
@@ -167,12 +167,9 @@ def calls_of_the_system():
 
 
 try:
-    if shutil.which("cc"):
-        library = ["cc", "-O1", "-shared", "-fPIC", "-o", f"{ROOM}/fail.so", f"{TOP}/tests/program/fail.c"]
-        subprocess.run(library, check=True)
-        for part in [calls_of_the_system] if sys.argv[2:] == ["calls"] else [memory, calls_of_the_system]:
-            part()
-    else:
-        print("tests/program/failing.py: left out, since it needs cc")
+    if failing_library(ROOM):
+        if sys.argv[2:] != ["calls"]:
+            memory()
+        calls_of_the_system()
 finally:
     shutil.rmtree(ROOM)

@@ -30,7 +30,6 @@ import glob
 import os
 import pathlib
 import re
-import shutil
 import subprocess
 import sys
 import tempfile
@@ -38,7 +37,7 @@ from collections import namedtuple
 from concurrent.futures import ThreadPoolExecutor
 
 sys.path.insert(0, os.path.dirname(__file__) + "/..")
-from tree import TOP, free_port
+from tree import TOP, failing_library, free_port
 
 LETTERS = {
     "P": "127.0.0.1:47808",
@@ -265,12 +264,8 @@ def main(program, files):
         for name in {case.words[0] for case in cases}:
             os.symlink(program, os.path.join(room, name))
         runs = [(case, None, "") for case in cases]
-        if shutil.which("cc"):
-            library = os.path.join(room, "fail.so")
-            subprocess.run(["cc", "-O1", "-shared", "-fPIC", "-o", library, f"{TOP}/tests/program/fail.c"], check=True)
+        if library := failing_library(room):
             runs += [(case, library, ", one octet at a read") for case in scripts]
-        else:
-            print("tests/program/rows.py: one octet at a read is left out, since it needs cc")
         for (case, _, how), ending in zip(runs, pool.map(lambda each: run(room, each[0], each[1]), runs)):
             is_same = not case.parts or texts.setdefault(case.place, ending.output) == ending.output
             if not is_right(case, ending) or not is_same:

@@ -10,7 +10,7 @@ import sys
 import tempfile
 
 sys.path.insert(0, os.path.dirname(__file__) + "/..")
-from tree import TOP
+from tree import failing_library
 
 OCTETS = 256 * 1024
 SHORT, LONG = 32, 4096
@@ -31,8 +31,7 @@ def seconds(program, library, length):
 
 def main(program):
     with tempfile.TemporaryDirectory() as room:
-        library = f"{room}/fail.so"
-        subprocess.run(["cc", "-O1", "-shared", "-fPIC", "-o", library, f"{TOP}/tests/program/fail.c"], check=True)
+        library = failing_library(room)
         short, long = (seconds(program, library, length) for length in (SHORT, LONG))
     is_well = long <= 3 * short
     by = f"{long:.2f} s in long lines, {short:.2f} s in short ones"
