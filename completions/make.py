@@ -1,6 +1,7 @@
 #!/usr/bin/env python3
 """Makes the completions of bactool and bacsite for bash, zsh and fish, from table.txt, site/bacsite/numbers.txt, and
-a template of each shell. Usage: completions/make.py FOLDER, which gets PROGRAM.bash, _PROGRAM and PROGRAM.fish of each
+a template of each shell. walk.sh, which bash and zsh have in common, finds of which kind the word at the cursor is, by
+the words before it. Usage: completions/make.py FOLDER, which gets PROGRAM.bash, _PROGRAM and PROGRAM.fish of each
 program.
 """
 import os
@@ -108,11 +109,13 @@ def filled(template, places):
 
 def main(folder):
     os.makedirs(folder, exist_ok=True)
+    walk = tables.text_of("completions/walk.sh").splitlines()
     for names, tools in programs():
         words = words_of_kinds(tools)
         for shell, of_shell in (("bash", of_bash), ("zsh", of_zsh), ("fish", of_fish)):
-            text = filled(tables.text_of(f"completions/template.{shell}"), of_shell(tools, words))
-            text = filled(text, {"names": names, "program": names[:1]})
+            text = tables.text_of(f"completions/template.{shell}")
+            for places in ({"walk": walk}, of_shell(tools, words), {"names": names, "program": names[:1]}):
+                text = filled(text, places)
             with open(f"{folder}/{FILES[shell].format(names[0])}", "w", encoding="utf-8") as file:
                 file.write(text)
 
