@@ -17,8 +17,9 @@ import tempfile
 import threading
 import time
 
-sys.path.insert(0, os.path.dirname(__file__) + "/..")
-from tree import PROGRAM, TOP, device, local_socket, text_of
+sys.path[:0] = [os.path.dirname(__file__) + "/..", os.path.dirname(__file__) + "/../site"]
+from building import pcap, udp
+from tree import PROGRAM, device, local_socket, text_of
 
 FAILURES = []
 DEVICE = "127.0.0.1:47808"  # what the device is called in the lines that are kept, whichever port it has
@@ -49,9 +50,9 @@ def output_of(words, status=(0,)):
 
 
 class Relay:
-    """Between clients and a device, on 127.0.0.1. `lines` has each datagram as examples/capture.py reads them. Clients
-    have the ports from 50000 on there, in the order of their first datagrams, so that no port of theirs is one that a
-    dissector knows for something else."""
+    """Between clients and a device, on 127.0.0.1. `lines` has each datagram: its time in nanoseconds, who sends and
+    to whom, and its octets. Clients have the ports from 50000 on there, in the order of their first datagrams, so that
+    no port of theirs is one that a dissector knows for something else."""
 
     def __init__(self, device_port):
         self.front, self.device = local_socket(), ("127.0.0.1", device_port)
@@ -60,7 +61,7 @@ class Relay:
         threading.Thread(target=self.run, daemon=True).start()
 
     def keep(self, sender, receiver, octets):
-        self.lines.append(f"{time.time():.6f} {sender} {receiver} {octets.hex()}")
+        self.lines.append(f"{time.time_ns()} {sender} {receiver} {octets.hex()}")
 
     def back_of(self, client):
         """The socket that speaks with the device for a client."""
@@ -149,7 +150,10 @@ def read_by_tshark(lines):
     """For each datagram its one line and its whole text, as tshark has them, and which it finds malformed."""
     with tempfile.TemporaryDirectory() as room:
         path = room + "/all.pcap"
-        subprocess.run([TOP + "/examples/capture.py", path], input="\n".join(lines) + "\n", text=True, check=True)
+        packets = [(int(nanos), udp(sender, receiver, bytes.fromhex(octets)))
+                   for nanos, sender, receiver, octets in map(str.split, lines)]
+        with open(path, "wb") as file:
+            file.write(pcap(packets))
         fields = ["tshark", "-r", path, "-T", "fields"]
         brief = output_of([*fields, "-e", "_ws.col.Info"])
         whole = output_of(["tshark", "-r", path, "-V"])
