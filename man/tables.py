@@ -1,6 +1,7 @@
 #!/usr/bin/env python3
-"""Makes man/bactool-numbers.7 and docs/NUMBERS.md from site/bacsite/numbers.txt, which bacsite reads itself. Usage:
-man/tables.py [--check], which writes none of them, and ends with 1 where one is not as it is made.
+"""Makes man/bactool-numbers.7 and docs/NUMBERS.md from site/bacsite/numbers.txt, which bacsite reads itself. What
+stands round the tables is in numbers.page and numbers.text. Usage: man/tables.py [--check], which writes none of them,
+and ends with 1 where one is not as it is made.
 """
 import os
 import re
@@ -8,39 +9,6 @@ import sys
 
 sys.path.insert(0, os.path.dirname(__file__) + "/../tests")
 from tree import TOP, text_of
-
-MADE = "Made from site/bacsite/numbers.txt by man/tables.py: change it there."
-PAGE = rf""".\" {MADE}
-.Dd November 26, 2026
-.Dt BACTOOL-NUMBERS 7
-.Os
-.Sh NAME
-.Nm bactool-numbers
-.Nd the numbers of BACnet that one meets with bactool
-.Sh DESCRIPTION
-The tools of
-.Xr bactool 1
-take and print the numbers that stand in the datagrams.
-These are the ones that one meets, from the enumerations of the standard.
-Not all are here, and vendors have numbers of their own.
-"""
-FOOT = """.Sh SEE ALSO
-.Xr bacrp 1 ,
-.Xr bacsite 1 ,
-.Xr bactool 1 ,
-.Xr bacwp 1
-.Sh STANDARDS
-ANSI/ASHRAE 135, clauses 12, 18, 20.2 and 21.
-"""
-DOCUMENT = f"""<!-- {MADE} -->
-# Numbers
-
-The tools take and print the numbers that stand in the datagrams. These are the ones that one meets, from the
-enumerations of ANSI/ASHRAE 135 (clauses 12, 18, 20.2 and 21). Not all are here, and vendors have numbers of their own.
-`man 7 bactool-numbers` shows the same.
-
-"""
-
 
 def sections():
     """Each section: its title, how many columns a heading of its list joins (0: a table), its text, and its rows."""
@@ -86,10 +54,11 @@ def in_document(title, _, text, rows):
 def main(checks):
     parts = list(sections())
     wrong = 0
-    for path, text in [
-        ("man/bactool-numbers.7", PAGE + "".join(on_page(*part) for part in parts) + FOOT),
-        ("docs/NUMBERS.md", DOCUMENT + "\n".join(in_document(*part) for part in parts)),
+    for path, template, made in [
+        ("man/bactool-numbers.7", "man/numbers.page", "".join(on_page(*part) for part in parts)),
+        ("docs/NUMBERS.md", "man/numbers.text", "\n".join(in_document(*part) for part in parts)),
     ]:
+        text = text_of(template).replace("@sections@\n", made)
         if not checks:
             with open(f"{TOP}/{path}", "w", encoding="utf-8") as file:
                 file.write(text)

@@ -1,5 +1,7 @@
 #!/usr/bin/env python3
-"""What has to be read to believe a promise: docs/reading/, made from the sources by what sources.py tells.
+"""What has to be read to believe a promise: docs/reading/, made from the sources by what sources.py tells. pages.txt is
+its first page, in whose table a row has a page's file, its title, and the calls whose lists it has; `*` stands for each
+public call of the crate that no page before has.
 
 Usage: tests/documents/reading.py [--write | CALL]: compares docs/reading/, and the sizes that README.md tells, with the
 tree; says which public calls stand on no page, which definitions lie in the wrong room, and which names a file brings
@@ -22,28 +24,6 @@ from tree import TOP, text_of
 FOLDER = "docs/reading"
 WRAP = {"break_long_words": False, "break_on_hyphens": False}
 TRIALS = {"bac_trials", "tool_trials", "bac_uses"}  # no crate rests on their clauses
-
-# A page: its file, its title, and the calls whose lists it has. `*` stands for each public call of the crate that no
-# page before has.
-PAGES = [
-    ("octets", "Octets: tags, values and regions", ["bac_wire::*"]),
-    ("datagrams", "Datagrams, APDUs and service bodies", ["bac_pdu::*"]),
-    ("client", "The client over a list of events", ["bac_tsm::run"]),
-    ("device", "The device: its reply to a datagram, and its points", ["bac_device::Device::answer", "bac_device::*"]),
-    ("texts", "Words as values and bodies, and values as text", ["bac_text::*", "bac_print::*"]),
-    ("script", "What a script prints and answers", ["bac_script::trace", "bac_script::*"]),
-    ("calls", "A read, a write and a search over a link", ["bac_links::run_read", "bac_links::run_write"]
-    + ["bac_links::run_whois"]),
-    ("progress", "No request waits for ever", ["bac_tsm::no_request_waits_for_ever"]
-    + ["bac_links::laws::a_call_ends_in_time"]),
-    ("machine", "The client call by call, and its laws", ["bac_tsm::*"]),
-    ("serving", "A device that serves", ["bac_links::serve"]),
-    ("links", "Links, and the laws of the tools over them", ["bac_links::*"]),
-    ("command", "The words of a command line", ["bac_words::parse_words", "bac_words::*", "clap_laws::*"]),
-    ("program", "From the words to the status", ["bac_tools::run_program", "bac_tools::run_words"]
-    + ["bac_print::Checked::read", "bac_print::Checked::write", "bac_print::Checked::flush"]
-    + ["bac_tools::*", "bactool::*"]),
-]
 
 # What a page shows at its head: a file of specs/, and the definitions of it.
 RULE = {"client": ("bac_tsm.specs.Lookahead", ["due", "end", "sends_within", "sends"])}
@@ -104,36 +84,14 @@ def page_of(page, title, calls):
     return "\n".join(lines) + "\n", items
 
 
-INDEX = """# What to read to believe a promise
-
-A clause says what a call does, and definitions say what the words of the clause mean. A page has all that the clauses
-of its calls rest on, down to the names of std and of the ported crates: the definitions of `specs/`, and the types,
-traits and constants of `src/`. Whoever has read a page knows what is promised; code and proofs need not be read.
-
-**How to read a page.** It names its calls first: begin with their clauses, in the files that it lists. Then go down the
-list with these files open. Call by call it has what a clause names, then what that rests on, and so on; so a file
-stands where it is first needed, and in a file the reading goes from its top. Whoever is content with the comment of a
-definition can leave out what that definition alone rests on. `tests/documents/reading.py CALL` prints the list of one
-call with these comments. `UdpLink: seen` is what a clause calls `⟦<UdpLink as Link>⟧.seen`. What types keep to
-themselves, at the end of a page, says how the fields of a type fit one another; no promise needs it.
-
-**The numbers** are lines, without comments, blank lines and attributes; those of a call are its signature and its
-clauses. A type has its fields, what they keep to, and what its `impl Model` shows of it. `make reading` writes these
-pages, and `make lint` compares them.
-
-| Page | Calls | Definitions | Lines | Files |
-|---|---|---|---|---|
-"""
-
-
 def pages():
     """The text of each page by its path, and the lines of each page by its name."""
-    texts, sizes, index = {}, {}, INDEX
+    texts, sizes, index = {}, {}, text_of("tests/documents/pages.txt")
     rest = {name: call for crate in CRATES if crate not in TRIALS for name, call in called(crate).items()}
     every = dict(rest)
-    for page, title, names in PAGES:
+    for row, page, title, names in re.findall(r"(?m)^((\w+) \| (.*) \| (.*))$", index):
         calls, shown = {}, []
-        for name in names:
+        for name in names.split(", "):
             found = [one for one in rest if one.startswith(name[:-1])] if name.endswith("*") else [name]
             if not found or not {*found} <= {*every}:
                 PROBLEMS.append(f"the page {page} is to have {name}, which is no public call")
@@ -144,7 +102,8 @@ def pages():
         texts[f"{FOLDER}/{page}.md"], items = page_of(page, title, calls)
         sizes[page] = size(items)
         files = len({item.file for item in items})
-        index += f"| [{title}]({page}.md) | {', '.join(shown)} | {len(items)} | {sizes[page]} | {files} |\n"
+        cells = f"[{title}]({page}.md) | {', '.join(shown)} | {len(items)} | {sizes[page]} | {files}"
+        index = index.replace(row, f"| {cells} |")
     PROBLEMS.extend(f"{name} stands on no page of {FOLDER}" for name in rest)
     texts[f"{FOLDER}/README.md"] = index
     return texts, sizes
