@@ -1,5 +1,6 @@
 #!/usr/bin/env python3
-"""Gives the built program random input, well formed and damaged, and follows what it prints and answers.
+"""Gives the built program random input, and follows what it prints and answers: the datagrams of the rows that it is
+tried by, as they are and damaged, and answers to what it asks.
 
 Usage: bench/soak.py device DATAGRAMS [SEED], or script LINES [SEED]; BACTOOL names another program than the tree's.
 
@@ -14,6 +15,7 @@ only while it is open; at most 64 are open, under different invoke numbers, and 
 
 It stops at the first that is not so, and shows it.
 """
+import glob
 import os
 import random
 import re
@@ -23,74 +25,21 @@ import threading
 import time
 from collections import Counter
 
-sys.path.insert(0, os.path.dirname(__file__) + "/../tests")
-sys.path.insert(0, os.path.dirname(__file__) + "/../crates/bac_trials/oracle")
+HERE = os.path.dirname(__file__)
+sys.path[:0] = [HERE + "/../tests", HERE + "/../tests/program", HERE + "/../crates/bac_trials/oracle"]
 from count import region, tag
-from tree import PROGRAM, device, local_socket, resident
+from rows import row_cases
+from tree import PROGRAM, TOP, device, local_socket, resident
 
 MEMORY = []  # kilobytes, as the run goes on
 
 # ---- random datagrams ----
 
-OBJECTS = "8:1234 8:4194303 0:5 0:35 0:36 1:1 2:2 3:3 4:4 5:5 13:1 14:1 19:1 0:99 1023:0".split()
-PROPERTIES = """75 76 77 79 85 36 81 111 117 84 74 87 104 112 121 120 70 44 12 28 98 139 62 107 11 73 30 155 1
-    4194303""".split()
-COMMANDS = "1:1 4441a00000, 2:2 44c1200000, 4:4 9101, 5:5 9100, 14:1 2103, 19:1 2104".split(", ")
-VALUES = """00 10 11 2100 2101 2103 2105 31ff 4441a00000 447fc00000 9100 9101 9102 c402000001 7300686f
-    0e21053f""".split() + [""]
-
-
-def some_octets(dice, least, most):
-    return dice.randbytes(dice.randint(least, most))
-
-
-def parameter(number, value):
-    contents = value.to_bytes(max(1, (value.bit_length() + 7) // 8), "big")
-    return bytes([number << 4 | 8 | len(contents)]) + contents
-
-
-def property_of(identifier, number):
-    kind, instance = map(int, identifier.split(":"))
-    return b"\x0c" + (kind << 22 | instance).to_bytes(4, "big") + parameter(1, int(number))
-
-
-def reference(dice):
-    index = parameter(2, dice.choice([0, 1, 2, 12, 13, 16, 17, 4294967295]))
-    return property_of(dice.choice(OBJECTS), dice.choice(PROPERTIES)) + index * (dice.random() < 0.3)
-
-
-def confirmed(dice):
-    head = bytes([dice.choice([0, 0, 0, 2, 8, 12]), dice.choice([5, 5, 0x75, 0, 1, 2, 3, 4, 15]), dice.randrange(256)])
-    head += b"\0\4" if head[0] & 8 else b""
-    which = dice.random()
-    if which < 0.5:
-        return head + b"\x0c" + reference(dice)
-    if which < 0.55:
-        return head + some_octets(dice, 1, 12)
-    written, value = reference(dice), dice.choice(VALUES)
-    if dice.random() < 0.6:
-        point, value = dice.choice(COMMANDS).split()
-        written, value = property_of(point, 85), value if dice.random() < 0.7 else "00"
-    priority = parameter(4, dice.choice([0, 1, 6, 8, 16, 16, 17, 256]))
-    return head + b"\x0f" + written + b"\x3e" + bytes.fromhex(value) + b"\x3f" + priority * (dice.random() < 0.8)
-
-
-def unconfirmed(dice):
-    which = dice.random()
-    if which < 0.2:
-        return b"\x10" + some_octets(dice, 1, 12)
-    low, high = dice.choice([0, 1000, 1234, 1235, 4194303]), dice.choice([0, 1233, 1234, 2000, 4194303])
-    return b"\x10\x08" + (parameter(0, low) + parameter(1, high)) * (which < 0.76)
-
-
-def network(dice):
-    which = dice.random()
-    if which < 0.7:
-        return bytes([1, dice.choice([0, 4])])
-    if which < 0.8:
-        return bytes.fromhex("0120ffff00ff")
-    source, address = dice.choice([1, 5, 65534]), some_octets(dice, 1, 7)
-    return b"\x01\x0c" + source.to_bytes(2, "big") + bytes([len(address)]) + address
+def corpus():
+    """Each datagram that a script of the rows has."""
+    cases = [case for path in glob.glob(TOP + "/tests/program/rows/*.rows") for case in row_cases(path)]
+    found = {it for case in cases for it in re.findall(r"\b81(?:0a|0b|04)[0-9a-f]{4,}", case.script)}
+    return [bytes.fromhex(it) for it in sorted(found)]
 
 
 def with_length(octets):
@@ -107,18 +56,16 @@ def damaged(dice, datagram):
         elif change == 1:
             del octets[at:]
         elif change == 2:
-            octets[at:at] = some_octets(dice, 1, 4)
+            octets[at:at] = dice.randbytes(dice.randint(1, 4))
         elif at < len(octets):
             octets[at] ^= 1 << dice.randrange(8)
     return with_length(datagram[:2] + octets[2:]) if dice.random() < 0.7 and len(octets) >= 4 else bytes(octets)
 
 
-def any_datagram(dice, port):
-    """A datagram of any kind. One that is forwarded names this machine alone."""
-    link = dice.choices([b"\x81\x0a\0\0", b"\x81\x0b\0\0", b"\x81\x04\0\0" + bytes(6)], [8, 1, 1])[0]
-    apdu = dice.choices([confirmed, unconfirmed, lambda dice: some_octets(dice, 1, 20)], [15, 3, 2])[0](dice)
-    datagram = with_length(link + network(dice) + apdu)
-    if dice.random() < 0.5:
+def any_datagram(dice, known, port):
+    """One that is known, as it is or damaged. If it is forwarded, it names this machine alone."""
+    datagram = dice.choice(known)
+    if dice.random() < 0.6:
         datagram = damaged(dice, datagram)
     if datagram[1:2] == b"\x04":
         here = bytes([127, 0, 0, 1]) + (0 if dice.random() < 0.1 else port).to_bytes(2, "big")
@@ -259,13 +206,13 @@ class Served:
 
 def soak_device(dice, left):
     """Sends so many datagrams, and counts what comes back."""
-    counts = Counter()
+    counts, known = Counter(), corpus()
     while left > 0:
         with device(stderr=subprocess.PIPE) as (process, port):
             served = Served(port)
             peer = served.tried.getsockname()[1]
             while left > 0 and served.asked + 2 * BATCH < AT_MOST:
-                datagrams = [any_datagram(dice, peer) for _ in range(min(BATCH, left))]
+                datagrams = [any_datagram(dice, known, peer) for _ in range(min(BATCH, left))]
                 if why := served.tell(datagrams, counts):
                     sent = "\n".join(f"  {it.hex()} expects {expected(it)}" for it in datagrams)
                     sys.exit(f"{why}, status {process.poll()}; sent:\n{sent}")
@@ -308,7 +255,7 @@ def write_line(dice):
 
 
 def data_line(dice):
-    part = "0c" + some_octets(dice, 0, 19).hex()
+    part = "0c" + dice.randbytes(dice.randrange(20)).hex()
     front, rest = dice.choice([
         *[("30", "0c0c0000000519553e444290999a3f"), ("20", "0f"), ("50", "0c91029120"), ("50", "0f9102"), ("60", "09")],
         *[("71", "04"), ("70", "04"), ("38", "00010c"), ("30", part), ("4000", "")],
@@ -319,13 +266,14 @@ def data_line(dice):
     return f"data {peer} {(dice.random() < 0.2 and damaged(dice, datagram) or datagram).hex()}"
 
 
-def ask_line(dice):
-    return f"ask {dice.choice(PLAIN)} {any_datagram(dice, 47808).hex() or '81'}"
+def ask_line(dice, known):
+    return f"ask {dice.choice(PLAIN)} {any_datagram(dice, known, 47808).hex() or '81'}"
 
 
 def pool(dice):
     """Lines to choose from, but for ticks, in the shares that they are to have."""
-    makers = [(read_line, 2), (write_line, 1), (data_line, 12), (ask_line, 3)]
+    known = corpus()
+    makers = [(read_line, 2), (write_line, 1), (data_line, 12), (lambda dice: ask_line(dice, known), 3)]
     return [make(dice) for make, share in makers for _ in range(share * 2000)] + ["", "# a comment", "  \t"]
 
 
