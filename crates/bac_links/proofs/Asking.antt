@@ -53,6 +53,19 @@ module _ {R : Type 0} (move : List Entry → Option Entry → Move R) where
     follows_push _ xs x follows.1 (ap (next_move move) (append_assoc _ _ xs) ∙ due),
   )
 
+  -- What holds at first, and behind each entry more that follows, holds behind all that follow.
+  pub followed : (P : List Entry → Type 0)
+      → ((xs : List Entry) (x : Entry) → Follows move [] xs → next_move move xs ≡ Asks (question_of x) → P xs
+      → P (xs ++ x ∷ [])) → P [] → (xs : List Entry) → Follows move [] xs → P xs
+  followed P more first xs = go [] xs tt first
+    where
+      go : (before later : List Entry) → Follows move [] before → P before → Follows move before later
+          → P (before ++ later)
+      go before [] here so _ = subst P (sym (append-nil before)) so
+      go before (x ∷ later) here so follows =
+          subst P (append_assoc before (x ∷ []) later) (go (before ++ x ∷ []) later
+          (follows_push [] before x here follows.0) (more before x here follows.0 so) follows.1)
+
   follows_behind : (before xs ys : List Entry) → Follows move before (xs ++ ys) → Follows move (before ++ xs) ys
   follows_behind _ [] ys follows = subst (λ (b : List Entry). Follows move b ys) (sym (append-nil _)) follows
   follows_behind _ (x ∷ xs) ys follows =
@@ -92,6 +105,18 @@ pub played : {Origin R : Type 0} (move : List Entry → Option Entry → Move R)
     (gained : List Entry) → (plays : Plays move seen left result) → left.history ≡ seen.history ++ gained
     → plays.gained ≡ gained
 played = grind (arith, append_cancel_left)
+
+-- So these entries were asked by the moves that were due, and behind them it is over.
+pub record PlaysAll {R : Type 0} (move : List Entry → Option Entry → Move R) (gained : List Entry) (result : R) : Type 0
+    where
+  pub follows : Follows move [] gained
+  pub over : next_move move gained ≡ Ends result
+
+pub plays_all : {Origin R : Type 0} (move : List Entry → Option Entry → Move R) (seen left : Account Origin)
+    (result : R) (gained : List Entry) → Plays move seen left result → left.history ≡ seen.history ++ gained
+    → PlaysAll move gained result
+plays_all move seen left result gained plays gains =
+    rw (← played move seen left result gained plays gains) (record { follows = plays.follows; over = plays.over })
 
 -- Two that play to their ends: they stop together.
 module _ {Origin Other R A : Type 0} (move : List Entry → Option Entry → Move R) (EndAlike PrintAlike : A → A → Type 0)

@@ -31,7 +31,8 @@ use Rattle.bac_text.specs.declared.jobs.Call.{Call}
 
 -- ---- one more event at the end of any list
 
-slice_get-last : (events : List Event) (event : Event) → slice_get (events ++ event ∷ []) (length events) ≡ Some event
+pub slice_get-last : (events : List Event) (event : Event)
+    → slice_get (events ++ event ∷ []) (length events) ≡ Some event
 slice_get-last [] _ = refl
 slice_get-last (x ∷ events) event = slice_get-last events event
 

@@ -29,11 +29,11 @@ module _ (search : Search) where
         (taken, rest ++ ys, ap (λ (zs : List ℕ). zs ++ ys) e ∙ append_assoc _ rest ys, took)
 
     -- After these entries it is over, or it was cut off behind a wait; and their lines were printed.
-    record Stops (result : Result Exit ToolFault) (gained : List Entry) : Type 0 where
-      follows : Follows (search_move search) [] gained
-      over : (next_move (search_move search) gained ≡ Ends result)
+    pub record Stops (result : Result Exit ToolFault) (gained : List Entry) : Type 0 where
+      pub follows : Follows (search_move search) [] gained
+      pub over : (next_move (search_move search) gained ≡ Ends result)
           ⊎ ((result ≡ Err WriteFailed) × (next_move (search_move search) gained ≡ Asks ForTime))
-      printed : Printed contents before after (lines_in gained) result
+      pub printed : Printed contents before after (lines_in gained) result
 
     module _ {Origin : Type 0} (seen left : Account Origin) where
       whole : (result : Result Exit ToolFault) (it : IsWhole search contents before after seen left result)
@@ -60,7 +60,7 @@ module _ (search : Search) where
         );
       }
 
-      stops : (result : Result Exit ToolFault) (gained : List Entry)
+      pub stops : (result : Result Exit ToolFault) (gained : List Entry)
           → Searched search contents before after seen left result → left.history ≡ seen.history ++ gained
           → Stops result gained
       stops (Ok exit) gained it gains =

@@ -2,5 +2,4 @@ use Rattle.bac_links.proofs.SearchSends.{one_sent}
 use Rattle.bac_links.proofs.laws.a_search_sends_one_who_is.Goals as goal
 
 pub returns : goal.returns
-returns g c = λ search before after seen left result gained searched gains.
-    one_sent search g.W.Write.contents before after seen left gained gains result searched
+returns g c = λ search before after seen left. one_sent search g.W.Write.contents before after seen left
