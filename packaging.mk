@@ -34,7 +34,6 @@ lint: program
 	@tests/site/lint.sh
 	@tests/package/install.sh $(PROGRAM)
 	@tests/package/deb.py $(PROGRAM)
-	@tests/documents/targets.sh
 	@tests/false_rt.py
 	@if command -v shellcheck >/dev/null; then \
 	    scripts=$$(grep -lE '^#!.*\b(ba)?sh$$' .ci/run */*.sh tests/*/*.sh) && shellcheck -x $$scripts && \

@@ -1,11 +1,9 @@
 #!/usr/bin/env python3
 """Makes one executable file of the package site/bacsite. Usage: packaging/onefile.py FILE
 
-The same sources give the same octets, whichever Python and machine makes them: the parts stand in
-the order of their names, with one time and one mode, and are not compressed, since that differs
-from one zlib to the next.
+The same sources give the same octets, whichever Python and machine makes them: the parts stand in the order of their
+names, with the earliest time and one mode, and are not compressed, since that differs from one zlib to the next.
 """
-
 import io
 import pathlib
 import sys
@@ -14,7 +12,6 @@ import zipfile
 
 PACKAGE = pathlib.Path(__file__).resolve().parent.parent / "site" / "bacsite"
 PARTS = (".py", ".txt", ".html", ".css", ".js")
-BEGINNING = (1980, 1, 1, 0, 0, 0)  # the earliest time that a zip file knows
 MAIN = b"""\
 import signal
 
@@ -27,34 +24,18 @@ run()
 """
 
 
-def entry(name: str) -> zipfile.ZipInfo:
-    """A part of the file, which says nothing of who makes it and when."""
-    info = zipfile.ZipInfo(name, BEGINNING)
-    info.create_system = 3  # Unix
-    info.external_attr = 0o100644 << 16
-    return info
-
-
-def archive() -> io.BytesIO:
-    """The package as a zip file."""
+def main(target):
+    paths = sorted(path for path in PACKAGE.glob("*.*") if path.suffix in PARTS and path.name != "__main__.py")
     octets = io.BytesIO()
-    with zipfile.ZipFile(octets, "w", zipfile.ZIP_STORED) as file:
-        file.writestr(entry("__main__.py"), MAIN)
-        for path in sorted(PACKAGE.glob("*.*")):
-            if path.suffix in PARTS and path.name != "__main__.py":
-                file.writestr(entry("bacsite/" + path.name), path.read_bytes())
+    with zipfile.ZipFile(octets, "w") as file:
+        for name, text in [("__main__.py", MAIN), *((f"bacsite/{path.name}", path.read_bytes()) for path in paths)]:
+            part = zipfile.ZipInfo(name)
+            part.create_system, part.external_attr = 3, 0o100644 << 16  # of Unix
+            file.writestr(part, text)
     octets.seek(0)
-    return octets
-
-
-def main() -> None:
-    """Makes the file."""
-    target = pathlib.Path(sys.argv[1])
-    zipapp.create_archive(archive(), target, interpreter="/usr/bin/env python3")
-    target.chmod(0o755)
+    zipapp.create_archive(octets, target, interpreter="/usr/bin/env python3")
+    pathlib.Path(target).chmod(0o755)
 
 
 if __name__ == "__main__":
-    if len(sys.argv) != 2:
-        sys.exit(__doc__)
-    main()
+    main(sys.argv[1]) if len(sys.argv) == 2 else sys.exit(__doc__)

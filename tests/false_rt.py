@@ -1,7 +1,7 @@
 #!/usr/bin/env python3
 """Tries build.py, parts.py and .ci/run in trees of two crates, where rt, make's scripts and the script of the wrong
-bodies are false and fail as they are told: what comes of it has to be said, and to be the status. And looks whether a
-port that IPv6 has is seen to be taken. Usage: tests/false_rt.py
+bodies are false and fail as they are told: what comes of it has to be said, and to be the status. And tries what make
+says where there is no rt, and whether a port that IPv6 has is seen to be taken. Usage: tests/false_rt.py
 """
 import os
 import re
@@ -145,6 +145,29 @@ def stopped(command):
     return f"{' '.join(command)}, told to end: status {process.returncode}, the crate's folder kept: {is_kept}:\n{said}"
 
 
+def without_kit():
+    """What make says at first: alone it lists the targets and builds nothing, and each target stands in that list. What
+    needs rt says so in one line, where that is not there."""
+    texts = [text_of(name) for name in ("Makefile", "packaging.mk", "measuring.mk")]
+    targets = {name for text in texts for row in re.findall(r"(?m)^\.PHONY: (.*)", text) for name in row.split()}
+    with tempfile.TemporaryDirectory() as room:
+        for name in ("sh", "bash", "env", "make", "sed", "find", "python3"):
+            os.symlink(sys.executable if name == "python3" else shutil.which(name), f"{room}/{name}")
+        how = {"cwd": TOP, "env": {"PATH": room}, "text": True, "stdout": subprocess.PIPE, "stderr": subprocess.STDOUT}
+        told = lambda *words: subprocess.run(words, check=False, **how)
+        listed = told("make", "--no-print-directory")
+        if listed.returncode or listed.stdout != told("make", "--no-print-directory", "help").stdout:
+            yield f"make alone is not make help: status {listed.returncode}: {listed.stdout}"
+        for name in sorted(targets - {"documents", "kit"}):  # parts of others
+            if not re.search(rf"(?m)^(make, )?make {name}\b", listed.stdout):
+                yield f"make help does not list {name}"
+        for words in (["make", "-s", "try"], ["make", "-s", "check"], ["make", "-s", "test"], ["./build.py"]):
+            ended = told(*words)
+            lines = [line for line in ended.stdout.splitlines() if not line.startswith("make: ***")]
+            if not ended.returncode or len(lines) != 1 or not re.search("needs rt.*README.md", lines[0]):
+                yield f"{' '.join(words)}, without rt: status {ended.returncode}: {ended.stdout}"
+
+
 def ports_of_ipv6():
     """A port that a socket for IPv6 alone has is taken, for tests/tree.py and for examples/with-port.sh."""
     told = lambda: int(subprocess.check_output([f"{TOP}/examples/with-port.sh", "echo"]))
@@ -162,7 +185,7 @@ def ports_of_ipv6():
 def main():
     with ThreadPoolExecutor(4) as pool:
         wrong = [it for it in (*pool.map(tried, ROWS), *pool.map(stopped, (["./build.py"], TEST))) if it]
-    wrong += filter(None, [ports_of_ipv6()])
+    wrong += [*without_kit(), *filter(None, [ports_of_ipv6()])]
     print("".join(f"{it}\n" for it in wrong), end="")
     print(f"tests/false_rt.py: {len(ROWS) + 2} runs of build.py and parts.py, {len(wrong)} not as they are to be")
     return 1 if wrong else 0
