@@ -1,4 +1,4 @@
-/* The yardsticks of the tools: plain programs over UDP on 127.0.0.1, by the first word.
+/* The yardsticks of the tools: plain programs over UDP on 127.0.0.1, by the first word, as loopback.py calls them.
  *
  * ask PORT HEX: sends one datagram and prints the answer, as bacrp does.
  * echo PORT COUNT: sends each datagram back to where it came from, until COUNT came, or none in ten seconds. As bacdev,
@@ -25,25 +25,12 @@ static void give_up(const char *why)
     exit(1);
 }
 
-/* The number that a word of the command line gives, from 1 to `most`. */
-static long number_of(const char *word, long most)
-{
-    char *end;
-    long number = strtol(word, &end, 10);
-    if (*word == 0 || *end != 0 || number < 1 || number > most)
-        give_up(word);
-    return number;
-}
-
 /* The octets of a text of hexadecimal digits, and how many they are. */
 static size_t octets_of(const char *text, unsigned char *octets)
 {
-    size_t count = strlen(text) / 2;
-    if (strlen(text) % 2 != 0 || count > ROOM)
-        give_up(text);
-    for (size_t i = 0; i < count; i++)
-        if (sscanf(text + 2 * i, "%2hhx", &octets[i]) != 1)
-            give_up(text);
+    size_t count = 0;
+    while (count < ROOM && sscanf(text + 2 * count, "%2hhx", &octets[count]) == 1)
+        count++;
     return count;
 }
 
@@ -51,7 +38,7 @@ static size_t octets_of(const char *text, unsigned char *octets)
 static int socket_at(const char *port, int seconds, in_addr_t host,
                      int (*joins)(int, const struct sockaddr *, socklen_t))
 {
-    struct sockaddr_in address = { .sin_family = AF_INET, .sin_port = htons(number_of(port, 65535)) };
+    struct sockaddr_in address = { .sin_family = AF_INET, .sin_port = htons(atoi(port)) };
     struct timeval wait = { .tv_sec = seconds };
     int made = socket(AF_INET, SOCK_DGRAM, 0);
     address.sin_addr.s_addr = htonl(host);
@@ -84,7 +71,7 @@ static void echo(char **words)
 {
     unsigned char octets[ROOM];
     int server = socket_at(words[0], 10, INADDR_ANY, bind);
-    for (long left = number_of(words[1], 1000000000); left > 0; left--) {
+    for (long left = atol(words[1]); left > 0; left--) {
         struct sockaddr_in from;
         socklen_t size = sizeof from;
         ssize_t length = recvfrom(server, octets, sizeof octets, 0, (struct sockaddr *)&from, &size);
@@ -105,8 +92,8 @@ static void request(int client, long which)
 static void load(char **words)
 {
     int client = socket_at(words[0], 1, INADDR_LOOPBACK, connect);
-    long outstanding = number_of(words[1], 64), count = number_of(words[2], 1000000000), asked = 0;
-    ssize_t length = number_of(words[3], ROOM);
+    long outstanding = atol(words[1]), count = atol(words[2]), asked = 0;
+    ssize_t length = atol(words[3]);
     unsigned char first[ROOM + 1], reply[ROOM];
     size_t known = octets_of(words[4], first);
     double begun = seconds_now();
