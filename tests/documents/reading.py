@@ -18,7 +18,7 @@ import textwrap
 
 sys.path.insert(0, os.path.dirname(__file__) + "/..")
 from sources import CLOSE, CRATES, DEFINITIONS, OPEN, PROBLEMS, SOURCES, TOKEN
-from sources import closed, defined, match_bracket, public_calls, read_tree, uses_in, without_uses
+from sources import closed, defined, public_calls, read_tree, uses_in, without_uses
 from tree import TOP, text_of
 
 FOLDER = "docs/reading"
@@ -198,11 +198,7 @@ def unused_in_source(path):
             depth += (source.code[end] in OPEN) - (source.code[end] in CLOSE)
             end += 1
         start = 0 if end == len(source.code) else use.end()
-        said = set()
-        ghosts = r"\b(?:(?:requires|ensures|ghost)\*?(?: \w+)?\s*[:=]?|by)\s*\{"
-        for clause in re.finditer(ghosts, source.code[start:end]):
-            at = start + clause.end()
-            said |= said_in(source.masked(at, match_bracket(source.code, at - 1)))
+        said = set().union(*(said_in(part.text) for part in source.parts_in(start, end)))
         yield from unsaid(uses_in(use[0], ghost=True), said)
 
 

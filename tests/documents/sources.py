@@ -260,8 +260,11 @@ PLAIN = NUMBERS | set("""Self self mut dyn impl for where as const ref static fn
 STD = NUMBERS | set("""Option Some None Result Ok Err Vec String Box Drop Copy Clone Debug Default Iterator IntoIterator
     FnOnce FnMut Fn From Into Sized PartialEq Eq PartialOrd Ord Send Sync AsRef ToOwned TryFrom TryInto
     HostRuntime""".split())
-BRACED = ("struct", "enum", "trait", "impl", "mod")
-CLAUSE = re.compile(r"\b(requires|ensures|ghost)\*? ?(\w*):? $")
+BRACED = ("fn", "struct", "enum", "trait", "impl", "mod")
+# A clause or a ghost member, up to its bracket, and the proof behind it.
+GHOST = re.compile(r"\b(requires|ensures|ghost)\*?(?: (?!use\b)(\w+))?\s*[:=]?\s*(?=\{)")
+PROOF = re.compile(r"\s*by\s*(?=\{)")
+Part = collections.namedtuple("Part", "word name text start end")
 IMPL = re.compile(r"⟦<([\w:]+)[^⟧]*? as (\w+)[^⟧]*>⟧\.(\w+)")
 
 
@@ -307,43 +310,51 @@ class Source:
         parts = path.split("/src/")[1][: -len(".rt")].split("/")
         self.module = [part for part in parts if part not in ("lib", "main", "mod")]
         code = blank(self.text, r"//[^\n]*", r'(?:b|c)?"(?:\\.|[^"\\])*"', r"b?'(?:\\[^'\n]*|[^'\\\n])'")
-        self.code = blank(code, r"#!?\[[^\]]*\]")
+        self.code = self.bare = blank(code, r"#!?\[[^\]]*\]")
+        self.parts = list(self.ghost_parts())
+        for part in self.parts:
+            self.bare = self.bare[: part.start] + blank(self.bare[part.start : part.end], ".+") + self.bare[part.end :]
         self.items, self.uses, self.all, self.ghost = {}, {}, [], Names()  # all: the modules of `use ..::*`
         self.methods, self.members = [], []
         for kind, name, public, start, end in self.inside(0, len(self.code)):
             self.top(kind, name, public, start, end)
 
+    def ghost_parts(self):
+        at = 0
+        while found := GHOST.search(self.code, at):
+            at = match_bracket(self.code, found.end())
+            text = self.masked(found.end() + 1, at)
+            if proof := PROOF.match(self.code, at + 1):
+                at = match_bracket(self.code, proof.end())
+                text += " " + self.masked(proof.end() + 1, at)
+            yield Part(found[1], found[2] or "", text, found.start(), at + 1)
+
+    def parts_in(self, start, end):
+        return [part for part in self.parts if start <= part.start < end]
+
     def inside(self, at, end):
         """(kind, name, is public, start, end) of each item between two places."""
-        while found := re.compile(r"\S").search(self.code, at, end):
+        while found := re.compile(r"\S").search(self.bare, at, end):
             at = found.start()
-            item = ITEM.match(self.code, at)
+            item = ITEM.match(self.bare, at)
             kind = (item["kind"] or "ghost use").split()[-1] if item else None
             stop = self.end_of(kind, at, end)
             if item:
                 yield kind if item["kind"] else "ghost use", item["name"], item["public"] == "pub ", at, stop
-            elif self.code.startswith("ghost ", at):
-                yield "ghost", re.match(r"ghost (\w+)", self.code[at:stop])[1], False, at, stop
             at = stop
 
     def end_of(self, kind, at, end):
         """Where the item ends: at its `;`, or at the brace that closes its body."""
-        start = at
         while at < end:
-            letter = self.code[at]
+            letter = self.bare[at]
             if letter == ";" or letter == "," and kind is None:
                 return at + 1
             if letter in OPEN:
-                close = match_bracket(self.code, at)
-                if letter == "{" and (kind == "fn" and not self.clause_before(start, at) or kind in BRACED):
-                    return close + 1
-                at = close
+                at = match_bracket(self.bare, at)
+                if letter == "{" and kind in BRACED:
+                    return at + 1
             at += 1
         return end
-
-    def clause_before(self, start, brace):
-        """The word and the name of the clause that a brace opens, if it opens one."""
-        return CLAUSE.search(self.code[max(start, brace - 80) : brace])
 
     def comment_above(self, start):
         lines, comment = self.text[:start].split("\n")[:-1], []
@@ -412,16 +423,6 @@ class Source:
             if path.split("::")[0] not in bound:
                 needs.add(self.find(path.split("::")), path)
 
-    def ghosts(self, start, end):
-        """(name, text, start, end) of each ghost part between two places: clause, member, invariant and its proof."""
-        for found in re.finditer(r"\bghost (?!use\b)(\w+)\s*[:=]\s*(?=\{)", self.code[start:end]):
-            stop = match_bracket(self.code, start + found.end())
-            text = self.masked(start + found.end() + 1, stop)
-            if proof := re.compile(r"\s*by\s*(?=\{)").match(self.code, stop + 1):
-                stop = match_bracket(self.code, proof.end())
-                text += " " + self.masked(proof.end() + 1, stop)
-            yield found[1], text, start + found.start(), stop + 1
-
     def masked(self, start, end):
         return blank(self.text[start:end], r"//[^\n]*", r"#\[[^\]]*\]")
 
@@ -431,44 +432,31 @@ class Source:
 
     def function(self, shown, public, start, end, names, bound, around=""):
         """A call, in an impl block with the head `around`, if it is in one."""
-        clauses, head_end, at = [], None, start
-        while at < end and self.code[at] != ";":
-            if self.code[at] in OPEN:
-                close = match_bracket(self.code, at)
-                clause = self.clause_before(start, at) if self.code[at] == "{" else None
-                if clause:
-                    head_end = head_end or max(start, at - 80) + clause.start()
-                    clauses.append((clause[1], clause[2], self.masked(at + 1, close)))
-                elif self.code[at] == "{":
-                    break
-                at = close
-            at += 1
-        head = self.code[start : head_end or at]
+        head = self.bare[start:end].partition("{")[0].rstrip(";")
+        clauses = self.parts_in(start, start + len(head))
         generic = generics(head.split("(")[0]) | bound
-        values = set(re.findall(r"(\w+)\s*:(?!:)", head)) | {name for word, name, _ in clauses if word == "ghost"}
+        values = set(re.findall(r"(\w+)\s*:(?!:)", head)) | {part.name for part in clauses if part.word == "ghost"}
 
         def find(needs):
-            for _, _, text in clauses:
-                self.clause(needs, text, names, generic | values | {"self", "result", "Self"})
+            for part in clauses:
+                self.clause(needs, part.text, names, generic | values | {"self", "result", "Self"})
             self.types(needs, around + " " + re.sub(r"\bfn \w+", "", head), generic)
 
-        comment, lines = self.comment_above(start), self.lines_in(start, at)
+        comment, lines = self.comment_above(start), self.lines_in(start, start + len(head))
         return Item(self, shown, "call", start, lines, comment, find, public, len(clauses))
 
     def type(self, kind, name, public, start, end):
         code = self.code[start:end]
         head = re.match(r"(?:pub\([^)]*\))?([^{(=;]*)", code)[1]
         bound = generics(head) | {"Self", name}
-        names, ghosts = self.ghost_uses(start, end), list(self.ghosts(start, end))
-        mine = {ghost for ghost, *_ in ghosts} if kind == "trait" else set(re.findall(r"(\w+)\s*:(?!:)", code))
+        names, ghosts = self.ghost_uses(start, end), [it for it in self.parts_in(start, end) if it.word == "ghost"]
+        mine = {it.name for it in ghosts} if kind == "trait" else set(re.findall(r"(\w+)\s*:(?!:)", code))
 
         def find(needs):
-            for _, text, *_ in ghosts:
-                self.clause(needs, text, names, bound | mine)
+            for part in ghosts:
+                self.clause(needs, part.text, names, bound | mine)
             if kind != "trait":
-                plain = re.sub(r"\bghost use [^;]*;", "", code)
-                for _, _, first, last in ghosts:
-                    plain = plain.replace(self.code[first:last], "")
+                plain = re.sub(r"\bghost use [^;]*;", "", self.bare[start:end])
                 self.types(needs, re.sub(r"([{,]\s*)[A-Z]\w*", r"\1", plain) if kind == "enum" else plain, bound)
                 return
             self.types(needs, re.sub(r"\btrait ", "", head), bound)
@@ -490,19 +478,18 @@ class Source:
             return
         owner, body, bound = owner[1].split("::"), start + len(head) + 1, {"Self"}
         bound |= generics(head) if head.startswith("impl<") else set()
-        names = self.ghost_uses(body, end)
+        names, members = self.ghost_uses(body, end), self.parts_in(body, end)
         for kind, name, public, first, last in self.inside(body, end - 1):
             if kind == "fn":
+                members = [part for part in members if not first <= part.start < last]
                 seen = public or bool(trait)
                 whole = f"{owner[-1]}::{name}"
                 self.methods.append((owner, self.function(whole, seen, first, last, names, bound, head)))
-            elif kind == "ghost":
-                part, = self.ghosts(first, last)
-                self.members.append((owner, trait.strip(), names, bound, part))
+        self.members += [(owner, trait.strip(), names, bound, part) for part in members]
 
     def link(self):
         """Adds to each type what its `impl Model` shows, and apart its invariant; other members stand by themselves."""
-        for owner, trait, names, bound, (name, text, first, last) in self.members:
+        for owner, trait, names, bound, (_, name, text, first, last) in self.members:
             item = self.find(owner)
             find = lambda needs, text=text, names=names, bound=bound: self.clause(needs, text, names, bound)
             if trait == "Model" and isinstance(item, Item):
