@@ -1,7 +1,7 @@
 -- What a search sent is its Who-Is, once.
 use Rattle.std.proofs.{
   Common.{◌≡◌, ◌⊎◌, ℕ, ◌<◌, List, [], ◌∷◌, ◌++◌, Option, Some, Result, Err, inl, inr, refl},
-  Common.{arith},
+  Common.arith,
   lemmas.{List.{append-nil, append_cancel_left, length_push}, Bool.Decides.nat_tests},
 }
 use Rattle.bac_pdu.specs.Peer.{Station, station}
@@ -11,7 +11,7 @@ use Rattle.bac_links.specs.{
   Asking.{Asks, Ends, ForTime, question_of, Follows, next_move, waits_in},
   Search.{who_is_to, search_move, Searched},
   Sent.{sent_in, AllSent},
-  declared.{exit.Exit.Exit, fault.ToolFault.ToolFault, fault.ToolFault.TheVariants.{SendFailed}},
+  declared.{exit.Exit.Exit, fault.ToolFault.ToolFault, fault.ToolFault.TheVariants.SendFailed},
 }
 use Rattle.bac_links.proofs.{
   Asking.{followed, last_push, waits_push},

@@ -4,7 +4,7 @@ use Rattle.std.proofs.{
   Common.{arith, length-append},
   lemmas.{List.append-nil, List.Concat.flat_map-append, Bool.cases_Bool, Bool.Decides.nat_tests},
 }
-use Rattle.std.specs.{List.{flat_map}, Option.option_to_list}
+use Rattle.std.specs.{List.flat_map, Option.option_to_list}
 use Rattle.bac_pdu.specs.Peer.{Station}
 use Rattle.bac_device.specs.{Device.DeviceState}
 use Rattle.bac_links.specs.{

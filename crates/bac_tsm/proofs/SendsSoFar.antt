@@ -9,7 +9,7 @@ use Rattle.std.specs.List.{list_any}
 use Rattle.bac_tsm.specs.{
   Events.{Event, Rules},
   Lookahead.{Accepted, has_waited, due, answered_at, end, sends_within, sends, first_within},
-  Lookahead.{first_after},
+  Lookahead.first_after,
 }
 use Rattle.bac_tsm.proofs.WholeRun.{slice_get-take}
 
