@@ -1,15 +1,9 @@
 -- The replies of a device, one after another, are those of the definition.
 use Rattle.std.proofs.Common.{◌≡◌, ℕ, List, [], ◌∷◌, Option, refl, ap, ◌∙◌, arith}
 use Rattle.bac_pdu.specs.Peer.{Station}
-use Rattle.bac_device.specs.{
-  Info.Info,
-  Point.Description,
-  Places.Write,
-  Device.{DeviceState, device_after, Holds},
-  Reply.{reply_to, writes_after},
-  Turns.{Arrival, AreDefined, all_writes, replies_to},
-}
-use Rattle.bac_device.proofs.Answering.{next_after}
+use Rattle.bac_device.specs.{Info.Info, Point.Description}
+use Rattle.bac_device.specs.{Places.Write, Device.{DeviceState, device_after, Holds}, Reply.{reply_to, writes_after}}
+use Rattle.bac_device.{specs.Turns.{Arrival, AreDefined, all_writes, replies_to}, proofs.Answering.next_after}
 use Rattle.bac_links.specs.Serve.{device_behind, replies_of}
 
 module _ (info : Info) (points : List Description) where

@@ -1,17 +1,13 @@
 -- Two calls that are answered alike ask alike, end alike, and print one line.
 use Rattle.std.proofs.Common.{◌≡◌, ◌≢◌, ℕ, List, [], Option, Result, Ok, Err, refl, sym, ap, ◌∙◌, subst}
-use Rattle.bac_print.{specs.{declared.checked.Checked.Checked, Checked.Took}, proofs.Known.Took-none}
-use Rattle.bac_links.specs.{
-  History.Account,
-  Answered.{AskAlike, Printed, OneText},
-  Asking.Plays,
-  Ending.{ending_line, exit_of},
-  Call.{Comes, move, Tells},
-  declared.{ending.Purpose.Purpose, exit.Exit.Exit, fault.ToolFault.ToolFault},
-  declared.fault.ToolFault.TheVariants.{SendFailed, ReceiveFailed, TurnsSpent, WriteFailed},
-}
-use Rattle.bac_links.proofs.Asking.{to_the_end}
 use Rattle.bac_text.specs.declared.jobs.Call.{Call}
+use Rattle.bac_print.{specs.{declared.checked.Checked.Checked, Checked.Took}, proofs.Known.Took-none}
+use Rattle.bac_links.{
+  specs.{History.Account, Answered.{AskAlike, Printed, OneText}, Asking.Plays},
+  specs.{Ending.{ending_line, exit_of}, Call.{Comes, move, Tells}, declared.{ending.Purpose.Purpose, exit.Exit.Exit}},
+  specs.declared.fault.ToolFault.{ToolFault, TheVariants.{SendFailed, ReceiveFailed, TurnsSpent, WriteFailed}},
+  proofs.Asking.to_the_end,
+}
 
 module _ (purpose : Purpose) (call : Call) where
   abbrev pub result_of : Comes → Result Exit ToolFault

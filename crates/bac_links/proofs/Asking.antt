@@ -1,15 +1,11 @@
 -- Who asks by his moves, and is answered alike, asks alike.
-use Rattle.std.{
-  proofs.Common.{◌≡◌, ℕ, ◌+◌, ◌<◌, ◌≤◌, List, [], ◌∷◌, ◌++◌, append_assoc, Option, Some, Result, Err, refl, sym, ap},
-  proofs.{Common.{◌∙◌, subst, arith}, lemmas.Bool.{lt-ltb, le-ltb}, lemmas.List.{append_cancel_left, append-nil}},
-  specs.List.last_or,
-}
-use Rattle.bac_links.specs.{
-  History.{Entry, Waited, Timed, Posted, Unposted, Account},
-  Answered.{answer_of, answers_of, GoOnAlike},
-  Asking.{Move, Asks, Ends, ForDatagram, question_of, next_move, Follows, Plays, waits_in, times_in, turn_after},
-  Limits.most_turns,
-  declared.fault.{ToolFault.ToolFault, ToolFault.TheVariants.TurnsSpent},
+use Rattle.std.proofs.Common.{◌≡◌, ℕ, ◌+◌, ◌<◌, ◌≤◌, List}
+use Rattle.std.proofs.Common.{[], ◌∷◌, ◌++◌, append_assoc, Option, Some, Result, Err, refl, sym, ap, ◌∙◌, subst, arith}
+use Rattle.std.{proofs.lemmas.{Bool.{lt-ltb, le-ltb}, List.{append_cancel_left, append-nil}}, specs.List.last_or}
+use Rattle.bac_links.{
+  specs.{History.{Entry, Waited, Timed, Posted, Unposted, Account}, Answered.{answer_of, answers_of, GoOnAlike}},
+  specs.Asking.{Move, Asks, Ends, ForDatagram, question_of, next_move, Follows, Plays, waits_in, times_in, turn_after},
+  specs.{Limits.most_turns, declared.fault.ToolFault.{ToolFault, TheVariants.TurnsSpent}},
 }
 
 pub last_push : {A : Type 0} (o : Option A) (xs : List A) (x : A) → last_or o (xs ++ x ∷ []) ≡ Some x
@@ -108,9 +104,9 @@ played = grind (arith, append_cancel_left)
 
 -- So these entries were asked by the moves that were due, and behind them it is over.
 pub record PlaysAll {R : Type 0} (move : List Entry → Option Entry → Move R) (gained : List Entry) (result : R) : Type 0
-    where
-  pub follows : Follows move [] gained
-  pub over : next_move move gained ≡ Ends result
+  where
+    pub follows : Follows move [] gained
+    pub over : next_move move gained ≡ Ends result
 
 pub plays_all : {Origin R : Type 0} (move : List Entry → Option Entry → Move R) (seen left : Account Origin)
     (result : R) (gained : List Entry) → Plays move seen left result → left.history ≡ seen.history ++ gained

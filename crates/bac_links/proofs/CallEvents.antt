@@ -1,33 +1,25 @@
 -- What the look-ahead says of the events of a call, one event after another.
-use Rattle.std.proofs.{
-  lemmas.{Grind.common_steps, List.{append-nil, length_push, take-append-le}},
-  lemmas.{List.Elements.All-nil, Option.{slice_get_within, get_or_from_slice_get}, Bool.{cases_eq, cases_lt}},
-  lemmas.Bool.Decides.nat_tests,
-  Common.{◌≡◌, ℕ, zero, suc, ◌-◌, ◌<◌, ◌≤◌, List, [], ◌∷◌, ◌++◌, flat_map, length, Option, Some, None, Result, Ok},
-  Common.{slice_get, false, nat_lt, refl, sym, ap, ◌∙◌, arith, inl, inr},
-  Math.Seq.take-append_seam,
+use Rattle.std.{
+  proofs.lemmas.{Grind.common_steps, List.{append-nil, length_push, take-append-le, Elements.All-nil}},
+  proofs.lemmas.{Option.{slice_get_within, get_or_from_slice_get}, Bool.{cases_eq, cases_lt, Decides.nat_tests}},
+  proofs.Common.{◌≡◌, ℕ, zero, suc, ◌-◌, ◌<◌, ◌≤◌, List, [], ◌∷◌, ◌++◌, flat_map, length, Option, Some, None, Result},
+  proofs.{Common.{Ok, slice_get, false, nat_lt, refl, sym, ap, ◌∙◌, arith, inl, inr}, Math.Seq.take-append_seam},
+  specs.List.All,
 }
-use Rattle.std.specs.List.{All}
 use Rattle.bac_pdu.specs.{Peer.station, Apdu.longest_body}
-use Rattle.bac_tsm.specs.{
-  Events.{Outcome, Event, Ask, Note, Dropped, Rules, Request},
-  Lookahead.{Accepted, End, accepted, accepted_at, end, end_notes, or_dropped, send_notes, next_invoke_id, refusal_of},
-  Lookahead.output,
-  Machine.{State, Stepped, Answered, Run, step, initial, folded, submit, tick, sent},
-  declared.client.SubmitFault.SubmitFault,
-  Laws.{AnswersByNumber, state_at, waiting_at},
-  Client.{Client, rules_of, keeping},
-}
-use Rattle.bac_tsm.proofs.{
-  Laws.{drop_head, one_step, run_first, run_whole, both_are, looks_back, past_unended, early_unended, early_unsent},
-  Laws.{quiet_unsent, sent_first, by_number, few_open},
-}
-use Rattle.bac_links.specs.{
-  Call.{rules_for, service_of, asked, end_in, IsAccepted},
-  Inner.CallSteps.{post_in, posts, sent_last, begun_at, ending_in, endings, AsksNothing, IsAlone, CarriesOn},
-  declared.ending.Purpose.Purpose,
+use Rattle.bac_tsm.{
+  specs.Lookahead.{Accepted, End, accepted, accepted_at, end, end_notes, or_dropped, send_notes, next_invoke_id},
+  specs.{Lookahead.{refusal_of, output}, declared.client.SubmitFault.SubmitFault, Client.{Client, rules_of, keeping}},
+  specs.Machine.{State, Stepped, Answered, Run, step, initial, folded, submit, tick, sent},
+  specs.{Events.{Outcome, Event, Ask, Note, Dropped, Rules, Request}, Laws.{AnswersByNumber, state_at, waiting_at}},
+  proofs.Laws.{drop_head, one_step, run_first, run_whole, both_are},
+  proofs.Laws.{looks_back, past_unended, early_unended, early_unsent, quiet_unsent, sent_first, by_number, few_open},
 }
 use Rattle.bac_text.specs.declared.jobs.Call.{Call}
+use Rattle.bac_links.{
+  specs.{declared.ending.Purpose.Purpose, Call.{rules_for, service_of, asked, end_in, IsAccepted}},
+  specs.Inner.CallSteps.{post_in, posts, sent_last, begun_at, ending_in, endings, AsksNothing, IsAlone, CarriesOn},
+}
 
 -- ---- one more event at the end of any list
 

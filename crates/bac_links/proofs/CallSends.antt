@@ -1,32 +1,20 @@
 -- What a call sent is what the look-ahead sends of its request.
-use Rattle.std.proofs.{
-  Common.{◌≡◌, ℕ, zero, suc, ◌-◌, ◌<◌, List, [], ◌∷◌, ◌++◌, length, map, Option, Some, None, Result, Ok, Err, Bool},
-  Common.{true, false, if◌then◌else◌, refl, sym, ap, arith},
-  lemmas.{List.{append-nil, length_push, map-append}, Bool.cases_Bool},
-}
+use Rattle.std.proofs.Common.{◌≡◌, ℕ, zero, suc, ◌-◌, ◌<◌, List, [], ◌∷◌, ◌++◌, length, map, Option}
+use Rattle.std.proofs.Common.{Some, None, Result, Ok, Err, Bool, true, false, if◌then◌else◌, refl, sym, ap, arith}
+use Rattle.std.proofs.lemmas.{List.{append-nil, length_push, map-append}, Bool.cases_Bool}
 use Rattle.bac_pdu.specs.Peer.{Station}
-use Rattle.bac_print.specs.declared.checked.Checked.{Checked}
-use Rattle.bac_tsm.{
-  specs.{Events.{Event, Data, Tick}, Lookahead.{Accepted, End, due, sends, sends_within}},
-  proofs.Laws.{quiet_unsent, sends_push, sent_unended},
-}
-use Rattle.bac_links.specs.{
-  History.{Arrival, Entry, Waited, Timed, Unposted, Account},
-  Asking.{Asks, Ends, ToSend, question_of, Follows, Plays, next_move, turn_after},
-  Handed.handed_of,
-  Call.{rules_for, asked, events_of, end_in, is_sent_last, Comes, or_ended, move, Tells},
-  Limits.turn_wait,
-  Sent.{sent_at, sends_of_call, AllSent},
-  declared.{ending.Purpose.Purpose, exit.Exit.Exit, fault.ToolFault.ToolFault},
-  declared.fault.ToolFault.TheVariants.{SendFailed, WriteFailed},
-}
-use Rattle.bac_links.proofs.{
-  Asking.{plays_all, PlaysAll},
-  CallEvents.slice_get-last,
-  CallTurns.handed_push,
-  Sendings.{sending, all_sent},
-}
+use Rattle.bac_tsm.specs.{Events.{Event, Data, Tick}, Lookahead.{Accepted, End, due, sends, sends_within}}
+use Rattle.bac_tsm.proofs.Laws.{quiet_unsent, sends_push, sent_unended}
 use Rattle.bac_text.specs.declared.jobs.Call.{Call}
+use Rattle.bac_print.specs.declared.checked.Checked.{Checked}
+use Rattle.bac_links.{
+  specs.History.{Arrival, Entry, Waited, Timed, Unposted, Account},
+  specs.Asking.{Asks, Ends, ToSend, question_of, Follows, Plays, next_move, turn_after},
+  specs.{Handed.handed_of, Call.{rules_for, asked, events_of, end_in, is_sent_last, Comes, or_ended, move, Tells}},
+  specs.{Limits.turn_wait, Sent.{sent_at, sends_of_call, AllSent}, declared.ending.Purpose.Purpose},
+  specs.declared.{exit.Exit.Exit, fault.ToolFault.{ToolFault, TheVariants.{SendFailed, WriteFailed}}},
+  proofs.{Asking.{plays_all, PlaysAll}, CallEvents.slice_get-last, CallTurns.handed_push, Sendings.{sending, all_sent}},
+}
 
 module _ (purpose : Purpose) (call : Call) where
   abbrev a : Accepted

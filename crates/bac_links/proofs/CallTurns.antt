@@ -1,37 +1,25 @@
 -- One turn of a call; and how the call ends, or fails.
 use Rattle.std.proofs.{
-  lemmas.{Bool.cases_Bool, List.append-nil, List.Concat.flat_map-append},
-  lemmas.List.Elements.{All-nil, All-cons},
-  Common.{◌≡◌, ◌≢◌, ◌⊎◌, ℕ, suc, ◌<◌, ◌≤◌, List, [], ◌∷◌, ◌++◌, length, Option, Some, None, Result, Ok, Err, IfOk},
-  Common.{IfErr, Bool, if◌then◌else◌, true, false, inl, inr, refl, sym, ap, ◌∙◌, arith, append_assoc, subst, All},
+  lemmas.{Bool.cases_Bool, List.{append-nil, Concat.flat_map-append, Elements.{All-nil, All-cons}}},
+  Common.{◌≡◌, ◌≢◌, ◌⊎◌, ℕ, suc, ◌<◌, ◌≤◌, List, [], ◌∷◌, ◌++◌, length, Option, Some, None, Result, Ok, Err},
+  Common.{IfOk, IfErr, Bool, if◌then◌else◌, true, false, inl, inr, refl, sym, ap, ◌∙◌, arith, append_assoc, subst, All},
 }
 use Rattle.bac_pdu.specs.{Peer.Station, Apdu.longest_body}
-use Rattle.bac_tsm.specs.{
-  Events.{Outcome, Event, Data, Tick, Sent, Rules},
-  Lookahead.{Accepted, End, send_notes},
-  Machine.{State, Stepped, to_send, sent, step},
-  Client.{Client, rules_of, keeping},
-}
-use Rattle.bac_print.specs.{declared.checked.Checked.Checked, Checked.TookOrFailed}
-use Rattle.bac_links.specs.{
-  Limits.most_turns,
-  History.{Heard, Silence, Arrival, Failure, Entry, Waited, Timed, Posted, Unposted, Account, GainsAll, Gains},
-  Ending.{ending_line, exit_of},
-  Asking.{Move, Asks, Ends, ForTime, ToSend, question_of, Follows, Plays, next_move, waits_in, turn_after},
-  Handed.{handed, handed_of},
-  Call.{rules_for, asked, events_of, end_in, is_sent_last, Comes, or_ended, move, Tells},
-  Inner.CallSteps.{posts, sent_last, or_sent, wait_of, begun_at, endings, GainsLost, heard_step, ticked, AsksNothing},
-  Inner.CallSteps.{IsAlone, CarriesOn, Hears, Ticks, TicksLost},
-  Inner.CallSteps.Underway,
-  declared.{ending.Purpose.Purpose, exit.Exit.Exit, fault.ToolFault.ToolFault},
-  declared.fault.ToolFault.TheVariants.{SendFailed, ReceiveFailed, TurnsSpent, WriteFailed},
-}
-use Rattle.bac_links.proofs.{
-  Asking.{last_push, follows_push, waits_push, turn_begins, turns_over},
-  Histories.gains_both,
-  CallEvents.{carries_on, ends_next, sends_next, carried_alone, submitted, begins, begins_sent},
-}
+use Rattle.bac_tsm.specs.{Events.{Outcome, Event, Data, Tick, Sent, Rules}, Lookahead.{Accepted, End, send_notes}}
+use Rattle.bac_tsm.specs.{Machine.{State, Stepped, to_send, sent, step}, Client.{Client, rules_of, keeping}}
 use Rattle.bac_text.specs.declared.jobs.Call.{Call}
+use Rattle.bac_print.specs.{declared.checked.Checked.Checked, Checked.TookOrFailed}
+use Rattle.bac_links.{
+  specs.History.{Heard, Silence, Arrival, Failure, Entry, Waited, Timed, Posted, Unposted, Account, GainsAll, Gains},
+  specs.declared.fault.ToolFault.{ToolFault, TheVariants.{SendFailed, ReceiveFailed, TurnsSpent, WriteFailed}},
+  specs.{declared.{ending.Purpose.Purpose, exit.Exit.Exit}, Handed.{handed, handed_of}, Ending.{ending_line, exit_of}},
+  specs.Call.{rules_for, asked, events_of, end_in, is_sent_last, Comes, or_ended, move, Tells},
+  specs.Inner.CallSteps.{posts, sent_last, or_sent, wait_of, begun_at, endings, GainsLost, heard_step, ticked},
+  specs.{Inner.CallSteps.{AsksNothing, IsAlone, CarriesOn, Hears, Ticks, TicksLost, Underway}, Limits.most_turns},
+  specs.Asking.{Move, Asks, Ends, ForTime, ToSend, question_of, Follows, Plays, next_move, waits_in, turn_after},
+  proofs.{Asking.{last_push, follows_push, waits_push, turn_begins, turns_over}, CallEvents.carries_on},
+  proofs.{CallEvents.{ends_next, sends_next, carried_alone, submitted, begins, begins_sent}, Histories.gains_both},
+}
 
 -- ---- one open request
 

@@ -1,14 +1,10 @@
 -- The line of a call that met no fault: for a crate above.
 use Rattle.std.proofs.Common.{◌≡◌, ◌<◌, List, ℕ, Option, Result, Ok, Err, ap, arith}
 use Rattle.bac_tsm.specs.Events.{Outcome}
-use Rattle.bac_print.specs.{Checked.Took, declared.checked.Checked.Checked}
 use Rattle.bac_text.specs.declared.jobs.Call.{Call}
-use Rattle.bac_links.specs.{
-  Call.Tells,
-  Ending.{ending_line, exit_of, status_of},
-  History.Account,
-  declared.{exit.Exit.Exit, ending.Purpose.Purpose, fault.ToolFault.ToolFault},
-}
+use Rattle.bac_print.specs.{Checked.Took, declared.checked.Checked.Checked}
+use Rattle.bac_links.specs.{Call.Tells, Ending.{ending_line, exit_of, status_of}, History.Account}
+use Rattle.bac_links.specs.declared.{exit.Exit.Exit, ending.Purpose.Purpose, fault.ToolFault.ToolFault}
 
 -- with a status below 3 the writer took the line of how the request ended, and the status is that of this end
 pub line_of : {Origin W : Type 0} (purpose : Purpose) (call : Call) (contents : W → Option (List ℕ))

@@ -1,17 +1,10 @@
 -- A link over a socket: one entry more, and the calls for it.
-use Rattle.std.proofs.{
-  Common.{◌≡◌, ℕ, List, [], ◌∷◌, ◌++◌, append_assoc, refl, sym, ap, ◌∙◌, subst, Bool, false, Result, Ok, Err, OnOk},
-  Common.{is_ok, is_err, max},
-  lemmas.List.append-nil,
-}
+use Rattle.std.proofs.Common.{◌≡◌, ℕ, List, [], ◌∷◌, ◌++◌, append_assoc, refl, sym, ap, ◌∙◌}
+use Rattle.std.proofs.{Common.{subst, Bool, false, Result, Ok, Err, OnOk, is_ok, is_err, max}, lemmas.List.append-nil}
 use Rattle.bac_pdu.specs.Peer.{Station}
-use Rattle.bac_links.specs.{
-  SystemCall.SystemCall,
-  History.{Heard, Entry, Waited, Timed, Posted, Unposted, posted},
-  Socket.{Logs, Sends, Times, Waits, CallsFor, AreCallsFor, waits_behind, time_behind},
-  Keeps.{waits_behind_all, time_behind_all, Keeps},
-  declared.udp.Refused.Refused,
-}
+use Rattle.bac_links.specs.{SystemCall.SystemCall, History.{Heard, Entry, Waited, Timed, Posted, Unposted, posted}}
+use Rattle.bac_links.specs.Socket.{Logs, Sends, Times, Waits, CallsFor, AreCallsFor, waits_behind, time_behind}
+use Rattle.bac_links.specs.{Keeps.{waits_behind_all, time_behind_all, Keeps}, declared.udp.Refused.Refused}
 
 waits_more : (waits : ℕ) (xs : List Entry) (x : Entry)
     → waits_behind_all waits (xs ++ x ∷ []) ≡ waits_behind (waits_behind_all waits xs) x

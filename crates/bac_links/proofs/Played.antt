@@ -1,14 +1,10 @@
 -- A link in memory goes on as its scenes say.
-use Rattle.std.proofs.{
-  Common.{◌≡◌, ℕ, zero, suc, ◌+◌, ◌-◌, ◌^◌, ◌<◌, ◌≤◌, min, List, [], ◌∷◌, ◌++◌, append_assoc, length, slice_get},
-  Common.{Option, Some, None, Result, Ok, Err, OnOk, OnErr, refl, sym, ap, ◌∙◌, arith},
-  Math.{Logic.∥∥₁_elim, Seq.drop-nil},
-  lemmas.{List.append-nil, Option.{none-some, slice_get_within}},
-}
-use Rattle.std.specs.{
-  Coded.{Coded, Coded-set, coded_ℕ, coded_list, coded×, coded_option, code_by, ×_prop, Unit-prop},
-  Option.option_to_list,
-  Prelude.{drop, unwrap_or},
+use Rattle.std.{
+  proofs.Common.{◌≡◌, ℕ, zero, suc, ◌+◌, ◌-◌, ◌^◌, ◌<◌, ◌≤◌, min, List, [], ◌∷◌, ◌++◌, append_assoc},
+  proofs.Common.{length, slice_get, Option, Some, None, Result, Ok, Err, OnOk, OnErr, refl, sym, ap, ◌∙◌, arith},
+  proofs.{Math.{Logic.∥∥₁_elim, Seq.drop-nil}, lemmas.{List.append-nil, Option.{none-some, slice_get_within}}},
+  specs.Coded.{Coded, Coded-set, coded_ℕ, coded_list, coded×, coded_option, code_by, ×_prop, Unit-prop},
+  specs.{Option.option_to_list, Prelude.{drop, unwrap_or}},
 }
 use Rattle.bac_pdu.specs.Peer.{NetworkAddress, Station}
 use Rattle.bac_links.specs.{

@@ -1,26 +1,19 @@
 -- A call whose waits are prompt ends in time.
-use Rattle.std.proofs.{
-  lemmas.{Grind.common_steps, List.{take_all, take-append-le, append-nil}, Bool.cases_lt},
-  Common.{◌≡◌, ℕ, suc, ◌+◌, ◌*◌, ◌<◌, ◌≤◌, max, List, [], ◌∷◌, ◌++◌, length, Option, Some, None, Result, subst, arith},
-  Common.{ap, sym, ◌∙◌, inl, inr, refl},
-}
-use Rattle.std.specs.List.{last_or}
+use Rattle.std.proofs.lemmas.{Grind.common_steps, List.{take_all, take-append-le, append-nil}, Bool.cases_lt}
+use Rattle.std.proofs.Common.{◌≡◌, ℕ, suc, ◌+◌, ◌*◌, ◌<◌, ◌≤◌, max, List, [], ◌∷◌, ◌++◌, length, Option}
+use Rattle.std.{proofs.Common.{Some, None, Result, subst, arith, ap, sym, ◌∙◌, inl, inr, refl}, specs.List.last_or}
 use Rattle.bac_pdu.specs.Peer.{Station}
-use Rattle.bac_tsm.{
-  specs.{Positions.greatest_tick, Events.{Event, Tick}, Lookahead.clock},
-  proofs.Progress.{clock_rises, open_soon, never_due},
-}
-use Rattle.bac_print.specs.declared.checked.Checked.{Checked}
-use Rattle.bac_links.specs.{
-  History.{Heard, Silence, Arrival, Failure, Entry, Waited, Timed, Posted, Unposted, Account},
-  Asking.{Asks, Question, ForDatagram, ForTime, question_of, Follows, next_move, waits_in},
-  Handed.handed_of,
-  Call.{rules_for, asked, end_in, events_of, move, Tells},
-  Progress.{AreTold, ArePrompt},
-  declared.{ending.Purpose.Purpose, exit.Exit.Exit, fault.ToolFault.ToolFault},
-}
-use Rattle.bac_links.proofs.{Alike.went, Asking.{last_push, played}, CallTurns.handed_push}
+use Rattle.bac_tsm.specs.Positions.{greatest_tick}
+use Rattle.bac_tsm.{specs.{Events.{Event, Tick}, Lookahead.clock}, proofs.Progress.{clock_rises, open_soon, never_due}}
 use Rattle.bac_text.specs.declared.jobs.Call.{Call}
+use Rattle.bac_print.specs.declared.checked.Checked.{Checked}
+use Rattle.bac_links.{
+  specs.History.{Heard, Silence, Arrival, Failure, Entry, Waited, Timed, Posted, Unposted, Account},
+  specs.Asking.{Asks, Question, ForDatagram, ForTime, question_of, Follows, next_move, waits_in},
+  specs.{Handed.handed_of, Call.{rules_for, asked, end_in, events_of, move, Tells}},
+  specs.{Progress.{AreTold, ArePrompt}, declared.{ending.Purpose.Purpose, exit.Exit.Exit, fault.ToolFault.ToolFault}},
+  proofs.{Alike.went, Asking.{last_push, played}, CallTurns.handed_push},
+}
 
 -- ---- the clock over some events
 

@@ -1,24 +1,15 @@
 -- What a search sent is its Who-Is, once.
-use Rattle.std.proofs.{
-  Common.{◌≡◌, ◌⊎◌, ℕ, ◌<◌, List, [], ◌∷◌, ◌++◌, Option, Some, Result, Err, inl, inr, refl},
-  Common.arith,
-  lemmas.{List.{append-nil, append_cancel_left, length_push}, Bool.Decides.nat_tests},
-}
+use Rattle.std.proofs.Common.{◌≡◌, ◌⊎◌, ℕ, ◌<◌, List, [], ◌∷◌, ◌++◌, Option, Some, Result, Err, inl, inr, refl, arith}
+use Rattle.std.proofs.lemmas.{List.{append-nil, append_cancel_left, length_push}, Bool.Decides.nat_tests}
 use Rattle.bac_pdu.specs.Peer.{Station, station}
-use Rattle.bac_print.specs.declared.checked.Checked.{Checked}
-use Rattle.bac_links.specs.{
-  History.{Entry, Unposted, Account, GainsAll},
-  Asking.{Asks, Ends, ForTime, question_of, Follows, next_move, waits_in},
-  Search.{who_is_to, search_move, Searched},
-  Sent.{sent_in, AllSent},
-  declared.{exit.Exit.Exit, fault.ToolFault.ToolFault, fault.ToolFault.TheVariants.SendFailed},
-}
-use Rattle.bac_links.proofs.{
-  Asking.{followed, last_push, waits_push},
-  SearchesAlike.stops,
-  Sendings.{sending, IsSent, all_sent},
-}
 use Rattle.bac_text.specs.declared.jobs.Search.{Search}
+use Rattle.bac_print.specs.declared.checked.Checked.{Checked}
+use Rattle.bac_links.{
+  proofs.{Asking.{followed, last_push, waits_push}, SearchesAlike.stops, Sendings.{sending, IsSent, all_sent}},
+  specs.Asking.{Asks, Ends, ForTime, question_of, Follows, next_move, waits_in},
+  specs.{History.{Entry, Unposted, Account, GainsAll}, Search.{who_is_to, search_move, Searched}},
+  specs.{Sent.{sent_in, AllSent}, declared.{exit.Exit.Exit, fault.ToolFault.{ToolFault, TheVariants.SendFailed}}},
+}
 
 abbrev alone : List Entry → Station → List ℕ → Station × List ℕ
 alone before to octets = (to, octets)

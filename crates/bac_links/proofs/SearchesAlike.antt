@@ -1,20 +1,17 @@
 -- Two searches that are answered alike ask alike, end alike, and print one text.
-use Rattle.std.proofs.{
-  Common.{◌≡◌, ◌⊎◌, ℕ, List, [], ◌∷◌, ◌++◌, append_assoc, Option, Result, Ok, Err, refl, sym, ap, ◌∙◌, subst, flat_map},
-  Common.{inl, inr},
-  lemmas.{List.{append_cancel_left, append-nil}, List.Concat.flat_map-append},
+use Rattle.std.{
+  proofs.Common.{◌≡◌, ◌⊎◌, ℕ, List, [], ◌∷◌, ◌++◌, append_assoc, Option, Result, Ok, Err, refl, sym, ap, ◌∙◌},
+  proofs.{Common.{subst, flat_map, inl, inr}, lemmas.List.{append_cancel_left, append-nil, Concat.flat_map-append}},
 }
-use Rattle.bac_print.specs.{declared.checked.Checked.Checked, Checked.TakesFront}
-use Rattle.bac_links.specs.{
-  History.{Heard, Entry, Waited, Account},
-  Answered.{AskAlike, Printed, OneText},
-  Asking.{Asks, Ends, ForTime, question_of, Follows, next_move},
-  Search.{found_by, found_line, found_in, search_move, IsWhole, IsCutOff, Searched},
-  declared.exit.Exit.Exit,
-  declared.fault.{ToolFault.ToolFault, ToolFault.TheVariants.{SendFailed, ReceiveFailed, TurnsSpent, WriteFailed}},
-}
-use Rattle.bac_links.proofs.{Asking.{played, same_so_far, so_far}, Searches.behind_wait}
 use Rattle.bac_text.specs.declared.jobs.Search.{Search}
+use Rattle.bac_print.specs.{declared.checked.Checked.Checked, Checked.TakesFront}
+use Rattle.bac_links.{
+  specs.History.{Heard, Entry, Waited, Account},
+  specs.{Answered.{AskAlike, Printed, OneText}, Asking.{Asks, Ends, ForTime, question_of, Follows, next_move}},
+  specs.{Search.{found_by, found_line, found_in, search_move, IsWhole, IsCutOff, Searched}, declared.exit.Exit.Exit},
+  specs.declared.fault.ToolFault.{ToolFault, TheVariants.{SendFailed, ReceiveFailed, TurnsSpent, WriteFailed}},
+  proofs.{Asking.{played, same_so_far, so_far}, Searches.behind_wait},
+}
 
 module _ (search : Search) where
   abbrev lines_in : List Entry → List ℕ

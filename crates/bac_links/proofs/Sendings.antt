@@ -1,16 +1,10 @@
 -- What a tool sent is what was due, one thing after another.
-use Rattle.std.proofs.{
-  Common.{◌≡◌, ℕ, List, [], ◌∷◌, ◌++◌, Option, Some, Result, Err, refl, append_assoc, arith},
-  lemmas.List.append-nil,
-}
+use Rattle.std.proofs.Common.{◌≡◌, ℕ, List, [], ◌∷◌, ◌++◌, Option, Some, Result, Err, refl, append_assoc, arith}
+use Rattle.std.proofs.lemmas.List.{append-nil}
 use Rattle.bac_pdu.specs.Peer.{Station}
-use Rattle.bac_links.proofs.Asking.{last_push, followed}
-use Rattle.bac_links.specs.{
-  History.{Entry, Unposted},
-  Asking.{Move, Asks, Ends, ToSend, question_of, Follows, next_move},
-  Sent.{sent_behind, AllSent},
-  declared.fault.{ToolFault.ToolFault, ToolFault.TheVariants.SendFailed},
-}
+use Rattle.bac_links.{proofs.Asking.{last_push, followed}, specs.History.{Entry, Unposted}}
+use Rattle.bac_links.specs.Asking.{Move, Asks, Ends, ToSend, question_of, Follows, next_move}
+use Rattle.bac_links.specs.{Sent.{sent_behind, AllSent}, declared.fault.ToolFault.{ToolFault, TheVariants.SendFailed}}
 
 module _ {D : Type 0} (told : List Entry → Station → List ℕ → D) where
   sent_push : (before xs : List Entry) (x : Entry) → sent_behind told before (xs ++ x ∷ [])

@@ -1,24 +1,13 @@
 -- What a server sent is its replies; and how many datagrams it heard.
-use Rattle.std.proofs.{
-  Common.{◌≡◌, ◌≤◌, ◌<◌, ℕ, List, [], ◌∷◌, ◌++◌, length, Option, Some, Result, Ok, Err, IfOk, refl},
-  Common.{arith, length-append},
-  lemmas.{List.append-nil, List.Concat.flat_map-append, Bool.cases_Bool, Bool.Decides.nat_tests},
-}
-use Rattle.std.specs.{List.flat_map, Option.option_to_list}
+use Rattle.std.proofs.Common.{◌≡◌, ◌≤◌, ◌<◌, ℕ, List, [], ◌∷◌, ◌++◌, length, Option, Some, Result, Ok}
+use Rattle.std.proofs.{Common.{Err, IfOk, refl, arith, length-append}, lemmas.List.{append-nil, Concat.flat_map-append}}
+use Rattle.std.{proofs.lemmas.Bool.{cases_Bool, Decides.nat_tests}, specs.{List.flat_map, Option.option_to_list}}
 use Rattle.bac_pdu.specs.Peer.{Station}
-use Rattle.bac_device.specs.{Device.DeviceState}
-use Rattle.bac_links.specs.{
-  History.{Entry, Unposted},
-  Asking.{Asks, Ends, ForDatagram, question_of, Follows, next_move},
-  Sent.{sent_in, AllSent},
-  Serve.{arrivals_in, replies_of, serve_move},
-  declared.fault.{ToolFault.ToolFault, ToolFault.TheVariants.SendFailed},
-}
-use Rattle.bac_links.proofs.{
-  Asking.{last_push, PlaysAll, followed},
-  Sendings.{sending, all_sent},
-  Servings.{replies-append, arrivals-push},
-}
+use Rattle.bac_device.specs.Device.{DeviceState}
+use Rattle.bac_links.specs.{History.{Entry, Unposted}, declared.fault.ToolFault.{ToolFault, TheVariants.SendFailed}}
+use Rattle.bac_links.specs.{Asking.{Asks, Ends, ForDatagram, question_of, Follows, next_move}, Sent.{sent_in, AllSent}}
+use Rattle.bac_links.{specs.Serve.{arrivals_in, replies_of, serve_move}, proofs.Asking.{last_push, PlaysAll, followed}}
+use Rattle.bac_links.proofs.{Servings.{replies-append, arrivals-push}, Sendings.{sending, all_sent}}
 
 abbrev Datagram : Type 0
 Datagram = Station × List ℕ

@@ -1,25 +1,17 @@
 -- A device that serves, wait by wait.
-use Rattle.std.proofs.{
-  Common.{◌≡◌, ◌≢◌, ℕ, suc, ◌+◌, ◌<◌, List, [], ◌∷◌, ◌++◌, length, length-append, Option, Some, None, Result, Ok, Err},
-  Common.{refl, ap, ◌∙◌, arith, append_assoc},
-  lemmas.{List.append-nil, List.Concat.flat_map-append, Bool.lt-leb},
-}
-use Rattle.std.specs.List.{last_or}
+use Rattle.std.proofs.Common.{◌≡◌, ◌≢◌, ℕ, suc, ◌+◌, ◌<◌, List, [], ◌∷◌, ◌++◌, length}
+use Rattle.std.proofs.Common.{length-append, Option, Some, None, Result, Ok, Err, refl, ap, ◌∙◌, arith, append_assoc}
+use Rattle.std.{proofs.lemmas.{List.{append-nil, Concat.flat_map-append}, Bool.lt-leb}, specs.List.last_or}
 use Rattle.bac_pdu.specs.Peer.{Station}
 use Rattle.bac_device.specs.{Device.DeviceState, Turns.Arrival as Came, Reply.reply_of}
-use Rattle.bac_links.specs.{
-  Limits.{most_turns, serve_wait},
-  History.{Heard, Silence, Arrival, Failure, Entry, Waited, Posted, Account, GainsAll},
-  Asking.{Ends, ToSend, question_of, Follows, next_move, waits_in, turn_after},
-  Serve.{came_by, arrivals_in, device_next, device_behind, replies_of, reply_count, or_reply},
-  Serve.{serve_next, serve_move, Serves},
-  Inner.ServeSteps.{brought_by, came_in, replied_in, sends_of, LeavesDevice, ServesOne},
-  declared.serving.Brought.Brought,
-  declared.fault.{ToolFault.ToolFault, ToolFault.TheVariants.{SendFailed, ReceiveFailed, TurnsSpent}},
-}
-use Rattle.bac_links.proofs.{
-  Asking.{last_push, follows_push, waits_push, turn_begins, turns_over},
-  Histories.{gains_both, gains_none},
+use Rattle.bac_links.{
+  proofs.{Asking.{last_push, follows_push, waits_push, turn_begins, turns_over}, Histories.{gains_both, gains_none}},
+  specs.Asking.{Ends, ToSend, question_of, Follows, next_move, waits_in, turn_after},
+  specs.History.{Heard, Silence, Arrival, Failure, Entry, Waited, Posted, Account, GainsAll},
+  specs.Inner.ServeSteps.{brought_by, came_in, replied_in, sends_of, LeavesDevice, ServesOne},
+  specs.{Limits.{most_turns, serve_wait}, Serve.{came_by, arrivals_in, device_next, device_behind}},
+  specs.{Serve.{replies_of, reply_count, or_reply, serve_next, serve_move, Serves}, declared.fault.ToolFault.ToolFault},
+  specs.declared.{fault.ToolFault.TheVariants.{SendFailed, ReceiveFailed, TurnsSpent}, serving.Brought.Brought},
 }
 
 abbrev Reply : Type 0

@@ -1,11 +1,8 @@
 -- Two servers that are answered alike, over devices in the same state, ask and send alike, and end alike.
 use Rattle.std.proofs.Common.{◌≡◌, ℕ, List, ◌++◌, Result, sym, ap, ◌∙◌}
 use Rattle.bac_device.specs.Device.{DeviceState}
-use Rattle.bac_links.{
-  specs.{History.Entry, Answered.AskAlike, Serve.{arrivals_in, device_behind, serve_move, Serves}},
-  specs.declared.fault.ToolFault.ToolFault,
-  proofs.Asking.to_the_end,
-}
+use Rattle.bac_links.specs.{History.Entry, Answered.AskAlike, Serve.{arrivals_in, device_behind, serve_move, Serves}}
+use Rattle.bac_links.{specs.declared.fault.ToolFault.ToolFault, proofs.Asking.to_the_end}
 
 module _ (count : ℕ) (before after after' : DeviceState) where
   abbrev EndAlike : Result ℕ ToolFault → Result ℕ ToolFault → Type 0

@@ -1,12 +1,9 @@
 -- A call over a link whose history gained nothing has not ended.
 use Rattle.std.proofs.{Common.{◌≡◌, ℕ, List, [], Option, Ok, sym, ap, ◌∙◌}, lemmas.List.append-nil}
-use Rattle.bac_print.specs.declared.checked.Checked.{Checked}
-use Rattle.bac_links.{
-  specs.{History.Account, Asking.{Asks, Ends, ForTime, next_move}, Call.{move, Tells}, declared.ending.Purpose.Purpose},
-  specs.declared.exit.Exit.Exit,
-  proofs.Asking.played,
-}
 use Rattle.bac_text.specs.declared.jobs.Call.{Call}
+use Rattle.bac_print.specs.declared.checked.Checked.{Checked}
+use Rattle.bac_links.specs.{History.Account, Asking.{Asks, Ends, ForTime, next_move}, Call.{move, Tells}}
+use Rattle.bac_links.{specs.declared.{ending.Purpose.Purpose, exit.Exit.Exit}, proofs.Asking.played}
 
 pub not_ended : {Origin W : Type 0} (contents : W → Option (List ℕ)) (purpose : Purpose) (call : Call)
     (before after : Checked W)

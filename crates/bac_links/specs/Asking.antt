@@ -1,12 +1,9 @@
 -- How a tool goes on: by all that it was asked and answered, what it asks of its link next, or that it is over.
-use Rattle.std.specs.Prelude.{◌≡◌, ℕ, zero, suc, nat_lt, if◌then◌else◌, List, [], ◌∷◌, ◌++◌, ⊤, Option, None}
-use Rattle.std.specs.Prelude.{Result, Err}
-use Rattle.std.specs.List.{last_or}
+use Rattle.std.specs.Prelude.{◌≡◌, ℕ, zero, suc}
+use Rattle.std.specs.{Prelude.{nat_lt, if◌then◌else◌, List, [], ◌∷◌, ◌++◌, ⊤, Option, None, Result, Err}, List.last_or}
 use Rattle.bac_pdu.specs.Peer.{Station}
-use Rattle.bac_links.specs.Limits.{most_turns}
-use Rattle.bac_links.specs.History.{Entry, Waited, Timed, Posted, Unposted, Account, GainsAll}
-use Rattle.bac_links.specs.declared.fault.ToolFault.{ToolFault}
-use Rattle.bac_links.specs.declared.fault.ToolFault.TheVariants.{TurnsSpent}
+use Rattle.bac_links.specs.{Limits.most_turns, History.{Entry, Waited, Timed, Posted, Unposted, Account, GainsAll}}
+use Rattle.bac_links.specs.declared.fault.ToolFault.{ToolFault, TheVariants.TurnsSpent}
 
 -- What is asked of a link: a datagram, in a wait of so long; the time; that a datagram is sent.
 pub data Question : Type 0 where

@@ -1,25 +1,17 @@
 -- A call: one request, what it asks of its link, and how it ends.
-use Rattle.std.specs.Prelude.{◌≡◌, ℕ, ◌-◌, nat_eq, Bool, if◌then◌else◌, List, [], ◌∷◌, length, Option, Some, None}
-use Rattle.std.specs.Prelude.{Result, Ok, Err}
-use Rattle.std.specs.List.{list_any}
+use Rattle.std.specs.Prelude.{◌≡◌, ℕ, ◌-◌, nat_eq, Bool, if◌then◌else◌}
+use Rattle.std.specs.{Prelude.{List, [], ◌∷◌, length, Option, Some, None, Result, Ok, Err}, List.list_any}
 use Rattle.bac_pdu.specs.Peer.{station}
-use Rattle.bac_tsm.specs.Events.{Outcome, Event, Ask, Rules}
-use Rattle.bac_tsm.specs.Events.{request_of}
-use Rattle.bac_tsm.specs.Lookahead.{Accepted, End, accepted, end, sends}
-use Rattle.bac_tsm.specs.Client.{client_rules}
-use Rattle.bac_links.specs.Limits.{turn_wait}
-use Rattle.bac_links.specs.History.{Failure, Entry, Waited, Timed, Posted, Unposted, Account}
-use Rattle.bac_links.specs.Handed.{handed}
-use Rattle.bac_links.specs.Asking.{Move, Asks, Ends, ForTime, ToSend, Plays, waits_in, turn_after}
-use Rattle.bac_links.specs.declared.ending.Purpose.{Purpose}
-use Rattle.bac_links.specs.declared.ending.Purpose.TheVariants.{Reading, Writing}
+use Rattle.bac_tsm.specs.Events.{Outcome, Event, Ask, Rules, request_of}
+use Rattle.bac_tsm.specs.{Lookahead.{Accepted, End, accepted, end, sends}, Client.client_rules}
 use Rattle.bac_text.specs.declared.jobs.Call.{Call}
-use Rattle.bac_print.specs.declared.checked.Checked.{Checked}
-use Rattle.bac_print.specs.Checked.{Took, TakesFront}
-use Rattle.bac_links.specs.declared.exit.Exit.{Exit}
-use Rattle.bac_links.specs.Ending.{exit_of, ending_line}
-use Rattle.bac_links.specs.declared.fault.ToolFault.{ToolFault}
-use Rattle.bac_links.specs.declared.fault.ToolFault.TheVariants.{SendFailed, ReceiveFailed, WriteFailed}
+use Rattle.bac_print.specs.{declared.checked.Checked.Checked, Checked.{Took, TakesFront}}
+use Rattle.bac_links.{
+  specs.{Limits.turn_wait, History.{Failure, Entry, Waited, Timed, Posted, Unposted, Account}},
+  specs.{Handed.handed, Asking.{Move, Asks, Ends, ForTime, ToSend, Plays, waits_in, turn_after}},
+  specs.declared.{ending.Purpose.{Purpose, TheVariants.{Reading, Writing}}, exit.Exit.Exit, fault.ToolFault.ToolFault},
+  specs.{declared.fault.ToolFault.TheVariants.{SendFailed, ReceiveFailed, WriteFailed}, Ending.{exit_of, ending_line}},
+}
 
 -- The service choices of ReadProperty and WriteProperty (clause 21, BACnetConfirmedServiceChoice).
 abbrev pub service_of : Purpose → ℕ

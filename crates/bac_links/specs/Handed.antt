@@ -1,6 +1,5 @@
 -- What a client is handed of what a link was asked and answered.
-use Rattle.std.specs.Prelude.{List, [], ◌∷◌}
-use Rattle.std.specs.List.{flat_map}
+use Rattle.std.specs.{Prelude.{List, [], ◌∷◌}, List.flat_map}
 use Rattle.bac_tsm.specs.Events.{Event, Data, Tick}
 use Rattle.bac_links.specs.History.{Arrival, Entry, Waited, Timed}
 

@@ -1,7 +1,6 @@
 -- Where a link in memory stands behind all that it was asked.
 use Rattle.std.specs.Prelude.{◌≡◌, ℕ, List, [], ◌∷◌, drop}
-use Rattle.bac_links.specs.History.{Entry}
-use Rattle.bac_links.specs.Played.{Scene, ToPlay, at_first, behind, ArePlayed, Sending, sendings}
+use Rattle.bac_links.specs.{History.Entry, Played.{Scene, ToPlay, at_first, behind, ArePlayed, Sending, sendings}}
 
 abbrev pub behind_all : ToPlay → List Entry → ToPlay
 behind_all stage [] = stage

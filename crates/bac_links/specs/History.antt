@@ -1,7 +1,6 @@
 -- What a link was asked and answered, one thing after another; and what it was made of.
 use Rattle.std.specs.Prelude.{◌≡◌, ℕ, List, [], ◌∷◌, ◌++◌, Option, Some, None, Result, Ok, Err}
-use Rattle.bac_pdu.specs.declared.peer.Peer.{Peer}
-use Rattle.bac_pdu.specs.Peer.{Station, station}
+use Rattle.bac_pdu.specs.{declared.peer.Peer.Peer, Peer.{Station, station}}
 
 -- What a receive hears.
 pub data Heard : Type 0 where

@@ -1,9 +1,7 @@
 -- What holds of a link over a socket, behind all that it was asked.
 use Rattle.std.specs.Prelude.{◌≡◌, ℕ, Bool, false, List, [], ◌∷◌}
-use Rattle.bac_links.specs.SystemCall.{SystemCall}
-use Rattle.bac_links.specs.History.{Entry}
-use Rattle.bac_links.specs.Socket.{Logs, AreCallsFor, waits_behind, time_behind}
-use Rattle.bac_links.specs.declared.udp.Refused.{Refused}
+use Rattle.bac_links.specs.{SystemCall.SystemCall, History.Entry}
+use Rattle.bac_links.specs.{Socket.{Logs, AreCallsFor, waits_behind, time_behind}, declared.udp.Refused.Refused}
 
 -- How long the receives wait behind these entries, and the time.
 abbrev pub waits_behind_all : ℕ → List Entry → ℕ

@@ -1,8 +1,6 @@
 -- The calls that are noted of a socket.
 use Rattle.std.specs.Prelude.{length, take, is_ok}
-use Rattle.std.specs.Result.{result_ok, result_map_both}
-use Rattle.std.specs.IoError.{error_kind}
-use Rattle.std.specs.Duration.{as_nanos}
+use Rattle.std.specs.{Result.{result_ok, result_map_both}, IoError.error_kind, Duration.as_nanos}
 use Rattle.bac_links.specs.SystemCall.{SystemCall, Bind, Limit, SendTo, Receive, Elapsed}
 use Rattle.bac_links.specs.declared.history.CallNote.{CallNote}
 use Rattle.bac_links.specs.declared.history.CallNote.TheVariants as note

@@ -1,14 +1,10 @@
 -- The scenes that the steps of a link in memory are, and what contracts see of such a link.
 use Rattle.std.specs.Prelude.{ℕ, List, map, length, nat_le, if◌then◌else◌, Some, None}
 use Rattle.bac_pdu.specs.Peer.{Station, station}
-use Rattle.bac_links.specs.Limits.{longest_datagram}
-use Rattle.bac_links.specs.History.{Heard, Silence, Arrival, Failure, Entry, Account}
+use Rattle.bac_links.specs.{Limits.longest_datagram, History.{Heard, Silence, Arrival, Failure, Entry, Account}}
 use Rattle.bac_links.specs.Played.{Scene, at_first, ArePlayed, Sending, sendings}
-use Rattle.bac_links.specs.declared.memory.Step.{Step}
-use Rattle.bac_links.specs.declared.memory.Step.TheVariants.{Quiet, Packet, Broken}
-use Rattle.bac_links.specs.declared.memory.Kept.{Kept}
+use Rattle.bac_links.specs.declared.memory.{Step.{Step, TheVariants.{Quiet, Packet, Broken}}, Kept.Kept, Record.Record}
 use Rattle.bac_links.specs.declared.memory.Kept.TheVariants as kept
-use Rattle.bac_links.specs.declared.memory.Record.{Record}
 
 -- The address and the port of a station.
 abbrev pub unrouted : Station → Station

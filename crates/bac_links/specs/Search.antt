@@ -1,28 +1,20 @@
 -- A search for devices: what it asks of its link, which devices it finds, what it prints, and when it ends.
-use Rattle.std.specs.Prelude.{◌≡◌, ℕ, zero, suc, ◌-◌, nat_le, nat_lt, max, ◌==◌, false, List, [], ◌∷◌, ◌++◌, length}
-use Rattle.std.specs.Prelude.{decimal, if◌then◌else◌, Option, Some, None, Result, Ok, Err}
-use Rattle.std.specs.Option.{option_to_list}
-use Rattle.std.specs.List.{flat_map}
+use Rattle.std.{
+  specs.Prelude.{◌≡◌, ℕ, zero, suc, ◌-◌, nat_le, nat_lt, max, ◌==◌, false, List, [], ◌∷◌, ◌++◌, length},
+  specs.{Prelude.{decimal, if◌then◌else◌, Option, Some, None, Result, Ok, Err}, Option.option_to_list, List.flat_map},
+}
 use Rattle.bac_wire.specs.Steps.{◌>>=◌}
-use Rattle.bac_print.specs.declared.checked.Checked.{Checked}
-use Rattle.bac_print.specs.Checked.{Took}
-use Rattle.bac_pdu.specs.declared.discovery.WhoIs.{WhoIs}
-use Rattle.bac_pdu.specs.Peer.{Station, station}
-use Rattle.bac_pdu.specs.Apdu.{Message, laid_out, unconfirmed}
-use Rattle.bac_pdu.specs.ApduReading.{apdu_of}
-use Rattle.bac_pdu.specs.Datagram.{wrapped}
-use Rattle.bac_pdu.specs.DatagramReading.{carried}
-use Rattle.bac_pdu.specs.Discovery.{Introduction, asks, who_is_octets}
-use Rattle.bac_pdu.specs.ValueReading.{introduction_of}
-use Rattle.bac_print.specs.PeerTexts.{peer_text}
-use Rattle.bac_links.specs.Limits.{turn_wait}
-use Rattle.bac_links.specs.History.{Heard, Arrival, Failure, Entry, Waited, Timed, Posted, Unposted, Account, GainsAll}
-use Rattle.bac_links.specs.Asking.{Move, Asks, Ends, ForTime, ToSend, Follows, Plays, waits_in, times_in, turn_after}
-use Rattle.bac_links.specs.declared.exit.Exit.{Exit}
-use Rattle.bac_links.specs.declared.exit.Exit.TheVariants.{Good, Bad}
-use Rattle.bac_links.specs.declared.fault.ToolFault.{ToolFault}
-use Rattle.bac_links.specs.declared.fault.ToolFault.TheVariants.{SendFailed, ReceiveFailed, WriteFailed}
+use Rattle.bac_pdu.specs.{Apdu.{Message, laid_out, unconfirmed}, ApduReading.apdu_of}
+use Rattle.bac_pdu.specs.{Datagram.wrapped, DatagramReading.carried, Discovery.{Introduction, asks, who_is_octets}}
+use Rattle.bac_pdu.specs.{Peer.{Station, station}, ValueReading.introduction_of, declared.discovery.WhoIs.WhoIs}
 use Rattle.bac_text.specs.declared.jobs.Search.{Search}
+use Rattle.bac_print.specs.{declared.checked.Checked.Checked, Checked.Took, PeerTexts.peer_text}
+use Rattle.bac_links.{
+  specs.Asking.{Move, Asks, Ends, ForTime, ToSend, Follows, Plays, waits_in, times_in, turn_after},
+  specs.History.{Heard, Arrival, Failure, Entry, Waited, Timed, Posted, Unposted, Account, GainsAll},
+  specs.{Limits.turn_wait, declared.exit.Exit.{Exit, TheVariants.{Good, Bad}}},
+  specs.declared.fault.ToolFault.{ToolFault, TheVariants.{SendFailed, ReceiveFailed, WriteFailed}},
+}
 
 -- A device that introduced itself, and where it is.
 pub record Found : Type 0 where

@@ -1,16 +1,11 @@
 -- A device that answers what comes over a link.
 use Rattle.std.specs.Prelude.{◌≡◌, ℕ, nat_le, if◌then◌else◌, List, [], ◌∷◌, length, Option, Some, None, Result, Ok, Err}
-use Rattle.std.specs.Option.{option_to_list}
-use Rattle.std.specs.List.{flat_map, last_or}
+use Rattle.std.specs.{Option.option_to_list, List.{flat_map, last_or}}
 use Rattle.bac_pdu.specs.Peer.{Station}
-use Rattle.bac_device.specs.Device.{DeviceState}
-use Rattle.bac_device.specs.Reply.{reply_of, write_in_datagram, with_write}
-use Rattle.bac_device.specs.Turns.{Arrival as Came}
-use Rattle.bac_links.specs.Limits.{serve_wait}
-use Rattle.bac_links.specs.History.{Arrival, Failure, Entry, Waited, Unposted, Account}
+use Rattle.bac_device.specs.{Device.DeviceState, Reply.{reply_of, write_in_datagram, with_write}, Turns.Arrival as Came}
+use Rattle.bac_links.specs.{Limits.serve_wait, History.{Arrival, Failure, Entry, Waited, Unposted, Account}}
 use Rattle.bac_links.specs.Asking.{Move, Asks, Ends, ToSend, Plays, waits_in, turn_after}
-use Rattle.bac_links.specs.declared.fault.ToolFault.{ToolFault}
-use Rattle.bac_links.specs.declared.fault.ToolFault.TheVariants.{SendFailed, ReceiveFailed}
+use Rattle.bac_links.specs.declared.fault.ToolFault.{ToolFault, TheVariants.{SendFailed, ReceiveFailed}}
 
 -- The datagram that came by an entry, if one did.
 abbrev pub came_by : Entry → List Came

@@ -1,24 +1,16 @@
 -- What a link asks of a socket and its clock, and what it makes of the answers.
-use Rattle.std.specs.Prelude.{◌≡◌, ◌≢◌, ◌⊎◌, ℕ, ◌+◌, ◌*◌, ◌/◌, ◌-◌, ◌^◌, ◌==◌, ◌||◌, max, min, Bool, true, false}
-use Rattle.std.specs.Prelude.{List, [], ◌∷◌, ◌++◌, length, nat_le, Option, Some, None, Result, Ok, Err, if◌then◌else◌}
-use Rattle.std.specs.Duration.{as_nanos}
-use Rattle.std.specs.Net.Addr.{ipv4_bits, IsIpv4OfBits}
-use Rattle.std.specs.Net.Socket.{v4_ip, v4_port}
-use Rattle.std.specs.Option.{option_map_or}
-use Rattle.std.specs.declared.time.Duration.{Duration}
-use Rattle.std.specs.declared.io.ErrorKind.{ErrorKind}
-use Rattle.std.specs.declared.io.ErrorKind.TheVariants.{WouldBlock, TimedOut, Interrupted, ConnectionRefused}
-use Rattle.std.specs.declared.io.ErrorKind.TheVariants.{ConnectionReset, HostUnreachable, NetworkUnreachable}
-use Rattle.std.specs.declared.net.socket_addr.SocketAddr.{SocketAddr}
-use Rattle.std.specs.declared.net.socket_addr.SocketAddr.TheVariants.{V4, V6}
-use Rattle.bac_pdu.specs.Peer.{Station, station}
-use Rattle.bac_pdu.specs.declared.peer.Peer.{Peer}
-use Rattle.bac_links.specs.History.{Heard, Silence, Arrival, Failure, Entry, Waited, Timed, Posted, Unposted}
-use Rattle.bac_links.specs.History.{Account}
-use Rattle.bac_links.specs.Limits.{longest_datagram}
-use Rattle.bac_links.specs.SystemCall.{SystemCall, Bind, Limit, SendTo, Receive, Elapsed}
-use Rattle.bac_links.specs.declared.udp.Refused.{Refused}
-use Rattle.bac_links.specs.declared.udp.Refused.TheVariants.{Fails, IsLost}
+use Rattle.std.{
+  specs.Prelude.{◌≡◌, ◌≢◌, ◌⊎◌, ℕ, ◌+◌, ◌*◌, ◌/◌, ◌-◌, ◌^◌, ◌==◌, ◌||◌, max, min, Bool},
+  specs.Prelude.{true, false, List, [], ◌∷◌, ◌++◌, length, nat_le, Option, Some, None, Result, Ok, Err, if◌then◌else◌},
+  specs.{Duration.as_nanos, Net.{Addr.{ipv4_bits, IsIpv4OfBits}, Socket.{v4_ip, v4_port}}, Option.option_map_or},
+  specs.declared.{time.Duration.Duration, io.ErrorKind.{ErrorKind, TheVariants.{WouldBlock, TimedOut, Interrupted}}},
+  specs.declared.io.ErrorKind.TheVariants.{ConnectionRefused, ConnectionReset, HostUnreachable, NetworkUnreachable},
+  specs.declared.net.socket_addr.SocketAddr.{SocketAddr, TheVariants.{V4, V6}},
+}
+use Rattle.bac_pdu.specs.{Peer.{Station, station}, declared.peer.Peer.Peer}
+use Rattle.bac_links.specs.History.{Heard, Silence, Arrival, Failure, Entry, Waited, Timed, Posted, Unposted, Account}
+use Rattle.bac_links.specs.{Limits.longest_datagram, SystemCall.{SystemCall, Bind, Limit, SendTo, Receive, Elapsed}}
+use Rattle.bac_links.specs.declared.udp.Refused.{Refused, TheVariants.{Fails, IsLost}}
 
 -- Between these two logs the system was asked for something of which this holds.
 pub record Logs (Are : List SystemCall → Type 0) (before after : List SystemCall) : Type 0 where

@@ -1,8 +1,6 @@
 -- What the system was asked.
 use Rattle.std.specs.Prelude.{ℕ, Bool, List, Option, Result}
-use Rattle.std.specs.declared.time.Duration.{Duration}
-use Rattle.std.specs.declared.io.ErrorKind.{ErrorKind}
-use Rattle.std.specs.declared.net.socket_addr.SocketAddr.{SocketAddr}
+use Rattle.std.specs.declared.{time.Duration.Duration, io.ErrorKind.ErrorKind, net.socket_addr.SocketAddr.SocketAddr}
 
 -- One call of the system, with its answer: a socket at this address; that its receives wait at most so long from now
 -- on, and whether that was done; a datagram for an address, and how many of its octets went, unless it was refused; a

@@ -1,20 +1,15 @@
 //! One request to one peer, and its end.
 ghost use Rattle.std.specs.Prelude.{◌≡◌, ◌≢◌, ◌<◌, ℕ, suc, false, [], MatchOption, Ok, Err, IfOk, IfErr, OnOk, OnErr};
 ghost use Rattle.std.specs.Option.{option_map};
-ghost use Rattle.bac_tsm.specs.Machine.{sent};
-ghost use Rattle.bac_tsm.specs.Client.{outcome_seen};
-ghost use Rattle.bac_print.specs.Checked.{has_failed};
-ghost use Rattle.bac_links.specs.Limits.{most_turns};
-ghost use Rattle.bac_links.specs.History.{Failure, Waited, Account, GainsAll, Gains};
-ghost use Rattle.bac_links.specs.Fault.{is_link_fault, is_write_fault};
-ghost use Rattle.bac_links.specs.Inner.Ending.{ending_seen};
-ghost use Rattle.bac_links.specs.Asking.{Plays};
-ghost use Rattle.bac_links.specs.Call.{Tells, move, service_of};
-ghost use Rattle.bac_links.specs.Inner.CallSteps.{posts, wait_of, GainsLost, Hears, IsAlone, Ticks, TicksLost};
-ghost use Rattle.bac_links.specs.Inner.CallSteps.{Underway};
-ghost use Rattle.bac_links.specs.declared.ending.Purpose.{Purpose};
-ghost use Rattle.bac_links.specs.declared.ending.Purpose.TheVariants.{Reading, Writing};
+ghost use Rattle.bac_tsm.specs.{Machine.sent, Client.outcome_seen};
 ghost use Rattle.bac_text.specs.declared.jobs.Call.{Call};
+ghost use Rattle.bac_print.specs.Checked.{has_failed};
+ghost use Rattle.bac_links.{
+  specs.{Limits.most_turns, History.{Failure, Waited, Account, GainsAll, Gains}},
+  specs.{Fault.{is_link_fault, is_write_fault}, Inner.Ending.ending_seen},
+  specs.{Inner.CallSteps.{posts, wait_of, GainsLost, Hears, IsAlone, Ticks, TicksLost, Underway}, Asking.Plays},
+  specs.{Call.{Tells, move, service_of}, declared.ending.Purpose.{Purpose, TheVariants.{Reading, Writing}}},
+};
 
 use crate::datagram::Datagram;
 use crate::ending::{Ending, Purpose, show_ending};

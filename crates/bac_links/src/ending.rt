@@ -1,13 +1,9 @@
 //! How a call ends, and what is printed of that.
 ghost use Rattle.std.specs.Prelude.{◌≡◌, codes, false, is_err, is_some, if◌then◌else◌, IfOk, IfErr};
 ghost use Rattle.std.specs.Option.{option_map_or};
-ghost use Rattle.bac_print.specs.Checked.{has_failed, TookOrFailed};
-ghost use Rattle.bac_print.specs.Page.{Prints};
-ghost use Rattle.bac_print.specs.Values.{region_text};
-ghost use Rattle.bac_pdu.specs.Property.{ReadAck};
-ghost use Rattle.bac_pdu.specs.PropertyReading.{ack_of};
-ghost use Rattle.bac_links.specs.Ending.{ending_text, ending_line, exit_of};
-ghost use Rattle.bac_links.specs.Inner.Ending.{ending_seen};
+ghost use Rattle.bac_pdu.specs.{Property.ReadAck, PropertyReading.ack_of};
+ghost use Rattle.bac_print.specs.{Checked.{has_failed, TookOrFailed}, Page.Prints, Values.region_text};
+ghost use Rattle.bac_links.specs.{Ending.{ending_text, ending_line, exit_of}, Inner.Ending.ending_seen};
 
 use crate::exit::Exit;
 use crate::fault::ToolFault;

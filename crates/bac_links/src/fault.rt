@@ -1,8 +1,7 @@
 //! Why a tool could not go on.
 ghost use Rattle.std.specs.Prelude.{◌≡◌};
 ghost use Rattle.bac_print.specs.Message.{message_text};
-ghost use Rattle.bac_links.specs.Fault.{tool_fault_text};
-ghost use Rattle.bac_links.specs.declared.fault.ToolFault.TheVariants.{WriteFailed};
+ghost use Rattle.bac_links.specs.{Fault.tool_fault_text, declared.fault.ToolFault.TheVariants.WriteFailed};
 
 use bac_print::{Message, WriteFailed as NotWritten};
 use thiserror::Error;

@@ -1,33 +1,21 @@
 //! What holds of the definitions that the contracts cite, and of the public types. Each function has an empty body, and
 //! its clauses are the laws.
 
-ghost use Rattle.std.specs.Prelude.{◌≡◌, ◌≢◌, ◌≤◌, ◌+◌, ◌*◌, ◌++◌, ℕ, suc, ⊤, List, [], ◌∷◌, length, Result, Ok};
-ghost use Rattle.std.specs.Prelude.{Err, IfOk};
-ghost use Rattle.std.specs.List.{flat_map};
-ghost use Rattle.std.specs.Option.{option_to_list};
+ghost use Rattle.std.specs.Prelude.{◌≡◌, ◌≢◌, ◌≤◌, ◌+◌, ◌*◌, ◌++◌, ℕ, suc, ⊤, List};
+ghost use Rattle.std.specs.{Prelude.{[], ◌∷◌, length, Result, Ok, Err, IfOk}, List.flat_map, Option.option_to_list};
 ghost use Rattle.bac_wire.specs.Copies.{MakesCopies, EqualsBy};
-ghost use Rattle.bac_pdu.specs.Apdu.{longest_body};
-ghost use Rattle.bac_pdu.specs.Peer.{station};
-ghost use Rattle.bac_device.specs.Places.{Write as Change};
-ghost use Rattle.bac_device.specs.Device.{DeviceState, points_of, Holds};
-ghost use Rattle.bac_device.specs.Turns.{AreDefined, replies_to};
+ghost use Rattle.bac_pdu.specs.{Apdu.longest_body, Peer.station};
+ghost use Rattle.bac_device.{
+  specs.{Places.Write as Change, Device.{DeviceState, points_of, Holds}, Turns.{AreDefined, replies_to}},
+};
+ghost use Rattle.bac_text.specs.declared.jobs.{Call.Call, Search.Search};
 ghost use Rattle.bac_print.specs.declared.checked.Checked.{Checked};
-ghost use Rattle.bac_text.specs.declared.jobs.Call.{Call};
-ghost use Rattle.bac_text.specs.declared.jobs.Search.{Search};
-ghost use Rattle.bac_links.specs.Limits.{longest_datagram};
-ghost use Rattle.bac_links.specs.History.{Entry, Account};
-ghost use Rattle.bac_links.specs.Answered.{AskAlike, OneText};
-ghost use Rattle.bac_links.specs.Asking.{waits_in};
-ghost use Rattle.bac_links.specs.Call.{IsAccepted, Tells, events_of};
-ghost use Rattle.bac_links.specs.Memory.{PlaysItsScenes};
-ghost use Rattle.bac_links.specs.Progress.{AreTold, ArePrompt};
-ghost use Rattle.bac_links.specs.Search.{Searched, who_is_to};
-ghost use Rattle.bac_links.specs.Sent.{sent_in, sent_at, sends_of_call, AllSent};
-ghost use Rattle.bac_links.specs.Serve.{arrivals_in, replies_of, Serves};
-ghost use Rattle.bac_links.specs.Socket.{LogsHistory};
-ghost use Rattle.bac_links.specs.declared.ending.Purpose.{Purpose};
-ghost use Rattle.bac_links.specs.declared.exit.Exit.{Exit as Ended};
-ghost use Rattle.bac_links.specs.declared.fault.ToolFault.{ToolFault as Fault};
+ghost use Rattle.bac_links.{
+  specs.{Answered.{AskAlike, OneText}, Asking.waits_in, Call.{IsAccepted, Tells, events_of}, History.{Entry, Account}},
+  specs.{Limits.longest_datagram, Memory.PlaysItsScenes, Progress.{AreTold, ArePrompt}, Search.{Searched, who_is_to}},
+  specs.{Sent.{sent_in, sent_at, sends_of_call, AllSent}, Serve.{arrivals_in, replies_of, Serves}, Socket.LogsHistory},
+  specs.declared.{ending.Purpose.Purpose, exit.Exit.Exit as Ended, fault.ToolFault.ToolFault as Fault},
+};
 
 use crate::datagram::DATAGRAM_OCTETS;
 use crate::ending::Purpose as Aim;

@@ -1,14 +1,12 @@
 //! A link in memory.
-ghost use Rattle.std.specs.Prelude.{◌≡◌, ◌++◌, ◌∷◌, [], false, length, map, IfOk, OnOk, OnErr, is_err, slice_get};
-ghost use Rattle.std.specs.Prelude.{IfNone, IfSome, IsTrue, List, MatchOption, Some, None};
-ghost use Rattle.std.specs.Option.{option_map, option_flatten, option_to_list};
-ghost use Rattle.std.specs.Result.{result_ok};
+ghost use Rattle.std.specs.Prelude.{◌≡◌, ◌++◌, ◌∷◌, [], false, length, map, IfOk, OnOk};
+ghost use Rattle.std.specs.Prelude.{OnErr, is_err, slice_get, IfNone, IfSome, IsTrue, List, MatchOption, Some, None};
+ghost use Rattle.std.specs.{Option.{option_map, option_flatten, option_to_list}, Result.result_ok};
 ghost use Rattle.bac_pdu.specs.Peer.{station};
-ghost use Rattle.bac_links.specs.History.{heard_by, Waited, Timed, Gains, posted};
-ghost use Rattle.bac_links.specs.Memory.{account_of, account_with, scene_of_step, scene_of_kept, sent_by, sending_of};
-ghost use Rattle.bac_links.specs.Memory.{unrouted};
-ghost use Rattle.bac_links.specs.Played.{Scene, heard_next, behind_wait};
-ghost use Rattle.bac_links.specs.HasPlayed.{HasPlayed};
+ghost use Rattle.bac_links.{
+  specs.{HasPlayed.HasPlayed, History.{heard_by, Waited, Timed, Gains, posted}, Memory.{account_of, account_with}},
+  specs.{Memory.{scene_of_step, scene_of_kept, sent_by, sending_of, unrouted}, Played.{Scene, heard_next, behind_wait}},
+};
 
 use crate::datagram::Datagram;
 use crate::history::{Asking, History};

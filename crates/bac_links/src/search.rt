@@ -1,14 +1,11 @@
 //! The search for devices.
-ghost use Rattle.std.specs.Prelude.{◌≡◌, ◌<◌, false, is_err, IfErr};
-ghost use Rattle.std.specs.Option.{option_map};
+ghost use Rattle.std.specs.{Prelude.{◌≡◌, ◌<◌, false, is_err, IfErr}, Option.option_map};
 ghost use Rattle.bac_pdu.specs.Peer.{station};
-ghost use Rattle.bac_print.specs.Checked.{has_failed, TookOrFailed};
-ghost use Rattle.bac_print.specs.Page.{Prints};
-ghost use Rattle.bac_links.specs.History.{Gains, posted};
-ghost use Rattle.bac_links.specs.Fault.{is_link_fault, is_write_fault};
-ghost use Rattle.bac_links.specs.Search.{found_of, found_line, who_is_to, Searched};
-ghost use Rattle.bac_links.specs.Inner.Search.{found_seen, who_is_datagram};
-ghost use Rattle.bac_links.specs.Inner.SearchSteps.{Listens};
+ghost use Rattle.bac_print.specs.{Checked.{has_failed, TookOrFailed}, Page.Prints};
+ghost use Rattle.bac_links.{
+  specs.{Fault.{is_link_fault, is_write_fault}, History.{Gains, posted}, Inner.Search.{found_seen, who_is_datagram}},
+  specs.{Inner.SearchSteps.Listens, Search.{found_of, found_line, who_is_to, Searched}},
+};
 
 use crate::datagram::Datagram;
 use crate::exit::Exit;

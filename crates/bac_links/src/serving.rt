@@ -1,8 +1,6 @@
 //! A device that answers what comes over a link.
 ghost use Rattle.std.specs.Prelude.{◌≡◌, ◌≤◌, false};
-ghost use Rattle.bac_links.specs.Fault.{is_link_fault};
-ghost use Rattle.bac_links.specs.Serve.{Serves};
-ghost use Rattle.bac_links.specs.Inner.ServeSteps.{came_in, replied_in, ServesOne};
+ghost use Rattle.bac_links.specs.{Fault.is_link_fault, Serve.Serves, Inner.ServeSteps.{came_in, replied_in, ServesOne}};
 
 use crate::datagram::Datagram;
 use crate::fault::ToolFault;

@@ -1,9 +1,6 @@
 //! A UDP socket and its clock, and that of the system.
-ghost use Rattle.std.specs.Prelude.{◌≡◌, ◌≤◌, ◌∷◌, ◌++◌, [], IfOk, length, is_ok, take};
-ghost use Rattle.std.specs.Duration.{as_nanos};
-ghost use Rattle.std.specs.Io.{WritesAtMost};
-ghost use Rattle.std.specs.IoError.{error_kind};
-ghost use Rattle.std.specs.Result.{result_ok, result_map_both};
+ghost use Rattle.std.specs.{Prelude.{◌≡◌, ◌≤◌, ◌∷◌, ◌++◌, [], IfOk, length, is_ok, take}, Duration.as_nanos};
+ghost use Rattle.std.specs.{Io.WritesAtMost, IoError.error_kind, Result.{result_ok, result_map_both}};
 ghost use Rattle.bac_links.specs.SystemCall.{Bind, Limit, SendTo, Receive, Elapsed};
 
 use crate::history::{CallNote, Log};

@@ -1,15 +1,14 @@
 //! A link over a UDP socket.
-ghost use Rattle.std.specs.Prelude.{◌≡◌, ◌≢◌, ◌+◌, ◌*◌, ◌++◌, [], None, IfOk, IfNone, IfSome, MatchOption};
-ghost use Rattle.std.specs.Prelude.{OnOk, OnErr, length, Ok, false, is_ok, is_err, max, vec_len};
-ghost use Rattle.std.specs.Duration.{as_nanos};
-ghost use Rattle.std.specs.Option.{option_flatten};
-ghost use Rattle.std.specs.Result.{result_ok};
+ghost use Rattle.std.{
+  specs.Prelude.{◌≡◌, ◌≢◌, ◌+◌, ◌*◌, ◌++◌, [], None, IfOk, IfNone, IfSome, MatchOption, OnOk, OnErr, length},
+  specs.{Prelude.{Ok, false, is_ok, is_err, max, vec_len}, Duration.as_nanos, Option.option_flatten, Result.result_ok},
+};
 ghost use Rattle.bac_pdu.specs.Peer.{station};
-ghost use Rattle.bac_links.specs.Limits.{longest_datagram};
-ghost use Rattle.bac_links.specs.History.{heard_by, Waited, Timed, Gains, posted};
-ghost use Rattle.bac_links.specs.Socket.{IsAddressOf, heard_from, is_quiet, peer_at, time_by};
-ghost use Rattle.bac_links.specs.Socket.{Logs, Binds, Sends, Times, Waits, OverSocket, limits, account_over};
-ghost use Rattle.bac_links.specs.Keeps.{Keeps};
+ghost use Rattle.bac_links.{
+  specs.Limits.longest_datagram,
+  specs.{History.{heard_by, Waited, Timed, Gains, posted}, Socket.{IsAddressOf, heard_from, is_quiet}},
+  specs.{Socket.{peer_at, time_by, Logs, Binds, Sends, Times, Waits, OverSocket, limits, account_over}, Keeps.Keeps},
+};
 
 use crate::datagram::{DATAGRAM_OCTETS, Datagram};
 use crate::history::{Asking, History};

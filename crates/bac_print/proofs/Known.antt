@@ -1,23 +1,15 @@
 -- What several reads or writes in a row do to known octets.
-use Rattle.std.proofs.{
-  Common.{arith, ◌≡◌, ◌≢◌, ℕ, Bool, false, ◌||◌, List, [], ◌∷◌, ◌++◌, length, drop, Option, Result, refl, append_assoc},
-  Common.{take, ◌+◌, zero, suc, Ok, Err, ap, ◌∙◌, fold, count_by, cond},
-  lemmas.{List.{append-nil, take-append-drop}, List.Sums.fold-append, Grind.flat_map-append},
-}
-use Rattle.std.specs.{
-  Prelude.{is_err, if◌then◌else◌},
-  Result.result_unwrap_or,
-  declared.io.Error.Error,
-  Io.KnownBytes.{Keeps, Appends, Consumes, WriteAppends},
+use Rattle.std.{
+  proofs.Common.{arith, ◌≡◌, ◌≢◌, ℕ, Bool, false, ◌||◌, List, [], ◌∷◌, ◌++◌, length, drop},
+  proofs.Common.{Option, Result, refl, append_assoc, take, ◌+◌, zero, suc, Ok, Err, ap, ◌∙◌, fold, count_by, cond},
+  proofs.lemmas.{List.{append-nil, take-append-drop, Sums.fold-append}, Grind.flat_map-append},
+  specs.Prelude.{is_err, if◌then◌else◌},
+  specs.{Result.result_unwrap_or, declared.io.Error.Error, Io.KnownBytes.{Keeps, Appends, Consumes, WriteAppends}},
 }
 use Rattle.bac_wire.specs.Steps.{result_seen}
-use Rattle.bac_print.specs.{
-  declared.checked.Checked.Checked,
-  Inner.Checked.HasNotRead,
-  StreamCall.{StreamCall, ReadCall, WriteCall, FlushCall},
-  Checked.{inner_of, calls_of, has_failed, has_ended, ended_then, ends_of, meets_end, octets_of, passes_none, gone},
-  Checked.{OnlyWrites, Took, Gave},
-}
+use Rattle.bac_print.specs.Checked.{inner_of, calls_of, has_failed, has_ended, ended_then, ends_of, meets_end}
+use Rattle.bac_print.specs.{Checked.{octets_of, passes_none, gone, OnlyWrites, Took, Gave}, Inner.Checked.HasNotRead}
+use Rattle.bac_print.specs.{StreamCall.{StreamCall, ReadCall, WriteCall, FlushCall}, declared.checked.Checked.Checked}
 
 -- ---- one call more
 

@@ -1,14 +1,9 @@
 -- What several prints in a row come to.
-use Rattle.std.proofs.{
-  Common.{◌≡◌, ℕ, List, [], ◌∷◌, ◌++◌, Option, arith, refl, sym, ◌∙◌, ap, append_assoc, inl, inr},
-  lemmas.{List.{append-nil, take-append-drop}, Bool.Decides.nat_tests, Bool.{cases_Bool, false≢true}},
-}
-use Rattle.bac_print.{
-  specs.declared.{checked.Checked.Checked, page.Page.Page},
-  specs.{Checked.has_failed, Page.{Writes, Wrote, Prints}},
-  proofs.Known.Took-more,
-}
+use Rattle.std.proofs.Common.{◌≡◌, ℕ, List, [], ◌∷◌, ◌++◌, Option, arith, refl, sym, ◌∙◌, ap, append_assoc, inl, inr}
+use Rattle.std.proofs.lemmas.{List.{append-nil, take-append-drop}, Bool.{cases_Bool, false≢true, Decides.nat_tests}}
 use Rattle.hex.specs.Hex.{encode_with, encode_lower}
+use Rattle.bac_print.specs.declared.{checked.Checked.Checked, page.Page.Page}
+use Rattle.bac_print.{specs.{Checked.has_failed, Page.{Writes, Wrote, Prints}}, proofs.Known.Took-more}
 
 pub encode_with-append : (t xs ys : List ℕ) → encode_with t (xs ++ ys) ≡ encode_with t xs ++ encode_with t ys
 unfolding encode_with

@@ -1,13 +1,8 @@
 -- What is shown on a page of its own.
-use Rattle.std.{
-  proofs.{Common.{◌≡◌, ℕ, false, List, [], ◌++◌, Option, Result, Ok, Err, sym, ◌∙◌, ap, subst}, lemmas.List.append-nil},
-  specs.Prelude.is_err,
-}
-use Rattle.bac_print.{
-  specs.declared.{checked.Checked.Checked, page.Page.Page},
-  specs.{Checked.{has_failed, Took, TookOrFailed}, Page.{held, writer_of, Writes, Wrote, Prints}},
-  proofs.Printed.writes_more,
-}
+use Rattle.std.proofs.Common.{◌≡◌, ℕ, false, List, [], ◌++◌, Option, Result, Ok, Err, sym, ◌∙◌, ap, subst}
+use Rattle.std.{proofs.lemmas.List.append-nil, specs.Prelude.is_err}
+use Rattle.bac_print.{proofs.Printed.writes_more, specs.declared.{checked.Checked.Checked, page.Page.Page}}
+use Rattle.bac_print.specs.{Page.{held, writer_of, Writes, Wrote, Prints}, Checked.{has_failed, Took, TookOrFailed}}
 
 module _ {W : Type 0} {contents : W → Option (List ℕ)} where
   -- What was printed on an empty page that was finished was written, as far as the writer didn't fail.

@@ -1,21 +1,17 @@
 -- The texts of values, and of what they are made of.
 use Rattle.std.{
-  proofs.Common.{◌≡◌, ℕ, ◌+◌, ◌-◌, ◌*◌, ◌<◌, min, false, List, [], ◌∷◌, ◌++◌, length, take, get_or, Option, Some, None},
-  proofs.{Common.{refl, sym, ◌∙◌, ap, arith, append_assoc, length-append, decimal}, Math.Seq.take-append-add},
-  specs.{Prelude.{◌==◌, ℤ, pos, ◌<ℤ◌, unsigned_abs, option_map, IfSome, codes}, Fmt.signed_decimal, List.flat_map},
-  specs.Option.option_map_or,
-  proofs.lemmas.{List.{append-nil, take_more}, List.Concat.flat_map-append, Option.none-some, Int.{ints, to_z-of_z}},
-}
-use Rattle.bac_wire.{
-  specs.{Datum.Datum, DatumReading.{value_at, values_within, values_of}},
-  proofs.ValueLists.values-first,
-}
-use Rattle.bac_print.{
-  specs.{declared.page.Page.Page, Page.Prints, Values.{octet_bits, bits_text, datum_text, values_text, region_text}},
-  specs.Inner.Values.{joined, separator},
-  proofs.Printed.{◌⨾◌, printed_as, prints_nothing},
+  proofs.Common.{◌≡◌, ℕ, ◌+◌, ◌-◌, ◌*◌, ◌<◌, min, false, List, [], ◌∷◌, ◌++◌, length, take, get_or, Option, Some},
+  proofs.{Common.{None, refl, sym, ◌∙◌, ap, arith, append_assoc, length-append, decimal}, Math.Seq.take-append-add},
+  proofs.lemmas.{List.{append-nil, take_more, Concat.flat_map-append}, Option.none-some, Int.{ints, to_z-of_z}},
+  specs.Prelude.{◌==◌, ℤ, pos, ◌<ℤ◌, unsigned_abs, option_map, IfSome, codes},
+  specs.{Fmt.signed_decimal, List.flat_map, Option.option_map_or},
 }
 use Rattle.hex.specs.Hex.{encode_lower}
+use Rattle.bac_wire.specs.Datum.{Datum}
+use Rattle.bac_wire.{specs.DatumReading.{value_at, values_within, values_of}, proofs.ValueLists.values-first}
+use Rattle.bac_print.specs.declared.page.Page.{Page}
+use Rattle.bac_print.specs.{Page.Prints, Values.{octet_bits, bits_text, datum_text, values_text, region_text}}
+use Rattle.bac_print.{specs.Inner.Values.{joined, separator}, proofs.Printed.{◌⨾◌, printed_as, prints_nothing}}
 
 -- The text of one more octet.
 pub texts_more : (text : ℕ → List ℕ) (xs : List ℕ) (i : ℕ) → i < length xs →

@@ -3,13 +3,8 @@
 -- the return. Their form is that of the toolchain's own crates that keep such a list, `serde_json` and `http_server`.
 use seplogic.Ra.Ura.{Ura}
 use mir.Val.{Val, vstruct, vcons, vnil}
-use types.Logic.{Logic}
-use types.Kit.{Goal, Step, step, Item, fpack, feq_i}
-use denote.RattleType.{Valss}
-use denote.Laws.{Is}
-use denote.Steps.{owned}
-use denote.Struct.Laws.{makes}
-use denote.Struct.Struct.{Struct, Shape, within}
+use types.{Logic.Logic, Kit.{Goal, Step, step, Item, fpack, feq_i}}
+use denote.{RattleType.Valss, Laws.Is, Steps.owned, Struct.{Laws.makes, Struct.{Struct, Shape, within}}}
 use Rattle.std.specs.contracts.marker.PhantomData as Mark
 pub use Rattle.std.proofs.Common.{List, [], ◌∷◌, ◌++◌, refl}
 pub use Rattle.std.proofs.raw_atomic.Walks.{proved}

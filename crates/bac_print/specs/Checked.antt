@@ -1,10 +1,8 @@
 -- What contracts see of a checked reader or writer.
-use Rattle.std.specs.Prelude.{◌≡◌, ◌≢◌, ℕ, Bool, false, ◌&&◌, ◌||◌, ◌==◌, nat_lt, count_by, flat_map, fold}
-use Rattle.std.specs.Prelude.{List, [], ◌∷◌, ◌++◌, length, take, Option, Result, Ok, Err, is_err}
-use Rattle.std.specs.Io.KnownBytes.{Appends, Consumes}
-use Rattle.std.specs.Result.{result_unwrap_or}
-use Rattle.bac_print.specs.declared.checked.Checked.{Checked}
-use Rattle.bac_print.specs.StreamCall.{StreamCall, ReadCall, WriteCall, FlushCall}
+use Rattle.std.specs.Prelude.{◌≡◌, ◌≢◌, ℕ, Bool, false, ◌&&◌, ◌||◌, ◌==◌, nat_lt, count_by}
+use Rattle.std.specs.Prelude.{flat_map, fold, List, [], ◌∷◌, ◌++◌, length, take, Option, Result, Ok, Err, is_err}
+use Rattle.std.specs.{Io.KnownBytes.{Appends, Consumes}, Result.result_unwrap_or}
+use Rattle.bac_print.specs.{declared.checked.Checked.Checked, StreamCall.{StreamCall, ReadCall, WriteCall, FlushCall}}
 
 -- The reader or writer within.
 abbrev pub inner_of : {T : Type 0} → Checked T → T

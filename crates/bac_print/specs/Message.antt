@@ -1,7 +1,6 @@
 -- What is told of a fault.
 use Rattle.std.specs.Prelude.{ℕ, List, ◌++◌, decimal}
-use Rattle.bac_print.specs.declared.message.Message.{Message}
-use Rattle.bac_print.specs.declared.message.Message.TheVariants.{Text, Numbered}
+use Rattle.bac_print.specs.declared.message.Message.{Message, TheVariants.{Text, Numbered}}
 
 abbrev pub message_text : Message → List ℕ
 message_text (Text text) = text.now

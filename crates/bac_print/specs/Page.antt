@@ -1,8 +1,6 @@
 -- What is printed on a page on its way to a writer.
 use Rattle.std.specs.Prelude.{◌≡◌, ℕ, true, false, List, [], ◌++◌, Option}
-use Rattle.bac_print.specs.declared.checked.Checked.{Checked}
-use Rattle.bac_print.specs.declared.page.Page.{Page}
-use Rattle.bac_print.specs.Checked.{has_failed, Took}
+use Rattle.bac_print.specs.{declared.{checked.Checked.Checked, page.Page.Page}, Checked.{has_failed, Took}}
 
 -- The octets that were printed and not yet written.
 abbrev pub held : {W : Type 0} → Page W → List ℕ

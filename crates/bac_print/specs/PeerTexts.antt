@@ -1,8 +1,6 @@
 -- A peer as it is printed.
 use Rattle.std.specs.Prelude.{ℕ, List, [], ◌∷◌, ◌++◌, map, decimal}
-use Rattle.std.specs.List.{join_with_byte}
-use Rattle.std.specs.Int.{w32, to_be_bytes}
-use Rattle.std.specs.Option.{option_map_or}
+use Rattle.std.specs.{List.join_with_byte, Int.{w32, to_be_bytes}, Option.option_map_or}
 use Rattle.hex.specs.Hex.{encode_lower}
 use Rattle.bac_pdu.specs.Peer.{NetworkAddress, Station}
 

@@ -1,6 +1,5 @@
 -- One call of a reader or a writer, with what it answered.
-use Rattle.std.specs.Prelude.{ℕ, List, Result}
-use Rattle.std.specs.declared.io.Error.{Error}
+use Rattle.std.specs.{Prelude.{ℕ, List, Result}, declared.io.Error.Error}
 
 -- A read into room for so many octets, and the octets that it gave; a write of these octets, and how many of them were
 -- taken; a flush. Each may have failed instead, with this error.

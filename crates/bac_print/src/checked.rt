@@ -1,11 +1,11 @@
 //! Readers and writers that remember whether they failed.
 ghost use Rattle.std.specs.Prelude.{◌≡◌, ◌+◌, ◌-◌, ◌^◌, [], ◌∷◌, ◌++◌, ◌||◌, length, take, min, is_err, if◌then◌else◌};
-ghost use Rattle.std.specs.Io.{ReadsAtMost, WritesAtMost};
-ghost use Rattle.std.specs.Io.KnownBytes.{ReadConsumes, WriteAppends, Keeps};
+ghost use Rattle.std.specs.Io.{ReadsAtMost, WritesAtMost, KnownBytes.{ReadConsumes, WriteAppends, Keeps}};
 ghost use Rattle.bac_wire.specs.Steps.{result_seen};
-ghost use Rattle.bac_print.specs.StreamCall.{ReadCall, WriteCall, FlushCall};
-ghost use Rattle.bac_print.specs.Checked.{inner_of, calls_of, has_failed, has_ended, ends_of, reads_of, octets_of};
-ghost use Rattle.bac_print.specs.Checked.{last_of, gone, fresh, passes_none};
+ghost use Rattle.bac_print.specs.{
+  StreamCall.{ReadCall, WriteCall, FlushCall},
+  Checked.{inner_of, calls_of, has_failed, has_ended, ends_of, reads_of, octets_of, last_of, gone, fresh, passes_none},
+};
 
 use crate::noted::Noted;
 use std::io::{self, Read, Write};

@@ -1,9 +1,9 @@
 //! Examples of texts, worked out by computation. They show what the definitions mean.
 
 ghost use Rattle.std.specs.Prelude.{◌≡◌, [], ◌∷◌, codes, replicate};
-ghost use Rattle.bac_print.specs.Inner.Examples.{IsPrinted, device, far_device};
-ghost use Rattle.bac_print.specs.PeerTexts.{peer_text};
-ghost use Rattle.bac_print.specs.Values.{region_text};
+ghost use Rattle.bac_print.{
+  specs.{Inner.Examples.{IsPrinted, device, far_device}, PeerTexts.peer_text, Values.region_text},
+};
 
 // A value of each kind (ANSI/ASHRAE 135, 20.2), and the text of its octets.
 #[tactic(none)]

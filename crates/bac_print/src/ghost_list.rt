@@ -1,7 +1,5 @@
 //! A list that exists in proofs alone: it takes no memory, and its methods do nothing.
-ghost use Rattle.std.specs.Prelude.{◌≡◌, List, [], ◌∷◌, ◌++◌};
-ghost use Rattle.std.specs.Borrow.{ftrue};
-ghost use Rattle.std.specs.Coded.{coded_list};
+ghost use Rattle.std.specs.{Prelude.{◌≡◌, List, [], ◌∷◌, ◌++◌}, Borrow.ftrue, Coded.coded_list};
 
 use std::marker::{Model, PhantomData};
 

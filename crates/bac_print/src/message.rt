@@ -1,7 +1,6 @@
 //! What is told of a fault.
 ghost use Rattle.std.specs.Prelude.{Some};
-ghost use Rattle.bac_print.specs.Message.{message_text};
-ghost use Rattle.bac_print.specs.Page.{Prints};
+ghost use Rattle.bac_print.specs.{Message.message_text, Page.Prints};
 
 use crate::page::Page;
 use std::fmt;

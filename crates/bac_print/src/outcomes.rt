@@ -1,10 +1,7 @@
 //! How a request ended, as it is printed.
 ghost use Rattle.std.specs.Prelude.{◌≡◌, ◌++◌, false, decimal, is_err};
-ghost use Rattle.bac_tsm.specs.Events.{Failed};
-ghost use Rattle.bac_tsm.specs.Client.{outcome_seen};
-ghost use Rattle.bac_print.specs.Checked.{has_failed, TookOrFailed};
-ghost use Rattle.bac_print.specs.Page.{Prints};
-ghost use Rattle.bac_print.specs.Outcomes.{outcome_text};
+ghost use Rattle.bac_tsm.specs.{Events.Failed, Client.outcome_seen};
+ghost use Rattle.bac_print.specs.{Checked.{has_failed, TookOrFailed}, Page.Prints, Outcomes.outcome_text};
 
 use crate::checked::{Checked, WriteFailed};
 use crate::page::Page;

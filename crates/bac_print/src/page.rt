@@ -1,9 +1,9 @@
 //! Text on its way to a writer.
 ghost use Rattle.std.specs.Prelude.{◌≡◌, ◌+◌, ◌≤◌, [], ◌++◌, drop, length, decimal, is_err, false};
 ghost use Rattle.hex.specs.Hex.{encode_lower};
-ghost use Rattle.bac_print.specs.Checked.{has_failed, TookOrFailed};
-ghost use Rattle.bac_print.specs.Inner.Checked.{HasNotRead};
-ghost use Rattle.bac_print.specs.Page.{held, writer_of, Writes, Prints};
+ghost use Rattle.bac_print.{
+  specs.{Checked.{has_failed, TookOrFailed}, Inner.Checked.HasNotRead, Page.{held, writer_of, Writes, Prints}},
+};
 
 use crate::checked::{Checked, WriteFailed};
 use arrayvec::ArrayVec;

@@ -2,8 +2,7 @@
 ghost use Rattle.std.specs.Prelude.{◌≡◌, ◌+◌, ◌≤◌, [], ◌++◌, ◌∷◌, option_map, drop, length, decimal};
 ghost use Rattle.std.specs.Option.{option_map_or};
 ghost use Rattle.bac_pdu.specs.Peer.{station, network_address};
-ghost use Rattle.bac_print.specs.Page.{Prints};
-ghost use Rattle.bac_print.specs.PeerTexts.{address_text, route_text, peer_text};
+ghost use Rattle.bac_print.specs.{Page.Prints, PeerTexts.{address_text, route_text, peer_text}};
 
 use crate::page::{Page, write_digits};
 use bac_pdu::{Peer, Route};

@@ -1,17 +1,12 @@
 //! What is printed of values.
 ghost use Rattle.std.specs.Prelude.{◌≡◌, ◌<◌, ◌+◌, ◌%◌, ◌==◌, ◌||◌, false, length, option_map, is_err, IfSome};
-ghost use Rattle.std.specs.List.{flat_map};
-ghost use Rattle.std.specs.Fmt.{signed_decimal};
-ghost use Rattle.std.specs.Int.{is_in_range};
+ghost use Rattle.std.specs.{List.flat_map, Fmt.signed_decimal, Int.is_in_range};
 ghost use Rattle.bac_wire.specs.Datum.{datum, boolean, char_string, bit_string, object};
-ghost use Rattle.bac_wire.specs.DatumReading.{value_at, values_of};
-ghost use Rattle.bac_wire.specs.Identifier.{identifier};
-ghost use Rattle.bac_print.specs.Checked.{has_failed, TookOrFailed};
-ghost use Rattle.bac_print.specs.Page.{Prints};
-ghost use Rattle.bac_print.specs.Values.{quoted_octet, quoted};
-ghost use Rattle.bac_print.specs.Values.{lettered, octet_bits, bits_text, datum_text};
-ghost use Rattle.bac_print.specs.Values.{region_text, ack_text};
-ghost use Rattle.bac_print.specs.Inner.Values.{joined, separator};
+ghost use Rattle.bac_wire.specs.{DatumReading.{value_at, values_of}, Identifier.identifier};
+ghost use Rattle.bac_print.{
+  specs.{Checked.{has_failed, TookOrFailed}, Inner.Values.{joined, separator}, Page.Prints},
+  specs.Values.{quoted_octet, quoted, lettered, octet_bits, bits_text, datum_text, region_text, ack_text},
+};
 
 use crate::checked::{Checked, WriteFailed};
 use crate::page::Page;

@@ -1,16 +1,13 @@
 -- The course of a script, line after line.
-use Rattle.std.{
-  proofs.Common.{◌≡◌, ℕ, ◌+◌, Bool, true, List, [], ◌∷◌, ◌++◌, length, Option, Some, None, Result, Ok, Err, refl, sym},
-  proofs.Common.{◌∙◌, ap, subst, append_assoc, arith, ◌&&◌, MatchOption},
-  specs.{Option.option_map_or, Result.result_ok},
+use Rattle.std.proofs.Common.{◌≡◌, ℕ, ◌+◌, Bool, true, List, [], ◌∷◌, ◌++◌, length, Option, Some}
+use Rattle.std.proofs.Common.{None, Result, Ok, Err, refl, sym, ◌∙◌, ap, subst, append_assoc, arith, ◌&&◌, MatchOption}
+use Rattle.std.specs.{Option.option_map_or, Result.result_ok}
+use Rattle.bac_script.{
+  specs.declared.{input.Reading.Reading, line.LineFault.LineFault},
+  specs.{declared.tracing.{TraceEnd.TraceEnd, TraceFault.TraceFault}, Line.{Said, said}, Inner.Running.{Stage, ran}},
+  specs.Script.{lines, is_nothing, said_from, all_said, text_of, fault_at, fault_from, first_fault, text, EndsAs},
+  proofs.{Machine.{first_stage, text_from, text_is}, Settled.settings_first},
 }
-use Rattle.bac_script.specs.{
-  declared.{input.Reading.Reading, line.LineFault.LineFault, tracing.TraceEnd.TraceEnd, tracing.TraceFault.TraceFault},
-  Line.{Said, said},
-  Inner.Running.{Stage, ran},
-  Script.{lines, is_nothing, said_from, all_said, text_of, fault_at, fault_from, first_fault, text, EndsAs},
-}
-use Rattle.bac_script.proofs.{Machine.{first_stage, text_from, text_is}, Settled.settings_first}
 
 -- What is printed, the fault of the first line that is bad or too long, and without one the number of all lines.
 pub record Course : Type 0 where

@@ -1,21 +1,13 @@
 -- The text of the first octets of a script is the beginning of its text.
-use Rattle.std.proofs.{
-  Common.{◌≡◌, ◌⊎◌, ℕ, ◌+◌, zero, suc, ◌≤◌, Bool, true, false, List, [], ◌∷◌, ◌++◌, length, Result, Ok, Err, refl, sym},
-  Common.{◌∙◌, ap, subst, append_assoc, inl, inr, arith, ◌&&◌, ◌==◌, nat_lt, length-append, eqb-true},
-  lemmas.{Bool.eqb-false, Bool.Decides.nat_tests},
-}
+use Rattle.std.proofs.Common.{◌≡◌, ◌⊎◌, ℕ, ◌+◌, zero, suc, ◌≤◌, Bool, true, false, List, [], ◌∷◌}
+use Rattle.std.proofs.Common.{◌++◌, length, Result, Ok, Err, refl, sym, ◌∙◌, ap, subst, append_assoc, inl, inr, arith}
+use Rattle.std.proofs.{Common.{◌&&◌, ◌==◌, nat_lt, length-append, eqb-true}, lemmas.Bool.{eqb-false, Decides.nat_tests}}
 use Rattle.bac_text.specs.Limits.{longest_line}
-use Rattle.bac_script.specs.{
-  declared.{input.Reading.Reading, input.Reading.TheVariants.Open, line.LineFault.LineFault},
-  Alike.IsFrontOf,
-  Line.{Said, said},
-  Script.{lines, is_nothing, text},
-  Inner.{Feeds.HasNoFeed, Running.{Stage, ran}},
-}
-use Rattle.bac_script.proofs.{
-  Courses.{and_on, course, course_on, runs_text},
-  Machine.first_stage,
-  Pieces.{pieces-open, ends_with_feed-none, said-long, lines-ended},
+use Rattle.bac_script.{
+  specs.{declared.{input.Reading.{Reading, TheVariants.Open}, line.LineFault.LineFault}, Alike.IsFrontOf},
+  specs.{Line.{Said, said}, Script.{lines, is_nothing, text}, Inner.{Feeds.HasNoFeed, Running.{Stage, ran}}},
+  proofs.Courses.{and_on, course, course_on, runs_text},
+  proofs.{Machine.first_stage, Pieces.{pieces-open, ends_with_feed-none, said-long, lines-ended}},
 }
 
 -- The octets up to the first line feed, and those behind it.

@@ -1,22 +1,16 @@
 -- A script is a function of its octets and of whether they ended.
-use Rattle.std.proofs.{
-  Common.{◌≡◌, ◌≢◌, ◌⊎◌, ℕ, ◌+◌, ◌≤◌, Bool, true, ◌&&◌, List, [], ◌∷◌, ◌++◌, length, Option, Some, None, Result},
-  Common.{Ok, Err, sym, ◌∙◌, ap, arith, append_assoc, IfSome, MatchOption, append-nil},
-}
+use Rattle.std.proofs.Common.{◌≡◌, ◌≢◌, ◌⊎◌, ℕ, ◌+◌, ◌≤◌, Bool, true, ◌&&◌, List, [], ◌∷◌, ◌++◌, length, Option, Some}
+use Rattle.std.proofs.Common.{None, Result, Ok, Err, sym, ◌∙◌, ap, arith, append_assoc, IfSome, MatchOption, append-nil}
 use Rattle.std.specs.Prelude.{⊤}
 use Rattle.bac_print.specs.{declared.checked.Checked.Checked, Checked.{fresh, has_failed, ends_of, reads_of, octets_of}}
-use Rattle.bac_script.specs.{
-  declared.input.{Reading.Reading, Reading.TheVariants.{Open, AtEnd, Failed}},
-  declared.line.{LineFault.LineFault, LineFault.TheVariants.{Bad, TooLong}},
-  declared.tracing.{TraceEnd.TraceEnd, TraceFault.TraceFault},
-  declared.tracing.TraceFault.TheVariants.{BadLine, LineTooLong, ReadFailed, WriteFailed},
-  Input.{most_reads, ReaderStands},
-  Line.{Said, said},
-  Tracing.Traces,
-  Alike.{IsFrontOf, GaveSame, GaveFront, IsWrittenOf, AreAlike},
-  Script.{lines, is_nothing, text, fault_or, fault_from, EndsAs, Runs},
+use Rattle.bac_script.{
+  proofs.{Courses.RunsWhole, Fronts.text_front},
+  specs.{Alike.{IsFrontOf, GaveSame, GaveFront, IsWrittenOf, AreAlike}, Input.{most_reads, ReaderStands}},
+  specs.{Line.{Said, said}, Script.{lines, is_nothing, text, fault_or, fault_from, EndsAs, Runs}},
+  specs.{Tracing.Traces, declared.input.Reading.{Reading, TheVariants.{Open, AtEnd, Failed}}},
+  specs.declared.{line.LineFault.{LineFault, TheVariants.{Bad, TooLong}}, tracing.TraceEnd.TraceEnd},
+  specs.declared.tracing.TraceFault.{TraceFault, TheVariants.{BadLine, LineTooLong, ReadFailed, WriteFailed}},
 }
-use Rattle.bac_script.proofs.{Courses.RunsWhole, Fronts.text_front}
 
 -- How often reading met the end.
 abbrev ends : Reading → ℕ

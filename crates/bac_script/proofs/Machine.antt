@@ -1,22 +1,14 @@
 -- What the machine prints for all that a script says is what the look-ahead gives.
-use Rattle.std.{
-  proofs.Common.{◌≡◌, ℕ, zero, suc, List, [], ◌∷◌, ◌++◌, drop, length, Option, Some, slice_get, refl, sym, ◌∙◌, ap},
-  specs.List.AllByRecursion,
-}
-use Rattle.bac_tsm.{
-  specs.{Events.{Event, Note}, Lookahead.output, Machine.{State, Stepped}, Limits.table_size},
-  specs.{Laws.{state_at, NumbersComeBackLate}, Client.{client_rules, keeping}},
-  proofs.Laws.{by_number, few_open, begins, one_step, back_late},
-}
+use Rattle.std.proofs.Common.{◌≡◌, ℕ, zero, suc, List, [], ◌∷◌, ◌++◌}
+use Rattle.std.{proofs.Common.{drop, length, Option, Some, slice_get, refl, sym, ◌∙◌, ap}, specs.List.AllByRecursion}
 use Rattle.bac_pdu.specs.Peer.{Station}
+use Rattle.bac_tsm.specs.{Events.{Event, Note}, Lookahead.output, Machine.{State, Stepped}}
+use Rattle.bac_tsm.specs.{Limits.table_size, Laws.{state_at, NumbersComeBackLate}, Client.{client_rules, keeping}}
+use Rattle.bac_tsm.proofs.Laws.{by_number, few_open, begins, one_step, back_late}
 use Rattle.bac_device.specs.{Places.Write, Demo.demo_points, Turns.replies_to}
-use Rattle.bac_script.specs.{
-  Line.{Said, Nothing, Settings, Happens, Asks},
-  Text.notes_text,
-  Running.small_device,
-  Inner.Running.{Stage, new_client, ran, reply_after, writes_with},
-  Script.{settings_in, events_in, arrivals_in, requests_in, printed, text_of},
-}
+use Rattle.bac_script.specs.{Line.{Said, Nothing, Settings, Happens, Asks}, Text.notes_text}
+use Rattle.bac_script.specs.{Running.small_device, Inner.Running.{Stage, new_client, ran, reply_after, writes_with}}
+use Rattle.bac_script.specs.Script.{settings_in, events_in, arrivals_in, requests_in, printed, text_of}
 
 -- What a script runs on before its first line.
 abbrev pub first_stage : Stage

@@ -1,17 +1,11 @@
 -- Where the octets of a script are cut.
-use Rattle.std.proofs.{
-  Common.{◌≡◌, ◌≢◌, ℕ, ◌<◌, Bool, true, false, List, [], ◌∷◌, ◌++◌, length, get_or, refl, sym, ◌∙◌, ap, append_assoc},
-  Common.{arith, Err, ◌||◌, nat_lt, filter, append-nil, length-append, ne_eqb},
-  lemmas.{Grind.common_steps, Bool.Decides.nat_tests},
-}
-use Rattle.std.specs.List.{onto_first}
+use Rattle.std.proofs.Common.{◌≡◌, ◌≢◌, ℕ, ◌<◌, Bool, true, false, List, [], ◌∷◌, ◌++◌, length, get_or, refl, sym, ◌∙◌}
+use Rattle.std.proofs.Common.{ap, append_assoc, arith, Err, ◌||◌, nat_lt, filter, append-nil, length-append, ne_eqb}
+use Rattle.std.{proofs.lemmas.{Grind.common_steps, Bool.Decides.nat_tests}, specs.List.onto_first}
 use Rattle.bac_text.specs.Limits.{longest_line}
-use Rattle.bac_script.specs.{
-  Inner.{Limits.line_room, Feeds.HasNoFeed},
-  Script.{pieces, lines, is_line},
-  declared.{input.Reading.Reading, line.LineFault.TheVariants.TooLong, input.Reading.TheVariants.{AtEnd, Failed}},
-  Line.{ends_with_feed, without_feed, said},
-}
+use Rattle.bac_script.specs.{Inner.{Limits.line_room, Feeds.HasNoFeed}, Script.{pieces, lines, is_line}}
+use Rattle.bac_script.specs.declared.input.Reading.{Reading, TheVariants.{AtEnd, Failed}}
+use Rattle.bac_script.specs.{declared.line.LineFault.TheVariants.TooLong, Line.{ends_with_feed, without_feed, said}}
 
 pub pieces-line : (text more : List ℕ) → HasNoFeed text → pieces (text ++ 10 ∷ more) ≡ (text ++ 10 ∷ []) ∷ pieces more
 pieces-line [] _ h = refl

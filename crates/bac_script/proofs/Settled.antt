@@ -1,17 +1,13 @@
 -- Settings are said by nothing but the first line that says something.
-use Rattle.std.{
-  proofs.Common.{ℕ, Bool, true, false, List, [], ◌∷◌, Option, Some, None, Result, Ok, Err, ok_or, option_map, bytes_eq},
-  proofs.{Common.{codes, slice_index, ◌==◌, if◌then◌else◌, IfSome, IfOk}, lemmas.Bool.cond_both},
-  specs.{Option.option_map_or, Result.result_ok, Str.is_utf8},
-}
-use Rattle.bac_script.{
-  specs.declared.line.{LineFault.LineFault, LineFault.TheVariants.Bad},
-  specs.Line.{Said, Nothing, Happens, Asks, reading_of, writing_of, arrival_of, tick_of, said_by, said_in},
-  specs.{Line.{text_of_line, said}, Script.{is_nothing, said_from, all_said}},
-  proofs.Machine.{IsOther, NoSettings, SettingsFirst},
-}
+use Rattle.std.proofs.Common.{ℕ, Bool, true, false, List, [], ◌∷◌, Option, Some, None, Result, Ok}
+use Rattle.std.proofs.Common.{Err, ok_or, option_map, bytes_eq, codes, slice_index, ◌==◌, if◌then◌else◌, IfSome, IfOk}
+use Rattle.std.{proofs.lemmas.Bool.cond_both, specs.{Option.option_map_or, Result.result_ok, Str.is_utf8}}
 use Rattle.bac_tsm.specs.Events.{Data}
 use Rattle.bac_text.specs.Words.{words_of}
+use Rattle.bac_script.specs.declared.line.LineFault.{LineFault, TheVariants.Bad}
+use Rattle.bac_script.specs.Line.{Said, Nothing, Happens, Asks, reading_of, writing_of, arrival_of, tick_of}
+use Rattle.bac_script.specs.{Line.{said_by, said_in, text_of_line, said}, Script.{is_nothing, said_from, all_said}}
+use Rattle.bac_script.proofs.Machine.{IsOther, NoSettings, SettingsFirst}
 
 -- What was found, mapped to what is no settings.
 mapped_other : {A : Type 0} (say : A → Said) (found : Option A) → ((a : A) → IsOther (say a))

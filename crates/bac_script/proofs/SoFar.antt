@@ -1,32 +1,24 @@
 -- What holds between two lines of a script, and where it stops.
-use Rattle.std.proofs.{
-  Common.{◌≡◌, ◌≢◌, ℕ, ◌+◌, ◌<◌, ◌≤◌, Bool, true, false, List, [], ◌∷◌, ◌++◌, length, take, drop, Option, Some, None},
-  Common.{Result, Ok, Err, refl, sym, ◌∙◌, ap, subst, inl, inr, append_assoc, arith, ◌&&◌, append-nil, length-append},
-  Common.{take-append-drop, ◌⊎◌},
-  lemmas.List.append_cancel_right,
+use Rattle.std.{
+  proofs.Common.{◌≡◌, ◌≢◌, ℕ, ◌+◌, ◌<◌, ◌≤◌, Bool, true, false, List, [], ◌∷◌, ◌++◌, length},
+  proofs.Common.{take, drop, Option, Some, None, Result, Ok, Err, refl, sym, ◌∙◌, ap, subst, inl, inr, append_assoc},
+  proofs.{Common.{arith, ◌&&◌, append-nil, length-append, take-append-drop, ◌⊎◌}, lemmas.List.append_cancel_right},
 }
 use Rattle.bac_tsm.specs.Client.{Client}
 use Rattle.bac_device.specs.Device.{DeviceState}
-use Rattle.bac_print.{
-  specs.declared.{checked.Checked.Checked, page.Page.Page},
-  specs.{Checked.{has_failed, reads_of, last_of, octets_of}, Page.{held as on_page, writer_of, Writes, Wrote, Prints}},
-  proofs.{Printed.{◌⨾◌, prints_nothing}, Known.Gave-none, Shown.{finished, all_written}},
-}
-use Rattle.bac_script.specs.{
-  declared.{input.Reading.Reading, input.Reading.TheVariants.{Open, AtEnd, Failed}, line.LineFault.LineFault},
-  declared.tracing.{TraceEnd.TraceEnd, TraceFault.TraceFault, TraceFault.TheVariants.{ReadFailed, WriteFailed}},
-  Input.{ReadsNoMore, ReaderStands},
-  Line.{Said, said},
-  Inner.{Input.{HasNotEnded, TakesAndKeeps, ReadForLine, empty_reads, IsLineCut}, Feeds.HasNoFeed, Limits.line_room},
-  Inner.{Tracing.RunsOn, Running.{Stage, Stands, new_client, device_with, ran}},
-  Script.{lines, is_nothing, fault_at, first_fault, text, Runs},
-  Tracing.{LastIsNeeded, Traces, IsToldFirst},
-}
-use Rattle.bac_script.proofs.{
-  Pieces.{NextLine, next_ended, next_long, next_last, lines-rest, lines-last, lines-ended, said-whole_long},
-  Taken.{Takes-more, Takes-front, further},
-  Machine.first_stage,
-  Courses.{Course, behind, behind_both, and_on, course, course_on, whole, runs_text, fault_is, RunsWhole, runs_as},
+use Rattle.bac_print.specs.{Checked.{has_failed, reads_of, last_of, octets_of}, declared.page.Page.Page}
+use Rattle.bac_print.specs.{declared.checked.Checked.Checked, Page.{held as on_page, writer_of, Writes, Wrote, Prints}}
+use Rattle.bac_print.proofs.{Known.Gave-none, Shown.{finished, all_written}, Printed.{◌⨾◌, prints_nothing}}
+use Rattle.bac_script.{
+  specs.declared.{input.Reading.{Reading, TheVariants.{Open, AtEnd, Failed}}, line.LineFault.LineFault},
+  specs.declared.tracing.{TraceEnd.TraceEnd, TraceFault.{TraceFault, TheVariants.{ReadFailed, WriteFailed}}},
+  specs.{Input.{ReadsNoMore, ReaderStands}, Line.{Said, said}},
+  specs.Inner.{Input.{HasNotEnded, TakesAndKeeps, ReadForLine, empty_reads, IsLineCut}, Feeds.HasNoFeed},
+  specs.Inner.{Limits.line_room, Tracing.RunsOn, Running.{Stage, Stands, new_client, device_with, ran}},
+  specs.{Script.{lines, is_nothing, fault_at, first_fault, text, Runs}, Tracing.{LastIsNeeded, Traces, IsToldFirst}},
+  proofs.Pieces.{NextLine, next_ended, next_long, next_last, lines-rest, lines-last, lines-ended, said-whole_long},
+  proofs.{Taken.{Takes-more, Takes-front, further}, Machine.first_stage, Courses.Course},
+  proofs.Courses.{behind, behind_both, and_on, course, course_on, whole, runs_text, fault_is, RunsWhole, runs_as},
 }
 
 -- What was printed on an empty page is out, or still held.

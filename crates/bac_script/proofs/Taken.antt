@@ -1,21 +1,15 @@
 -- What is taken in several steps.
-use Rattle.std.proofs.{
-  Common.{◌≡◌, ◌⊎◌, ℕ, ◌+◌, ◌<◌, ◌≤◌, zero, suc, Bool, false, List, [], ◌∷◌, ◌++◌, length, take, drop, get_or, Option},
-  Common.{Some, None, sym, ◌∙◌, ap, subst, inl, inr, true, append_assoc, length-append, arith, ◌==◌, position},
-  Common.{eqb-true, take-append-drop, take_all, append-nil},
-  lemmas.{Bool.eqb-false, Bool.Decides.nat_tests, List.{take_more, drop_all}, List.Sums.fails_before_first},
-  lemmas.List.Quantifiers.position-Some,
+use Rattle.std.{
+  proofs.lemmas.{List.{take_more, drop_all, Sums.fails_before_first, Quantifiers.position-Some}, Bool.eqb-false},
+  proofs.{lemmas.Bool.Decides.nat_tests, Common.{◌≡◌, ◌⊎◌, ℕ, ◌+◌, ◌<◌, ◌≤◌, zero, suc, Bool, false, List}},
+  proofs.Common.{[], ◌∷◌, ◌++◌, length, take, drop, get_or, Option, Some, None, sym, ◌∙◌, ap, subst, inl, inr, true},
+  proofs.Common.{append_assoc, length-append, arith, ◌==◌, position, eqb-true, take-append-drop, take_all, append-nil},
 }
-use Rattle.bac_print.{
-  specs.declared.{page.Page.Page, checked.Checked.Checked},
-  specs.{Page.{held as on_page, writer_of, Wrote, Prints}, Checked.{reads_of, last_of, octets_of, has_failed}},
-  proofs.Printed.◌⨾◌,
-}
-use Rattle.bac_script.specs.{
-  Inner.{Feeds.HasNoFeed, Limits.line_room, Input.{HasNotEnded, TakesAndKeeps, ReadForLine, IsNext, IsTurnedIn}},
-  Inner.Input.IsUnread,
-  declared.input.{Reading.Reading, Reading.TheVariants.Open},
-  Input.ReaderStands,
+use Rattle.bac_print.{proofs.Printed.◌⨾◌, specs.{declared.{page.Page.Page, checked.Checked.Checked}, Checked.reads_of}}
+use Rattle.bac_print.specs.{Checked.{last_of, octets_of, has_failed}, Page.{held as on_page, writer_of, Wrote, Prints}}
+use Rattle.bac_script.{
+  specs.Inner.{Feeds.HasNoFeed, Input.{HasNotEnded, TakesAndKeeps, ReadForLine, IsNext, IsTurnedIn, IsUnread}},
+  specs.{Inner.Limits.line_room, Input.ReaderStands, declared.input.Reading.{Reading, TheVariants.Open}},
 }
 
 pub Takes-more : {R : Type 0} {remaining : R → Option (List ℕ)} {a b c : Checked R} {held mid kept xs ys : List ℕ}

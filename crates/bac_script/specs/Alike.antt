@@ -1,10 +1,7 @@
 -- That two runs of one script are alike.
 use Rattle.std.specs.Prelude.{◌≡◌, ◌≢◌, ℕ, List, ◌++◌, Result, Err}
-use Rattle.bac_print.specs.Checked.{ends_of, octets_of}
-use Rattle.bac_print.specs.declared.checked.Checked.{Checked}
-use Rattle.bac_script.specs.declared.tracing.TraceEnd.{TraceEnd}
-use Rattle.bac_script.specs.declared.tracing.TraceFault.{TraceFault}
-use Rattle.bac_script.specs.declared.tracing.TraceFault.TheVariants.{WriteFailed}
+use Rattle.bac_print.specs.{Checked.{ends_of, octets_of}, declared.checked.Checked.Checked}
+use Rattle.bac_script.specs.declared.tracing.{TraceEnd.TraceEnd, TraceFault.{TraceFault, TheVariants.WriteFailed}}
 
 -- The first octets are the beginning of the second, or all of them.
 abbrev pub IsFrontOf : List ℕ → List ℕ → Type 0

@@ -2,9 +2,8 @@
 use Rattle.std.specs.Prelude.{◌≡◌, ℕ, ◌+◌, ◌-◌, ◌^◌, ◌≤◌, max, false, true, List, [], Option, ◌⊎◌}
 use Rattle.std.specs.Io.KnownBytes.{IsAtEnd}
 use Rattle.bac_print.specs.declared.checked.Checked.{Checked}
-use Rattle.bac_script.specs.declared.input.Reading.{Reading}
-use Rattle.bac_script.specs.declared.input.Reading.TheVariants.{Open, AtEnd, Failed}
 use Rattle.bac_print.specs.Checked.{inner_of, has_failed, has_ended, ends_of, reads_of}
+use Rattle.bac_script.specs.declared.input.Reading.{Reading, TheVariants.{Open, AtEnd, Failed}}
 
 -- The reads that a script may make.
 abbrev pub most_reads : ℕ

@@ -1,21 +1,14 @@
 -- The lines of a script, and what each says.
-use Rattle.std.specs.Prelude.{ℕ, ◌-◌, ◌^◌, ◌==◌, ◌&&◌, Bool, nat_lt, List, [], ◌∷◌, length, take, slice_index, bytes_eq}
-use Rattle.std.specs.Prelude.{codes, Option, Some, None, option_map, Result, Ok, Err, ok_or, if◌then◌else◌}
-use Rattle.std.specs.Result.{result_ok}
-use Rattle.std.specs.Str.{is_utf8}
-use Rattle.std.specs.Str.Lines.{strip_carriage_return}
+use Rattle.std.specs.Prelude.{ℕ, ◌-◌, ◌^◌, ◌==◌, ◌&&◌, Bool, nat_lt, List, [], ◌∷◌, length, take, slice_index}
+use Rattle.std.specs.Prelude.{bytes_eq, codes, Option, Some, None, option_map, Result, Ok, Err, ok_or, if◌then◌else◌}
+use Rattle.std.specs.{Result.result_ok, Str.{is_utf8, Lines.strip_carriage_return}}
+use Rattle.bac_wire.specs.{Identifier.Identifier, Steps.◌>>=◌}
+use Rattle.bac_pdu.specs.Property.{read_octets}
 use Rattle.bac_tsm.specs.Events.{Event, Ask, Data, Tick}
 use Rattle.bac_device.specs.Turns.{Arrival}
-use Rattle.bac_script.specs.declared.line.LineFault.{LineFault}
-use Rattle.bac_script.specs.declared.line.LineFault.TheVariants.{Bad, TooLong}
-use Rattle.bac_text.specs.Limits.{longest_line}
-use Rattle.bac_wire.specs.Identifier.{Identifier}
-use Rattle.bac_wire.specs.Steps.{◌>>=◌}
-use Rattle.bac_text.specs.Words.{words_of, number_up_to, octets_of, next_as, at_end}
-use Rattle.bac_text.specs.Parameters.{priority_from, write_index_of}
-use Rattle.bac_text.specs.Address.{plain_peer_of, peer_of}
-use Rattle.bac_pdu.specs.Property.{read_octets}
-use Rattle.bac_text.specs.Pairs.{whole_body_of}
+use Rattle.bac_text.specs.{Address.{plain_peer_of, peer_of}, Words.{words_of, number_up_to, octets_of, next_as, at_end}}
+use Rattle.bac_text.specs.{Limits.longest_line, Parameters.{priority_from, write_index_of}, Pairs.whole_body_of}
+use Rattle.bac_script.specs.declared.line.LineFault.{LineFault, TheVariants.{Bad, TooLong}}
 
 -- What a line says: nothing, the client's settings, an event of the client, or a datagram that the device is asked
 -- with.

@@ -1,10 +1,11 @@
 //! Examples of scripts, worked out by computation. They show what the definitions mean.
 
 ghost use Rattle.std.specs.Prelude.{[], ◌∷◌, codes, replicate, Err};
-ghost use Rattle.bac_script.specs.declared.input.Reading.TheVariants.{Open, AtEnd, Failed};
-ghost use Rattle.bac_script.specs.declared.tracing.TraceFault.TheVariants.{BadLine, LineTooLong, ReadFailed};
-ghost use Rattle.bac_script.specs.Inner.Examples.{IsTraced, ended, read, sent, answer};
-ghost use Rattle.bac_script.specs.Script.{Runs};
+ghost use Rattle.bac_script.{
+  specs.declared.input.Reading.TheVariants.{Open, AtEnd, Failed},
+  specs.declared.tracing.TraceFault.TheVariants.{BadLine, LineTooLong, ReadFailed},
+  specs.{Inner.Examples.{IsTraced, ended, read, sent, answer}, Script.Runs},
+};
 
 // What is printed of a client's events.
 #[tactic(none)]

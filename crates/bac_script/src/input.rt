@@ -1,13 +1,12 @@
 //! The lines of a reader, one at a time.
 
-ghost use Rattle.std.specs.Prelude.{◌≡◌, ◌≢◌, ◌==◌, ◌+◌, ◌<◌, ◌≤◌, ◌⊎◌, ◌++◌, [], length, take, drop, position, true};
-ghost use Rattle.std.specs.Prelude.{false, IfNone, MatchOption, MatchResult};
-ghost use Rattle.bac_print.specs.Checked.{has_failed, reads_of, last_of};
-ghost use Rattle.bac_print.specs.Page.{writer_of, Prints};
-ghost use Rattle.bac_script.specs.Inner.Feeds.{HasNoFeed};
-ghost use Rattle.bac_script.specs.Input.{ReaderStands, ReadsNoMore};
-ghost use Rattle.bac_script.specs.Inner.Input.{most_to_come, may_read, empty_reads, TakesAndKeeps, ReadForLine};
-ghost use Rattle.bac_script.specs.Inner.Input.{HasNoLine, IsLineCut, IsNext, IsUnread};
+ghost use Rattle.std.specs.Prelude.{◌≡◌, ◌≢◌, ◌==◌, ◌+◌, ◌<◌, ◌≤◌, ◌⊎◌, ◌++◌};
+ghost use Rattle.std.specs.Prelude.{[], length, take, drop, position, true, false, IfNone, MatchOption, MatchResult};
+ghost use Rattle.bac_print.specs.{Checked.{has_failed, reads_of, last_of}, Page.{writer_of, Prints}};
+ghost use Rattle.bac_script.{
+  specs.Inner.{Feeds.HasNoFeed, Input.{most_to_come, may_read, empty_reads, TakesAndKeeps}},
+  specs.{Inner.Input.{ReadForLine, HasNoLine, IsLineCut, IsNext, IsUnread}, Input.{ReaderStands, ReadsNoMore}},
+};
 
 use bac_print::{Checked, Page, WriteFailed};
 use bac_text::{End, LONGEST_LINE, position_of_end};

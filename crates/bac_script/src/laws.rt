@@ -1,17 +1,13 @@
 //! What holds of the definitions that the contracts cite. Each function has an empty body, and its clauses are
 //! the laws.
 ghost use Rattle.std.specs.Prelude.{◌≡◌, ◌≤◌, ◌⊎◌, true, ℕ, List, Result, Err};
-ghost use Rattle.bac_print.specs.Checked.{has_failed, reads_of};
-ghost use Rattle.bac_script.specs.Input.{most_reads};
 ghost use Rattle.bac_wire.specs.Copies.{MakesCopies, EqualsBy};
-ghost use Rattle.bac_tsm.specs.Laws.{NumbersComeBackLate};
-ghost use Rattle.bac_tsm.specs.Limits.{table_size};
-ghost use Rattle.bac_print.specs.declared.checked.Checked.{Checked};
-ghost use Rattle.bac_print.specs.Checked.{fresh, octets_of};
-ghost use Rattle.bac_script.specs.declared.input.Reading.{Reading};
-ghost use Rattle.bac_script.specs.Alike.{IsFrontOf, GaveSame, GaveFront, IsWrittenOf, AreAlike};
-ghost use Rattle.bac_script.specs.Script.{lines, all_said, requests_in};
-ghost use Rattle.bac_script.specs.Tracing.{Traces};
+ghost use Rattle.bac_tsm.specs.{Laws.NumbersComeBackLate, Limits.table_size};
+ghost use Rattle.bac_print.specs.{Checked.{has_failed, reads_of, fresh, octets_of}, declared.checked.Checked.Checked};
+ghost use Rattle.bac_script.{
+  specs.Alike.{IsFrontOf, GaveSame, GaveFront, IsWrittenOf, AreAlike},
+  specs.{Input.most_reads, Script.{lines, all_said, requests_in}, Tracing.Traces, declared.input.Reading.Reading},
+};
 
 use crate::tracing::{TraceEnd, TraceFault};
 use std::io::{Read, Write};

@@ -2,19 +2,16 @@
 
 ghost use Rattle.std.specs.Prelude.{◌≡◌, [], option_map, None, Some, IfSome, MatchOption, MatchResult, Ok, Err};
 ghost use Rattle.std.specs.Str.{is_utf8};
-ghost use Rattle.bac_pdu.specs.Peer.{station};
-ghost use Rattle.bac_pdu.specs.Property.{IsPriority};
-ghost use Rattle.bac_text.specs.Words.{octets_of, next_as};
-ghost use Rattle.bac_text.specs.Address.{plain_peer_of, peer_of};
-ghost use Rattle.bac_text.specs.Parameters.{write_index_of};
-ghost use Rattle.bac_script.specs.Line.{Happens, settings_of, property_in, index_in, reading_of, priority_of};
-ghost use Rattle.bac_script.specs.Line.{writing_of};
-ghost use Rattle.bac_script.specs.Line.{arrival_of, tick_of, said_by, text_of_line, said};
-ghost use Rattle.bac_script.specs.Inner.Line.{IsLeft};
-ghost use Rattle.bac_script.specs.Script.{is_nothing};
-ghost use Rattle.bac_script.specs.Inner.LineSeen.{arrival_seen, line_seen};
-ghost use Rattle.bac_wire.specs.Identifier.{identifier};
-ghost use Rattle.bac_wire.specs.Steps.{result_seen};
+ghost use Rattle.bac_wire.specs.{Identifier.identifier, Steps.result_seen};
+ghost use Rattle.bac_pdu.specs.{Peer.station, Property.IsPriority};
+ghost use Rattle.bac_text.{
+  specs.{Words.{octets_of, next_as}, Address.{plain_peer_of, peer_of}, Parameters.write_index_of},
+};
+ghost use Rattle.bac_script.{
+  specs.Line.{Happens, settings_of, property_in},
+  specs.Line.{index_in, reading_of, priority_of, writing_of, arrival_of, tick_of, said_by, text_of_line, said},
+  specs.{Inner.{Line.IsLeft, LineSeen.{arrival_seen, line_seen}}, Script.is_nothing},
+};
 
 use crate::long_write::LongWrite;
 use bac_pdu::{Peer, READ_PROPERTY, ReadRequest, WRITE_PROPERTY};

@@ -1,17 +1,11 @@
 //! What is printed of a client's notes, and of a device's replies.
 
-ghost use Rattle.std.specs.Prelude.{◌≡◌, [], ◌∷◌, ◌++◌, false, is_err, option_map, IfErr};
-ghost use Rattle.std.specs.List.{flat_map};
+ghost use Rattle.std.specs.{Prelude.{◌≡◌, [], ◌∷◌, ◌++◌, false, is_err, option_map, IfErr}, List.flat_map};
 ghost use Rattle.hex.specs.Hex.{encode_lower};
 ghost use Rattle.bac_pdu.specs.Peer.{station};
-ghost use Rattle.bac_tsm.specs.Events.{Done, Refused, TimedOut};
-ghost use Rattle.bac_tsm.specs.Machine.{sent, due_notes};
-ghost use Rattle.bac_tsm.specs.Client.{outcome_seen};
+ghost use Rattle.bac_tsm.specs.{Events.{Done, Refused, TimedOut}, Machine.{sent, due_notes}, Client.outcome_seen};
 ghost use Rattle.bac_print.specs.Checked.{has_failed, TookOrFailed};
-ghost use Rattle.bac_print.specs.Page.{Prints};
-ghost use Rattle.bac_print.specs.PeerTexts.{peer_text};
-ghost use Rattle.bac_print.specs.Values.{region_text};
-ghost use Rattle.bac_print.specs.Outcomes.{outcome_text};
+ghost use Rattle.bac_print.specs.{Page.Prints, PeerTexts.peer_text, Values.region_text, Outcomes.outcome_text};
 ghost use Rattle.bac_script.specs.Text.{note_text, notes_text, reply_text};
 
 use crate::tracing::TraceFault;

@@ -1,13 +1,9 @@
 //! A script, run as it is read.
 
 ghost use Rattle.std.specs.Prelude.{◌≡◌, ◌↔◌, true, false, Err, []};
-ghost use Rattle.bac_print.specs.Checked.{has_failed};
-ghost use Rattle.bac_script.specs.Inner.Running.{new_client};
-ghost use Rattle.bac_script.specs.Script.{fault_at};
-ghost use Rattle.bac_print.specs.Message.{message_text};
-ghost use Rattle.bac_print.specs.Page.{held, writer_of};
-ghost use Rattle.bac_script.specs.Tracing.{Traces, trace_status_of, trace_fault_text};
-ghost use Rattle.bac_script.specs.Inner.Tracing.{RunsOn};
+ghost use Rattle.bac_print.specs.{Checked.has_failed, Message.message_text, Page.{held, writer_of}};
+ghost use Rattle.bac_script.specs.Inner.{Running.new_client, Tracing.RunsOn};
+ghost use Rattle.bac_script.specs.{Script.fault_at, Tracing.{Traces, trace_status_of, trace_fault_text}};
 
 use crate::input::{Chunk, Reading};
 use crate::line::{LineFault, LineRoom, read_line};

@@ -1,33 +1,25 @@
 -- Two runs of the program with the same words are alike.
-use Rattle.std.{
-  proofs.Common.{◌≡◌, ◌≢◌, ◌∷◌, ◌++◌, ℕ, inl, inr, List, [], Option, Some, None, Result, Ok, Err, refl, sym, ap, ◌∙◌},
-  proofs.Common.{subst, arith, ◌⊎◌, IsErrAnd, IsTrue, is_some, option_and_then},
-  specs.Result.result_ok,
-}
+use Rattle.std.proofs.Common.{◌≡◌, ◌≢◌, ◌∷◌, ◌++◌, ℕ, inl, inr, List, [], Option, Some, None, Result, Ok}
+use Rattle.std.proofs.Common.{Err, refl, sym, ap, ◌∙◌, subst, arith, ◌⊎◌, IsErrAnd, IsTrue, is_some, option_and_then}
+use Rattle.std.specs.Result.{result_ok}
 use Rattle.clap.specs.Words.{Text, fault_of}
+use Rattle.bac_text.specs.declared.{
+  jobs.{Call.Call, Job.{Job, TheVariants.{Over, Trace}}, Tool.{Tool, TheVariants.{Read, Write, WhoIs, Device}}},
+}
 use Rattle.bac_print.specs.{Checked.{fresh, octets_of}, declared.checked.Checked.Checked}
-use Rattle.bac_text.specs.declared.jobs.{Call.Call, Job.Job, Job.TheVariants.{Over, Trace}, Tool.Tool}
-use Rattle.bac_text.specs.declared.jobs.Tool.TheVariants.{Read, Write, WhoIs, Device}
+use Rattle.bac_script.proofs.Functions.{traces_alike, traces_front}
 use Rattle.bac_links.{
   proofs.{Alike.calls_so_far, SearchesAlike.searches_so_far, ServingsAlike.servings_so_far},
-  specs.{Answered.{answers_of, GoOnAlike, OneText, Printed}, Call.Tells, History.{Account, Entry}},
-  specs.declared.{exit.Exit.Exit, ending.{Purpose.Purpose, Purpose.TheVariants.{Reading, Writing}}},
-  specs.declared.{fault.ToolFault.ToolFault, fault.ToolFault.TheVariants.WriteFailed, link.LinkFault.LinkFault},
+  specs.{Answered.{answers_of, GoOnAlike, OneText, Printed}, Call.Tells},
+  specs.{History.{Account, Entry}, declared.{exit.Exit.Exit, ending.Purpose.{Purpose, TheVariants.{Reading, Writing}}}},
+  specs.declared.{fault.ToolFault.{ToolFault, TheVariants.WriteFailed}, link.LinkFault.LinkFault},
 }
-use Rattle.bac_script.proofs.Functions.{traces_alike, traces_front}
-use Rattle.bac_words.{
-  proofs.OneAnswer.one_answer,
-  specs.{Command.bactool, Marks.marked_words, Line.{Answers, IsRefusal}, declared.faults.UsageFault.UsageFault},
-  specs.declared.faults.UsageFault.TheVariants.{Help, Memory, Words},
-}
-use Rattle.bac_tools.specs.{
-  Alike.{AreAlike, AreGivenAlike, EndAlike, Gained, IsCutOff, IsPrinted, PrintAlike, Run, is_socket},
-  Binding.asked_by,
-  Outside.Outside,
-  Program.{Ends, IsGiven},
-  Report.{report_of, tool_report},
-  declared.{binding.Binding.Binding, report.Report.Report},
-  Runs.{Runs, RunsOpened, RunsOver, RunsScript, ToolRuns},
+use Rattle.bac_words.specs.{Command.bactool, declared.faults.UsageFault.{UsageFault, TheVariants.{Help, Memory, Words}}}
+use Rattle.bac_words.{specs.{Line.{Answers, IsRefusal}, Marks.marked_words}, proofs.OneAnswer.one_answer}
+use Rattle.bac_tools.{
+  specs.{Program.{Ends, IsGiven}, Binding.asked_by, declared.{binding.Binding.Binding, report.Report.Report}},
+  specs.{Outside.Outside, Report.{report_of, tool_report}, Runs.{Runs, RunsOpened, RunsOver, RunsScript, ToolRuns}},
+  specs.Alike.{AreAlike, AreGivenAlike, EndAlike, Gained, IsCutOff, IsPrinted, PrintAlike, Run, is_socket},
 }
 use Rattle.bac_tools.specs.declared.report.Fault.TheVariants as faults
 

@@ -1,28 +1,16 @@
 -- A run over a socket is the calls of the system for it.
-use Rattle.std.{
-  proofs.Common.{◌≡◌, ◌⊎◌, ℕ, Bool, inl, inr, List, [], Option, Some, Result, Ok, Err, sym, ap},
-  proofs.Common.{arith, IsErrAnd, option_and_then},
-  specs.Result.result_ok,
-}
+use Rattle.std.proofs.Common.{◌≡◌, ◌⊎◌, ℕ, Bool, inl, inr, List, [], Option, Some}
+use Rattle.std.{proofs.Common.{Result, Ok, Err, sym, ap, arith, IsErrAnd, option_and_then}, specs.Result.result_ok}
 use Rattle.clap.specs.Words.{Text}
+use Rattle.bac_text.specs.declared.jobs.{Job.{Job, TheVariants.Over}, Tool.Tool}
 use Rattle.bac_print.specs.declared.checked.Checked.{Checked}
-use Rattle.bac_text.specs.declared.jobs.{Job.Job, Job.TheVariants.Over, Tool.Tool}
-use Rattle.bac_links.specs.{
-  History.Account,
-  SystemCall.SystemCall,
-  declared.{exit.Exit.Exit, fault.ToolFault.ToolFault},
-  declared.link.LinkFault.LinkFault,
-}
+use Rattle.bac_links.specs.{History.Account, SystemCall.SystemCall}
+use Rattle.bac_links.specs.declared.{exit.Exit.Exit, fault.ToolFault.ToolFault, link.LinkFault.LinkFault}
 use Rattle.bac_words.specs.{Called.words_called, Line.{Answers, IsRefusal}, declared.faults.UsageFault.UsageFault}
-use Rattle.bac_tools.specs.{
-  Binding.{binding_of, asked_by},
-  Calls.{GivesSockets, RunsAsCalls},
-  Outside.Outside,
-  Program.{Ends, IsCalled, IsGiven, IsRun},
-  Report.tool_report,
-  Runs.{Runs, RunsOver, ToolRuns},
-  Telling.{IsTold, on_output, once_given},
-  declared.{binding.Binding.Binding, program.Ran.Ran, report.Report.Report},
+use Rattle.bac_tools.{
+  specs.{Program.{Ends, IsCalled, IsGiven, IsRun}, Calls.{GivesSockets, RunsAsCalls}},
+  specs.{declared.{binding.Binding.Binding, report.Report.Report, program.Ran.Ran}, Binding.{binding_of, asked_by}},
+  specs.{Runs.{Runs, RunsOver, ToolRuns}, Telling.{IsTold, on_output, once_given}, Report.tool_report, Outside.Outside},
 }
 
 -- What a tool leaves of a link was made of the same.

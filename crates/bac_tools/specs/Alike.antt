@@ -1,25 +1,17 @@
 -- That two runs of the program with the same words are alike.
-use Rattle.std.specs.Prelude.{◌≡◌, ◌⊎◌, ◌++◌, ℕ, ⊤, Bool, IsTrue, is_some, List, [], Option, Some, option_and_then}
-use Rattle.std.specs.Prelude.{Result, Ok, IsErrAnd}
-use Rattle.std.specs.Result.{result_ok}
+use Rattle.std.specs.Prelude.{◌≡◌, ◌⊎◌, ◌++◌, ℕ, ⊤, Bool, IsTrue, is_some}
+use Rattle.std.specs.{Prelude.{List, [], Option, Some, option_and_then, Result, Ok, IsErrAnd}, Result.result_ok}
 use Rattle.clap.specs.Words.{Text}
-use Rattle.bac_print.specs.Checked.{fresh, octets_of}
-use Rattle.bac_print.specs.declared.checked.Checked.{Checked}
-use Rattle.bac_links.specs.Answered.{answers_of, GoOnAlike}
-use Rattle.bac_links.specs.History.{Account, Entry}
-use Rattle.bac_links.specs.declared.fault.ToolFault.TheVariants as tools
-use Rattle.bac_links.specs.declared.link.LinkFault.{LinkFault}
+use Rattle.bac_print.specs.{Checked.{fresh, octets_of}, declared.checked.Checked.Checked}
 use Rattle.bac_script.specs.Alike.{IsFrontOf, GaveFront, GaveSame}
 use Rattle.bac_script.specs.declared.tracing.TraceFault.TheVariants as stops
-use Rattle.bac_words.specs.Line.{IsRefusal}
-use Rattle.bac_words.specs.declared.faults.UsageFault.TheVariants.{Memory}
-use Rattle.bac_tools.specs.Outside.{Outside}
-use Rattle.bac_tools.specs.Program.{Program}
-use Rattle.bac_tools.specs.declared.binding.Binding.{Binding}
-use Rattle.bac_tools.specs.declared.program.Ran.{Ran}
-use Rattle.bac_tools.specs.declared.report.Fault.{Fault}
+use Rattle.bac_links.specs.Answered.{answers_of, GoOnAlike}
+use Rattle.bac_links.specs.{History.{Account, Entry}, declared.link.LinkFault.LinkFault}
+use Rattle.bac_links.specs.declared.fault.ToolFault.TheVariants as tools
+use Rattle.bac_words.specs.{Line.IsRefusal, declared.faults.UsageFault.TheVariants.Memory}
+use Rattle.bac_tools.specs.{Outside.Outside, Program.Program}
+use Rattle.bac_tools.specs.declared.{binding.Binding.Binding, program.Ran.Ran, report.{Fault.Fault, Report.Report}}
 use Rattle.bac_tools.specs.declared.report.Fault.TheVariants as faults
-use Rattle.bac_tools.specs.declared.report.Report.{Report}
 
 -- The network gave a socket.
 abbrev pub is_socket : {L : Type 0} → Option (Result L LinkFault) → Bool

@@ -3,22 +3,15 @@ use Rattle.std.specs.Prelude.{◌≡◌, ℕ, List, [], ◌∷◌, Option, Resul
 use Rattle.std.specs.declared.net.socket_addr.SocketAddr.{SocketAddr}
 use Rattle.clap.specs.Words.{Text}
 use Rattle.bac_pdu.specs.Peer.{station}
+use Rattle.bac_text.specs.declared.jobs.{Job.TheVariants.Over, Tool.Tool}
 use Rattle.bac_print.specs.declared.checked.Checked.{Checked}
-use Rattle.bac_links.specs.History.{Account, Entry}
-use Rattle.bac_links.specs.Socket.{AreCallsFor, Binds, IsAddressOf, Logs}
-use Rattle.bac_links.specs.SystemCall.{SystemCall, Bind}
-use Rattle.bac_links.specs.declared.exit.Exit.{Exit}
-use Rattle.bac_links.specs.declared.fault.ToolFault.{ToolFault}
-use Rattle.bac_links.specs.declared.link.LinkFault.{LinkFault}
+use Rattle.bac_links.{
+  specs.{History.{Account, Entry}, Socket.{AreCallsFor, Binds, IsAddressOf, Logs}},
+  specs.{SystemCall.{SystemCall, Bind}, declared.{exit.Exit.Exit, fault.ToolFault.ToolFault, link.LinkFault.LinkFault}},
+}
 use Rattle.bac_words.specs.Line.{Answers}
-use Rattle.bac_text.specs.declared.jobs.Job.TheVariants.{Over}
-use Rattle.bac_text.specs.declared.jobs.Tool.{Tool}
-use Rattle.bac_tools.specs.Binding.{binding_of}
-use Rattle.bac_tools.specs.Report.{tool_report}
-use Rattle.bac_tools.specs.Runs.{ToolRuns}
-use Rattle.bac_tools.specs.Telling.{IsTold, on_error}
-use Rattle.bac_tools.specs.declared.binding.Binding.{Binding}
-use Rattle.bac_tools.specs.declared.report.Report.{Report}
+use Rattle.bac_tools.specs.{Binding.binding_of, Report.tool_report, Runs.ToolRuns}
+use Rattle.bac_tools.specs.{Telling.{IsTold, on_error}, declared.{binding.Binding.Binding, report.Report.Report}}
 
 -- A network gives sockets. Where it gives a link, the system was asked for a socket at the address, and for nothing
 -- else, and the link for nothing yet; and whenever a link is made of the same, the system was asked since then for the

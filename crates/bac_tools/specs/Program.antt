@@ -1,32 +1,21 @@
 -- From the words to what is asked of the socket, what is printed, and the status.
-use Rattle.std.specs.Prelude.{◌≡◌, ◌⊎◌, ℕ, List, Option, Some, None, option_and_then, IsSomeAnd, IfNone}
-use Rattle.std.specs.Prelude.{Result, Ok, Err, IsErrAnd, map}
-use Rattle.std.specs.IoError.{error_kind}
-use Rattle.std.specs.Result.{result_map_both, result_ok}
-use Rattle.std.specs.String.{string_bytes}
-use Rattle.std.specs.Vec.Iter.{into_iter_items}
-use Rattle.std.specs.declared.io.Error.{Error}
-use Rattle.std.specs.declared.io.ErrorKind.{ErrorKind}
-use Rattle.std.specs.declared.string.String.{String}
-use Rattle.std.specs.declared.vec.IntoIter.{IntoIter}
+use Rattle.std.{
+  specs.{declared.{vec.IntoIter.IntoIter, io.{ErrorKind.ErrorKind, Error.Error}, string.String.String}, Prelude.◌≡◌},
+  specs.Prelude.{◌⊎◌, ℕ, List, Option, Some, None, option_and_then, IsSomeAnd, IfNone, Result, Ok, Err, IsErrAnd, map},
+  specs.{IoError.error_kind, Result.{result_map_both, result_ok}, Vec.Iter.into_iter_items, String.string_bytes},
+}
 use Rattle.clap.specs.Words.{Text}
-use Rattle.bac_print.specs.Checked.{has_failed}
-use Rattle.bac_print.specs.declared.checked.Checked.{Checked}
-use Rattle.bac_links.specs.declared.link.LinkFault.{LinkFault}
-use Rattle.bac_words.specs.Called.{words_called}
-use Rattle.bac_words.specs.Line.{Answers, IsRefusal}
-use Rattle.bac_words.specs.declared.faults.UsageFault.{UsageFault}
-use Rattle.bac_words.specs.declared.faults.UsageFault.TheVariants.{Memory}
 use Rattle.bac_text.specs.declared.jobs.Job.{Job}
-use Rattle.bac_tools.specs.Binding.{asked_by}
-use Rattle.bac_tools.specs.Outside.{Outside}
-use Rattle.bac_tools.specs.Report.{report_of, unread_report}
-use Rattle.bac_tools.specs.Runs.{Runs}
-use Rattle.bac_tools.specs.Telling.{IsTold, on_error, on_output, once_given}
-use Rattle.bac_tools.specs.declared.binding.Binding.{Binding}
-use Rattle.bac_tools.specs.declared.program.Ran.{Ran}
+use Rattle.bac_print.specs.{Checked.has_failed, declared.checked.Checked.Checked}
+use Rattle.bac_links.specs.declared.link.LinkFault.{LinkFault}
+use Rattle.bac_words.{
+  specs.{Called.words_called, Line.{Answers, IsRefusal}, declared.faults.UsageFault.{UsageFault, TheVariants.Memory}},
+}
+use Rattle.bac_tools.{
+  specs.{declared.{program.Ran.Ran, report.Report.Report, binding.Binding.Binding}, Report.{report_of, unread_report}},
+  specs.{Telling.{IsTold, on_error, on_output, once_given}, Binding.asked_by, Runs.Runs, Outside.Outside},
+}
 use Rattle.bac_tools.specs.declared.report.Fault.TheVariants as faults
-use Rattle.bac_tools.specs.declared.report.Report.{Report}
 
 -- The words that the system tells, or why it tells none.
 abbrev pub texts_of : {Z : Type 0} → Result (IntoIter (String Z) Z) Error → Result (List Text) ErrorKind

@@ -1,19 +1,11 @@
 -- The status with which the program ends, and the fault that it tells of.
 use Rattle.std.specs.Prelude.{◌≡◌, ◌≤◌, ℕ, Option, Some, None, option_map, Result, Err}
-use Rattle.std.specs.Result.{result_err}
-use Rattle.std.specs.declared.io.ErrorKind.{ErrorKind}
-use Rattle.std.specs.declared.io.ErrorKind.TheVariants.{OutOfMemory}
-use Rattle.bac_links.specs.Ending.{status_of}
-use Rattle.bac_links.specs.declared.exit.Exit.{Exit}
-use Rattle.bac_links.specs.declared.fault.ToolFault.{ToolFault}
-use Rattle.bac_script.specs.Tracing.{trace_status_of}
-use Rattle.bac_script.specs.declared.tracing.TraceEnd.{TraceEnd}
-use Rattle.bac_script.specs.declared.tracing.TraceFault.{TraceFault}
-use Rattle.bac_words.specs.Fault.{usage_status_of}
-use Rattle.bac_words.specs.declared.faults.UsageFault.TheVariants.{Memory}
-use Rattle.bac_tools.specs.declared.report.Fault.{Fault}
+use Rattle.std.specs.{Result.result_err, declared.io.ErrorKind.{ErrorKind, TheVariants.OutOfMemory}}
+use Rattle.bac_script.specs.{Tracing.trace_status_of, declared.tracing.{TraceEnd.TraceEnd, TraceFault.TraceFault}}
+use Rattle.bac_links.specs.{Ending.status_of, declared.{exit.Exit.Exit, fault.ToolFault.ToolFault}}
+use Rattle.bac_words.specs.{Fault.usage_status_of, declared.faults.UsageFault.TheVariants.Memory}
+use Rattle.bac_tools.specs.declared.report.{Fault.Fault, Report.Report}
 use Rattle.bac_tools.specs.declared.report.Fault.TheVariants as faults
-use Rattle.bac_tools.specs.declared.report.Report.{Report}
 
 -- The status of each fault: 0 where help was asked for; 2 where words or a line of a script are wrong; 3 where a
 -- socket, a reader, a writer or the turns gave out; 4 without memory.

@@ -1,33 +1,19 @@
 -- What a job prints, sends and leaves, and how the program ends: for each job by the definition of its tool.
-use Rattle.std.specs.Prelude.{◌≡◌, ◌↔◌, ℕ, true, [], List, Option, Some, Result, Ok, Err}
-use Rattle.std.specs.Result.{result_map_both}
-use Rattle.bac_device.specs.Demo.{demo_points}
-use Rattle.bac_device.specs.Device.{DeviceState, device_after}
-use Rattle.bac_print.specs.Checked.{has_failed}
-use Rattle.bac_print.specs.declared.checked.Checked.{Checked}
-use Rattle.bac_links.specs.History.{Account}
-use Rattle.bac_links.specs.Call.{Tells}
-use Rattle.bac_links.specs.Search.{Searched}
-use Rattle.bac_links.specs.Serve.{Serves}
-use Rattle.bac_links.specs.Fault.{is_link_fault, is_write_fault}
-use Rattle.bac_links.specs.declared.exit.Exit.{Exit}
-use Rattle.bac_links.specs.declared.exit.Exit.TheVariants.{Good}
-use Rattle.bac_links.specs.declared.ending.Purpose.TheVariants.{Reading, Writing}
-use Rattle.bac_links.specs.declared.fault.ToolFault.{ToolFault}
-use Rattle.bac_links.specs.declared.link.LinkFault.{LinkFault}
-use Rattle.bac_script.specs.Tracing.{Traces}
-use Rattle.bac_script.specs.declared.tracing.TraceEnd.{TraceEnd}
-use Rattle.bac_script.specs.declared.tracing.TraceFault.{TraceFault}
+use Rattle.std.specs.{Prelude.{◌≡◌, ◌↔◌, ℕ, true, [], List, Option, Some, Result, Ok, Err}, Result.result_map_both}
+use Rattle.bac_device.specs.{Demo.demo_points, Device.{DeviceState, device_after}}
+use Rattle.bac_text.specs.declared.{
+  jobs.{Job.{Job, TheVariants.{Over, Trace}}, Serve.Serve, Tool.{Tool, TheVariants.{Read, Write, WhoIs, Device}}},
+}
+use Rattle.bac_print.specs.{Checked.has_failed, declared.checked.Checked.Checked}
+use Rattle.bac_script.specs.{Tracing.Traces, declared.tracing.{TraceEnd.TraceEnd, TraceFault.TraceFault}}
 use Rattle.bac_script.specs.declared.tracing.TraceFault.TheVariants as stops
-use Rattle.bac_text.specs.declared.jobs.Job.{Job}
-use Rattle.bac_text.specs.declared.jobs.Job.TheVariants.{Over, Trace}
-use Rattle.bac_text.specs.declared.jobs.Serve.{Serve}
-use Rattle.bac_text.specs.declared.jobs.Tool.{Tool}
-use Rattle.bac_text.specs.declared.jobs.Tool.TheVariants.{Read, Write, WhoIs, Device}
-use Rattle.bac_tools.specs.Outside.{Outside}
-use Rattle.bac_tools.specs.Report.{report_of, tool_report, trace_report}
+use Rattle.bac_links.specs.{Call.Tells, Fault.{is_link_fault, is_write_fault}, History.Account, Search.Searched}
+use Rattle.bac_links.specs.{Serve.Serves, declared.{ending.Purpose.TheVariants.{Reading, Writing}, exit.Exit.Exit}}
+use Rattle.bac_links.specs.declared.{exit.Exit.TheVariants.Good, fault.ToolFault.ToolFault, link.LinkFault.LinkFault}
+use Rattle.bac_tools.{
+  specs.{Outside.Outside, Report.{report_of, tool_report, trace_report}, declared.report.Report.Report},
+}
 use Rattle.bac_tools.specs.declared.report.Fault.TheVariants as faults
-use Rattle.bac_tools.specs.declared.report.Report.{Report}
 
 -- A demonstration device: its replies to the datagrams that come. However many they are, its exit is good.
 pub record DevicePlays {Origin : Type 0} (serve : Serve) (seen left : Account Origin) (answer : Result Exit ToolFault)

@@ -1,18 +1,13 @@
 //! What holds of the definitions that the contracts cite, and of the public types: the clause of a function with an
 //! empty body is the law.
-ghost use Rattle.std.specs.Prelude.{◌≡◌, List, Some, Result, Ok};
-ghost use Rattle.bac_wire.specs.Copies.{MakesCopies};
-ghost use Rattle.std.specs.declared.io.ErrorKind.{ErrorKind};
+ghost use Rattle.std.specs.{Prelude.{◌≡◌, List, Some, Result, Ok}, declared.io.ErrorKind.ErrorKind};
 ghost use Rattle.clap.specs.Words.{Text};
-ghost use Rattle.bac_links.specs.History.{Entry};
-ghost use Rattle.bac_links.specs.SystemCall.{SystemCall};
-ghost use Rattle.bac_words.specs.Called.{words_called};
+ghost use Rattle.bac_wire.specs.Copies.{MakesCopies};
 ghost use Rattle.bac_print.specs.declared.checked.Checked.{Checked};
-ghost use Rattle.bac_tools.specs.Alike.{Run, AreGivenAlike, AreAlike};
-ghost use Rattle.bac_tools.specs.Calls.{GivesSockets, RunsAsCalls};
-ghost use Rattle.bac_tools.specs.Program.{IsRun, Program};
-ghost use Rattle.bac_tools.specs.Report.{IsStatusOf};
-ghost use Rattle.bac_tools.specs.declared.program.Ran.{Ran};
+ghost use Rattle.bac_links.specs.{History.Entry, SystemCall.SystemCall};
+ghost use Rattle.bac_words.specs.Called.{words_called};
+ghost use Rattle.bac_tools.specs.{Alike.{Run, AreGivenAlike, AreAlike}, Calls.{GivesSockets, RunsAsCalls}};
+ghost use Rattle.bac_tools.specs.{Program.{IsRun, Program}, Report.IsStatusOf, declared.program.Ran.Ran};
 
 use crate::binding::Binding;
 use crate::program::Network;

@@ -1,13 +1,10 @@
 //! The program, from its words to its report.
 ghost use Rattle.std.specs.Prelude.{◌≡◌, false, map, None, Some, Ok, IfOk, IfErr, MatchResult, Result};
-ghost use Rattle.std.specs.IoError.{error_kind};
-ghost use Rattle.std.specs.String.{string_bytes};
-ghost use Rattle.std.specs.declared.io.ErrorKind.TheVariants.{OutOfMemory};
+ghost use Rattle.std.specs.{IoError.error_kind, String.string_bytes, declared.io.ErrorKind.TheVariants.OutOfMemory};
 ghost use Rattle.clap.specs.Walk.{texts};
 ghost use Rattle.bac_print.specs.Checked.{fresh, has_failed};
 ghost use Rattle.bac_links.specs.declared.link.LinkFault.{LinkFault};
-ghost use Rattle.bac_tools.specs.Program.{IsCalled, IsRun, Program, texts_of};
-ghost use Rattle.bac_tools.specs.declared.binding.Binding.{Binding};
+ghost use Rattle.bac_tools.specs.{Program.{IsCalled, IsRun, Program, texts_of}, declared.binding.Binding.Binding};
 
 use crate::binding::{Binding, binding_for};
 use crate::report::Report;

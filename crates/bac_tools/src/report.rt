@@ -1,9 +1,10 @@
 //! How the program ends.
 ghost use Rattle.std.specs.Prelude.{◌≡◌, option_map};
 ghost use Rattle.bac_words.specs.Telling.{told_by};
-ghost use Rattle.bac_tools.specs.Report.{report_of, tool_report, trace_report, unread_report};
-ghost use Rattle.bac_tools.specs.Telling.{fault_told, on_error, on_output, once_given};
-ghost use Rattle.bac_tools.specs.declared.report.Fault.TheVariants.{Link, Usage};
+ghost use Rattle.bac_tools.{
+  specs.Report.{report_of, tool_report, trace_report, unread_report},
+  specs.{Telling.{fault_told, on_error, on_output, once_given}, declared.report.Fault.TheVariants.{Link, Usage}},
+};
 
 use bac_links::{Exit, LinkFault, ToolFault, status};
 use bac_print::Message;

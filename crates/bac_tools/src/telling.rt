@@ -1,7 +1,6 @@
 //! What the program tells at its end.
 ghost use Rattle.std.specs.Prelude.{◌++◌, ℕ, List, codes, option_map};
-ghost use Rattle.bac_print.specs.Message.{message_text};
-ghost use Rattle.bac_print.specs.Page.{Prints};
+ghost use Rattle.bac_print.specs.{Message.message_text, Page.Prints};
 ghost use Rattle.bac_words.specs.Telling.{told_by};
 ghost use Rattle.bac_tools.specs.Telling.{AreOctetsOf, IsTold};
 

@@ -1,11 +1,7 @@
 -- A device with one valve.
 use Rattle.std.specs.Prelude.{codes}
-use Rattle.bac_device.specs.Demo.{row}
-use Rattle.bac_device.specs.Info.{Info}
-use Rattle.bac_device.specs.Kind.{kind}
-use Rattle.bac_device.specs.Point.{Description, described}
-use Rattle.bac_device.specs.declared.kind.Family.TheVariants.{Analog}
-use Rattle.bac_device.specs.declared.kind.Role.TheVariants.{Output}
+use Rattle.bac_device.specs.{Demo.row, Info.Info, Kind.kind, Point.{Description, described}}
+use Rattle.bac_device.specs.declared.kind.{Family.TheVariants.Analog, Role.TheVariants.Output}
 
 -- What the device is known by.
 abbrev pub heating : Info

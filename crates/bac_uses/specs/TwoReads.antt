@@ -1,12 +1,8 @@
 -- Two reads of analog input 5, and what a tick says of each once a datagram was heard.
-use Rattle.std.specs.Prelude.{ℕ, ◌+◌, List, [], ◌∷◌}
-use Rattle.std.specs.Option.{option_map_or}
+use Rattle.std.specs.{Prelude.{ℕ, ◌+◌, List, [], ◌∷◌}, Option.option_map_or}
 use Rattle.bac_pdu.specs.Peer.{Station}
-use Rattle.bac_tsm.specs.Answers.{outcome_of}
-use Rattle.bac_tsm.specs.Client.{client_rules}
-use Rattle.bac_tsm.specs.Events.{Request, Rules, request_of}
-use Rattle.bac_tsm.specs.declared.due.Entry.{Entry}
-use Rattle.bac_tsm.specs.declared.due.Entry.TheVariants.{Resend}
+use Rattle.bac_tsm.specs.{Answers.outcome_of, Client.client_rules}
+use Rattle.bac_tsm.specs.{Events.{Request, Rules, request_of}, declared.due.Entry.{Entry, TheVariants.Resend}}
 
 -- A timeout of three seconds, and three retries.
 abbrev pub usual : Rules

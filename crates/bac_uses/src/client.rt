@@ -1,7 +1,6 @@
 //! Two reads of one device, open at once.
 
-ghost use Rattle.std.specs.Prelude.{◌≡◌, [], ◌∷◌};
-ghost use Rattle.std.specs.List.{flat_map};
+ghost use Rattle.std.specs.{Prelude.{◌≡◌, [], ◌∷◌}, List.flat_map};
 ghost use Rattle.bac_pdu.specs.Peer.{station};
 ghost use Rattle.bac_uses.specs.TwoReads.{read_of, again_unless};
 

@@ -1,10 +1,8 @@
 //! A device with one valve, and what comes of a datagram.
 
-ghost use Rattle.std.specs.Prelude.{◌≡◌, [], ◌∷◌, Some};
-ghost use Rattle.std.specs.Option.{option_map};
+ghost use Rattle.std.specs.{Prelude.{◌≡◌, [], ◌∷◌, Some}, Option.option_map};
 ghost use Rattle.bac_pdu.specs.Peer.{station};
-ghost use Rattle.bac_device.specs.Device.{present_after, device_after};
-ghost use Rattle.bac_device.specs.Reply.{reply_to, writes_after};
+ghost use Rattle.bac_device.specs.{Device.{present_after, device_after}, Reply.{reply_to, writes_after}};
 ghost use Rattle.bac_uses.specs.Heating.{heating, valve};
 
 use bac_device::{Device, DeviceInfo, Point};

@@ -3,8 +3,9 @@
 ghost use Rattle.std.specs.Prelude.{◌≡◌, ◌<◌, false, Option, Ok};
 ghost use Rattle.bac_tsm.specs.Events.{Outcome};
 ghost use Rattle.bac_print.specs.Checked.{has_failed, Took};
-ghost use Rattle.bac_links.specs.Ending.{ending_line, exit_of, status_of};
-ghost use Rattle.bac_links.specs.declared.ending.Purpose.TheVariants.{Reading};
+ghost use Rattle.bac_links.{
+  specs.{Ending.{ending_line, exit_of, status_of}, declared.ending.Purpose.TheVariants.Reading},
+};
 
 use bac_links::{Refused, UdpLink, run_read, status};
 use bac_pdu::Peer;

@@ -2,10 +2,7 @@
 
 ghost use Rattle.std.specs.Prelude.{◌≡◌, None, IfOk, true};
 ghost use Rattle.bac_wire.specs.Identifier.{identifier};
-ghost use Rattle.bac_pdu.specs.Apdu.{confirmed, laid_out};
-ghost use Rattle.bac_pdu.specs.Datagram.{wrapped};
-ghost use Rattle.bac_pdu.specs.Peer.{station};
-ghost use Rattle.bac_pdu.specs.Property.{read_octets};
+ghost use Rattle.bac_pdu.specs.{Apdu.{confirmed, laid_out}, Datagram.wrapped, Peer.station, Property.read_octets};
 
 use bac_pdu::{Apdu, Peer, READ_PROPERTY, ReadRequest, wrap, write_apdu, write_read};
 use bac_wire::{Frame, Full, ObjectId};

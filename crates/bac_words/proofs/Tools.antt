@@ -1,29 +1,15 @@
 -- Words that `clap` takes name one of the five tools, with matches that passed its rules.
-use Rattle.std.proofs.{
-  Common.{◌∙◌, ◌≡◌, ◌⊎◌, Bool, codes, true, false, refl, sym, subst, inl, inr, List, [], ◌∷◌, Some, Result, Ok, Err},
-  Common.{IsSomeAnd, IsErrAnd},
-  Math.Bool.or-false,
-  lemmas.{Bool.false≢true, Slice.Eq.bytes_eq-Decides},
-}
-use Rattle.std.specs.List.{find}
-use Rattle.clap.specs.{
-  Walk.{Text, answers_to, nothing_held},
-  Faults.{fault_of, is_simple_and_free, level_fault},
-  Kinds.{HasKind, IsAmong},
-  Values.kind_of,
-  declared.error.{Error.Error, kind.ErrorKind.ErrorKind},
-  Simple.{Shape, built, label_of, is_simple, rows_at, subcommand_of},
-}
-use Rattle.bac_words.specs.{
-  declared.faults.UsageFault.UsageFault,
-  Command.bactool,
-  Inner.{Fault.{fault_by, fault_from}, Job.IsTool},
-  Line.IsRefusal,
-  Marks.marked_words,
-}
-use Rattle.bac_text.specs.declared.jobs.Job.{Job}
-use Rattle.clap_laws.{specs.Entering.asks_for_help, proofs.{Enters.enters, Rows.{level_taken, when_found}}}
+use Rattle.std.proofs.Common.{◌∙◌, ◌≡◌, ◌⊎◌, Bool, codes, true, false}
+use Rattle.std.proofs.Common.{refl, sym, subst, inl, inr, List, [], ◌∷◌, Some, Result, Ok, Err, IsSomeAnd, IsErrAnd}
+use Rattle.std.{proofs.{Math.Bool.or-false, lemmas.{Bool.false≢true, Slice.Eq.bytes_eq-Decides}}, specs.List.find}
+use Rattle.clap.specs.{Walk.{Text, answers_to, nothing_held}, Faults.{fault_of, is_simple_and_free, level_fault}}
+use Rattle.clap.specs.{Kinds.{HasKind, IsAmong}, Values.kind_of, declared.error.{Error.Error, kind.ErrorKind.ErrorKind}}
+use Rattle.clap.specs.Simple.{Shape, built, label_of, is_simple, rows_at, subcommand_of}
 use Rattle.clap.specs.declared.error.kind.ErrorKind.TheVariants as kind
+use Rattle.clap_laws.{specs.Entering.asks_for_help, proofs.{Enters.enters, Rows.{level_taken, when_found}}}
+use Rattle.bac_text.specs.declared.jobs.Job.{Job}
+use Rattle.bac_words.specs.{declared.faults.UsageFault.UsageFault, Command.bactool}
+use Rattle.bac_words.specs.{Inner.{Fault.{fault_by, fault_from}, Job.IsTool}, Line.IsRefusal, Marks.marked_words}
 
 abbrev AllOf : (Shape → Type 0) → List Shape → Type 0
 AllOf P [] = Unit {0}

@@ -1,9 +1,6 @@
 -- The words that are left, from their front.
-use Rattle.std.{
-  proofs.Common.{◌≡◌, ℕ, ◌+◌, ◌<◌, ◌≤◌, List, [], ◌∷◌, length, map, drop, get_or, sym, ◌∙◌, ap, arith, add-one},
-  proofs.{Common.{drop-cons, length-drop}, lemmas.List.{drop_all, length-map}},
-  specs.Borrow.Bor,
-}
+use Rattle.std.proofs.Common.{◌≡◌, ℕ, ◌+◌, ◌<◌, ◌≤◌, List, [], ◌∷◌, length, map, drop, get_or, sym, ◌∙◌, ap, arith}
+use Rattle.std.{proofs.{Common.{add-one, drop-cons, length-drop}, lemmas.List.{drop_all, length-map}}, specs.Borrow.Bor}
 use Rattle.clap.specs.Walk.{Text, texts}
 use Rattle.bac_words.specs.Marks.{unmarked}
 

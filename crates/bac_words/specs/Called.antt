@@ -1,9 +1,6 @@
 -- The words that the program runs, by those that it was called with.
-use Rattle.std.specs.Prelude.{ℕ, Bool, ◌||◌, List, [], ◌∷◌, ◌++◌, Option, Some, None, option_and_then, codes}
-use Rattle.std.specs.Prelude.{if◌then◌else◌}
-use Rattle.std.specs.Option.{option_map_or}
-use Rattle.std.specs.Path.{path_file_name}
-use Rattle.std.specs.Str.{bytes_eq}
+use Rattle.std.specs.Prelude.{ℕ, Bool, ◌||◌, List, [], ◌∷◌, ◌++◌, Option, Some, None, option_and_then}
+use Rattle.std.specs.{Prelude.{codes, if◌then◌else◌}, Option.option_map_or, Path.path_file_name, Str.bytes_eq}
 
 abbrev pub is_tool : List ℕ → Bool
 is_tool name = bytes_eq name (codes "bacrp") || bytes_eq name (codes "bacwp") || bytes_eq name (codes "bacwi")

@@ -1,6 +1,5 @@
 -- The command line of `bactool`, as `clap` reads it: five tools, each with its words.
-use Rattle.std.specs.Prelude.{List, [], ◌∷◌, ◌++◌, codes}
-use Rattle.std.specs.List.{fold}
+use Rattle.std.specs.{Prelude.{List, [], ◌∷◌, ◌++◌, codes}, List.fold}
 use Rattle.clap.specs.Words.{App, Rule, new_app, new_rule, with_rule, with_subcommand}
 use Rattle.clap_laws.specs.Commands.{number, needed, by_name, several, wanting}
 

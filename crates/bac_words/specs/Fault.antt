@@ -1,11 +1,9 @@
 -- What an error of `clap` is to the user of the words.
 use Rattle.std.specs.Prelude.{ℕ, ◌++◌, codes, decimal}
-use Rattle.bac_words.specs.Telling.{Told, Text, Line}
-use Rattle.bac_words.specs.declared.faults.UsageFault.{UsageFault}
 use Rattle.bac_text.specs.declared.pairs.PairFault.{PairFault}
 use Rattle.bac_text.specs.declared.pairs.PairFault.TheVariants as pair
-use Rattle.bac_words.specs.declared.faults.UsageFault.TheVariants.{Help, Words, Memory, BadMac, BadIndex}
-use Rattle.bac_words.specs.declared.faults.UsageFault.TheVariants.{BadValue, BodyTooLong}
+use Rattle.bac_words.specs.declared.faults.UsageFault.{UsageFault, TheVariants.{Help, Words, Memory, BadMac, BadIndex}}
+use Rattle.bac_words.specs.{declared.faults.UsageFault.TheVariants.{BadValue, BodyTooLong}, Telling.{Told, Text, Line}}
 
 -- What a fault of the pairs is to the user of the words.
 abbrev pub usage_of : PairFault → UsageFault

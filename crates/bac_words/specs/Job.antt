@@ -1,30 +1,19 @@
 -- What the words of a tool ask for, and the first thing that is wrong with them.
-use Rattle.std.specs.Prelude.{◌<◌, ℕ, List, [], Option, Some, None, Result, Ok, codes, map, unwrap_or}
-use Rattle.std.specs.Prelude.{option_and_then, option_map, ok_or, if◌then◌else◌, ⊤}
-use Rattle.std.specs.Result.{result_map_both}
-use Rattle.std.specs.Str.{bytes_eq}
+use Rattle.std.specs.Prelude.{◌<◌, ℕ, List, [], Option, Some, None, Result, Ok, codes, map, unwrap_or, option_and_then}
+use Rattle.std.specs.{Prelude.{option_map, ok_or, if◌then◌else◌, ⊤}, Result.result_map_both, Str.bytes_eq}
 use Rattle.arrayvec.specs.ArrayVec.{ArrayVec}
 use Rattle.clap.specs.Words.{Row, Text, all_of, first_of}
 use Rattle.clap_laws.specs.Numbers.{number_of}
 use Rattle.bac_wire.specs.Identifier.{Identifier}
-use Rattle.bac_pdu.specs.declared.peer.Peer.{Peer}
-use Rattle.bac_pdu.specs.Property.{Reference, read_octets}
-use Rattle.bac_pdu.specs.Steps.{◌>>=◌}
-use Rattle.bac_pdu.specs.declared.discovery.WhoIs.{WhoIs}
-use Rattle.bac_pdu.specs.declared.discovery.WhoIs.TheVariants.{All, Range}
-use Rattle.bac_text.specs.Address.{plain_peer_of}
-use Rattle.bac_text.specs.Parameters.{priority_from, write_index_of}
-use Rattle.bac_text.specs.Pairs.{body_of}
-use Rattle.bac_text.specs.declared.jobs.Call.{Call}
-use Rattle.bac_text.specs.declared.pairs.PairFault.{PairFault}
-use Rattle.bac_text.specs.declared.jobs.Job.{Job}
+use Rattle.bac_pdu.specs.declared.{peer.Peer.Peer, discovery.WhoIs.{WhoIs, TheVariants.{All, Range}}}
+use Rattle.bac_pdu.specs.{Property.{Reference, read_octets}, Steps.◌>>=◌}
+use Rattle.bac_text.specs.{Address.plain_peer_of, Parameters.{priority_from, write_index_of}}
+use Rattle.bac_text.specs.{Pairs.body_of, declared.{jobs.{Call.Call, Job.Job, Tool.Tool}, pairs.PairFault.PairFault}}
 use Rattle.bac_text.specs.declared.jobs.Job.TheVariants as job
-use Rattle.bac_text.specs.declared.jobs.Tool.{Tool}
 use Rattle.bac_text.specs.declared.jobs.Tool.TheVariants as tool
-use Rattle.bac_words.specs.declared.faults.UsageFault.{UsageFault}
-use Rattle.bac_words.specs.declared.faults.UsageFault.TheVariants.{BadIndex, BadMac}
-use Rattle.bac_words.specs.Fault.{usage_of}
-use Rattle.bac_words.specs.Marks.{unmarked}
+use Rattle.bac_words.{
+  specs.{declared.faults.UsageFault.{UsageFault, TheVariants.{BadIndex, BadMac}}, Fault.usage_of, Marks.unmarked},
+}
 
 -- The number of a word that has to be there.
 abbrev pub needed_number : Text → List Row → ℕ

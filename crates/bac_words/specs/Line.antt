@@ -1,15 +1,10 @@
 -- The answer to a whole command line.
 use Rattle.std.specs.Prelude.{◌≡◌, ◌≢◌, List, [], Some, Result, option_map, ⊤}
-use Rattle.clap.specs.Words.{Text, fault_of, subcommand_of}
-use Rattle.clap.specs.Kinds.{IsAmong}
-use Rattle.clap.specs.Values.{kind_of}
+use Rattle.clap.specs.{Words.{Text, fault_of, subcommand_of}, Kinds.IsAmong, Values.kind_of}
 use Rattle.clap.specs.declared.error.kind.ErrorKind.TheVariants as kind
 use Rattle.bac_text.specs.declared.jobs.Job.{Job}
-use Rattle.bac_words.specs.declared.faults.UsageFault.{UsageFault}
-use Rattle.bac_words.specs.declared.faults.UsageFault.TheVariants.{Help, Memory, Words}
-use Rattle.bac_words.specs.Command.{bactool}
-use Rattle.bac_words.specs.Job.{order_of}
-use Rattle.bac_words.specs.Marks.{marked_words}
+use Rattle.bac_words.specs.declared.faults.UsageFault.{UsageFault, TheVariants.{Help, Memory, Words}}
+use Rattle.bac_words.specs.{Command.bactool, Job.order_of, Marks.marked_words}
 
 -- `clap` takes the words, and the answer is what the matches of the tool that they name ask for.
 pub record Answers (words : List Text) (answer : Result Job UsageFault) : Type 0 where

@@ -1,8 +1,7 @@
 //! The words that the program was called with.
 
 ghost use Rattle.std.specs.Prelude.{◌≡◌, [], ◌∷◌, IfOk, map, option_copied};
-ghost use Rattle.std.specs.Option.{option_map_or};
-ghost use Rattle.std.specs.String.{string_bytes};
+ghost use Rattle.std.specs.{Option.option_map_or, String.string_bytes};
 ghost use Rattle.bac_words.specs.Called.{is_tool, tool_named, words_called};
 
 use std::alloc::{AllocError, Global};

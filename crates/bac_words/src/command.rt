@@ -1,12 +1,11 @@
 //! The command that `clap` reads the words by.
 
-ghost use Rattle.std.specs.Prelude.{◌≡◌, false, IfOk, codes, map};
-ghost use Rattle.std.specs.List.{fold, list_any};
+ghost use Rattle.std.specs.{Prelude.{◌≡◌, false, IfOk, codes, map}, List.{fold, list_any}};
 ghost use Rattle.clap.specs.Words.{App, new_app, new_rule, rule_of, with_rule, with_subcommand};
 ghost use Rattle.clap_laws.specs.Commands.{IsCommand, number, needed, by_name, several};
-ghost use Rattle.bac_words.specs.Command.{mac_rule, timeout_rule, retries_rule, port_rule, bacrp};
-ghost use Rattle.bac_words.specs.Command.{bacwp, bacwi, bacdev};
-ghost use Rattle.bac_words.specs.Command.{bactrace, bactool};
+ghost use Rattle.bac_words.{
+  specs.Command.{mac_rule, timeout_rule, retries_rule, port_rule, bacrp, bacwp, bacwi, bacdev, bactrace, bactool},
+};
 
 use crate::help;
 use clap::builder::ValueParser;

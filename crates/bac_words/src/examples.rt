@@ -2,9 +2,10 @@
 
 ghost use Rattle.std.specs.Prelude.{[], ◌∷◌, codes, Ok, Err};
 ghost use Rattle.bac_pdu.specs.declared.discovery.WhoIs.TheVariants.{All, Range};
+ghost use Rattle.bac_text.{
+  specs.declared.jobs.{Job.TheVariants.{Over, Trace}, Tool.TheVariants.{Read, Write, WhoIs, Device}},
+};
 ghost use Rattle.bac_words.specs.declared.faults.UsageFault.TheVariants.{BadIndex, BadMac, BadValue};
-ghost use Rattle.bac_text.specs.declared.jobs.Job.TheVariants.{Over, Trace};
-ghost use Rattle.bac_text.specs.declared.jobs.Tool.TheVariants.{Read, Write, WhoIs, Device};
 ghost use Rattle.bac_words.specs.Inner.Examples.{IsOrdered, at_port, usual};
 
 // What the words of a request order: to whom it goes, how long and how often, and its service body.

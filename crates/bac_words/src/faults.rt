@@ -1,10 +1,8 @@
 //! Why the words give no job.
 
 ghost use Rattle.std.specs.Prelude.{◌≡◌};
-ghost use Rattle.bac_words.specs.Fault.{usage_of, usage_status_of, usage_told};
-ghost use Rattle.bac_words.specs.Telling.{told_by};
-ghost use Rattle.bac_words.specs.Inner.Fault.{fault_from};
-ghost use Rattle.bac_words.specs.declared.faults.UsageFault.TheVariants.{Memory};
+ghost use Rattle.bac_words.specs.{Fault.{usage_of, usage_status_of, usage_told}, Telling.told_by};
+ghost use Rattle.bac_words.specs.{Inner.Fault.fault_from, declared.faults.UsageFault.TheVariants.Memory};
 
 use crate::telling::Telling;
 use bac_print::Message;

@@ -1,7 +1,6 @@
 //! The words as `clap` is to see them.
 
-ghost use Rattle.std.specs.Prelude.{◌≡◌, IfOk, map};
-ghost use Rattle.std.specs.String.{string_bytes};
+ghost use Rattle.std.specs.{Prelude.{◌≡◌, IfOk, map}, String.string_bytes};
 ghost use Rattle.clap.specs.Walk.{texts};
 ghost use Rattle.bac_words.specs.Marks.{marked, marked_words, wants_mark};
 

@@ -1,23 +1,19 @@
 //! From the words to the job.
 
-ghost use Rattle.std.specs.Prelude.{◌≡◌, ◌<◌, ◌≤◌, ◌⊎◌, IfOk, IfSome, IsSomeAnd, Some, codes, length};
-ghost use Rattle.std.specs.Prelude.{IsErrAnd, option_map};
-ghost use Rattle.clap.specs.Words.{found_of, rows_of, subcommand_rows_of};
-ghost use Rattle.clap.specs.Walk.{texts};
-ghost use Rattle.bac_wire.specs.Identifier.{identifier};
-ghost use Rattle.bac_wire.specs.Steps.{result_seen};
+ghost use Rattle.std.{
+  specs.Prelude.{◌≡◌, ◌<◌, ◌≤◌, ◌⊎◌, IfOk, IfSome, IsSomeAnd, Some, codes, length, IsErrAnd, option_map},
+};
+ghost use Rattle.clap.specs.{Words.{found_of, rows_of, subcommand_rows_of}, Walk.texts};
+ghost use Rattle.clap_laws.specs.{Inner.{Commands.rules_of, Numbers.IsWithin}, Numbers.number_of, Passes.IsTaken};
+ghost use Rattle.bac_wire.specs.{Identifier.identifier, Steps.result_seen};
 ghost use Rattle.bac_pdu.specs.Property.{IsPriority};
-ghost use Rattle.clap_laws.specs.Inner.Commands.{rules_of};
-ghost use Rattle.clap_laws.specs.Numbers.{number_of};
-ghost use Rattle.clap_laws.specs.Inner.Numbers.{IsWithin};
-ghost use Rattle.clap_laws.specs.Passes.{IsTaken};
 ghost use Rattle.bac_text.specs.Parameters.{priority_from};
-ghost use Rattle.bac_words.specs.Command.{bacdev, bacrp, bacwi, bacwp};
-ghost use Rattle.bac_words.specs.Job.{peer_in, peer_given, index_given, object_given, needed_number, timeout_given};
-ghost use Rattle.bac_words.specs.Job.{retries_given, port_given, call_given, body_given, limits, read_order};
-ghost use Rattle.bac_words.specs.Job.{write_order, search_order, serve_order, order_of, CanRun};
-ghost use Rattle.bac_words.specs.Inner.Job.{IsTool, IsRequest, IsClient, IsNumberWord, IsGiven, bounds};
-ghost use Rattle.bac_words.specs.Line.{Answers, IsRefusal};
+ghost use Rattle.bac_words.{
+  specs.Command.{bacdev, bacrp, bacwi, bacwp},
+  specs.Job.{peer_in, peer_given, index_given, object_given, needed_number, timeout_given, retries_given, port_given},
+  specs.Job.{call_given, body_given, limits, read_order, write_order, search_order, serve_order, order_of, CanRun},
+  specs.{Inner.Job.{IsTool, IsRequest, IsClient, IsNumberWord, IsGiven, bounds}, Line.{Answers, IsRefusal}},
+};
 
 use crate::command::bactool;
 use crate::faults::UsageFault;

@@ -3,8 +3,7 @@ ghost use Rattle.std.specs.Prelude.{◌≡◌, ℕ, List, Some, Ok};
 ghost use Rattle.bac_print.specs.declared.checked.Checked.{Checked};
 ghost use Rattle.bac_links.specs.Socket.{OverSocket};
 ghost use Rattle.bac_words.specs.Called.{words_called};
-ghost use Rattle.bac_tools.specs.Calls.{RunsAsCalls};
-ghost use Rattle.bac_tools.specs.Program.{IsRun};
+ghost use Rattle.bac_tools.specs.{Calls.RunsAsCalls, Program.IsRun};
 
 use crate::sockets::Sockets;
 use bac_tools::{Link, Network, Ran, SystemSocket, UdpLink};

@@ -1,8 +1,7 @@
 //! The program: its words, UDP sockets, standard input, output and error.
 #![tactic(auto)]
 
-ghost use Rattle.std.specs.Prelude.{◌≡◌};
-ghost use Rattle.std.specs.Process.{exit_status};
+ghost use Rattle.std.specs.{Prelude.◌≡◌, Process.exit_status};
 ghost use Rattle.bac_print.specs.Checked.{fresh};
 ghost use Rattle.bac_tools.specs.Program.{IsRun, texts_of};
 

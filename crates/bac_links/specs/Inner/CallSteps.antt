@@ -1,22 +1,17 @@
 -- One turn of a call, by the steps of the client.
-use Rattle.std.specs.Prelude.{◌≡◌, ◌≢◌, ℕ, ◌-◌, ◌≤◌, Bool, true, false, List, [], ◌∷◌, ◌++◌, length, Option, Some}
-use Rattle.std.specs.Prelude.{None}
+use Rattle.std.specs.Prelude.{◌≡◌, ◌≢◌, ℕ, ◌-◌, ◌≤◌, Bool, true, false, List, [], ◌∷◌, ◌++◌, length, Option, Some, None}
 use Rattle.std.specs.List.{All, flat_map}
-use Rattle.bac_pdu.specs.Peer.{Station, station}
-use Rattle.bac_tsm.specs.Events.{Outcome, Data, Event, Ask, Tick, Note, Sent, Refused, Done, Dropped, TimedOut, Rules}
-use Rattle.bac_tsm.specs.Machine.{State, Waiting, Stepped, step}
-use Rattle.bac_tsm.specs.Laws.{state_at}
-use Rattle.bac_tsm.specs.Lookahead.{send_notes}
-use Rattle.bac_pdu.specs.Apdu.{longest_body}
-use Rattle.bac_tsm.specs.Client.{Client, rules_of, keeping}
-use Rattle.bac_links.specs.History.{Heard, Silence, Arrival, Failure, Entry, Waited, Timed, Posted, Unposted, Account}
-use Rattle.bac_links.specs.History.{Gains, GainsAll}
-use Rattle.bac_links.specs.Asking.{Move, Asks, question_of, Follows, next_move, waits_in, turn_after}
-use Rattle.bac_links.specs.Handed.{handed}
-use Rattle.bac_links.specs.Limits.{turn_wait}
-use Rattle.bac_links.specs.Call.{Comes, service_of, rules_for, asked, end_in, move}
-use Rattle.bac_links.specs.declared.ending.Purpose.{Purpose}
+use Rattle.bac_pdu.specs.{Peer.{Station, station}, Apdu.longest_body}
+use Rattle.bac_tsm.{
+  specs.{Laws.state_at, Events.{Outcome, Data, Event, Ask, Tick, Note, Sent, Refused, Done, Dropped, TimedOut, Rules}},
+  specs.{Lookahead.send_notes, Machine.{State, Waiting, Stepped, step}, Client.{Client, rules_of, keeping}},
+}
 use Rattle.bac_text.specs.declared.jobs.Call.{Call}
+use Rattle.bac_links.{
+  specs.History.{Heard, Silence, Arrival, Failure, Entry, Waited, Timed, Posted, Unposted, Account, Gains, GainsAll},
+  specs.{Asking.{Move, Asks, question_of, Follows, next_move, waits_in, turn_after}, Handed.handed},
+  specs.{Limits.turn_wait, Call.{Comes, service_of, rules_for, asked, end_in, move}, declared.ending.Purpose.Purpose},
+}
 
 -- The send in a note.
 abbrev pub post_in : Note → List Entry

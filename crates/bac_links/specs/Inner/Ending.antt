@@ -1,7 +1,6 @@
 -- The end of a request, as a value.
 use Rattle.std.specs.Prelude.{Option, Some, None}
-use Rattle.bac_tsm.specs.Client.{outcome_seen}
-use Rattle.bac_tsm.specs.Events.{Outcome}
+use Rattle.bac_tsm.specs.{Client.outcome_seen, Events.Outcome}
 use Rattle.bac_links.specs.declared.ending.Ending.{Ending}
 use Rattle.bac_links.specs.declared.ending.Ending.TheVariants as lent
 

@@ -1,7 +1,6 @@
 -- The entry that a note stands for.
 use Rattle.bac_pdu.specs.Peer.{station}
-use Rattle.bac_links.specs.History.{Entry, Waited, Timed, heard_by, posted}
-use Rattle.bac_links.specs.declared.history.Asking.{Asking}
+use Rattle.bac_links.specs.{History.{Entry, Waited, Timed, heard_by, posted}, declared.history.Asking.Asking}
 use Rattle.bac_links.specs.declared.history.Asking.TheVariants as note
 
 abbrev pub entry_of : Asking → Entry

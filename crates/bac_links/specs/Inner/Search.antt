@@ -1,12 +1,8 @@
 -- A device that was found, as a value; and the datagram that asks.
 use Rattle.std.specs.Prelude.{ℕ, false, List}
-use Rattle.bac_pdu.specs.declared.discovery.WhoIs.{WhoIs}
-use Rattle.bac_pdu.specs.Peer.{Station, station}
-use Rattle.bac_pdu.specs.Apdu.{laid_out, unconfirmed}
-use Rattle.bac_pdu.specs.Datagram.{wrapped}
-use Rattle.bac_pdu.specs.Discovery.{introduction, who_is_octets}
-use Rattle.bac_links.specs.declared.search.Found.{Found as Finding}
-use Rattle.bac_links.specs.Search.{Found}
+use Rattle.bac_pdu.specs.{declared.discovery.WhoIs.WhoIs, Peer.{Station, station}}
+use Rattle.bac_pdu.specs.{Apdu.{laid_out, unconfirmed}, Datagram.wrapped, Discovery.{introduction, who_is_octets}}
+use Rattle.bac_links.specs.{declared.search.Found.Found as Finding, Search.Found}
 
 abbrev pub found_seen : Finding → Found
 found_seen found = record { peer = station found.peer; device = introduction found.device }

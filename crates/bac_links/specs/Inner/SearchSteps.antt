@@ -1,15 +1,13 @@
 -- One turn of a search.
 use Rattle.std.specs.Prelude.{◌≡◌, ◌≢◌, ℕ, nat_lt, Bool, List, [], ◌∷◌, ◌++◌, length, Option, Result, Ok, Err}
 use Rattle.std.specs.List.{flat_map}
-use Rattle.bac_text.specs.declared.jobs.Search.{Search}
-use Rattle.bac_print.specs.declared.checked.Checked.{Checked}
-use Rattle.bac_print.specs.Checked.{Took}
 use Rattle.bac_pdu.specs.declared.discovery.WhoIs.{WhoIs}
-use Rattle.bac_links.specs.Limits.{turn_wait}
-use Rattle.bac_links.specs.History.{Heard, Failure, Waited, Account, Gains}
-use Rattle.bac_links.specs.Search.{Found, found_by, found_line}
-use Rattle.bac_links.specs.declared.fault.ToolFault.{ToolFault}
-use Rattle.bac_links.specs.declared.fault.ToolFault.TheVariants.{SendFailed, ReceiveFailed, TurnsSpent, WriteFailed}
+use Rattle.bac_text.specs.declared.jobs.Search.{Search}
+use Rattle.bac_print.specs.{declared.checked.Checked.Checked, Checked.Took}
+use Rattle.bac_links.{
+  specs.{Limits.turn_wait, History.{Heard, Failure, Waited, Account, Gains}, Search.{Found, found_by, found_line}},
+  specs.declared.fault.ToolFault.{ToolFault, TheVariants.{SendFailed, ReceiveFailed, TurnsSpent, WriteFailed}},
+}
 
 -- How long a turn waits.
 abbrev pub search_wait : Search → ℕ

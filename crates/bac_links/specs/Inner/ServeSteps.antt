@@ -1,17 +1,14 @@
 -- One wait of a server, and the answer to what it brings.
 use Rattle.std.specs.Prelude.{◌≡◌, ◌≢◌, ℕ, List, [], ◌∷◌, map, length, Option, Some, Result, Ok, Err}
-use Rattle.std.specs.Option.{option_to_list}
-use Rattle.std.specs.List.{flat_map}
+use Rattle.std.specs.{Option.option_to_list, List.flat_map}
 use Rattle.bac_pdu.specs.Peer.{Station}
-use Rattle.bac_device.specs.Device.{DeviceState}
-use Rattle.bac_device.specs.Turns.{Arrival as Came}
-use Rattle.bac_links.specs.Limits.{serve_wait}
-use Rattle.bac_links.specs.History.{Heard, Failure, Entry, Waited, Posted, Unposted, Account, GainsAll, Gains}
-use Rattle.bac_links.specs.Serve.{came_by, device_behind, replies_of, reply_count}
-use Rattle.bac_links.specs.declared.fault.ToolFault.{ToolFault}
-use Rattle.bac_links.specs.declared.fault.ToolFault.TheVariants.{SendFailed, ReceiveFailed, TurnsSpent, WriteFailed}
-use Rattle.bac_links.specs.declared.serving.Brought.{Brought}
-use Rattle.bac_links.specs.declared.serving.Brought.TheVariants.{Nothing, Ignored, Answered}
+use Rattle.bac_device.specs.{Device.DeviceState, Turns.Arrival as Came}
+use Rattle.bac_links.{
+  specs.{Limits.serve_wait, History.{Heard, Failure, Entry, Waited, Posted, Unposted, Account, GainsAll, Gains}},
+  specs.Serve.{came_by, device_behind, replies_of, reply_count},
+  specs.declared.fault.ToolFault.{ToolFault, TheVariants.{SendFailed, ReceiveFailed, TurnsSpent, WriteFailed}},
+  specs.declared.serving.Brought.{Brought, TheVariants.{Nothing, Ignored, Answered}},
+}
 
 -- How many datagrams a wait brought, and how many replies it made.
 abbrev pub came_in : Brought → ℕ

@@ -1,10 +1,10 @@
 -- The call that is noted of a reader or a writer; and what no write changes.
 use Rattle.std.specs.Prelude.{◌≡◌, length, take}
 use Rattle.bac_wire.specs.Steps.{result_seen}
-use Rattle.bac_print.specs.declared.checked.Checked.{Checked}
-use Rattle.bac_print.specs.declared.noted.Made.{Made}
+use Rattle.bac_print.{
+  specs.{declared.{checked.Checked.Checked, noted.Made.Made}, StreamCall.{StreamCall, ReadCall, WriteCall, FlushCall}},
+}
 use Rattle.bac_print.specs.declared.noted.Made.TheVariants as made
-use Rattle.bac_print.specs.StreamCall.{StreamCall, ReadCall, WriteCall, FlushCall}
 
 -- The call, with its answer, of which this tells.
 abbrev pub call_of : Made → StreamCall

@@ -1,6 +1,5 @@
 -- The texts of values in a row, and what stands between two of them.
-use Rattle.std.specs.Prelude.{ℕ, List, [], ◌∷◌, map}
-use Rattle.std.specs.List.{join_with_byte}
+use Rattle.std.specs.{Prelude.{ℕ, List, [], ◌∷◌, map}, List.join_with_byte}
 use Rattle.bac_wire.specs.Datum.{Datum}
 use Rattle.bac_print.specs.Values.{datum_text}
 

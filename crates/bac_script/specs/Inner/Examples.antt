@@ -1,10 +1,9 @@
 -- The scripts of examples. All their peers are at 127.0.0.1.
-use Rattle.std.specs.Prelude.{ℕ, List, [], ◌∷◌, ◌++◌, codes, Result, Ok}
 use Prim.Native.String.{String}
-use Rattle.bac_script.specs.declared.input.Reading.TheVariants.{AtEnd}
-use Rattle.bac_script.specs.declared.tracing.TraceEnd.{TraceEnd}
-use Rattle.bac_script.specs.declared.tracing.TraceFault.{TraceFault}
-use Rattle.bac_script.specs.Script.{Runs}
+use Rattle.std.specs.Prelude.{ℕ, List, [], ◌∷◌, ◌++◌, codes, Result, Ok}
+use Rattle.bac_script.{
+  specs.{declared.{input.Reading.TheVariants.AtEnd, tracing.{TraceEnd.TraceEnd, TraceFault.TraceFault}}, Script.Runs},
+}
 
 -- Each line with its line feed.
 abbrev pub lined : List String → List ℕ

@@ -1,6 +1,5 @@
 -- Line feeds.
-use Rattle.std.specs.Prelude.{◌≢◌, ℕ, List}
-use Rattle.std.specs.List.{AllByRecursion}
+use Rattle.std.specs.{Prelude.{◌≢◌, ℕ, List}, List.AllByRecursion}
 
 -- None of these is a line feed.
 abbrev pub HasNoFeed : List ℕ → Type 0

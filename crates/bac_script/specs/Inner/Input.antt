@@ -1,15 +1,11 @@
 -- How the lines of a script are cut from what its reader gave.
-use Rattle.std.specs.Prelude.{◌≡◌, ℕ, ◌+◌, ◌-◌, ◌*◌, ◌<◌, ◌≤◌, take, drop, List, [], ◌∷◌, ◌++◌, length, Option, ◌⊎◌}
-use Rattle.std.specs.Prelude.{false}
-use Rattle.bac_print.specs.declared.checked.Checked.{Checked}
-use Rattle.bac_script.specs.declared.input.Reading.{Reading}
-use Rattle.bac_script.specs.declared.input.Reading.TheVariants.{Open, AtEnd, Failed}
-use Rattle.bac_script.specs.Inner.Feeds.{HasNoFeed}
-use Rattle.bac_script.specs.Inner.Limits.{line_room, chunk_room}
+use Rattle.std.{
+  specs.Prelude.{◌≡◌, ℕ, ◌+◌, ◌-◌, ◌*◌, ◌<◌, ◌≤◌, take, drop, List, [], ◌∷◌, ◌++◌, length, Option, ◌⊎◌, false},
+}
 use Rattle.bac_print.specs.Checked.{ends_of, reads_of, last_of, octets_of, has_failed, Gave}
-use Rattle.bac_print.specs.declared.page.Page.{Page}
-use Rattle.bac_print.specs.Page.{held as on_page, writer_of}
-use Rattle.bac_script.specs.Input.{most_reads, ReaderStands}
+use Rattle.bac_print.specs.{Page.{held as on_page, writer_of}, declared.{checked.Checked.Checked, page.Page.Page}}
+use Rattle.bac_script.specs.declared.input.Reading.{Reading, TheVariants.{Open, AtEnd, Failed}}
+use Rattle.bac_script.specs.{Inner.{Feeds.HasNoFeed, Limits.{line_room, chunk_room}}, Input.{most_reads, ReaderStands}}
 
 -- Since then no read gave nothing: the count of such reads is as before.
 abbrev pub HasNotEnded : {R : Type 0} → Checked R → Checked R → Type 0

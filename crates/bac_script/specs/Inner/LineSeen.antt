@@ -1,16 +1,13 @@
 -- A line as the program keeps it, and what it says.
 use Rattle.std.specs.Prelude.{ℕ, List}
-use Rattle.bac_tsm.specs.Events.{Ask, Data, Tick}
-use Rattle.bac_script.specs.declared.line.Line.{Line}
-use Rattle.bac_script.specs.declared.line.Line.TheVariants as line
-use Rattle.bac_script.specs.declared.long_write.LongWrite.{LongWrite}
-use Rattle.bac_script.specs.declared.line.Received.{Received}
 use Rattle.bac_wire.specs.Identifier.{identifier}
 use Rattle.bac_pdu.specs.Peer.{station}
+use Rattle.bac_tsm.specs.Events.{Ask, Data, Tick}
 use Rattle.bac_device.specs.Turns.{Arrival}
 use Rattle.bac_text.specs.Pairs.{whole_body_of}
-use Rattle.bac_script.specs.Line.{Said, Nothing, Settings, Happens, Asks}
-use Rattle.bac_script.specs.Inner.LongBody.{octets_or_none}
+use Rattle.bac_script.specs.declared.{line.{Line.Line, Received.Received}, long_write.LongWrite.LongWrite}
+use Rattle.bac_script.specs.{Line.{Said, Nothing, Settings, Happens, Asks}, Inner.LongBody.octets_or_none}
+use Rattle.bac_script.specs.declared.line.Line.TheVariants as line
 
 abbrev pub arrival_seen : Received → Arrival
 arrival_seen received = record { from = station received.from.now; datagram = received.datagram.now }

@@ -1,16 +1,10 @@
 -- One line's step of a script's client and device.
 use Rattle.std.specs.Prelude.{◌≡◌, ℕ, List, []}
-use Rattle.bac_tsm.specs.Events.{Event}
-use Rattle.bac_tsm.specs.Machine.{Stepped, initial, step}
-use Rattle.bac_tsm.specs.Client.{Client, rules_of, keeping}
-use Rattle.bac_device.specs.Places.{Write}
-use Rattle.bac_device.specs.Demo.{demo_points}
-use Rattle.bac_device.specs.Device.{DeviceState, device_after}
-use Rattle.bac_device.specs.Reply.{reply_to, writes_after}
-use Rattle.bac_device.specs.Turns.{Arrival}
+use Rattle.bac_tsm.specs.{Events.Event, Machine.{Stepped, initial, step}, Client.{Client, rules_of, keeping}}
+use Rattle.bac_device.specs.{Places.Write, Demo.demo_points}
+use Rattle.bac_device.specs.{Device.{DeviceState, device_after}, Reply.{reply_to, writes_after}, Turns.Arrival}
 use Rattle.bac_script.specs.Line.{Said, Nothing, Settings, Happens, Asks}
-use Rattle.bac_script.specs.Text.{notes_text, reply_text}
-use Rattle.bac_script.specs.Running.{small_device}
+use Rattle.bac_script.specs.{Text.{notes_text, reply_text}, Running.small_device}
 
 -- What a script runs on: its client, and its device, as the writes that the device has accepted.
 pub record Stage : Type 0 where

@@ -1,10 +1,7 @@
 -- Which fault an error of `clap` is.
-use Rattle.clap.specs.Values.{kind_of}
-use Rattle.clap.specs.declared.error.Error.{Error}
-use Rattle.clap.specs.declared.error.kind.ErrorKind.{ErrorKind}
+use Rattle.clap.specs.{Values.kind_of, declared.error.{Error.Error, kind.ErrorKind.ErrorKind}}
 use Rattle.clap.specs.declared.error.kind.ErrorKind.TheVariants as kind
-use Rattle.bac_words.specs.declared.faults.UsageFault.{UsageFault}
-use Rattle.bac_words.specs.declared.faults.UsageFault.TheVariants.{Help, Memory, Words}
+use Rattle.bac_words.specs.declared.faults.UsageFault.{UsageFault, TheVariants.{Help, Memory, Words}}
 
 abbrev pub fault_by : ErrorKind → Error → UsageFault
 fault_by kind.OutOfMemory e = Memory

@@ -1,10 +1,7 @@
 -- What holds of matches that `clap` has taken, so that the words of a tool can be read from them.
 use Rattle.std.specs.Prelude.{◌≡◌, ◌⊎◌, ◌++◌, ℕ, true, List, is_some, Option, codes}
 use Rattle.clap.specs.Words.{Row, Rule, Text}
-use Rattle.clap_laws.specs.Inner.Commands.{rules_of}
-use Rattle.clap_laws.specs.Numbers.{number_of}
-use Rattle.clap_laws.specs.Inner.Numbers.{FitsWord, bounds_in}
-use Rattle.clap_laws.specs.Passes.{IsTaken}
+use Rattle.clap_laws.specs.{Inner.{Commands.rules_of, Numbers.{FitsWord, bounds_in}}, Numbers.number_of, Passes.IsTaken}
 use Rattle.bac_words.specs.Command.{bacdev, bacrp, bacwi, bacwp}
 
 -- The bounds of an argument that is a number: those of the first rule that has its name, in this order of the tools.

@@ -1,18 +1,11 @@
 -- Whoever asks anything first but the time does not follow the moves of a call.
 use Rattle.std.proofs.Common.{◌≡◌, ◌≤◌, List, [], ◌∷◌, length, subst}
 use Rattle.bac_pdu.specs.Apdu.{longest_body}
-use Rattle.bac_links.{
-  specs.{
-    History.{Entry, Waited, Timed, Posted, Unposted},
-    Asking.{Ends, Follows, next_move},
-    Handed.handed,
-    Call.{Comes, IsAccepted, events_of, move},
-    declared.ending.Purpose.Purpose,
-  },
-  proofs.{Alike.went, Asking.played, CallEvents.is_accepted, CallTurns.quiet_handed},
-}
-use Rattle.bac_links.proofs.laws.a_call_is_accepted.Goals as goal
 use Rattle.bac_text.specs.declared.jobs.Call.{Call}
+use Rattle.bac_links.specs.{History.{Entry, Waited, Timed, Posted, Unposted}, Asking.{Ends, Follows, next_move}}
+use Rattle.bac_links.specs.{Handed.handed, Call.{Comes, IsAccepted, events_of, move}, declared.ending.Purpose.Purpose}
+use Rattle.bac_links.proofs.{Alike.went, Asking.played, CallEvents.is_accepted, CallTurns.quiet_handed}
+use Rattle.bac_links.proofs.laws.a_call_is_accepted.Goals as goal
 
 module _ (purpose : Purpose) (call : Call) where
   -- Who follows the moves of a call to its end asks for the time first.

@@ -1,15 +1,8 @@
 -- Each datagram may write, and no write changes a point.
-use Rattle.std.proofs.{
-  Common.{◌≡◌, List, [], ◌∷◌, Option, Some, None, map, refl, ap, ◌∙◌, inl, inr},
-  lemmas.Bool.cases_Bool,
-}
-use Rattle.bac_device.specs.{
-  Point.same_object,
-  Places.{Write, Standing, put},
-  Device.{DeviceState, points_of},
-  Reply.{write_in_datagram, with_write},
-  Turns.Arrival,
-}
+use Rattle.std.proofs.Common.{◌≡◌, List, [], ◌∷◌, Option, Some, None, map, refl, ap, ◌∙◌, inl, inr}
+use Rattle.std.proofs.lemmas.Bool.{cases_Bool}
+use Rattle.bac_device.specs.{Point.same_object, Places.{Write, Standing, put}}
+use Rattle.bac_device.specs.{Device.{DeviceState, points_of}, Reply.{write_in_datagram, with_write}, Turns.Arrival}
 use Rattle.bac_links.specs.Serve.{arrivals_in, device_next, device_behind}
 use Rattle.bac_links.proofs.laws.a_server_keeps_its_points.Goals as goal
 

@@ -1,10 +1,8 @@
 -- What came is told by the history, and the definition goes by what came.
 use Rattle.std.proofs.Common.{List, ◌∙◌, ap, sym, subst}
 use Rattle.bac_device.specs.Turns.{AreDefined}
-use Rattle.bac_links.{
-  specs.{History.Entry, Serve.{arrivals_in, device_behind, replies_of, serve_move}},
-  proofs.{Accepted.defined, Asking.played},
-}
+use Rattle.bac_links.specs.{History.Entry, Serve.{arrivals_in, device_behind, replies_of, serve_move}}
+use Rattle.bac_links.proofs.{Accepted.defined, Asking.played}
 use Rattle.bac_links.proofs.laws.a_server_replies_as_defined.Goals as goal
 
 pub returns : goal.returns

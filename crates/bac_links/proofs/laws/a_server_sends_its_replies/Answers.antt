@@ -1,10 +1,7 @@
-use Rattle.std.proofs.Common.{ℕ, List, Option, subst}
-use Rattle.std.specs.{List.flat_map, Option.option_to_list}
+use Rattle.std.{proofs.Common.{ℕ, List, Option, subst}, specs.{List.flat_map, Option.option_to_list}}
 use Rattle.bac_pdu.specs.Peer.{Station}
-use Rattle.bac_links.{
-  specs.{Sent.{sent_in, AllSent}, Serve.{arrivals_in, serve_move}},
-  proofs.{Accepted.defined, Asking.plays_all, ServerSends.server_sent},
-}
+use Rattle.bac_links.specs.{Sent.{sent_in, AllSent}, Serve.{arrivals_in, serve_move}}
+use Rattle.bac_links.proofs.{Accepted.defined, Asking.plays_all, ServerSends.server_sent}
 use Rattle.bac_links.proofs.laws.a_server_sends_its_replies.Goals as goal
 
 pub returns : goal.returns

@@ -1,14 +1,9 @@
 -- The datagram always fits, since a Who-Is is short.
-use Rattle.std.proofs.{
-  Common.{◌≡◌, ℕ, ◌<◌, ◌≤◌, List, ◌∷◌, [], ◌++◌, length, length-append, None, Result, Ok, Err, OnOk, OnErr, refl},
-  Common.{arith, ap, ◌∙◌},
-}
+use Rattle.std.proofs.Common.{◌≡◌, ℕ, ◌<◌, ◌≤◌, List, ◌∷◌}
+use Rattle.std.proofs.Common.{[], ◌++◌, length, length-append, None, Result, Ok, Err, OnOk, OnErr, refl, arith, ap, ◌∙◌}
 use Rattle.bac_wire.specs.{Tag.plain_tag, Parameter.{number_octets, object_octets}}
-use Rattle.bac_pdu.{
-  specs.{declared.discovery.WhoIs.WhoIs, Parameter.plain_parameter, Peer.station, Datagram.wrapped},
-  specs.Discovery.who_is_octets,
-  proofs.LengthLaws.read_octets_short,
-}
+use Rattle.bac_pdu.specs.{declared.discovery.WhoIs.WhoIs, Parameter.plain_parameter, Peer.station}
+use Rattle.bac_pdu.{specs.{Datagram.wrapped, Discovery.who_is_octets}, proofs.LengthLaws.read_octets_short}
 use Rattle.bac_pdu.specs.declared.discovery.WhoIs.TheVariants as limits
 use Rattle.bac_links.proofs.search.who_is.Goals as goal
 

@@ -1,8 +1,6 @@
 -- The parts are written from the last to the first, and their texts are joined otherwise than the definition says.
-use Rattle.std.proofs.{
-  Common.{◌≡◌, ℕ, List, ◌∷◌, ◌++◌, get_or, decimal, sym, ◌∙◌, ap, append_assoc, append-nil, arith},
-  Math.ListN.drop_of_length-le,
-}
+use Rattle.std.proofs.Common.{◌≡◌, ℕ, List, ◌∷◌, ◌++◌, get_or, decimal, sym, ◌∙◌, ap, append_assoc, append-nil, arith}
+use Rattle.std.proofs.Math.ListN.{drop_of_length-le}
 use Rattle.bac_print.proofs.peer_texts.write_station.Goals as goal
 
 -- Four octets in decimal, joined by dots, a colon and a port.

@@ -1,11 +1,8 @@
 -- Where all octets are ASCII, no reading of UTF-8 is needed.
-use Rattle.std.proofs.{
-  Common.{◌≡◌, ℕ, List, length, None, Result, Ok, Err, sym, ◌∙◌, arith, inl, inr, nat_lt, position, is_ok, MatchResult},
-  Common.IsUtf8,
-  lemmas.{Bool.{cases_lt, false_from_ne_true}, Bool.Decides.nat_tests, List.get_or_past},
-  lemmas.Str.{IsUtf8-from_ascii, IsUtf8-from_is_utf8, is_utf8-from_IsUtf8},
-}
-use Rattle.std.specs.Str.{is_utf8, IsAscii}
+use Rattle.std.proofs.lemmas.Str.{IsUtf8-from_ascii, IsUtf8-from_is_utf8, is_utf8-from_IsUtf8}
+use Rattle.std.proofs.lemmas.{List.get_or_past, Bool.{cases_lt, false_from_ne_true, Decides.nat_tests}}
+use Rattle.std.proofs.Common.{◌≡◌, ℕ, List, length, None, Result, Ok, Err, sym, ◌∙◌, arith}
+use Rattle.std.{proofs.Common.{inl, inr, nat_lt, position, is_ok, MatchResult, IsUtf8}, specs.Str.{is_utf8, IsAscii}}
 use Rattle.bac_script.proofs.Taken.{none_passes}
 use Rattle.bac_script.proofs.line.is_text.Goals as goal
 

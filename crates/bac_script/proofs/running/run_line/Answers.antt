@@ -1,18 +1,14 @@
 -- A request to write that is too long is seen by its words alone, since its body is never made.
-use Rattle.std.proofs.{
-  Common.{◌≡◌, ℕ, true, List, [], ◌∷◌, length, Result, Ok, Err, IsTrue, refl, sym, ◌∙◌, ap, subst, arith, rules},
-  Common.nat_lt,
-  lemmas.Bool.Decides.nat_tests,
-}
+use Rattle.std.proofs.Common.{◌≡◌, ℕ, true, List, [], ◌∷◌, length, Result, Ok, Err}
+use Rattle.std.proofs.{Common.{IsTrue, refl, sym, ◌∙◌, ap, subst, arith, rules, nat_lt}, lemmas.Bool.Decides.nat_tests}
 use Rattle.bac_wire.specs.Identifier.{identifier}
-use Rattle.bac_tsm.specs.{declared.client.SubmitFault.TheVariants.TooLong, Events.Refused, Lookahead.refusal_of}
 use Rattle.bac_pdu.specs.Apdu.{longest_body}
+use Rattle.bac_tsm.specs.{declared.client.SubmitFault.TheVariants.TooLong, Events.Refused, Lookahead.refusal_of}
 use Rattle.bac_text.specs.Pairs.{whole_body_of}
 use Rattle.bac_print.proofs.Printed.{printed_as}
-use Rattle.bac_script.specs.{
-  declared.{line.Line.Line, line.Line.TheVariants.LongWrite, long_write.LongWrite.LongWrite as Write},
-  Inner.{LineSeen.line_seen, LongBody.{octets_or_none, is_long}, Running.{Stage, Turn, Stands, ran}},
-  Text.notes_text,
+use Rattle.bac_script.{
+  specs.Inner.{LineSeen.line_seen, LongBody.{octets_or_none, is_long}, Running.{Stage, Turn, Stands, ran}},
+  specs.{Text.notes_text, declared.{line.Line.{Line, TheVariants.LongWrite}, long_write.LongWrite.LongWrite as Write}},
 }
 use Rattle.bac_script.proofs.running.run_line.Goals as goal
 

@@ -1,13 +1,13 @@
 -- Each way out of the loop ends the run that stands so far in another way.
-use Rattle.std.proofs.Common.{◌≡◌, sym, ◌∙◌, ap, refl, arith, rules, length-drop, ◌&&◌, length-take-le}
 use denote.Enum.Bare.{same_true}
+use Rattle.std.proofs.Common.{◌≡◌, sym, ◌∙◌, ap, refl, arith, rules, length-drop, ◌&&◌, length-take-le}
+use Rattle.bac_wire.specs.Steps.{result_seen}
 use Rattle.bac_script.{
-  specs.{contracts.input.Reading.the_type, declared.input.Reading.TheVariants.Open, Line.said},
-  specs.{Inner.LineSeen.line_seen, Script.is_nothing},
+  specs.contracts.input.Reading.the_type,
+  specs.{declared.input.Reading.TheVariants.Open, Line.said, Inner.LineSeen.line_seen, Script.is_nothing},
   proofs.SoFar.{SoFar-none, unwritten, unread, to_end, faulty, to_last, goes_on},
   proofs.tracing.run_script.Goals.{then-is_first, else-is_first},
 }
-use Rattle.bac_wire.specs.Steps.{result_seen}
 use Rattle.bac_script.proofs.tracing.run_script.Goals as goal
 
 pub loop-next-init : goal.loop-next-init

@@ -1,6 +1,4 @@
-use Rattle.bac_links.proofs.Lines.{line_of}
-use Rattle.bac_links.specs.Socket.{account_over}
-use Rattle.bac_links.specs.declared.ending.Purpose.TheVariants.{Reading}
+use Rattle.bac_links.{proofs.Lines.line_of, specs.{Socket.account_over, declared.ending.Purpose.TheVariants.Reading}}
 use Rattle.bac_uses.proofs.links.read_over_udp.Goals as goal
 
 pub returns-in-Ok : goal.returns-in-Ok

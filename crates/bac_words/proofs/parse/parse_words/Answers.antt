@@ -1,17 +1,9 @@
-use Rattle.std.{
-  proofs.Common.{◌≡◌, ◌∙◌, sym, ap, subst, inl, inr, map, List, [], Option, IsSomeAnd, option_map},
-  specs.String.string_bytes,
-}
-use Rattle.clap.specs.{
-  Kinds.HasKind,
-  Faults.{fault_of, is_simple_and_free},
-  Walk.{Row, Text, texts},
-  Simple.{App, is_simple, subcommand_of},
-}
-use Rattle.bac_words.{
-  specs.{Command.bactool, Job.order_of, Inner.Job.IsTool, Marks.marked_words},
-  proofs.Tools.{bactool_is_free, bactool_is_simple, refused, tool_met},
-}
+use Rattle.std.proofs.Common.{◌≡◌, ◌∙◌, sym, ap, subst, inl, inr, map, List, [], Option, IsSomeAnd, option_map}
+use Rattle.std.specs.String.{string_bytes}
+use Rattle.clap.specs.{Kinds.HasKind, Faults.{fault_of, is_simple_and_free}}
+use Rattle.clap.specs.{Walk.{Row, Text, texts}, Simple.{App, is_simple, subcommand_of}}
+use Rattle.bac_words.specs.{Command.bactool, Job.order_of, Inner.Job.IsTool}
+use Rattle.bac_words.{specs.Marks.marked_words, proofs.Tools.{bactool_is_free, bactool_is_simple, refused, tool_met}}
 use Rattle.bac_words.proofs.parse.parse_words.Goals as goal
 
 pub returns-in_err-matches-clause-answer : goal.returns-in_err-matches-clause-answer

@@ -1,7 +1,5 @@
-use Rattle.std.{
-  proofs.{Common.{◌∙◌, ap, codes, refl, map, List, [], Option, unwrap_or}, lemmas.Result.err_from_is_err_and},
-  specs.Borrow.Bor,
-}
+use Rattle.std.proofs.Common.{◌∙◌, ap, codes, refl, map, List, [], Option, unwrap_or}
+use Rattle.std.{proofs.lemmas.Result.err_from_is_err_and, specs.Borrow.Bor}
 use Rattle.clap.{specs.{Words.found_of, Walk.{Text, texts}}, proofs.WalkLemmas.raw_values-rows}
 use Rattle.bac_words.{specs.Marks.unmarked, proofs.Given.pairs_typed}
 use Rattle.bac_words.proofs.parse.write_body.Goals as goal

@@ -1,7 +1,5 @@
 -- The steps that were played are those of the history, which gains an entry.
-use Rattle.std.proofs.Common.{arith, refl}
-use Rattle.std.proofs.Math.Logic.{∥∥₁_map}
-use Rattle.std.proofs.lemmas.List.{length-map}
+use Rattle.std.proofs.{Common.{arith, refl}, Math.Logic.∥∥₁_map, lemmas.List.length-map}
 use Rattle.bac_links.proofs.Played.{stands_waited}
 use Rattle.bac_links.proofs.memory.MemoryLinkLink.receive.Goals as goal
 

@@ -1,6 +1,5 @@
 -- The steps that were played are those of the history, which gains an entry.
-use Rattle.std.proofs.Math.Logic.{∥∥₁_map}
-use Rattle.std.proofs.lemmas.List.{length-map}
+use Rattle.std.proofs.{Math.Logic.∥∥₁_map, lemmas.List.length-map}
 use Rattle.bac_pdu.specs.Peer.{station}
 use Rattle.bac_links.proofs.Played.{stands_sent, sent_so}
 use Rattle.bac_links.proofs.memory.MemoryLinkLink.send.Goals as goal

@@ -1,6 +1,5 @@
 -- The log grows by the calls for what the history gains.
-use Rattle.std.proofs.Common.{refl}
-use Rattle.std.proofs.Math.Logic.{∥∥₁_map}
+use Rattle.std.proofs.{Common.refl, Math.Logic.∥∥₁_map}
 use Rattle.bac_links.proofs.Logged.{keeps_timed}
 use Rattle.bac_links.proofs.udp.UdpLinkLink.now.Goals as goal
 
