@@ -55,11 +55,12 @@ fn print_text<W: Write>(text: &clap::Error, page: &mut Page<'_, W>)
         };
         let _ = write!(part, "{text}");
         let octets = part.octets.as_slice();
-        if octets.is_empty() || octets.len() > usize::MAX - told {
+        page.print(octets);
+        // A part that isn't full is the last.
+        if octets.len() < PART_ROOM || told > usize::MAX - PART_ROOM {
             return;
         }
-        page.print(octets);
-        told += octets.len();
+        told += PART_ROOM;
     }
 }
 

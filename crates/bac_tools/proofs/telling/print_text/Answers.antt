@@ -7,3 +7,6 @@ parts-init g c = ([], prints_nothing c.args.page.now)
 
 pub parts-preserved : goal.parts-preserved
 parts-preserved g c = (_, c.parts.invariant.1 ⨾ c.print.ensures)
+
+pub returns-then-octets-lt-PART_ROOM : goal.returns-then-octets-lt-PART_ROOM
+returns-then-octets-lt-PART_ROOM g c = (_, c.parts.invariant.1 ⨾ c.print.ensures)
