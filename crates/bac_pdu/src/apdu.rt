@@ -70,6 +70,7 @@ pub struct Part {
 ///
 /// Bits and octets that the layout of the type does not name are not looked at.
 #[tactic(auto, unfolding(crate::specs::ApduReading::apdu_of))]
+#[inline(always)]
 pub fn read_apdu(octets: &[u8]) -> Option<Apdu<'_>>
     ensures value { option_map message result ≡ apdu_of octets.now }
 {

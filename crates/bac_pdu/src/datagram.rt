@@ -47,6 +47,7 @@ const FRONT_OCTETS: usize = 4 + HEADER_OCTETS;
 /// another type or function, or with a length that is not the datagram's; a network header that is cut, of another
 /// version or a message of the network layer; a destination other than all networks; a source that no route leads to.
 #[tactic(auto, unfolding(crate::specs::DatagramReading::carried))]
+#[inline(always)]
 pub fn open_datagram(from: Peer, datagram: &[u8]) -> Option<Carried<'_>>
     ensures value { option_map delivery result ≡ carried (station from) datagram.now }
 {

@@ -54,17 +54,18 @@ fn position_by<const N: usize>(octets: &[u8], end: End) -> Option<usize>
     requires room { N ≤ length octets.now }
     ensures { result ≡ position (ends_at end) octets.now }
 {
-    let mut start = 0;
-    while start < octets.len() {
-        // The last load goes back over some that were seen.
-        let at = start.min(octets.len() - N);
+    let last = octets.len() - N;
+    let mut at = 0;
+    while at < last {
         let run = run_before::<N>(octets, at, end);
-        if run < N {
+        if run != N {
             return Some(at + run);
         }
-        start = at + N;
+        at += N;
     }
-    None
+    // The last load goes back over some that were seen.
+    let run = run_before::<N>(octets, last, end);
+    if run != N { Some(last + run) } else { None }
 }
 
 fn ends_at(octet: u8, end: End) -> bool

@@ -2,11 +2,11 @@ use Rattle.std.proofs.Common.{◌≡◌, ℕ, ◌-◌, ◌<◌, ◌≤◌, false
 use Rattle.bac_text.specs.Search.{ends_at}
 use Rattle.bac_text.proofs.search.position_by.Given as goal
 
-abbrev pub invariant-loop-start : goal.invariant-loop-start
-invariant-loop-start g l = record {
-  before : (k : ℕ) → k < l.start → ends_at l.end (get_or l.octets k 0) ≡ false;
-  within : l.start ≤ length l.octets;
+abbrev pub invariant-loop-at : goal.invariant-loop-at
+invariant-loop-at g l = record {
+  before : (k : ℕ) → k < l.at → ends_at l.end (get_or l.octets k 0) ≡ false;
+  within : l.at ≤ length l.octets;
 }
 
-abbrev pub decreases-loop-start : goal.decreases-loop-start
-decreases-loop-start g l = length l.octets - l.start
+abbrev pub decreases-loop-at : goal.decreases-loop-at
+decreases-loop-at g l = l.last - l.at
