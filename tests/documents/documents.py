@@ -28,7 +28,6 @@ import glob
 import os
 import re
 import sys
-import textwrap
 
 sys.path.insert(0, os.path.dirname(__file__) + "/..")
 from tree import TOP, all_crates, text_of
@@ -112,23 +111,23 @@ def scripts_are_run(section):
 
 
 def heads_of_sources():
-    for file in sorted(glob.glob("crates/*/src/**/*.rt", recursive=True)):
-        if not text_of(file).startswith("//! "):
-            DIFFERENCES.append(f"{file}: its first line is no `//!` that says what it has")
-    for file in sorted(glob.glob("crates/*/specs/**/*.antt", recursive=True) + glob.glob("crates/*/proofs/*.antt")):
-        if not text_of(file).startswith("-- ") and not file.endswith(("/Lib.antt", "/Inner.antt")):
-            DIFFERENCES.append(f"{file}: its first line is no `--` that says what it has")
+    for mark, place in (("//!", "src/**/*.rt"), ("--", "specs/**/*.antt"), ("--", "proofs/*.antt")):
+        for file in sorted(glob.glob(f"crates/*/{place}", recursive=True)):
+            if not text_of(file).startswith(mark + " ") and not file.endswith(("/Lib.antt", "/Inner.antt")):
+                DIFFERENCES.append(f"{file}: its first line is no `{mark}` that says what it has")
+    uses = [on_one_line(text_of(file)) for file in glob.glob("crates/bac_uses/src/*.rt")]
     for file in sorted(glob.glob("crates/*/src/lib.rt")):
         examples = file.replace("lib.rt", "examples.rt")
-        for shown in re.findall(r"^//! ```text\n(.*?)^//! ```$", text_of(file), re.M | re.S):
-            clauses = re.split(r"(?=\bensures )", re.sub(r"^//!(?: *//.*)?", "", shown, flags=re.M))[1:]
-            there = on_one_line(text_of(examples)) if os.path.isfile(examples) else ""
-            if not clauses or not all(on_one_line(one) in there for one in clauses):
-                DIFFERENCES.append(f"{file}: what it shows is not in {examples}")
-        for shown in re.findall(r"^//! ```rust\n(.*?)^//! ```$", text_of(file), re.M | re.S):
-            calls = on_one_line(re.sub(r"^//!", "", shown, flags=re.M))
-            if not any(calls in on_one_line(text_of(use)) for use in glob.glob("crates/bac_uses/src/*.rt")):
-                DIFFERENCES.append(f"{file}: the calls that it shows are not in bac_uses")
+        there = on_one_line(text_of(examples)) if os.path.isfile(examples) else ""
+        for kind, shown in re.findall(r"^//! ```(text|rust)\n(.*?)^//! ```$", text_of(file), re.M | re.S):
+            if kind == "rust":
+                calls = on_one_line(re.sub(r"^//!", "", shown, flags=re.M))
+                is_there = any(calls in use for use in uses)
+            else:
+                clauses = re.split(r"(?=\bensures )", re.sub(r"^//!(?: *//.*)?", "", shown, flags=re.M))[1:]
+                is_there = clauses and all(on_one_line(one) in there for one in clauses)
+            if not is_there:
+                DIFFERENCES.append(f"{file}: what it shows is not in {examples}, nor its calls in bac_uses")
 
 
 def names_of_sources():
@@ -164,17 +163,11 @@ def names_of_proofs(document, text, known, clauses):
             DIFFERENCES.append(f"{document}: {function} has no clause {clause}")
 
 
-def equations(file, *names):
-    """The equations of these definitions as they stand in the file, without its margin."""
-    found = [re.search(rf"^ *abbrev pub {it} :.*\n((?:(?! *--).+\n)+)", text_of(file), re.M)[1] for it in names]
-    return textwrap.dedent("".join(found))
-
-
 def what_stands_twice(readme, proofs):
-    lookahead = "crates/bac_tsm/specs/Lookahead.antt"
     boxes = re.findall(r"^```(\w*)\n(.*?)^```$", readme, re.M | re.S)
-    if ("", equations(lookahead, "due", "end", "sends_within", "sends")) not in boxes:
-        DIFFERENCES.append(f"README.md: it does not show what is in {lookahead}")
+    rule = re.search(r"(?ms)^The rule, .*?```\n(.*?)^```$", text_of("docs/reading/client.md"))[1]
+    if ("", rule) not in boxes:
+        DIFFERENCES.append("README.md: it does not show the rule as docs/reading/client.md has it from specs/")
     guide = text_of("docs/GUIDE.md").splitlines()
     for line in "".join(box for kind, box in boxes if kind == "console").splitlines() or ["of a run"]:
         if line not in [*guide, ".."]:
