@@ -4,10 +4,10 @@ tried by, as they are and damaged, and answers to what it asks.
 
 Usage: bench/soak.py device DATAGRAMS [SEED], or script LINES [SEED]; BACTOOL names another program than the tree's.
 
-`device` sends datagrams to bacdev over 127.0.0.1, and reads every reply. What each must get is read from its octets by
-the rules of docs/PROTOCOL.md: silence, an I-Am, or one reply to its confirmed request, to its own invoke id and of no
-more octets than it announced. Everything stays on this machine: a forwarded datagram names 127.0.0.1 as its originator,
-or port 0 there.
+`device` sends datagrams to bacdev over 127.0.0.1, and reads every reply. What each must get is told from what bacsite
+reads of it, by the rules of docs/PROTOCOL.md: silence, an I-Am, or one reply to its confirmed request, to its own
+invoke id and of no more octets than it announced. Everything stays on this machine: a forwarded datagram names
+127.0.0.1 as its originator, or port 0 there.
 
 `script` runs one long script through bactrace, and follows each request through what it prints. Each line but a tick
 prints one line. A request that is sent gets the next ticket, and is sent again three times at most; it ends once, and
@@ -26,8 +26,10 @@ import time
 from collections import Counter
 
 HERE = os.path.dirname(__file__)
-sys.path[:0] = [HERE + "/../tests", HERE + "/../tests/program", HERE + "/../crates/bac_trials/oracle"]
-from count import region, tag
+sys.path[:0] = [HERE + "/../tests", HERE + "/../tests/program", HERE + "/../site"]
+from bacsite.bodies import parameters, read_ack
+from bacsite.frames import Datagram
+from bacsite.messages import CONFIRMED, DISTRIBUTE, UNCONFIRMED, UNICAST, message_of
 from rows import row_cases
 from tree import PROGRAM, TOP, device, local_socket, resident
 
@@ -81,68 +83,37 @@ BATCH = 16
 ANNOUNCED = [50, 128, 206, 480, 1024, 1476] + [50] * 10
 
 
-def parameters(octets, most):
-    """The contents of the parameters 0, 1, .. at the front, so many at most, and what stands behind them."""
-    found = []
-    while len(found) < most:
-        number, kind, count, size = tag(octets) or (None,) * 4
-        if (number, kind) != (len(found), "context") or size + count > len(octets):
-            break
-        found.append(octets[size : size + count])
-        octets = octets[size + count :]
-    return found, octets
-
-
-def opened(datagram):
-    """Route, whether it was sent to all, whether the reply is lost, and the APDU; None where it is ignored."""
-    if len(datagram) < 4 or datagram[0] != 0x81 or int.from_bytes(datagram[2:4], "big") != len(datagram):
-        return None
-    front = {0x0A: 4, 0x0B: 4, 0x04: 10}.get(datagram[1])
-    head = datagram[front:]
-    if not front or len(head) < 2 or head[0] != 1 or head[1] & 0x80:
-        return None
-    at, route = 2, b""
-    for bit in (0x20, 0x08):
-        if head[1] & bit:
-            end = at + 3 + head[at + 2] if len(head) > at + 2 else len(head) + 1
-            if len(head) < end:
-                return None
-            there, at = head[at:end], end
-            if bit == 0x20 and there[:2] != b"\xff\xff":
-                return None
-            if bit == 0x08 and (there[:2] in (b"\0\0", b"\xff\xff") or not 1 <= there[2] <= 7):
-                return None
-            route = there if bit == 0x08 else b""
-    to_all, hops = datagram[1] != 0x0A or bool(head[1] & 0x20), bool(head[1] & 0x20)
-    if len(head) < at + hops:
-        return None
-    return route, to_all, front == 10 and datagram[8:10] == b"\0\0", head[at + hops :]
-
-
 def is_asked(body):
     """Whether a Who-Is with this body asks for the device."""
-    limits, rest = parameters(body, 2)
-    low, high = (int.from_bytes(it, "big") for it in limits) if len(limits) == 2 else (0, 4194303)
-    is_read = not body or len(limits) == 2 and not rest and all(1 <= len(it) <= 4 for it in limits)
-    return is_read and low <= INSTANCE <= high
+    limits = list(parameters(body))
+    if [number for number, _ in limits] not in ([], [0, 1]) or not all(1 <= len(it) <= 4 for _, it in limits):
+        return False
+    low, high = (int.from_bytes(it, "big") for _, it in limits) if limits else (0, 4194303)
+    return low <= INSTANCE <= high
 
 
 def expected(datagram):
     """What comes back: None for nothing, else the route, and the invoke id with what it announced (I-Am: None)."""
-    route, to_all, is_lost, octets = opened(datagram) or (b"", False, True, b"")
-    if is_lost:
+    if len(datagram) < 4 or datagram[0] != 0x81 or int.from_bytes(datagram[2:4], "big") != len(datagram):
         return None
-    if len(octets) >= 2 and octets[0] >> 4 == 1:
-        return (route, None) if octets[1] == 8 and is_asked(octets[2:]) else None
-    if to_all or not octets or octets[0] >> 4 or len(octets) < (6 if octets[0] & 8 else 4):
+    message = message_of(Datagram(0, "", "", datagram))
+    origin, *source = message.sender.split("/")
+    is_to_all = datagram[1] != UNICAST or message.receiver != ""
+    is_here = datagram[1] != DISTRIBUTE and message.receiver.split("/")[1:2] in ([], ["65535"])
+    if not message.apdu or not is_here or origin.endswith(":0"):  # to the port 0 no reply can be sent
         return None
-    return route, (octets[2], ANNOUNCED[octets[1] & 15])
-
-
-def is_ack(body):
-    """Whether this is an object, a property, perhaps an index, and a value in its brackets."""
-    found, rest = parameters(body, 3)
-    return len(found) >= 2 and all(found) and rest[:1] == b"\x3e" and region(rest[1:]) == len(rest) - 2
+    route = b""
+    if source:
+        network, station = int(source[0]), bytes.fromhex(source[1].strip("*"))
+        if network in (0, 65535) or not 1 <= len(station) <= 7:
+            return None
+        route = network.to_bytes(2, "big") + bytes([len(station)]) + station
+    apdu = message.apdu
+    if apdu.kind == UNCONFIRMED:
+        return (route, None) if apdu.service == 8 and is_asked(apdu.body) else None
+    if apdu.kind != CONFIRMED or is_to_all:
+        return None
+    return route, (apdu.invoke, ANNOUNCED[datagram[message.at + 1] & 15])
 
 
 def kind_of(reply, route, wanted):
@@ -159,7 +130,7 @@ def kind_of(reply, route, wanted):
     first, rest = octets[0], octets[2:]
     if first == 0x20 and rest == b"\x0f":
         return "SimpleACK"
-    if first == 0x30 and rest[:1] == b"\x0c" and is_ack(rest[1:]):
+    if first == 0x30 and rest[:1] == b"\x0c" and read_ack(rest[1:]):
         return "ComplexACK"
     if first == 0x50 and len(rest) == 5 and rest[0] in (12, 15) and rest[1] == 0x91 and rest[3] == 0x91:
         return f"Error {rest[2]} {rest[4]}"
