@@ -26,9 +26,6 @@ strip --strip-unneeded --remove-section=.comment --remove-section=.note "$root/u
 gzip -9n "$root"/usr/share/man/man[17]/*.[17]
 
 install -d "$root/DEBIAN"
-grep -o ']([^)#]*' README.md | sed 's|^](||' | grep -v '^[a-z]*:' | grep . | while read -r link; do
-    [ -e "$doc/$link" ] || { echo "packaging/deb.sh: the package lacks what README.md names: $link" >&2; exit 1; }
-done
 {
     printf 'bactool (%s) unstable; urgency=medium\n\n' "$version"
     sed -n "/^## $version/,/^## /p" CHANGELOG.md | awk '

@@ -282,8 +282,9 @@ def rows_are_read_back(parts):
 def wide_lines():
     places = [f"crates/*/{folder}/**/*{ending}" for folder, ending in SOURCES]
     places += ["Makefile", "*.mk", "*.py", "crates/*/oracle/*.py", "site/bacsite/*.py"]
-    folders = ["bench", "completions", "examples", "man", "packaging", "tests"]
-    places += [f"{folder}/**/*{ending}" for folder in folders for ending in (".py", ".sh", ".c")]
+    endings = ["py", "sh", "c", "awk", "bash", "zsh", "fish", "service"]
+    for folder in ("bench", "completions", "examples", "man", "packaging", "tests"):
+        places += [f"{folder}/**/*.{ending}" for ending in endings]
     for file in sorted(file for place in places for file in glob.glob(place, recursive=True)):
         for number, line in enumerate(text_of(file).splitlines(), 1):
             can_be_broken = " " in line[:WIDTH].strip().removeprefix("use ")

@@ -10,7 +10,7 @@ import sys
 import tempfile
 
 sys.path.insert(0, os.path.dirname(__file__) + "/..")
-from tree import TOP, text_of
+from tree import TOP
 
 PROGRAM = os.path.realpath(sys.argv[1])
 TOOLS = ["bacrp", "bacwp", "bacwi", "bacdev", "bactrace"]

@@ -21,9 +21,9 @@ def run(words, given="", **how):
     return done.returncode, done.stdout
 
 
-def statuses(device):
+def statuses(address):
     """The status by what happened, of the tools and of bacsite, each seen to happen."""
-    mac = ["--mac", device]
+    mac = ["--mac", address]
     silent = [*mac[:1], "127.0.0.1:9", "--apdu-timeout", "20", "--apdu-retries", "0"]
     read, write = [PROGRAM, "bacrp", "1234", "0", "5", "85"], [PROGRAM, "bacwp", "1234", "1", "1", "85", "8", "-1"]
     ended = {
@@ -32,18 +32,18 @@ def statuses(device):
         "silent": read + silent, "refused": [PROGRAM, "bacrp", "1234", "0", "99", "85", *mac],
         "write unanswered": [*write, "4", "41a00000", *silent], "words": [*read, "--mac", "localhost"],
         "write words": [*write, "4", "20.0", *mac], "search words": [PROGRAM, "bacwi"],
-        "device words": [PROGRAM, "bacdev", "x"], "bind": [PROGRAM, "bacdev", "1", "--port", device.split(":")[1]],
-        "script": [PROGRAM, "bactrace"], "read": [*SITE, "read", device, "0", "5", "85"],
-        "missing": [*SITE, "read", device, "0", "99", "85"], "no number": [*SITE, "poll", "/dev/stdin"],
+        "device words": [PROGRAM, "bacdev", "x"], "bind": [PROGRAM, "bacdev", "1", "--port", address.split(":")[1]],
+        "script": [PROGRAM, "bactrace"], "read": [*SITE, "read", address, "0", "5", "85"],
+        "missing": [*SITE, "read", address, "0", "99", "85"], "no number": [*SITE, "poll", "/dev/stdin"],
         "site words": [*SITE, "read"], "no list": [*SITE, "poll", "/nowhere"],
-        "no bactool": [*SITE, "read", "--tools", "/nowhere", device, "0", "5", "85"],
-        "OK": [*SITE, "check", "-c", "50:90", device, "0", "5", "85"],
-        "WARNING": [*SITE, "check", "-w", "60:70", "-c", "50:90", device, "0", "5", "85"],
-        "CRITICAL": [*SITE, "check", "-c", "0:1", device, "0", "5", "85"],
-        "UNKNOWN": [*SITE, "check", device, "0", "99", "85"],
+        "no bactool": [*SITE, "read", "--tools", "/nowhere", address, "0", "5", "85"],
+        "OK": [*SITE, "check", "-c", "50:90", address, "0", "5", "85"],
+        "WARNING": [*SITE, "check", "-w", "60:70", "-c", "50:90", address, "0", "5", "85"],
+        "CRITICAL": [*SITE, "check", "-c", "0:1", address, "0", "5", "85"],
+        "UNKNOWN": [*SITE, "check", address, "0", "99", "85"],
     }
     site = {**os.environ, "PATH": os.path.dirname(PROGRAM) + ":" + os.environ["PATH"]}
-    given = {"no number": f"mode {device} real 14 1 85\n", "script": f"read {device} 0 5 85\n"}
+    given = {"no number": f"mode {address} real 14 1 85\n", "script": f"read {address} 0 5 85\n"}
     found = {what: run(words, given.get(what, ""), env=site)[0] for what, words in ended.items()}
     found["bad line"] = run([PROGRAM, "bactrace"], "READ\n")[0]
     found["long line"] = run([PROGRAM, "bactrace"], "#" * 4097 + "\n")[0]
@@ -124,8 +124,8 @@ def turns_of_a_device():
     says("man/bacdev.1", f"after {turns} turns.", f"ends after some {hours} hours.", f"to {count}; {count} by default.")
 
 
-def statuses_are_said(device):
-    on = statuses(device)
+def statuses_are_said(address):
+    on = statuses(address)
     refused = "where a word is refused and nothing was sent."
     says("man/bacrp.1", f"{on['value']} where a value was read, {on['silent']} for every other line above,"
          f" {on['words']} {refused}")
@@ -168,27 +168,27 @@ def tables_of_the_guide(on):
         same(f"the status beside {message}", status, str(on["bind"] if is_late else on["words"]))
 
 
-def ranges(device):
+def ranges(address):
     """What bacsite checks by a number alone, and that both ends belong to a range: by the valve at 0.5 and at -0.5."""
-    check = [*SITE, "check", "--tools", os.path.dirname(PROGRAM), device, "1", "1", "85", "-c"]
+    check = [*SITE, "check", "--tools", os.path.dirname(PROGRAM), address, "1", "1", "85", "-c"]
     found = []
     for octets, of_range in [("3f000000", "0.5"), ("3f000000", "0.5:2"), ("3f000000", "0:0.4"), ("bf000000", "0.5")]:
-        run([PROGRAM, "bacwp", "1234", "1", "1", "85", "8", "-1", "4", octets, "--mac", device])
+        run([PROGRAM, "bacwp", "1234", "1", "1", "85", "8", "-1", "4", octets, "--mac", address])
         found.append(run([*check, of_range])[0])
-    run([PROGRAM, "bacwp", "1234", "1", "1", "85", "8", "-1", "0", "null", "--mac", device])
+    run([PROGRAM, "bacwp", "1234", "1", "1", "85", "8", "-1", "0", "null", "--mac", address])
     same("checks of 0.5 and -0.5", found, [0, 0, 2, 2])
     says("man/bacsite.1", "high or :high, which begin at 0,", "~:high, both ends included.")
     says("docs/GUIDE.md", "A range is HIGH, which begins at 0, LOW:HIGH, LOW: or ~:HIGH, both ends included.")
 
 
-def points(device):
+def points(address):
     """The points on the page of bacdev are those that a survey finds: value, states, whether it has priorities."""
     table = re.search(r"(?ms)^The points;.*?^\.El", text_of("man/bacdev.1"))[0]
     on_page = re.findall(r"(?m)^\.It (\d+:\d+) Ta (.*?) Ta (.*)$", re.sub(r" \([^)]*\)", "", table))
     there = []
-    for line in run([*SITE, "survey", "--tools", os.path.dirname(PROGRAM), "--csv", device])[1].splitlines()[1:]:
+    for line in run([*SITE, "survey", "--tools", os.path.dirname(PROGRAM), "--csv", address])[1].splitlines()[1:]:
         cells = line.split(",")
-        read = lambda number: run([PROGRAM, "bacrp", "1234", *cells[5:7], number, "--mac", device])
+        read = lambda number: run([PROGRAM, "bacrp", "1234", *cells[5:7], number, "--mac", address])
         (_, value), (no_states, states), (no_places, _) = read("85"), read("74"), read("87")
         shown = value.strip() + f" of {states.strip()}" * (not no_states) + " *" * (not no_places)
         there.append((f"{cells[5]}:{cells[6]}", cells[8], shown))
@@ -198,7 +198,7 @@ def points(device):
         says(document, f"with {names[len(there) - 10]} points")
 
 
-def tools_of_readme(device):
+def tools_of_readme(address):
     """Each command of README's table prints the lines that stand beside it; `..` is any text."""
     with tempfile.TemporaryDirectory() as room:
         for name in ("bactool", "bacrp", "bacwp", "bacwi", "bactrace"):
@@ -211,8 +211,8 @@ def tools_of_readme(device):
         for command, cell in re.findall(r"(?m)^\| `.*?` \| [^|]* \| `([^`]*)` \| (.*) \|$", table):
             if command.startswith("bacdev"):
                 continue
-            status, said = run(["sh", "-c", command.replace("192.0.2.7", device)], **how)
-            lines = re.findall("`([^`]*)`", cell.replace("192.0.2.7:47808", device))
+            status, said = run(["sh", "-c", command.replace("192.0.2.7", address)], **how)
+            lines = re.findall("`([^`]*)`", cell.replace("192.0.2.7:47808", address))
             there = [bool(re.search("(?m)^" + re.escape(it).replace(r"\.\.", ".*") + "$", said)) for it in lines]
             same(f"README.md: {command}: {said.strip()}", (status, there), (0, [True] * len(lines)))
 
