@@ -70,9 +70,15 @@ def copy_sources(room):
     """Copies to a folder what is proved of the tree, without what is kept of the proofs."""
     for name in ("crates.txt", "HANDLES"):
         shutil.copy(f"{TOP}/{name}", room)
-    for part in ("src", "specs", "proofs"):
-        for folder in glob.glob(f"{TOP}/crates/*/{part}"):
-            shutil.copytree(folder, room + folder[len(TOP) :])
+    for crate in os.listdir(f"{TOP}/crates"):
+        copy_crate(crate, f"{room}/crates/{crate}")
+
+
+def copy_crate(crate, room):
+    """The same of a crate."""
+    for folder in (f"{TOP}/crates/{crate}/{part}" for part in ("src", "specs", "proofs")):
+        if os.path.isdir(folder):
+            shutil.copytree(folder, f"{room}/{os.path.basename(folder)}")
 
 
 def failing_library(room):

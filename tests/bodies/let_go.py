@@ -8,13 +8,12 @@ the errors that stand beside it, and by no other. Each takes some seconds, in wh
 import argparse
 import os
 import re
-import shutil
 import subprocess
 import sys
 import tempfile
 
 sys.path.insert(0, os.path.dirname(__file__) + "/..")
-from tree import TOP, text_of
+from tree import TOP, copy_crate, text_of
 from wrong_bodies import command
 
 MOVED, BOUND = {"move-out-of-place"}, {"specialized-drop"}
@@ -53,9 +52,7 @@ TYPES = [
 def said_of(crate, file, head, given, kind, does, over):
     """What a check over the libraries of this tree says where the type has this `Drop` in place of the derived one."""
     with tempfile.TemporaryDirectory(prefix="let-go-") as here:
-        for part in ("src", "specs", "proofs"):
-            if os.path.isdir(f"{TOP}/crates/{crate}/{part}"):
-                shutil.copytree(f"{TOP}/crates/{crate}/{part}", f"{here}/{part}")
+        copy_crate(crate, here)
         text = text_of(f"{here}/src/{file}.rt")
         derived = f"#[derive(Drop)]\n{head}"
         if text.count(derived) != 1:

@@ -65,12 +65,9 @@ def call_of(head):
     """How a function with these lines for its head is called by the right body that does nothing but call it."""
     text = " ".join(it.strip() for it in head if not it.strip().startswith(("//", "#[")))
     name, rest = re.search(r"\bfn (\w+)(.*)", text).groups()
-    begin, depth = rest.index("("), 0
-    for end in range(begin, len(rest)):
-        depth += (rest[end] == "(") - (rest[end] == ")")
-        if not depth:
-            break
-    given = [it.partition(":")[0].removeprefix("mut ") for it in parts_of(rest[begin + 1 : end])]
+    begin = rest.index("(")
+    given = parts_of(rest[begin + 1 : closing(rest, begin)])
+    given = [it.partition(":")[0].removeprefix("mut ") for it in given]
     of_self = [it for it in given if re.search(r"\bself$", it)]
     return f"{'self.' * bool(of_self)}{name}({', '.join(it for it in given if it not in of_self)})"
 

@@ -54,10 +54,9 @@ import twins
 from edits import CONTROL, EMPTIED, INVARIANT, REFUTED, ROOT, TWIN, WRONG, Edit
 from edits import entries_of, functions_of, module_of, outside_impls, text_of
 from stubs import LINKED, put_stubs
-from tree import all_crates, crates_below, free_memory, processors
+from tree import all_crates, copy_crate, crates_below, free_memory, processors
 
 KINDS = ["clause", "safety", "step", "name", "PROVED", "bad"]
-STRENGTHS = ["false", "open", "limit"]
 CHECK_MEMORY = 3000000000  # what a check takes of the machine's memory, in octets
 SAMPLE = 8
 LARGEST = 160  # bodies of a round
@@ -168,11 +167,6 @@ class Body(Edit):
         count = lambda text: len(BRINGS.findall(text))
         return any(count(it.new) > (0 if self.calls_right else count(it.old)) for it in self.pairs)
 
-    def strength(self):
-        """Of a body that a clause refuses: whether one is shown false, or left open, or only not decided in time."""
-        told = self.strengths()
-        return next((it for it in STRENGTHS if it in told), "")
-
     def strengths(self):
         return {it.split(" ")[-1] for it in self.why if kind_of(it) == self.kind}
 
@@ -279,9 +273,7 @@ class Round:
     def check(self):
         """What the check says, and its processor seconds."""
         with tempfile.TemporaryDirectory(prefix="wrong-bodies-") as here:
-            for part in ("src", "specs", "proofs"):
-                if os.path.isdir(f"{ROOT}/crates/{self.crate}/{part}"):
-                    shutil.copytree(f"{ROOT}/crates/{self.crate}/{part}", f"{here}/{part}")
+            copy_crate(self.crate, here)
             for path, text in self.texts.items():
                 with open(f"{here}/{path}", "w", encoding="utf-8") as it:
                     it.write(text)
