@@ -66,7 +66,8 @@ def call_of(head):
     text = " ".join(it.strip() for it in head if not it.strip().startswith(("//", "#[")))
     name, rest = re.search(r"\bfn (\w+)(.*)", text).groups()
     begin = rest.index("(")
-    given = parts_of(rest[begin + 1 : closing(rest, begin)])
+    end = closing(rest, begin) or len(rest)  # without clauses the bracket may be closed in the first line of the body
+    given = parts_of(rest[begin + 1 : end])
     given = [it.partition(":")[0].removeprefix("mut ") for it in given]
     of_self = [it for it in given if re.search(r"\bself$", it)]
     return f"{'self.' * bool(of_self)}{name}({', '.join(it for it in given if it not in of_self)})"
