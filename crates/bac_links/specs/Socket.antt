@@ -36,6 +36,10 @@ pub record Binds (at : Peer) (calls : List SystemCall) : Type 0 where
   pub of_peer : IsAddressOf (station at) address
   pub asked : calls ≡ Bind address ∷ []
 
+-- Such a socket was asked for once or not at all, and nothing else.
+abbrev pub BindsAtMost : Peer → List SystemCall → Type 0
+BindsAtMost at calls = (calls ≡ []) ⊎ Binds at calls
+
 -- ---- the time
 
 -- The time of a link: how many whole milliseconds have passed by its clock since it was made, up to the greatest

@@ -43,5 +43,5 @@ pub use link::{Link, LinkFault};
 pub use memory::{MemoryLink, Step};
 pub use search::run_whois;
 pub use serving::serve;
-pub use socket::{Socket, SystemSocket};
+pub use socket::{NoSocket, Socket, SystemSocket};
 pub use udp::{Refused, UdpLink};

@@ -1,13 +1,14 @@
 //! A UDP socket and its clock, and that of the system.
-ghost use Rattle.std.specs.{Prelude.{◌≡◌, ◌≤◌, ◌∷◌, ◌++◌, [], IfOk, length, is_ok, take}, Duration.as_nanos};
+ghost use Rattle.std.specs.{Prelude.{◌≡◌, ◌≤◌, ◌∷◌, ◌++◌, [], IfOk, IfErr, length, is_ok, take}, Duration.as_nanos};
 ghost use Rattle.std.specs.{Io.WritesAtMost, IoError.error_kind, Result.{result_ok, result_map_both}};
 ghost use Rattle.bac_links.specs.SystemCall.{Bind, Limit, SendTo, Receive, Elapsed};
 
 use crate::history::{CallNote, Log};
 use crate::link::LinkFault;
-use std::io;
 use std::net::{Net, SocketAddr, UdpSocket};
 use std::time::{Clock, Duration, Instant};
+use std::{fmt, io};
+use thiserror::Error;
 
 /// A UDP socket and its clock, which remember what they were asked and answered. Each method is one call of the system.
 pub trait Socket {
@@ -37,6 +38,19 @@ pub trait Socket {
         ensures { log self.new ≡ log self.old ++ Elapsed (result_ok result) ∷ [] };
 }
 
+/// There is no socket to be had, no memory, or no clock. What the system was asked for it is kept.
+#[derive(Drop, Error)]
+#[error("{}", LinkFault.message())]
+pub struct NoSocket {
+    pub log: Log,
+}
+
+impl fmt::Debug for NoSocket {
+    fn fmt<W: fmt::Write>(&self, f: &mut fmt::Formatter<W>) -> fmt::Result {
+        f.write_str("NoSocket")
+    }
+}
+
 /// A UDP socket of the system, and its clock.
 ///
 /// This is what is trusted of a socket: that each of these five functions makes the one call of `std` which has its
@@ -52,16 +66,24 @@ pub struct SystemSocket<R: Clock + Drop> {
 impl<R: Net + Clock + Clone + Drop> SystemSocket<R> {
     // A socket at this address, or at a free port of it where the port is 0. It keeps a duplicate of the one that was
     // bound, whose descriptor is past those of the standard streams, also where one of these is closed.
-    pub(crate) fn bind(rt: &R, at: SocketAddr) -> Result<Self, LinkFault>
-        ensures { IfOk result (λ socket. socket.log.items ≡ Bind at ∷ []) }
+    pub(crate) fn bind(rt: &R, at: SocketAddr) -> Result<Self, NoSocket>
+        ensures ok { IfOk result (λ socket. socket.log.items ≡ Bind at ∷ []) }
+        ensures err { IfErr result (λ none. none.log.items ≡ Bind at ∷ []) }
     {
-        let bound = UdpSocket::bind(rt, at).map_err(|_| LinkFault)?;
+        let bound = UdpSocket::bind(rt, at);
         let mut log = Log::new();
         log.push(&CallNote::Bind(at));
+        let Ok(bound) = bound else {
+            return Err(NoSocket { log });
+        };
+        let same: Result<_, _> = rt.clone();
+        let (Ok(socket), Ok(made), Ok(rt)) = (bound.try_clone(), Instant::now(rt), same) else {
+            return Err(NoSocket { log });
+        };
         Ok(SystemSocket {
-            socket: bound.try_clone().map_err(|_| LinkFault)?,
-            made: Instant::now(rt).map_err(|_| LinkFault)?,
-            rt: rt.clone().map_err(|_| LinkFault)?,
+            rt,
+            socket,
+            made,
             log,
         })
     }

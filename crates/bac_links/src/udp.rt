@@ -1,19 +1,19 @@
 //! A link over a UDP socket.
 ghost use Rattle.std.{
-  specs.Prelude.{◌≡◌, ◌≢◌, ◌+◌, ◌*◌, ◌++◌, [], None, IfOk, IfNone, IfSome, MatchOption, OnOk, OnErr, length},
+  specs.Prelude.{◌≡◌, ◌≢◌, ◌+◌, ◌*◌, ◌++◌, [], None, IfOk, IfErr, IfNone, IfSome, MatchOption, OnOk, OnErr, length},
   specs.{Prelude.{Ok, false, is_ok, is_err, max, vec_len}, Duration.as_nanos, Option.option_flatten, Result.result_ok},
 };
 ghost use Rattle.bac_pdu.specs.Peer.{station};
 ghost use Rattle.bac_links.{
   specs.Limits.longest_datagram,
-  specs.{History.{heard_by, Waited, Timed, Gains, posted}, Socket.{IsAddressOf, heard_from, is_quiet}},
+  specs.{History.{heard_by, Waited, Timed, Gains, posted}, Socket.{BindsAtMost, IsAddressOf, heard_from, is_quiet}},
   specs.{Socket.{peer_at, time_by, Logs, Binds, Sends, Times, Waits, OverSocket, limits, account_over}, Keeps.Keeps},
 };
 
 use crate::datagram::{DATAGRAM_OCTETS, Datagram};
-use crate::history::{Asking, History};
+use crate::history::{Asking, History, Log};
 use crate::link::{Link, LinkFault};
-use crate::socket::{Socket, SystemSocket};
+use crate::socket::{NoSocket, Socket, SystemSocket};
 use bac_pdu::Peer;
 use std::alloc::Global;
 use std::io;
@@ -59,16 +59,20 @@ impl<R: Net + Clock + Clone + Drop> UdpLink<SystemSocket<R>> {
     ///
     /// # Errors
     ///
-    /// `LinkFault` where there is no such socket to be had, no memory, or no clock.
-    pub fn bind_with(rt: &R, alloc: Global, at: Peer, refused: Refused) -> Result<Self, LinkFault>
+    /// `NoSocket` where there is no such socket to be had, no memory, or no clock.
+    pub fn bind_with(rt: &R, alloc: Global, at: Peer, refused: Refused) -> Result<Self, NoSocket>
         ensures sound { IfOk result (λ link. ⟦<UdpLink<SystemSocket<R>> as Link>⟧.has_failed link ≡ false) }
         ensures refused { IfOk result (λ link. link.refused ≡ refused) }
         ensures at { IfOk result (λ link. Binds at link.socket.log.items) }
         ensures made { IfOk result (λ link. ⟦<UdpLink<SystemSocket<R>> as Link>⟧.seen link
             ≡ account_over refused link.socket.log.items []) }
         ensures begun { IfOk result (λ link. (link.time ≡ 0) × (link.wait_ms ≡ 0)) }
+        ensures none { IfErr result (λ none. BindsAtMost at none.log.items) }
     {
-        Self::over(SystemSocket::bind(rt, address_of(at))?, alloc, refused)
+        match buffer(alloc) {
+            Ok(buffer) => Ok(Self::with(SystemSocket::bind(rt, address_of(at))?, buffer, refused)),
+            Err(LinkFault) => Err(NoSocket { log: Log::new() }),
+        }
     }
 }
 
@@ -85,16 +89,28 @@ impl<S: Socket + Drop> UdpLink<S> {
         ensures made { IfOk result (λ link. ⟦<UdpLink<S> as Link>⟧.seen link ≡ account_over refused (S.log socket) []) }
         ensures begun { IfOk result (λ link. (link.time ≡ 0) × (link.wait_ms ≡ 0)) }
     {
-        Ok(UdpLink {
+        Ok(Self::with(socket, buffer(alloc)?, refused))
+    }
+
+    // The same, with room for a datagram.
+    fn with(socket: S, buffer: Vec<u8>, refused: Refused) -> Self
+        requires { vec_len buffer ≡ longest_datagram + 1 }
+        ensures sound { ⟦<UdpLink<S> as Link>⟧.has_failed result ≡ false }
+        ensures refused { result.refused ≡ refused }
+        ensures socket { result.socket ≡ socket }
+        ensures made { ⟦<UdpLink<S> as Link>⟧.seen result ≡ account_over refused (S.log socket) [] }
+        ensures begun { (result.time ≡ 0) × (result.wait_ms ≡ 0) }
+    {
+        UdpLink {
             made_of: Snapshot::of(&socket),
             socket,
-            buffer: vec![in alloc; 0; BUFFER_OCTETS].map_err(|_| LinkFault)?,
+            buffer,
             time: 0,
             wait_ms: 0,
             refused,
             failed: false,
             history: History::new(),
-        })
+        }
     }
 
     /// The socket, as the last call of the link left it.
@@ -103,6 +119,13 @@ impl<S: Socket + Drop> UdpLink<S> {
     {
         self.socket
     }
+}
+
+// Room for a datagram, and for one octet more.
+fn buffer(alloc: Global) -> Result<Vec<u8>, LinkFault>
+    ensures { IfOk result (λ buffer. vec_len buffer ≡ longest_datagram + 1) }
+{
+    vec![in alloc; 0; BUFFER_OCTETS].map_err(|_| LinkFault)
 }
 
 impl<S: Socket + Drop> Link for UdpLink<S> {

@@ -12,7 +12,7 @@ use Rattle.bac_links.{
   proofs.{Alike.calls_so_far, SearchesAlike.searches_so_far, ServingsAlike.servings_so_far},
   specs.{Answered.{answers_of, GoOnAlike, OneText, Printed}, Call.Tells},
   specs.{History.{Account, Entry}, declared.{exit.Exit.Exit, ending.Purpose.{Purpose, TheVariants.{Reading, Writing}}}},
-  specs.declared.{fault.ToolFault.{ToolFault, TheVariants.WriteFailed}, link.LinkFault.LinkFault},
+  specs.declared.{fault.ToolFault.{ToolFault, TheVariants.WriteFailed}, socket.NoSocket.NoSocket},
 }
 use Rattle.bac_words.specs.{Command.bactool, declared.faults.UsageFault.{UsageFault, TheVariants.{Help, Memory, Words}}}
 use Rattle.bac_words.{specs.{Line.{Answers, IsRefusal}, Marks.marked_words}, proofs.OneAnswer.one_answer}
@@ -114,21 +114,21 @@ none_answered : (xs : List Entry) → answers_of xs ≡ [] → xs ≡ []
 none_answered [] e = refl
 none_answered (x ∷ xs) e = cc
 
-module _ {N Origin L R W : Type 0} {gives : N → Binding → Result L LinkFault → Type 0} {out : Outside Origin L R W}
+module _ {N Origin L R W : Type 0} {gives : N → Binding → Result L NoSocket → Type 0} {out : Outside Origin L R W}
     {words : List Text} (run : Run gives out words) where
-  abbrev Mine : Job → Option (Result L LinkFault) → Option (Result L LinkFault) → Type 0
+  abbrev Mine : Job → Option (Result L NoSocket) → Option (Result L NoSocket) → Type 0
   Mine = Runs out (fresh run.reader) run.reader' (fresh run.writer) run.writer' run.ran.report
 
   abbrev MyScript : Type 0
   MyScript = RunsScript out (fresh run.reader) run.reader' (fresh run.writer) run.writer' run.ran.report
 
-  abbrev MyEnd : Result Job UsageFault → Option (Result L LinkFault) → Type 0
+  abbrev MyEnd : Result Job UsageFault → Option (Result L NoSocket) → Type 0
   MyEnd r o = Ends gives out run.network (fresh run.reader) run.reader' (fresh run.writer) run.writer' run.ran r o
 
   unprinted : run.writer' ≡ fresh run.writer → octets_of run.writer' ≡ []
   unprinted e = cc
 
-  ungained : (o : Option (Result L LinkFault)) → IsGiven gives out run.network None o
+  ungained : (o : Option (Result L NoSocket)) → IsGiven gives out run.network None o
       → Gained out.seen o run.ran.socket run.gained → run.gained ≡ []
   ungained None given gains = gains
   ungained (Some socket) given gains = cc
@@ -141,8 +141,8 @@ module _ {N Origin L R W : Type 0} {gives : N → Binding → Result L LinkFault
 
 -- ---- two runs
 
-module _ {N Origin L R W M Other K S V : Type 0} {gives : N → Binding → Result L LinkFault → Type 0}
-    {out : Outside Origin L R W} {gives' : M → Binding → Result K LinkFault → Type 0} {out' : Outside Other K S V}
+module _ {N Origin L R W M Other K S V : Type 0} {gives : N → Binding → Result L NoSocket → Type 0}
+    {out : Outside Origin L R W} {gives' : M → Binding → Result K NoSocket → Type 0} {out' : Outside Other K S V}
     {words : List Text}
     (one : Run gives out words) (other : Run gives' out' words) (first rest first' rest' : List Entry)
     (h : AreGivenAlike one other first rest first' rest') where
@@ -193,7 +193,7 @@ module _ {N Origin L R W M Other K S V : Type 0} {gives : N → Binding → Resu
   abbrev Refused : Type 0
   Refused = IsErrAnd one.program.answer (IsRefusal words) × IsErrAnd other.program.answer (IsRefusal words)
 
-  abbrev BothHad : Option (Result L LinkFault) → Option (Result K LinkFault) → Type 0
+  abbrev BothHad : Option (Result L NoSocket) → Option (Result K NoSocket) → Type 0
   BothHad o o' = IsTrue (is_some o) → IsTrue (is_some o') → is_socket o ≡ is_socket o'
 
   over : (tool : Tool) (link left : L) (link' left' : K)
@@ -210,7 +210,7 @@ module _ {N Origin L R W M Other K S V : Type 0} {gives : N → Binding → Resu
             (subst (λ (y : Report). GoesOn (tool_report r.answer) y rest rest') (sym s.reported) both.1),
       )
 
-  opened : (tool : Tool) (o p : Option (Result L LinkFault)) (o' p' : Option (Result K LinkFault)) →
+  opened : (tool : Tool) (o p : Option (Result L NoSocket)) (o' p' : Option (Result K NoSocket)) →
       RunsOpened out (fresh one.reader) one.reader' (fresh one.writer) one.writer' one.ran.report tool o p →
       RunsOpened out' (fresh other.reader) other.reader' (fresh other.writer) other.writer' other.ran.report tool o' p'
       →
@@ -241,7 +241,7 @@ module _ {N Origin L R W M Other K S V : Type 0} {gives : N → Binding → Resu
       ]
     ]
 
-  jobs : (job : Job) (o p : Option (Result L LinkFault)) (o' p' : Option (Result K LinkFault))
+  jobs : (job : Job) (o p : Option (Result L NoSocket)) (o' p' : Option (Result K NoSocket))
       → IsGiven gives out one.network (asked_by job) o → IsGiven gives' out' other.network (asked_by job) o' →
       Mine one job o p → Mine other job o' p' → Gained out.seen o p one.gained → Gained out'.seen o' p' other.gained
       → BothHad o o' → Alike

@@ -4,7 +4,7 @@ use Rattle.clap.specs.Words.{Text}
 use Rattle.bac_text.specs.declared.jobs.Job.{Job}
 use Rattle.bac_print.specs.{Checked.has_failed, declared.checked.Checked.Checked}
 use Rattle.bac_script.specs.declared.tracing.{TraceEnd.TraceEnd, TraceFault.TraceFault}
-use Rattle.bac_links.specs.declared.{exit.Exit.Exit, fault.ToolFault.ToolFault, link.LinkFault.LinkFault}
+use Rattle.bac_links.specs.declared.{exit.Exit.Exit, fault.ToolFault.ToolFault, socket.NoSocket.NoSocket}
 use Rattle.bac_words.specs.declared.faults.UsageFault.{UsageFault}
 use Rattle.bac_tools.{
   specs.{Outside.Outside, Program.{Ends, Program, IsCalled, IsRun}, Report.{IsStatusOf, tool_report, trace_report}},
@@ -25,9 +25,9 @@ given_status : (fault : Option Fault) (failed : Bool) (report : Report) → IsTo
     → IsTold (once_given fault failed report)
 given_status = grind arith
 
-module _ {N Origin L R W : Type 0} (gives : N → Binding → Result L LinkFault → Type 0) (out : Outside Origin L R W)
+module _ {N Origin L R W : Type 0} (gives : N → Binding → Result L NoSocket → Type 0) (out : Outside Origin L R W)
     (network : N) (reader reader' : Checked R) (writer writer' : Checked W) (ran : Ran N L) where
-  ended_status : (answer : Result Job UsageFault) (o : Option (Result L LinkFault))
+  ended_status : (answer : Result Job UsageFault) (o : Option (Result L NoSocket))
       → Ends gives out network reader reader' writer writer' ran answer o → IsTold ran.report
   ended_status = grind (arith, tool_status, trace_status)
 
@@ -40,7 +40,7 @@ module _ {N Origin L R W : Type 0} (gives : N → Binding → Result L LinkFault
   called_status (Ok typed) (inl p) = program_status _ p
   called_status _ only = grind arith
 
-pub run_status : {N Origin L R W E : Type 0} {gives : N → Binding → Result L LinkFault → Type 0}
+pub run_status : {N Origin L R W E : Type 0} {gives : N → Binding → Result L NoSocket → Type 0}
     {out : Outside Origin L R W} {contents : E → Option (List ℕ)} {network : N} {reader reader' : Checked R}
     {writer writer' : Checked W} {errors errors' : Checked E} {ran : Ran N L}
     {typed : Result (List Text) ErrorKind}

@@ -6,7 +6,7 @@ use Rattle.bac_print.specs.{Checked.{fresh, octets_of}, declared.checked.Checked
 use Rattle.bac_script.specs.Alike.{IsFrontOf, GaveFront, GaveSame}
 use Rattle.bac_script.specs.declared.tracing.TraceFault.TheVariants as stops
 use Rattle.bac_links.specs.Answered.{answers_of, GoOnAlike}
-use Rattle.bac_links.specs.{History.{Account, Entry}, declared.link.LinkFault.LinkFault}
+use Rattle.bac_links.specs.{History.{Account, Entry}, declared.socket.NoSocket.NoSocket}
 use Rattle.bac_links.specs.declared.fault.ToolFault.TheVariants as tools
 use Rattle.bac_words.specs.{Line.IsRefusal, declared.faults.UsageFault.TheVariants.Memory}
 use Rattle.bac_tools.specs.{Outside.Outside, Program.Program}
@@ -14,12 +14,12 @@ use Rattle.bac_tools.specs.declared.{binding.Binding.Binding, program.Ran.Ran, r
 use Rattle.bac_tools.specs.declared.report.Fault.TheVariants as faults
 
 -- The network gave a socket.
-abbrev pub is_socket : {L : Type 0} → Option (Result L LinkFault) → Bool
+abbrev pub is_socket : {L : Type 0} → Option (Result L NoSocket) → Bool
 is_socket opened = is_some (option_and_then result_ok opened)
 
 -- What the socket that the network gave was asked and answered since then.
-abbrev pub Gained : {Origin L : Type 0} → (L → Account Origin) → Option (Result L LinkFault)
-    → Option (Result L LinkFault) → List Entry → Type 0
+abbrev pub Gained : {Origin L : Type 0} → (L → Account Origin) → Option (Result L NoSocket)
+    → Option (Result L NoSocket) → List Entry → Type 0
 Gained seen (Some (Ok link)) (Some (Ok link')) gained = (seen link').history ≡ (seen link).history ++ gained
 Gained seen opened opened' gained = gained ≡ []
 
@@ -39,7 +39,7 @@ abbrev pub IsPrinted : (printed text : List ℕ) → Report → Type 0
 IsPrinted printed text report = (printed ≡ text) ⊎ (IsCutOff report × IsFrontOf printed text)
 
 -- A whole run with these words, and what its socket was asked and answered.
-pub record Run {N Origin L R W : Type 0} (gives : N → Binding → Result L LinkFault → Type 0)
+pub record Run {N Origin L R W : Type 0} (gives : N → Binding → Result L NoSocket → Type 0)
     (out : Outside Origin L R W) (words : List Text) : Type 0 where
   pub network : N
   pub reader : R
@@ -51,8 +51,8 @@ pub record Run {N Origin L R W : Type 0} (gives : N → Binding → Result L Lin
   pub gained : List Entry
   pub gains : Gained out.seen program.opened ran.socket gained
 
-module _ {N Origin L R W M Other K S V : Type 0} {gives : N → Binding → Result L LinkFault → Type 0}
-    {out : Outside Origin L R W} {gives' : M → Binding → Result K LinkFault → Type 0} {out' : Outside Other K S V}
+module _ {N Origin L R W M Other K S V : Type 0} {gives : N → Binding → Result L NoSocket → Type 0}
+    {out : Outside Origin L R W} {gives' : M → Binding → Result K NoSocket → Type 0} {out' : Outside Other K S V}
     {words : List Text}
     (one : Run gives out words) (other : Run gives' out' words) where
   -- Where neither was cut off they have the same report; but where `clap` does not take the words, each tells of help,

@@ -7,7 +7,7 @@ use Rattle.std.{
 use Rattle.clap.specs.Words.{Text}
 use Rattle.bac_text.specs.declared.jobs.Job.{Job}
 use Rattle.bac_print.specs.{Checked.has_failed, declared.checked.Checked.Checked}
-use Rattle.bac_links.specs.declared.link.LinkFault.{LinkFault}
+use Rattle.bac_links.specs.declared.socket.NoSocket.{NoSocket}
 use Rattle.bac_words.{
   specs.{Called.words_called, Line.{Answers, IsRefusal}, declared.faults.UsageFault.{UsageFault, TheVariants.Memory}},
 }
@@ -21,10 +21,10 @@ use Rattle.bac_tools.specs.declared.report.Fault.TheVariants as faults
 abbrev pub texts_of : {Z : Type 0} → Result (IntoIter (String Z) Z) Error → Result (List Text) ErrorKind
 texts_of typed = result_map_both (λ words. map string_bytes (into_iter_items words)) error_kind typed
 
-module _ {N Origin L R W : Type 0} (gives : N → Binding → Result L LinkFault → Type 0)
+module _ {N Origin L R W : Type 0} (gives : N → Binding → Result L NoSocket → Type 0)
     (out : Outside Origin L R W) where
   -- What the network gives where a socket is asked for.
-  abbrev pub IsGiven : N → Option Binding → Option (Result L LinkFault) → Type 0
+  abbrev pub IsGiven : N → Option Binding → Option (Result L NoSocket) → Type 0
   IsGiven network None opened = opened ≡ None
   IsGiven network (Some binding) opened = IsSomeAnd opened (gives network binding)
 
@@ -35,7 +35,7 @@ module _ {N Origin L R W : Type 0} (gives : N → Binding → Result L LinkFault
         × (ran ≡ record { report = report; socket = None; unasked = Some network })
 
     -- A job is run over the socket that it asks for. Where the words give no job, the report says why.
-    abbrev pub Ends : Result Job UsageFault → Option (Result L LinkFault) → Type 0
+    abbrev pub Ends : Result Job UsageFault → Option (Result L NoSocket) → Type 0
     Ends (Ok job) opened = Runs out reader reader' writer writer' ran.report job opened ran.socket
     Ends (Err fault) opened = Only (report_of (faults.Usage fault))
 
@@ -45,7 +45,7 @@ module _ {N Origin L R W : Type 0} (gives : N → Binding → Result L LinkFault
     pub record Program (words : List Text) : Type 0 where
       pub answer : Result Job UsageFault
       pub answered : IsErrAnd answer (IsRefusal words) ⊎ Answers words answer
-      pub opened : Option (Result L LinkFault)
+      pub opened : Option (Result L NoSocket)
       pub given : IsGiven network (option_and_then asked_by (result_ok answer)) opened
       pub ends : Ends answer opened
       pub unasked : IfNone opened (ran.unasked ≡ Some network)

@@ -9,7 +9,7 @@ use Rattle.bac_script.specs.{Tracing.Traces, declared.tracing.{TraceEnd.TraceEnd
 use Rattle.bac_script.specs.declared.tracing.TraceFault.TheVariants as stops
 use Rattle.bac_links.specs.{Call.Tells, Fault.{is_link_fault, is_write_fault}, History.Account, Search.Searched}
 use Rattle.bac_links.specs.{Serve.Serves, declared.{ending.Purpose.TheVariants.{Reading, Writing}, exit.Exit.Exit}}
-use Rattle.bac_links.specs.declared.{exit.Exit.TheVariants.Good, fault.ToolFault.ToolFault, link.LinkFault.LinkFault}
+use Rattle.bac_links.specs.declared.{exit.Exit.TheVariants.Good, fault.ToolFault.ToolFault, socket.NoSocket.NoSocket}
 use Rattle.bac_tools.{
   specs.{Outside.Outside, Report.{report_of, tool_report, trace_report}, declared.report.Report.Report},
 }
@@ -57,14 +57,14 @@ module _ {Origin L R W : Type 0} (out : Outside Origin L R W) (reader reader' : 
     pub reported : report ≡ trace_report answer
 
   -- A tool was run over the socket that was to be had, which is there afterwards. Where none was to be had, nothing was
-  -- read and nothing printed, and why there was none is told and handed back.
-  abbrev pub RunsOpened : Tool → Option (Result L LinkFault) → Option (Result L LinkFault) → Type 0
-  RunsOpened tool (Some (Err fault)) opened' = (opened' ≡ Some (Err fault)) × (reader' ≡ reader) × (writer' ≡ writer)
-      × (report ≡ report_of (faults.Link fault))
+  -- read and nothing printed, it is told that there was none, and why is handed back.
+  abbrev pub RunsOpened : Tool → Option (Result L NoSocket) → Option (Result L NoSocket) → Type 0
+  RunsOpened tool (Some (Err none)) opened' = (opened' ≡ Some (Err none)) × (reader' ≡ reader) × (writer' ≡ writer)
+      × (report ≡ report_of (faults.Link record {}))
   RunsOpened tool (Some (Ok link)) (Some (Ok link')) = RunsOver tool link link'
   RunsOpened tool opened opened' = ⊥
 
   -- What a job does with what was opened for it, its reader and its writer, and the report.
-  abbrev pub Runs : Job → Option (Result L LinkFault) → Option (Result L LinkFault) → Type 0
+  abbrev pub Runs : Job → Option (Result L NoSocket) → Option (Result L NoSocket) → Type 0
   Runs Trace = λ opened opened'. RunsScript × (opened' ≡ opened)
   Runs (Over tool) = RunsOpened tool

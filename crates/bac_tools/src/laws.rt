@@ -1,12 +1,13 @@
 //! What holds of the definitions that the contracts cite, and of the public types: the clause of a function with an
 //! empty body is the law.
-ghost use Rattle.std.specs.{Prelude.{◌≡◌, List, Some, Result, Ok}, declared.io.ErrorKind.ErrorKind};
+ghost use Rattle.std.specs.{Prelude.{◌≡◌, List, Some, Result, Ok, Err}, declared.io.ErrorKind.ErrorKind};
 ghost use Rattle.clap.specs.Words.{Text};
 ghost use Rattle.bac_wire.specs.Copies.{MakesCopies};
 ghost use Rattle.bac_print.specs.declared.checked.Checked.{Checked};
-ghost use Rattle.bac_links.specs.{History.Entry, SystemCall.SystemCall};
+ghost use Rattle.bac_links.specs.{History.Entry, SystemCall.SystemCall, declared.socket.NoSocket.NoSocket};
 ghost use Rattle.bac_words.specs.Called.{words_called};
-ghost use Rattle.bac_tools.specs.{Alike.{Run, AreGivenAlike, AreAlike}, Calls.{GivesSockets, RunsAsCalls}};
+ghost use Rattle.bac_tools.specs.Alike.{Run, AreGivenAlike, AreAlike};
+ghost use Rattle.bac_tools.specs.Calls.{AsksAtMostOnce, GivesSockets, RunsAsCalls, RunsWithout};
 ghost use Rattle.bac_tools.specs.{Program.{IsRun, Program}, Report.IsStatusOf, declared.program.Ran.Ran};
 
 use crate::binding::Binding;
@@ -51,16 +52,26 @@ pub fn the_status_is_that_of_the_fault<N: Network, R: Read, W: Write, E: Write>(
 /// From the words to the calls of the system, over any network that gives sockets. Where the program had one, its words
 /// asked for a tool, and what the tool's definition says was printed, told on `errors` and reported; the reader was not
 /// read. The system was asked for one socket, at the address that the tool wants; then for what the tool asked of its
-/// link, one thing after another; and for nothing else.
+/// link, one thing after another; and for nothing else. Where there was none to be had, nothing was read or printed,
+/// and the system was asked for one socket at most, and for nothing else.
 pub fn a_run_is_its_calls<N: Network, R: Read, W: Write, E: Write>()
-    ensures { (log : N.Socket → List SystemCall) (network : N) (reader reader' : Checked R) (writer writer' : Checked W)
-        (errors errors' : Checked E) (ran : Ran N N.Socket) (typed : List Text) (link : N.Socket)
+    ensures had { (log : N.Socket → List SystemCall) (network : N) (reader reader' : Checked R)
+        (writer writer' : Checked W) (errors errors' : Checked E) (ran : Ran N N.Socket) (typed : List Text)
+        (link : N.Socket)
         → GivesSockets N.gives N.Socket.seen log
         → IsRun N.gives
         record { seen = N.Socket.seen; failed = N.Socket.has_failed; remaining = R.remaining; contents = W.contents }
         E.contents network reader reader' writer writer' errors errors' ran (Ok typed) → ran.socket ≡ Some (Ok link)
         → RunsAsCalls N.Socket.Origin W.contents E.contents reader reader' writer writer' errors errors' ran.report
         (words_called typed) (log link) }
+    ensures none { (network : N) (reader reader' : Checked R) (writer writer' : Checked W) (errors errors' : Checked E)
+        (ran : Ran N N.Socket) (typed : List Text) (none : NoSocket)
+        → AsksAtMostOnce N.gives
+        → IsRun N.gives
+        record { seen = N.Socket.seen; failed = N.Socket.has_failed; remaining = R.remaining; contents = W.contents }
+        E.contents network reader reader' writer writer' errors errors' ran (Ok typed) → ran.socket ≡ Some (Err none)
+        → RunsWithout E.contents reader reader' writer writer' errors errors' ran.report (words_called typed)
+        none.log.items }
 {}
 
 /// A clone is what it was cloned from, and takes no memory.

@@ -19,7 +19,7 @@ mod running;
 mod telling;
 
 pub use bac_links::{
-    DATAGRAM_OCTETS, Datagram, Exit, Link, LinkFault, MemoryLink, Refused, Socket, Step,
+    DATAGRAM_OCTETS, Datagram, Exit, Link, LinkFault, MemoryLink, NoSocket, Refused, Socket, Step,
     SystemSocket, ToolFault, UdpLink, run_read, run_whois, run_write, serve, status,
 };
 pub use bac_print::{Checked, Message};

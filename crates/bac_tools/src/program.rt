@@ -3,14 +3,14 @@ ghost use Rattle.std.specs.Prelude.{◌≡◌, false, map, None, Some, Ok, IfOk,
 ghost use Rattle.std.specs.{IoError.error_kind, String.string_bytes, declared.io.ErrorKind.TheVariants.OutOfMemory};
 ghost use Rattle.clap.specs.Walk.{texts};
 ghost use Rattle.bac_print.specs.Checked.{fresh, has_failed};
-ghost use Rattle.bac_links.specs.declared.link.LinkFault.{LinkFault};
+ghost use Rattle.bac_links.specs.declared.socket.NoSocket.{NoSocket};
 ghost use Rattle.bac_tools.specs.{Program.{IsCalled, IsRun, Program, texts_of}, declared.binding.Binding.Binding};
 
 use crate::binding::{Binding, binding_for};
 use crate::report::Report;
 use crate::running::run_tool;
 use crate::telling::tell;
-use bac_links::{Link, LinkFault};
+use bac_links::{Link, LinkFault, NoSocket};
 use bac_print::Checked;
 use bac_script::trace;
 use bac_words::{Job, UsageFault, parse_words, words_of};
@@ -23,14 +23,14 @@ pub trait Network {
     type Socket: Link + Drop;
 
     // What may come of asking for such a socket.
-    ghost gives: { Self → Binding → Result Self.Socket LinkFault → Type 0 };
+    ghost gives: { Self → Binding → Result Self.Socket NoSocket → Type 0 };
 
     /// A socket at this address, which has not failed. The network is given up for it, so no second one is asked for.
     ///
     /// # Errors
     ///
-    /// `LinkFault` where there is none to be had.
-    fn bind(self, binding: Binding) -> Result<Self::Socket, LinkFault>
+    /// `NoSocket` where there is none to be had.
+    fn bind(self, binding: Binding) -> Result<Self::Socket, NoSocket>
         ensures gives { gives self binding result }
         ensures sound { IfOk result (λ socket. Self.Socket.has_failed socket ≡ false) };
 }
@@ -40,7 +40,7 @@ pub trait Network {
 #[derive(Drop)]
 pub struct Ran<N: Drop, L: Drop> {
     pub report: Report,
-    pub socket: Option<Result<L, LinkFault>>,
+    pub socket: Option<Result<L, NoSocket>>,
     /// The network, where no socket was asked for.
     pub unasked: Option<N>,
 }
@@ -119,9 +119,9 @@ pub fn run_words<N: Network + Drop, R: Read, W: Write>(
             socket: Some(Ok(link)),
             unasked: None,
         },
-        Err(fault) => Ran {
-            report: Report::from(fault),
-            socket: Some(Err(fault)),
+        Err(none) => Ran {
+            report: Report::from(LinkFault),
+            socket: Some(Err(none)),
             unasked: None,
         },
     }

@@ -1,9 +1,9 @@
 //! What holds of the program over the sockets of this machine: the clause of a function with an empty body is the law.
-ghost use Rattle.std.specs.Prelude.{◌≡◌, ℕ, List, Some, Ok};
+ghost use Rattle.std.specs.Prelude.{◌≡◌, ℕ, List, Some, Ok, Err};
 ghost use Rattle.bac_print.specs.declared.checked.Checked.{Checked};
-ghost use Rattle.bac_links.specs.Socket.{OverSocket};
+ghost use Rattle.bac_links.specs.{Socket.OverSocket, declared.socket.NoSocket.NoSocket};
 ghost use Rattle.bac_words.specs.Called.{words_called};
-ghost use Rattle.bac_tools.specs.{Calls.RunsAsCalls, Program.IsRun};
+ghost use Rattle.bac_tools.specs.{Calls.{RunsAsCalls, RunsWithout}, Program.IsRun};
 
 use crate::sockets::Sockets;
 use bac_tools::{Link, Network, Ran, SystemSocket, UdpLink};
@@ -14,13 +14,14 @@ use std::time::Clock;
 /// From the words to all that the streams and the system are given, where the program had a socket: its words asked for
 /// a tool, and what the tool's definition says was printed, told on standard error and reported; standard input was not
 /// read. The system was asked for one socket, at the address that the tool wants; then for what the tool asked of its
-/// link, one thing after another; and for nothing else.
+/// link, one thing after another; and for nothing else. Where there was none to be had, nothing was read or printed,
+/// and the system was asked for one socket at most, and for nothing else.
 pub fn the_program_is_its_calls<H: Net + Clock + Clone + Drop, R: Read, W: Write, E: Write>(
     network: &Sockets<'static, H>,
     ran: &Ran<Sockets<'static, H>, UdpLink<SystemSocket<H>>>,
     link: &UdpLink<SystemSocket<H>>,
 )
-    ensures { (reader reader' : Checked R) (writer writer' : Checked W) (errors errors' : Checked E)
+    ensures had { (reader reader' : Checked R) (writer writer' : Checked W) (errors errors' : Checked E)
         (typed : List (List ℕ))
         → IsRun ⟦<Sockets<'static, H> as Network>⟧.gives
         record {
@@ -33,4 +34,17 @@ pub fn the_program_is_its_calls<H: Net + Clock + Clone + Drop, R: Read, W: Write
         → ran.now.socket ≡ Some (Ok link.now)
         → RunsAsCalls OverSocket W.contents E.contents reader reader' writer writer' errors errors' ran.now.report
         (words_called typed) link.now.socket.log.items }
+    ensures none { (reader reader' : Checked R) (writer writer' : Checked W) (errors errors' : Checked E)
+        (typed : List (List ℕ)) (none : NoSocket)
+        → IsRun ⟦<Sockets<'static, H> as Network>⟧.gives
+        record {
+          seen = ⟦<UdpLink<SystemSocket<H>> as Link>⟧.seen;
+          failed = ⟦<UdpLink<SystemSocket<H>> as Link>⟧.has_failed;
+          remaining = R.remaining;
+          contents = W.contents;
+        }
+        E.contents network.now reader reader' writer writer' errors errors' ran.now (Ok typed)
+        → ran.now.socket ≡ Some (Err none)
+        → RunsWithout E.contents reader reader' writer writer' errors errors' ran.now.report (words_called typed)
+        none.log.items }
 {}

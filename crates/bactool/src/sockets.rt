@@ -1,8 +1,8 @@
 //! The sockets of a machine.
-ghost use Rattle.std.specs.Prelude.{◌≡◌, [], false, IfOk};
-ghost use Rattle.bac_links.specs.Socket.{Binds, account_over};
+ghost use Rattle.std.specs.Prelude.{◌≡◌, [], false, IfOk, IfErr};
+ghost use Rattle.bac_links.specs.Socket.{Binds, BindsAtMost, account_over};
 
-use bac_tools::{Binding, Link, LinkFault, Network, SystemSocket, UdpLink};
+use bac_tools::{Binding, Link, Network, NoSocket, SystemSocket, UdpLink};
 use std::alloc::Global;
 use std::net::Net;
 use std::time::Clock;
@@ -29,9 +29,10 @@ impl<H: Net + Clock + Clone + Drop> Network for Sockets<'_, H> {
     ghost gives = { λ _ binding socket.
         IfOk socket (λ link. Binds binding.at link.socket.log.items
         × (⟦<UdpLink<SystemSocket<H>> as Link>⟧.seen link
-        ≡ account_over binding.refused link.socket.log.items [])) };
+        ≡ account_over binding.refused link.socket.log.items []))
+        × IfErr socket (λ none. BindsAtMost binding.at none.log.items) };
 
-    fn bind(self, binding: Binding) -> Result<UdpLink<SystemSocket<H>>, LinkFault>
+    fn bind(self, binding: Binding) -> Result<UdpLink<SystemSocket<H>>, NoSocket>
         ensures gives { ⟦<Sockets<'static, H> as Network>⟧.gives self.entry binding result }
         ensures sound { IfOk result (λ link. ⟦<UdpLink<SystemSocket<H>> as Link>⟧.has_failed link ≡ false) }
     {

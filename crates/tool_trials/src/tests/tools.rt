@@ -4,7 +4,7 @@ ghost use Rattle.bac_links.specs.Memory.{account_of, scene_of_step};
 
 use super::*;
 use crate::tests::links::quiet;
-use bac_links::{Link, LinkFault, MemoryLink, Refused, Step};
+use bac_links::{Link, Log, MemoryLink, NoSocket, Refused, Step};
 use bac_tools::{Binding, Network, Report, run_program};
 use std::alloc::Global;
 use std::cell::Cell;
@@ -27,7 +27,7 @@ impl Network for Rehearsal<'_, '_> {
     ghost gives = { λ network binding socket.
         IfOk socket (λ link. ⟦<MemoryLink as Link>⟧.seen link ≡ account_of (map scene_of_step network.steps.now) []) };
 
-    fn bind(self, binding: Binding) -> Result<MemoryLink, LinkFault> {
+    fn bind(self, binding: Binding) -> Result<MemoryLink, NoSocket> {
         self.asked.set(self.asked.get().saturating_add(1));
         let (port, refused) = self.at;
         let any = Peer {
@@ -35,9 +35,9 @@ impl Network for Rehearsal<'_, '_> {
             ..CONTROLLER
         };
         if binding.at != (Peer { port, ..any }) || binding.refused != refused {
-            return Err(LinkFault);
+            return Err(NoSocket { log: Log::new() });
         }
-        MemoryLink::new(self.alloc, self.steps, None)
+        MemoryLink::new(self.alloc, self.steps, None).map_err(|_| NoSocket { log: Log::new() })
     }
 }
 

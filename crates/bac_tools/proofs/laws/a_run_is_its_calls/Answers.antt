@@ -1,6 +1,10 @@
-use Rattle.bac_tools.proofs.Calls.{run_so}
+use Rattle.bac_tools.proofs.Calls.{run_so, run_without}
 use Rattle.bac_tools.proofs.laws.a_run_is_its_calls.Goals as goal
 
-pub returns : goal.returns
-returns g c = λ log network reader reader' writer writer' errors errors' ran typed link sockets run had.
-    run_so run had log sockets
+pub returns-clause-had : goal.returns-clause-had
+returns-clause-had g c = λ log network reader reader' writer writer' errors errors' ran typed link sockets run had.
+    run_so run log sockets had
+
+pub returns-clause-none : goal.returns-clause-none
+returns-clause-none g c = λ network reader reader' writer writer' errors errors' ran typed none asks run had.
+    run_without run asks had

@@ -24,7 +24,7 @@ pub returns-in-Err-bind : goal.returns-in-Err-bind
 returns-in-Err-bind g c = record {
   answer = Ok (Over c.in-Ok-Over.tool);
   answered = rw c.in-Ok-Over.field-0-is at c.in-Ok-Over.ensures.answer;
-  opened = Some (Err c.in-Err-bind.fault);
+  opened = Some (Err c.in-Err-bind.none);
   given = rw (← c.binding_for.ensures) c.in-Err-bind.ensures.gives;
   ends = (refl, refl, refl, c.from-in-Err-bind.ensures);
   unasked = tt;

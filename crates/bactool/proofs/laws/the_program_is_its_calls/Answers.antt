@@ -1,16 +1,20 @@
 -- What a link over a socket keeps of its history is what the program's sockets give.
 use Rattle.std.proofs.{Common.{ap, subst, ◌∙◌}, Math.Logic.∥∥₁_map}
 use Rattle.bac_links.specs.{History.Account, Socket.{AreCallsFor, Logs, OverSocket}}
-use Rattle.bac_tools.proofs.Calls.{run_so}
+use Rattle.bac_tools.proofs.Calls.{run_so, run_without}
 use Rattle.bactool.proofs.laws.the_program_is_its_calls.Goals as goal
 
-pub returns : goal.returns
-returns g c = λ reader reader' writer writer' errors errors' typed run had.
-    run_so run had (λ link. link.socket.log.items) (λ network binding link given. (
-      given.0,
-      ap (λ (a : Account OverSocket). a.history) given.1,
+pub returns-clause-had : goal.returns-clause-had
+returns-clause-had g c = λ reader reader' writer writer' errors errors' typed run had.
+    run_so run (λ link. link.socket.log.items) (λ network binding link given. (
+      given.0.0,
+      ap (λ (a : Account OverSocket). a.history) given.0.1,
       λ later made.
           subst (λ (m : OverSocket). ∥ Logs (AreCallsFor m.refused 0 0 later.history.items) m.calls
-          later.socket.log.items ∥₁) (made ∙ ap (λ (a : Account OverSocket). a.made) given.1)
+          later.socket.log.items ∥₁) (made ∙ ap (λ (a : Account OverSocket). a.made) given.0.1)
           (∥∥₁_map later.keeps (λ k. k.logged)),
-    ))
+    )) had
+
+pub returns-clause-none : goal.returns-clause-none
+returns-clause-none g c = λ reader reader' writer writer' errors errors' typed none run had.
+    run_without run (λ network binding none given. given.1) had
