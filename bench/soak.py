@@ -1,6 +1,6 @@
 #!/usr/bin/env python3
-"""Gives the built program random input, and follows what it prints and answers: the datagrams of the rows that it is
-tried by, as they are and damaged, and answers to what it asks.
+"""Gives the built program random input, and follows what it prints and answers: the lines and datagrams of the rows
+that it is tried by, as they are and damaged.
 
 Usage: bench/soak.py device DATAGRAMS [SEED], or script LINES [SEED]; BACTOOL names another program than the tree's.
 
@@ -37,11 +37,12 @@ MEMORY = []  # kilobytes, as the run goes on
 
 # ---- random datagrams ----
 
-def corpus():
-    """Each datagram that a script of the rows has."""
+def known():
+    """What the scripts of the rows have: lines by which the client asks, and datagrams."""
     cases = [case for path in glob.glob(TOP + "/tests/program/rows/*.rows") for case in row_cases(path)]
+    asks = {line for case in cases if case.status == 0 for line in re.findall("(?m)^(?:read|write) .*", case.script)}
     found = {it for case in cases for it in re.findall(r"\b81(?:0a|0b|04)[0-9a-f]{4,}", case.script)}
-    return [bytes.fromhex(it) for it in sorted(found)]
+    return sorted(asks), [bytes.fromhex(it) for it in sorted(found)]
 
 
 def with_length(octets):
@@ -64,9 +65,9 @@ def damaged(dice, datagram):
     return with_length(datagram[:2] + octets[2:]) if dice.random() < 0.7 and len(octets) >= 4 else bytes(octets)
 
 
-def any_datagram(dice, known, port):
-    """One that is known, as it is or damaged. If it is forwarded, it names this machine alone."""
-    datagram = dice.choice(known)
+def any_datagram(dice, datagrams, port):
+    """One of these, as it is or damaged. If it is forwarded, it names this machine alone."""
+    datagram = dice.choice(datagrams)
     if dice.random() < 0.6:
         datagram = damaged(dice, datagram)
     if datagram[1:2] == b"\x04":
@@ -177,17 +178,17 @@ class Served:
 
 def soak_device(dice, left):
     """Sends so many datagrams, and counts what comes back."""
-    counts, known = Counter(), corpus()
+    counts, (_, datagrams) = Counter(), known()
     while left > 0:
         with device(stderr=subprocess.PIPE) as (process, port):
             served = Served(port)
             peer = served.tried.getsockname()[1]
             while left > 0 and served.asked + 2 * BATCH < AT_MOST:
-                datagrams = [any_datagram(dice, known, peer) for _ in range(min(BATCH, left))]
-                if why := served.tell(datagrams, counts):
-                    sent = "\n".join(f"  {it.hex()} expects {expected(it)}" for it in datagrams)
+                batch = [any_datagram(dice, datagrams, peer) for _ in range(min(BATCH, left))]
+                if why := served.tell(batch, counts):
+                    sent = "\n".join(f"  {it.hex()} expects {expected(it)}" for it in batch)
                     sys.exit(f"{why}, status {process.poll()}; sent:\n{sent}")
-                left -= len(datagrams)
+                left -= len(batch)
                 if served.asked > 1000 and len(MEMORY) % 2 == 0:
                     MEMORY.append(resident(process.pid))
             MEMORY.append(resident(process.pid))
@@ -202,56 +203,26 @@ def soak_device(dice, left):
 
 PLACES = int(os.environ.get("PLACES", 64))
 BLOCK = 1000
-ROUTED = ["127.0.0.1:47808/5/07", "10.0.0.9:65535/65534/01020304050607"]
-PLAIN = ["127.0.0.1:47808"] * 8 + ["127.0.0.1", "10.0.0.9:1"]
 PRINTED = re.compile(
     r"send (\d+) (\S+) ([0-9a-f]+)|done (\d+) (.+)|timeout (\d+)|full|too-long|drop|silent|reply (\S+) 810a[0-9a-f]+"
 )
-PAIRS = """4 41a00000, 0 x, 1 true, 2 18446744073709551615, 3 -129, 5 0123456789abcdef, 6 00ff, 7 text, 8 101,
- 9 4294967295, 12 8:1234""".replace("\n", "").split(", ")
-
-
-def peer_object_and_property(dice):
-    return f"{dice.choice(PLAIN + ROUTED)} {dice.randrange(1024)} {dice.randrange(1 << 22)} {dice.randrange(1 << 22)}"
-
-
-def read_line(dice):
-    index = f" {dice.choice([0, 1, 4294967295])}" if dice.random() < 0.2 else ""
-    return f"read {peer_object_and_property(dice)}{index}"
-
-
-def write_line(dice):
-    pairs = " ".join(dice.choices(PAIRS, k=dice.choice([1, 1, 2, 60])))
-    return f"write {peer_object_and_property(dice)} {dice.randrange(17)} -1 {pairs}"
-
-
-def data_line(dice):
-    part = "0c" + dice.randbytes(dice.randrange(20)).hex()
-    front, rest = dice.choice([
-        *[("30", "0c0c0000000519553e444290999a3f"), ("20", "0f"), ("50", "0c91029120"), ("50", "0f9102"), ("60", "09")],
-        *[("71", "04"), ("70", "04"), ("38", "00010c"), ("30", part), ("4000", "")],
-    ])
-    peer, *route = dice.choice(PLAIN + ROUTED).split("/")
-    head = "0108%04x%02x%s" % (int(route[0]), len(route[1]) // 2, route[1]) if route else "0100"
-    datagram = with_length(bytes.fromhex(f"810a0000{head}{front}{dice.randrange(256):02x}{rest}"))
-    return f"data {peer} {(dice.random() < 0.2 and damaged(dice, datagram) or datagram).hex()}"
-
-
-def ask_line(dice, known):
-    return f"ask {dice.choice(PLAIN)} {any_datagram(dice, known, 47808).hex() or '81'}"
 
 
 def pool(dice):
-    """Lines to choose from, but for ticks, in the shares that they are to have."""
-    known = corpus()
-    makers = [(read_line, 2), (write_line, 1), (data_line, 12), (lambda dice: ask_line(dice, known), 3)]
-    return [make(dice) for make, share in makers for _ in range(share * 2000)] + ["", "# a comment", "  \t"]
-
-
-def number_of(octets):
-    """The invoke number of a request: behind a router its APDU begins after network, address and hop count."""
-    apdu = 12 if octets[10:12] == "04" else 20 + 2 * int(octets[16:18], 16)
-    return octets[apdu + 4 : apdu + 6]
+    """Lines to choose from, but for ticks, in the shares that they are to have. An answer has any invoke number."""
+    asks, datagrams = known()
+    peers = [line.split()[1].split("/")[0] for line in asks]
+    read = [(octets, message_of(Datagram(0, "", "", octets))) for octets in datagrams]
+    answers = [(octets, message.at + 1) for octets, message in read if message.apdu and message.apdu.is_answer]
+    lines = dice.choices(asks, k=6000) + ["", "# a comment", "  \t"]
+    for _ in range(24000):
+        octets, at = dice.choice(answers)
+        octets = octets[:at] + dice.randbytes(1) + octets[at + 1 :]
+        octets = damaged(dice, octets) if dice.random() < 0.2 else octets
+        lines.append(f"data {dice.choice(peers)} {octets.hex() or '81'}")
+    for _ in range(6000):
+        lines.append(f"ask {dice.choice(peers)} {any_datagram(dice, datagrams, 47808).hex() or '81'}")
+    return lines
 
 
 class Followed:
@@ -284,7 +255,8 @@ class Followed:
             return False
         self.counts[line.split(" ", 1)[0]] += 1
         if found[1]:
-            return self.sent(int(found[1]), (found[2], found[3]), number_of(found[3]))
+            number = message_of(Datagram(0, "", "", bytes.fromhex(found[3]))).apdu.invoke
+            return self.sent(int(found[1]), (found[2], found[3]), number)
         if found[4] or found[6]:
             return self.ended(int(found[4] or found[6]), bool(found[6]))
         return line != "full" or len(self.open) == PLACES
