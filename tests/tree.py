@@ -3,6 +3,7 @@ machine with its ports.
 """
 import contextlib
 import fcntl
+import functools
 import glob
 import os
 import re
@@ -37,6 +38,13 @@ def crates_below():
     for name, parts in all_crates().items():
         below[name] = {name}.union(*(below.get(it, set()) for it in parts))
     return below
+
+
+@functools.lru_cache(maxsize=None)  # as Python 3.8 has it
+def shown(*words):
+    """What a command prints, as on a wide terminal."""
+    how = {"env": {**os.environ, "COLUMNS": "200"}, "cwd": TOP, "stdout": subprocess.PIPE, "text": True}
+    return subprocess.run(words, check=False, **how).stdout
 
 
 def same(what, one, other):

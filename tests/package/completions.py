@@ -10,7 +10,7 @@ import sys
 import tempfile
 
 sys.path.insert(0, os.path.dirname(__file__) + "/..")
-from tree import TOP
+from tree import TOP, shown
 
 PROGRAM = os.path.realpath(sys.argv[1])
 TOOLS = ["bacrp", "bacwp", "bacwi", "bacdev", "bactrace"]
@@ -30,20 +30,15 @@ SHELLS = {
 }
 
 
-def help_of(*words):
-    how = {"env": {**os.environ, "COLUMNS": "200"}, "stdout": subprocess.PIPE, "text": True}
-    return subprocess.run([*words, "--help"], check=False, **how).stdout
-
-
 def options(*words):
     """The long options that help tells of."""
-    return sorted(re.findall(r"(?m)^ +(?:-[A-Za-z](?: [A-Z]+)?, )?(--[a-z-]+)\b", help_of(*words)))
+    return sorted(re.findall(r"(?m)^ +(?:-[A-Za-z](?: [A-Z]+)?, )?(--[a-z-]+)\b", shown(*words, "--help")))
 
 
 def rows():
     """Lines that are being typed, and what may follow each."""
     site = ["python3", TOP + "/site/bacsite"]
-    commands = re.findall(r"(?m)^    ([a-z]+)(?: .*)?$", help_of(*site))
+    commands = re.findall(r"(?m)^    ([a-z]+)(?: .*)?$", shown(*site, "--help"))
     for line, words in {"bactool bac": TOOLS, "bactool help ": TOOLS, "bactool ": [*TOOLS, "help"]}.items():
         yield line, words
     for tool in TOOLS:

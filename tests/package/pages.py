@@ -4,7 +4,6 @@ help, faults with the code's texts, and with help and documents what has to be s
 warnings, how a fault is reported. Then mandoc reads them, where it is installed. Usage: tests/package/pages.py PROGRAM
 """
 import datetime
-import functools
 import glob
 import os
 import re
@@ -13,7 +12,7 @@ import subprocess
 import sys
 
 sys.path.insert(0, os.path.dirname(__file__) + "/..")
-from tree import TOP, plain, same, says, text_of, verdict
+from tree import TOP, plain, same, says, shown, text_of, verdict
 
 sys.path.append(TOP + "/man")
 import tables
@@ -25,12 +24,6 @@ PROGRAM = os.path.realpath(sys.argv[1])
 def alike(what, one, other):
     """Two lists have to be the same, and not empty."""
     same(what, one or ["nothing"], other)
-
-
-@functools.cache
-def shown(*words):
-    how = {"env": {**os.environ, "COLUMNS": "200"}, "cwd": TOP, "stdout": subprocess.PIPE, "text": True}
-    return subprocess.run(words, check=False, **how).stdout
 
 
 def help_of(tool):
