@@ -227,9 +227,15 @@ def unit():
     wanted["WantedBy"] = "multi-user.target"
     same("examples/bacdev.service", {name: told.get(name) for name in wanted}, wanted)
     same("its sections", re.findall(r"(?m)^\[(.*)\]$", text), ["Unit", "Service", "Install"])
-    if shutil.which("systemd-analyze"):
+    if not shutil.which("systemd-analyze"):
+        print("tests/package/facts.py: systemd-analyze is not installed, left out")
         return
-    print("tests/package/facts.py: systemd-analyze is not installed, left out")
+    with tempfile.TemporaryDirectory() as room:
+        with open(f"{room}/bacdev.service", "w", encoding="utf-8") as file:
+            file.write(text.replace("/usr/local/bin/bacdev", PROGRAM))
+        how = {"check": False, "stdout": subprocess.PIPE, "stderr": subprocess.STDOUT, "text": True}
+        told = subprocess.run(["systemd-analyze", "verify", file.name], **how).stdout
+        same("what systemd-analyze says of it", [it for it in told.splitlines() if "bacdev.service" in it], [])
 
 
 def main():
