@@ -16,6 +16,7 @@ import time
 
 TOP = os.path.dirname(os.path.dirname(os.path.abspath(__file__)))
 PROGRAM = os.environ.get("BACTOOL", TOP + "/crates/bactool/out/bactool")
+TOOLS = ["bacrp", "bacwp", "bacwi", "bacdev", "bactrace"]
 HELD = []  # locks of the ports that this process was given
 COMPARED, WRONG = [], []  # what a script has compared, and what is not as it is to be
 
@@ -87,6 +88,14 @@ def copy_crate(crate, room):
     for folder in (f"{TOP}/crates/{crate}/{part}" for part in ("src", "specs", "proofs")):
         if os.path.isdir(folder):
             shutil.copytree(folder, f"{room}/{os.path.basename(folder)}")
+
+
+def put_tools(program, room):
+    """Puts the program into a folder by each of its names, and bacsite, as in a folder of the PATH."""
+    os.makedirs(room, exist_ok=True)
+    for name in ("bactool", *TOOLS):
+        os.symlink(program, f"{room}/{name}")
+    subprocess.run([f"{TOP}/packaging/onefile.py", f"{room}/bacsite"], check=True)
 
 
 def failing_library(room):

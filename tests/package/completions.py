@@ -10,10 +10,9 @@ import sys
 import tempfile
 
 sys.path.insert(0, os.path.dirname(__file__) + "/..")
-from tree import TOP, shown
+from tree import TOOLS, TOP, shown
 
 PROGRAM = os.path.realpath(sys.argv[1])
-TOOLS = ["bacrp", "bacwp", "bacwi", "bacdev", "bactrace"]
 TAGS = [str(tag) for tag in range(13)]
 BASH = """for line in "${@:2}"; do
     tool=${line%% *}; [[ $tool == bacsite ]] || tool=bactool

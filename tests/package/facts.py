@@ -10,7 +10,7 @@ import sys
 import tempfile
 
 sys.path.insert(0, os.path.dirname(__file__) + "/..")
-from tree import TOP, device, free_port, local_socket, plain, same, says, server, text_of, verdict
+from tree import TOP, device, free_port, local_socket, plain, put_tools, same, says, server, text_of, verdict
 
 PROGRAM = os.path.realpath(sys.argv[1])
 SITE = ["python3", TOP + "/site/bacsite"]
@@ -201,11 +201,7 @@ def points(address):
 def tools_of_readme(address):
     """Each command of README's table prints the lines that stand beside it; `..` is any text."""
     with tempfile.TemporaryDirectory() as room:
-        for name in ("bactool", "bacrp", "bacwp", "bacwi", "bactrace"):
-            os.symlink(PROGRAM, f"{room}/{name}")
-        with open(f"{room}/bacsite", "w", encoding="utf-8") as file:
-            file.write(f'#!/bin/sh\nexec {" ".join(SITE)} "$@"\n')
-        os.chmod(f"{room}/bacsite", 0o755)
+        put_tools(PROGRAM, room)
         how = {"cwd": TOP, "env": {**os.environ, "PATH": f"{room}:{os.environ['PATH']}"}}
         table = text_of("README.md").partition("\n## The tools\n")[2].partition("\n## ")[0]
         for command, cell in re.findall(r"(?m)^\| `.*?` \| [^|]* \| `([^`]*)` \| (.*) \|$", table):

@@ -12,12 +12,11 @@ import subprocess
 import sys
 
 sys.path.insert(0, os.path.dirname(__file__) + "/..")
-from tree import TOP, plain, same, says, shown, text_of, verdict
+from tree import TOOLS, TOP, plain, same, says, shown, text_of, verdict
 
 sys.path.append(TOP + "/man")
 import tables
 
-TOOLS = ["bacrp", "bacwp", "bacwi", "bacdev", "bactrace"]
 PROGRAM = os.path.realpath(sys.argv[1])
 
 

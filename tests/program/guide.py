@@ -18,9 +18,8 @@ import sys
 import tempfile
 
 sys.path.insert(0, os.path.dirname(__file__) + "/..")
-from tree import TOP, free_port, text_of
+from tree import TOP, free_port, put_tools, text_of
 
-TOOLS = ["bactool", "bacrp", "bacwp", "bacwi", "bacdev", "bactrace"]
 # Waits, for ten seconds at most, until a socket has the port.
 UNTIL_TAKEN = "for _ in {1..1000}; do grep -q ' [0-9A-F]*:%04X ' /proc/net/udp && break; sleep 0.01; done\n"
 
@@ -94,10 +93,7 @@ def script(rows, first, second):
 
 def run(text, program, room):
     """What the script prints, in a folder with the examples, and with the tools in its PATH."""
-    os.makedirs(f"{room}/bin")
-    for name in TOOLS:
-        os.symlink(program, f"{room}/bin/{name}")
-    subprocess.run([f"{TOP}/packaging/onefile.py", f"{room}/bin/bacsite"], check=True)
+    put_tools(program, f"{room}/bin")
     shutil.copytree(f"{TOP}/examples", f"{room}/work/examples")
     outer = {**os.environ, "LC_ALL": "C", "PATH": f"{room}/bin:{os.environ['PATH']}"}
     with open(f"{room}/came", "wb") as came:
