@@ -13,52 +13,60 @@ sys.path.insert(0, os.path.dirname(__file__) + "/..")
 from tree import TOP, device, free_port, local_socket, plain, put_tools, same, says, server, text_of, verdict
 
 PROGRAM = os.path.realpath(sys.argv[1])
-SITE = ["python3", TOP + "/site/bacsite"]
+ROOM = tempfile.TemporaryDirectory()
+SETTINGS = {**os.environ, "PATH": f"{ROOM.name}:{os.environ['PATH']}"}  # and DEV, the address of the small device
+SILENT = "--mac 127.0.0.1:9 --apdu-timeout 20 --apdu-retries 0"
+# What happens, each seen by its status.
+ENDS = f"""
+value: bacrp 1234 0 5 85 --mac $DEV
+silent: bacrp 1234 0 5 85 {SILENT}
+refused: bacrp 1234 0 99 85 --mac $DEV
+words: bacrp 1234 0 5 85 --mac localhost
+writing failed: bacrp 1234 0 5 85 --mac $DEV >/dev/full 2>&1
+written: bacwp 1234 1 1 85 8 -1 4 41a00000 --mac $DEV
+write unanswered: bacwp 1234 1 1 85 8 -1 4 41a00000 {SILENT}
+write words: bacwp 1234 1 1 85 8 -1 4 20.0 --mac $DEV
+found: bacwi --mac $DEV --apdu-timeout 1500
+no line: bacwi --mac 127.0.0.1:9 --apdu-timeout 20
+search words: bacwi
+device words: bacdev x
+bind: bacdev 1 --port ${{DEV#*:}}
+script: echo "read $DEV 0 5 85" | bactrace
+bad line: echo READ | bactrace
+line of 4096: printf '%4096s\\n' | tr ' ' '#' | bactrace
+long line: printf '%4097s\\n' | tr ' ' '#' | bactrace
+read: bacsite read $DEV 0 5 85
+missing: bacsite read $DEV 0 99 85
+no number: echo "mode $DEV real 14 1 85" | bacsite poll /dev/stdin
+site words: bacsite read
+no list: bacsite poll /nowhere
+no bactool: bacsite read --tools /nowhere $DEV 0 5 85
+OK: bacsite check -c 50:90 $DEV 0 5 85
+WARNING: bacsite check -w 60:70 -c 50:90 $DEV 0 5 85
+CRITICAL: bacsite check -c 0:1 $DEV 0 5 85
+UNKNOWN: bacsite check $DEV 0 99 85
+"""
 
 
-def run(words, given="", **how):
-    done = subprocess.run(words, check=False, input=given, text=True, capture_output=True, timeout=60, **how)
+def run(line):
+    """The status of a line of the shell, and what it prints."""
+    how = {"env": SETTINGS, "cwd": TOP, "text": True, "capture_output": True, "timeout": 60}
+    done = subprocess.run(["sh", "-c", line], check=False, stdin=subprocess.DEVNULL, **how)
     return done.returncode, done.stdout
 
 
-def statuses(address):
-    """The status by what happened, of the tools and of bacsite, each seen to happen."""
-    mac = ["--mac", address]
-    silent = [*mac[:1], "127.0.0.1:9", "--apdu-timeout", "20", "--apdu-retries", "0"]
-    read, write = [PROGRAM, "bacrp", "1234", "0", "5", "85"], [PROGRAM, "bacwp", "1234", "1", "1", "85", "8", "-1"]
-    ended = {
-        "value": read + mac, "written": [*write, "4", "41a00000", *mac], "help": [PROGRAM, "--help"],
-        "found": [PROGRAM, "bacwi", *mac, "--apdu-timeout", "1500"], "no line": [PROGRAM, "bacwi", *silent[:-2]],
-        "silent": read + silent, "refused": [PROGRAM, "bacrp", "1234", "0", "99", "85", *mac],
-        "write unanswered": [*write, "4", "41a00000", *silent], "words": [*read, "--mac", "localhost"],
-        "write words": [*write, "4", "20.0", *mac], "search words": [PROGRAM, "bacwi"],
-        "device words": [PROGRAM, "bacdev", "x"], "bind": [PROGRAM, "bacdev", "1", "--port", address.split(":")[1]],
-        "script": [PROGRAM, "bactrace"], "read": [*SITE, "read", address, "0", "5", "85"],
-        "missing": [*SITE, "read", address, "0", "99", "85"], "no number": [*SITE, "poll", "/dev/stdin"],
-        "site words": [*SITE, "read"], "no list": [*SITE, "poll", "/nowhere"],
-        "no bactool": [*SITE, "read", "--tools", "/nowhere", address, "0", "5", "85"],
-        "OK": [*SITE, "check", "-c", "50:90", address, "0", "5", "85"],
-        "WARNING": [*SITE, "check", "-w", "60:70", "-c", "50:90", address, "0", "5", "85"],
-        "CRITICAL": [*SITE, "check", "-c", "0:1", address, "0", "5", "85"],
-        "UNKNOWN": [*SITE, "check", address, "0", "99", "85"],
-    }
-    site = {**os.environ, "PATH": os.path.dirname(PROGRAM) + ":" + os.environ["PATH"]}
-    given = {"no number": f"mode {address} real 14 1 85\n", "script": f"read {address} 0 5 85\n"}
-    found = {what: run(words, given.get(what, ""), env=site)[0] for what, words in ended.items()}
-    found["bad line"] = run([PROGRAM, "bactrace"], "READ\n")[0]
-    found["long line"] = run([PROGRAM, "bactrace"], "#" * 4097 + "\n")[0]
-    found["line of 4096"] = run([PROGRAM, "bactrace"], "#" * 4096 + "\n")[0]
+def statuses():
+    """The status by what happened, of the tools and of bacsite."""
+    found = {what: run(line)[0] for what, line in (row.split(": ", 1) for row in ENDS.strip().splitlines())}
     with server(port := free_port(), PROGRAM, "bacdev", "1", "--port", str(port), "--count", "1") as one:
-        run([PROGRAM, "bacwi", "--mac", f"127.0.0.1:{port}", "--apdu-timeout", "200"])
+        run(f"bacwi --mac 127.0.0.1:{port} --apdu-timeout 200")
         found["counted"] = one.wait(10)
-    with open("/dev/full", "w", encoding="utf-8") as full:
-        found["writing failed"] = subprocess.run(read + mac, check=False, stdout=full, stderr=full).returncode
     return found
 
 
 def sent():
     """The request that bacrp sends, as octets, and the times of it in seconds where nobody answers, by its defaults."""
-    defaults = re.findall(r"\[default: (\d+)\]", run([PROGRAM, "bacrp", "--help"])[1])
+    defaults = re.findall(r"\[default: (\d+)\]", run("bacrp --help")[1])
     timeout, retries = int(defaults[0]) // 1000, int(defaults[1])
     with local_socket() as field:
         field.settimeout(10)
@@ -90,16 +98,14 @@ def times_and_numbers():
     says("SECURITY.md", f"from {first} to {first + count - 1} in turn", f"comes {count:,} calls later")
     says("man/bacsite.1", f"the ports {first} to {first + count - 1} in turn")
     says("SECURITY.md", f"one of some {round(60999 - 32768, -3):,}, so", f"some {round(60999 - 32768, -3):,} on Linux")
-    asked = dict(re.findall(r"(--apdu-\w+) N +\d+ to \d+; (\d+)", run([*SITE, "read", "--help"])[1]))
+    asked = dict(re.findall(r"(--apdu-\w+) N +\d+ to \d+; (\d+)", run("bacsite read --help")[1]))
     times = ["once", "twice", "three times", "four times"][int(asked["--apdu-retries"])]
     says("docs/GUIDE.md", f"They ask for {asked['--apdu-timeout']} ms, {times}, where")
 
 
 def values():
     """Of a number that is written, the least and the greatest on the page are taken, and what is past them is not."""
-    write = [PROGRAM, "bacwp", "1", "1", "1", "85", "0", "-1"]
-    silent = ["--mac", "127.0.0.1:9", "--apdu-timeout", "1", "--apdu-retries", "0"]
-    status = lambda tag, value: run([*write, tag, *silent, "--", str(value)])[0]
+    status = lambda tag, value: run(f"bacwp 1 1 1 85 0 -1 {tag} {SILENT} -- {value}")[0]
     page = plain(text_of("man/bacwp.1"))
     for tag, kind in [("2", "Unsigned"), ("3", "Signed"), ("9", "Enumerated")]:
         least, most = map(int, re.search(rf"\b{tag} {kind} (-?\d+) to (\d+)", page.replace("\\", "")).groups())
@@ -113,7 +119,7 @@ def values():
 
 
 def turns_of_a_device():
-    count = re.search(r"\[default: (\d+)\]\n  -h", run([PROGRAM, "bacdev", "--help"])[1])[1]
+    count = re.search(r"\[default: (\d+)\]\n  -h", run("bacdev --help")[1])[1]
     turns = int(re.search(r"(?m)^most_turns = (\d+)$", text_of("crates/bac_links/specs/Limits.antt"))[1])
     hours = turns // 3600
     says("SECURITY.md", f"{turns:,} turns end a call, a search and bacdev.", f"or some {hours} hours without any",
@@ -124,8 +130,8 @@ def turns_of_a_device():
     says("man/bacdev.1", f"after {turns} turns.", f"ends after some {hours} hours.", f"to {count}; {count} by default.")
 
 
-def statuses_are_said(address):
-    on = statuses(address)
+def statuses_are_said():
+    on = statuses()
     refused = "where a word is refused and nothing was sent."
     says("man/bacrp.1", f"{on['value']} where a value was read, {on['silent']} for every other line above,"
          f" {on['words']} {refused}")
@@ -168,28 +174,27 @@ def tables_of_the_guide(on):
         same(f"the status beside {message}", status, str(on["bind"] if is_late else on["words"]))
 
 
-def ranges(address):
+def ranges():
     """What bacsite checks by a number alone, and that both ends belong to a range: by the valve at 0.5 and at -0.5."""
-    check = [*SITE, "check", "--tools", os.path.dirname(PROGRAM), address, "1", "1", "85", "-c"]
     found = []
     for octets, of_range in [("3f000000", "0.5"), ("3f000000", "0.5:2"), ("3f000000", "0:0.4"), ("bf000000", "0.5")]:
-        run([PROGRAM, "bacwp", "1234", "1", "1", "85", "8", "-1", "4", octets, "--mac", address])
-        found.append(run([*check, of_range])[0])
-    run([PROGRAM, "bacwp", "1234", "1", "1", "85", "8", "-1", "0", "null", "--mac", address])
+        run(f"bacwp 1234 1 1 85 8 -1 4 {octets} --mac $DEV")
+        found.append(run(f"bacsite check $DEV 1 1 85 -c {of_range}")[0])
+    run("bacwp 1234 1 1 85 8 -1 0 null --mac $DEV")
     same("checks of 0.5 and -0.5", found, [0, 0, 2, 2])
     says("man/bacsite.1", "high or :high, which begin at 0,", "~:high, both ends included.")
     says("docs/GUIDE.md", "A range is HIGH, which begins at 0, LOW:HIGH, LOW: or ~:HIGH, both ends included.")
 
 
-def points(address):
+def points():
     """The points on the page of bacdev are those that a survey finds: value, states, whether it has priorities."""
     table = re.search(r"(?ms)^The points;.*?^\.El", text_of("man/bacdev.1"))[0]
     on_page = re.findall(r"(?m)^\.It (\d+:\d+) Ta (.*?) Ta (.*)$", re.sub(r" \([^)]*\)", "", table))
     there = []
-    for line in run([*SITE, "survey", "--tools", os.path.dirname(PROGRAM), "--csv", address])[1].splitlines()[1:]:
+    for line in run("bacsite survey --csv $DEV")[1].splitlines()[1:]:
         cells = line.split(",")
-        read = lambda number: run([PROGRAM, "bacrp", "1234", *cells[5:7], number, "--mac", address])
-        (_, value), (no_states, states), (no_places, _) = read("85"), read("74"), read("87")
+        read = lambda number: run(f"bacrp 1234 {cells[5]} {cells[6]} {number} --mac $DEV")
+        (_, value), (no_states, states), (no_places, _) = read(85), read(74), read(87)
         shown = value.strip() + f" of {states.strip()}" * (not no_states) + " *" * (not no_places)
         there.append((f"{cells[5]}:{cells[6]}", cells[8], shown))
     same("the points on the page of bacdev", on_page, there)
@@ -198,26 +203,21 @@ def points(address):
         says(document, f"with {names[len(there) - 10]} points")
 
 
-def tools_of_readme(address):
+def tools_of_readme():
     """Each command of README's table prints the lines that stand beside it; `..` is any text."""
-    with tempfile.TemporaryDirectory() as room:
-        put_tools(PROGRAM, room)
-        how = {"cwd": TOP, "env": {**os.environ, "PATH": f"{room}:{os.environ['PATH']}"}}
-        table = text_of("README.md").partition("\n## The tools\n")[2].partition("\n## ")[0]
-        for command, cell in re.findall(r"(?m)^\| `.*?` \| [^|]* \| `([^`]*)` \| (.*) \|$", table):
-            if command.startswith("bacdev"):
-                continue
-            status, said = run(["sh", "-c", command.replace("192.0.2.7", address)], **how)
-            lines = re.findall("`([^`]*)`", cell.replace("192.0.2.7:47808", address))
-            there = [bool(re.search("(?m)^" + re.escape(it).replace(r"\.\.", ".*") + "$", said)) for it in lines]
-            same(f"README.md: {command}: {said.strip()}", (status, there), (0, [True] * len(lines)))
+    table = text_of("README.md").partition("\n## The tools\n")[2].partition("\n## ")[0]
+    for command, cell in re.findall(r"(?m)^\| `(?!bacdev).*?` \| [^|]* \| `([^`]*)` \| (.*) \|$", table):
+        status, said = run(command.replace("192.0.2.7", "$DEV"))
+        lines = re.findall("`([^`]*)`", cell.replace("192.0.2.7:47808", SETTINGS["DEV"]))
+        there = [bool(re.search("(?m)^" + re.escape(it).replace(r"\.\.", ".*") + "$", said)) for it in lines]
+        same(f"README.md: {command}: {said.strip()}", (status, there), (0, [True] * len(lines)))
 
 
 def unit():
     """The unit for systemd starts the device again whenever it ends, but where its words are wrong."""
     text = text_of("examples/bacdev.service")
     told = dict(line.split("=", 1) for line in text.splitlines() if re.match(r"[A-Z]\w*=", line))
-    status = run([PROGRAM, "bacdev", "x"])[0]
+    status = run("bacdev x")[0]
     wanted = {"Restart": "always", "RestartSec": "1", "RestartPreventExitStatus": str(status)}
     wanted.update({"StartLimitIntervalSec": "0", "ExecStart": "/usr/local/bin/bacdev 1234", "DynamicUser": "yes"})
     wanted["WantedBy"] = "multi-user.target"
@@ -226,18 +226,18 @@ def unit():
     if not shutil.which("systemd-analyze"):
         print("tests/package/facts.py: systemd-analyze is not installed, left out")
         return
-    with tempfile.TemporaryDirectory() as room:
-        with open(f"{room}/bacdev.service", "w", encoding="utf-8") as file:
-            file.write(text.replace("/usr/local/bin/bacdev", PROGRAM))
-        how = {"check": False, "stdout": subprocess.PIPE, "stderr": subprocess.STDOUT, "text": True}
-        told = subprocess.run(["systemd-analyze", "verify", file.name], **how).stdout
-        same("what systemd-analyze says of it", [it for it in told.splitlines() if "bacdev.service" in it], [])
+    with open(f"{ROOM.name}/bacdev.service", "w", encoding="utf-8") as file:
+        file.write(text.replace("/usr/local/bin/bacdev", PROGRAM))
+    told = run(f"systemd-analyze verify {file.name} 2>&1")[1]
+    same("what systemd-analyze says of it", [it for it in told.splitlines() if "bacdev.service" in it], [])
 
 
 def main():
+    put_tools(PROGRAM, ROOM.name)
     with device(program=[PROGRAM]) as (_, port):
+        SETTINGS["DEV"] = f"127.0.0.1:{port}"
         for part in (points, ranges, tools_of_readme, statuses_are_said):
-            part(f"127.0.0.1:{port}")
+            part()
     times_and_numbers()
     values()
     turns_of_a_device()
