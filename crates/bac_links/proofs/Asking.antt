@@ -125,22 +125,19 @@ module _ {Origin Other R A : Type 0} (move : List Entry → Option Entry → Mov
       → other_left.history ≡ other_seen.history ++ (other ++ other_rest) → answers_of first ≡ answers_of other
       → (first ≡ other) × GoOnAlike (λ r. ⊥) EndAlike PrintAlike r s rest other_rest
   to_the_end gains other_gains same =
-      let here = played move seen left c _ plays gains in
-      let there = played move other_seen other_left d (other ++ other_rest) others other_gains in
-      let p = subst (Follows move []) here plays.follows in
-      let q = subst (Follows move []) there others.follows in
-      let one = same_so_far move [] _ _ rest _ p q same in
-      let over : rest ≡ [] → next_move move first ≡ Ends c = λ none.
-      ap (next_move move) (sym (append-nil _) ∙ sym (ap (λ (xs : List Entry). first ++ xs) none) ∙ sym here)
-      ∙ plays.over in
+      let here = plays_all move seen left c (first ++ rest) plays gains in
+      let there = plays_all move other_seen other_left d (other ++ other_rest) others other_gains in
+      let one = same_so_far move [] first other rest other_rest here.follows there.follows same in
+      let over : rest ≡ [] → next_move move first ≡ Ends c = λ none. rw (none, append-nil) at here.over in
       let other_over : other_rest ≡ [] → next_move move first ≡ Ends d = λ none.
-      ap (next_move move) (one ∙ sym (append-nil _) ∙ sym (ap (λ (xs : List Entry). other ++ xs) none) ∙ sym there)
-      ∙ others.over in (
+      rw (none, append-nil, ← one) at there.over in (
         one,
         so_far move (λ r. ⊥) EndAlike PrintAlike _ rest _ r s (λ none x asks. absurd (never c x (over none) asks))
             (λ none x asks. absurd (never d x (other_over none) asks))
-            (λ none other_none. ends (both (over none) (other_over other_none)) here there none other_none one)
-            _ one p q,
+            (λ none other_none. ends (both (over none) (other_over other_none))
+            (played move seen left c (first ++ rest) plays gains)
+            (played move other_seen other_left d (other ++ other_rest) others other_gains) none other_none one)
+            _ one here.follows there.follows,
       )
     where
       never : (e : R) (x : Entry) → next_move move first ≡ Ends e → next_move move first ≡ Asks (question_of x) → ⊥

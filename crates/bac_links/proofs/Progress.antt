@@ -12,7 +12,7 @@ use Rattle.bac_links.{
   specs.Asking.{Asks, Question, ForDatagram, ForTime, question_of, Follows, next_move, waits_in},
   specs.{Handed.handed_of, Call.{rules_for, asked, end_in, events_of, move, Tells}},
   specs.{Progress.{AreTold, ArePrompt}, declared.{ending.Purpose.Purpose, exit.Exit.Exit, fault.ToolFault.ToolFault}},
-  proofs.{Alike.went, Asking.{last_push, played}, CallTurns.handed_push},
+  proofs.{Alike.went, Asking.{last_push, plays_all}, CallTurns.handed_push},
 }
 
 -- ---- the clock over some events
@@ -185,16 +185,13 @@ module _ (purpose : Purpose) (call : Call) where
   in_time : (time_behind : ℕ → ℕ) (longest : ℕ) (gained : List Entry) → Follows (move purpose call) [] gained
       → AreTold time_behind 0 gained → ArePrompt time_behind longest (waits_in gained)
       → time_behind (waits_in gained) ≤ time_behind 0 + suc call.retries * (call.timeout + longest)
-  in_time _ _ [] follows told prompt = omega arith
   in_time time_behind longest (Timed time ∷ more) follows told prompt =
       let all : 0 + waits_in more ≡ waits_in more = omega arith in
       subst (λ (t : ℕ). time_behind (waits_in more) ≤ t + suc call.retries * (call.timeout + longest)) told.0
       (subst (λ (n : ℕ). time_behind n ≤ time + suc call.retries * (call.timeout + longest)) all
       (in_bound time_behind longest time [] (Timed time) 0 time more (begun time_behind longest time told.0) follows.1
       told.1 (λ n less. prompt n (omega (arith, less, all)))))
-  in_time _ _ (Waited wait heard ∷ more) follows told prompt = let asks = follows.0 in cc
-  in_time _ _ (Posted to octets ∷ more) follows told prompt = let asks = follows.0 in cc
-  in_time _ _ (Unposted to octets ∷ more) follows told prompt = let asks = follows.0 in cc
+  in_time _ _ _ follows told prompt = grind arith
 
 pub told_in_time : {Origin W : Type 0} (contents : W → Option (List ℕ)) (purpose : Purpose) (call : Call)
     (before after : Checked W) (seen left : Account Origin) (result : Result Exit ToolFault) (gained : List Entry)
@@ -204,5 +201,5 @@ pub told_in_time : {Origin W : Type 0} (contents : W → Option (List ℕ)) (pur
     → time_behind (waits_in gained) ≤ time_behind 0 + suc call.retries * (call.timeout + longest)
 told_in_time contents purpose call before after seen left result gained time_behind longest tells gains =
     let it = went purpose call contents before after seen left result tells in
-    in_time purpose call time_behind longest gained (subst (Follows (move purpose call) [])
-    (played _ seen left _ _ it.plays gains) it.plays.follows)
+    in_time purpose call time_behind longest gained
+    (plays_all (move purpose call) seen left _ gained it.plays gains).follows

@@ -5,14 +5,11 @@ use Rattle.bac_pdu.specs.Peer.{Station, station}
 use Rattle.bac_text.specs.declared.jobs.Search.{Search}
 use Rattle.bac_print.specs.declared.checked.Checked.{Checked}
 use Rattle.bac_links.{
-  proofs.{Asking.{followed, last_push, waits_push}, SearchesAlike.stops, Sendings.{sending, IsSent, all_sent}},
+  proofs.{Asking.{followed, last_push, waits_push}, SearchesAlike.stops, Sendings.{alone, sending, IsSent, all_sent}},
   specs.Asking.{Asks, Ends, ForTime, question_of, Follows, next_move, waits_in},
   specs.{History.{Entry, Unposted, Account, GainsAll}, Search.{who_is_to, search_move, Searched}},
   specs.{Sent.{sent_in, AllSent}, declared.{exit.Exit.Exit, fault.ToolFault.{ToolFault, TheVariants.SendFailed}}},
 }
-
-abbrev alone : List Entry → Station → List ℕ → Station × List ℕ
-alone before to octets = (to, octets)
 
 some_gained : {Origin : Type 0} (seen left : Account Origin) (xs : List Entry) (x : Entry)
     → GainsAll (xs ++ x ∷ []) seen left → left.history ≡ seen.history ++ [] → ⊥

@@ -1,16 +1,15 @@
 -- Two searches that are answered alike ask alike, end alike, and print one text.
 use Rattle.std.{
-  proofs.Common.{◌≡◌, ◌⊎◌, ℕ, List, [], ◌∷◌, ◌++◌, append_assoc, Option, Result, Ok, Err, refl, sym, ap, ◌∙◌},
+  proofs.Common.{◌≡◌, ◌⊎◌, ℕ, List, [], ◌∷◌, ◌++◌, append_assoc, Option, Result, Err, refl, sym, ap, ◌∙◌},
   proofs.{Common.{subst, flat_map, inl, inr}, lemmas.List.{append_cancel_left, append-nil, Concat.flat_map-append}},
 }
 use Rattle.bac_text.specs.declared.jobs.Search.{Search}
 use Rattle.bac_print.specs.{declared.checked.Checked.Checked, Checked.TakesFront}
 use Rattle.bac_links.{
-  specs.History.{Heard, Entry, Waited, Account},
-  specs.{Answered.{AskAlike, Printed, OneText}, Asking.{Asks, Ends, ForTime, question_of, Follows, next_move}},
-  specs.{Search.{found_by, found_line, found_in, search_move, IsWhole, IsCutOff, Searched}, declared.exit.Exit.Exit},
-  specs.declared.fault.ToolFault.{ToolFault, TheVariants.{SendFailed, ReceiveFailed, TurnsSpent, WriteFailed}},
-  proofs.{Asking.{played, same_so_far, so_far}, Searches.behind_wait},
+  specs.{History.{Heard, Entry, Waited, Account}, declared.fault.ToolFault.{ToolFault, TheVariants.WriteFailed}},
+  specs.{declared.exit.Exit.Exit, Search.{found_by, found_line, found_in, search_move, IsCutOff, Searched}},
+  specs.{Asking.{Asks, Ends, ForTime, question_of, Follows, next_move}, Answered.{AskAlike, Printed, OneText}},
+  proofs.{Searches.behind_wait, Asking.{played, same_so_far, so_far}},
 }
 
 module _ (search : Search) where
@@ -33,10 +32,6 @@ module _ (search : Search) where
       pub printed : Printed contents before after (lines_in gained) result
 
     module _ {Origin : Type 0} (seen left : Account Origin) where
-      whole : (result : Result Exit ToolFault) (it : IsWhole search contents before after seen left result)
-          → Printed contents before after (lines_in it.plays.gained) result → Stops result it.plays.gained
-      whole _ it printed = record { follows = it.plays.follows; over = inl it.plays.over; printed = printed }
-
       cut : (it : IsCutOff search contents before after seen left)
           → Stops (Err WriteFailed) (it.earlier ++ Waited it.wait it.heard ∷ [])
       cut it = record {
@@ -60,21 +55,12 @@ module _ (search : Search) where
       pub stops : (result : Result Exit ToolFault) (gained : List Entry)
           → Searched search contents before after seen left result → left.history ≡ seen.history ++ gained
           → Stops result gained
-      stops (Ok exit) gained it gains =
-          subst (Stops (Ok exit)) (played (search_move search) seen left _ gained it.plays gains)
-          (whole (Ok exit) it it.printed)
-      stops (Err SendFailed) gained it gains =
-          subst (Stops (Err SendFailed)) (played (search_move search) seen left _ gained it.plays gains)
-          (whole (Err SendFailed) it it.printed)
-      stops (Err ReceiveFailed) gained it gains =
-          subst (Stops (Err ReceiveFailed)) (played (search_move search) seen left _ gained it.plays gains)
-          (whole (Err ReceiveFailed) it it.printed)
-      stops (Err TurnsSpent) gained it gains =
-          subst (Stops (Err TurnsSpent)) (played (search_move search) seen left _ gained it.plays gains)
-          (whole (Err TurnsSpent) it it.printed)
       stops (Err WriteFailed) _ it gains =
           subst (Stops (Err WriteFailed))
           (append_cancel_left seen.history _ _ (ap (λ (s : Account Origin). s.history) (sym it.gains) ∙ gains)) (cut it)
+      stops result gained it gains =
+          subst (Stops result) (played (search_move search) seen left _ gained it.plays gains)
+          (record { follows = it.plays.follows; over = inl it.plays.over; printed = it.printed })
 
 -- Two searches that are answered alike.
 module _ {V W : Type 0} (contents : V → Option (List ℕ)) (contents' : W → Option (List ℕ)) (search : Search)

@@ -6,6 +6,10 @@ use Rattle.bac_links.{proofs.Asking.{last_push, followed}, specs.History.{Entry,
 use Rattle.bac_links.specs.Asking.{Move, Asks, Ends, ToSend, question_of, Follows, next_move}
 use Rattle.bac_links.specs.{Sent.{sent_behind, AllSent}, declared.fault.ToolFault.{ToolFault, TheVariants.SendFailed}}
 
+-- What is told of a datagram alone.
+abbrev pub alone : List Entry → Station → List ℕ → Station × List ℕ
+alone before to octets = (to, octets)
+
 module _ {D : Type 0} (told : List Entry → Station → List ℕ → D) where
   sent_push : (before xs : List Entry) (x : Entry) → sent_behind told before (xs ++ x ∷ [])
       ≡ sent_behind told before xs ++ sent_behind told (before ++ xs) (x ∷ [])

@@ -1,19 +1,20 @@
 -- What a server sent is its replies; and how many datagrams it heard.
-use Rattle.std.proofs.Common.{◌≡◌, ◌≤◌, ◌<◌, ℕ, List, [], ◌∷◌, ◌++◌, length, Option, Some, Result, Ok}
-use Rattle.std.proofs.{Common.{Err, IfOk, refl, arith, length-append}, lemmas.List.{append-nil, Concat.flat_map-append}}
-use Rattle.std.{proofs.lemmas.Bool.{cases_Bool, Decides.nat_tests}, specs.{List.flat_map, Option.option_to_list}}
+use Rattle.std.{
+  proofs.Common.{◌≡◌, ◌≤◌, ℕ, List, [], ◌∷◌, ◌++◌, length, Some, Result, Err, IfOk, refl, arith, length-append},
+  proofs.lemmas.{List.{append-nil, Concat.flat_map-append}, Bool.Decides.nat_tests},
+  specs.{List.flat_map, Option.option_to_list},
+}
 use Rattle.bac_pdu.specs.Peer.{Station}
 use Rattle.bac_device.specs.Device.{DeviceState}
-use Rattle.bac_links.specs.{History.{Entry, Unposted}, declared.fault.ToolFault.{ToolFault, TheVariants.SendFailed}}
-use Rattle.bac_links.specs.{Asking.{Asks, Ends, ForDatagram, question_of, Follows, next_move}, Sent.{sent_in, AllSent}}
-use Rattle.bac_links.{specs.Serve.{arrivals_in, replies_of, serve_move}, proofs.Asking.{last_push, PlaysAll, followed}}
-use Rattle.bac_links.proofs.{Servings.{replies-append, arrivals-push}, Sendings.{sending, all_sent}}
+use Rattle.bac_links.{
+  specs.{History.{Entry, Unposted}, Asking.{Asks, Ends, question_of, Follows, next_move}, Sent.{sent_in, AllSent}},
+  specs.{Serve.{arrivals_in, replies_of, serve_move}, declared.fault.ToolFault.{ToolFault, TheVariants.SendFailed}},
+  proofs.Asking.{last_push, PlaysAll, followed},
+  proofs.{Sendings.{alone, sending, all_sent}, Servings.{replies-append, arrivals-push}},
+}
 
 abbrev Datagram : Type 0
 Datagram = Station × List ℕ
-
-abbrev alone : List Entry → Station → List ℕ → Datagram
-alone before to octets = (to, octets)
 
 module _ (count : ℕ) (device : DeviceState) where
   -- The replies that are due.
@@ -37,18 +38,10 @@ module _ (count : ℕ) (device : DeviceState) where
 
   -- ---- how many datagrams came
 
-  waits_fewer : (xs : List Entry) (o : Option Entry) (wait : ℕ)
-      → serve_move count device xs o ≡ Asks (ForDatagram wait) → length (arrivals_in xs) < count
-  waits_fewer = grind (arith, cases_Bool, nat_tests)
-
-  ends_many : (xs : List Entry) (o : Option Entry) (k : ℕ) → serve_move count device xs o ≡ Ends (Ok k)
-      → count ≤ length (arrivals_in xs)
-  ends_many = grind (arith, cases_Bool, nat_tests)
-
   few_on : (xs : List Entry) (x : Entry) → Follows (serve_move count device) [] xs
       → next_move (serve_move count device) xs ≡ Asks (question_of x) → length (arrivals_in xs) ≤ count
       → length (arrivals_in (xs ++ x ∷ [])) ≤ count
-  few_on = grind (arith, arrivals-push, length-append, waits_fewer)
+  few_on = grind (arith, arrivals-push, length-append, nat_tests)
 
   -- A server hears no more than it is to, and that many where it answers.
   pub as_many : (gained : List Entry) (result : Result ℕ ToolFault) → PlaysAll (serve_move count device) gained result
@@ -56,4 +49,4 @@ module _ (count : ℕ) (device : DeviceState) where
   as_many gained result plays =
       let most = followed (serve_move count device) (λ xs. length (arrivals_in xs) ≤ count) few_on (omega arith) gained
       plays.follows in
-      (most, grind (arith, ends_many))
+      (most, grind (arith, nat_tests))

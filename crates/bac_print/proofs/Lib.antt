@@ -3,4 +3,4 @@ pub mod Printed
 pub mod NumberLengths
 pub mod ValueTexts
 pub mod Shown
-pub mod Walks
+mod Walks

@@ -1,28 +1,10 @@
--- What walks by hand over ghost data share. The prover writes no proof that picks ghost data, so whoever makes a struct
--- of it has a `Proof.antt`, step by step: the arguments are taken, the struct is made, and the ghost data is named at
--- the return. Their form is that of the toolchain's own crates that keep such a list, `serde_json` and `http_server`.
+-- What walks over a ghost list share, besides what `Walks` of bac_wire has: its struct has a mark of its type.
 use seplogic.Ra.Ura.{Ura}
 use mir.Val.{Val, vstruct, vcons, vnil}
 use types.{Logic.Logic, Kit.{Goal, Step, step, Item, fpack, feq_i}}
 use denote.{RattleType.Valss, Laws.Is, Steps.owned, Struct.{Laws.makes, Struct.{Struct, Shape, within}}}
 use Rattle.std.specs.contracts.marker.PhantomData as Mark
-pub use Rattle.std.proofs.Common.{List, [], ◌∷◌, ◌++◌, refl}
-pub use Rattle.std.proofs.raw_atomic.Walks.{proved}
-pub use types.Kit.{‵, raw, ◌⊛◌, ◌$◌, ◌∵◌, !, qed, done, move, keep, split, fjoin, suffices}
-pub use types.Part.{agg}
-pub use types.Run.{enter, returns, no_more, and_then}
-pub use types.ByLocal.{alloc_all, pass_all, free_all, look_at, get, sets}
-pub use denote.Exit.{yes}
-pub use denote.Builtin.{RefOf}
-pub use denote.Param.{param, layouts, bounded}
-pub use mir.MapTy.{inst_fn}
-pub use mir.Syntax.{named, a_type, dcons, dnil}
-pub use denote.RattleType.{RattleType, owns}
-pub use denote.Ref.{shr_vals, shr_Tells}
-pub use denote.Signature.{plain, types_at}
-pub use denote.Steps.{nothing}
-pub use denote.Triple.Entry.{alive}
-pub use denote.Triple.Walked.{says, Stays, stay_dropped, ends_at, Goes-dropped}
+use Rattle.bac_wire.proofs.Walks.{List, [], ◌∷◌, refl, ‵, ◌$◌, move, fjoin, nothing, RattleType}
 
 abbrev pub marked : Val
 marked = vstruct (vcons (vstruct vnil) vnil)

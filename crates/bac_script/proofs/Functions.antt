@@ -1,14 +1,13 @@
 -- A script is a function of its octets and of whether they ended.
-use Rattle.std.proofs.Common.{◌≡◌, ◌≢◌, ◌⊎◌, ℕ, ◌+◌, ◌≤◌, Bool, true, ◌&&◌, List, [], ◌∷◌, ◌++◌, length, Option, Some}
-use Rattle.std.proofs.Common.{None, Result, Ok, Err, sym, ◌∙◌, ap, arith, append_assoc, IfSome, MatchOption, append-nil}
-use Rattle.std.specs.Prelude.{⊤}
+use Rattle.std.proofs.Common.{◌≡◌, ◌≢◌, ◌⊎◌, ℕ, ◌+◌, ◌≤◌, Bool, true, List, [], ◌∷◌, ◌++◌, Option, Result, Err}
+use Rattle.std.{proofs.Common.{sym, ◌∙◌, ap, arith, append_assoc, IfSome, MatchOption, append-nil}, specs.Prelude.⊤}
 use Rattle.bac_print.specs.{declared.checked.Checked.Checked, Checked.{fresh, has_failed, ends_of, reads_of, octets_of}}
 use Rattle.bac_script.{
   proofs.{Courses.RunsWhole, Fronts.text_front},
-  specs.{Alike.{IsFrontOf, GaveSame, GaveFront, IsWrittenOf, AreAlike}, Input.{most_reads, ReaderStands}},
-  specs.{Line.{Said, said}, Script.{lines, is_nothing, text, fault_or, fault_from, EndsAs, Runs}},
-  specs.{Tracing.Traces, declared.input.Reading.{Reading, TheVariants.{Open, AtEnd, Failed}}},
-  specs.declared.{line.LineFault.{LineFault, TheVariants.{Bad, TooLong}}, tracing.TraceEnd.TraceEnd},
+  specs.Alike.{IsFrontOf, GaveSame, GaveFront, IsWrittenOf, AreAlike},
+  specs.{Input.{most_reads, ReaderStands}, Line.{Said, said}},
+  specs.{Script.{lines, text, fault_or, fault_from, EndsAs, Runs}, Tracing.Traces, declared.input.Reading.Reading},
+  specs.declared.{input.Reading.TheVariants.{Open, AtEnd, Failed}, line.LineFault.LineFault, tracing.TraceEnd.TraceEnd},
   specs.declared.tracing.TraceFault.{TraceFault, TheVariants.{BadLine, LineTooLong, ReadFailed, WriteFailed}},
 }
 
@@ -48,44 +47,22 @@ IsOfLine (BadLine n) = ⊤
 IsOfLine (LineTooLong n) = ⊤
 IsOfLine _ = ⊥
 
-faults_of_lines : (is_first : Bool) (n : ℕ) (lines : List (List ℕ)) → IfSome (fault_from is_first n lines) IsOfLine
+fault_of_line : (s : Result Said LineFault) (n : ℕ) (later : Said → Option TraceFault)
+    → ((one : Said) → IfSome (later one) IsOfLine) → IfSome (fault_or n s later) IsOfLine
+fault_of_line = grind arith
+
+faults_of_lines : (is_first : Bool) (n : ℕ) (all : List (List ℕ)) → IfSome (fault_from is_first n all) IsOfLine
 faults_of_lines is_first n [] = tt
-faults_of_lines is_first n (line ∷ lines) =
-    go (said is_first line) (λ one. faults_of_lines _ (n + 1) lines)
-  where
-    go : (s : Result Said LineFault)
-        → ((one : Said) → IfSome (fault_from (is_first && is_nothing one) (n + 1) lines) IsOfLine) →
-        IfSome (fault_or n s (λ one. fault_from (is_first && is_nothing one) (n + 1) lines)) IsOfLine
-    go (Ok one) later = later one
-    go (Err Bad) later = tt
-    go (Err TooLong) later = tt
-
-abbrev unread : Result TraceEnd TraceFault
-unread = Err ReadFailed
-
-no_fault : (fault : Option TraceFault) {Ends : Type 0} → IfSome fault IsOfLine
-    → MatchOption fault Ends (λ fault. unread ≡ Err fault) → Ends
-no_fault None _ ends = ends
-no_fault (Some (BadLine n)) _ e = cc
-no_fault (Some (LineTooLong n)) _ e = cc
-no_fault (Some ReadFailed) bad e = absurd bad
-no_fault (Some WriteFailed) bad e = absurd bad
+faults_of_lines is_first n (line ∷ later) =
+    fault_of_line (said is_first line) n _ (λ one. faults_of_lines _ (n + 1) later)
 
 -- A run ends with `ReadFailed` only where its reader failed or its reads are spent.
 pub read_fails : {R W : Type 0} {remaining : R → Option (List ℕ)} {contents : W → Option (List ℕ)}
     (reader reader' : Checked R) (writer writer' : Checked W)
-    → Traces remaining contents reader reader' writer writer' unread →
+    → Traces remaining contents reader reader' writer writer' (Err ReadFailed) →
     (has_failed reader' ≡ true) ⊎ (most_reads ≤ reads_of reader')
-read_fails {remaining = remaining} reader reader' writer writer' run =
-    go run.reading run.read.stopped
-    (no_fault _ (faults_of_lines true 1 (lines run.given run.reading)) run.runs.1)
-  where
-    go : (reading : Reading) → ReaderStands remaining reading reader reader' []
-        → EndsAs reading (length (lines run.given run.reading)) unread
-        → (has_failed reader' ≡ true) ⊎ (most_reads ≤ reads_of reader')
-    go Failed stands ends = stands.failed
-    go AtEnd stands ends = cc
-    go Open stands ends = absurd ends
+read_fails reader reader' writer writer' run =
+    grind (arith, faults_of_lines true 1 (lines run.given run.reading))
 
 -- ---- two runs
 

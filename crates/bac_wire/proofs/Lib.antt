@@ -10,4 +10,4 @@ pub mod Pieces
 pub mod ItemLaws
 pub mod ParameterLaws
 pub mod ReadBack
-mod Walks
+pub mod Walks

@@ -1,23 +1,24 @@
--- What walks by hand over ghost data share. `Work::new` and `Work::and_one` make a struct without fields, whose ghost
--- data their clauses name. The prover writes no proof that picks ghost data, so each has a `Proof.antt`, step by step:
--- the arguments are taken, the struct is made, and the ghost data is named at the return. Their form is that of the
--- toolchain's own crates that keep such a log, `serde_json` and `http_server`.
+-- What walks by hand over ghost data share. The prover writes no proof that picks ghost data, so whoever makes a struct
+-- of it has a `Proof.antt`, step by step: the arguments are taken, the struct is made, and the ghost data is named at
+-- the return. Their form is that of the toolchain's own crates that keep such a list, `serde_json` and `http_server`.
 use seplogic.Ra.Ura.{Ura}
 use mir.Val.{Val, vstruct, vnil}
-use types.{Logic.Logic, Kit.{Goal, Step, step, Item, fpack}}
-use denote.{RattleType.RattleType, Struct.Struct.Struct}
-pub use Rattle.std.proofs.Common.{List, [], ◌∷◌, refl}
+use types.{Logic.Logic, Kit.{Goal, Step, step, Item, fpack, feq_i}}
+use denote.Struct.Struct.{Struct}
+pub use Rattle.std.proofs.Common.{List, [], ◌∷◌, ◌++◌, refl}
 pub use Rattle.std.proofs.raw_atomic.Walks.{proved}
-pub use types.Kit.{‵, raw, ◌⊛◌, ◌$◌, ◌∵◌, !, qed, done, move, keep, drop, split, fjoin, feq_i, suffices}
+pub use types.Kit.{‵, raw, ◌⊛◌, ◌$◌, ◌∵◌, !, qed, done, move, keep, drop, split, fjoin, suffices}
 pub use types.Part.{agg}
-pub use types.Run.{enter, returns, no_more}
-pub use types.ByLocal.{alloc_all, pass_all, free_all, look_at, sets}
+pub use types.Run.{enter, returns, no_more, and_then}
+pub use types.ByLocal.{alloc_all, pass_all, free_all, look_at, get, sets}
 pub use denote.Exit.{yes}
 pub use denote.Builtin.{RefOf}
-pub use mir.Syntax.{named}
-pub use denote.RattleType.{owns}
+pub use denote.Param.{param, layouts, bounded}
+pub use mir.MapTy.{inst_fn}
+pub use mir.Syntax.{named, a_type, dcons, dnil}
+pub use denote.RattleType.{RattleType, owns}
 pub use denote.Ref.{shr_vals, shr_Tells}
-pub use denote.Signature.{plain, types_at, named_lft}
+pub use denote.Signature.{plain, types_at}
 pub use denote.Steps.{nothing}
 pub use denote.Triple.Entry.{alive, on_entry}
 pub use denote.Triple.Walked.{says, Stays, stay_dropped, ends_at, Goes-dropped}

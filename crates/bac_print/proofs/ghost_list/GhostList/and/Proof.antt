@@ -1,11 +1,11 @@
 -- `and` picks the items, and what the note tells behind them.
-use Rattle.bac_print.proofs.{
-  Walks.{[], ◌∷◌, ◌++◌, refl, proved, ‵, raw, ◌⊛◌, ◌$◌, ◌∵◌, !, qed, done, move, keep, split, fjoin, suffices},
-  Walks.{agg, enter, returns, no_more, alloc_all, pass_all, free_all, look_at, sets, yes, RefOf, owns, plain, types_at},
-  Walks.{named, nothing, shr_vals, shr_Tells, alive, says, Stays, stay_dropped, ends_at, Goes-dropped, marked},
-  Walks.{marked_made, get, and_then, a_type, dcons, dnil, inst_fn, bounded, param, RattleType},
+use Rattle.bac_wire.{
+  proofs.Walks.{[], ◌∷◌, ◌++◌, refl, proved, ‵, raw, ◌⊛◌, ◌$◌, ◌∵◌, !, qed, done, move, keep, split},
+  proofs.Walks.{fjoin, suffices, agg, enter, returns, no_more, alloc_all, pass_all, free_all, look_at, sets, yes},
+  proofs.Walks.{RefOf, owns, plain, types_at, named, nothing, shr_vals, shr_Tells, alive, says, Stays, stay_dropped},
+  proofs.Walks.{ends_at, Goes-dropped, get, and_then, a_type, dcons, dnil, inst_fn, bounded, param, RattleType},
 }
-use Rattle.bac_print.proofs.ghost_list.GhostList.and.Statement.{statement}
+use Rattle.bac_print.proofs.{Walks.{marked, marked_made}, ghost_list.GhostList.and.Statement.statement}
 use Rattle.bac_print.specs.contracts.ghost_list.GhostList as GhostList
 use Rattle.bac_print.specs.contracts.ghost_list.GhostList.and as f
 use Rattle.bac_print.proofs.ghost_list.GhostList.and.Code as code

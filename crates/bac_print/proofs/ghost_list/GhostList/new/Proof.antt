@@ -1,10 +1,10 @@
 -- `new` picks no items.
-use Rattle.bac_print.{
-  proofs.Walks.{[], ◌∷◌, refl, proved, ‵, raw, ◌⊛◌, ◌$◌, ◌∵◌, !, qed, done, move, keep, split, fjoin},
-  proofs.Walks.{suffices, agg, enter, returns, no_more, and_then, get, alloc_all, pass_all, free_all, look_at, sets},
-  proofs.Walks.{owns, types_at, nothing, alive, says, ends_at, marked, marked_made, a_type, inst_fn, layouts, param},
-  proofs.ghost_list.GhostList.new.Statement.statement,
+use Rattle.bac_wire.{
+  proofs.Walks.{[], ◌∷◌, refl, proved, ‵, raw, ◌⊛◌, ◌$◌, ◌∵◌, !, qed, done, move, keep},
+  proofs.Walks.{split, fjoin, suffices, agg, enter, returns, no_more, and_then, get, alloc_all, pass_all, free_all},
+  proofs.Walks.{look_at, sets, owns, types_at, nothing, alive, says, ends_at, a_type, inst_fn, layouts, param},
 }
+use Rattle.bac_print.proofs.{Walks.{marked, marked_made}, ghost_list.GhostList.new.Statement.statement}
 use Rattle.bac_print.specs.contracts.ghost_list.GhostList.new as f
 use Rattle.bac_print.proofs.ghost_list.GhostList.new.Code as code
 
