@@ -88,8 +88,8 @@ ROWS = [
 ]
 
 
-def made(room):
-    """A tree with a crate below the program, and the trials."""
+def made(room, rules, is_built=True):
+    """A tree with a crate below the program, and the trials, where these rules hold; with what a build has kept."""
     tree, tools = f"{room}/tree", f"{room}/bin"
     os.makedirs(f"{tree}/tests/bodies")
     os.mkdir(tools)
@@ -110,18 +110,18 @@ def made(room):
         with open(f"{tree}/{path}", "w", encoding="utf-8") as file:
             file.write(text)
         os.chmod(f"{tree}/{path}", 0o755)
-    return {"cwd": tree, "text": True, "stdout": subprocess.PIPE, "stderr": subprocess.STDOUT}
+    how = {"cwd": tree, "text": True, "stdout": subprocess.PIPE, "stderr": subprocess.STDOUT}
+    outer = {**os.environ, "PATH": f"{tools}:{os.environ['PATH']}", "FALSE": ""}
+    if is_built:
+        subprocess.run(["./build.py"], check=True, env=outer, **how)
+    return {**how, "env": {**outer, "FALSE": rules}}
 
 
 def tried(row):
     """What is not so of a row."""
     command, rules, status, wanted = row
     with tempfile.TemporaryDirectory() as room:
-        how = made(room)
-        outer = {**os.environ, "PATH": f"{room}/bin:{os.environ['PATH']}", "FALSE": rules}
-        if command != ["./build.py"]:
-            subprocess.run(["./build.py"], check=True, env={**outer, "FALSE": ""}, **how)
-        done = subprocess.run(command, check=False, env=outer, **how)
+        done = subprocess.run(command, check=False, **made(room, rules, command != ["./build.py"]))
     if done.returncode == status and re.search(wanted, done.stdout.rstrip("\n") + "\n" * wanted.endswith("\\n$")):
         return ""
     return f"{' '.join(command)} by [{rules}]: status {done.returncode}, not {status} with /{wanted}/:\n{done.stdout}"
@@ -130,11 +130,7 @@ def tried(row):
 def stopped(command):
     """A run that is told to end does so, and a crate's own folder is in its place then."""
     with tempfile.TemporaryDirectory() as room:
-        how = made(room)
-        outer = {**os.environ, "PATH": f"{room}/bin:{os.environ['PATH']}"}
-        subprocess.run(["./build.py"], check=True, env={**outer, "FALSE": ""}, **how)
-        rules = "rt: touch ../../../begun ../../begun; sleep 60"
-        with subprocess.Popen(command, env={**outer, "FALSE": rules}, **how) as process:
+        with subprocess.Popen(command, **made(room, "rt: touch ../../../begun ../../begun; sleep 60")) as process:
             while not os.path.exists(f"{room}/tree/out/build/begun") and process.poll() is None:
                 time.sleep(0.05)
             process.send_signal(signal.SIGTERM)
