@@ -318,10 +318,9 @@ class Edit:
         places = (os.path.relpath(it, proofs).split("/") for it, _, _ in os.walk(proofs))
         return self.is_apart or not any(symbols.match("::".join([self.crate, *it])) for it in places)
 
-    def promises(self):
-        """These lines with no clauses of what the function ensures but those that are to refuse this edit. A branch in
-        which nothing stands is taken, whatever is ensured."""
-        kept, is_kept, promised = [], True, [] if self.part.startswith(EMPTIED) else self.promised
+    def promises(self, promised):
+        """These lines with no clauses of what the function ensures but those with these names."""
+        kept, is_kept = [], True
         for line in self.head():
             begins = CLAUSE.match(line)
             is_kept = begins[1] == "requires" or begins[2] in promised if begins else is_kept
@@ -339,11 +338,7 @@ class Edit:
 
     def refutation(self):
         """The head of its function, with this condition and with the clause said to be false."""
-        kept, is_kept = [], True
-        for line in self.head():
-            begins = CLAUSE.match(line)
-            is_kept = begins[1] == "requires" if begins else is_kept
-            kept += [re.sub(r"^( *requires) \{", r"\1 given {", line)] * is_kept
+        kept = [re.sub(r"^( *requires) \{", r"\1 given {", line) for line in self.promises([])]
         more = [] if self.condition == "always" else [f"    requires at_which {{ {self.condition} }}"]
         return [*kept, *more, f"    ensures {{ ({self.refuting()[0].strip()}) → ⊥ }}"]
 
@@ -368,8 +363,10 @@ class Edit:
         name, lines = f"{own}_again_{number}", self.applied({})[path].split("\n")[of.start : of.last + 1 - fewer]
         if self.part in (REFUTED, CONTROL):
             lines[: of.body - of.start] = self.refutation()
-        elif self.promised or self.part.startswith(EMPTIED):
-            lines[: of.body - of.start] = self.promises()
+        elif self.part.startswith(EMPTIED):  # the branch in which nothing stands is taken, whatever is ensured
+            lines[: of.body - of.start] = self.promises([])
+        elif self.promised:
+            lines[: of.body - of.start] = self.promises(self.promised)
         head = of.first - of.start
         lines[head] = re.sub(rf"\bfn {own}\b", f"fn {name}", lines[head], count=1)
         lines = [of.beside.head, *lines, "}"] if of.beside.head else lines
