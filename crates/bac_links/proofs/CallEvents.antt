@@ -2,7 +2,7 @@
 use Rattle.std.{
   proofs.lemmas.{Grind.common_steps, List.{append-nil, length_push, take-append-le, Elements.All-nil}},
   proofs.lemmas.{Option.{slice_get_within, get_or_from_slice_get}, Bool.{cases_eq, cases_lt, Decides.nat_tests}},
-  proofs.Common.{◌≡◌, ℕ, zero, suc, ◌-◌, ◌<◌, ◌≤◌, List, [], ◌∷◌, ◌++◌, flat_map, length, Option, Some, None, Result},
+  proofs.Common.{◌≡◌, ℕ, zero, suc, ◌<◌, ◌≤◌, List, [], ◌∷◌, ◌++◌, flat_map, length, Option, Some, None, Result},
   proofs.{Common.{Ok, slice_get, false, nat_lt, refl, sym, ap, ◌∙◌, arith, inl, inr}, Math.Seq.take-append_seam},
   specs.List.All,
 }
@@ -253,10 +253,7 @@ module _ {purpose : Purpose} {call : Call} {time : ℕ} {later : List Event} {cl
 
   -- What it sends is what is sent at the event.
   pub sends_next : sent_last purpose call next ≡ posts handed.notes
-  sends_next =
-      ap (λ (i : ℕ). posts (send_notes (rules_for call) next i (asked purpose call)))
-      (let l = length_push begun event in let e : length next - 1 ≡ length begun = omega (arith, l) in e)
-      ∙ sym (ap (λ s. posts s.notes) handed_is ∙ told_next.sends)
+  sends_next = grind (arith, length_push, handed_is, told_next)
 
   ends_told : endings handed.notes
       ≡ endings (end_notes (length begun) (asked purpose call).request (end_in purpose call next))

@@ -1,24 +1,24 @@
 -- One turn of a call; and how the call ends, or fails.
-use Rattle.std.proofs.{
-  lemmas.{Bool.cases_Bool, List.{append-nil, Concat.flat_map-append, Elements.{All-nil, All-cons}}},
-  Common.{◌≡◌, ◌≢◌, ◌⊎◌, ℕ, suc, ◌<◌, ◌≤◌, List, [], ◌∷◌, ◌++◌, length, Option, Some, None, Result, Ok, Err},
-  Common.{IfOk, IfErr, Bool, if◌then◌else◌, true, false, inl, inr, refl, sym, ap, ◌∙◌, arith, append_assoc, subst, All},
+use Rattle.std.{
+  proofs.lemmas.{Bool.cases_Bool, List.{append-nil, Concat.flat_map-append, Elements.{All-nil, All-cons}}},
+  proofs.Common.{◌≡◌, ◌≢◌, ◌⊎◌, ℕ, suc, ◌<◌, ◌≤◌, List, [], ◌∷◌, ◌++◌, length, Option, Some, None, Result},
+  proofs.Common.{Ok, Err, IfOk, IfErr, true, false, inl, inr, refl, sym, ap, ◌∙◌, arith, append_assoc, subst, All},
 }
 use Rattle.bac_pdu.specs.{Peer.Station, Apdu.longest_body}
-use Rattle.bac_tsm.specs.{Events.{Outcome, Event, Data, Tick, Sent, Rules}, Lookahead.{Accepted, End, send_notes}}
+use Rattle.bac_tsm.specs.{Events.{Outcome, Event, Data, Tick, Rules}, Lookahead.{Accepted, End, send_notes}}
 use Rattle.bac_tsm.specs.{Machine.{State, Stepped, to_send, sent, step}, Client.{Client, rules_of, keeping}}
 use Rattle.bac_text.specs.declared.jobs.Call.{Call}
 use Rattle.bac_print.specs.{declared.checked.Checked.Checked, Checked.TookOrFailed}
 use Rattle.bac_links.{
-  specs.History.{Heard, Silence, Arrival, Failure, Entry, Waited, Timed, Posted, Unposted, Account, GainsAll, Gains},
   specs.declared.fault.ToolFault.{ToolFault, TheVariants.{SendFailed, ReceiveFailed, TurnsSpent, WriteFailed}},
-  specs.{declared.{ending.Purpose.Purpose, exit.Exit.Exit}, Handed.{handed, handed_of}, Ending.{ending_line, exit_of}},
-  specs.Call.{rules_for, asked, events_of, end_in, is_sent_last, Comes, or_ended, move, Tells},
-  specs.Inner.CallSteps.{posts, sent_last, or_sent, wait_of, begun_at, endings, GainsLost, heard_step, ticked},
-  specs.{Inner.CallSteps.{AsksNothing, IsAlone, CarriesOn, Hears, Ticks, TicksLost, Underway}, Limits.most_turns},
+  specs.{declared.{ending.Purpose.Purpose, exit.Exit.Exit}, Handed.{handed, handed_of}, Limits.most_turns},
+  specs.History.{Heard, Silence, Arrival, Failure, Entry, Waited, Timed, Posted, Unposted, Account, GainsAll, Gains},
+  specs.Inner.CallSteps.{posts, sent_last, or_sent, wait_of, begun_at, endings, GainsLost},
+  specs.Inner.CallSteps.{heard_step, ticked, AsksNothing, IsAlone, CarriesOn, Hears, Ticks, TicksLost, Underway},
   specs.Asking.{Move, Asks, Ends, ForTime, ToSend, question_of, Follows, Plays, next_move, waits_in, turn_after},
-  proofs.{Asking.{last_push, follows_push, waits_push, turn_begins, turns_over}, CallEvents.carries_on},
-  proofs.{CallEvents.{ends_next, sends_next, carried_alone, submitted, begins, begins_sent}, Histories.gains_both},
+  specs.{Call.{rules_for, events_of, end_in, Comes, or_ended, move, Tells}, Ending.{ending_line, exit_of}},
+  proofs.{Histories.gains_both, Asking.{last_push, follows_push, waits_push, turn_begins, turns_over}},
+  proofs.CallEvents.{carries_on, ends_next, sends_next, carried_alone, submitted, begins, begins_sent},
 }
 
 -- ---- one open request
@@ -126,18 +126,7 @@ module _ (purpose : Purpose) (call : Call) where
       ≡ or_ended (end_in purpose call (events_of purpose call (gained ++ Timed now ∷ [])))
       (or_sent (sent_last purpose call (events_of purpose call (gained ++ Timed now ∷ [])))
       (turn_after (wait_of call) (waits_in (gained ++ Timed now ∷ []))))
-  behind_now gained now =
-      let all = gained ++ Timed now ∷ [] in
-      behind gained (Timed now)
-      ∙ ap (or_ended (end_in purpose call (events_of purpose call all)))
-      (due (is_sent_last purpose call (events_of purpose call all)) (turn_after (wait_of call) (waits_in all)))
-    where
-      due : (b : Bool) (other : Move Comes)
-          → (if b then Asks (ToSend (asked purpose call).request.peer (asked purpose call).request.octets) else other)
-          ≡ or_sent (posts (if b then Sent (asked purpose call).request.ticket (asked purpose call).request.peer
-          (asked purpose call).request.octets ∷ [] else [])) other
-      due true other = refl
-      due false other = refl
+  behind_now = grind (arith, behind)
 
   -- Where it stays open a turn begins then.
   behind_time : (gained : List Entry) (now : ℕ)
@@ -213,8 +202,7 @@ module _ {Origin : Type 0} {purpose : Purpose} {call : Call} {seen mid next : Ac
 
   comes : (r : Comes) → next_move (move purpose call) (Timed far.time ∷ waited) ≡ Ends r
       → Plays (move purpose call) seen next r
-  comes r over =
-      record { gained = Timed far.time ∷ waited; gains = gains_waited; follows = follows_waited; over = over }
+  comes = grind (arith, gains_waited, follows_waited)
 
   behind_waited : heard ≢ Failure → (e : Option End)
       → end_in purpose call (events_of purpose call (Timed far.time ∷ waited)) ≡ e →
@@ -348,12 +336,7 @@ module _ (purpose : Purpose) (call : Call) (time : ℕ) (short : length call.bod
 -- All turns went by.
 pub spent : {Origin : Type 0} {purpose : Purpose} {call : Call} {seen left : Account Origin} {client : Client} (n : ℕ)
     → n ≡ most_turns → Underway purpose call seen left client n → Plays (move purpose call) seen left (Err TurnsSpent)
-spent {call} n all far = record {
-  gained = Timed far.time ∷ far.more;
-  gains = far.gains;
-  follows = far.follows;
-  over = far.next ∙ turns_over _ n (omega (arith, all));
-}
+spent = grind (arith, turns_over)
 
 module _ {Origin W : Type 0} (purpose : Purpose) (call : Call) (contents : W → Option (List ℕ))
     (before after : Checked W) {seen left : Account Origin} where

@@ -1,5 +1,5 @@
 -- A link over a socket: one entry more, and the calls for it.
-use Rattle.std.proofs.Common.{◌≡◌, ℕ, List, [], ◌∷◌, ◌++◌, append_assoc, refl, sym, ap, ◌∙◌}
+use Rattle.std.proofs.Common.{arith, ◌≡◌, ℕ, List, [], ◌∷◌, ◌++◌, append_assoc, refl, sym, ap, ◌∙◌}
 use Rattle.std.proofs.{Common.{subst, Bool, false, Result, Ok, Err, OnOk, is_ok, is_err, max}, lemmas.List.append-nil}
 use Rattle.bac_pdu.specs.Peer.{Station}
 use Rattle.bac_links.specs.{SystemCall.SystemCall, History.{Heard, Entry, Waited, Timed, Posted, Unposted, posted}}
@@ -43,18 +43,7 @@ module _ (refused : Refused) where
         → Logs (CallsFor refused waits_now time_now x) log log'
         → (failed' ≡ false → waits' ≡ waits_behind waits_now x) → time' ≡ time_behind time_now x
         → Keeps refused before log' (xs ++ x ∷ []) waits' time' failed'
-    keeps_more x _ _ _ _ asked sets passes =
-        let now = keeps.logged in
-        record {
-          logged = record {
-            calls = now.calls ++ asked.calls;
-            logged = asked.logged ∙ ap (λ (l : List SystemCall). l ++ asked.calls) now.logged
-                ∙ append_assoc before now.calls asked.calls;
-            are = calls_more 0 0 xs x now.calls asked.calls now.are asked.are;
-          };
-          limited = λ sound. sets sound ∙ sym (waits_more 0 xs x);
-          timed = passes ∙ sym (time_more 0 xs x);
-        }
+    keeps_more = grind (arith, append_assoc, calls_more, waits_more, time_more)
 
     pub keeps_timed : (log' : List SystemCall) (now : ℕ) → Logs (Times time now) log log'
         → Keeps refused before log' (xs ++ Timed now ∷ []) waits now failed

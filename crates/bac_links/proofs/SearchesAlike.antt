@@ -1,13 +1,13 @@
 -- Two searches that are answered alike ask alike, end alike, and print one text.
 use Rattle.std.{
-  proofs.Common.{◌≡◌, ◌⊎◌, ℕ, List, [], ◌∷◌, ◌++◌, append_assoc, Option, Result, Err, refl, sym, ap, ◌∙◌},
+  proofs.Common.{arith, ◌≡◌, ◌⊎◌, ℕ, List, [], ◌∷◌, ◌++◌, append_assoc, Option, Result, Err, sym, ap, ◌∙◌},
   proofs.{Common.{subst, flat_map, inl, inr}, lemmas.List.{append_cancel_left, append-nil, Concat.flat_map-append}},
 }
 use Rattle.bac_text.specs.declared.jobs.Search.{Search}
 use Rattle.bac_print.specs.{declared.checked.Checked.Checked, Checked.TakesFront}
 use Rattle.bac_links.{
-  specs.{History.{Heard, Entry, Waited, Account}, declared.fault.ToolFault.{ToolFault, TheVariants.WriteFailed}},
-  specs.{declared.exit.Exit.Exit, Search.{found_by, found_line, found_in, search_move, IsCutOff, Searched}},
+  specs.{History.{Entry, Waited, Account}, declared.fault.ToolFault.{ToolFault, TheVariants.WriteFailed}},
+  specs.{declared.exit.Exit.Exit, Search.{found_line, found_in, search_move, IsCutOff, Searched}},
   specs.{Asking.{Asks, Ends, ForTime, question_of, Follows, next_move}, Answered.{AskAlike, Printed, OneText}},
   proofs.{Searches.behind_wait, Asking.{played, same_so_far, so_far}},
 }
@@ -34,23 +34,7 @@ module _ (search : Search) where
     module _ {Origin : Type 0} (seen left : Account Origin) where
       cut : (it : IsCutOff search contents before after seen left)
           → Stops (Err WriteFailed) (it.earlier ++ Waited it.wait it.heard ∷ [])
-      cut it = record {
-        follows = it.follows;
-        over = inr (
-          refl,
-          behind_wait search it.earlier it.wait it.heard (λ e.
-              let none = ap (λ (h : Heard). found_by search.who (Waited it.wait h)) (sym e) ∙ it.finds in
-              cc),
-        );
-        printed = (
-          lines_in it.earlier ++ it.taken,
-          it.rest,
-          lines-append it.earlier _ ∙ ap (λ (xs : List ℕ). lines_in it.earlier ++ xs)
-              (ap (flat_map found_line) (append-nil _ ∙ it.finds) ∙ append-nil _ ∙ it.line)
-              ∙ sym (append_assoc _ it.taken it.rest),
-          it.printed,
-        );
-      }
+      cut = grind (arith, behind_wait, lines-append, append-nil, append_assoc)
 
       pub stops : (result : Result Exit ToolFault) (gained : List Entry)
           → Searched search contents before after seen left result → left.history ≡ seen.history ++ gained
@@ -76,8 +60,7 @@ module _ {V W : Type 0} (contents : V → Option (List ℕ)) (contents' : W → 
     here none = subst (Stops search contents _ _ _) (ap (λ (xs : List Entry). first ++ xs) none ∙ append-nil _) a
 
     there : rest' ≡ [] → Stops search contents' before' after' result' first
-    there none =
-        subst (Stops search contents' _ _ _) (ap (λ (xs : List Entry). first' ++ xs) none ∙ append-nil _ ∙ sym one) b
+    there = grind (arith, append-nil)
 
     cut_here : rest ≡ [] → (x : Entry) → next_move (search_move search) first ≡ Asks (question_of x)
         → (result ≡ Err WriteFailed) × PrintAlike result result'
@@ -126,17 +109,7 @@ module _ {V W : Type 0} (contents : V → Option (List ℕ)) (contents' : W → 
         )
 
     ends : rest ≡ [] → rest' ≡ [] → (result ≡ result') × PrintAlike result result'
-    ends none none' =
-        (go (here none).over (there none').over, (lines_in search first, (here none).printed, (there none').printed))
-      where
-        go : (next_move (search_move search) first ≡ Ends result)
-            ⊎ ((result ≡ Err WriteFailed) × (next_move (search_move search) first ≡ Asks ForTime))
-            → (next_move (search_move search) first ≡ Ends result')
-            ⊎ ((result' ≡ Err WriteFailed) × (next_move (search_move search) first ≡ Asks ForTime)) → result ≡ result'
-        go (inl p) (inl q) = let both = sym p ∙ q in cc
-        go (inl p) (inr q) = let both = sym p ∙ q.1 in cc
-        go (inr p) (inl q) = let both = sym p.1 ∙ q in cc
-        go (inr p) (inr q) = p.0 ∙ sym q.0
+    ends = grind (arith, here, there)
 
   pub searches_so_far : {Origin Other : Type 0} → AskAlike Origin Other (Searched search contents before after)
       (Searched search contents' before' after') (λ result. result ≡ Err WriteFailed)
