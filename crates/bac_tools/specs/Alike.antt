@@ -1,6 +1,7 @@
 -- That two runs of the program with the same words are alike.
 use Rattle.std.specs.Prelude.{◌≡◌, ◌⊎◌, ◌++◌, ℕ, ⊤, Bool, IsTrue, is_some}
 use Rattle.std.specs.{Prelude.{List, [], Option, Some, option_and_then, Result, Ok, IsErrAnd}, Result.result_ok}
+use Rattle.std.specs.declared.io.ErrorKind.{ErrorKind}
 use Rattle.clap.specs.Words.{Text}
 use Rattle.bac_print.specs.{Checked.{fresh, octets_of}, declared.checked.Checked.Checked}
 use Rattle.bac_script.specs.Alike.{IsFrontOf, GaveFront, GaveSame}
@@ -9,7 +10,7 @@ use Rattle.bac_links.specs.Answered.{answers_of, GoOnAlike}
 use Rattle.bac_links.specs.{History.{Account, Entry}, declared.socket.NoSocket.NoSocket}
 use Rattle.bac_links.specs.declared.fault.ToolFault.TheVariants as tools
 use Rattle.bac_words.specs.{Line.IsRefusal, declared.faults.UsageFault.TheVariants.Memory}
-use Rattle.bac_tools.specs.{Outside.Outside, Program.Program}
+use Rattle.bac_tools.specs.{Outside.Outside, Program.{IsRun, Program}}
 use Rattle.bac_tools.specs.declared.{binding.Binding.Binding, program.Ran.Ran, report.{Fault.Fault, Report.Report}}
 use Rattle.bac_tools.specs.declared.report.Fault.TheVariants as faults
 
@@ -50,6 +51,20 @@ pub record Run {N Origin L R W : Type 0} (gives : N → Binding → Result L NoS
   pub program : Program gives out network (fresh reader) reader' (fresh writer) writer' ran words
   pub gained : List Entry
   pub gains : Gained out.seen program.opened ran.socket gained
+
+-- A whole call of the program, with what it tells at its end.
+pub record CalledRun {N Origin L R W E : Type 0} (gives : N → Binding → Result L NoSocket → Type 0)
+    (out : Outside Origin L R W) (contents : E → Option (List ℕ)) (typed : Result (List Text) ErrorKind)
+    : Type 0 where
+  pub network : N
+  pub reader : Checked R
+  pub reader' : Checked R
+  pub writer : Checked W
+  pub writer' : Checked W
+  pub errors : Checked E
+  pub errors' : Checked E
+  pub ran : Ran N L
+  pub run : IsRun gives out contents network reader reader' writer writer' errors errors' ran typed
 
 module _ {N Origin L R W M Other K S V : Type 0} {gives : N → Binding → Result L NoSocket → Type 0}
     {out : Outside Origin L R W} {gives' : M → Binding → Result K NoSocket → Type 0} {out' : Outside Other K S V}

@@ -3,10 +3,10 @@
 ghost use Rattle.std.specs.{Prelude.{◌≡◌, List, Some, Result, Ok, Err}, declared.io.ErrorKind.ErrorKind};
 ghost use Rattle.clap.specs.Words.{Text};
 ghost use Rattle.bac_wire.specs.Copies.{MakesCopies};
-ghost use Rattle.bac_print.specs.declared.checked.Checked.{Checked};
+ghost use Rattle.bac_print.specs.{Checked.has_failed, declared.checked.Checked.Checked};
 ghost use Rattle.bac_links.specs.{History.Entry, SystemCall.SystemCall, declared.socket.NoSocket.NoSocket};
 ghost use Rattle.bac_words.specs.Called.{words_called};
-ghost use Rattle.bac_tools.specs.Alike.{Run, AreGivenAlike, AreAlike};
+ghost use Rattle.bac_tools.specs.Alike.{Run, CalledRun, AreGivenAlike, AreAlike};
 ghost use Rattle.bac_tools.specs.Calls.{AsksAtMostOnce, GivesSockets, RunsAsCalls, RunsWithout};
 ghost use Rattle.bac_tools.specs.{Program.{IsRun, Program}, Report.IsStatusOf, declared.program.Ran.Ran};
 
@@ -21,8 +21,20 @@ use std::io::{Read, Write};
 /// both are over with the same report; or one was cut off, since there was no memory for its words, or its writer
 /// failed. However that is, both printed one text, or a front of it where they were cut off. Where `clap` does not take
 /// the words, each report tells of an error that `clap` may give at these.
-pub fn the_program_is_a_function<M: Network, N: Network, R: Read, S: Read, V: Write, W: Write>()
-    ensures { (words : List Text)
+///
+/// What the program that is called with words reports last, and so what it tells on `errors`, is a function of the
+/// report of the words and of whether its writer has failed.
+pub fn the_program_is_a_function<
+    M: Network,
+    N: Network,
+    R: Read,
+    S: Read,
+    V: Write,
+    W: Write,
+    D: Write,
+    E: Write,
+>()
+    ensures words { (words : List Text)
         (one : Run M.gives
         record { seen = M.Socket.seen; failed = M.Socket.has_failed; remaining = R.remaining; contents = V.contents }
         words)
@@ -32,6 +44,15 @@ pub fn the_program_is_a_function<M: Network, N: Network, R: Read, S: Read, V: Wr
         (first rest other_first other_rest : List Entry)
         → AreGivenAlike one other first rest other_first other_rest
         → AreAlike one other first rest other_first other_rest }
+    ensures called { (typed : Result (List Text) ErrorKind)
+        (one : CalledRun M.gives
+        record { seen = M.Socket.seen; failed = M.Socket.has_failed; remaining = R.remaining; contents = V.contents }
+        D.contents typed)
+        (other : CalledRun N.gives
+        record { seen = N.Socket.seen; failed = N.Socket.has_failed; remaining = S.remaining; contents = W.contents }
+        E.contents typed)
+        → one.run.report ≡ other.run.report → has_failed one.writer' ≡ has_failed other.writer'
+        → one.ran.report ≡ other.ran.report }
 {}
 
 /// However the words are run, the status is that of the fault that is told, and 0 or 1 where none is.
