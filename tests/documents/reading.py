@@ -17,19 +17,17 @@ import sys
 import textwrap
 
 sys.path.insert(0, os.path.dirname(__file__) + "/..")
-from sources import CLOSE, CRATES, DEFINITIONS, OPEN, PROBLEMS, SOURCES, TOKEN
-from sources import closed, defined, public_calls, read_tree, uses_in, without_uses
+from sources import CLAUSE, CRATES, SOURCES, SPECS, TOKEN, USE, Item
+from sources import closed, code_of, defined, parts_of, public_calls, read_tree, uses_in
 from tree import TOP, text_of
 
 FOLDER = "docs/reading"
-WRAP = {"break_long_words": False, "break_on_hyphens": False}
 TRIALS = {"bac_trials", "tool_trials", "bac_uses"}  # no crate rests on their clauses
-
 # What a page shows at its head: a file of specs/, and the definitions of it.
 RULE = {"client": ("bac_tsm.specs.Lookahead", ["due", "end", "sends_within", "sends"])}
-
 SIZE = r"\[([\d,]+) lines\]\(docs/reading/(\w+)\.md\)"  # as README.md tells it
 TOLD = {"client", "device", "program"}  # the pages whose sizes it tells
+PROBLEMS = []
 
 
 def called(crate):
@@ -41,10 +39,10 @@ def size(items):
     return sum(item.lines for item in items)
 
 
-def columns(text, width=120):
-    """Lines of at most so many columns, set in as the first one is."""
-    start = " " * (len(text) - len(text.lstrip()))
-    return "\n".join(textwrap.wrap(text.strip(), width, initial_indent=start, subsequent_indent=f"{start}  ", **WRAP))
+def columns(text, margin=""):
+    """Lines of at most 120 columns, the later ones set in."""
+    margins = {"initial_indent": margin, "subsequent_indent": f"{margin}  "}
+    return textwrap.fill(text, 120, **margins, break_long_words=False, break_on_hyphens=False)
 
 
 def listed(items, comments=False):
@@ -54,29 +52,26 @@ def listed(items, comments=False):
         head = f"- **{file.path[len('crates/'):]}** ({size(there)}): "
         yield columns(head + (file.head if comments else ", ".join(f"`{item.name}`" for item in there)))
         for item in there if comments else ():
-            yield columns(f"  - `{item.name}` ({item.lines}){': ' if item.comment else ''}{item.comment}")
+            yield columns(f"- `{item.name}` ({item.lines}){': ' if item.comment else ''}{item.comment}", "  ")
 
 
 def page_of(page, title, calls):
     items, kept = closed(calls.values()), closed(calls.values(), kept=True)
     lines = [f"# {title}", "", "How to read this page is said on [the first one](README.md).", ""]
     module, names = RULE.get(page, (None, []))
-    rule = [DEFINITIONS[module].items[name] for name in names]
+    rule = [SPECS[module].items[name] for name in names]
     if rule:
-        cases = [line for item in rule for part in item.cases for line in part.splitlines()]
-        lines += [f"The rule, of `{rule[0].file.path}`:", "", "```", textwrap.dedent("\n".join(cases)), "```", ""]
+        cases = "".join(part.rstrip() + "\n" for item in rule for part in item.parts)
+        lines += [f"The rule, of `{rule[0].file.path}`:", "", "```", textwrap.dedent(cases) + "```", ""]
     lines += ["| Call | Definitions | Lines |", "|---|---|---|"]
-    for name, call in calls.items():
-        alone = closed([call])
-        lines.append(f"| `{name}` | {len(alone)} | {size(alone)} |")
-    if len(calls) > 1:
-        lines.append(f"| together | {len(items)} | {size(items)} |")
-    in_turn = dict.fromkeys([*rule, *(item for call in calls.values() for item in closed([call]))])
+    lists = {f"`{name}`": closed([call]) for name, call in calls.items()}
+    for name, found in [*lists.items(), *([("together", items)] if len(calls) > 1 else [])]:
+        lines.append(f"| {name} | {len(found)} | {size(found)} |")
+    in_turn = dict.fromkeys([*rule, *(item for found in lists.values() for item in found)])
     lines += ["", *listed(in_turn), "", "What the libraries add:", ""]
     outside = collections.defaultdict(set)
-    for item in items:
-        for module, name in item.needs.outside:
-            outside[module].add(f"`{name}`")
+    for module, name in (need for item in items for need in item.needs if not isinstance(need, Item)):
+        outside[module].add(f"`{name}`")
     lines += [columns(f"- {module}: {', '.join(sorted(names))}") for module, names in sorted(outside.items())]
     if len(kept) > len(items):
         lines += ["", "What types keep to themselves, which no promise needs:", ""]
@@ -87,8 +82,8 @@ def page_of(page, title, calls):
 def pages():
     """The text of each page by its path, and the lines of each page by its name."""
     texts, sizes, index = {}, {}, text_of("tests/documents/pages.txt")
-    rest = {name: call for crate in CRATES if crate not in TRIALS for name, call in called(crate).items()}
-    every = dict(rest)
+    every = {name: call for crate in CRATES if crate not in TRIALS for name, call in called(crate).items()}
+    rest = dict(every)
     for row, page, title, names in re.findall(r"(?m)^((\w+) \| (.*) \| (.*))$", index):
         calls, shown = {}, []
         for name in names.split(", "):
@@ -110,19 +105,20 @@ def pages():
 
 
 def compare(texts, sizes):
-    there = set(glob.glob(f"{FOLDER}/*"))
-    wrong = [f"{path} is not made by this script" for path in sorted(there - set(texts))]
+    there = {*glob.glob(f"{FOLDER}/*")}
+    yield from (f"{path} is not made by this script" for path in sorted(there - {*texts}))
     for path, text in texts.items():
         now, then = text.splitlines(), text_of(path).splitlines() if path in there else []
         if now != then:
             new, gone = [line for line in now if line not in then], [line for line in then if line not in now]
-            wrong.append(f"{path} differs from the tree: {[*new, *gone, 'its order'][0].strip()[:100]}")
+            yield f"{path} differs from the tree: {[*new, *gone, 'its order'][0].strip()[:100]}"
     readme = text_of("README.md")
-    told = dict((page, lines) for lines, page in re.findall(SIZE, readme))
+    told = {page: lines for lines, page in re.findall(SIZE, readme)}
     named = {*re.findall(r"docs/reading/(\w+)\.md", readme), *TOLD} - {"README"}
-    wrong += [f"README.md: it does not tell the lines of {page}, on one line" for page in sorted(named - {*told})]
-    return wrong + [f"README.md: {page} has {sizes[page]:,} lines, not {lines}" for page, lines in told.items()
-                    if page in sizes and lines != f"{sizes[page]:,}"]
+    yield from (f"README.md: it does not tell the lines of {page}, on one line" for page in sorted(named - {*told}))
+    for page in told:
+        if page in sizes and told[page] != f"{sizes[page]:,}":
+            yield f"README.md: {page} has {sizes[page]:,} lines, not {told[page]}"
 
 
 def write(texts, sizes):
@@ -134,72 +130,47 @@ def write(texts, sizes):
             file.write(text)
 
 
-# ---- definitions in the wrong room, and names that are brought in and aren't there, or aren't said ----
-
-
 def rooms():
     """What lies in the wrong room: what no public clause needs belongs in Inner, and nothing else does."""
-    public, private = [], []
-    for crate in CRATES:
-        if crate in TRIALS:
-            continue
-        calls, types = public_calls(crate)
-        public += [*calls.values(), *types]
-        for (of, _), source in SOURCES.items():
-            if of == crate:
-                private += [*source.items.values(), *(item for _, item in source.methods)]
-    needed, by_private = closed(public, kept=True), closed(private, kept=True)
-    for specs in DEFINITIONS.values():
+    public = [public_calls(crate) for crate in CRATES if crate not in TRIALS]
+    needed = closed([item for calls, types in public for item in (*calls.values(), *types)], kept=True)
+    for specs in SPECS.values():
         for item in specs.items.values() if specs.crate not in TRIALS else ():
             is_inner = "/specs/Inner/" in specs.path
             if is_inner and item in needed:
                 yield f"{specs.path}: {item.name} is needed by a public clause, so it belongs outside Inner"
             elif not is_inner and item not in needed:
-                who = "private clauses need it" if item in by_private else "proofs need it, if anything does"
-                yield f"{specs.path}: {item.name} belongs in Inner, since only {who}"
+                yield f"{specs.path}: {item.name} belongs in Inner, since no public clause needs it"
 
 
 def unused_or_gone():
+    """The names that a file brings in, and that it does not say, or that are not there."""
     kinds = ("src/**/*.rt", "specs/**/*.antt", "proofs/**/*.antt")
     for path in sorted(path for kind in kinds for path in glob.glob(f"crates/*/{kind}", recursive=True)):
-        names = list((unused_in_source if path.endswith(".rt") else unused_in_antt)(path))
-        if names:
-            yield f"{path} brings in what it doesn't say: {', '.join(names)}"
-        for module, brought, _, _ in uses_in(text_of(path), ghost=path.endswith(".rt")):
-            if module in DEFINITIONS:
-                gone = (name for name, _ in brought or () if not defined(module, name))
-                yield from (f"{path} brings in {name}, which {module} hasn't" for name in gone)
+        for uses, text in used_and_said(code_of(path), path.endswith(".rt")):
+            said = names_in(text)
+            for module, name, here, public in uses_in(uses):
+                if not public and not {*parts_of(here)} <= said:
+                    yield f"{path} brings in what it doesn't say: {here}"
+                if name and module in SPECS and not defined(module, name):
+                    yield f"{path} brings in {name}, which {module} hasn't"
 
 
-def unsaid(uses, said):
-    """The names that these uses bring in, and that are not said; those that are passed on are."""
-    for module, names, alias, public in uses:
-        here = [alias or module.split(".")[-1]] if names is None else [one for _, one in names]
-        yield from (name for name in here if not public and not {*filter(str.strip, name.split("◌"))} <= said)
+def used_and_said(code, is_rust):
+    """Use lines of a file, and the text that has to say their names: in src/ the clauses of the same block."""
+    if not is_rust:
+        return [(code, USE.sub("", code))]
+    uses = lambda margin, text: "\n".join(re.findall(rf"(?m)^{margin}ghost use [^;]*;", text))
+    clauses = lambda text: " ".join(found[3] for found in CLAUSE.finditer(text))
+    blocks = re.split(r"(?m)^(?=\S)", code)
+    return [(uses("", code), clauses(code)), *((uses(" +", block), clauses(block)) for block in blocks)]
 
 
-def said_in(text):
-    """The names in a text of antt: each token, and what stands before its dot."""
-    tokens = set(TOKEN.findall(text))
+def names_in(text):
+    """Each token of a text, and what stands before its dot."""
+    tokens = {*TOKEN.findall(text)}
     tokens |= {part for token in tokens for part in (token.partition(".")[0], token.rstrip("."))}
     return tokens | {">>="} if "do" in tokens else tokens
-
-
-def unused_in_antt(path):
-    text = re.sub(r"(?m)--.*$", "", text_of(path))
-    yield from unsaid(uses_in(text, ghost=False), said_in(without_uses(text)))
-
-
-def unused_in_source(path):
-    source = next(one for one in SOURCES.values() if one.path == path)
-    for use in re.finditer(r"ghost use [^;]*;", source.code):
-        end, depth = use.end(), 0
-        while end < len(source.code) and depth >= 0:
-            depth += (source.code[end] in OPEN) - (source.code[end] in CLOSE)
-            end += 1
-        start = 0 if end == len(source.code) else use.end()
-        said = set().union(*(said_in(part.text) for part in source.parts_in(start, end)))
-        yield from unsaid(uses_in(use[0], ghost=True), said)
 
 
 def main(arguments):
